@@ -1,6 +1,6 @@
 -- For `is_shallow` and `pipeline`: a pipeline is as deep as the parentheses of its tokens are open at most.
 use Rattle.std.proofs.Common.{arith, ◌≡◌, ◌∙◌, ◌≤◌, ℕ, suc, ◌+◌, ◌-◌, ◌<◌, max, nat_le, false, List, [], ◌∷◌, ◌++◌}
-use Rattle.std.proofs.Common.{refl, sym, ap, subst, append_assoc, append-nil}
+use Rattle.std.proofs.Common.{refl, ap, subst, append_assoc, append-nil}
 use Rattle.std.proofs.lemmas.Bool.Decides.{nat_tests}
 use Rattle.tmpl_lex.specs.declared.piece.TokenKind.{TokenKind}
 use Rattle.tmpl_lex.specs.declared.piece.TokenKind.TheVariants as kind
@@ -58,9 +58,9 @@ blank-nests [] ts d b h = h
 blank-nests (w ∷ ws) ts d b h = of-kind w (ws ++ ts) d kind.Space b.0 (λ n. refl) (blank-nests ws ts d b.1 h)
 
 chain-nests : (names : List (List ℕ)) (ts : List Token) → IsChain names ts → Nests 0 ts
-chain-nests [] ts c = subst (Nests 0) (sym c) none-nests
+chain-nests [] ts c = rw c none-nests
 chain-nests (n ∷ names) ts (t, us, is, field, begins, name, rest) =
-    subst (Nests 0) (sym is) (of-kind t us 0 kind.Field field (λ n. refl) (chain-nests names us rest))
+    rw is (of-kind t us 0 kind.Field field (λ n. refl) (chain-nests names us rest))
 
 constant-apart : (t : Token) (o : Operand) → IsConstant t o → (n : ℕ) → depth_behind t.kind n ≡ n
 constant-apart _ _ (constant.number is) n = refl
@@ -73,7 +73,7 @@ operand-apart t o (operand.a_constant is) n = constant-apart t o is n
 operand-apart _ _ _ n = refl
 
 chained-nests : (o : Operand) (names : List (List ℕ)) (ts : List Token) → IsChained o names ts → Nests 0 ts
-chained-nests o names ts (t, us, is, at, chain) = subst (Nests 0) (sym is) (one-nests t us 0 (operand-apart t o at) (chain-nests names us chain))
+chained-nests o names ts (t, us, is, at, chain) = rw is (one-nests t us 0 (operand-apart t o at) (chain-nests names us chain))
 
 -- parentheses around tokens, and a chain behind them
 group-nests : (l r : Token) (ts us : List Token) (d : ℕ) → l.kind ≡ kind.LeftParenthesis → r.kind ≡ kind.RightParenthesis → Nests d ts → Nests 0 us
@@ -92,33 +92,28 @@ mutual
   operand-nests (tree.fields (n ∷ ns)) ts s = chained-nests (tree.fields (n ∷ [])) ns ts s
   operand-nests (tree.variable name names) ts s = chained-nests (tree.variable name []) names ts s
   operand-nests (tree.group commands names) ts (l, inner, r, us, is, left, right, p, chain) =
-      subst (Nests (1 + depth_of_pipeline commands)) (sym is)
-      (group-nests l r inner us (depth_of_pipeline commands) left right (pipeline-nests commands inner p) (chain-nests names us chain))
+      rw is (group-nests l r inner us (depth_of_pipeline commands) left right (pipeline-nests commands inner p) (chain-nests names us chain))
   operand-nests o ts s = chained-nests o [] ts s
 
   more-nests : (os : Operands) (ts : List Token) → SpellsMore os ts → Nests (depth_of_operands os) ts
   more-nests tree.no_operand ts s = subst (Nests 0) (append-nil ts) (blank-nests ts [] 0 s none-nests)
   more-nests (tree.operand o os) ts (w, ws, a, b, is, blank, spells, rest) =
-      subst (Nests (depth_of_operands (tree.operand o os))) (sym is)
-      (blank-nests (w ∷ ws) (a ++ b) _ blank (both-nest a b _ _ (operand-nests o a spells) (more-nests os b rest)))
+      rw is (blank-nests (w ∷ ws) (a ++ b) _ blank (both-nest a b _ _ (operand-nests o a spells) (more-nests os b rest)))
 
   command-nests : (os : Operands) (ts : List Token) → SpellsCommand os ts → Nests (depth_of_operands os) ts
   command-nests tree.no_operand ts s = absurd s
   command-nests (tree.operand o os) ts (ws, a, b, is, blank, spells, rest) =
-      subst (Nests (depth_of_operands (tree.operand o os))) (sym is)
-      (blank-nests ws (a ++ b) _ blank (both-nest a b _ _ (operand-nests o a spells) (more-nests os b rest)))
+      rw is (blank-nests ws (a ++ b) _ blank (both-nest a b _ _ (operand-nests o a spells) (more-nests os b rest)))
 
   later-nests : (cs : Pipeline) (ts : List Token) → SpellsLater cs ts → Nests (depth_of_pipeline cs) ts
-  later-nests tree.no_command ts s = subst (Nests 0) (sym s) none-nests
+  later-nests tree.no_command ts s = rw s none-nests
   later-nests (tree.command os cs) ts (bar, a, b, is, bars, may, spells, rest) =
-      subst (Nests (depth_of_pipeline (tree.command os cs))) (sym is)
-      (of-kind bar (a ++ b) _ kind.Pipe bars (λ n. refl) (both-nest a b _ _ (command-nests os a spells) (later-nests cs b rest)))
+      rw is (of-kind bar (a ++ b) _ kind.Pipe bars (λ n. refl) (both-nest a b _ _ (command-nests os a spells) (later-nests cs b rest)))
 
   pipeline-nests : (cs : Pipeline) (ts : List Token) → SpellsPipeline cs ts → Nests (depth_of_pipeline cs) ts
   pipeline-nests tree.no_command ts s = absurd s
   pipeline-nests (tree.command os cs) ts (a, b, is, spells, rest) =
-      subst (Nests (depth_of_pipeline (tree.command os cs))) (sym is)
-      (both-nest a b _ _ (command-nests os a spells) (later-nests cs b rest))
+      rw is (both-nest a b _ _ (command-nests os a spells) (later-nests cs b rest))
 
 pub pipeline-depth : (cs : Pipeline) (ts : List Token) → SpellsPipeline cs ts → depth_of_pipeline cs ≡ deepest 0 ts
 pipeline-depth cs ts s =

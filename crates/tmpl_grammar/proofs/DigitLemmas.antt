@@ -1,6 +1,6 @@
 -- For `one_constant`: digits at the front, and the number that they write, as escapes have them.
-use Rattle.std.proofs.Common.{◌≡◌, ◌∙◌, ℕ, ◌+◌, ◌*◌, ◌<◌, ◌≤◌, true, ◌&&◌, List, [], ◌∷◌, ◌++◌, length, take, drop}
-use Rattle.std.proofs.Common.{Some, None, nat_le, refl, sym, ap, arith, length-append, if◌then◌else◌}
+use Rattle.std.proofs.Common.{◌≡◌, ◌∙◌, ℕ, ◌+◌, ◌*◌, ◌<◌, ◌≤◌, true, List, [], ◌∷◌, ◌++◌, length, take, drop}
+use Rattle.std.proofs.Common.{Some, nat_le, refl, sym, ap, arith, length-append}
 use Rattle.std.specs.List.{list_all}
 use Rattle.std.specs.Char.{digit_value, is_digit}
 use Rattle.std.specs.Str.Parse.{AllDigits, digits_value}
@@ -8,13 +8,12 @@ use Rattle.std.proofs.Math.Seq.{take-append_seam}
 use Rattle.std.proofs.lemmas.List.{take-append-drop, length-take}
 use Rattle.std.proofs.lemmas.Bool.{and_parts, lt-ltb, ltb-true}
 use Rattle.std.proofs.lemmas.Bool.Decides.{nat_tests}
-use Rattle.tmpl_grammar.specs.computed.Integer.{number_in}
 use Rattle.tmpl_grammar.specs.Constant.Quoted.{AreDigits}
 use Rattle.tmpl_grammar.specs.computed.Quoted.{code}
 
 all-digits : (base : ℕ) (ds : List ℕ) → AllDigits base ds → list_all (λ d. is_digit d base) ds ≡ true
 all-digits base [] h = refl
-all-digits base (d ∷ ds) h = ap (λ b. b && list_all (λ d. is_digit d base) ds) (lt-ltb (digit_value d) base h.0) ∙ all-digits base ds h.1
+all-digits base (d ∷ ds) h = simp (lt-ltb (digit_value d) base h.0, all-digits base ds h.1)
 
 digits-all : (base : ℕ) (ds : List ℕ) → list_all (λ d. is_digit d base) ds ≡ true → AllDigits base ds
 digits-all base [] h = tt
@@ -27,9 +26,7 @@ pub code-digits : (base count : ℕ) (ds rest : List ℕ) → AreDigits base cou
 code-digits base count ds rest are =
     let long : nat_le count (length (ds ++ rest)) ≡ true = grind (arith, nat_tests, length-append ds rest, are.0) in
     let front : take count (ds ++ rest) ≡ ds = ap (λ n. take n (ds ++ rest)) (sym are.0) ∙ take-append_seam ds rest in
-    ap (λ b. if b then number_in base (take count (ds ++ rest)) else None) long
-    ∙ ap (number_in base) front
-    ∙ ap (λ b. if b then Some (digits_value base ds) else None) (all-digits base ds are.1)
+    simp (long, front, all-digits base ds are.1)
 
 -- so many digits at the front, and the number that they write
 pub record FrontDigits (base count : ℕ) (bs : List ℕ) (n : ℕ) : Type 0 where

@@ -1,5 +1,5 @@
 -- For `one_constant`: the escapes that are computed are those that the relation admits.
-use Rattle.std.proofs.Common.{◌≡◌, ◌∙◌, ℕ, ◌+◌, ◌<◌, ◌≤◌, Bool, true, false, ◌&&◌, nat_eq, nat_lt, List, [], ◌∷◌, ◌++◌, length, Option, Some}
+use Rattle.std.proofs.Common.{◌≡◌, ◌∙◌, ℕ, ◌+◌, ◌<◌, ◌≤◌, Bool, true, false, ◌&&◌, nat_eq, nat_lt, List, [], ◌∷◌, ◌++◌, length, Option, Some, IfSome}
 use Rattle.std.proofs.Common.{None, option_and_then, refl, ap, sym, subst, arith, append_assoc, if◌then◌else◌}
 use Rattle.std.specs.Str.Parse.{digits_value}
 use Rattle.std.proofs.lemmas.Bool.{eqb-true, and_parts}
@@ -29,28 +29,23 @@ byte-read : (base count : ℕ) (ds rest : List ℕ) → AreDigits base count ds 
     → option_and_then (as_byte 4) (code base count (ds ++ rest)) ≡ Some (byte (digits_value base ds), 4)
 byte-read base count ds rest are h =
     let low : nat_lt (digits_value base ds) 256 ≡ true = grind (arith, nat_tests) in
-    ap (option_and_then (as_byte 4)) (code-digits base count ds rest are)
-    ∙ ap (λ t. if t then Some (byte (digits_value base ds), 4) else None) low
+    simp (code-digits base count ds rest are, low)
 
 char-read : (len count : ℕ) (ds rest : List ℕ) → AreDigits 16 count ds → scalar (digits_value 16 ds) ≡ true
     → option_and_then (as_char len) (code 16 count (ds ++ rest)) ≡ Some (char (digits_value 16 ds), len)
-char-read len count ds rest are s =
-    ap (option_and_then (as_char len)) (code-digits 16 count ds rest are)
-    ∙ ap (λ t. if t then Some (char (digits_value 16 ds), len) else None) s
+char-read len count ds rest are s = simp (code-digits 16 count ds rest are, s)
 
 octal-read : (quote : ℕ) (ds rest : List ℕ) → IsMark quote → AreDigits 8 3 ds → digits_value 8 ds < 256
     → escape quote (ds ++ rest) ≡ Some (byte (digits_value 8 ds), 4)
 octal-read quote [] rest m are h = absurd (omega (arith, are.0))
 octal-read quote (e ∷ ds) rest m are h =
     let range = octal-digit e are.1.0 in
-    ap (λ o. escape_by o e (ds ++ rest)) (not-named quote e m range.0 range.1)
-    ∙ not-lettered e (ds ++ rest) range.0 range.1
-    ∙ byte-read 8 3 (e ∷ ds) rest are h
+    simp (not-named quote e m range.0 range.1) (not-lettered e (ds ++ rest) range.0 range.1 ∙ byte-read 8 3 (e ∷ ds) rest are h)
 
 -- a byte that no letter is, whichever mark ends the text
 coded-read : (quote e : ℕ) (bs : List ℕ) → IsMark quote → byte_named 34 e ≡ None → byte_named 39 e ≡ None → escape quote (e ∷ bs) ≡ coded e bs
-coded-read _ e bs double h k = ap (λ o. escape_by o e bs) h
-coded-read _ e bs single h k = ap (λ o. escape_by o e bs) k
+coded-read _ e bs double h k = simp h
+coded-read _ e bs single h k = simp k
 
 quote-read : (quote : ℕ) (rest : List ℕ) → IsMark quote → escape quote (quote ∷ rest) ≡ Some (byte quote, 2)
 quote-read _ rest double = refl
@@ -89,17 +84,17 @@ pub record FrontEscape (quote : ℕ) (bs : List ℕ) (p : Spelled) : Type 0 wher
   pub count : length spelling ≡ p.1
   pub escapes : IsEscape quote spelling p.0
 
-abbrev pub HasEscape : ℕ → List ℕ → Option Spelled → Type 0
-HasEscape quote bs None = Unit {0}
-HasEscape quote bs (Some p) = FrontEscape quote bs p
+abbrev HasEscape : ℕ → List ℕ → Option Spelled → Type 0
+HasEscape quote bs o = IfSome o (FrontEscape quote bs)
 
-if-escape : (quote : ℕ) (bs : List ℕ) (t : Bool) (o p : Option Spelled) → (t ≡ true → HasEscape quote bs o) → HasEscape quote bs p
-    → HasEscape quote bs (if t then o else p)
-if-escape quote bs true o p h k = h refl
-if-escape quote bs false o p h k = k
-
-same : (e k : ℕ) → nat_eq e k ≡ true → k ≡ e
-same e k h = sym (eqb-true e k h)
+-- by whether this byte comes first
+if-byte : (quote e k : ℕ) (bs : List ℕ) (o p : Option Spelled) → HasEscape quote (92 ∷ k ∷ bs) o → HasEscape quote (92 ∷ e ∷ bs) p
+    → HasEscape quote (92 ∷ e ∷ bs) (if nat_eq e k then o else p)
+if-byte quote e k bs o p this that = by (nat_eq e k) refl
+  where
+    by : (t : Bool) → nat_eq e k ≡ t → HasEscape quote (92 ∷ e ∷ bs) (if t then o else p)
+    by true h = rw (eqb-true e k h) this
+    by false h = that
 
 -- what stands for a byte is the letter of it, or the mark
 letter-named : (quote e b : ℕ) → byte_named quote e ≡ Some b → (nat_eq b quote && nat_eq e quote) ≡ false → letter_of b letters ≡ Some e
@@ -114,8 +109,7 @@ lettered quote e b is = by (nat_eq b quote && nat_eq e quote) refl
     by : (t : Bool) → (nat_eq b quote && nat_eq e quote) ≡ t → IsEscape quote (92 ∷ e ∷ []) (byte b)
     by true h =
         let both = and_parts (nat_eq b quote) (nat_eq e quote) h in
-        subst (λ x. IsEscape quote (92 ∷ x ∷ []) (byte b)) (same e quote both.1)
-        (subst (λ x. IsEscape quote (92 ∷ quote ∷ []) (byte x)) (same b quote both.0) the_quote)
+        rw (eqb-true e quote both.1, eqb-true b quote both.0) the_quote
     by false h = a_letter (letter-named quote e b is h) (λ e34. no-mark quote e b is h e34)
 
 -- so many digits behind these bytes
@@ -154,13 +148,9 @@ has-char quote head count bs made = has-digits quote 16 count (2 + count) (head 
 
 has-coded : (quote e : ℕ) (bs : List ℕ) → HasEscape quote (92 ∷ e ∷ bs) (coded e bs)
 has-coded quote e bs =
-    if-escape quote _ (nat_eq e 120) _ _ (λ h. subst (λ x. HasEscape quote (92 ∷ x ∷ bs) (option_and_then (as_byte 4) (code 16 2 bs))) (same e 120 h)
-    (has-hex quote bs))
-    (if-escape quote _ (nat_eq e 117) _ _ (λ h. subst (λ x. HasEscape quote (92 ∷ x ∷ bs) (option_and_then (as_char 6) (code 16 4 bs))) (same e 117 h)
-    (has-char quote 117 4 bs (λ ds are s. four_digits are s)))
-    (if-escape quote _ (nat_eq e 85) _ _ (λ h. subst (λ x. HasEscape quote (92 ∷ x ∷ bs) (option_and_then (as_char 10) (code 16 8 bs))) (same e 85 h)
-    (has-char quote 85 8 bs (λ ds are s. eight_digits are s)))
-    (has-octal quote (e ∷ bs))))
+    if-byte quote e 120 bs _ _ (has-hex quote bs)
+    (if-byte quote e 117 bs _ _ (has-char quote 117 4 bs (λ ds are s. four_digits are s))
+    (if-byte quote e 85 bs _ _ (has-char quote 85 8 bs (λ ds are s. eight_digits are s)) (has-octal quote (e ∷ bs))))
 
 pub has-escape : (quote : ℕ) (bs : List ℕ) → HasEscape quote (92 ∷ bs) (escape quote bs)
 has-escape quote [] = tt

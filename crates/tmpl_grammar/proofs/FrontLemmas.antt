@@ -1,9 +1,10 @@
 -- For `printed_tokens`: the tokens that are printed stand at the front of what is printed.
-use Rattle.std.proofs.Common.{arith, ◌≡◌, ◌∙◌, ℕ, Bool, true, false, ◌&&◌, ◌||◌, nat_eq, List, [], ◌∷◌, ◌++◌, refl, sym, ap, subst, append_assoc, get_or, codes}
+use Rattle.std.proofs.Common.{arith, ◌≡◌, ◌∙◌, ℕ, true, false, nat_eq, List, [], ◌∷◌, ◌++◌, refl, sym, ap, subst, append_assoc, get_or, codes}
 use Rattle.std.specs.Char.{is_ascii_digit}
 use Rattle.std.specs.List.{list_all}
+use Rattle.std.specs.Str.Parse.{AllDigits}
 use Rattle.std.proofs.lemmas.List.Concat.{flat_map-append}
-use Rattle.std.proofs.lemmas.Bool.{and_parts, both_ways}
+use Rattle.std.proofs.lemmas.Bool.{or_parts, both_ways}
 use Rattle.std.proofs.lemmas.Bool.Decides.{nat_tests}
 use Rattle.tmpl_lex.specs.declared.piece.TokenKind.TheVariants as kind
 use Rattle.tmpl_lex.specs.Bytes.{is_space, is_name_byte, is_number_byte, BeginsNone, Stops}
@@ -18,13 +19,9 @@ abbrev pub IsFront : Token → List ℕ → Type 0
 IsFront t rest = IsToken t.kind t.bytes rest
 
 -- what ends a number ends a name
-name-byte-first : (a b : Bool) → (a || b) ≡ false → a ≡ false
-name-byte-first true b e = e
-name-byte-first false b e = refl
-
 pub stops-name : (rest : List ℕ) → Stops is_number_byte rest → Stops is_name_byte rest
 stops-name [] e = tt
-stops-name (b ∷ rest) e = name-byte-first (is_name_byte b) (nat_eq b 46) e
+stops-name (b ∷ rest) e = (or_parts (is_name_byte b) (nat_eq b 46) e).0
 
 -- ---- words, fields and variables
 
@@ -40,19 +37,18 @@ variable-front name rest all stop = row.variable (record { passes = all; longest
 
 -- ---- numbers
 
-digits-pass : (bs : List ℕ) → list_all is_ascii_digit bs ≡ true → list_all is_number_byte bs ≡ true
+digits-pass : (bs : List ℕ) → AllDigits 10 bs → list_all is_number_byte bs ≡ true
 digits-pass [] h = refl
 digits-pass (b ∷ bs) h =
-    let both = and_parts (is_ascii_digit b) (list_all is_ascii_digit bs) h in
-    let digit : is_ascii_digit b ≡ true = both.0 in
+    let low = h.0 in
     let here : is_number_byte b ≡ true = grind (arith, nat_tests) in
-    ap (λ k. k && list_all is_number_byte bs) here ∙ digits-pass bs both.1
+    simp (here, digits-pass bs h.1)
 
-pub digit-front : (b : ℕ) (bs rest : List ℕ) → is_ascii_digit b ≡ true → list_all is_ascii_digit bs ≡ true → Stops is_number_byte rest
+pub digit-front : (b : ℕ) (bs rest : List ℕ) → is_ascii_digit b ≡ true → AllDigits 10 bs → Stops is_number_byte rest
     → IsFront (token kind.Number (b ∷ bs)) rest
 digit-front b bs rest d all stop = row.number b no_sign d (record { passes = digits-pass bs all; longest = stop })
 
-pub minus-front : (b : ℕ) (bs rest : List ℕ) → is_ascii_digit b ≡ true → list_all is_ascii_digit bs ≡ true → Stops is_number_byte rest
+pub minus-front : (b : ℕ) (bs rest : List ℕ) → is_ascii_digit b ≡ true → AllDigits 10 bs → Stops is_number_byte rest
     → IsFront (token kind.Number (45 ∷ b ∷ bs)) rest
 minus-front b bs rest d all stop = row.number b row.minus d (record { passes = digits-pass bs all; longest = stop })
 

@@ -1,12 +1,12 @@
 -- For `one_constant`: the runes between quotes that are computed are those that the relation admits.
 use Rattle.std.proofs.Common.{◌≡◌, ◌∙◌, ℕ, zero, suc, ◌<◌, ◌≤◌, Bool, true, false, nat_eq, List, [], ◌∷◌, ◌++◌, length, drop, get_or}
-use Rattle.std.proofs.Common.{Option, Some, None, option_and_then, refl, sym, ap, subst, arith, length-append, length-drop, if◌then◌else◌}
+use Rattle.std.proofs.Common.{Option, Some, None, IfSome, option_and_then, refl, sym, ap, subst, arith, length-append, length-drop, if◌then◌else◌}
 use Rattle.std.specs.Char.{encode_utf8, len_utf8, IsScalar}
 use Rattle.std.proofs.Math.Seq.{drop-append_seam}
 use Rattle.std.proofs.lemmas.List.{take-append-drop, drop_all}
 use Rattle.std.proofs.lemmas.Bool.{eqb-true}
 use Rattle.std.proofs.lemmas.Bool.Decides.{nat_tests}
-use Rattle.std.proofs.lemmas.Option.{same_Some}
+use Rattle.std.proofs.lemmas.Option.{IfSome_then}
 use Rattle.std.proofs.lemmas.Str.{length-encode, len_utf8_bounds, char_from_byte, encode_ascii}
 use Rattle.tmpl_values.specs.Rune.{Rune, BeginsNoChar, char}
 use Rattle.tmpl_values.specs.Rune.{first_rune}
@@ -14,8 +14,8 @@ use Rattle.tmpl_values.proofs.HasRunesLemmas.{begins-none, byte-first}
 use Rattle.tmpl_values.proofs.RuneLemmas.{first_rune-encode, Front, encoding, lone, front}
 use Rattle.tmpl_grammar.specs.Constant.Quoted.{code_of, SpellsRunes, at_end, a_char, a_byte, an_escape}
 use Rattle.tmpl_grammar.specs.computed.Quoted.{Spelled, rune_part, escape, part_at, with_part, parts, whole_code, rune_code}
-use Rattle.tmpl_grammar.proofs.EscapeLemmas.{IsMark, double, single, escape-at, escape-some, FrontEscape, HasEscape, has-escape}
-use Rattle.tmpl_grammar.proofs.OptionLemmas.{no-value, mapped, chained}
+use Rattle.tmpl_grammar.proofs.EscapeLemmas.{IsMark, double, single, escape-at, escape-some, FrontEscape, has-escape}
+use Rattle.tmpl_grammar.proofs.OptionLemmas.{mapped, chained}
 use Rattle.tmpl_grammar.proofs.QuotedLemmas.{parts-nil, parts-first, parts-none}
 
 -- ---- what the relation admits is computed
@@ -35,7 +35,7 @@ char-at quote c rest low s slash other = split (encode_utf8 c ++ rest) refl
     split (b ∷ bs) e =
         part-rune quote b bs (λ is. slash (char_from_byte (b ∷ bs) rest c e (omega arith) (omega arith) ∙ is))
         (λ is. other (char_from_byte (b ∷ bs) rest c e (omega arith) (omega arith) ∙ is))
-        ∙ ap (λ r. Some (rune_part r)) (ap first_rune e ∙ first_rune-encode c rest s)
+        ∙ simp (e, first_rune-encode c rest s)
 
 -- where no character begins stands no byte of ASCII
 byte-at : (quote b : ℕ) (rest : List ℕ) → quote < 128 → IsScalar quote → BeginsNoChar (b ∷ rest) → part_at quote (b ∷ rest) ≡ Some (char 65533, 1)
@@ -94,7 +94,7 @@ pub parts-computed : (quote : ℕ) (bs : List ℕ) (rs : List Rune) → IsMark q
 parts-computed quote _ [] m at_end = parts-nil quote
 parts-computed quote bs (r ∷ rs) m has =
     let l = leading quote bs r rs m has in
-    ap (parts quote) l.is ∙ parts-seam quote l.spelling l.rest r l.some l.first ∙ ap (with_part r) (parts-computed quote l.rest rs m l.more)
+    ap (parts quote) l.is ∙ simp (parts-seam quote l.spelling l.rest r l.some l.first, parts-computed quote l.rest rs m l.more)
 
 none-spelled : (quote : ℕ) (bs : List ℕ) → SpellsRunes quote bs [] → bs ≡ []
 none-spelled quote _ at_end = refl
@@ -104,7 +104,7 @@ rune-computed quote bs r m has =
     let l = leading quote bs r [] m has in
     let n = ap length (none-spelled quote l.rest l.more) in
     let same : nat_eq (length l.spelling) (length bs) ≡ true = grind (arith, nat_tests, ap length l.is, length-append l.spelling l.rest, n) in
-    ap (option_and_then (whole_code (length bs))) (ap (part_at quote) l.is ∙ l.first) ∙ ap (λ t. if t then Some (code_of r) else None) same
+    ap (option_and_then (whole_code (length bs))) (ap (part_at quote) l.is ∙ l.first) ∙ simp same
 
 -- ---- what is computed the relation admits
 
@@ -147,49 +147,43 @@ rune-first quote b bs _ low slash other is (encoding c s e) =
           (a_char s (other-char b quote c bs rest whole low other) (other-char b 92 c bs rest whole (omega arith) slash) more);
     }
 
-first-part : (quote : ℕ) (bs : List ℕ) (p : Spelled) → quote < 128 → part_at quote bs ≡ Some p → FirstPart quote bs p
+first-part : (quote : ℕ) (bs : List ℕ) → quote < 128 → IfSome (part_at quote bs) (FirstPart quote bs)
 unfolding part_at
-first-part quote [] p low e = no-value p e
-first-part quote (b ∷ bs) p low e = by (nat_eq b 92) refl (nat_eq b quote) refl e
+first-part quote [] low = tt
+first-part quote (b ∷ bs) low = by (nat_eq b 92) refl (nat_eq b quote) refl
   where
     by : (s : Bool) → nat_eq b 92 ≡ s → (q : Bool) → nat_eq b quote ≡ q
-        → (if s then escape quote bs else (if q then None else Some (rune_part (first_rune (b ∷ bs))))) ≡ Some p → FirstPart quote (b ∷ bs) p
-    by true h q k e =
-        subst (λ x. FirstPart quote (x ∷ bs) p) (sym (eqb-true b 92 h))
-        (escape-first quote (92 ∷ bs) p (subst (HasEscape quote (92 ∷ bs)) e (has-escape quote bs)))
-    by false h true k e = no-value p e
-    by false h false k e =
-        subst (FirstPart quote (b ∷ bs)) (same_Some _ p e) (rune-first quote b bs (first_rune (b ∷ bs)) low h k refl (front (b ∷ bs)))
+        → IfSome (if s then escape quote bs else (if q then None else Some (rune_part (first_rune (b ∷ bs))))) (FirstPart quote (b ∷ bs))
+    by true h q k = rw (eqb-true b 92 h) (IfSome_then (escape quote bs) (has-escape quote bs) (λ p f. escape-first quote (92 ∷ bs) p f))
+    by false h true k = tt
+    by false h false k = rune-first quote b bs (first_rune (b ∷ bs)) low h k refl (front (b ∷ bs))
 
-parts-in : (n quote : ℕ) (bs : List ℕ) (ps : List Rune) → length bs ≤ n → quote < 128 → parts quote bs ≡ Some ps → SpellsRunes quote bs ps
-parts-in n quote [] ps h low e = subst (SpellsRunes quote []) (same_Some [] ps (sym (parts-nil quote) ∙ e)) at_end
-parts-in zero quote (b ∷ bs) ps h low e = absurd (omega arith)
-parts-in (suc n) quote (b ∷ bs) ps h low e =
-    go (λ rest qs fits is. parts-in n quote rest qs fits low is) (part_at quote (b ∷ bs)) refl
+parts-in : (n quote : ℕ) (bs : List ℕ) → length bs ≤ n → quote < 128 → IfSome (parts quote bs) (SpellsRunes quote bs)
+parts-in n quote [] h low = rw (parts-nil quote) at_end
+parts-in zero quote (b ∷ bs) h low = absurd (omega arith)
+parts-in (suc n) quote (b ∷ bs) h low =
+    go (λ rest fits. parts-in n quote rest fits low) (part_at quote (b ∷ bs)) refl (first-part quote (b ∷ bs) low)
   where
-    go : ((rest : List ℕ) (qs : List Rune) → length rest ≤ n → parts quote rest ≡ Some qs → SpellsRunes quote rest qs)
-        → (o : Option Spelled) → part_at quote (b ∷ bs) ≡ o → SpellsRunes quote (b ∷ bs) ps
-    go behind None is = no-value ps (sym (parts-none quote (b ∷ bs) (omega arith) is) ∙ e)
-    go behind (Some p) is =
-        let f = first-part quote (b ∷ bs) p low is in
+    go : ((rest : List ℕ) → length rest ≤ n → IfSome (parts quote rest) (SpellsRunes quote rest)) → (o : Option Spelled) → part_at quote (b ∷ bs) ≡ o
+        → IfSome o (FirstPart quote (b ∷ bs)) → IfSome (parts quote (b ∷ bs)) (SpellsRunes quote (b ∷ bs))
+    go behind None is f = rw (parts-none quote (b ∷ bs) (omega arith) is) tt
+    go behind (Some p) is f =
         let rest : List ℕ = drop p.1 (b ∷ bs) in
         let some : 0 < p.1 = f.low in
-        let whole = sym (parts-first quote (b ∷ bs) p (omega arith) is f.low f.high) ∙ e in
-        let more = mapped (λ (qs : List Rune). p.0 ∷ qs) (parts quote rest) ps whole in
-        subst (SpellsRunes quote (b ∷ bs)) more.to (f.leads more.source (behind rest more.source (omega (arith, length-drop p.1 (b ∷ bs))) more.is))
+        rw (parts-first quote (b ∷ bs) p (omega arith) is f.low f.high)
+        (mapped (λ (qs : List Rune). p.0 ∷ qs) (SpellsRunes quote rest) (SpellsRunes quote (b ∷ bs)) (parts quote rest)
+        (behind rest (omega (arith, length-drop p.1 (b ∷ bs)))) f.leads)
 
-pub parts-admitted : (quote : ℕ) (bs : List ℕ) (ps : List Rune) → IsMark quote → parts quote bs ≡ Some ps → SpellsRunes quote bs ps
-parts-admitted quote bs ps m e = parts-in (length bs) quote bs ps (omega arith) (mark-low quote m) e
+pub parts-admitted : (quote : ℕ) (bs : List ℕ) → IsMark quote → IfSome (parts quote bs) (SpellsRunes quote bs)
+parts-admitted quote bs m = parts-in (length bs) quote bs (omega arith) (mark-low quote m)
 
-pub rune-admitted : (quote : ℕ) (bs : List ℕ) (n : ℕ) → IsMark quote → rune_code quote bs ≡ Some n
-    → (r : Rune) × SpellsRunes quote bs (r ∷ []) × (code_of r ≡ n)
-rune-admitted quote bs n m e =
-    let c = chained (whole_code (length bs)) (part_at quote bs) n e in
-    by c.source (first-part quote bs c.source (mark-low quote m) c.is) c.to
+pub rune-admitted : (quote : ℕ) (bs : List ℕ) (P : ℕ → Type 0) → IsMark quote → ((r : Rune) → SpellsRunes quote bs (r ∷ []) → P (code_of r))
+    → IfSome (rune_code quote bs) P
+rune-admitted quote bs P m f = chained (whole_code (length bs)) (FirstPart quote bs) P (part_at quote bs) (first-part quote bs (mark-low quote m))
+    (λ p first. by p first (nat_eq p.1 (length bs)) refl)
   where
-    by : (p : Spelled) → FirstPart quote bs p → whole_code (length bs) p ≡ Some n → (r : Rune) × SpellsRunes quote bs (r ∷ []) × (code_of r ≡ n)
-    by p f k =
-        let whole : length bs ≤ p.1 = grind (arith, nat_tests) in
-        let code : code_of p.0 ≡ n = grind (arith, nat_tests) in
-        let none : drop p.1 bs ≡ [] = drop_all p.1 bs whole in
-        (p.0, f.leads [] (subst (λ xs. SpellsRunes quote xs []) (sym none) at_end), code)
+    by : (p : Spelled) → FirstPart quote bs p → (t : Bool) → nat_eq p.1 (length bs) ≡ t → IfSome (if t then Some (code_of p.0) else None) P
+    by p first true e =
+        let none : drop p.1 bs ≡ [] = drop_all p.1 bs (omega (arith, eqb-true p.1 (length bs) e)) in
+        f p.0 (first.leads [] (rw none at_end))
+    by p first false e = tt

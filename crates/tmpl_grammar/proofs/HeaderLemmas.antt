@@ -1,6 +1,5 @@
 -- For `one_action`: the grammar of a header and its reading agree.
-use Rattle.std.specs.Option.{option_map}
-use Rattle.std.proofs.Common.{arith, ◌≡◌, ◌∙◌, ◌<◌, ℕ, Bool, true, false, List, [], ◌∷◌, Option, Some, None, refl, ap, subst, length}
+use Rattle.std.proofs.Common.{arith, ◌≡◌, ◌∙◌, ◌<◌, ℕ, Bool, true, false, List, [], ◌∷◌, Option, Some, None, IfSome, refl, ap, length}
 use Rattle.tmpl_lex.specs.declared.piece.TokenKind.{TokenKind}
 use Rattle.tmpl_lex.specs.declared.piece.TokenKind.TheVariants as kind
 use Rattle.tmpl_lex.specs.Piece.{Token}
@@ -13,8 +12,8 @@ use Rattle.tmpl_grammar.specs.computed.Reading.{pipeline_in, VariableFront, vari
 use Rattle.tmpl_grammar.specs.computed.Reading.{variable_front_kind, variable_front_at, variable_front, Front, plain}
 use Rattle.tmpl_grammar.specs.computed.Reading.{second_by, second_variable, front_by, front_of_variable, front_in}
 use Rattle.tmpl_grammar.specs.computed.Reading.{split_by, split, header_with, header_if, header_by, header_in}
-use Rattle.tmpl_grammar.proofs.PipelineLemmas.{reads-spelled, spells-read}
-use Rattle.tmpl_grammar.proofs.OptionLemmas.{no-value, mapped}
+use Rattle.tmpl_grammar.proofs.PipelineLemmas.{reads-spelled, pipeline-admitted}
+use Rattle.tmpl_grammar.proofs.OptionLemmas.{mapped}
 use Rattle.tmpl_grammar.proofs.TokenLemmas.{then-led, led-then}
 use Rattle.tmpl_grammar.proofs.StrayLemmas.{IsStray, sign-stray, then-stray, then-dead, dead-read, spelled-lives}
 
@@ -36,8 +35,7 @@ then-variable name k Rest ts other s =
     let l = then-led (IsSign k) Rest v.rest (λ t is. ap is_space_kind is ∙ other) v.behind in
     record {
       rest = l.rest;
-      is = ap variable_front_at v.first_is ∙ ap (λ k. variable_front_kind k v.token v.rest) v.is.0 ∙ ap (λ n. variable_front_by n v.rest) v.is.1
-          ∙ by name v.is.2 v.rest ∙ ap (variable_before name) l.first_is ∙ ap (λ k. Some (record { name = name; next_kind = k; rest = l.rest })) l.is;
+      is = simp (v.first_is, v.is.0, v.is.1, by name v.is.2 v.rest, l.first_is, l.is);
       behind = l.behind;
     }
   where
@@ -104,72 +102,56 @@ record SplitAs (b : Binding) (Rest : List Token → Type 0) (ts : List Token) : 
 
 split-bound : (b : Binding) (p : Pipeline) (ts : List Token) → SpellsBinding b (SpellsPipeline p) ts → SplitAs b (SpellsPipeline p) ts
 unfolding split
-split-bound unbound p ts s = record { rest = ts; is = ap (λ f. split_by f ts) (plain-front ts p s); behind = s }
+split-bound unbound p ts s = record { rest = ts; is = simp (plain-front ts p s); behind = s }
 split-bound (declare name) p ts s =
     let r = then-variable name kind.Declare (SpellsPipeline p) ts refl s in
-    record { rest = r.rest; is = ap (λ o. split_by (front_of_variable o) ts) r.is; behind = r.behind }
+    record { rest = r.rest; is = simp r.is; behind = r.behind }
 split-bound (assign name) p ts s =
     let r = then-variable name kind.Assign (SpellsPipeline p) ts refl s in
-    record { rest = r.rest; is = ap (λ o. split_by (front_of_variable o) ts) r.is; behind = r.behind }
+    record { rest = r.rest; is = simp r.is; behind = r.behind }
 split-bound (declare_pair key name) p ts s =
     let r = then-variable key kind.Comma (Then (IsVariable name) (Then (IsSign kind.Declare) (SpellsPipeline p))) ts refl s in
     let q = then-variable name kind.Declare (SpellsPipeline p) r.rest refl r.behind in
-    record {
-      rest = q.rest;
-      is = ap (λ o. split_by (front_of_variable o) ts) r.is ∙ ap (λ o. split_by (second_variable key o) ts) q.is;
-      behind = q.behind;
-    }
+    record { rest = q.rest; is = simp (r.is, q.is); behind = q.behind }
 
 pub header-read : (in_range : Bool) (h : Header) (ts : List Token) → SpellsHeader in_range h ts → header_in in_range ts ≡ Some h
 header-read in_range h ts (may, spelled) =
     let r = split-bound h.binding h.pipeline ts spelled in
-    ap (header_by in_range) r.is
-    ∙ ap (λ b. header_if b h.binding (pipeline_in r.rest)) may
-    ∙ ap (option_map (header_with h.binding)) (reads-spelled r.rest h.pipeline r.behind)
+    simp (r.is, may, reads-spelled r.rest h.pipeline r.behind)
 
--- a binding that is allowed, and a pipeline behind it
-record ReadAs (in_range : Bool) (b : Binding) (o : Option Pipeline) (h : Header) : Type 0 where
-  source : Pipeline
-  may : may_bind in_range b ≡ true
-  is : o ≡ Some source
-  to : header_with b source ≡ h
-
-if-read : (in_range : Bool) (b : Binding) (o : Option Pipeline) (h : Header) → header_if (may_bind in_range b) b o ≡ Some h → ReadAs in_range b o h
-if-read in_range b o h e = by (may_bind in_range b) refl e
-  where
-    by : (t : Bool) → may_bind in_range b ≡ t → header_if t b o ≡ Some h → ReadAs in_range b o h
-    by true may e = let m = mapped (header_with b) o h e in record { source = m.source; may = may; is = m.is; to = m.to }
-    by false may e = no-value h e
-
-pub header-spelled : (in_range : Bool) (h : Header) (ts : List Token) → header_in in_range ts ≡ Some h → SpellsHeader in_range h ts
+pub header-admitted : (in_range : Bool) (ts : List Token) → IfSome (header_in in_range ts) (λ h. SpellsHeader in_range h ts)
 unfolding split
-header-spelled in_range h ts e = by (variable_front ts) (variable-tells ts) e
+header-admitted in_range ts = by (variable_front ts) (variable-tells ts)
   where
-    bound-spelled : (b : Binding) (us : List Token) → ((R : List Token → Type 0) → R us → SpellsBinding b R ts) → header_by in_range (b, us) ≡ Some h
-        → SpellsHeader in_range h ts
-    bound-spelled b us f e =
-        let r = if-read in_range b (pipeline_in us) h e in
-        subst (λ x. SpellsHeader in_range x ts) r.to (r.may, f (SpellsPipeline r.source) (spells-read us r.source r.is))
+    -- a binding, and a pipeline behind it
+    bound : (b : Binding) (us : List Token) → ((R : List Token → Type 0) → R us → SpellsBinding b R ts)
+        → IfSome (header_by in_range (b, us)) (λ h. SpellsHeader in_range h ts)
+    bound b us f = allowed (may_bind in_range b) refl
+      where
+        allowed : (t : Bool) → may_bind in_range b ≡ t → IfSome (header_if t b (pipeline_in us)) (λ h. SpellsHeader in_range h ts)
+        allowed true may =
+            mapped (header_with b) (λ p. SpellsPipeline p us) (λ h. SpellsHeader in_range h ts) (pipeline_in us) (pipeline-admitted us)
+            (λ p s. (may, f (SpellsPipeline p) s))
+        allowed false may = tt
 
     by-second : (key : List ℕ) (us : List Token) → VariableAs ts (Some (record { name = key; next_kind = kind.Comma; rest = us }))
         → (name : List ℕ) (k : TokenKind) (vs : List Token) → VariableAs us (Some (record { name = name; next_kind = k; rest = vs }))
-        → header_by in_range (split_by (second_by k key name vs) ts) ≡ Some h → SpellsHeader in_range h ts
-    by-second key us v name kind.Declare vs w e =
-        bound-spelled (declare_pair key name) vs (λ R r. v (Then (IsVariable name) (Then (IsSign kind.Declare) R)) (w R r)) e
-    by-second key us v name _ vs w e = bound-spelled unbound ts (λ R r. r) e
+        → IfSome (header_by in_range (split_by (second_by k key name vs) ts)) (λ h. SpellsHeader in_range h ts)
+    by-second key us v name kind.Declare vs w = bound (declare_pair key name) vs (λ R r. v (Then (IsVariable name) (Then (IsSign kind.Declare) R)) (w R r))
+    by-second key us v name _ vs w = bound unbound ts (λ R r. r)
 
     behind-comma : (key : List ℕ) (us : List Token) → VariableAs ts (Some (record { name = key; next_kind = kind.Comma; rest = us }))
-        → (o : Option VariableFront) → VariableAs us o → header_by in_range (split_by (second_variable key o) ts) ≡ Some h → SpellsHeader in_range h ts
-    behind-comma key us v None w e = bound-spelled unbound ts (λ R r. r) e
-    behind-comma key us v (Some s) w e = by-second key us v s.name s.next_kind s.rest w e
+        → (o : Option VariableFront) → VariableAs us o → IfSome (header_by in_range (split_by (second_variable key o) ts)) (λ h. SpellsHeader in_range h ts)
+    behind-comma key us v None w = bound unbound ts (λ R r. r)
+    behind-comma key us v (Some s) w = by-second key us v s.name s.next_kind s.rest w
 
     by-kind : (name : List ℕ) (k : TokenKind) (us : List Token) → VariableAs ts (Some (record { name = name; next_kind = k; rest = us }))
-        → header_by in_range (split_by (front_by k name us) ts) ≡ Some h → SpellsHeader in_range h ts
-    by-kind name kind.Declare us v e = bound-spelled (declare name) us v e
-    by-kind name kind.Assign us v e = bound-spelled (assign name) us v e
-    by-kind name kind.Comma us v e = behind-comma name us v (variable_front us) (variable-tells us) e
-    by-kind name _ us v e = bound-spelled unbound ts (λ R r. r) e
+        → IfSome (header_by in_range (split_by (front_by k name us) ts)) (λ h. SpellsHeader in_range h ts)
+    by-kind name kind.Declare us v = bound (declare name) us v
+    by-kind name kind.Assign us v = bound (assign name) us v
+    by-kind name kind.Comma us v = behind-comma name us v (variable_front us) (variable-tells us)
+    by-kind name _ us v = bound unbound ts (λ R r. r)
 
-    by : (o : Option VariableFront) → VariableAs ts o → header_by in_range (split_by (front_of_variable o) ts) ≡ Some h → SpellsHeader in_range h ts
-    by None v e = bound-spelled unbound ts (λ R r. r) e
-    by (Some s) v e = by-kind s.name s.next_kind s.rest v e
+    by : (o : Option VariableFront) → VariableAs ts o → IfSome (header_by in_range (split_by (front_of_variable o) ts)) (λ h. SpellsHeader in_range h ts)
+    by None v = bound unbound ts (λ R r. r)
+    by (Some s) v = by-kind s.name s.next_kind s.rest v

@@ -1,8 +1,9 @@
 -- For `printed_spelling`: digits in base 16 read back as their number, as a quote has them.
-use Rattle.std.proofs.Common.{arith, ◌≡◌, ◌∙◌, ℕ, zero, suc, ◌+◌, ◌*◌, ◌/◌, ◌%◌, ◌^◌, ◌<◌, List, [], ◌∷◌, ◌++◌, length, refl, ap, length-append}
+use Rattle.std.proofs.Common.{arith, ◌≡◌, ◌∙◌, ℕ, zero, suc, ◌/◌, ◌%◌, ◌^◌, ◌<◌, List, [], ◌∷◌, ◌++◌, length, refl, length-append}
 use Rattle.std.specs.Char.{digit_char, digit_value}
-use Rattle.std.specs.Str.Parse.{AllDigits, digits_value, digits_value_after}
+use Rattle.std.specs.Str.Parse.{AllDigits, digits_value}
 use Rattle.std.proofs.Math.Nat.{pow-suc}
+use Rattle.std.proofs.lemmas.Int.Digits.{digits_value_push}
 use Rattle.std.proofs.lemmas.Str.{digit_value-digit_char}
 use Rattle.tmpl_values.specs.Quote.{hexes}
 use Rattle.tmpl_grammar.specs.Constant.Quoted.{AreDigits}
@@ -11,10 +12,6 @@ pub length-hexes : (k c : ℕ) → length (hexes k c) ≡ k
 unfolding hexes
 length-hexes zero c = refl
 length-hexes (suc k) c = omega (arith, length-append (hexes k (c / 16)) (digit_char (c % 16) ∷ []), length-hexes k (c / 16))
-
-value-append : (base n : ℕ) (xs ys : List ℕ) → digits_value_after base n (xs ++ ys) ≡ digits_value_after base (digits_value_after base n xs) ys
-value-append base n [] ys = refl
-value-append base n (x ∷ xs) ys = value-append base (n * base + digit_value x) xs ys
 
 one-hex : (d : ℕ) → d < 16 → digit_value (digit_char d) < 16
 one-hex d h = let is : digit_value (digit_char d) ≡ d = digit_value-digit_char d (omega arith) in omega (arith, is)
@@ -34,9 +31,7 @@ value-hexes zero c h = omega (arith, h)
 value-hexes (suc k) c h =
     let front : digits_value 16 (hexes k (c / 16)) ≡ c / 16 = value-hexes k (c / 16) (omega (arith, pow-suc 16 k)) in
     let last : digit_value (digit_char (c % 16)) ≡ c % 16 = digit_value-digit_char (c % 16) (omega arith) in
-    value-append 16 0 (hexes k (c / 16)) (digit_char (c % 16) ∷ [])
-    ∙ ap (λ n. n * 16 + digit_value (digit_char (c % 16))) front
-    ∙ ap (λ d. c / 16 * 16 + d) last ∙ omega arith
+    digits_value_push 16 (hexes k (c / 16)) (digit_char (c % 16)) ∙ simp (front, last) (omega arith)
 
 pub are-hexes : (k c : ℕ) → AreDigits 16 k (hexes k c)
 are-hexes k c = (length-hexes k c, all-hex k c)

@@ -1,26 +1,26 @@
 -- For `one_operand`: the operands of one token that are computed are those that the relation admits.
-use Rattle.std.proofs.Common.{◌≡◌, ◌∙◌, ℕ, Bool, true, false, cond, List, [], ◌∷◌, Option, Some, refl, sym, ap, subst, bytes_eq, codes, find}
-use Rattle.std.specs.Option.{option_map}
+use Rattle.std.proofs.Common.{◌≡◌, ◌∙◌, ℕ, Bool, true, false, cond, List, [], ◌∷◌, Option, Some, IfSome, refl, subst, bytes_eq, codes, find}
+use Rattle.std.proofs.Common.{drop}
 use Rattle.std.proofs.lemmas.Slice.Eq.{bytes_eq-Decides}
-use Rattle.std.proofs.lemmas.Option.{same_Some}
+use Rattle.std.proofs.lemmas.Option.{IfSome_then}
 use Rattle.tmpl_funcs.specs.Func.{name_of}
 use Rattle.tmpl_funcs.specs.declared.func.Func.{Func}
 use Rattle.tmpl_funcs.specs.declared.func.Func.TheVariants.{And}
 use Rattle.tmpl_lex.specs.Piece.{Token}
 use Rattle.tmpl_lex.specs.declared.piece.TokenKind.{TokenKind}
 use Rattle.tmpl_lex.specs.declared.piece.TokenKind.TheVariants as kind
-use Rattle.tmpl_grammar.specs.Token.{token, name_in, begins_name}
+use Rattle.tmpl_grammar.specs.Token.{token, begins_name}
 use Rattle.tmpl_grammar.specs.Tree as tree
 use Rattle.tmpl_grammar.specs.Tree.{Operand}
 use Rattle.tmpl_grammar.specs.Constant as constant
 use Rattle.tmpl_grammar.specs.Constant.{IsConstant}
 use Rattle.tmpl_grammar.specs.Operand as operand
 use Rattle.tmpl_grammar.specs.Operand.{IsOperand}
-use Rattle.tmpl_grammar.specs.Laws.{IsAdmitted, IsComputed}
+use Rattle.tmpl_grammar.specs.Laws.{IsComputed}
 use Rattle.tmpl_grammar.specs.computed.Constant.{constant_of}
 use Rattle.tmpl_grammar.specs.computed.Operand.{funcs, func_named, word_operand, field_operand, operand_by, operand_at}
-use Rattle.tmpl_grammar.proofs.IsConstantLemmas.{computes-constant, is-computed-constant}
-use Rattle.tmpl_grammar.proofs.OptionLemmas.{no-value, mapped}
+use Rattle.tmpl_grammar.proofs.IsConstantLemmas.{computes-constant, constant-admitted}
+use Rattle.tmpl_grammar.proofs.OptionLemmas.{mapped}
 
 -- ---- what the relation admits is computed
 
@@ -36,8 +36,8 @@ constant-kind _ _ _ = refl
 
 pub computes-operand : IsComputed IsOperand operand_at
 unfolding operand_at word_operand
-computes-operand t _ (operand.field is begins) = ap (λ k. operand_by k t) is ∙ ap (λ b. field_operand b (name_in t)) begins
-computes-operand t _ (operand.variable is) = ap (λ k. operand_by k t) is
+computes-operand t _ (operand.field is begins) = simp (is, begins)
+computes-operand t _ (operand.variable is) = simp is
 computes-operand _ _ (operand.a_function f) = function-read f
 computes-operand t o (operand.a_constant is) = constant-kind t o is ∙ computes-constant t o is
 computes-operand _ _ (operand.truth true) = refl
@@ -45,57 +45,49 @@ computes-operand _ _ _ = refl
 
 -- ---- what is computed the relation admits
 
-is-field : (t : Token) (o : Operand) → t.kind ≡ kind.Field → field_operand (begins_name (name_in t)) (name_in t) ≡ Some o → IsOperand t o
-is-field t o is e = go (begins_name (name_in t)) refl e
+is-field : (name : List ℕ) (b : Bool) → begins_name (drop 1 name) ≡ b → IfSome (field_operand b (drop 1 name)) (IsOperand (token kind.Field name))
+is-field name true begins = operand.field refl begins
+is-field name false begins = tt
+
+is-constant : (t : Token) → IfSome (constant_of t) (IsOperand t)
+is-constant t = IfSome_then (constant_of t) (constant-admitted t) (λ o is. operand.a_constant is)
+
+find-named : (fs : List Func) (name : List ℕ) → IfSome (find (λ f. bytes_eq (name_of f) name) fs) (λ f. name_of f ≡ name)
+find-named [] name = tt
+find-named (g ∷ fs) name = go (bytes_eq (name_of g) name) refl (find-named fs name)
   where
-    go : (b : Bool) → begins_name (name_in t) ≡ b → field_operand b (name_in t) ≡ Some o → IsOperand t o
-    go true begins e = subst (IsOperand t) (same_Some _ _ e) (operand.field is begins)
-    go false begins e = no-value o e
+    go : (b : Bool) → bytes_eq (name_of g) name ≡ b → IfSome (find (λ f. bytes_eq (name_of f) name) fs) (λ f. name_of f ≡ name)
+        → IfSome (cond b (Some g) (find (λ f. bytes_eq (name_of f) name) fs)) (λ f. name_of f ≡ name)
+    go true h more = (bytes_eq-Decides (name_of g) name).0 h
+    go false h more = more
 
-find-named : (fs : List Func) (name : List ℕ) (f : Func) → find (λ f. bytes_eq (name_of f) name) fs ≡ Some f → name_of f ≡ name
-find-named [] name f e = no-value f e
-find-named (g ∷ fs) name f e = go (λ e. find-named fs name f e) (bytes_eq (name_of g) name) refl e
+is-named : (name : List ℕ) → IfSome (word_operand name) (IsOperand (token kind.Word name))
+unfolding word_operand func_named
+is-named name =
+    at (codes "true") (tree.bool_constant true) (operand.truth true) _ (at (codes "false") (tree.bool_constant false) (operand.truth false) _
+    (at (codes "nil") tree.nil operand.nil_word _
+    (mapped tree.function (λ f. name_of f ≡ name) (IsOperand (token kind.Word name)) (func_named name) (find-named funcs name)
+    (λ f is. subst (λ bs. IsOperand (token kind.Word bs) (tree.function f)) is (operand.a_function f)))))
   where
-    go : (find (λ f. bytes_eq (name_of f) name) fs ≡ Some f → name_of f ≡ name) → (b : Bool) → bytes_eq (name_of g) name ≡ b
-        → cond b (Some g) (find (λ f. bytes_eq (name_of f) name) fs) ≡ Some f → name_of f ≡ name
-    go more true h e = ap name_of (sym (same_Some _ _ e)) ∙ (bytes_eq-Decides (name_of g) name).0 h
-    go more false h e = more e
+    at : (word : List ℕ) (o : Operand) → IsOperand (token kind.Word word) o → (q : Option Operand) → IfSome q (IsOperand (token kind.Word name))
+        → IfSome (cond (bytes_eq name word) (Some o) q) (IsOperand (token kind.Word name))
+    at word o is q more = go (bytes_eq name word) refl
+      where
+        go : (b : Bool) → bytes_eq name word ≡ b → IfSome (cond b (Some o) q) (IsOperand (token kind.Word name))
+        go true h = rw ((bytes_eq-Decides name word).0 h) is
+        go false h = more
 
-is-function : (name : List ℕ) (o : Operand) → option_map tree.function (func_named name) ≡ Some o → IsOperand (token kind.Word name) o
-unfolding func_named
-is-function name o e =
-    let f = mapped tree.function (func_named name) o e in
-    subst (λ bs. IsOperand (token kind.Word bs) o) (find-named funcs name f.source f.is)
-    (subst (IsOperand (token kind.Word (name_of f.source))) f.to (operand.a_function f.source))
+is-operand : (k : TokenKind) (bs : List ℕ) → IfSome (operand_by k (token k bs)) (IsOperand (token k bs))
+is-operand kind.Dot bs = operand.dot
+is-operand kind.Field bs = is-field bs (begins_name (drop 1 bs)) refl
+is-operand kind.Variable bs = operand.variable refl
+is-operand kind.Word bs = is-named bs
+is-operand kind.Number bs = is-constant (token kind.Number bs)
+is-operand kind.String bs = is-constant (token kind.String bs)
+is-operand kind.RawString bs = is-constant (token kind.RawString bs)
+is-operand kind.Character bs = is-constant (token kind.Character bs)
+is-operand _ bs = tt
 
--- the operand of this word
-is-word : (name word : List ℕ) (o p : Operand) → IsOperand (token kind.Word word) p → (q : Option Operand)
-    → (q ≡ Some o → IsOperand (token kind.Word name) o) → cond (bytes_eq name word) (Some p) q ≡ Some o → IsOperand (token kind.Word name) o
-is-word name word o p is q more e = go (bytes_eq name word) refl e
-  where
-    go : (b : Bool) → bytes_eq name word ≡ b → cond b (Some p) q ≡ Some o → IsOperand (token kind.Word name) o
-    go true h e =
-        subst (λ bs. IsOperand (token kind.Word bs) o) (sym ((bytes_eq-Decides name word).0 h)) (subst (IsOperand (token kind.Word word)) (same_Some _ _ e) is)
-    go false h e = more e
-
-is-named : (name : List ℕ) (o : Operand) → word_operand name ≡ Some o → IsOperand (token kind.Word name) o
-unfolding word_operand
-is-named name o e =
-    is-word name (codes "true") o (tree.bool_constant true) (operand.truth true) _
-    (λ e. is-word name (codes "false") o (tree.bool_constant false) (operand.truth false) _
-    (λ e. is-word name (codes "nil") o tree.nil operand.nil_word _ (λ e. is-function name o e) e) e) e
-
-is-operand : (k : TokenKind) (bs : List ℕ) (o : Operand) → operand_by k (token k bs) ≡ Some o → IsOperand (token k bs) o
-is-operand kind.Dot bs o e = subst (IsOperand (token kind.Dot bs)) (same_Some _ _ e) operand.dot
-is-operand kind.Field bs o e = is-field (token kind.Field bs) o refl e
-is-operand kind.Variable bs o e = subst (IsOperand (token kind.Variable bs)) (same_Some _ _ e) (operand.variable refl)
-is-operand kind.Word bs o e = is-named bs o e
-is-operand kind.Number bs o e = operand.a_constant (is-computed-constant (token kind.Number bs) o e)
-is-operand kind.String bs o e = operand.a_constant (is-computed-constant (token kind.String bs) o e)
-is-operand kind.RawString bs o e = operand.a_constant (is-computed-constant (token kind.RawString bs) o e)
-is-operand kind.Character bs o e = operand.a_constant (is-computed-constant (token kind.Character bs) o e)
-is-operand _ bs o e = no-value o e
-
-pub is-computed-operand : IsAdmitted IsOperand operand_at
+pub operand-admitted : (t : Token) → IfSome (operand_at t) (IsOperand t)
 unfolding operand_at
-is-computed-operand t o e = is-operand t.kind t.bytes o e
+operand-admitted t = is-operand t.kind t.bytes

@@ -1,10 +1,11 @@
 -- For `pipeline` and `commands_in`, which let go of what stands in parentheses where they nest too deep: they read just
 -- the tokens that are read without a limit.
-use Rattle.std.proofs.Common.{arith, ◌≡◌, ◌∙◌, ◌<◌, ℕ, Bool, true, false, nat_le, List, [], ◌∷◌, ◌++◌, Option, Some, None}
+use Rattle.std.proofs.Common.{arith, ◌≡◌, ◌∙◌, ◌<◌, ℕ, Bool, true, false, nat_le, List, [], ◌∷◌, Option, Some, None, IfSome}
 use Rattle.std.proofs.Common.{refl, ap, sym, map, ⊎_elim}
 use Rattle.std.proofs.lemmas.Bool.Decides.{leb_tells}
 use Rattle.std.proofs.lemmas.List.{map-append}
 use Rattle.std.specs.Option.{option_map, option_and_then}
+use Rattle.std.proofs.lemmas.Option.{IfSome_then}
 use Rattle.tmpl_lex.specs.declared.piece.TokenKind.{TokenKind}
 use Rattle.tmpl_lex.specs.declared.piece.TokenKind.TheVariants as kind
 use Rattle.tmpl_lex.specs.Piece.{Token}
@@ -12,7 +13,7 @@ use Rattle.tmpl_grammar.specs.Token.{begins_name, name_in}
 use Rattle.tmpl_grammar.specs.Tree as tree
 use Rattle.tmpl_grammar.specs.Tree.{Operand, Operands, Pipeline, operands_from, commands_from}
 use Rattle.tmpl_grammar.specs.Depth.{depth_of_pipeline, most_deep}
-use Rattle.tmpl_grammar.specs.computed.Depth.{limited_by, limited_pipeline}
+use Rattle.tmpl_grammar.specs.computed.Depth.{limited_pipeline}
 use Rattle.tmpl_grammar.specs.computed.Limited.{deepest, emptied, pruned, pruned_step, pruned_steps, pruned_commands, limited_commands}
 use Rattle.tmpl_grammar.specs.computed.Operand.{operand_at}
 use Rattle.tmpl_grammar.specs.computed.Parser as parser
@@ -20,7 +21,7 @@ use Rattle.tmpl_grammar.specs.computed.Parser.{Parser, Partial, settled, more_co
 use Rattle.tmpl_grammar.specs.computed.Parser.{steps, finished, finished_with, commands_after, start}
 use Rattle.tmpl_grammar.specs.computed.Reading.{pipeline_in}
 use Rattle.tmpl_grammar.proofs.DepthLemmas.{pipeline-depth}
-use Rattle.tmpl_grammar.proofs.PipelineLemmas.{spells-read}
+use Rattle.tmpl_grammar.proofs.PipelineLemmas.{pipeline-admitted}
 
 -- ---- with nothing in parentheses
 
@@ -51,14 +52,10 @@ from-emptied (o ∷ os) = ap (tree.operand (emptied o)) (from-emptied os)
 more-emptied : (cs : List Operands) (os : List Operand)
     → more_commands (emptied_commands cs) (map emptied os) ≡ option_map emptied_commands (more_commands cs os)
 more-emptied cs [] = refl
-more-emptied cs (o ∷ os) =
-    ap (λ c. Some (emptied_commands cs ++ c ∷ [])) (from-emptied (o ∷ os))
-    ∙ ap Some (sym (map-append emptied_operands cs (operands_from (o ∷ os) ∷ [])))
+more-emptied cs (o ∷ os) = simp (from-emptied os, map-append)
 
 closed-emptied : (h : Parser) → closed (emptied_parser h) ≡ option_map emptied_commands (closed h)
-closed-emptied h =
-    ap (more_commands (emptied_commands h.inner.commands)) (settled-emptied h.last h.inner.operands)
-    ∙ more-emptied h.inner.commands (settled h.last h.inner.operands)
+closed-emptied h = simp (settled-emptied h.last h.inner.operands, more-emptied h.inner.commands (settled h.last h.inner.operands))
 
 stands-emptied : (cs : List Operands) (os : List Operand) (o : Operand) → may_stand (emptied_commands cs) (map emptied os) o ≡ may_stand cs os o
 stands-emptied [] os o = refl
@@ -69,14 +66,6 @@ module _ (h : Parser) where
   -- the same by the parser with nothing in parentheses, and with it
   abbrev Prunes : Option Parser → Option Parser → Type 0
   Prunes o p = option_map (pruned false) o ≡ option_map emptied_parser p
-
-  apart-pruned : Prunes (Some (parser.apart (emptied_parser h))) (Some (parser.apart h))
-  apart-pruned =
-      ap (λ os. Some (record {
-        outer = map emptied_partial h.outer;
-        inner = record { commands = emptied_commands h.inner.commands; operands = os };
-        last = None;
-      })) (settled-emptied h.last h.inner.operands)
 
   barred-pruned : (o : Option (List Operands))
       → Prunes (option_map (parser.barred (emptied_parser h)) (option_map emptied_commands o)) (option_map (parser.barred h) o)
@@ -100,8 +89,7 @@ module _ (h : Parser) where
   placed-pruned : (last o : Option Operand) → Prunes (parser.placed (option_map emptied last) o (emptied_parser h)) (parser.placed last o h)
   placed-pruned None None = refl
   placed-pruned None (Some o) =
-      ap (λ b. option_map (pruned false) (kept_if b (parser.ending_with (emptied_parser h) o))) (stands-emptied h.inner.commands h.inner.operands o)
-      ∙ kept-pruned (may_stand h.inner.commands h.inner.operands o) o
+      rw (stands-emptied h.inner.commands h.inner.operands o) (kept-pruned (may_stand h.inner.commands h.inner.operands o) o)
   placed-pruned (Some p) o = refl
 
   linked-pruned : (b : Bool) (o : Operand) (name : List ℕ)
@@ -115,12 +103,10 @@ module _ (h : Parser) where
   fielded-pruned (Some o) t = linked-pruned (begins_name (name_in t)) o (name_in t)
 
   step-pruned : (k : TokenKind) (t : Token) → Prunes (step_by k t (emptied_parser h)) (step_by k t h)
-  step-pruned kind.Space t = apart-pruned
-  step-pruned kind.Pipe t =
-      ap (λ o. option_map (pruned false) (option_map (parser.barred (emptied_parser h)) o)) (closed-emptied h) ∙ barred-pruned (closed h)
+  step-pruned kind.Space t = simp (settled-emptied h.last h.inner.operands)
+  step-pruned kind.Pipe t = rw (closed-emptied h) (barred-pruned (closed h))
   step-pruned kind.LeftParenthesis t = opened-pruned h.last
-  step-pruned kind.RightParenthesis t =
-      ap (λ o. option_map (pruned false) (parser.left_with (map emptied_partial h.outer) o)) (closed-emptied h) ∙ left-pruned h.outer (closed h)
+  step-pruned kind.RightParenthesis t = rw (closed-emptied h) (left-pruned h.outer (closed h))
   step-pruned kind.Field t = fielded-pruned h.last t
   step-pruned _ t = placed-pruned h.last (operand_at t)
 
@@ -158,10 +144,7 @@ none-steps keeps (t ∷ ts) = none-steps keeps ts
 -- a token that may not stand
 pub none-read : (keeps : Bool) (h : Parser) (ts : List Token) (t : Token) (us : List Token) → ts ≡ t ∷ us → pruned_step keeps t h ≡ None
     → pruned_commands keeps h ts ≡ None
-none-read keeps h ts t us is e =
-    ap (pruned_commands keeps h) is
-    ∙ ap (λ o. option_and_then finished (pruned_steps keeps o us)) e
-    ∙ ap (option_and_then finished) (none-steps keeps us)
+none-read keeps h ts t us is e = simp (is, e, none-steps keeps us)
 
 -- ---- the limit
 
@@ -173,19 +156,19 @@ emptied-limited None = refl
 emptied-limited (Some cs) = refl
 
 pruned-limited : (keeps : Bool) (ts : List Token) → limited_commands keeps (pruned_commands keeps start ts) ≡ limited_commands keeps (commands_after start ts)
-pruned-limited true ts = ap (λ o. limited_commands true (option_and_then finished o)) (steps-whole (Some start) ts)
+pruned-limited true ts = simp (steps-whole (Some start) ts)
 pruned-limited false ts =
-    ap (λ o. limited_commands false (option_and_then finished o)) (steps-pruned (Some start) ts)
-    ∙ ap (limited_commands false) (finished-pruned (steps (Some start) ts))
-    ∙ emptied-limited (commands_after start ts)
+    rw (steps-pruned (Some start) ts, finished-pruned (steps (Some start) ts)) (emptied-limited (commands_after start ts))
 
 pub limited-read : (ts : List Token)
     → limited_commands (nat_le (deepest 0 ts) most_deep) (pruned_commands (nat_le (deepest 0 ts) most_deep) start ts)
     ≡ option_map limited_pipeline (pipeline_in ts)
 unfolding pipeline_in
-limited-read ts = pruned-limited (nat_le (deepest 0 ts) most_deep) ts ∙ by (commands_after start ts) (λ cs e. pipeline-depth cs ts (spells-read ts cs e))
+limited-read ts =
+    pruned-limited (nat_le (deepest 0 ts) most_deep) ts
+    ∙ by (commands_after start ts) (IfSome_then (pipeline_in ts) (pipeline-admitted ts) (λ cs s. pipeline-depth cs ts s))
   where
-    by : (o : Option (List Operands)) → ((cs : Pipeline) → option_map commands_from o ≡ Some cs → depth_of_pipeline cs ≡ deepest 0 ts)
+    by : (o : Option (List Operands)) → IfSome (option_map commands_from o) (λ cs. depth_of_pipeline cs ≡ deepest 0 ts)
         → limited_commands (nat_le (deepest 0 ts) most_deep) o ≡ option_map limited_pipeline (option_map commands_from o)
     by None deep = refl
-    by (Some cs) deep = ap (λ n. Some (limited_by (nat_le n most_deep) (commands_from cs))) (sym (deep (commands_from cs) refl))
+    by (Some cs) deep = simp deep

@@ -4,7 +4,7 @@ use Rattle.tmpl_lex.specs.Piece.{Token}
 use Rattle.tmpl_grammar.specs.Tree as tree
 use Rattle.tmpl_grammar.specs.Tree.{Operand, Operands, Pipeline, Binding, unbound, declare_pair, Header}
 use Rattle.tmpl_grammar.specs.Pipeline.{IsChained, SpellsOperand, SpellsMore, SpellsCommand, SpellsLater, SpellsPipeline}
-use Rattle.tmpl_grammar.specs.Header.{is_range, SpellsBinding, SpellsHeader}
+use Rattle.tmpl_grammar.specs.Header.{is_range, Then, SpellsBinding, SpellsHeader}
 use Rattle.tmpl_grammar.specs.Action.{Action, pipeline_action, opening, else_branch, template_action, block_action, SpellsGiven, SpellsAction}
 use Rattle.tmpl_grammar.specs.Need.{called_or_alone, need_of_operand, need_of_arguments, need_of_command, need_of_commands}
 use Rattle.tmpl_grammar.specs.Need.{need_of_pipeline, need_of_given, declared_count}
@@ -80,24 +80,15 @@ mutual
 -- ---- and so has each variable
 
 -- one token is before those behind it
-behind : (ts ws : List Token) (t : Token) (us : List Token) → ts ≡ ws ++ t ∷ us → 1 + length us ≤ length ts
-behind ts ws t us e = omega (arith, joined ts ws (t ∷ us) e)
+behind : {Is : Token → Type 0} {Rest : List Token → Type 0} {ts : List Token} → (s : Then Is Rest ts) → 1 + length s.2 ≤ length ts
+behind {ts = ts} s = omega (arith, joined ts s.0 (s.1 ∷ s.2) s.3)
 
 bound-within : (b : Binding) (p : Pipeline) (ts : List Token) → SpellsBinding b (SpellsPipeline p) ts → declared_count b + need_of_pipeline p ≤ length ts
 bound-within unbound p ts s = let n = pipeline-within p ts s in omega (arith, n)
 bound-within (declare_pair key name) p ts s =
-    let more = s.6.6 in
-    let sign = more.6 in
-    omega (
-      arith,
-      behind ts s.0 s.1 s.2 s.3,
-      behind s.2 s.6.0 s.6.1 s.6.2 s.6.3,
-      behind s.6.2 more.0 more.1 more.2 more.3,
-      behind more.2 sign.0 sign.1 sign.2 sign.3,
-      pipeline-within p sign.2 sign.6,
-    )
-bound-within _ p ts s =
-    omega (arith, behind ts s.0 s.1 s.2 s.3, behind s.2 s.6.0 s.6.1 s.6.2 s.6.3, pipeline-within p s.6.2 s.6.6)
+    let sign = s.6.6.6 in
+    omega (arith, behind s, behind s.6, behind s.6.6, behind sign, pipeline-within p sign.2 sign.6)
+bound-within _ p ts s = omega (arith, behind s, behind s.6, pipeline-within p s.6.2 s.6.6)
 
 -- ---- actions
 
@@ -123,19 +114,8 @@ given-within (Some p) ts s = let n = pipeline-within p ts s in omega (arith, n)
 
 pub action-within : (a : Action) (ts : List Token) → SpellsAction a ts → cells_of a ≤ 2 + length ts
 action-within (pipeline_action h) ts s = let n = header-within false h ts s in omega (arith, n)
-action-within (opening c h) ts s =
-    let n = header-within (is_range c) h s.2 s.6 in
-    omega (arith, n, behind ts s.0 s.1 s.2 s.3)
-action-within (else_branch br h) ts s =
-    let more = s.6 in
-    let n = header-within false h more.2 more.6 in
-    omega (arith, n, behind ts s.0 s.1 s.2 s.3, behind s.2 more.0 more.1 more.2 more.3)
-action-within (template_action name given) ts s =
-    let named = s.6 in
-    let n = given-within given named.2 named.6 in
-    omega (arith, n, behind ts s.0 s.1 s.2 s.3, behind s.2 named.0 named.1 named.2 named.3)
-action-within (block_action name p) ts s =
-    let named = s.6 in
-    let n = pipeline-within p named.2 named.6 in
-    omega (arith, n, behind ts s.0 s.1 s.2 s.3, behind s.2 named.0 named.1 named.2 named.3)
+action-within (opening c h) ts s = omega (arith, behind s, header-within (is_range c) h s.2 s.6)
+action-within (else_branch br h) ts s = omega (arith, behind s, behind s.6, header-within false h s.6.2 s.6.6)
+action-within (template_action name given) ts s = omega (arith, behind s, behind s.6, given-within given s.6.2 s.6.6)
+action-within (block_action name p) ts s = omega (arith, behind s, behind s.6, pipeline-within p s.6.2 s.6.6)
 action-within _ ts s = omega arith

@@ -1,30 +1,29 @@
--- For the laws of this crate: options and their values, which each step of a reading gives.
-use Rattle.std.proofs.Common.{◌≡◌, ◌∙◌, Option, Some, None, refl, sym}
+-- For the laws of this crate: options and what holds of their values, which each step of a reading gives.
+use Rattle.std.proofs.Common.{◌≡◌, ◌∙◌, Option, Some, None, IfSome, refl, sym, subst}
 use Rattle.std.specs.Option.{option_map, option_and_then}
 use Rattle.std.proofs.lemmas.Option.{same_Some}
+use Rattle.tmpl_grammar.specs.Laws.{IsAdmitted}
 
 pub no-value : {A B : Type 0} (x : A) → None ≡ Some x → B
 no-value x e = absurd (cc)
 
--- what a mapped option is the image of
-pub record Mapped {A B : Type 0} (f : A → B) (o : Option A) (y : B) : Type 0 where
-  pub source : A
-  pub is : o ≡ Some source
-  pub to : f source ≡ y
+-- of a value that is known, by what is computed
+pub told : {A : Type 0} (P : A → Type 0) (o : Option A) → ((x : A) → o ≡ Some x → P x) → IfSome o P
+told P None f = tt
+told P (Some x) f = f x refl
 
-pub mapped : {A B : Type 0} (f : A → B) (o : Option A) (y : B) → option_map f o ≡ Some y → Mapped f o y
-mapped f None y e = no-value y e
-mapped f (Some x) y e = record { source = x; is = refl; to = same_Some (f x) y e }
+pub mapped : {A B : Type 0} (f : A → B) (P : A → Type 0) (Q : B → Type 0) (o : Option A) → IfSome o P → ((x : A) → P x → Q (f x)) → IfSome (option_map f o) Q
+mapped f P Q None h g = tt
+mapped f P Q (Some x) h g = g x h
 
--- what a chained option comes from
-pub record Chained {A B : Type 0} (f : A → Option B) (o : Option A) (y : B) : Type 0 where
-  pub source : A
-  pub is : o ≡ Some source
-  pub to : f source ≡ Some y
+pub chained : {A B : Type 0} (f : A → Option B) (P : A → Type 0) (Q : B → Type 0) (o : Option A) → IfSome o P → ((x : A) → P x → IfSome (f x) Q)
+    → IfSome (option_and_then f o) Q
+chained f P Q None h g = tt
+chained f P Q (Some x) h g = g x h
 
-pub chained : {A B : Type 0} (f : A → Option B) (o : Option A) (y : B) → option_and_then f o ≡ Some y → Chained f o y
-chained f None y e = no-value y e
-chained f (Some x) y e = record { source = x; is = refl; to = e }
+-- what is computed is admitted
+pub admitted : {X Y : Type 0} (Is : X → Y → Type 0) (f : X → Option Y) → ((x : X) → IfSome (f x) (Is x)) → IsAdmitted Is f
+admitted Is f h x y e = subst (λ o. IfSome o (Is x)) e (h x)
 
 -- what is computed of each is one at most
 pub one-at-most : {A B : Type 0} (Is : A → B → Type 0) (f : A → Option B) → ((x : A) (y : B) → Is x y → f x ≡ Some y)

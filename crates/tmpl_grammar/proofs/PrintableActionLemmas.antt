@@ -1,5 +1,5 @@
 -- For the law that what a file defines can be printed: what holds of the actions that its tokens spell.
-use Rattle.std.proofs.Common.{◌≡◌, ◌∙◌, ℕ, ◌≤◌, Bool, false, List, [], ◌∷◌, ◌++◌, Some, None, sym, ap, subst}
+use Rattle.std.proofs.Common.{◌∙◌, ℕ, ◌≤◌, Bool, false, List, [], ◌∷◌, ◌++◌, Some, None, sym, ap, subst}
 use Rattle.tmpl_values.specs.Bytes.{AreBytes}
 use Rattle.tmpl_lex.proofs.NameLemmas.{IsNamed, OfKind}
 use Rattle.tmpl_lex.specs.Piece.{Token}
@@ -7,7 +7,7 @@ use Rattle.tmpl_grammar.specs.Token.{begins_name, name_in}
 use Rattle.tmpl_grammar.specs.Tree as tree
 use Rattle.tmpl_grammar.specs.Tree.{Operand, Operands, Pipeline, Binding, unbound, declare, assign, Header, declare_pair}
 use Rattle.tmpl_grammar.specs.Action.{Action, pipeline_action, opening, else_branch, define_action, template_action, block_action, IsQuoted, SpellsAction}
-use Rattle.tmpl_grammar.specs.Header.{is_range, IsVariable, SpellsHeader, SpellsBinding}
+use Rattle.tmpl_grammar.specs.Header.{is_range, IsVariable, Then, SpellsHeader, SpellsBinding}
 use Rattle.tmpl_grammar.specs.Depth.{depth_of, depth_of_pipeline, most_deep}
 use Rattle.tmpl_grammar.specs.Pipeline.{IsChain, SpellsOperand, SpellsMore, SpellsCommand, SpellsLater, SpellsPipeline}
 use Rattle.tmpl_grammar.specs.Operand as operand
@@ -18,8 +18,8 @@ use Rattle.tmpl_grammar.proofs.PrintableTokenLemmas.{IsRead, AreRead}
 use Rattle.tmpl_grammar.proofs.PrintableConstantLemmas.{of-constant}
 
 of-token : (t : Token) (o : Operand) → IsRead t → IsOperand t o → OfOperand o
-of-token t _ r (operand.field is begins) = ((begins, subst (λ k. OfKind k (name_in t)) is r.names), tt)
-of-token t _ r (operand.variable is) = (subst (λ k. OfKind k (name_in t)) is r.names, tt)
+of-token t _ r (operand.field is begins) = ((begins, rw is at r.names), tt)
+of-token t _ r (operand.variable is) = (rw is at r.names, tt)
 of-token t o r (operand.a_constant is) = of-constant t o r.bytes is
 of-token _ _ r _ = tt
 
@@ -80,34 +80,23 @@ mutual
 
 -- ---- actions
 
-pub behind : (ws : List Token) (t : Token) (us ts : List Token) → ts ≡ ws ++ t ∷ us → AreRead ts → IsRead t × AreRead us
-behind ws t us ts e r = (read-parts ws (t ∷ us) (subst AreRead e r)).1
+behind : {Is : Token → Type 0} {Rest : List Token → Type 0} {ts : List Token} → (s : Then Is Rest ts) → AreRead ts → IsRead s.1 × AreRead s.2
+behind s r = (read-parts s.0 (s.1 ∷ s.2) (rw s.3 at r)).1
 
 of-variable : (name : List ℕ) (t : Token) → IsRead t → IsVariable name t → OfVariable name
 of-variable name t r v = (v.2, subst IsNamed v.1 (subst (λ k. OfKind k (name_in t)) v.0 r.names))
 
-of-pipeline : (p : Pipeline) (ts : List Token) → depth_of_pipeline p ≤ most_deep → AreRead ts → SpellsPipeline p ts → OfPipeline p
-of-pipeline cs ts d r s = (of-commands cs ts r s, d)
-
 of-bound : (b : Binding) (p : Pipeline) (ts : List Token) → depth_of_pipeline p ≤ most_deep → AreRead ts
     → SpellsBinding b (SpellsPipeline p) ts → OfBinding b × OfPipeline p
-of-bound unbound p ts d r s = (tt, of-pipeline p ts d r s)
-of-bound (declare name) p ts d r s =
-    let h = behind s.0 s.1 s.2 ts s.3 r in
-    let k = behind s.6.0 s.6.1 s.6.2 s.2 s.6.3 h.1 in
-    (of-variable name s.1 h.0 s.5, of-pipeline p s.6.2 d k.1 s.6.6)
-of-bound (assign name) p ts d r s =
-    let h = behind s.0 s.1 s.2 ts s.3 r in
-    let k = behind s.6.0 s.6.1 s.6.2 s.2 s.6.3 h.1 in
-    (of-variable name s.1 h.0 s.5, of-pipeline p s.6.2 d k.1 s.6.6)
+of-bound unbound p ts d r s = (tt, (of-commands p ts r s, d))
 of-bound (declare_pair key name) p ts d r s =
-    let h = behind s.0 s.1 s.2 ts s.3 r in
-    let comma = behind s.6.0 s.6.1 s.6.2 s.2 s.6.3 h.1 in
-    let more = s.6.6 in
-    let k = behind more.0 more.1 more.2 s.6.2 more.3 comma.1 in
-    let sign = more.6 in
-    let j = behind sign.0 sign.1 sign.2 more.2 sign.3 k.1 in
-    ((of-variable key s.1 h.0 s.5, of-variable name more.1 k.0 more.5), of-pipeline p sign.2 d j.1 sign.6)
+    let h = behind s r in
+    let k = behind s.6.6 (behind s.6 h.1).1 in
+    let sign = s.6.6.6 in
+    ((of-variable key s.1 h.0 s.5, of-variable name s.6.6.1 k.0 s.6.6.5), (of-commands p sign.2 (behind sign k.1).1 sign.6, d))
+of-bound _ p ts d r s =
+    let h = behind s r in
+    (of-variable _ s.1 h.0 s.5, (of-commands p s.6.2 (behind s.6 h.1).1 s.6.6, d))
 
 of-header : (in_range : Bool) (h : Header) (ts : List Token) → depth_of_pipeline h.pipeline ≤ most_deep → AreRead ts
     → SpellsHeader in_range h ts → OfHeader in_range h
@@ -115,32 +104,19 @@ of-header in_range h ts d r spelled =
     let of = of-bound h.binding h.pipeline ts d r spelled.1 in
     (spelled.0, of.0, of.1)
 
-of-name : (name : List ℕ) (t : Token) → IsRead t → IsQuoted name t → AreBytes name
-of-name name t r q = of-constant t (tree.text_constant name) r.bytes q
+of-named : {Rest : List Token → Type 0} {ts : List Token} (name : List ℕ) → (s : Then (IsQuoted name) Rest ts) → AreRead ts → AreBytes name × AreRead s.2
+of-named name s r = let h = behind s r in (of-constant s.1 (tree.text_constant name) (let t = h.0 in t.bytes) s.5, h.1)
 
 pub of_action : (a : Action) (ts : List Token) → depth_of a ≤ most_deep → AreRead ts → SpellsAction a ts → OfAction a
 of_action (pipeline_action h) ts d r s = of-header false h ts d r s
-of_action (opening c h) ts d r s = of-header (is_range c) h s.2 d (behind s.0 s.1 s.2 ts s.3 r).1 s.6
-of_action (else_branch br h) ts d r s =
-    let else_behind = behind s.0 s.1 s.2 ts s.3 r in
-    let more = s.6 in
-    of-header false h more.2 d (behind more.0 more.1 more.2 s.2 more.3 else_behind.1).1 more.6
-of_action (define_action name) ts d r s =
-    let h = behind s.0 s.1 s.2 ts s.3 r in
-    let n = s.6 in
-    of-name name n.1 (behind n.0 n.1 n.2 s.2 n.3 h.1).0 n.5
-of_action (template_action name None) ts d r s =
-    let h = behind s.0 s.1 s.2 ts s.3 r in
-    let n = s.6 in
-    (of-name name n.1 (behind n.0 n.1 n.2 s.2 n.3 h.1).0 n.5, tt)
+of_action (opening c h) ts d r s = of-header (is_range c) h s.2 d (behind s r).1 s.6
+of_action (else_branch br h) ts d r s = of-header false h s.6.2 d (behind s.6 (behind s r).1).1 s.6.6
+of_action (define_action name) ts d r s = (of-named name s.6 (behind s r).1).0
+of_action (template_action name None) ts d r s = ((of-named name s.6 (behind s r).1).0, tt)
 of_action (template_action name (Some p)) ts d r s =
-    let h = behind s.0 s.1 s.2 ts s.3 r in
-    let n = s.6 in
-    let k = behind n.0 n.1 n.2 s.2 n.3 h.1 in
-    (of-name name n.1 k.0 n.5, of-pipeline p n.2 d k.1 n.6)
+    let n = of-named name s.6 (behind s r).1 in
+    (n.0, (of-commands p s.6.2 n.1 s.6.6, d))
 of_action (block_action name p) ts d r s =
-    let h = behind s.0 s.1 s.2 ts s.3 r in
-    let n = s.6 in
-    let k = behind n.0 n.1 n.2 s.2 n.3 h.1 in
-    (of-name name n.1 k.0 n.5, of-pipeline p n.2 d k.1 n.6)
+    let n = of-named name s.6 (behind s r).1 in
+    (n.0, (of-commands p s.6.2 n.1 s.6.6, d))
 of_action _ ts d r s = tt

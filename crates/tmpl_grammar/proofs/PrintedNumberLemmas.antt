@@ -1,9 +1,8 @@
 -- For `printed_tokens` and `printed_spelling`: a whole number in decimal is one token, and is read as it.
-use Rattle.std.proofs.Common.{arith, ◌≡◌, ◌∙◌, ℕ, zero, suc, ◌^◌, ◌<◌, true, ◌&&◌, List}
-use Rattle.std.proofs.Common.{[], ◌∷◌, ◌++◌, get_or, refl, ap, sym, subst, pos, negsuc}
+use Rattle.std.proofs.Common.{arith, ◌≡◌, ℕ, zero, suc, ◌^◌, ◌<◌, true, List}
+use Rattle.std.proofs.Common.{[], ◌∷◌, ◌++◌, get_or, sym, subst, pos, negsuc}
 use lib.IntN.{ℤ}
 use lib.Signed.{mag}
-use Rattle.std.specs.List.{list_all}
 use Rattle.std.specs.Char.{is_ascii_digit, is_digit}
 use Rattle.std.specs.Fmt.{decimal, signed_decimal}
 use Rattle.std.specs.Str.Parse.{IsNumeral, AllDigits, digits_value}
@@ -17,13 +16,6 @@ use Rattle.tmpl_grammar.specs.Print.{token}
 use Rattle.tmpl_grammar.proofs.FrontLemmas.{IsFront, digit-front, minus-front, Solid, solid, minus}
 
 -- ---- the token
-
-all-digits : (ds : List ℕ) → AllDigits 10 ds → list_all is_ascii_digit ds ≡ true
-all-digits [] h = refl
-all-digits (d ∷ ds) h =
-    let low = h.0 in
-    let here : is_ascii_digit d ≡ true = grind (arith, nat_tests) in
-    ap (λ k. k && list_all is_ascii_digit ds) here ∙ all-digits ds h.1
 
 -- a token that stands at the front, and may stand behind a space
 pub record Stands (bs rest : List ℕ) : Type 0 where
@@ -40,13 +32,13 @@ plain-stands : (ds rest : List ℕ) → IsNumeral 10 ds → Stops is_number_byte
 plain-stands [] rest h stop = absurd (let some = h.0 in omega (arith, some))
 plain-stands (d ∷ ds) rest h stop =
     let digit = first-digit d ds h.1 in
-    record { front = digit-front d ds rest digit (all-digits ds h.1.1) stop; solid_is = digit-solid d (ds ++ rest) digit }
+    record { front = digit-front d ds rest digit (let all = h.1 in all.1) stop; solid_is = digit-solid d (ds ++ rest) digit }
 
 minus-stands : (ds rest : List ℕ) → IsNumeral 10 ds → Stops is_number_byte rest → Stands (45 ∷ ds) rest
 minus-stands [] rest h stop = absurd (let some = h.0 in omega (arith, some))
 minus-stands (d ∷ ds) rest h stop =
     let digit = first-digit d ds h.1 in
-    record { front = minus-front d ds rest digit (all-digits ds h.1.1) stop; solid_is = minus digit }
+    record { front = minus-front d ds rest digit (let all = h.1 in all.1) stop; solid_is = minus digit }
 
 pub number-stands : (n : ℤ) (rest : List ℕ) → mag n < 2 ^ 63 → Stops is_number_byte rest → Stands (signed_decimal n) rest
 number-stands (pos n) rest h stop = plain-stands (decimal n) rest (decimal_is_IsNumeral n (omega arith)).0 stop

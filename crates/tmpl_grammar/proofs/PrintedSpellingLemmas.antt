@@ -129,16 +129,13 @@ mutual
         f.spells,
       )
 
-spells-pipeline : (cs : Pipeline) → OfPipeline cs → SpellsPipeline cs (pipeline_tokens cs)
-spells-pipeline cs h = spells-commands cs h.0
-
 -- ---- actions
 
 -- a pipeline behind white space
 spaced-pipeline : (cs : Pipeline) → OfPipeline cs → SpellsPipeline cs (space ∷ pipeline_tokens cs)
 spaced-pipeline tree.no_command h = h.0
 spaced-pipeline (tree.command os cs) h =
-    let s = spells-pipeline (tree.command os cs) h in
+    let s = spells-commands (tree.command os cs) h.0 in
     (space ∷ s.0, s.1, ap (λ ts. space ∷ ts) s.2, spaced os s.0 s.3, s.4)
 
 -- a variable, and a sign and a pipeline behind it
@@ -194,7 +191,7 @@ named : (name : List ℕ) (Rest : List Token → Type 0) (ts : List Token) → A
 named name Rest ts h r = (space ∷ [], token kind.String (quote name), ts, refl, (refl, tt), quoted-constant name h, r)
 
 pub spells-tokens : (a : Action) → OfAction a → SpellsAction a (action_tokens a)
-spells-tokens (pipeline_action h) of = (of.0, spells-bound h.binding h.pipeline of.1 of.2 [] tt (spells-pipeline h.pipeline of.2))
+spells-tokens (pipeline_action h) of = (of.0, spells-bound h.binding h.pipeline of.1 of.2 [] tt (spells-commands h.pipeline (let o = of.2 in o.0)))
 spells-tokens (opening c h) of = keyed [] _ (SpellsHeader (is_range c) h) _ tt (spells-header (is_range c) h of)
 spells-tokens (else_branch br h) of =
     keyed [] _ (Then (IsWord (control_spelling (control_in br))) (SpellsHeader false h)) _ tt

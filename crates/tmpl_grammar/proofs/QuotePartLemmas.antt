@@ -44,7 +44,7 @@ letter-escape c e is = by (nat_eq c 34) refl is
     by true h k =
         let same : 34 ≡ c = sym (eqb-true c 34 h) in
         let letter : 34 ≡ e = cc in
-        subst (λ x. IsEscape 34 (92 ∷ x ∷ []) (byte c)) letter (subst (λ x. IsEscape 34 (92 ∷ 34 ∷ []) (byte x)) same the_quote)
+        rw (sym letter, sym same) the_quote
     by false h k = a_letter is (λ same. grind (arith, nat_tests))
 
 x-escape : (b : ℕ) → b < 256 → IsEscape 34 (92 ∷ 120 ∷ hexes 2 b) (byte b)

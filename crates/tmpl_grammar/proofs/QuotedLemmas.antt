@@ -1,6 +1,6 @@
 -- For `unquote`: the parts of a text between quotes, from the first one on.
-use Rattle.std.proofs.Common.{◌≡◌, ◌∙◌, ℕ, zero, suc, ◌-◌, ◌<◌, ◌≤◌, List, [], ◌∷◌, ◌++◌, length, drop, Option, Some, None, refl, sym, ap}
-use Rattle.std.proofs.Common.{arith, option_map, option_and_then, append_assoc, append-nil}
+use Rattle.std.proofs.Common.{◌≡◌, ℕ, zero, suc, ◌-◌, ◌<◌, ◌≤◌, List, [], ◌∷◌, ◌++◌, length, drop, Option, Some, None, refl, sym, ap}
+use Rattle.std.proofs.Common.{arith, option_map, append_assoc, append-nil}
 use Rattle.std.specs.List.{flat_map}
 use Rattle.tmpl_values.specs.Rune.{Rune, bytes_in}
 use Rattle.tmpl_grammar.specs.computed.Quoted.{Spelled, part_at, with_part, parts_after, parts, unquoted}
@@ -21,13 +21,12 @@ unfolding parts
 parts-first quote [] p h is low high = absurd (omega arith)
 parts-first quote (b ∷ bs) p h is low high =
     let n : p.1 ≡ suc (p.1 - 1) = omega arith in
-    ap (option_and_then (λ q. with_part q.0 (parts_after quote (q.1 - 1) bs))) is
-    ∙ ap (with_part p.0) (skip-to quote (p.1 - 1) bs (omega arith) ∙ ap (λ k. parts_after quote 0 (drop k (b ∷ bs))) (sym n))
+    simp (is, skip-to quote (p.1 - 1) bs (omega arith)) (ap (λ k. with_part p.0 (parts_after quote 0 (drop k (b ∷ bs)))) (sym n))
 
 pub parts-none : (quote : ℕ) (bs : List ℕ) → 0 < length bs → part_at quote bs ≡ None → parts quote bs ≡ None
 unfolding parts
 parts-none quote [] h is = absurd (omega arith)
-parts-none quote (b ∷ bs) h is = ap (option_and_then (λ q. with_part q.0 (parts_after quote (q.1 - 1) bs))) is
+parts-none quote (b ∷ bs) h is = simp is
 
 -- ---- the text
 
@@ -45,14 +44,11 @@ text-with p (Some ps) = refl
 
 pub unquoted-first : (quote : ℕ) (s bs : List ℕ) (p : Spelled) → 0 < length bs → part_at quote bs ≡ Some p → 0 < p.1 → p.1 ≤ length bs
     → led s (unquoted quote bs) ≡ led (s ++ bytes_in p.0) (unquoted quote (drop p.1 bs))
-unquoted-first quote s bs p h is low high =
-    ap (λ ps. led s (option_map (flat_map bytes_in) ps)) (parts-first quote bs p h is low high)
-    ∙ ap (led s) (text-with p.0 (parts quote (drop p.1 bs)))
-    ∙ led-led s (bytes_in p.0) (unquoted quote (drop p.1 bs))
+unquoted-first quote s bs p h is low high = simp (parts-first quote bs p h is low high, text-with, led-led)
 
 pub unquoted-none : (quote : ℕ) (s bs : List ℕ) → 0 < length bs → part_at quote bs ≡ None → led s (unquoted quote bs) ≡ None
-unquoted-none quote s bs h is = ap (λ ps. led s (option_map (flat_map bytes_in) ps)) (parts-none quote bs h is)
+unquoted-none quote s bs h is = simp (parts-none quote bs h is)
 
 pub unquoted-end : (quote : ℕ) (s bs : List ℕ) → length bs ≤ 0 → led s (unquoted quote bs) ≡ Some s
-unquoted-end quote s [] h = ap (λ ps. led s (option_map (flat_map bytes_in) ps)) (parts-nil quote) ∙ ap Some (append-nil s)
+unquoted-end quote s [] h = simp (parts-nil quote, append-nil)
 unquoted-end quote s (b ∷ bs) h = absurd (omega arith)

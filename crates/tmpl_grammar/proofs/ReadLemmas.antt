@@ -1,8 +1,8 @@
 -- For `one_reading`: what is read is what the grammar spells, by induction on the tokens.
-use Rattle.std.proofs.Common.{◌≡◌, ◌∙◌, ℕ, true, false, Bool, List, [], ◌∷◌, ◌++◌, Option, Some, None, refl, ap, sym, subst, append_assoc}
+use Rattle.std.proofs.Common.{◌≡◌, ◌∙◌, ℕ, true, false, Bool, List, [], ◌∷◌, ◌++◌, Option, Some, None, IfSome, refl, ap, sym, append_assoc}
 use Rattle.std.proofs.lemmas.List.{append-nil}
 use Rattle.std.specs.Option.{option_map, option_and_then}
-use Rattle.std.proofs.lemmas.Option.{same_Some}
+use Rattle.std.proofs.lemmas.Option.{IfSome_then}
 use Rattle.tmpl_lex.specs.declared.piece.TokenKind.{TokenKind}
 use Rattle.tmpl_lex.specs.declared.piece.TokenKind.TheVariants as kind
 use Rattle.tmpl_lex.specs.Piece.{Token}
@@ -18,9 +18,8 @@ use Rattle.tmpl_grammar.specs.computed.Parser as parser
 use Rattle.tmpl_grammar.specs.computed.Parser.{Parser, Partial, settled, more_commands, may_stand, kept_if, linked, linked_by, step, step_by}
 use Rattle.tmpl_grammar.specs.computed.Parser.{steps, finished, finished_with, commands_after}
 use Rattle.tmpl_grammar.specs.Pipeline.{IsBlank, IsChain, IsChained, MayBeLater, SpellsOperand, SpellsMore, SpellsCommand, SpellsLater, SpellsPipeline}
-use Rattle.tmpl_grammar.proofs.IsOperandLemmas.{is-computed-operand}
-use Rattle.tmpl_grammar.proofs.OptionLemmas.{no-value}
-use Rattle.tmpl_grammar.proofs.SpelledLemmas.{parser_at, operand_list, command_list, operands-back, commands-back}
+use Rattle.tmpl_grammar.proofs.IsOperandLemmas.{operand-admitted}
+use Rattle.tmpl_grammar.proofs.SpelledLemmas.{parser_at, operand_list, command_list, operands-back, commands-back, more-whole, stands-anywhere}
 
 -- ---- what is read so far
 
@@ -55,14 +54,8 @@ Reads cs os (Some o) ts =
 abbrev Ends : List Operands → List Token → Type 0
 Ends cs ts = (later : Pipeline) (vs : List Token) → SpellsLater later vs → SpellsPipeline (commands_from (cs ++ command_list later)) (ts ++ vs)
 
-at : (cs ds : List Operands) (ts us : List Token) → cs ≡ ds → ts ≡ us → SpellsPipeline (commands_from cs) ts → SpellsPipeline (commands_from ds) us
-at cs ds ts us e f s = subst (λ ds. SpellsPipeline (commands_from ds) us) e (subst (SpellsPipeline (commands_from cs)) f s)
-
 begins-start : Begins [] [] []
-begins-start ms later us vs s l =
-    at (ms ∷ command_list later) (operands_from (operand_list ms) ∷ command_list later) (us ++ vs) (us ++ vs)
-    (ap (λ os. os ∷ command_list later) (sym (operands-back ms))) refl
-    (us, vs, refl, s.0, subst (λ cs. SpellsLater cs vs) (sym (commands-back later)) l)
+begins-start ms later us vs s l = rw (operands-back ms, commands-back later) (us, vs, refl, s.0, l)
 
 -- an operand, and such tokens behind it
 operand-behind : (cs : List Operands) (os : List Operand) (o : Operand) (ms : Operands) (ts b us : List Token) → ts ≡ b ++ us → SpellsOperand o b
@@ -74,7 +67,7 @@ operand-behind cs (p ∷ os) o ms ts b us is spells may more = ([], b, us, is, t
 module _ (t : Token) (is : t.kind ≡ kind.Space) (cs : List Operands) (os : List Operand) where
   begins-spaced : (ts : List Token) → Begins cs os ts → Begins cs os (ts ++ t ∷ [])
   begins-spaced ts f ms later us vs s l =
-      at _ _ _ _ refl (sym (append_assoc ts (t ∷ []) (us ++ vs))) (f ms later (t ∷ us) vs (by os ms s) l)
+      rw (append_assoc ts (t ∷ []) (us ++ vs)) (f ms later (t ∷ us) vs (by os ms s) l)
     where
       spaced : (ms : Operands) → SpellsCommand ms us → SpellsCommand ms (t ∷ us)
       spaced tree.no_operand s = absurd s
@@ -88,9 +81,8 @@ module _ (t : Token) (is : t.kind ≡ kind.Space) (cs : List Operands) (os : Lis
   begins-operand : (o : Operand) (a b : List Token) → Begins cs os a → SpellsOperand o b → may_stand cs os o ≡ true
       → Begins cs (os ++ o ∷ []) ((a ++ b) ++ t ∷ [])
   begins-operand o a b f spells may ms later us vs s l =
-      at _ _ _ _ (ap (λ qs. cs ++ operands_from qs ∷ command_list later) (sym (append_assoc os (o ∷ []) (operand_list ms))))
-      (ap (λ xs. a ++ xs) (append_assoc b (t ∷ us) vs) ∙ sym (append_assoc a b (t ∷ us ++ vs)) ∙ sym (append_assoc (a ++ b) (t ∷ []) (us ++ vs)))
-      (f (tree.operand o ms) later (b ++ t ∷ us) vs (operand-behind cs os o ms _ b (t ∷ us) refl spells may (by os s)) l)
+      simp append_assoc (simp append_assoc at
+      (f (tree.operand o ms) later (b ++ t ∷ us) vs (operand-behind cs os o ms _ b (t ∷ us) refl spells may (by os s)) l))
     where
       apart : (ms : Operands) → SpellsApart ms us → SpellsMore ms (t ∷ us)
       apart tree.no_operand s = (is, s)
@@ -102,42 +94,38 @@ module _ (t : Token) (is : t.kind ≡ kind.Space) (cs : List Operands) (os : Lis
 
 -- ---- ends of commands
 
-more-whole : (cs : List Operands) (os : List Operand) (o : Operand) → more_commands cs (os ++ o ∷ []) ≡ Some (cs ++ operands_from (os ++ o ∷ []) ∷ [])
-more-whole cs [] o = refl
-more-whole cs (p ∷ os) o = refl
+-- behind a whole command stands a later one
+begins-later : (cs : List Operands) (c ms : Operands) → MayBegin (cs ++ c ∷ []) ms → MayBeLater ms
+begins-later cs c tree.no_operand may = absurd may
+begins-later [] c (tree.operand p ps) may = may
+begins-later (d ∷ cs) c (tree.operand p ps) may = may
 
-reads-end : (cs : List Operands) (os : List Operand) (last : Option Operand) (done : List Operands) (ts : List Token)
-    → more_commands cs (settled last os) ≡ Some done → Reads cs os last ts → Ends done ts
-reads-end cs [] None done ts e f = absurd (cc)
-reads-end cs (o ∷ os) None done ts e f = λ later vs l.
-    at _ _ _ _ (ap (λ qs. cs ++ operands_from qs ∷ command_list later) (append-nil (o ∷ os))
-    ∙ sym (append_assoc cs (operands_from (o ∷ os) ∷ []) (command_list later)) ∙ ap (λ ds. ds ++ command_list later) (same_Some _ done e))
-    refl (f tree.no_operand later [] vs tt l)
-reads-end cs os (Some o) done ts e (a, b, is, f, spells, may) = λ later vs l.
-    at _ _ _ _ (sym (append_assoc cs (operands_from (os ++ o ∷ []) ∷ []) (command_list later))
-    ∙ ap (λ ds. ds ++ command_list later) (same_Some _ done (sym (more-whole cs os o) ∙ e)))
-    (sym (ap (λ xs. xs ++ vs) is ∙ append_assoc a b vs))
-    (f (tree.operand o tree.no_operand) later b vs (operand-behind cs os o tree.no_operand b b [] (sym (append-nil b)) spells may tt) l)
+-- these are the whole commands, with the one that ends
+record Completes (cs : List Operands) (os : List Operand) (last : Option Operand) (done : List Operands) : Type 0 where
+  ends : (ts : List Token) → Reads cs os last ts → Ends done ts
+  later : (ms : Operands) → MayBegin done ms → MayBeLater ms
+
+completes : (cs : List Operands) (os : List Operand) (last : Option Operand) → IfSome (more_commands cs (settled last os)) (Completes cs os last)
+completes cs [] None = tt
+completes cs (o ∷ os) None = record {
+  ends = λ ts f later vs l.
+      rw (append_assoc cs (operands_from (o ∷ os) ∷ []) (command_list later)) (rw (append-nil os) at (f tree.no_operand later [] vs tt l));
+  later = begins-later cs (operands_from (o ∷ os));
+}
+completes cs os (Some o) = rw (more-whole cs os o) (record {
+  ends = λ ts r later vs l.
+      rw (r.2, append_assoc r.0 r.1 vs, append_assoc cs (operands_from (os ++ o ∷ []) ∷ []) (command_list later))
+      (r.3 (tree.operand o tree.no_operand) later r.1 vs (operand-behind cs os o tree.no_operand r.1 r.1 [] (sym (append-nil r.1)) r.4 r.5 tt) l);
+  later = begins-later cs (operands_from (os ++ o ∷ []));
+})
 
 ends-whole : (cs : List Operands) (ts : List Token) → Ends cs ts → SpellsPipeline (commands_from cs) ts
-ends-whole cs ts f = at _ _ _ _ (append-nil cs) (append-nil ts) (f tree.no_command [] refl)
-
--- behind a whole command stands a later one
-may-be-later : (cs : List Operands) (os : List Operand) (done : List Operands) (ms : Operands) → more_commands cs os ≡ Some done → MayBegin done ms
-    → MayBeLater ms
-may-be-later cs [] done ms e may = absurd (cc)
-may-be-later cs (o ∷ os) done ms e may = by cs ms (subst (λ ds. MayBegin ds ms) (sym (same_Some _ done e)) may)
-  where
-    by : (cs : List Operands) (ms : Operands) → MayBegin (cs ++ operands_from (o ∷ os) ∷ []) ms → MayBeLater ms
-    by cs tree.no_operand may = absurd may
-    by [] (tree.operand p ps) may = may
-    by (c ∷ cs) (tree.operand p ps) may = may
+ends-whole cs ts f = simp append-nil at (f tree.no_command [] refl)
 
 begins-barred : (t : Token) (cs : List Operands) (ts : List Token) → t.kind ≡ kind.Pipe → ((ms : Operands) → MayBegin cs ms → MayBeLater ms)
     → Ends cs ts → Begins cs [] (ts ++ t ∷ [])
 begins-barred t cs ts is may f ms later us vs s l =
-    at _ _ _ _ (ap (λ os. cs ++ os ∷ command_list later) (sym (operands-back ms))) (sym (append_assoc ts (t ∷ []) (us ++ vs)))
-    (f (tree.command ms later) (t ∷ us ++ vs) (t, us, vs, refl, is, may ms s.1, s.0, l))
+    rw (operands-back ms, append_assoc ts (t ∷ []) (us ++ vs)) (f (tree.command ms later) (t ∷ us ++ vs) (t, us, vs, refl, is, may ms s.1, s.0, l))
 
 -- ---- operands
 
@@ -164,44 +152,16 @@ module _ (t : Token) (is : t.kind ≡ kind.Field) (begins : begins_name (name_in
   chained-more : (o : Operand) (ns : List (List ℕ)) (ts : List Token) → IsChained o ns ts → IsChained o (ns ++ name_in t ∷ []) (ts ++ t ∷ [])
   chained-more o ns ts (s, us, at, one, rest) = (s, us ++ t ∷ [], ap (λ xs. xs ++ t ∷ []) at, one, chain-more ns us rest)
 
-  linked-spells : (o p : Operand) (ts : List Token) → linked o (name_in t) ≡ Some p → SpellsOperand o ts → SpellsOperand p (ts ++ t ∷ [])
-  linked-spells (tree.fields []) p ts e s = absurd (is-one s.0 (tree.fields []) s.3).0
-  linked-spells (tree.fields (n ∷ ns)) p ts e s =
-      subst (λ p. SpellsOperand p (ts ++ t ∷ [])) (same_Some _ p e) (chained-more (tree.fields (n ∷ [])) ns ts s)
-  linked-spells (tree.variable x ns) p ts e s =
-      subst (λ p. SpellsOperand p (ts ++ t ∷ [])) (same_Some _ p e) (chained-more (tree.variable x []) ns ts s)
-  linked-spells (tree.group cs ns) p ts e (l, inner, r, us, at, left, right, whole, chain) =
-      subst (λ p. SpellsOperand p (ts ++ t ∷ [])) (same_Some _ p e) (
-        l,
-        inner,
-        r,
-        us ++ t ∷ [],
-        ap (λ xs. xs ++ t ∷ []) at ∙ ap (λ xs. l ∷ xs) (append_assoc inner (r ∷ us) (t ∷ [])),
-        left,
-        right,
-        whole,
-        chain-more ns us chain,
-      )
-  linked-spells _ p ts e s = no-value p e
-
-abbrev begins_or : Option Operand → Bool
-begins_or None = true
-begins_or (Some o) = begins_later o
-
--- an operand that begins a command does so with any chain
-link-begins : (o : Operand) (name : List ℕ) → begins_or (linked o name) ≡ true
-link-begins (tree.fields names) name = refl
-link-begins _ name = refl
-
-link-stands : (cs : List Operands) (os : List Operand) (o p : Operand) (name : List ℕ) → linked o name ≡ Some p → may_stand cs os p ≡ true
-link-stands [] os o p name link = refl
-link-stands (c ∷ cs) [] o p name link = ap begins_or (sym link) ∙ link-begins o name
-link-stands (c ∷ cs) (q ∷ os) o p name link = refl
-
-group-stands : (cs : List Operands) (os : List Operand) (commands : Pipeline) → may_stand cs os (tree.group commands []) ≡ true
-group-stands [] os commands = refl
-group-stands (c ∷ cs) [] commands = refl
-group-stands (c ∷ cs) (q ∷ os) commands = refl
+  -- with one field more it may stand anywhere
+  linked-spells : (o : Operand) (ts : List Token) → SpellsOperand o ts
+      → IfSome (linked o (name_in t)) (λ p. SpellsOperand p (ts ++ t ∷ []) × (begins_later p ≡ true))
+  linked-spells (tree.fields []) ts s = absurd (is-one s.0 (tree.fields []) s.3).0
+  linked-spells (tree.fields (n ∷ ns)) ts s = (chained-more (tree.fields (n ∷ [])) ns ts s, refl)
+  linked-spells (tree.variable x ns) ts s = (chained-more (tree.variable x []) ns ts s, refl)
+  linked-spells (tree.group cs ns) ts (l, inner, r, us, at, left, right, whole, chain) =
+      let is = ap (λ xs. xs ++ t ∷ []) at ∙ ap (λ xs. l ∷ xs) (append_assoc inner (r ∷ us) (t ∷ [])) in
+      ((l, inner, r, us ++ t ∷ [], is, left, right, whole, chain-more ns us chain), refl)
+  linked-spells _ ts s = tt
 
 -- ---- one token
 
@@ -230,14 +190,12 @@ module _ (t : Token) (ls : List Partial) (cs : List Operands) (os : List Operand
   space-read None is r = within ls cs cs os os None None (t ∷ []) (λ us f. begins-spaced t is cs os us f) ts r
   space-read (Some o) is r =
       within ls cs cs os (os ++ o ∷ []) (Some o) None (t ∷ [])
-      (λ us r. subst (λ xs. Begins cs (os ++ o ∷ []) (xs ++ t ∷ [])) (sym r.2) (begins-operand t is cs os o r.0 r.1 r.3 r.4 r.5)) ts r
+      (λ us r. rw r.2 (begins-operand t is cs os o r.0 r.1 r.3 r.4 r.5)) ts r
 
-  bar-read : (last : Option Operand) → t.kind ≡ kind.Pipe → (done : Option (List Operands)) → more_commands cs (settled last os) ≡ done
+  bar-read : (last : Option Operand) → t.kind ≡ kind.Pipe → (done : Option (List Operands)) → IfSome done (Completes cs os last)
       → HasRead ls cs os last ts → Read (option_map (parser.barred (parser_at ls cs os last)) done) (ts ++ t ∷ [])
-  bar-read last is None e r = tt
-  bar-read last is (Some done) e r =
-      within ls cs done os [] last None (t ∷ [])
-      (λ us r. begins-barred t done us is (λ ms may. may-be-later cs (settled last os) done ms e may) (reads-end cs os last done us e r)) ts r
+  bar-read last is None d r = tt
+  bar-read last is (Some done) d r = within ls cs done os [] last None (t ∷ []) (λ us r. begins-barred t done us is d.later (d.ends us r)) ts r
 
   open-read : (last : Option Operand) → t.kind ≡ kind.LeftParenthesis → HasRead ls cs os last ts
       → Read (parser.opened last (parser_at ls cs os last)) (ts ++ t ∷ [])
@@ -250,81 +208,72 @@ module _ (t : Token) (ls : List Partial) (cs : List Operands) (os : List Operand
       within ls cs cs os os None (Some o) (t ∷ []) (λ us f. (us, t ∷ [], refl, f, (is-one t o is).1 (t ∷ []) (t, [], refl, is, refl), may)) ts r
   kept-read o is false may r = tt
 
-  placed-read : (last o : Option Operand) → operand_at t ≡ o → HasRead ls cs os last ts
+  placed-read : (last o : Option Operand) → IfSome o (IsOperand t) → HasRead ls cs os last ts
       → Read (parser.placed last o (parser_at ls cs os last)) (ts ++ t ∷ [])
-  placed-read None None e r = tt
-  placed-read None (Some o) e r = kept-read o (is-computed-operand t o e) (may_stand cs os o) refl r
-  placed-read (Some p) o e r = tt
+  placed-read None None is r = tt
+  placed-read None (Some o) is r = kept-read o is (may_stand cs os o) refl r
+  placed-read (Some p) o is r = tt
 
-  link-read : (o : Operand) → t.kind ≡ kind.Field → (b : Bool) → begins_name (name_in t) ≡ b → (p : Option Operand) → linked_by b o (name_in t) ≡ p
-      → HasRead ls cs os (Some o) ts → Read (option_map (parser.ending_with (parser_at ls cs os (Some o))) p) (ts ++ t ∷ [])
-  link-read o is b begins None link r = tt
-  link-read o is true begins (Some p) link r =
-      within ls cs cs os os (Some o) (Some p) (t ∷ [])
-      (λ us r. (
-        r.0,
-        r.1 ++ t ∷ [],
-        ap (λ xs. xs ++ t ∷ []) r.2 ∙ append_assoc r.0 r.1 (t ∷ []),
-        r.3,
-        linked-spells t is begins o p r.1 link r.4,
-        link-stands cs os o p (name_in t) link,
-      )) ts r
-  link-read o is false begins (Some p) link r = absurd (cc)
+  link-read : (o : Operand) → t.kind ≡ kind.Field → (b : Bool) → begins_name (name_in t) ≡ b → HasRead ls cs os (Some o) ts
+      → Read (option_map (parser.ending_with (parser_at ls cs os (Some o))) (linked_by b o (name_in t))) (ts ++ t ∷ [])
+  link-read o is false begins r = tt
+  link-read o is true begins r = by (linked o (name_in t)) (linked-spells t is begins o)
+    where
+      by : (p : Option Operand) → ((us : List Token) → SpellsOperand o us → IfSome p (λ p. SpellsOperand p (us ++ t ∷ []) × (begins_later p ≡ true)))
+          → Read (option_map (parser.ending_with (parser_at ls cs os (Some o))) p) (ts ++ t ∷ [])
+      by None linked = tt
+      by (Some p) linked = within ls cs cs os os (Some o) (Some p) (t ∷ []) (λ us r.
+          let l = linked r.1 r.4 in
+          let whole = ap (λ xs. xs ++ t ∷ []) r.2 ∙ append_assoc r.0 r.1 (t ∷ []) in
+          (r.0, r.1 ++ t ∷ [], whole, r.3, l.0, stands-anywhere cs os p l.1)) ts r
 
   field-read : (last : Option Operand) → t.kind ≡ kind.Field → HasRead ls cs os last ts
       → Read (parser.fielded last t (parser_at ls cs os last)) (ts ++ t ∷ [])
-  field-read None is r = placed-read None (operand_at t) refl r
-  field-read (Some o) is r = link-read o is (begins_name (name_in t)) refl _ refl r
+  field-read None is r = placed-read None (operand_at t) (operand-admitted t) r
+  field-read (Some o) is r = link-read o is (begins_name (name_in t)) refl r
 
 close-read : (t : Token) (ls : List Partial) (cs : List Operands) (os : List Operand) (ts : List Token) (last : Option Operand)
-    → t.kind ≡ kind.RightParenthesis → (done : Option (List Operands)) → more_commands cs (settled last os) ≡ done → HasRead ls cs os last ts
+    → t.kind ≡ kind.RightParenthesis → (done : Option (List Operands)) → IfSome done (Completes cs os last) → HasRead ls cs os last ts
     → Read (parser.left_with ls done) (ts ++ t ∷ [])
-close-read t [] cs os ts last is o e r = tt
-close-read t (l ∷ ls) cs os ts last is None e r = tt
-close-read t (l ∷ ls) cs os ts last is (Some done) e (a, u, b, at, left, outer, r) =
-    subst (HasRead ls l.commands l.operands (Some (tree.group (commands_from done) [])))
-    (sym (ap (λ xs. xs ++ t ∷ []) at ∙ append_assoc a (u ∷ b) (t ∷ [])))
-    (within ls l.commands l.commands l.operands l.operands None (Some (tree.group (commands_from done) [])) (u ∷ b ++ t ∷ [])
-    (λ us f. (
-      us,
-      u ∷ b ++ t ∷ [],
-      refl,
-      f,
-      (u, b, t, [], refl, left, is, ends-whole done b (reads-end cs os last done b e r), refl),
-      group-stands l.commands l.operands (commands_from done),
-    )) a outer)
+close-read t [] cs os ts last is o d r = tt
+close-read t (l ∷ ls) cs os ts last is None d r = tt
+close-read t (l ∷ ls) cs os ts last is (Some done) d (a, u, b, at, left, outer, r) =
+    let group : Operand = tree.group (commands_from done) [] in
+    let spells : SpellsOperand group (u ∷ b ++ t ∷ []) = (u, b, t, [], refl, left, is, ends-whole done b (d.ends b r), refl) in
+    rw (at, append_assoc a (u ∷ b) (t ∷ []))
+    (within ls l.commands l.commands l.operands l.operands None (Some group) (u ∷ b ++ t ∷ [])
+    (λ us f. (us, u ∷ b ++ t ∷ [], refl, f, spells, stands-anywhere l.commands l.operands group refl)) a outer)
 
 step-read : (t : Token) (k : TokenKind) → t.kind ≡ k → (ls : List Partial) (cs : List Operands) (os : List Operand) (last : Option Operand) (ts : List Token)
     → HasRead ls cs os last ts → Read (step_by k t (parser_at ls cs os last)) (ts ++ t ∷ [])
 step-read t kind.Space is ls cs os last ts r = space-read t ls cs os ts last is r
-step-read t kind.Pipe is ls cs os last ts r = bar-read t ls cs os ts last is _ refl r
+step-read t kind.Pipe is ls cs os last ts r = bar-read t ls cs os ts last is _ (completes cs os last) r
 step-read t kind.LeftParenthesis is ls cs os last ts r = open-read t ls cs os ts last is r
-step-read t kind.RightParenthesis is ls cs os last ts r = close-read t ls cs os ts last is _ refl r
+step-read t kind.RightParenthesis is ls cs os last ts r = close-read t ls cs os ts last is _ (completes cs os last) r
 step-read t kind.Field is ls cs os last ts r = field-read t ls cs os ts last is r
-step-read t _ is ls cs os last ts r = placed-read t ls cs os ts last (operand_at t) refl r
+step-read t _ is ls cs os last ts r = placed-read t ls cs os ts last (operand_at t) (operand-admitted t) r
 
 -- ---- all of them
 
-finished-read : (ls : List Partial) (cs : List Operands) (os : List Operand) (last : Option Operand) (ts : List Token) (all : List Operands)
-    → HasRead ls cs os last ts → finished_with ls (more_commands cs (settled last os)) ≡ Some all → SpellsPipeline (commands_from all) ts
-finished-read [] cs os last ts all r e = ends-whole all ts (reads-end cs os last all ts e r)
-finished-read (l ∷ ls) cs os last ts all r e = absurd (cc)
+finished-read : (ls : List Partial) (cs : List Operands) (os : List Operand) (last : Option Operand) (ts : List Token)
+    → HasRead ls cs os last ts → IfSome (finished_with ls (more_commands cs (settled last os))) (λ all. SpellsPipeline (commands_from all) ts)
+finished-read [] cs os last ts r =
+    IfSome_then (more_commands cs (settled last os)) (completes cs os last) (λ all c. ends-whole all ts (c.ends ts r))
+finished-read (l ∷ ls) cs os last ts r = tt
 
 one-read : (o : Option Parser) (t : Token) (ts : List Token) → Read o ts → Read (option_and_then (step t) o) (ts ++ t ∷ [])
 unfolding step
 one-read None t ts r = tt
 one-read (Some h) t ts r = step-read t t.kind refl h.outer h.inner.commands h.inner.operands h.last ts r
 
-steps-read : (o : Option Parser) (ts rest : List Token) (all : List Operands) → Read o ts → option_and_then finished (steps o rest) ≡ Some all
-    → SpellsPipeline (commands_from all) (ts ++ rest)
+steps-read : (o : Option Parser) (ts rest : List Token) → Read o ts
+    → IfSome (option_and_then finished (steps o rest)) (λ all. SpellsPipeline (commands_from all) (ts ++ rest))
 unfolding finished
-steps-read None ts [] all r e = absurd (cc)
-steps-read (Some h) ts [] all r e =
-    subst (SpellsPipeline (commands_from all)) (sym (append-nil ts)) (finished-read h.outer h.inner.commands h.inner.operands h.last ts all r e)
-steps-read o ts (t ∷ rest) all r e =
-    subst (SpellsPipeline (commands_from all)) (append_assoc ts (t ∷ []) rest)
-    (steps-read (option_and_then (step t) o) (ts ++ t ∷ []) rest all (one-read o t ts r) e)
+steps-read None ts [] r = tt
+steps-read (Some h) ts [] r = rw (append-nil ts) (finished-read h.outer h.inner.commands h.inner.operands h.last ts r)
+steps-read o ts (t ∷ rest) r =
+    rw (sym (append_assoc ts (t ∷ []) rest)) (steps-read (option_and_then (step t) o) (ts ++ t ∷ []) rest (one-read o t ts r))
 
 -- what is read is spelled
-pub read-spells : (ts : List Token) (all : List Operands) → commands_after parser.start ts ≡ Some all → SpellsPipeline (commands_from all) ts
-read-spells ts all e = steps-read (Some parser.start) [] ts all begins-start e
+pub read-spells : (ts : List Token) → IfSome (commands_after parser.start ts) (λ all. SpellsPipeline (commands_from all) ts)
+read-spells ts = steps-read (Some parser.start) [] ts begins-start

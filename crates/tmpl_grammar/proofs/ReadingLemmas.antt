@@ -1,5 +1,5 @@
 -- For `read_action`: of an action that tokens spell, a pipeline is left out just where it nests too deep.
-use Rattle.std.proofs.Common.{◌≡◌, ◌∙◌, Bool, true, false, not, nat_le, List, Option, Some, None, refl, ap}
+use Rattle.std.proofs.Common.{◌≡◌, Bool, true, false, not, nat_le, List, Option, Some, None, IfSome, refl, ap}
 use Rattle.std.specs.Option.{option_map}
 use Rattle.tmpl_lex.specs.Piece.{Token}
 use Rattle.tmpl_grammar.specs.Tree.{Pipeline, no_command, Binding, unbound, declare, assign, declare_pair}
@@ -11,6 +11,7 @@ use Rattle.tmpl_grammar.specs.computed.Depth.{too_deep, read, reading_by, readin
 use Rattle.tmpl_grammar.specs.computed.Depth.{reading_unless, reading_held}
 use Rattle.tmpl_grammar.specs.computed.Reading.{action_in}
 use Rattle.tmpl_grammar.proofs.ActionLemmas.{spells-action}
+use Rattle.tmpl_grammar.proofs.OptionLemmas.{told}
 
 -- a pipeline that tokens spell has commands
 pipeline-there : (p : Pipeline) (ts : List Token) → SpellsPipeline p ts → is_left_out p ≡ false
@@ -46,12 +47,12 @@ lacking _ e = e
 
 -- an action within the limit is whole
 whole : (a : Action) → nat_le (depth_of a) most_deep ≡ true → limited_action a ≡ a
-whole (pipeline_action h) e = ap (λ b. pipeline_action (record { binding = h.binding; pipeline = limited_by b h.pipeline })) e
-whole (opening c h) e = ap (λ b. opening c (record { binding = h.binding; pipeline = limited_by b h.pipeline })) e
-whole (else_branch br h) e = ap (λ b. else_branch br (record { binding = h.binding; pipeline = limited_by b h.pipeline })) e
-whole (template_action name (Some p)) e = ap (λ b. template_action name (Some (limited_by b p))) e
+whole (pipeline_action h) e = simp e
+whole (opening c h) e = simp e
+whole (else_branch br h) e = simp e
+whole (template_action name (Some p)) e = simp e
 whole (template_action name None) e = refl
-whole (block_action name p) e = ap (λ b. block_action name (limited_by b p)) e
+whole (block_action name p) e = simp e
 whole _ e = refl
 
 same-branch : (a : Action) → branch_in (limited_action a) ≡ branch_in a
@@ -63,10 +64,8 @@ held-by a true e = ap read (whole a e)
 held-by a false e = ap too_deep (same-branch a)
 
 pub held-reading : (ts : List Token) → reading_held (option_map limited_action (action_in ts)) ≡ reading_of (action_in ts)
-held-reading ts = by (action_in ts) refl
+held-reading ts = by (action_in ts) (told (λ a. SpellsAction a ts) (action_in ts) (spells-action ts))
   where
-    by : (o : Option Action) → action_in ts ≡ o → reading_held (option_map limited_action o) ≡ reading_of o
-    by None e = refl
-    by (Some a) e =
-        ap (λ b. reading_unless b (limited_action a)) (lacking a (action-there a ts (spells-action ts a e)))
-        ∙ held-by a (nat_le (depth_of a) most_deep) refl
+    by : (o : Option Action) → IfSome o (λ a. SpellsAction a ts) → reading_held (option_map limited_action o) ≡ reading_of o
+    by None s = refl
+    by (Some a) s = simp (lacking a (action-there a ts s)) (held-by a (nat_le (depth_of a) most_deep) refl)

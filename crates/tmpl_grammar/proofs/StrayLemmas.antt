@@ -1,12 +1,11 @@
 -- For `one_action`: tokens that no pipeline has, so that no header begins with a keyword.
-use Rattle.std.proofs.Common.{◌≡◌, ◌∙◌, List, [], ◌∷◌, ◌++◌, Option, Some, None, refl, ap, sym, subst}
-use Rattle.std.specs.Option.{option_map, option_and_then}
+use Rattle.std.proofs.Common.{◌≡◌, ◌∙◌, List, [], ◌∷◌, ◌++◌, Option, Some, None, refl, sym}
 use Rattle.tmpl_lex.specs.declared.piece.TokenKind.{TokenKind}
 use Rattle.tmpl_lex.specs.declared.piece.TokenKind.TheVariants as kind
 use Rattle.tmpl_lex.specs.Piece.{Token}
 use Rattle.tmpl_grammar.specs.computed.Operand.{operand_at, operand_by, word_operand, func_named}
 use Rattle.tmpl_grammar.specs.computed.Parser.{Parser, step, step_by, steps, placed, start, finished}
-use Rattle.tmpl_grammar.specs.Tree.{Operand, Pipeline, commands_from}
+use Rattle.tmpl_grammar.specs.Tree.{Operand, Pipeline}
 use Rattle.tmpl_grammar.specs.Pipeline.{IsBlank, SpellsPipeline}
 use Rattle.tmpl_grammar.specs.Keyword.{IsWord}
 use Rattle.tmpl_grammar.specs.computed.Keyword.{spelling}
@@ -32,7 +31,7 @@ pub sign-stray : (k : TokenKind) → ((t : Token) (h : Parser) → step_by k t h
     → (t : Token) → t.kind ≡ k → IsStray t
 unfolding operand_at
 sign-stray k steps none t e h =
-    step-at k t h e ∙ steps t h ∙ ap (λ o. placed h.last o h) (ap (λ k. operand_by k t) e ∙ none t) ∙ none-placed h.last h
+    step-at k t h e ∙ steps t h ∙ simp (e, none) (none-placed h.last h)
 
 -- no keyword is an operand
 keyword-none : (k : Keyword) → word_operand (spelling k) ≡ None
@@ -43,9 +42,7 @@ keyword-none _ = refl
 pub word-stray : (k : Keyword) (t : Token) → IsWord (spelling k) t → IsStray t
 unfolding operand_at
 word-stray k t w h =
-    step-at kind.Word t h w.0
-    ∙ ap (λ o. placed h.last o h) (ap (λ j. operand_by j t) w.0 ∙ ap word_operand w.1 ∙ keyword-none k)
-    ∙ none-placed h.last h
+    step-at kind.Word t h w.0 ∙ simp (w.0, w.1, keyword-none k) (none-placed h.last h)
 
 -- tokens that no pipeline ends with
 abbrev pub IsDead : List Token → Type 0
@@ -57,26 +54,26 @@ steps-none (t ∷ ts) = steps-none ts
 
 foreign-dead : (t : Token) (ts : List Token) → IsStray t → IsDead (t ∷ ts)
 foreign-dead t ts f None = steps-none ts
-foreign-dead t ts f (Some h) = ap (λ o. steps o ts) (f h) ∙ steps-none ts
+foreign-dead t ts f (Some h) = simp (f h, steps-none ts)
 
 behind-dead : (ws ts : List Token) → IsDead ts → IsDead (ws ++ ts)
 behind-dead ws ts d o = steps-append o ws ts ∙ d (steps o ws)
 
 pub then-stray : (Is : Token → Type 0) (Rest : List Token → Type 0) (ts : List Token) → ((t : Token) → Is t → IsStray t) → Then Is Rest ts → IsDead ts
 then-stray Is Rest ts f (ws, t, us, at, blank, is, rest) =
-    subst IsDead (sym at) (behind-dead ws (t ∷ us) (foreign-dead t us (f t is)))
+    rw at (behind-dead ws (t ∷ us) (foreign-dead t us (f t is)))
 
 pub then-dead : (Is : Token → Type 0) (Rest : List Token → Type 0) (ts : List Token) → ((us : List Token) → Rest us → IsDead us) → Then Is Rest ts → IsDead ts
 then-dead Is Rest ts f (ws, t, us, at, blank, is, rest) =
-    subst IsDead (sym at) (behind-dead ws (t ∷ us) (behind-dead (t ∷ []) us (f us rest)))
+    rw at (behind-dead ws (t ∷ us) (behind-dead (t ∷ []) us (f us rest)))
 
 pub dead-read : (ts : List Token) → IsDead ts → pipeline_in ts ≡ None
 unfolding pipeline_in
-dead-read ts d = ap (λ o. option_map commands_from (option_and_then finished o)) (d (Some start))
+dead-read ts d = simp (d (Some start))
 
 pub blank-read : (ts : List Token) → IsBlank ts → pipeline_in ts ≡ None
 unfolding pipeline_in finished
-blank-read ts b = ap (λ o. option_map commands_from (option_and_then finished o)) (blank-steps [] [] [] ts b)
+blank-read ts b = simp (blank-steps [] [] [] ts b)
 
 -- tokens that spell a pipeline are none of these
 pub spelled-lives : {A : Type 0} (ts : List Token) (cs : Pipeline) → SpellsPipeline cs ts → pipeline_in ts ≡ None → A

@@ -7,7 +7,7 @@ use Rattle.tmpl_lex.specs.Piece.{Token}
 use Rattle.tmpl_lex.specs.View.{token_of}
 use Rattle.tmpl_lex.specs.computed.Trim.{End, right_delimiter}
 use Rattle.tmpl_lex.specs.computed.Token.{Begun, begun, front_token, token_from}
-use Rattle.tmpl_lex.specs.computed.Action.{Inside, inside, inside_after, inside_from, with_token}
+use Rattle.tmpl_lex.specs.computed.Action.{Inside, inside, inside_after, with_token}
 
 -- more tokens before what is inside further on
 abbrev pub behind : List Token → Option Inside → Option Inside
@@ -33,14 +33,12 @@ front_token-some (b ∷ bs) t e = token_from-some b (begun b bs) t e
 pub inside-closed : (bs : List ℕ) (e : End) → Some e ≡ right_delimiter bs → inside bs ≡ Some ([], e)
 unfolding inside
 inside-closed [] e h = cc
-inside-closed (b ∷ bs) e h = ap (λ o. inside_from o (front_token (b ∷ bs)) (λ t. inside_after (length t.bytes - 1) bs)) (sym h)
+inside-closed (b ∷ bs) e h = simp (sym h)
 
 pub inside-none : (bs : List ℕ) → None ≡ right_delimiter bs → None ≡ front_token bs → inside bs ≡ None
 unfolding inside
 inside-none [] e f = refl
-inside-none (b ∷ bs) e f =
-    ap (λ o. inside_from o (front_token (b ∷ bs)) (λ t. inside_after (length t.bytes - 1) bs)) (sym e)
-    ∙ ap (λ o. inside_from None o (λ t. inside_after (length t.bytes - 1) bs)) (sym f)
+inside-none (b ∷ bs) e f = simp (sym e, sym f)
 
 pub drop-sub_one : (n b : ℕ) (bs : List ℕ) → 0 < n → drop (n - 1) bs ≡ drop n (b ∷ bs)
 drop-sub_one zero b bs h = absurd (omega arith)
@@ -51,10 +49,7 @@ pub inside-token : (bs : List ℕ) (t : Token) → None ≡ right_delimiter bs �
 unfolding inside
 inside-token [] t e f = cc
 inside-token (b ∷ bs) t e f =
-    ap (λ o. inside_from o (front_token (b ∷ bs)) (λ t. inside_after (length t.bytes - 1) bs)) (sym e)
-    ∙ ap (λ o. inside_from None o (λ t. inside_after (length t.bytes - 1) bs)) (sym f)
-    ∙ ap (with_token t) (inside_after-drop (length t.bytes - 1) bs ∙ ap (inside_after 0)
-    (drop-sub_one (length t.bytes) b bs (front_token-some (b ∷ bs) t f)))
+    simp (sym e, sym f, inside_after-drop (length t.bytes - 1) bs, drop-sub_one (length t.bytes) b bs (front_token-some (b ∷ bs) t f))
 
 -- ---- token by token
 
@@ -67,7 +62,7 @@ behind-nil None = refl
 behind-nil (Some i) = refl
 
 pub IsReadTo-start : (bs : List ℕ) (ts : List declared.Token) → ts ≡ [] → IsReadTo bs (map token_of ts) bs
-IsReadTo-start bs ts e = record { same = sym (behind-nil (inside bs)) ∙ ap (λ us. behind (map token_of us) (inside bs)) (sym e) }
+IsReadTo-start bs ts e = record { same = simp (e, behind-nil) }
 
 behind-with_token : (ts : List Token) (t : Token) (o : Option Inside) → behind ts (with_token t o) ≡ behind (ts ++ t ∷ []) o
 behind-with_token ts t None = refl
@@ -78,21 +73,16 @@ pub IsReadTo-more : (all bs rest : List ℕ) (old new : List declared.Token) (t 
     → None ≡ right_delimiter bs → Some (token_of t) ≡ front_token bs → new ≡ old ++ t ∷ [] → rest ≡ drop (length t.bytes.now) bs
     → IsReadTo all (map token_of new) rest
 IsReadTo-more all bs rest old new t so_far on here grown left = record {
-  same =
-      so_far.same
-      ∙ ap (behind (map token_of old)) (inside-token bs (token_of t) on here)
-      ∙ behind-with_token (map token_of old) (token_of t) (inside (drop (length t.bytes.now) bs))
-      ∙ ap (λ ts. behind ts (inside (drop (length t.bytes.now) bs))) (sym (ap (map token_of) grown ∙ map-append token_of old (t ∷ [])))
-      ∙ ap (λ r. behind (map token_of new) (inside r)) (sym left);
+  same = so_far.same ∙ simp (inside-token bs (token_of t) on here, grown, map-append, left, behind-with_token);
 }
 
 -- the action is closed
 pub inside-read : (all bs : List ℕ) (ts : List Token) (e : End) → IsReadTo all ts bs → Some e ≡ right_delimiter bs → Some (ts, e) ≡ inside all
 inside-read all bs ts e so_far h =
-    sym (so_far.same ∙ ap (behind ts) (inside-closed bs e h) ∙ ap (λ (us : List Token). Some (us, e)) (append-nil ts))
+    sym (so_far.same ∙ simp (inside-closed bs e h, append-nil))
 
 -- no token begins
 pub inside-unread : (all bs : List ℕ) (ts : List Token) → IsReadTo all ts bs → None ≡ right_delimiter bs → None ≡ front_token bs → None ≡ inside all
-inside-unread all bs ts so_far e f = sym (so_far.same ∙ ap (behind ts) (inside-none bs e f))
+inside-unread all bs ts so_far e f = sym (so_far.same ∙ simp (inside-none bs e f))
 
 pub ruleset reading = (IsReadTo-start, IsReadTo-more, inside-read, inside-unread)

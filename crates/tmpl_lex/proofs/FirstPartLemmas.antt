@@ -1,26 +1,47 @@
--- For `first_part`: a part, and the rest behind it, are cut as the whole is. For `cut`: part by part all of a file is cut.
-use Rattle.std.proofs.Common.{arith, ◌≡◌, ◌∙◌, ℕ, ◌+◌, ◌<◌, ◌^◌, Bool, false, List, [], ◌++◌, Option, Some, None, refl, sym, ap, subst}
-use Rattle.std.proofs.Common.{length, take, append-nil}
-use Rattle.std.proofs.lemmas.Option.{same_Some}
-use Rattle.std.specs.Option.{option_map}
+-- For `first_part`: a part, and the rest behind it, are those that are computed. For `cut`: part by part all of a file is cut.
+use Rattle.std.proofs.Common.{arith, ◌≡◌, ◌∙◌, ℕ, ◌+◌, ◌-◌, ◌<◌, ◌^◌, Bool, false, List, [], ◌∷◌, ◌++◌, Option, Some, None, IfSome, refl, sym, ap}
+use Rattle.std.proofs.Common.{length, take, append-nil, append_assoc, length-append, nat_eq, cond, option_map}
+use Rattle.std.proofs.lemmas.List.{take_all}
+use Rattle.std.proofs.lemmas.List.Sums.{count_by-le-length, sum_by-append, sum_by-cons}
 use Rattle.tmpl_lex.specs.declared.action.Opened as held_opened
 use Rattle.tmpl_lex.specs.declared.action.Opened.TheVariants as variant
 use Rattle.tmpl_lex.specs.declared.part.Rest as held
 use Rattle.tmpl_lex.specs.declared.piece.Token as held_token
-use Rattle.tmpl_lex.specs.Cut.{Cuts}
+use Rattle.tmpl_lex.specs.Cut.{Cuts, last}
 use Rattle.tmpl_lex.specs.Part.{IsCutBy, IsLeft, IsLeftBehind}
-use Rattle.tmpl_lex.specs.Piece.{Piece}
+use Rattle.tmpl_lex.specs.Piece.{Piece, action}
 use Rattle.tmpl_lex.specs.Place.{EndsWith}
 use Rattle.tmpl_lex.specs.Text.{text_piece, newlines}
 use Rattle.tmpl_lex.specs.computed.Action.{Opened, comment, tokens, neither, opened}
-use Rattle.tmpl_lex.specs.computed.Cut.{stretch, split_open, cut_of, pieces_of, ends_at}
-use Rattle.tmpl_lex.specs.computed.Part.{Rest, rest_behind, IsEndWithin}
-use Rattle.tmpl_lex.specs.computed.Text.{leading, without_leading, texts}
+use Rattle.tmpl_lex.specs.computed.Cut.{cut_of}
+use Rattle.tmpl_lex.specs.computed.Part.{split_open, pieces_of, ends_at, rest_behind, IsEndWithin}
+use Rattle.tmpl_lex.specs.computed.Text.{leading, without_leading, without_trailing, texts}
 use Rattle.tmpl_lex.specs.computed.Trim.{End, left_marked, past_left}
 use Rattle.tmpl_lex.specs.computed.View.{opened_of, rest_of}
-use Rattle.tmpl_lex.proofs.CutLemmas.{cuts-last, cuts-closed, cuts-unclosed, texts-put, without_trailing-unmarked}
-use Rattle.tmpl_lex.proofs.CutLemmas.{split_open-shorter, newlines-within, Cuts-cut_of}
-use Rattle.tmpl_lex.proofs.PlaceLemmas.{EndsWith-behind}
+use Rattle.tmpl_lex.proofs.CutLemmas.{has-marker, stretch-is, IsPart, part-is, Cuts-cut_of}
+use Rattle.tmpl_lex.proofs.PartLemmas.{none-absent, split-is}
+use Rattle.tmpl_lex.proofs.SpellsLemmas.{HasClosed, AtOpened, opened-closed}
+use Rattle.tmpl_lex.proofs.TextLemmas.{texts-made}
+
+-- ---- a text, by what a right trim marker takes of it
+
+pub texts-put : (right left : Bool) (line count : ℕ) (before taken kept text : List ℕ) → taken ≡ take (leading right before) before
+    → kept ≡ without_leading right before → count ≡ newlines taken → text ≡ without_trailing left kept
+    → text_piece (line + count) text ≡ texts right left line before
+texts-put right left line count before taken kept text e f n t = simp (n, t, e, f)
+
+-- with no marker behind it all is kept
+pub without_trailing-unmarked : (bs : List ℕ) → bs ≡ without_trailing false bs
+without_trailing-unmarked bs = sym (take_all (length bs - 0) bs (omega arith))
+
+-- the last part
+pub last-cuts : (right : Bool) (line count : ℕ) (bs taken kept : List ℕ) → None ≡ split_open bs → taken ≡ take (leading right bs) bs
+    → kept ≡ without_leading right bs → count ≡ newlines taken → Cuts right line bs (text_piece (line + count) kept ++ [])
+last-cuts right line count bs taken kept none t k n =
+    rw (append-nil (text_piece (line + count) kept), texts-put right false line count bs taken kept kept t k n (without_trailing-unmarked kept))
+    (last (none-absent 123 123 bs (sym none)) (texts-made right false line bs))
+
+-- ---- where what begins with a `{{` ends
 
 -- where something ends does not depend on its tokens
 pub ends-same : (ts us : List held_token.Token) (o : held_opened.Opened) → ends_at (opened_of ts o) ≡ ends_at (opened_of us o)
@@ -28,82 +49,75 @@ ends-same ts us (variant.Comment e) = refl
 ends-same ts us (variant.Action e) = refl
 ends-same ts us variant.Neither = refl
 
--- the last part
-pub last-cuts : (right : Bool) (line count : ℕ) (bs taken kept : List ℕ) → None ≡ split_open bs → taken ≡ take (leading right bs) bs
-    → kept ≡ without_leading right bs → count ≡ newlines taken → Cuts right line bs (text_piece (line + count) kept ++ [])
-last-cuts right line count bs taken kept none t k n =
-    let is = texts-put right false line count bs taken kept kept t k n (without_trailing-unmarked kept) in
-    subst (λ ps. Cuts right line bs ps) (sym (append-nil (text_piece (line + count) kept) ∙ is)) (cuts-last right line bs (sym none))
+-- the bytes end with what stands behind the end, if there is one
+at-ends : (after : List ℕ) → IfSome (ends_at (opened (past_left after))) (λ e. EndsWith after e.rest)
+at-ends after = go (opened (past_left after)) (opened-closed 0 (past_left after))
+  where
+    behind : (e : End) (ps : List Piece) → HasClosed 0 (past_left after) e ps → EndsWith after e.rest
+    behind e ps c =
+        let m = has-marker after in
+        record { front = m.marker ++ c.body; is = m.is ∙ ap (λ l. m.marker ++ l) c.is ∙ sym (append_assoc m.marker c.body e.rest) }
 
-module _ (file : List ℕ) (rest : held.Rest) (before after : List ℕ) (split : Some (before, after) ≡ split_open rest.bytes.now) (o : Opened)
-    (read : o ≡ opened (past_left after)) where
+    go : (o : Opened) → AtOpened 0 (past_left after) o → IfSome (ends_at o) (λ e. EndsWith after e.rest)
+    go (comment e) c = behind e [] c
+    go (tokens ts e) c = behind e (action 0 ts ∷ []) c
+    go neither c = tt
+
+module _ (file : List ℕ) (rest : held.Rest) (left : IsLeft file rest) (before after : List ℕ) (split : Some (before, after) ≡ split_open rest.bytes.now) where
   abbrev here : ℕ
   here = rest.line + newlines before
 
-  abbrev ArePieces : List Piece → Type 0
-  ArePieces ps = ps ≡ texts rest.trims (left_marked after) rest.line before ++ pieces_of here o
+  is : rest.bytes.now ≡ before ++ 123 ∷ 123 ∷ after
+  is = (split-is 123 123 rest.bytes.now (before, after) (sym split)).is
 
-  closed-part : (e : End) (ps : List Piece) (r : held.Rest) → ends_at o ≡ Some e → ArePieces ps → rest_of r ≡ rest_behind after here e
-      → IsCutBy rest ps (Some r)
-  closed-part e ps r at is q = λ more cuts.
-      subst (λ (qs : List Piece). Cuts rest.trims rest.line rest.bytes.now (qs ++ more)) (sym is)
-      (cuts-closed rest.trims rest.line rest.bytes.now before after o e more (sym split) (sym read) at
-      (subst (λ (x : Rest). Cuts x.trims x.line x.bytes more) q cuts))
-
-  unclosed-part : (ps : List Piece) → ends_at o ≡ None → ArePieces ps → IsCutBy rest ps None
-  unclosed-part ps at is =
-      subst (λ (qs : List Piece). Cuts rest.trims rest.line rest.bytes.now qs) (sym is) (by o refl at)
+  -- the lines up to the end can be counted
+  pub end-within : length file + 1 < 2 ^ 64 → IsEndWithin after here (ends_at (opened (past_left after)))
+  end-within fits = by (ends_at (opened (past_left after))) (at-ends after)
     where
-      by : (x : Opened) → o ≡ x → ends_at x ≡ None
-          → Cuts rest.trims rest.line rest.bytes.now (texts rest.trims (left_marked after) rest.line before ++ pieces_of here x)
-      by (comment e) same at = cc
-      by (tokens ts e) same at = cc
-      by neither same at = cuts-unclosed rest.trims rest.line rest.bytes.now before after (sym split) (sym read ∙ same)
+      by : (e : Option End) → IfSome e (λ e. EndsWith after e.rest) → IsEndWithin after here e
+      by None at = tt
+      by (Some e) at =
+          let a = count_by-le-length (λ b. nat_eq b 10) before in
+          let b = count_by-le-length (λ b. nat_eq b 10) at.front in
+          let parts : length after ≡ length at.front + length e.rest = omega (arith, ap length at.is, length-append at.front e.rest) in
+          let whole = length-append before (123 ∷ 123 ∷ after) in
+          (omega (arith, parts), simp (stretch-is after at.front e.rest at.is) (omega (arith, left.lines, ap length is, whole, parts, a, b, fits)))
 
-  pub part-cuts : (ps : List Piece) (r : Option held.Rest) → ArePieces ps → option_map rest_of r ≡ option_map (rest_behind after here) (ends_at o)
-      → IsCutBy rest ps r
-  part-cuts ps r is q = by (ends_at o) refl r q
+  -- what is left behind an end is so also of the whole rest
+  rest-same : (e : Option End) → IfSome e (λ e. EndsWith after e.rest)
+      → option_map (rest_behind after here) e ≡ option_map (rest_behind rest.bytes.now rest.line) e
+  rest-same None at = refl
+  rest-same (Some e) at =
+      let front : List ℕ = before ++ 123 ∷ 123 ∷ at.front in
+      let whole = is ∙ ap (λ l. before ++ 123 ∷ 123 ∷ l) at.is ∙ sym (append_assoc before (123 ∷ 123 ∷ at.front) e.rest) in
+      let one : ℕ → ℕ = λ b. cond (nat_eq b 10) 1 0 in
+      let lines : here + newlines at.front ≡ rest.line + newlines front =
+      omega (arith, sum_by-append one before (123 ∷ 123 ∷ at.front), sum_by-cons one 123 (123 ∷ at.front), sum_by-cons one 123 at.front) in
+      simp (stretch-is after at.front e.rest at.is, stretch-is rest.bytes.now front e.rest whole, lines)
+
+  -- such a part, and the rest behind it, are cut as the whole is
+  pub part-before : (o : Opened) → o ≡ opened (past_left after) → (ps : List Piece)
+      → ps ≡ texts rest.trims (left_marked after) rest.line before ++ pieces_of here o → (r : Option held.Rest)
+      → option_map rest_of r ≡ option_map (rest_behind after here) (ends_at o) → IsCutBy rest ps r × IsLeftBehind file rest r
+  part-before o read ps pieces r behind =
+      let same = simp read at behind ∙ rest-same (ends_at (opened (past_left after))) (at-ends after) in
+      by r (rw (simp read at pieces, same) (rw (sym split) at (part-is (rest_of rest))))
     where
-      by : (e : Option End) → ends_at o ≡ e → (r : Option held.Rest) → option_map rest_of r ≡ option_map (rest_behind after here) e → IsCutBy rest ps r
-      by None at None q = unclosed-part ps at is
-      by None at (Some r) q = cc
-      by (Some e) at None q = cc
-      by (Some e) at (Some r) q = closed-part e ps r at is (same_Some (rest_of r) (rest_behind after here e) q)
-
-  -- ---- what is left
-
-  module _ (left : IsLeft file rest) where
-    pub end-within : length file + 1 < 2 ^ 64 → IsEndWithin after here (ends_at o)
-    end-within fits = by (ends_at o) refl
-      where
-        by : (e : Option End) → ends_at o ≡ e → IsEndWithin after here e
-        by None at = tt
-        by (Some e) at =
-            let shorter = split_open-shorter rest.bytes.now before after e split (sym at ∙ ap ends_at read) in
-            let lines = newlines-within before after e.rest shorter.1 in
-            (omega (arith, shorter.1), omega (arith, left.lines, shorter.0, shorter.1, lines, fits))
-
-    pub part-left : (r : Option held.Rest) → option_map rest_of r ≡ option_map (rest_behind after here) (ends_at o) → IsLeftBehind file rest r
-    part-left r q = by (ends_at o) refl r q
-      where
-        by : (e : Option End) → ends_at o ≡ e → (r : Option held.Rest) → option_map rest_of r ≡ option_map (rest_behind after here) e
-            → IsLeftBehind file rest r
-        by e at None q = tt
-        by None at (Some r) q = cc
-        by (Some e) at (Some r) q =
-            let same = same_Some (rest_of r) (rest_behind after here e) q in
-            let found = sym at ∙ ap ends_at read in
-            let shorter = split_open-shorter rest.bytes.now before after e split found in
-            let lines = newlines-within before after e.rest shorter.1 in
-            let bytes : r.bytes.now ≡ e.rest = ap (λ (x : Rest). x.bytes) same in
-            let line : r.line ≡ here + newlines (stretch after e.rest) = ap (λ (x : Rest). x.line) same in
-            let count = ap length bytes in (
+      by : (r : Option held.Rest) → IsPart (rest_of rest) ps (option_map rest_of r) → IsCutBy rest ps r × IsLeftBehind file rest r
+      by None b = (b, tt)
+      by (Some r) b =
+          let ends = left.ends in
+          let lines = count_by-le-length (λ b. nat_eq b 10) b.front in
+          let parts = length-append b.front r.bytes.now in (
+            b.cuts,
+            (
               record {
-                ends = subst (λ (bs : List ℕ). EndsWith file bs) (sym bytes) (EndsWith-behind file rest.bytes.now before after e left.ends split found);
-                lines = omega (arith, left.lines, shorter.0, shorter.1, lines, line, count);
+                ends = record { front = ends.front ++ b.front; is = ends.is ∙ ap (λ l. ends.front ++ l) b.is ∙ simp append_assoc };
+                lines = omega (arith, left.lines, lines, b.line, ap length b.is, parts);
               },
-              omega (arith, shorter.0, shorter.1, count),
-            )
+              omega (arith, b.some, ap length b.is, parts),
+            ),
+          )
 
 -- ---- part by part
 
@@ -114,12 +128,4 @@ IsSoFar file ps rest = (more : List Piece) → Cuts rest.trims rest.line rest.by
 -- a cut of the whole file is the one cut
 pub whole-cut : (file : List ℕ) (rest : held.Rest) (more : List Piece) → rest.bytes.now ≡ file → rest.line ≡ 1 → rest.trims ≡ false
     → Cuts rest.trims rest.line rest.bytes.now more → cut_of file ≡ more
-whole-cut file rest more b l t cuts =
-    sym (Cuts-cut_of file more
-    (subst (λ (bs : List ℕ). Cuts false 1 bs more) b
-    (subst (λ (n : ℕ). Cuts false n rest.bytes.now more) l (subst (λ (x : Bool). Cuts x rest.line rest.bytes.now more) t cuts))))
-
--- the last part
-pub last-cut : (file : List ℕ) (old new ps : List Piece) (rest : held.Rest) (r : Option held.Rest) → IsSoFar file old rest → r ≡ None
-    → IsCutBy rest ps r → new ≡ old ++ ps → new ≡ cut_of file
-last-cut file old new ps rest r so_far is cuts grown = grown ∙ sym (so_far ps (subst (IsCutBy rest ps) is cuts))
+whole-cut file rest more b l t cuts = sym (Cuts-cut_of file more (simp (b, l, t) at cuts))

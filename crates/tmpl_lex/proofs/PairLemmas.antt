@@ -1,12 +1,12 @@
 -- For `split_pair`, which skips by `memchr`: where two bytes first follow one another.
-use Rattle.std.proofs.Common.{arith, ◌≡◌, ◌∙◌, ℕ, zero, suc, ◌+◌, ◌≤◌, Bool, true, false, List, [], ◌∷◌, ◌++◌, Option}
+use Rattle.std.proofs.Common.{arith, ◌≡◌, ◌∙◌, ℕ, zero, suc, ◌+◌, ◌≤◌, List, [], ◌∷◌, ◌++◌, Option}
 use Rattle.std.proofs.Common.{Some, None, refl, sym, ap, length, take, drop, nat_eq, ◌&&◌, length-append, length-drop, append_assoc}
 use Rattle.std.proofs.Common.{get_or, ◌<◌}
 use Rattle.std.proofs.lemmas.Bool.{eqb-true, and_parts, false_from_ne_true}
 use Rattle.std.proofs.Math.Seq.{take-add}
 use lib.Seq.{drop-drop}
 use Rattle.memchr.specs.Find.{Nowhere, Passes, is_byte}
-use Rattle.tmpl_lex.specs.computed.Bytes.{split_pair, split_here, with_first}
+use Rattle.tmpl_lex.specs.computed.Bytes.{split_pair, with_first}
 use Rattle.tmpl_lex.specs.computed.Bytes.{behind, split_from}
 use Rattle.tmpl_lex.proofs.PartLemmas.{split-is}
 
@@ -38,10 +38,6 @@ with_first-behind : (a : ℕ) (t : List ℕ) (o : Option (List ℕ × List ℕ))
 with_first-behind a t None = refl
 with_first-behind a t (Some p) = refl
 
-split_here-false : (b c : Bool) (a : ℕ) (bs : List ℕ) (o : Option (List ℕ × List ℕ)) → b ≡ false → split_here (b && c) a bs o ≡ with_first a o
-split_here-false true c a bs o e = cc
-split_here-false false c a bs o e = refl
-
 -- the pair stands at no place before one up to which its first byte does not stand
 split_pair-passed : (x y : ℕ) (bs : List ℕ) (k : ℕ) → k ≤ length bs → Nowhere (Passes (is_byte x) bs) 0 k
     → split_pair x y bs ≡ behind (take k bs) (split_pair x y (drop k bs))
@@ -50,17 +46,16 @@ split_pair-passed x y [] (suc k) within none = absurd (omega arith)
 split_pair-passed x y (a ∷ []) (suc zero) within none = refl
 split_pair-passed x y (a ∷ []) (suc (suc k)) within none = absurd (omega arith)
 split_pair-passed x y (a ∷ b ∷ bs) (suc k) within none =
-    split_here-false (nat_eq a x) (nat_eq b y) a (b ∷ bs) (split_pair x y (b ∷ bs)) (false_from_ne_true (nat_eq a x) (none 0 (omega arith) (omega arith)))
-    ∙ ap (with_first a) (split_pair-passed x y (b ∷ bs) k (omega arith) (λ j low high. none (suc j) (omega arith) (omega arith)))
-    ∙ with_first-behind a (take k (b ∷ bs)) (split_pair x y (drop k (b ∷ bs)))
+    simp (
+      false_from_ne_true (nat_eq a x) (none 0 (omega arith) (omega arith)),
+      with_first-behind,
+      split_pair-passed x y (b ∷ bs) k (omega arith) (λ j low high. none (suc j) (omega arith) (omega arith)),
+    )
 
 -- so it stands where it stands from there on
 pub split_from-passed : (x y : ℕ) (bs : List ℕ) (i k : ℕ) → k ≤ length (drop i bs) → Nowhere (Passes (is_byte x) (drop i bs)) 0 k
     → split_from x y i bs ≡ split_from x y (i + k) bs
-split_from-passed x y bs i k within none =
-    ap (behind (take i bs)) (split_pair-passed x y (drop i bs) k within none)
-    ∙ behind-behind (take i bs) (take k (drop i bs)) (split_pair x y (drop k (drop i bs)))
-    ∙ (λ j. behind (sym (take-add i k bs) j) (split_pair x y (drop-drop k i bs j)))
+split_from-passed x y bs i k within none = simp (split_pair-passed x y (drop i bs) k within none, behind-behind, take-add, drop-drop)
 
 -- where the pair does not stand at a place, it stands where it stands from the next place on
 split_from-suc : (x y : ℕ) (bs : List ℕ) (i : ℕ) → suc i < length bs → (get_or bs i 0 ≡ x → get_or bs (suc i) 0 ≡ y → ⊥)
@@ -68,20 +63,17 @@ split_from-suc : (x y : ℕ) (bs : List ℕ) (i : ℕ) → suc i < length bs →
 split_from-suc x y [] i h differ = absurd (omega arith)
 split_from-suc x y (a ∷ []) i h differ = absurd (omega arith)
 split_from-suc x y (a ∷ b ∷ bs) zero h differ =
-    behind-nil (split_pair x y (a ∷ b ∷ bs))
-    ∙ ap (λ t. split_here t a (b ∷ bs) (split_pair x y (b ∷ bs))) (false_from_ne_true (nat_eq a x && nat_eq b y)
-    (λ e. let both = and_parts (nat_eq a x) (nat_eq b y) e in differ (eqb-true a x both.0) (eqb-true b y both.1)))
-    ∙ ap (with_first a) (sym (behind-nil (split_pair x y (b ∷ bs))))
-    ∙ with_first-behind a [] (split_pair x y (b ∷ bs))
+    let other = false_from_ne_true (nat_eq a x && nat_eq b y)
+    (λ e. let both = and_parts (nat_eq a x) (nat_eq b y) e in differ (eqb-true a x both.0) (eqb-true b y both.1)) in
+    simp (behind-nil, other) (simp behind-nil at (with_first-behind a [] (split_pair x y (b ∷ bs))))
 split_from-suc x y (a ∷ b ∷ bs) (suc i) h differ =
     sym (with_first-behind a (take i (b ∷ bs)) (split_pair x y (drop i (b ∷ bs))))
-    ∙ ap (with_first a) (split_from-suc x y (b ∷ bs) i (omega arith) differ)
-    ∙ with_first-behind a (take (suc i) (b ∷ bs)) (split_pair x y (drop (suc i) (b ∷ bs)))
+    ∙ simp (split_from-suc x y (b ∷ bs) i (omega arith) differ, with_first-behind)
 
 pub split_from-next : (x y : ℕ) (bs : List ℕ) (i : ℕ) → i + 1 < length bs → (get_or bs i 0 ≡ x → get_or bs (i + 1) 0 ≡ y → ⊥)
     → split_from x y i bs ≡ split_from x y (i + 1) bs
 split_from-next x y bs i h differ =
     let one : i + 1 ≡ suc i = omega arith in
-    split_from-suc x y bs i (omega arith) (λ e f. differ e (ap (λ (n : ℕ). get_or bs n 0) one ∙ f)) ∙ ap (λ (n : ℕ). split_from x y n bs) (sym one)
+    rw one (split_from-suc x y bs i (omega arith) (rw one at differ))
 
 pub ruleset pairs = (split_pair-short, split_pair-lengths)

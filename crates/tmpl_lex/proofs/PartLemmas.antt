@@ -1,23 +1,13 @@
 -- For the laws `one_cut` and `one_token`: what is computed of a list, told by the parts that it is put together from.
 use Rattle.std.proofs.Common.{arith, ◌≡◌, ◌∙◌, ℕ, suc, ◌+◌, Bool, true, false, ◌&&◌, nat_eq, cond, List, [], ◌∷◌, ◌++◌}
-use Rattle.std.proofs.Common.{Option, Some, None, refl, sym, ap, subst, length, take, drop, get_or, append_assoc}
+use Rattle.std.proofs.Common.{Option, Some, None, IfSome, refl, sym, ap, subst, length, take, drop, get_or, append_assoc}
 use Rattle.std.proofs.Common.{length-append}
 use Rattle.std.specs.List.{prefix_len, list_all, take_while}
-use Rattle.std.proofs.lemmas.Bool.{eqb-true, and_parts, both_ways, false_from_ne_true}
-use Rattle.std.proofs.lemmas.Bool.Decides.{nat_tests}
+use Rattle.std.proofs.lemmas.Bool.{eqb-true, eq-eqb, and_parts, false_from_ne_true}
 use Rattle.std.proofs.lemmas.List.{take-append-drop}
 use Rattle.std.proofs.Math.Seq.{take-append_seam}
-use Rattle.tmpl_lex.specs.Bytes.{Absent, Stops, IsRun}
-use Rattle.tmpl_lex.specs.computed.Bytes.{split_here, split_pair, with_first}
-
-pub same-first : (a b : ℕ) (xs ys : List ℕ) → a ∷ xs ≡ b ∷ ys → a ≡ b
-same-first a b xs ys e = ap (λ l. get_or l 0 0) e
-
-pub same-rest : (a b : ℕ) (xs ys : List ℕ) → a ∷ xs ≡ b ∷ ys → xs ≡ ys
-same-rest a b xs ys e = ap (drop 1) e
-
-pub same-test : (b : ℕ) → nat_eq b b ≡ true
-same-test b = grind (arith, nat_tests)
+use Rattle.tmpl_lex.specs.Bytes.{Absent, IsRun}
+use Rattle.tmpl_lex.specs.computed.Bytes.{split_here, split_pair}
 
 -- ---- where two bytes do not follow one another
 
@@ -27,7 +17,9 @@ absent-rest b row bs h xs ys e = h (b ∷ xs) ys (ap (λ l. b ∷ l) e)
 pub same-pair : (x y a b : ℕ) (bs : List ℕ) → (nat_eq a x && nat_eq b y) ≡ true → a ∷ b ∷ bs ≡ x ∷ y ∷ bs
 same-pair x y a b bs e =
     let both = and_parts (nat_eq a x) (nat_eq b y) e in
-    ap (λ k. k ∷ b ∷ bs) (eqb-true a x both.0) ∙ ap (λ k. x ∷ k ∷ bs) (eqb-true b y both.1)
+    let first = eqb-true a x both.0 in
+    let second = eqb-true b y both.1 in
+    cc
 
 pub absent-here : (x y a b : ℕ) (bs : List ℕ) → Absent (x ∷ y ∷ []) (a ∷ b ∷ bs) → (nat_eq a x && nat_eq b y) ≡ false
 absent-here x y a b bs h = false_from_ne_true (nat_eq a x && nat_eq b y) (λ e. h [] bs (same-pair x y a b bs e))
@@ -41,14 +33,11 @@ cleared false a bs (Some p) e = cc
 pub absent-none : (x y : ℕ) (bs : List ℕ) → Absent (x ∷ y ∷ []) bs → split_pair x y bs ≡ None
 absent-none x y [] h = refl
 absent-none x y (a ∷ []) h = refl
-absent-none x y (a ∷ b ∷ bs) h =
-    ap (λ k. split_here k a (b ∷ bs) (split_pair x y (b ∷ bs))) (absent-here x y a b bs h)
-    ∙ ap (with_first a) (absent-none x y (b ∷ bs) (absent-rest a (x ∷ y ∷ []) (b ∷ bs) h))
+absent-none x y (a ∷ b ∷ bs) h = simp (absent-here x y a b bs h, absent-none x y (b ∷ bs) (absent-rest a (x ∷ y ∷ []) (b ∷ bs) h))
 
 none-found : (x y : ℕ) (xs ys : List ℕ) → split_pair x y (xs ++ x ∷ y ∷ ys) ≡ None → ⊥
 none-found x y [] ys e =
-    both_ways (nat_eq x x && nat_eq y y) (cleared (nat_eq x x && nat_eq y y) x (y ∷ ys) (split_pair x y (y ∷ ys)) e).0
-    (ap (λ k. k && nat_eq y y) (same-test x) ∙ same-test y)
+    let none = simp (eq-eqb x x refl, eq-eqb y y refl) at e in cc
 none-found x y (a ∷ []) ys e = none-found x y [] ys (cleared (nat_eq a x && nat_eq x y) a (x ∷ y ∷ ys) (split_pair x y (x ∷ y ∷ ys)) e).1
 none-found x y (a ∷ b ∷ xs) ys e =
     none-found x y (b ∷ xs) ys (cleared (nat_eq a x && nat_eq b y) a (b ∷ (xs ++ x ∷ y ∷ ys)) (split_pair x y (b ∷ (xs ++ x ∷ y ∷ ys))) e).1
@@ -60,23 +49,15 @@ none-absent x y bs h xs ys e = none-found x y xs ys (ap (split_pair x y) (sym (e
 pub absent-part : (row front mid end : List ℕ) → Absent row (front ++ mid ++ end) → Absent row mid
 absent-part row front mid end h xs ys e =
     h (front ++ xs) (ys ++ end)
-    (ap (λ l. front ++ l ++ end) e
-    ∙ append_assoc front (xs ++ row ++ ys) end
-    ∙ ap (λ l. front ++ l) (append_assoc (xs ++ row) ys end)
-    ∙ sym (append_assoc front (xs ++ row) (ys ++ end))
-    ∙ ap (λ l. l ++ (ys ++ end)) (sym (append_assoc front xs row)))
+    (simp (e, append_assoc))
 
 -- ---- where they first do
 
 pub absent-split : (x y : ℕ) (before after : List ℕ) → Absent (x ∷ y ∷ []) (before ++ x ∷ []) → split_pair x y (before ++ x ∷ y ∷ after) ≡ Some (before, after)
-absent-split x y [] after h =
-    ap (λ k. split_here k x (y ∷ after) (split_pair x y (y ∷ after))) (ap (λ k. k && nat_eq y y) (same-test x) ∙ same-test y)
-absent-split x y (a ∷ []) after h =
-    ap (λ k. split_here k a (x ∷ y ∷ after) (split_pair x y (x ∷ y ∷ after))) (absent-here x y a x [] h)
-    ∙ ap (with_first a) (absent-split x y [] after (absent-rest a (x ∷ y ∷ []) (x ∷ []) h))
+absent-split x y [] after h = simp (eq-eqb x x refl, eq-eqb y y refl)
+absent-split x y (a ∷ []) after h = simp (absent-here x y a x [] h, absent-split x y [] after (absent-rest a (x ∷ y ∷ []) (x ∷ []) h))
 absent-split x y (a ∷ b ∷ before) after h =
-    ap (λ k. split_here k a (b ∷ (before ++ x ∷ y ∷ after)) (split_pair x y (b ∷ (before ++ x ∷ y ∷ after)))) (absent-here x y a b (before ++ x ∷ []) h)
-    ∙ ap (with_first a) (absent-split x y (b ∷ before) after (absent-rest a (x ∷ y ∷ []) (b ∷ (before ++ x ∷ [])) h))
+    simp (absent-here x y a b (before ++ x ∷ []) h, absent-split x y (b ∷ before) after (absent-rest a (x ∷ y ∷ []) (b ∷ (before ++ x ∷ [])) h))
 
 -- what stands before the first such pair, and behind it
 pub record IsSplit (x y : ℕ) (bs before after : List ℕ) : Type 0 where
@@ -91,68 +72,57 @@ absent-one x y xs ys e = omega (arith, ap length e, length-append (xs ++ x ∷ y
 
 pub absent-cons : (x y a : ℕ) (bs : List ℕ) → ((nat_eq a x && nat_eq (get_or bs 0 0) y) ≡ false) → Absent (x ∷ y ∷ []) bs → Absent (x ∷ y ∷ []) (a ∷ bs)
 absent-cons x y a bs here h [] ys e =
-    let first : nat_eq a x ≡ true = ap (λ k. nat_eq k x) (same-first a x bs (y ∷ ys) e) ∙ same-test x in
-    let second : nat_eq (get_or bs 0 0) y ≡ true = ap (λ l. nat_eq (get_or l 0 0) y) (same-rest a x bs (y ∷ ys) e) ∙ same-test y in
-    both_ways (nat_eq a x && nat_eq (get_or bs 0 0) y) here (ap (λ k. k && nat_eq (get_or bs 0 0) y) first ∙ second)
-absent-cons x y a bs here h (z ∷ xs) ys e = h xs ys (same-rest a z bs (xs ++ x ∷ y ∷ [] ++ ys) e)
+    let first : a ≡ x = cc in
+    let second : bs ≡ y ∷ ys = cc in
+    let none = simp (first, second, eq-eqb x x refl, eq-eqb y y refl) at here in
+    cc
+absent-cons x y a bs here h (z ∷ xs) ys e = h xs ys (let rest : bs ≡ xs ++ x ∷ y ∷ [] ++ ys = cc in rest)
 
 split-first : (x y b : ℕ) (bs before after : List ℕ) → b ∷ bs ≡ before ++ x ∷ y ∷ after → get_or (before ++ x ∷ []) 0 0 ≡ b
-split-first x y b bs [] after e = sym (same-first b x bs (y ∷ after) e)
-split-first x y b bs (c ∷ before) after e = sym (same-first b c bs (before ++ x ∷ y ∷ after) e)
+split-first x y b bs [] after e = cc
+split-first x y b bs (c ∷ before) after e = cc
+
+splits : (x y : ℕ) (bs : List ℕ) → IfSome (split_pair x y bs) (λ p. IsSplit x y bs p.0 p.1)
+splits x y [] = tt
+splits x y (a ∷ []) = tt
+splits x y (a ∷ b ∷ bs) = go (nat_eq a x && nat_eq b y) refl (split_pair x y (b ∷ bs)) (splits x y (b ∷ bs))
+  where
+    go : (t : Bool) → (nat_eq a x && nat_eq b y) ≡ t → (o : Option (List ℕ × List ℕ)) → IfSome o (λ p. IsSplit x y (b ∷ bs) p.0 p.1)
+        → IfSome (split_here t a (b ∷ bs) o) (λ p. IsSplit x y (a ∷ b ∷ bs) p.0 p.1)
+    go true t o more = record { is = same-pair x y a b bs t; first = absent-one x y }
+    go false t None more = tt
+    go false t (Some p) more = record {
+      is = ap (λ l. a ∷ l) more.is;
+      first = absent-cons x y a (p.0 ++ x ∷ []) (simp (split-first x y b bs p.0 p.1 more.is, t)) more.first;
+    }
 
 pub split-is : (x y : ℕ) (bs : List ℕ) (p : List ℕ × List ℕ) → split_pair x y bs ≡ Some p → IsSplit x y bs p.0 p.1
-split-is x y [] p e = cc
-split-is x y (a ∷ []) p e = cc
-split-is x y (a ∷ b ∷ bs) p e = go (nat_eq a x && nat_eq b y) refl (split_pair x y (b ∷ bs)) (λ q f. split-is x y (b ∷ bs) q f) e
-  where
-    go : (t : Bool) → (nat_eq a x && nat_eq b y) ≡ t → (o : Option (List ℕ × List ℕ))
-        → ((q : List ℕ × List ℕ) → o ≡ Some q → IsSplit x y (b ∷ bs) q.0 q.1) → split_here t a (b ∷ bs) o ≡ Some p → IsSplit x y (a ∷ b ∷ bs) p.0 p.1
-    go true t o ih h =
-        let same : ◌≡◌ {A = List ℕ × List ℕ} ([], bs) p = cc in
-        subst (λ (q : List ℕ × List ℕ). IsSplit x y (a ∷ b ∷ bs) q.0 q.1) same (record { is = same-pair x y a b bs t; first = absent-one x y })
-    go false t None ih h = cc
-    go false t (Some q) ih h =
-        let same : ◌≡◌ {A = List ℕ × List ℕ} (a ∷ q.0, q.1) p = cc in
-        let more = ih q refl in
-        subst (λ (q : List ℕ × List ℕ). IsSplit x y (a ∷ b ∷ bs) q.0 q.1) same (record {
-          is = ap (λ l. a ∷ l) more.is;
-          first = absent-cons x y a (q.0 ++ x ∷ []) (ap (λ k. nat_eq a x && nat_eq k y) (split-first x y b bs q.0 q.1 more.is) ∙ t) more.first;
-        })
+split-is x y bs p e = subst (λ o. IfSome o (λ p. IsSplit x y bs p.0 p.1)) e (splits x y bs)
 
 -- ---- runs
 
 pub run-length : (p : ℕ → Bool) (xs rest : List ℕ) → IsRun p xs rest → prefix_len p (xs ++ rest) ≡ length xs
 run-length p [] [] h = refl
-run-length p [] (b ∷ rest) h = ap (λ k. cond k (1 + prefix_len p rest) 0) h.longest
+run-length p [] (b ∷ rest) h = simp h.longest
 run-length p (x ∷ xs) rest h =
     let both = and_parts (p x) (list_all p xs) h.passes in
     let more = run-length p xs rest (record { passes = both.1; longest = h.longest }) in
-    ap (λ k. cond k (1 + prefix_len p (xs ++ rest)) 0) both.0 ∙ (omega (arith, more))
+    simp (both.0, more) (omega arith)
 
 pub run-taken : (p : ℕ → Bool) (xs rest : List ℕ) → IsRun p xs rest → take_while p (xs ++ rest) ≡ xs
-run-taken p xs rest h = ap (λ n. take n (xs ++ rest)) (run-length p xs rest h) ∙ take-append_seam xs rest
-
-run-passes : (p : ℕ → Bool) (bs : List ℕ) → list_all p (take (prefix_len p bs) bs) ≡ true
-run-passes p [] = refl
-run-passes p (b ∷ bs) = go (p b) refl (run-passes p bs)
-  where
-    go : (t : Bool) → p b ≡ t → list_all p (take (prefix_len p bs) bs) ≡ true → list_all p (take (cond t (1 + prefix_len p bs) 0) (b ∷ bs)) ≡ true
-    go true e ih =
-        let one : 1 + prefix_len p bs ≡ suc (prefix_len p bs) = omega arith in
-        ap (λ n. list_all p (take n (b ∷ bs))) one ∙ ap (λ k. k && list_all p (take (prefix_len p bs) bs)) e ∙ ih
-    go false e ih = refl
-
-run-stops : (p : ℕ → Bool) (bs : List ℕ) → Stops p (drop (prefix_len p bs) bs)
-run-stops p [] = tt
-run-stops p (b ∷ bs) = go (p b) refl (run-stops p bs)
-  where
-    go : (t : Bool) → p b ≡ t → Stops p (drop (prefix_len p bs) bs) → Stops p (drop (cond t (1 + prefix_len p bs) 0) (b ∷ bs))
-    go true e ih = let one : 1 + prefix_len p bs ≡ suc (prefix_len p bs) = omega arith in subst (λ (n : ℕ). Stops p (drop n (b ∷ bs))) (sym one) ih
-    go false e ih = e
+run-taken p xs rest h = simp (run-length p xs rest h, take-append_seam)
 
 -- the longest run at the front is one
 pub taken-run : (p : ℕ → Bool) (bs : List ℕ) → IsRun p (take_while p bs) (drop (prefix_len p bs) bs)
-taken-run p bs = record { passes = run-passes p bs; longest = run-stops p bs }
+taken-run p [] = record { passes = refl; longest = tt }
+taken-run p (b ∷ bs) = go (p b) refl (taken-run p bs)
+  where
+    go : (t : Bool) → p b ≡ t → IsRun p (take_while p bs) (drop (prefix_len p bs) bs)
+        → IsRun p (take (cond t (1 + prefix_len p bs) 0) (b ∷ bs)) (drop (cond t (1 + prefix_len p bs) 0) (b ∷ bs))
+    go true e more =
+        let one : 1 + prefix_len p bs ≡ suc (prefix_len p bs) = omega arith in
+        rw one (record { passes = simp (e, more.passes); longest = more.longest })
+    go false e more = record { passes = refl; longest = e }
 
 pub taken-rest : (p : ℕ → Bool) (bs : List ℕ) → take_while p bs ++ drop (prefix_len p bs) bs ≡ bs
 taken-rest p bs = take-append-drop (prefix_len p bs) bs

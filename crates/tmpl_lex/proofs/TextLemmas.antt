@@ -1,17 +1,16 @@
 -- For the law `one_cut`: what trim markers leave of a text, as it is computed and as the relation says.
-use Rattle.std.proofs.Common.{arith, ◌≡◌, ◌∙◌, ℕ, ◌+◌, ◌-◌, Bool, true, false, ◌&&◌, List, [], ◌∷◌}
-use Rattle.std.proofs.Common.{◌++◌, refl, sym, ap, subst, length, take, drop, append_assoc, length-append, length-take}
+use Rattle.std.proofs.Common.{arith, ◌≡◌, ◌∙◌, ℕ, ◌-◌, Bool, true, false, List, [], ◌∷◌}
+use Rattle.std.proofs.Common.{◌++◌, refl, sym, ap, subst, length, take, drop, append_assoc, length-append, length-drop}
 use Rattle.std.proofs.Common.{reverse}
 use Rattle.std.specs.List.{prefix_len, suffix_len, list_all}
 use Rattle.std.proofs.lemmas.Bool.{and_parts}
 use Rattle.std.proofs.lemmas.List.{take_all, take-append-drop, reverse-append, reverse-reverse, length-reverse}
 use Rattle.std.proofs.lemmas.List.Folds.{list_all-append}
-use Rattle.std.proofs.lemmas.List.Sums.{suffix_len-le-length}
 use Rattle.std.proofs.Math.ListN.{drop_of_length-le}
 use Rattle.std.proofs.Math.Seq.{take-append_seam, drop-append_seam}
 use Rattle.tmpl_lex.specs.Bytes.{is_space, Stops}
 use Rattle.tmpl_lex.specs.Piece.{Piece}
-use Rattle.tmpl_lex.specs.Text.{newlines, text_piece, TrimsFront, keeps_front, trims_front, TrimsEnd, keeps_end, trims_end, Texts, trimmed}
+use Rattle.tmpl_lex.specs.Text.{TrimsFront, keeps_front, trims_front, TrimsEnd, keeps_end, trims_end, Texts, trimmed}
 use Rattle.tmpl_lex.specs.computed.Text.{leading, trailing, without_leading, without_trailing, texts}
 use Rattle.tmpl_lex.proofs.PartLemmas.{run-length, taken-run}
 
@@ -19,10 +18,7 @@ all-reverse : (p : ℕ → Bool) (xs : List ℕ) → list_all p xs ≡ true → 
 all-reverse p [] h = refl
 all-reverse p (x ∷ xs) h =
     let both = and_parts (p x) (list_all p xs) h in
-    ap (list_all p) (reverse-append (x ∷ []) xs)
-    ∙ list_all-append p (reverse xs) (x ∷ [])
-    ∙ ap (λ k. k && (p x && true)) (all-reverse p xs both.1)
-    ∙ ap (λ k. k && true) both.0
+    ap (list_all p) (reverse-append (x ∷ []) xs) ∙ simp (list_all-append, all-reverse p xs both.1, both.0)
 
 -- ---- what is computed is so
 
@@ -30,55 +26,31 @@ front-made : (right : Bool) (bs : List ℕ) → TrimsFront right (take (leading 
 front-made true bs = trims_front (taken-run is_space bs)
 front-made false bs = keeps_front
 
--- the bytes before the white space at the end, behind each other with that, and how many there are
-parted-end : (bs : List ℕ) → bs ≡ reverse (drop (suffix_len is_space bs) (reverse bs)) ++ reverse (take (suffix_len is_space bs) (reverse bs))
-parted-end bs =
-    let k = suffix_len is_space bs in
-    let r = reverse bs in
-    sym (reverse-reverse bs) ∙ ap reverse (sym (take-append-drop k r)) ∙ reverse-append (take k r) (drop k r)
-
-count-end : (bs : List ℕ) → length bs - suffix_len is_space bs ≡ length (reverse (drop (suffix_len is_space bs) (reverse bs)))
-count-end bs =
-    let k = suffix_len is_space bs in
-    let r = reverse bs in
-    omega (
-      arith,
-      ap length (parted-end bs),
-      length-append (reverse (drop k r)) (reverse (take k r)),
-      length-reverse (take k r),
-      length-take k r,
-      length-reverse bs,
-      suffix_len-le-length is_space bs,
-    )
-
 -- the two sides of the place before the white space at the end
-at-seam : (side : ℕ → List ℕ → List ℕ) (bs : List ℕ) → let k = suffix_len is_space bs in let kept = reverse (drop k (reverse bs)) in
-    side (length bs - k) bs ≡ side (length kept) (kept ++ reverse (take k (reverse bs)))
-at-seam side bs =
+at-end : (bs : List ℕ) → let n = length bs - suffix_len is_space bs in let k = suffix_len is_space bs in
+    (take n bs ≡ reverse (drop k (reverse bs))) × (drop n bs ≡ reverse (take k (reverse bs)))
+at-end bs =
     let k = suffix_len is_space bs in
-    ap (side (length bs - k)) (parted-end bs) ∙ ap (λ n. side n (reverse (drop k (reverse bs)) ++ reverse (take k (reverse bs)))) (count-end bs)
-
-kept-end : (bs : List ℕ) → take (length bs - suffix_len is_space bs) bs ≡ reverse (drop (suffix_len is_space bs) (reverse bs))
-kept-end bs =
-    let k = suffix_len is_space bs in
-    at-seam take bs ∙ take-append_seam (reverse (drop k (reverse bs))) (reverse (take k (reverse bs)))
-
-taken-end : (bs : List ℕ) → drop (length bs - suffix_len is_space bs) bs ≡ reverse (take (suffix_len is_space bs) (reverse bs))
-taken-end bs =
-    let k = suffix_len is_space bs in
-    at-seam drop bs ∙ drop-append_seam (reverse (drop k (reverse bs))) (reverse (take k (reverse bs)))
+    let kept = reverse (drop k (reverse bs)) in
+    let taken = reverse (take k (reverse bs)) in
+    let whole : bs ≡ kept ++ taken =
+    sym (reverse-reverse bs) ∙ ap reverse (sym (take-append-drop k (reverse bs))) ∙ reverse-append (take k (reverse bs)) (drop k (reverse bs)) in
+    let count : length bs - k ≡ length kept = omega (arith, length-reverse (drop k (reverse bs)), length-drop k (reverse bs), length-reverse bs) in (
+      ap (take (length bs - k)) whole ∙ ap (λ n. take n (kept ++ taken)) count ∙ take-append_seam kept taken,
+      ap (drop (length bs - k)) whole ∙ ap (λ n. drop n (kept ++ taken)) count ∙ drop-append_seam kept taken,
+    )
 
 end-made : (left : Bool) (bs : List ℕ) → TrimsEnd left (take (length bs - trailing left bs) bs) (drop (length bs - trailing left bs) bs)
 end-made true bs =
     let k = suffix_len is_space bs in
     let run = taken-run is_space (reverse bs) in
-    trims_end
-    (ap (list_all is_space) (taken-end bs) ∙ all-reverse is_space (take k (reverse bs)) run.passes)
-    (subst (Stops is_space) (sym (ap reverse (kept-end bs) ∙ reverse-reverse (drop k (reverse bs)))) run.longest)
+    let sides = at-end bs in
+    trims_end (ap (list_all is_space) sides.1 ∙ all-reverse is_space (take k (reverse bs)) run.passes)
+    (subst (Stops is_space) (sym (ap reverse sides.0 ∙ reverse-reverse (drop k (reverse bs)))) run.longest)
 end-made false bs =
     let all : take (length bs - 0) bs ≡ bs = take_all (length bs - 0) bs (omega arith) in
     let none : drop (length bs - 0) bs ≡ [] = drop_of_length-le bs (omega arith) in
-    subst (λ (xs : List ℕ). TrimsEnd false xs (drop (length bs - 0) bs)) (sym all) (subst (TrimsEnd false bs) (sym none) keeps_end)
+    rw (all, none) keeps_end
 
 pub texts-made : (right left : Bool) (line : ℕ) (bs : List ℕ) → Texts right left line bs (texts right left line bs)
 texts-made right left line bs =
@@ -88,8 +60,7 @@ texts-made right left line bs =
     let end : List ℕ = drop (length mid - trailing left mid) mid in
     let both : kept ++ end ≡ mid = take-append-drop (length mid - trailing left mid) mid in
     let whole : front ++ kept ++ end ≡ bs = append_assoc front kept end ∙ ap (λ l. front ++ l) both ∙ take-append-drop (leading right bs) bs in
-    subst (λ (xs : List ℕ). Texts right left line xs (texts right left line bs)) whole
-    (trimmed (subst (TrimsFront right front) (sym both) (front-made right bs)) (end-made left mid))
+    subst (λ (xs : List ℕ). Texts right left line xs (texts right left line bs)) whole (trimmed (rw both (front-made right bs)) (end-made left mid))
 
 -- ---- and nothing else is
 
@@ -106,11 +77,4 @@ end-len (trims_end {kept = kept} {taken = taken} white stops) =
 
 pub texts-only : {right left : Bool} {line : ℕ} {bs : List ℕ} {ps : List Piece} → Texts right left line bs ps → ps ≡ texts right left line bs
 texts-only (trimmed {right = right} {left = left} {line = line} {front = front} {kept = kept} {end = end} f e) =
-    let rest : List ℕ = kept ++ end in
-    let taken : take (leading right (front ++ rest)) (front ++ rest) ≡ front = ap (λ n. take n (front ++ rest)) (front-len f) ∙ take-append_seam front rest in
-    let left_is : without_leading right (front ++ rest) ≡ rest = ap (λ n. drop n (front ++ rest)) (front-len f) ∙ drop-append_seam front rest in
-    let kept_is : without_trailing left rest ≡ kept = ap (λ n. take n rest) (end-len e) ∙ take-append_seam kept end in
-    sym (ap (texts right left line) (append_assoc front kept end)
-    ∙ ap (λ xs. text_piece (line + newlines xs) (without_trailing left (without_leading right (front ++ rest)))) taken
-    ∙ ap (λ xs. text_piece (line + newlines front) (without_trailing left xs)) left_is
-    ∙ ap (text_piece (line + newlines front)) kept_is)
+    sym (simp (append_assoc, front-len f, end-len e, take-append_seam, drop-append_seam))

@@ -1,6 +1,6 @@
 -- For `front_token`: the token at the front is made of the first bytes.
-use Rattle.std.proofs.Common.{arith, ◌≡◌, ◌∙◌, ℕ, suc, ◌+◌, ◌-◌, ◌≤◌, List}
-use Rattle.std.proofs.Common.{[], ◌∷◌, Some, ap, subst, length, take, drop, get_or}
+use Rattle.std.proofs.Common.{arith, ◌≡◌, ℕ, suc, ◌+◌, ◌-◌, ◌≤◌, List}
+use Rattle.std.proofs.Common.{[], ◌∷◌, Some, ap, length, take, drop, get_or}
 use Rattle.std.proofs.Common.{length-drop}
 use Rattle.std.proofs.lemmas.List.{take_all}
 use Rattle.tmpl_lex.specs.declared.piece.TokenKind.{TokenKind}
@@ -15,5 +15,5 @@ pub front_token-cons : (bs rest : List ℕ) (kind : TokenKind) (len : ℕ) → 1
     → Some (kind, take len rest) ≡ begun (get_or bs 0 0) rest → Some (record { kind = kind; bytes = take (len + 1) bs }) ≡ front_token bs
 front_token-cons [] rest kind len h same e = absurd (omega arith)
 front_token-cons (b ∷ bs) rest kind len h same e =
-    ap (λ (n : ℕ). Some (record { kind = kind; bytes = take n (b ∷ bs) })) (let next : len + 1 ≡ suc len = omega arith in next)
-    ∙ ap (token_from b) (subst (λ (r : List ℕ). Some (kind, take len r) ≡ begun b r) same e)
+    let next : len + 1 ≡ suc len = omega arith in
+    rw next (ap (token_from b) (rw same at e))

@@ -4,9 +4,8 @@ ghost use Rattle.tmpl_lex.specs.Part.{IsCutBy, IsLeft, IsLeftBehind, pieces_behi
 ghost use Rattle.tmpl_lex.specs.Place.{StandsAt};
 ghost use Rattle.tmpl_lex.specs.Text as count;
 ghost use Rattle.tmpl_lex.specs.declared.piece.Token as held;
-ghost use Rattle.tmpl_lex.specs.computed.Cut as computed;
-ghost use Rattle.tmpl_lex.specs.computed.Cut.{ends_at, pieces_of, split_open};
-ghost use Rattle.tmpl_lex.specs.computed.Part.{IsEndWithin, rest_behind};
+ghost use Rattle.tmpl_lex.specs.computed.Part as computed;
+ghost use Rattle.tmpl_lex.specs.computed.Part.{IsEndWithin, ends_at, pieces_of, rest_behind, split_open};
 ghost use Rattle.tmpl_lex.specs.computed.View.{end_of, opened_of, rest_of};
 
 use crate::action::{Opened, read_opened};

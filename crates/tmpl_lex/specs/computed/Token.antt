@@ -1,5 +1,5 @@
 -- The token at the front of bytes of an action, computed: the twin of `IsToken`.
-use Rattle.std.specs.Prelude.{ℕ, ◌-◌, Bool, true, false, ◌||◌, ◌==◌, List, [], ◌∷◌, take, drop, take_while, Option}
+use Rattle.std.specs.Prelude.{ℕ, ◌-◌, Bool, true, false, ◌==◌, List, [], ◌∷◌, take, drop, take_while, Option}
 use Rattle.std.specs.Prelude.{Some, None, option_map, if◌then◌else◌}
 use Rattle.std.specs.Char.{is_ascii_digit}
 use Rattle.std.specs.List.{prefix_len}
@@ -29,15 +29,10 @@ space_run bs = take (space_len bs) bs
 abbrev pub Begun : Type 0
 Begun = TokenKind × List ℕ
 
--- a number whose first byte behind the sign is this one, if it is a digit
-abbrev pub number : Bool → ℕ → List ℕ → Option Begun
-number true b bs = Some (Number, b ∷ take_while is_number_byte bs)
-number false b bs = None
-
 -- behind a `+` or `-`: a digit, and the longest run of bytes of a number
 abbrev pub signed : List ℕ → Option Begun
 signed [] = None
-signed (b ∷ bs) = number (is_ascii_digit b) b bs
+signed (b ∷ bs) = if is_ascii_digit b then Some (Number, b ∷ take_while is_number_byte bs) else None
 
 -- the longest name at the front, perhaps empty
 abbrev pub name_run : List ℕ → List ℕ
@@ -48,15 +43,10 @@ abbrev pub dotted : List ℕ → Begun
 dotted [] = (Dot, [])
 dotted (b ∷ bs) = (Field, b ∷ bs)
 
--- `:=`, where the byte behind the colon is an equals sign
-abbrev pub declare : Bool → Option Begun
-declare true = Some (Declare, 61 ∷ [])
-declare false = None
-
--- behind a colon: an equals sign
+-- behind a colon: an equals sign, which makes `:=`
 abbrev pub assigned : List ℕ → Option Begun
 assigned [] = None
-assigned (b ∷ bs) = declare (b == 61)
+assigned (b ∷ bs) = if b == 61 then Some (Declare, 61 ∷ []) else None
 
 -- a token of this kind, where its closing quote was found
 abbrev pub of_kind : TokenKind → Option (List ℕ) → Option Begun
@@ -65,7 +55,8 @@ of_kind kind o = option_map (λ bs. (kind, bs)) o
 -- the token that begins with this byte, which is neither white space nor of a name, where these bytes stand behind it
 abbrev pub marked : ℕ → List ℕ → Option Begun
 marked b bs =
-    if b == 43 || b == 45 then signed bs
+    if b == 43 then signed bs
+    else if b == 45 then signed bs
     else if b == 46 then Some (dotted (name_run bs))
     else if b == 36 then Some (Variable, name_run bs)
     else if b == 34 then of_kind String (quoted 34 false bs)

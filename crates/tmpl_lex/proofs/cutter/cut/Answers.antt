@@ -4,7 +4,7 @@ use Rattle.tmpl_lex.specs.Part.{pieces_in}
 use Rattle.tmpl_lex.specs.Piece.{Piece}
 use Rattle.tmpl_lex.specs.View.{piece_of}
 use Rattle.tmpl_lex.proofs.CutLemmas.{cut_of-Cuts}
-use Rattle.tmpl_lex.proofs.FirstPartLemmas.{whole-cut, last-cut}
+use Rattle.tmpl_lex.proofs.FirstPartLemmas.{whole-cut}
 use Rattle.tmpl_lex.proofs.cutter.cut.Goals as goal
 
 pub loop-tokens-init : goal.loop-tokens-init
@@ -18,10 +18,9 @@ loop-tokens-init c = record {
 
 pub returns-in-None-clause-value : goal.returns-in-None-clause-value
 returns-in-None-clause-value c =
-    last-cut c.args.bytes.now (map piece_of c.loop-tokens.pieces.items) (map piece_of c.push_part.new.pieces.items) _ c.loop-tokens.rest c.in_ok-part.part.rest
-    c.loop-tokens.invariant.so_far c.in-None.is c.in_ok-part.ensures.cuts
-    (c.in_ok-push_part.ensures.pieces
-    ∙ ap (λ ts. map piece_of c.loop-tokens.pieces.items ++ pieces_in ts c.in_ok-part.part) c.as_slice.ensures.value)
+    c.in_ok-push_part.ensures.pieces
+    ∙ ap (λ ts. map piece_of c.loop-tokens.pieces.items ++ pieces_in ts c.in_ok-part.part) c.as_slice.ensures.value
+    ∙ sym (c.loop-tokens.invariant.so_far _ (simp c.in-None.is at c.in_ok-part.ensures.cuts))
 
 pub returns-in-None-clause-cuts : goal.returns-in-None-clause-cuts
 returns-in-None-clause-cuts c = subst (Cuts false 1 c.args.bytes.now) (sym (returns-in-None-clause-value c)) (cut_of-Cuts c.args.bytes.now)
