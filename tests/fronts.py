@@ -25,6 +25,7 @@ ALONE = 100  # bytes of a file up to which each of its fronts is read alone too
 SPARE = 1 << 24  # bytes that one process may read, which it keeps, and trees of them
 LEAST = {"template": 380000, "data": 25000}  # fronts
 RUNS = 25000  # fronts of templates that are accepted
+CLOSES = {b"[": b"]", b"{": b"}", b'"': b'"'}  # what ends a list, a map or a text of JSON
 OPTIONS = meaning.Options(depth=20, steps=1000)  # what a run may take
 WORDS = [b"tmpl", b"--steps", b"1000", b"--depth", b"20"]
 # What the fronts of a template come to, worked out by hand: the last length, and why it is refused.
@@ -122,7 +123,15 @@ def is_told_otherwise(name, front, told):
     return refused != told and not (told is None and refused[1] == reading.SECOND)
 
 
+def is_cut_off(data):
+    """Whether what the first byte of data opens is not closed by the last, so that it is no JSON."""
+    inside = data.strip(b" \t\n\r")
+    return inside[:1] in CLOSES and not inside.endswith(CLOSES[inside[:1]])
+
+
 def wanted_of_data(front):
+    if len(front) > RUN and is_cut_off(front):
+        return 5, b"", b"tmpl: d: %s\n" % reading.NOT_JSON.encode()
     try:
         return 0, reading.data_text(front), b""
     except reading.Refused as why:
