@@ -1,7 +1,8 @@
 """Draws random sets of templates with data and options, renders them by the built program, and compares the output, the errors
 and the status with what meaning.py tells, which shares no code with the program. Before that meaning.py is held against the rows:
 what it tells of each must be what was worked out by hand. Each kind of fault of the tables of docs/COMMAND.md must come, and half
-of the draws must be accepted and run. `draws.py COUNT SEED` draws others. TMPL=PATH names another build."""
+of the draws must be accepted and run. They are the same each time; `draws.py COUNT SEED` draws others, from this seed on. TMPL=PATH
+names another build."""
 import collections
 import gc
 import json
@@ -15,7 +16,7 @@ import harness
 import meaning
 import reading
 
-COUNT = 20000
+COUNT = 8000
 ROWS = 1200  # of which meaning.py tells at least
 LARGE = 1 << 17  # bytes up to which a row is told
 DEEP = 10000  # and calls inside one another, each of which takes some of Python's own

@@ -3,7 +3,8 @@ bytes whole. Of longer ones, whose fronts are too many bytes (those of 16 MiB ar
 to 1,048,576 bytes 16 that lie evenly behind these, and the last 4 before the whole file. `fronts.py --long` reads all those of files of up
 to 262,144 bytes, and these 20 of all longer ones. They are read in memory, many in one process, by the probe. What a front comes
 to is told by meaning.py and reading.py, which share no code with the program: a template is refused at a line for a reason, or runs over
-the row's data to a text and an end; data is refused, or put out whole by `{{.}}`. Of the fronts of a file of more than
+the row's data to a text and an end; data is refused, or put out whole by `{{.}}`. That data of more than 1,000 bytes whose first bracket
+or quote is not closed by its last byte is no JSON is told without reading it. Of the fronts of a file of more than
 1,000 bytes that are accepted, of which meaning.py is slow to tell, it tells each 64th and the last, and none of those behind the first
 2,000 of a file of more than 20,000; the others must be accepted."""
 import bisect
@@ -25,6 +26,7 @@ ALONE = 100  # bytes of a file up to which each of its fronts is read alone too
 SPARE = 1 << 24  # bytes that one process may read, which it keeps, and trees of them
 LEAST = {"template": 380000, "data": 25000}  # fronts
 RUNS = 25000  # fronts of templates that are accepted
+CLOSES = {b"[": b"]", b"{": b"}", b'"': b'"'}  # what ends a list, a map or a text of JSON
 OPTIONS = meaning.Options(depth=20, steps=1000)  # what a run may take
 WORDS = [b"tmpl", b"--steps", b"1000", b"--depth", b"20"]
 # What the fronts of a template come to, worked out by hand: the last length, and why it is refused.
@@ -122,7 +124,15 @@ def is_told_otherwise(name, front, told):
     return refused != told and not (told is None and refused[1] == reading.SECOND)
 
 
+def is_cut_off(data):
+    """Whether what the first byte of data opens is not closed by the last, so that it is no JSON."""
+    inside = data.strip(b" \t\n\r")
+    return inside[:1] in CLOSES and not inside.endswith(CLOSES[inside[:1]])
+
+
 def wanted_of_data(front):
+    if len(front) > RUN and is_cut_off(front):
+        return 5, b"", b"tmpl: d: %s\n" % reading.NOT_JSON.encode()
     try:
         return 0, reading.data_text(front), b""
     except reading.Refused as why:

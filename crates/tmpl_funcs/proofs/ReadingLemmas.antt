@@ -154,81 +154,65 @@ reading-found (form f ∷ ps) format spells are =
 
 -- ---- from the function to the relation
 
--- a form that was read: its parts, and what it left
-record IsFound (flags width : List ℕ) (p : Option (List ℕ)) (spells : List ℕ) (f : WrittenForm) : Type 0 where
+-- a form that was read with these flags and this width, and what it left of the bytes that it stands before
+record IsFound (flags width bytes : List ℕ) (f : WrittenForm) : Type 0 where
   rest : List ℕ
-  spells_is : spells ≡ form_bytes f ++ rest
-  flags_is : f.flags ≡ flags
-  width_is : f.width ≡ width
-  precision_is : f.precision ≡ p
-  short : is_short width ≡ true
-  fits : is_precision p f.verb ≡ true
-
-module _ (flags width : List ℕ) (p : Option (List ℕ)) (b : ℕ) (bs : List ℕ) where
-  form_if-sound : (t : Bool) (v : Verb) (f : WrittenForm) → letter v ≡ b → (is_short width && is_precision p v) ≡ t
-      → form_if t flags width p v ≡ Some f → IsFound flags width p (flags ++ (width ++ (pointed p ++ b ∷ bs))) f
-  form_if-sound true v f is test h =
-      let both = and_parts (is_short width) (is_precision p v) test in
-      let x : WrittenForm = record { flags = flags; width = width; precision = p; verb = v } in
-      let same : x ≡ f = cc in
-      subst (IsFound flags width p (flags ++ (width ++ (pointed p ++ b ∷ bs)))) same (record {
-        rest = bs;
-        spells_is = sym (simp append_assoc (ap (λ c. flags ++ (width ++ (pointed p ++ c ∷ bs))) is));
-        flags_is = refl;
-        width_is = refl;
-        precision_is = refl;
-        short = both.0;
-        fits = both.1;
-      })
-  form_if-sound false v f is test h = cc
-
-  form_by-sound : (o : Option Verb) (f : WrittenForm) → verb_of b ≡ o → form_by flags width p o ≡ Some f
-      → IsFound flags width p (flags ++ (width ++ (pointed p ++ b ∷ bs))) f
-  form_by-sound None f is h = cc
-  form_by-sound (Some v) f is h = form_if-sound (is_short width && is_precision p v) v f (letter-verb_of b v is) refl h
-
-verb_behind-sound : (flags width : List ℕ) (p : Option (List ℕ)) (bs : List ℕ) (f : WrittenForm) → verb_behind flags width p bs ≡ Some f
-    → IsFound flags width p (flags ++ (width ++ (pointed p ++ bs))) f
-verb_behind-sound flags width p [] f h = cc
-verb_behind-sound flags width p (b ∷ bs) f h = form_by-sound flags width p b bs (verb_of b) f refl h
-
--- a form that was read, with a precision of digits
-record IsParted (flags width spells : List ℕ) (f : WrittenForm) : Type 0 where
-  rest : List ℕ
-  spells_is : spells ≡ form_bytes f ++ rest
+  spells : bytes ≡ form_bytes f ++ rest
   flags_is : f.flags ≡ flags
   width_is : f.width ≡ width
   short : is_short width ≡ true
   precision : IsPrecision f.precision f.verb
 
-IsParted-found : (flags width spells spells' : List ℕ) (p : Option (List ℕ)) (f : WrittenForm) → IsFound flags width p spells f → spells' ≡ spells
-    → IsPrecision p f.verb → IsParted flags width spells' f
-IsParted-found flags width spells spells' p f found same precision = record {
-  rest = found.rest;
-  spells_is = same ∙ found.spells_is;
-  flags_is = found.flags_is;
-  width_is = found.width_is;
-  short = found.short;
-  precision = subst (λ (q : Option (List ℕ)). IsPrecision q f.verb) (sym found.precision_is) precision;
-}
+-- a precision is spelled by digits
+abbrev AreDigits : Option (List ℕ) → Type 0
+AreDigits None = Unit {0}
+AreDigits (Some ds) = list_all is_decimal ds ≡ true
+
+IsPrecision-by : (p : Option (List ℕ)) (v : Verb) → AreDigits p → is_precision p v ≡ true → IsPrecision p v
+IsPrecision-by None v digits fits = tt
+IsPrecision-by (Some ds) v digits fits = let both = and_parts (is_short ds) (takes_precision v) fits in (digits, both.0, both.1)
+
+module _ (flags width : List ℕ) (p : Option (List ℕ)) (digits : AreDigits p) where
+  module _ (b : ℕ) (bs : List ℕ) (f : WrittenForm) where
+    abbrev Found : Type 0
+    Found = IsFound flags width (flags ++ (width ++ (pointed p ++ b ∷ bs))) f
+
+    form_if-sound : (t : Bool) (v : Verb) → letter v ≡ b → (is_short width && is_precision p v) ≡ t → form_if t flags width p v ≡ Some f → Found
+    form_if-sound true v is test h =
+        let both = and_parts (is_short width) (is_precision p v) test in
+        let x : WrittenForm = record { flags = flags; width = width; precision = p; verb = v } in
+        let same : x ≡ f = cc in
+        subst (IsFound flags width (flags ++ (width ++ (pointed p ++ b ∷ bs)))) same (record {
+          rest = bs;
+          spells = sym (simp append_assoc (ap (λ c. flags ++ (width ++ (pointed p ++ c ∷ bs))) is));
+          flags_is = refl;
+          width_is = refl;
+          short = both.0;
+          precision = IsPrecision-by p v digits both.1;
+        })
+    form_if-sound false v is test h = cc
+
+    form_by-sound : (o : Option Verb) → verb_of b ≡ o → form_by flags width p o ≡ Some f → Found
+    form_by-sound None is h = cc
+    form_by-sound (Some v) is h = form_if-sound (is_short width && is_precision p v) v (letter-verb_of b v is) refl h
+
+  verb_behind-sound : (bs : List ℕ) (f : WrittenForm) → verb_behind flags width p bs ≡ Some f
+      → IsFound flags width (flags ++ (width ++ (pointed p ++ bs))) f
+  verb_behind-sound [] f h = cc
+  verb_behind-sound (b ∷ bs) f h = form_by-sound b bs f (verb_of b) refl h
 
 module _ (flags width : List ℕ) (b : ℕ) (bs : List ℕ) (f : WrittenForm) where
   precision_behind-by : (t : Bool) → (b == 46) ≡ t
       → cond t (verb_behind flags width (Some (take_while is_decimal bs)) (behind is_decimal bs)) (verb_behind flags width None (b ∷ bs)) ≡ Some f
-      → IsParted flags width (flags ++ (width ++ b ∷ bs)) f
+      → IsFound flags width (flags ++ (width ++ b ∷ bs)) f
   precision_behind-by true is h =
-      let ds : List ℕ = take_while is_decimal bs in
-      let found = verb_behind-sound flags width (Some ds) (behind is_decimal bs) f h in
-      let point : b ≡ 46 = grind (arith, nat_tests) in
-      let fits = and_parts (is_short ds) (takes_precision f.verb) found.fits in
-      IsParted-found flags width _ (flags ++ (width ++ b ∷ bs)) (Some ds) f found
-      (ap (λ c. flags ++ (width ++ c ∷ bs)) point ∙ ap (λ r. flags ++ (width ++ 46 ∷ r)) (sym (take_while-behind is_decimal bs)))
-      (list_all-take_while is_decimal bs, fits.0, fits.1)
-  precision_behind-by false is h =
-      IsParted-found flags width _ (flags ++ (width ++ b ∷ bs)) None f (verb_behind-sound flags width None (b ∷ bs) f h) refl tt
+      let point : 46 ≡ b = grind (arith, nat_tests) in
+      let found = verb_behind-sound flags width (Some (take_while is_decimal bs)) (list_all-take_while is_decimal bs) (behind is_decimal bs) f h in
+      subst (λ (t : List ℕ). IsFound flags width (flags ++ (width ++ t)) f) (λ i. point i ∷ take_while-behind is_decimal bs i) found
+  precision_behind-by false is h = verb_behind-sound flags width None tt (b ∷ bs) f h
 
 precision_behind-sound : (flags width bs : List ℕ) (f : WrittenForm) → precision_behind flags width bs ≡ Some f
-    → IsParted flags width (flags ++ (width ++ bs)) f
+    → IsFound flags width (flags ++ (width ++ bs)) f
 precision_behind-sound flags width [] f h = cc
 precision_behind-sound flags width (b ∷ bs) f h = precision_behind-by flags width b bs f (b == 46) refl h
 
@@ -252,7 +236,7 @@ form_at-sound bs f h =
     let width : List ℕ = take_while is_decimal tail in
     let parts = precision_behind-sound flags width (behind is_decimal tail) f h in
     let spells : bs ≡ form_bytes f ++ parts.rest = sym (ap (λ t. flags ++ t) (take_while-behind is_decimal tail) ∙ take_while-behind is_flag bs)
-    ∙ parts.spells_is in
+    ∙ parts.spells in
     let left : drop (length (form_bytes f)) bs ≡ parts.rest = ap (drop (length (form_bytes f))) spells ∙ drop-append_seam (form_bytes f) parts.rest in (
       record {
         flags = ap (list_all is_flag) parts.flags_is ∙ list_all-take_while is_flag bs;
