@@ -1,5 +1,5 @@
 -- For `turns`: what the loop of a run keeps from turn to turn, said of a machine and of what was put out, and what it comes to where it ends.
-use Rattle.std.proofs.Common.{arith, inl, inr, ◌≡◌, ◌∙◌, ◌+◌, ◌||◌, ◌++◌, ◌-◌, ◌^◌, ◌<◌, ◌≤◌, ℕ, suc, Bool, true, false, List, [], ◌∷◌, length, get_or, refl}
+use Rattle.std.proofs.Common.{arith, inl, inr, ◌≡◌, ◌∙◌, ◌+◌, ◌||◌, ◌++◌, ◌-◌, ◌^◌, ◌<◌, ◌≤◌, ℕ, Bool, true, false, List, [], ◌∷◌, length, get_or, refl}
 use Rattle.std.proofs.Common.{ap, sym, subst, append-nil, Option, Some, None, Result, Ok, Err}
 use Rattle.std.specs.Prelude.{option_map, slice_get}
 use Rattle.std.proofs.Math.Bool.{or-false}
@@ -254,13 +254,14 @@ module _ {plan : Plan} {end : Ran} {m : Machine} {before now : Puts} (inv : Stan
             → size_of n.stack ≡ room → (mark_behind i false ≡ false → IsPlain m → IsPlain n) → Stands plan end n before after
         goes-so f on did more size plain =
             let b = behind n once refl (subst (λ f. TurnedBy once told i m n (Ok f)) on did) in
+            let text = inv.text ++ put_out once told i m (Ok flow.On) in
+            let made = inv.made || mark_behind i false in
             record {
               depth = let deep = inv.depth in let deeper = b.depth in omega arith;
-              text = inv.text ++ put_out once told i m (Ok flow.On);
-              made = inv.made || mark_behind i false;
+              text = text;
+              made = made;
               given = IsPut-append inv.given (subst (λ f. Gave once (Ok f)) on more);
-              ends = subst (λ k. Ends plan k (with_past (inv.text ++ put_out once told i m (Ok flow.On)) (inv.made || mark_behind i false) (state_of told n)) end)
-                  (sym size) b.ends;
+              ends = subst (λ k. Ends plan k (with_past text made (state_of told n)) end) (sym size) b.ends;
               plain = λ e. let both = or_parts inv.made (mark_behind i false) e in plain both.1 (inv.plain both.0);
             }
 

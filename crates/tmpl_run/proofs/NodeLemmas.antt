@@ -28,7 +28,7 @@ use Rattle.tmpl_run.specs.Ends.{Comes}
 use Rattle.tmpl_run.proofs.PipelineLemmas.{FollowsBy, Puts, found-within, given_in, pipeline-leads}
 use Rattle.tmpl_run.proofs.WayLemmas.{ahead-one, ahead, Ring, Stands, Way, who_of, Inside, cut_to, exit_of}
 use Rattle.tmpl_run.proofs.SlotLemmas.{Cells, First, Frame, Over, all_grown, all_grown_in, bound_in, cells-set, dropped, env-dropped, env_of, first-saved}
-use Rattle.tmpl_run.proofs.SlotLemmas.{frame_of, grown_in, length-cells, length-env, named, named-less, over-binding, over-bound, over-grown, over-more}
+use Rattle.tmpl_run.proofs.SlotLemmas.{grown_in, length-cells, length-env, named, named-less, over-binding, over-bound, over-grown, over-more}
 use Rattle.tmpl_run.proofs.SlotLemmas.{run_of, stored, stored-none}
 use Rattle.tmpl_run.proofs.WayLemmas as ways
 
@@ -229,7 +229,7 @@ module _ (way : Way) (calls : Calls) (spare : ℕ) where
       → Stands way.plan way.who first (bound_on b lay) (bound_in b fr) t → t.dot ≡ d → run_of (bound_on b lay) t ≡ r
       → ways.After way (λ r. ways.Onward way rest lay fr d (cut_to (named lay) r)) g (meanings (ways.setting way calls) ns d r) → ways.Leading way t
   part-leads ns ih b g lay fr first more rest to d r t l far inside fits st dot run k =
-      ih g (bound_on b lay) (bound_in b fr) first l.0 t l.1 st (inside-bound way.home g b lay fr inside) (let tall = (over-binding b lay fr).tall in omega arith)
+      ih g (bound_on b lay) (bound_in b fr) first l.0 t l.1 st (inside-bound way.home g b lay fr inside) (omega (arith, (over-binding b lay fr).tall))
       (subst (λ e. ways.After way goal g (meanings (ways.setting way calls) ns e (run_of (bound_on b lay) t))) (sym dot)
       (subst (λ r. ways.After way goal g (meanings (ways.setting way calls) ns d r)) (sym run)
       (ways.then-map way (λ r. ways.Onward way rest lay fr d (cut_to (named lay) r)) goal g (meanings (ways.setting way calls) ns d r).0
@@ -301,8 +301,8 @@ module _ (way : Way) (calls : Calls) (spare : ℕ) where
       (let size = over.size in let deep = st.cells.deep in let less = below.size in omega arith)
       (subst (λ cs. Comes (ways.Leading way) (top cs (λ c cs. goes (record u { cells = drop (declared_count b) cs; dot = c.val; place = u.place + 1 + to })))
       way.end) (sym one.cells)
-      (k _ (record { at = ahead way.plan.code more u.place to (code.end_with n (declared_count b) to) st.at ∙ far; runs = st.runs; cells = dropped below one.under })
-      refl
+      (k _
+      (record { at = ahead way.plan.code more u.place to (code.end_with n (declared_count b) to) st.at ∙ far; runs = st.runs; cells = dropped below one.under }) refl
       (ap (λ (v : Environment). record (run_of big u) { env = v })
       (env-dropped below one.under ∙ ap (oldest (named lay)) (sym one.env ∙ env-dropped over st.cells))
       ∙ ways.cut-twice (named lay) (named (bound_on b lay)) (run_of big u) (named-less below)
@@ -339,7 +339,7 @@ module _ (way : Way) (calls : Calls) (spare : ℕ) where
             cells = record { frame = ap (λ x. Some (fresh s.dot) ∷ x) kept.frame; deep = (let deep = kept.deep in omega arith) };
           })
           (inside-more way.home g (bound_on h.binding lay) (bound_in h.binding fr) None (Some (fresh s.dot)) (inside-bound way.home g h.binding lay fr inside))
-          (let tall = (over-binding h.binding lay fr).tall in omega arith)
+          (omega (arith, (over-binding h.binding lay fr).tall))
           (subst (λ r. ways.After way goal g (meanings (ways.setting way calls) body v r)) (sym (kept-env h.binding v s m bound))
           (ways.then-map way B goal g x.0 x.1
           (λ r k u su du ru. with-closes h.binding (declared_in body) l.2.3 l.2.1 rest lay fr s.dot r u su

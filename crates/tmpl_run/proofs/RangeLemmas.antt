@@ -219,10 +219,11 @@ module _ (way : Way) (calls : Calls) (spare : ℕ) where
         outside = record { frame = ap (λ l. Some saved ∷ Some (cell v k) ∷ l) cells.frame; deep = (let deep = cells.deep in omega arith) }
 
         turns-by : (n : ℕ) (is : Code) → start ≡ code.turn n ∷ is → suc (suc (length cs)) + n ≤ way.room
-            → ways.Leading way (record s { cells = variables_on n e (saved ∷ cell v k ∷ cs); dot = e.1; place = s.place + 1 }) → ways.Leading way now
+            → (drop (s.place + 1) way.plan.code ≡ is → ways.Leading way (record s { cells = variables_on n e now.cells; dot = e.1; place = s.place + 1 }))
+            → ways.Leading way now
         turns-by n is l fits h =
             ways.takes way now (code.turn n) is same (at ∙ l) fits
-            (subst (λ l. Comes (ways.Leading way) (turned n l now) way.end) (sym here) h)
+            (subst (λ l. Comes (ways.Leading way) (turned n l now) way.end) (sym here) (h (ahead-one way.plan.code is s.place (code.turn n) (at ∙ l))))
 
         long : length cs ≡ length fr
         long = length-cells cells
@@ -231,33 +232,23 @@ module _ (way : Way) (calls : Calls) (spare : ℕ) where
             → ((ds : List Cell) (there : ℕ) → drop there way.plan.code ≡ first → Cells (bound_on b (None ∷ None ∷ lay)) (bound_in b (outer k)) ds
             → env_of (bound_on b (None ∷ None ∷ lay)) ds ≡ bound b e (env_of lay cs) → ways.Leading way (record s { cells = ds; dot = e.1; place = there }))
             → ways.Leading way now
-        by (assign x) l fits more =
-            turns-by 0 l.0 l.1 (let same = long in omega arith)
-            (sets (slot_named x (None ∷ None ∷ lay)) refl l.2)
+        by unbound l fits more = turns-by 0 first l (omega (arith, long)) (λ at. more now.cells (s.place + 1) at outside refl)
+        by (declare x) l fits more = turns-by 1 first l (omega (arith, long)) (λ at. more (fresh e.1 ∷ now.cells) (s.place + 1) at
+            (record { frame = ap (λ l. None ∷ l) outside.frame; deep = (let deep = outside.deep in omega arith) }) refl)
+        by (declare_pair i x) l fits more = turns-by 2 first l (omega (arith, long)) (λ at. more (fresh e.1 ∷ fresh e.0 ∷ now.cells) (s.place + 1) at
+            (record { frame = ap (λ l. None ∷ None ∷ l) outside.frame; deep = (let deep = outside.deep in omega arith) }) refl)
+        by (assign x) l fits more = turns-by 0 l.0 l.1 (omega (arith, long)) (sets (slot_named x (None ∷ None ∷ lay)) refl l.2)
           where
-            there : drop (s.place + 1) way.plan.code ≡ l.0
-            there = ahead-one way.plan.code l.0 s.place (code.turn 0) (at ∙ l.1)
-
-            sets : (o : Option ℕ) → slot_named x (None ∷ None ∷ lay) ≡ o → SetDotAt o l.0 first
+            sets : (o : Option ℕ) → slot_named x (None ∷ None ∷ lay) ≡ o → SetDotAt o l.0 first → drop (s.place + 1) way.plan.code ≡ l.0
                 → ways.Leading way (record s { cells = saved ∷ cell v k ∷ cs; dot = e.1; place = s.place + 1 })
-            sets None is-slot l = more now.cells (s.place + 1) (there ∙ l) outside
+            sets None is-slot l there = more now.cells (s.place + 1) (there ∙ l) outside
                 (sym (stored-none x (None ∷ None ∷ lay) now.cells e.1 is-slot outside.deep))
-            sets (Some i) is-slot l =
+            sets (Some i) is-slot l there =
                 ways.takes way (record s { cells = saved ∷ cell v k ∷ cs; dot = e.1; place = s.place + 1 }) (code.set_dot i) first same (there ∙ l)
                 (let below = found-within x (None ∷ None ∷ lay) i is-slot in let deep = cells.deep in omega arith)
                 (more (slice_set now.cells i (fresh e.1)) (s.place + 1 + 1)
                 (ahead-one way.plan.code first (s.place + 1) (code.set_dot i) (there ∙ l))
                 (cells-set x (None ∷ None ∷ lay) now.cells i e.1 is-slot outside) (stored x (None ∷ None ∷ lay) now.cells i e.1 is-slot outside.deep))
-        by unbound l fits more =
-            turns-by 0 first l (let same = long in omega arith) (more now.cells (s.place + 1) (ahead-one way.plan.code first s.place (code.turn 0) (at ∙ l)) outside refl)
-        by (declare x) l fits more =
-            turns-by 1 first l (let same = long in omega arith)
-            (more (fresh e.1 ∷ now.cells) (s.place + 1) (ahead-one way.plan.code first s.place (code.turn 1) (at ∙ l))
-            (record { frame = ap (λ l. None ∷ l) outside.frame; deep = (let deep = outside.deep in omega arith) }) refl)
-        by (declare_pair i x) l fits more =
-            turns-by 2 first l (let same = long in omega arith)
-            (more (fresh e.1 ∷ fresh e.0 ∷ now.cells) (s.place + 1) (ahead-one way.plan.code first s.place (code.turn 2) (at ∙ l))
-            (record { frame = ap (λ l. None ∷ None ∷ l) outside.frame; deep = (let deep = outside.deep in omega arith) }) refl)
 
     -- a turn from its first instruction on
     turn-leads : NodesLead body → (e : Element) (es : List Element) (k : ℕ) (cs : List Cell) (s : State) → ways.who_of s ≡ way.who
@@ -307,7 +298,8 @@ module _ (way : Way) (calls : Calls) (spare : ℕ) where
     next-leads ih [] k here r h t tu =
         nexts [] k here r t tu
         (leaves r (record t { cells = tu.cs; dot = d; place = t.place + 1 + tu.skip }) h
-        (record { at = ahead way.plan.code tu.more t.place tu.skip (code.next tu.n tu.skip line) tu.at ∙ tu.far; runs = tu.runs; cells = tu.under }) refl tu.run)
+        (record { at = ahead way.plan.code tu.more t.place tu.skip (code.next tu.n tu.skip line) tu.at ∙ tu.far; runs = tu.runs; cells = tu.under })
+        refl tu.run)
     next-leads ih (e ∷ es) k here r h t tu =
         nexts (e ∷ es) k here r t tu (on (λ r h t tu. next-leads ih es (suc k) (one-less (elements_in (elements v)) (suc k) e es here) r h t tu)
         (nat_eq t.left 0) (subst (λ r. ways.After way B g (others (e ∷ es) r)) (sym tu.run) h))

@@ -35,7 +35,8 @@ execute-requires g c =
     let lands = going.lands inv items code item.is (omega (arith, fits)) in
     let count = inv.given.count in
     let few = c.requires.countable in
-    λ κs h. (h, (refl, (omega (arith, inside, fits), (omega (arith, deep), (cells-fit c.loop-stop.self.stack, (has, (lands, (omega (arith, count, few), (code, inside)))))))))
+    let within = cells-fit c.loop-stop.self.stack in
+    λ κs h. (h, (refl, (omega (arith, inside, fits), (omega (arith, deep), (within, (has, (lands, (omega (arith, count, few), (code, inside)))))))))
 
 pub loop-stop-smaller : goal.loop-stop-smaller
 loop-stop-smaller g c =
