@@ -271,10 +271,6 @@ pub turns_part : (ts : List Template) (b : Binding) (ns : Nodes) → AllEnd (Tur
 turns_part ts b ns lay exit code rest l =
     ends_both (turn_ends b (None ∷ None ∷ lay) code l.0 l.1) (nodes_ends ts ns (bound_on b (None ∷ None ∷ lay)) exit l.0 rest l.2)
 
-pub on_ok : {T E : Type 0} (r : Result T E) (P Q : Type 0) → (P → Q) → OnOk r P → OnOk r Q
-on_ok (Ok x) P Q f p = f p
-on_ok (Err e) P Q f p = tt
-
 -- ---- a part with its end, and controls
 
 module _ (ts : List Template) {e : Option held_around.Around} {old : Compiler} (h : IsOpen e (code_of old.code) (layout_of old.scope)) where

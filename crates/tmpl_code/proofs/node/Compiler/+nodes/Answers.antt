@@ -1,10 +1,11 @@
 use Rattle.std.proofs.Common.{◌∙◌, ◌-◌, ◌∷◌, length, refl, ap, arith}
+use Rattle.std.proofs.lemmas.Result.{on_ok_weaker}
 use Rattle.tmpl_grammar.specs.View.{binding_of, header_of}
 use Rattle.tmpl_syntax.specs.View.{nodes_in, set_view}
 use Rattle.tmpl_code.specs.computed.Held.{code_of, layout_of}
 use Rattle.tmpl_code.proofs.NodeLemmas.{item-weight}
 use Rattle.tmpl_code.proofs.TailLemmas as tail
-use Rattle.tmpl_code.proofs.TailLemmas.{dotted_part, end_ends, ended_part, nodes_ends, on_ok, open_on, turns_part, ends_one, longer}
+use Rattle.tmpl_code.proofs.TailLemmas.{dotted_part, end_ends, ended_part, nodes_ends, open_on, turns_part, ends_one, longer}
 use Rattle.tmpl_code.proofs.node.Compiler.+nodes.Goals as goal
 
 pub put_nodes-put_node-requires : goal.put_nodes-put_node-requires
@@ -37,7 +38,7 @@ put_ended-put_part-requires t c =
 pub put_ended-returns : goal.put_ended-returns
 put_ended-returns t c =
     let a = c.args in
-    on_ok _ _ _ (λ p. tail.put_ended (set_view a.site.set.now) c.requires (binding_of a.binding.now) (nodes_in a.nodes.now) a.skip _ refl
+    on_ok_weaker _ (λ p. tail.put_ended (set_view a.site.set.now) c.requires (binding_of a.binding.now) (nodes_in a.nodes.now) a.skip _ refl
     c.in_ok-declared_by.ensures c.in_ok-put_end.ensures p) c.put_part.ensures
 
 pub put_if-since-requires : goal.put_if-since-requires
@@ -57,7 +58,7 @@ pub put_if-returns : goal.put_if-returns
 put_if-returns t c =
     let a = c.args in
     let p = a.parts in
-    on_ok _ _ _ (λ headed. tail.put_if (set_view a.site.set.now) c.requires (header_of p.header.now) (nodes_in p.body.now) (nodes_in p.other.now)
+    on_ok_weaker _ (λ headed. tail.put_if (set_view a.site.set.now) c.requires (header_of p.header.now) (nodes_in p.body.now) (nodes_in p.other.now)
     c.in_ok-to.to c.in_ok-skip.skip c.declares-kept.result c.in_ok-put_ended.ensures c.in_ok-put_ended-2.ensures
     (c.in_ok-to.ensures ∙ ap (λ n. length (code_of c.put_ended.new.self.code) - n) c.len-end.ensures)
     (c.in_ok-skip.ensures ∙ ap (λ n. length (code_of c.put_ended-2.new.self.code) - n) c.len-second.ensures) c.declares-kept.ensures c.in_ok-push.ensures refl
@@ -85,7 +86,7 @@ pub put_with-returns : goal.put_with-returns
 put_with-returns t c =
     let a = c.args in
     let p = a.parts in
-    on_ok _ _ _ (λ headed. tail.put_with (set_view a.site.set.now) c.requires (header_of p.header.now) (nodes_in p.body.now) (nodes_in p.other.now)
+    on_ok_weaker _ (λ headed. tail.put_with (set_view a.site.set.now) c.requires (header_of p.header.now) (nodes_in p.body.now) (nodes_in p.other.now)
     c.in_ok-skip.skip c.in_ok-skip-2.skip _ _ c.declares-kept.result
     c.in_ok-put_ended.ensures refl c.in_ok-push.ensures c.in_ok-put_dotted_part.ensures
     (c.in_ok-short.ensures.value ∙ c.in_ok-declared_in.ensures) (c.in_ok-short-2.ensures.value ∙ c.declared_count.ensures)
@@ -116,7 +117,7 @@ pub put_range-returns : goal.put_range-returns
 put_range-returns t c =
     let a = c.args in
     let p = a.parts in
-    on_ok _ _ _ (λ piped. tail.put_range (set_view a.site.set.now) c.requires (header_of p.header.now) (nodes_in p.body.now) (nodes_in p.other.now)
+    on_ok_weaker _ (λ piped. tail.put_range (set_view a.site.set.now) c.requires (header_of p.header.now) (nodes_in p.body.now) (nodes_in p.other.now)
     a.line c.in_ok-skip.skip c.in_ok-skip-2.skip _ _ c.declares_key-key.result
     _ refl (c.in_ok-short.ensures.value ∙ c.in_ok-declared_in.ensures)
     c.in_ok-put_end.ensures c.in_ok-put_nodes.ensures refl c.in_ok-push.ensures c.len-after.ensures refl c.len-below.ensures c.in_ok-put_turns.ensures
