@@ -14,9 +14,9 @@ use Rattle.tmpl_syntax.specs.Tree.{NodeKind, Nodes, Tree, text, action, control_
 use Rattle.tmpl_syntax.specs.Set.{Template, tree_named}
 use Rattle.tmpl_meaning.specs.Fault.{Cause}
 use Rattle.tmpl_meaning.specs.Pipeline.{Environment, Place, pipeline_value}
-use Rattle.tmpl_meaning.specs.Meaning.{Calls, End, Next, Rules, Run, Setting, apart, broke, calls_within, choosing, controlled, done, faulted, handing, meanings}
-use Rattle.tmpl_meaning.specs.Meaning.{on_end, on_turn, one_of, over, run_called, setting_of, shown, spend, spend_if, stepped, turn, turns, uncalled, visited}
-use Rattle.tmpl_meaning.specs.Meaning.{with_bound, with_pipeline, with_value, without_key}
+use Rattle.tmpl_meaning.specs.Meaning.{Calls, End, Next, Rules, Run, Setting, apart, broke, calls_within, choosing, controlled, done, faulted, handing}
+use Rattle.tmpl_meaning.specs.Meaning.{meanings, on_end, on_turn, one_of, over, run_called, setting_of, shown, spend, spend_if, stepped, turn, turns, uncalled}
+use Rattle.tmpl_meaning.specs.Meaning.{visited, with_bound, with_pipeline, with_value, without_key}
 
 -- each pipeline of a node, and of nodes, is such
 abbrev mutual

@@ -29,7 +29,7 @@ use Rattle.tmpl_run.specs.State.{Plan, State}
 use Rattle.tmpl_run.specs.computed.Came.{Came, ComesTo, IsStopped, no_template}
 use Rattle.tmpl_run.specs.computed.Machines.{Told, state_of}
 use Rattle.tmpl_run.specs.computed.Plain.{IsPlain, SparedOr}
-use Rattle.tmpl_run.specs.computed.Turned.{Executed, IsThere, Lands, Shown, TurnedBy, added, at_once, is_shown, mark_behind, put_by, put_out, text_in}
+use Rattle.tmpl_run.specs.computed.Turned.{Executed, IsThere, Lands, Shown, TurnedBy, added, at_once, mark_behind, put_by, put_out, text_in}
 use Rattle.tmpl_run.specs.computed.Turned.{told_behind, value_by}
 use Rattle.tmpl_run.specs.computed.View.{size_of}
 use Rattle.tmpl_run.specs.declared.fault.RunError.{RunError}
@@ -41,7 +41,7 @@ use Rattle.tmpl_run.specs.declared.halt.Halt.TheVariants as stop
 use Rattle.tmpl_run.specs.declared.machine.Machine.{Machine}
 use Rattle.tmpl_run.proofs.DoneLemmas.{ends-so, falls, finds, goes-on, is-next, ready, some-template, within-code, work, after_past, done-past, each-lessens}
 use Rattle.tmpl_run.proofs.DoneLemmas.{mark-stays, mark_next, next-depth, past-again, text-begins, with_past}
-use Rattle.tmpl_run.proofs.ShownLemmas.{ends-shown, mark-once, puts-once, quiet-once, shown-once, shown-within}
+use Rattle.tmpl_run.proofs.ShownLemmas.{Once, ends-shown, once-is, shown-within}
 
 -- what is told of a run that has put nothing out yet, in the template that a machine runs
 abbrev pub told_at : Plan → Machine → Told
@@ -161,36 +161,30 @@ module _ {plan : Plan} {end : Ran} {m : Machine} {before now : Puts} (inv : Stan
           by (inr (left, inr (depth, place))) = omega arith
 
       module _ (at-once : once ≡ true) where
-        -- the first of three instructions puts nothing out
-        quiet : added i s ≡ []
-        quiet = quiet-once plan.code m.place i s at-once
+        first : Once plan told.template i s
+        first = once-is plan told.template i s at-once
 
         behind-three : (n : Machine) → Shown told i m n (Ok flow.On) → Behind n (text_in (value_by plan i s))
         behind-three n step = by (value_by plan i s) refl step.0
           where
-            shown : is_shown plan.code m.place ≡ true
-            shown = shown-once plan.code m.place i at-once
-
             by : (r : Result Value Cause) → value_by plan i s ≡ r → IsThere r → Behind n (text_in r)
             by (Err cause) e there = absurd there
             by (Ok v) e there = record {
               ends = subst (λ u. Ends plan room u end)
                   ((λ j. record s { text = text j; made_text = made j; place = m.place + 3 })
                   ∙ (λ j. with_past (inv.text ++ text_of v) (inv.made || mark_behind i false) (sym step.1 j)))
-                  (ends-shown plan room end i told.template past here runs shown v
-                  (shifted (goes (record s { cells = fresh v ∷ s.cells; place = s.place + 1 }))
-                  (puts-once plan.code m.place plan told.template i s v at-once e))
-                  inv.ends);
+                  (ends-shown plan room end i told.template past here runs first.shown v
+                  (shifted (goes (record s { cells = fresh v ∷ s.cells; place = s.place + 1 })) (first.puts v e)) inv.ends);
               depth = let deep = ap (λ (u : State). u.depth) step.1 in let left = ap (λ (u : State). u.left) step.1 in omega (arith, deep, left);
               less = subst (λ u. work (length plan.code) u < work (length plan.code) s) (sym step.1)
-                  (let inside = shown-within plan room end i told.template past here runs shown in omega arith);
+                  (let inside = shown-within plan room end i told.template past here runs first.shown in omega arith);
             }
               where
                 text : (inv.text ++ []) ++ text_of v ≡ (inv.text ++ text_of v) ++ []
                 text = ap (λ l. l ++ text_of v) (append-nil inv.text) ∙ sym (append-nil (inv.text ++ text_of v))
 
                 made : (inv.made || false) ≡ ((inv.made || mark_behind i false) || false)
-                made = sym (or-false (inv.made || mark_behind i false) ∙ ap (λ b. inv.made || b) (mark-once plan.code m.place i at-once))
+                made = sym (or-false (inv.made || mark_behind i false) ∙ ap (λ b. inv.made || b) first.mark)
 
       behind : (n : Machine) (b : Bool) → once ≡ b → TurnedBy b told i m n (Ok flow.On) → Behind n (put_out b told i m (Ok flow.On))
       behind n false e step = behind-one n step
@@ -283,8 +277,8 @@ module _ {plan : Plan} {end : Ran} {m : Machine} {before now : Puts} (inv : Stan
                 → (mark_behind i false ≡ false → IsPlain m → SparedOr {A = Flow} (Err halt) Q)
                 → IsStopped (slice_get plan.templates m.template) n.line halt e → Came end before after (Err e)
             by false o (stop.Fault kind) step more spared is = faulted kind e step more is
-            by true o (stop.Fault kind) step more spared is = faulted kind e step (IsPut-along more (sym (quiet o))) is
+            by true o (stop.Fault kind) step more spared is = faulted kind e step (IsPut-along more (sym (first o).quiet)) is
             by false o stop.WriteFailed step more spared is = cut e _ is (behind n false o step) more
             by true o stop.WriteFailed step more spared is = cut e _ is (behind n true o step) more
             by false o stop.OutOfMemory step more spared is = refused e is step more spared
-            by true o stop.OutOfMemory step more spared is = refused e is (quiet o) (IsPut-along more (sym (quiet o))) spared
+            by true o stop.OutOfMemory step more spared is = refused e is (first o).quiet (IsPut-along more (sym (first o).quiet)) spared

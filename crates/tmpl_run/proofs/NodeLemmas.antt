@@ -301,13 +301,15 @@ module _ (way : Way) (calls : Calls) (spare : ℕ) where
       (let size = over.size in let deep = st.cells.deep in let less = below.size in omega arith)
       (subst (λ cs. Comes (ways.Leading way) (top cs (λ c cs. goes (record u { cells = drop (declared_count b) cs; dot = c.val; place = u.place + 1 + to })))
       way.end) (sym one.cells)
-      (k _
-      (record { at = ahead way.plan.code more u.place to (code.end_with n (declared_count b) to) st.at ∙ far; runs = st.runs; cells = dropped below one.under }) refl
+      (k _ (record { at = there; runs = st.runs; cells = dropped below one.under }) refl
       (ap (λ (v : Environment). record (run_of big u) { env = v })
       (env-dropped below one.under ∙ ap (oldest (named lay)) (sym one.env ∙ env-dropped over st.cells))
       ∙ ways.cut-twice (named lay) (named (bound_on b lay)) (run_of big u) (named-less below)
       ∙ ap (cut_to (named lay)) is)))
     where
+      there : drop (u.place + 1 + to) way.plan.code ≡ rest
+      there = ahead way.plan.code more u.place to (code.end_with n (declared_count b) to) st.at ∙ far
+
       below : Over (declared_count b) (bound_on b lay) lay (bound_in b fr) fr
       below = over-binding b lay fr
 

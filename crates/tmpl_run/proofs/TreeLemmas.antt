@@ -68,17 +68,15 @@ Left ts room n number base = (rest : List ℕ) → IsChain ts number rest → le
 abbrev called_frame : Cell → Cell → List Cell → Frame
 called_frame back saved cs = None ∷ Some back ∷ Some saved ∷ below cs
 
+saved-below : (ds : List Cell) → frame_of (None ∷ None ∷ []) ds ≡ below ds
+saved-below [] = refl
+saved-below (b ∷ []) = refl
+saved-below (b ∷ d ∷ ds) = refl
+
 framed : (ds : List Cell) (back saved : Cell) (cs : List Cell) → frame_of first_layout ds ≡ called_frame back saved cs
     → (c : Cell) × (ds ≡ c ∷ back ∷ saved ∷ cs)
 framed [] back saved cs e = cc
-framed (c ∷ []) back saved cs e = let no : [] ≡ Some back ∷ Some saved ∷ below cs = ap (drop 1) e in cc
-framed (c ∷ b ∷ []) back saved cs e = let no : [] ≡ Some saved ∷ below cs = ap (drop 2) e in cc
-framed (c ∷ b ∷ d ∷ ds) back saved cs e =
-    let first : Some b ∷ Some d ∷ below ds ≡ Some back ∷ Some saved ∷ below cs = ap (drop 1) e in
-    let second : Some d ∷ below ds ≡ Some saved ∷ below cs = ap (drop 1) first in
-    let same : b ≡ back = cc in
-    let same-too : d ≡ saved = cc in
-    (c, ap (λ x. c ∷ x ∷ d ∷ ds) same ∙ ap (λ x. c ∷ back ∷ x ∷ ds) same-too ∙ ap (λ l. c ∷ back ∷ saved ∷ l) (below-same ds cs (ap (drop 1) second)))
+framed (c ∷ ds) back saved cs e = (c, ap (λ l. c ∷ l) (below-same ds (back ∷ saved ∷ cs) (sym (saved-below ds) ∙ ap (drop 1) e)))
 
 -- a template from its start, inside which so many calls may still be made
 abbrev pub TemplateLeads : Plan → ℕ → Ran → ℕ → Type 0

@@ -245,5 +245,4 @@ module _ (way : Way) where
       → Stands way.plan way.who end big high s → Over n big lay high low → drop skip more ≡ rest → s.dot ≡ d → run_of big s ≡ r
       → Onward rest lay low d (cut_to (named lay) r) → Leading s
   closes zero zero more rest d r s e st over far same is k = closed s.place rest d r s (st.at ∙ e ∙ far) st over same is k
-  closes zero (suc skip) more rest d r s e st over far same is k = forgets 0 (suc skip) more rest d r s e st over far same is k
-  closes (suc n) skip more rest d r s e st over far same is k = forgets (suc n) skip more rest d r s e st over far same is k
+  closes n skip more rest d r s e st over far same is k = forgets n skip more rest d r s e st over far same is k
