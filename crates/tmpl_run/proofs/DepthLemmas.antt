@@ -45,9 +45,8 @@ module _ (s : Setting) (depth : ℕ) (calls : Calls) where
 
   over-same : (line : ℕ) (b : Binding) (body : Value → Next) (els : Next) (o : Option (List Element)) (r : Run)
       → over other line b body els o r ≡ over s line b body els o r
-  over-same line b body els None r = refl
-  over-same line b body els (Some []) r = refl
   over-same line b body els (Some (e ∷ es)) r = turns-same line b body (e ∷ es) r
+  over-same line b body els _ r = refl
 
   controlled-same : (line : ℕ) (c : Control) (h : Header) (d : Value) (body : Value → Next) (els : Next) (r : Run)
       → controlled other line c h d body els r ≡ controlled s line c h d body els r

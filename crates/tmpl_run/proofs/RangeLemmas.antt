@@ -171,10 +171,9 @@ module _ (way : Way) (calls : Calls) (spare : ℕ) where
       where
         by : (w : End) → ways.After way B g (on_turn w (cut_to (named lay) x.0) (others es))
             → ways.Then way (λ r. (t : State) → behind k (cut_to (named lay) r) t → ways.Leading way t) (Some (turning k)) x.0 w
-        by meaning.done h = next (cut_to (named lay) x.0) h
         by meaning.broke h = λ t st dot run. leaves (cut_to (named lay) x.0) t h st dot run
-        by meaning.continued h = next (cut_to (named lay) x.0) h
         by (meaning.faulted w) h = h
+        by _ h = next (cut_to (named lay) x.0) h
 
     -- the instruction behind a turn is the end of the turn
     body-ends : (k : ℕ) (dot : Value) (r : Run) → ((t : State) → behind k (cut_to (named lay) r) t → ways.Leading way t)

@@ -123,9 +123,8 @@ top-is (c ∷ cs) go h = refl
 
 -- .. and two of them
 pub ring-is : (cs : List Cell) (go : Cell → Cell → List Cell → Turn) → 2 ≤ length cs → ring cs go ≡ go (slot_cell 0 cs) (slot_cell 1 cs) (drop 2 cs)
-ring-is [] go h = absurd (omega arith)
-ring-is (c ∷ []) go h = absurd (omega arith)
 ring-is (c ∷ d ∷ cs) go h = refl
+ring-is _ go h = absurd (omega arith)
 
 pub length-drop-cells : (n : ℕ) (cs : List Cell) → length (drop n cs) ≡ length cs - n
 length-drop-cells n cs = length-drop n cs

@@ -145,10 +145,8 @@ module _ (way : Way) (first : 1 ≤ way.who.depth) (linked : Starts way.plan.tem
 
         by : (e : End) → ways.Then way (ways.Onward way rest lay fr s.dot) g (record x.0 { env = env_of lay s.cells }) (left_by e)
             → ways.Then callee (ways.Leaves callee) None x.0 e
-        by meaning.done k = back k
-        by meaning.broke k = back k
-        by meaning.continued k = back k
         by (meaning.faulted w) k = k
+        by _ k = back k
 
     -- the call itself, with its value on the stack
     invokes : (m : ℕ) → TemplateLeads way.plan way.room way.end m → way.who.depth + suc m ≡ way.plan.rules.depth_limit
@@ -418,7 +416,5 @@ module _ (plan : Plan) (room : ℕ) (linked : Starts plan.templates plan.templat
           (ap (λ (r : Run). seen r None) same ∙ is))
 
       by : (e : End) → x.1 ≡ e → ways.Then (way_of plan room f who me is-me home) (ways.Leaves (way_of plan room f who me is-me home)) None x.0 e
-      by meaning.done e = leaves (λ j. ran_of (x.0, sym e j))
-      by meaning.broke e = leaves (λ j. ran_of (x.0, sym e j))
-      by meaning.continued e = leaves (λ j. ran_of (x.0, sym e j))
       by (meaning.faulted w) e = λ j. ran_of (x.0, sym e j)
+      by _ e = leaves (λ j. ran_of (x.0, sym e j))

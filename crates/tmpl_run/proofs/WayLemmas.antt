@@ -191,9 +191,7 @@ module _ (way : Way) where
 
   pub then-map : (A B : Run → Type 0) (g : Option Ring) (r : Run) (e : End) → ((r : Run) → A r → B r) → Then A g r e → Then B g r e
   then-map A B g r meaning.done h k = h r k
-  then-map A B g r meaning.broke h k = k
-  then-map A B g r meaning.continued h k = k
-  then-map A B g r (meaning.faulted w) h k = k
+  then-map A B g r _ h k = k
 
   pub then-on : (A : Run → Type 0) (g : Option Ring) (r : Run) (e : End) (go : Next) → After A g (on_end e r go) → Then (λ r. After A g (go r)) g r e
   then-on A g r meaning.done go k = k
