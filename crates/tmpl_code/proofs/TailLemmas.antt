@@ -281,8 +281,7 @@ module _ (ts : List Template) {e : Option held_around.Around} {old : Compiler} (
     code = (
       code_of mid.code,
       put_on {P = BoundPart ts b ns} old h (end_ends n skip (code_of mid.code) (code_of old.code) end) same p,
-      subst
-          (λ k. EndAt k skip (code_of mid.code) (code_of old.code)) count end,
+      subst (λ k. EndAt k skip (code_of mid.code) (code_of old.code)) count end,
     );
     scope = p.scope ∙ same;
   }

@@ -1,10 +1,10 @@
 -- For `turns` and the laws `each_turn_lessens`, `only_adds`, `mark_stays`, `stays_within` and `one_end`: `does` goes over the instructions once. The turn
 -- of each is that over no text and no mark, told behind those that were there; it lessens the measure and keeps the cells within the stack.
 use Rattle.std.proofs.lemmas.Bool.Decides.{nat_tests}
-use Rattle.std.proofs.Common.{arith, inl, inr, ◌≡◌, ◌≢◌, ◌∙◌, ◌+◌, ◌-◌, ◌*◌, ◌<◌, ◌≤◌, ◌||◌, ◌++◌, nat_eq, nat_lt, ℕ, zero, suc, Bool, true, false, List, [], ◌∷◌}
-use Rattle.std.proofs.Common.{length, drop, take, reverse, refl, ap, sym, subst, Option, Some, None, Result, Ok, Err, append-nil, append_assoc, length-drop}
+use Rattle.std.proofs.Common.{arith, inl, inr, ◌≡◌, ◌≢◌, ◌∙◌, ◌+◌, ◌-◌, ◌*◌, ◌<◌, ◌≤◌, ◌||◌, ◌++◌, nat_eq, nat_lt, ℕ, zero, suc, Bool, true, false, List, []}
+use Rattle.std.proofs.Common.{◌∷◌, length, drop, take, reverse, refl, ap, sym, subst, Option, Some, None, Result, Ok, Err, append-nil, append_assoc}
 use Rattle.std.proofs.Math.Bool.{or-false, or_assoc}
-use Rattle.std.proofs.lemmas.List.{length-set}
+use Rattle.std.proofs.lemmas.List.{length-drop, length-set}
 use Rattle.std.specs.Prelude.{slice_get}
 use Rattle.std.proofs.lemmas.Option.{slice_get_within}
 use Rattle.std.proofs.Math.Nat.{mul-le-mul_right, suc-mul}
