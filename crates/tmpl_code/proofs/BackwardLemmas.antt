@@ -36,14 +36,8 @@ junction_more lay above is_or piped os i o last new mid more old h is e put at o
     go os piped true true e put others none = put ∙ none refl
     go os piped true false e put others none = cc
     go os piped false true e put others none = cc
-    go os piped false false e put others none = (
-      length more - length old,
-      more,
-      put,
-      others,
-      passes old more
-          (junction_ends is_or os piped above lay more old others),
-    )
+    go os piped false false e put others none =
+        (length more - length old, more, put, others, passes (junction_ends is_or os piped above lay more old others) refl)
 
     none : (os : Operands) (piped : Bool) → is_last os piped ≡ true → JunctionAt is_or os piped above lay more old → more ≡ old
     none no_operand false e l = l

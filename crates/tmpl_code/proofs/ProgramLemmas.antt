@@ -10,8 +10,7 @@ use Rattle.tmpl_code.specs.computed.Held.{last_of, places, LastStarts}
 use Rattle.tmpl_code.proofs.TailLemmas.{Ends, ends_under, longer, nodes_ends, last-on}
 
 tree_ends : (all : List Template) (ns : Nodes) (code rest : Code) → TreeAt all ns code rest → Ends rest code
-tree_ends all ns code rest l = ends_under (return_from (declared_in ns)) code rest
-    (nodes_ends all ns first_layout None code (return_from (declared_in ns) ∷ rest) l)
+tree_ends all ns code rest l = ends_under (nodes_ends all ns first_layout None code (return_from (declared_in ns) ∷ rest) l)
 
 -- where code stands that is put before other code, the others stand as before
 starts_on : (all ts : List Template) (ns : List ℕ) (old new : Code) → Ends old new → LastStarts all ts ns old → LastStarts all ts ns new
@@ -19,7 +18,7 @@ starts_on all [] [] old new e s = tt
 starts_on all [] (n ∷ ns) old new e s = absurd s
 starts_on all (t ∷ ts) [] old new e s = absurd s
 starts_on all (t ∷ ts) (n ∷ ns) old new e s =
-    let more = longer old new e in
+    let more = longer e in
     let within = s.0 in
     let same : last_of n new ≡ last_of n old = ap (last_of n) e.is ∙ last-on e.front old n s.0 in
     (omega arith, (s.1.0, subst (λ (c : Code). TreeAt all t.1.nodes c s.1.0) (sym same) s.1.1), starts_on all ts ns old new e s.2)

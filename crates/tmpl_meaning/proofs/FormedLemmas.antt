@@ -22,7 +22,7 @@ use Rattle.tmpl_syntax.specs.Formed.{is_among, are_among, declared_to, else_scop
 use Rattle.tmpl_syntax.proofs.FormedLemmas.{control-formed, or-left, or-right}
 use Rattle.tmpl_meaning.specs.Fault.{Cause}
 use Rattle.tmpl_meaning.specs.Meaning.{Calls, End, Next, Rules, Run, Setting, after, without_key, assigned, bound, broke, run_called, oldest}
-use Rattle.tmpl_meaning.specs.Meaning.{calls_within, choosing, continued, controlled, done, faulted, handing, left_by, meanings, on_end}
+use Rattle.tmpl_meaning.specs.Meaning.{calls_within, choosing, controlled, done, faulted, handing, left_by, meanings, on_end}
 use Rattle.tmpl_meaning.specs.Meaning.{on_turn, after_turn, one_of, over, scope, scoped, setting_of, shown, spend, spend_if, stepped, turn, turns}
 use Rattle.tmpl_meaning.specs.Meaning.{uncalled, visited, with_bound, with_given, with_pipeline, with_value}
 use Rattle.tmpl_meaning.specs.Pipeline.{Environment, Given, pipeline_value}
@@ -49,9 +49,7 @@ start-full ns = list_any-append (bytes_eq []) ns ([] ∷ []) ∙ or-right (is_am
 -- a binding before `$` is one before the names
 declared-full : (b : Binding) (ns : List Name) → declared_to b (full ns) ≡ full (declared_to b ns)
 declared-full unbound ns = refl
-declared-full (declare name) ns = refl
-declared-full (assign name) ns = refl
-declared-full (declare_pair key name) ns = refl
+declared-full _ ns = refl
 
 -- ---- variables
 
@@ -76,18 +74,14 @@ assigned-same name x (v ∷ env) older e =
     go false h more = ap (λ vs. v ∷ vs) (more h)
 
 bound-names : (b : Binding) (e : Element) (env : Environment) → names (bound b e env) ≡ declared_to b (names env)
-bound-names unbound e env = refl
-bound-names (declare name) e env = refl
 bound-names (assign name) e env = assigned-names name e.1 env
-bound-names (declare_pair key name) e env = refl
+bound-names _ e env = refl
 
 bound-same : (b : Binding) (e : Element) (env older : Environment) → is_among (names env) [] ≡ true → are_among (names env) (assigned_by b) ≡ true
     → bound b e (env ++ older) ≡ bound b e env ++ older
-bound-same unbound e env older start k = refl
-bound-same (declare name) e env older start k = refl
 bound-same (assign []) e env older start k = assigned-same [] e.1 env older start
 bound-same (assign (c ∷ cs)) e env older start k = assigned-same (c ∷ cs) e.1 env older (and_parts (is_among (names env) (c ∷ cs)) true k).0
-bound-same (declare_pair key name) e env older start k = refl
+bound-same _ e env older start k = refl
 
 -- ---- what holds behind a part of a run
 
@@ -137,16 +131,12 @@ on_end-holds : (loop : Bool) (middle : List Name) (r q : Run) (end : End) (go : 
     → Longer r.env (on_end end q go).0.env × (loop ≡ false → IsOver (on_end end q go).1)
     × ((older : Environment) → on_end end (with_older older q) go ≡ (with_older older (on_end end q go).0, (on_end end q go).1))
 on_end-holds loop middle r q done go n l o h = let g = h q (n tt) in (longer-on r.env q.env (go q).0.env l g.0, g.1, g.2)
-on_end-holds loop middle r q broke go n l o h = (l, o, λ older. refl)
-on_end-holds loop middle r q continued go n l o h = (l, o, λ older. refl)
-on_end-holds loop middle r q (faulted f) go n l o h = (l, o, λ older. refl)
+on_end-holds loop middle r q _ go n l o h = (l, o, λ older. refl)
 
 on_end-names : (middle left : List Name) (q : Run) (end : End) (go : Next) → (IsDone end → names q.env ≡ middle)
     → ((p : Run) → names p.env ≡ middle → IsDone (go p).1 → names (go p).0.env ≡ left) → IsDone (on_end end q go).1 → names (on_end end q go).0.env ≡ left
 on_end-names middle left q done go n h d = h q (n tt) d
-on_end-names middle left q broke go n h d = absurd d
-on_end-names middle left q continued go n h d = absurd d
-on_end-names middle left q (faulted f) go n h d = absurd d
+on_end-names middle left q _ go n h d = absurd d
 
 after-leaves : (loop : Bool) (middle left : List Name) (part go : Next) (r : Run) → Leaves loop (These middle) part r
     → ((p : Run) → names p.env ≡ middle → Leaves loop (These left) go p) → Leaves loop (These left) (λ q. after (part q) go) r
@@ -238,10 +228,9 @@ module _ (b : Binding) (e : Element) (r : Run) (start : is_among (names r.env) [
   bound-longer = by b (bound-names b e r.env)
     where
       by : (c : Binding) → names (bound b e r.env) ≡ declared_to c (names r.env) → Longer r.env (bound b e r.env)
-      by unbound h = ([], h)
       by (declare name) h = (name ∷ [], h)
-      by (assign name) h = ([], h)
       by (declare_pair key name) h = (name ∷ key ∷ [], h)
+      by _ h = ([], h)
 
 binds-leaves : (loop : Bool) (b : Binding) (e : Element) (r : Run) → is_among (names r.env) [] ≡ true → are_among (names r.env) (assigned_by b) ≡ true
     → Leaves loop (These (declared_to b (names r.env))) (λ q. (with_bound b e q, done)) r
@@ -252,9 +241,7 @@ binds-leaves loop b e r start assigns =
 shown-leaves : (loop : Bool) (b : Binding) (v : Value) (r : Run) → is_among (names r.env) [] ≡ true → are_among (names r.env) (assigned_by b) ≡ true
     → Leaves loop (These (declared_to b (names r.env))) (shown b v) r
 shown-leaves loop unbound v r start assigns = ((([], refl), λ e. tt, λ older. refl), λ d. refl)
-shown-leaves loop (declare name) v r start assigns = binds-leaves loop (declare name) (without_key v) r start assigns
-shown-leaves loop (assign name) v r start assigns = binds-leaves loop (assign name) (without_key v) r start assigns
-shown-leaves loop (declare_pair key name) v r start assigns = binds-leaves loop (declare_pair key name) (without_key v) r start assigns
+shown-leaves loop b v r start assigns = binds-leaves loop b (without_key v) r start assigns
 
 -- ---- controls
 
@@ -314,10 +301,9 @@ turn-turned s line b body e r start assigns h =
 on_turn-ends : (r q : Run) (end : End) (go : Next) → names q.env ≡ names r.env → ((p : Run) → names p.env ≡ names r.env → Ends go p)
     → (names (on_turn end q go).0.env ≡ names r.env) × IsOver (on_turn end q go).1
     × ((older : Environment) → on_turn end (with_older older q) go ≡ (with_older older (on_turn end q go).0, (on_turn end q go).1))
-on_turn-ends r q done go n h = let g = h q n in (g.0 ∙ n, g.1, g.2)
 on_turn-ends r q broke go n h = (n, tt, λ older. refl)
-on_turn-ends r q continued go n h = let g = h q n in (g.0 ∙ n, g.1, g.2)
 on_turn-ends r q (faulted f) go n h = (n, tt, λ older. refl)
+on_turn-ends r q _ go n h = let g = h q n in (g.0 ∙ n, g.1, g.2)
 
 turns-end : (s : Setting) (line : ℕ) (b : Binding) (body : Value → Next) (ns : List Name) → is_among ns [] ≡ true → are_among ns (assigned_by b) ≡ true
     → ((v : Value) (q : Run) → names q.env ≡ declared_to b ns → Holds true (body v) q) → (es : List Element) (r : Run) → names r.env ≡ ns
@@ -380,9 +366,8 @@ leaves-full : (loop : Bool) (ns ms : List Name) (part : Next) (r : Run) → ns �
 leaves-full loop ns ms part r e h = (h.0, λ d. h.1 d ∙ e)
 
 else-full : (c : Control) (b : Binding) (ns : List Name) → else_scope c b (full ns) ≡ full (else_scope c b ns)
-else-full control.If b ns = declared-full b ns
-else-full control.With b ns = declared-full b ns
 else-full control.Range b ns = refl
+else-full _ b ns = declared-full b ns
 
 module _ (s : Setting) (calls : CallsEnd s.calls) where
   mutual
@@ -429,9 +414,7 @@ module _ (s : Setting) (calls : CallsEnd s.calls) where
 
 left-over : (end : End) → IsOver (left_by end)
 left-over done = tt
-left-over broke = tt
-left-over continued = tt
-left-over (faulted f) = tt
+left-over _ = tt
 
 called-end : (rules : Rules) (calls : Calls) (name : List ℕ) (t : Option Tree)
     → IfOk (run_called rules calls name t) (λ go. (v : Value) (r : Run) → Ends (go v) r)

@@ -6,7 +6,7 @@ use Rattle.std.specs.Cmp.Lexicographic.{nat_list_eq_equiv}
 use Rattle.std.specs.Str.{bytes_eq}
 use Rattle.tmpl_values.specs.Value.{Value, nothing}
 use Rattle.tmpl_funcs.specs.Func.{takes}
-use Rattle.tmpl_grammar.specs.Tree.{Operand, dot, fields, variable, bool_constant, number_constant, text_constant, nil, function, group}
+use Rattle.tmpl_grammar.specs.Tree.{Operand, variable, group}
 use Rattle.tmpl_grammar.specs.Tree.{Operands, no_operand, operand, Pipeline, no_command, command}
 use Rattle.tmpl_syntax.specs.Place.Role.{Name, used_by_operand, used_by_operands, used_by}
 use Rattle.tmpl_syntax.specs.Formed.{is_among, are_among}
@@ -70,13 +70,7 @@ module _ (mode : MissingKey) (d : Value) (env older : Environment) (start : is_a
     operand-same (variable name fs) e = variable-same name fs e
     operand-same (group commands fs) e =
         ap (λ g. given_then g (λ v. given (chain mode fs v))) (commands-same commands None e)
-    operand-same dot e = refl
-    operand-same (fields fs) e = refl
-    operand-same (bool_constant b) e = refl
-    operand-same (number_constant n) e = refl
-    operand-same (text_constant bytes) e = refl
-    operand-same nil e = refl
-    operand-same (function f) e = refl
+    operand-same _ e = refl
 
     operands-same : (os : Operands) → are_among (names env) (used_by_operands os) ≡ true → operand_values far os ≡ operand_values near os
     operands-same no_operand e = refl

@@ -69,10 +69,8 @@ module _ (plan : Plan) (t : Template) (s : State) where
 
   framed : (l : List Cell) (go : Cell → Cell → List Cell → Turn) → 3 ≤ length l
       → frame l go ≡ go (slot_cell 0 (drop 1 l)) (slot_cell 0 (drop 1 (drop 1 l))) (drop 1 (drop 1 (drop 1 l)))
-  framed [] go h = absurd (omega arith)
-  framed (c ∷ []) go h = absurd (omega arith)
-  framed (c ∷ d ∷ []) go h = absurd (omega arith)
   framed (c ∷ d ∷ e ∷ l) go h = refl
+  framed _ go h = absurd (omega arith)
 
   pub return-goes : (n : ℕ) → 1 < s.depth → n + 3 ≤ length s.cells
       → let ds : List Cell = drop 1 (drop n s.cells) in

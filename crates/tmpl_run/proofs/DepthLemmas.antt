@@ -14,9 +14,9 @@ use Rattle.tmpl_syntax.specs.Set.{Template, number_of, tree_named}
 use Rattle.tmpl_syntax.proofs.NamedLemmas.{Named, numbered, unnumbered}
 use Rattle.tmpl_meaning.specs.Fault as fault
 use Rattle.tmpl_meaning.specs.Pipeline.{pipeline_value}
-use Rattle.tmpl_meaning.specs.Meaning.{Calls, Cause, Next, Rules, Run, Setting, after, after_turn, without_key, apart, run_called, calls_within, choosing}
-use Rattle.tmpl_meaning.specs.Meaning.{controlled, handing, meanings, one_of, over, ran_of, ranging, scope, scoped, setting_of, shown, spend, spend_if, started}
-use Rattle.tmpl_meaning.specs.Meaning.{starting_dot, stepped, turn, turns, uncalled, visited, with_bound, with_pipeline, with_value}
+use Rattle.tmpl_meaning.specs.Meaning.{Calls, Cause, Next, Rules, Run, Setting, after, after_turn, without_key, apart, run_called, calls_within}
+use Rattle.tmpl_meaning.specs.Meaning.{controlled, handing, meanings, one_of, over, ran_of, scope, scoped, setting_of, shown, spend, spend_if, started}
+use Rattle.tmpl_meaning.specs.Meaning.{starting_dot, stepped, turns, uncalled, visited, with_bound, with_pipeline, with_value}
 use Rattle.tmpl_code.specs.Calls.{IsChain, NodeNames, NodesName}
 use Rattle.tmpl_run.specs.Laws.{DepthByChains}
 
@@ -38,34 +38,25 @@ module _ (s : Setting) (depth : ℕ) (calls : Calls) where
       let g = pipeline_value (record { missing_key = s.rules.missing_key; dot = d; env = r.env }) p in
       value-same g.result line go (record r { made_text = r.made_text || g.made_text })
 
-  turn-same : (line : ℕ) (b : Binding) (body : Value → Next) (e : Element) (r : Run) → turn other line b body e r ≡ turn s line b body e r
-  turn-same line b body e r = spend-same (nat_eq r.left 0) line (scope (λ r. body e.1 (with_bound b e r))) r
-
   turns-same : (line : ℕ) (b : Binding) (body : Value → Next) (es : List Element) (r : Run) → turns other line b body es r ≡ turns s line b body es r
   turns-same line b body [] r = refl
-  turns-same line b body (e ∷ es) r = λ i. after_turn (turn-same line b body e r i) (λ t. turns-same line b body es t i)
+  turns-same line b body (e ∷ es) r =
+      λ i. after_turn (spend-same (nat_eq r.left 0) line (scope (λ r. body e.1 (with_bound b e r))) r i) (λ t. turns-same line b body es t i)
 
   over-same : (line : ℕ) (b : Binding) (body : Value → Next) (els : Next) (o : Option (List Element)) (r : Run)
       → over other line b body els o r ≡ over s line b body els o r
-  over-same line b body els None r = refl
-  over-same line b body els (Some []) r = refl
   over-same line b body els (Some (e ∷ es)) r = turns-same line b body (e ∷ es) r
-
-  choosing-same : (line : ℕ) (h : Header) (d : Value) (body : Value → Next) (els : Next) (r : Run)
-      → choosing other line h d body els r ≡ choosing s line h d body els r
-  choosing-same line h d body els r = pipeline-same line h.pipeline d (λ v r. one_of (truth v) (body v) els (with_bound h.binding (without_key v) r)) r
-
-  ranging-same : (line : ℕ) (h : Header) (d : Value) (body : Value → Next) (els : Next) (r : Run)
-      → ranging other line h d body els r ≡ ranging s line h d body els r
-  ranging-same line h d body els r =
-      pipeline-same line h.pipeline d (λ v. over other line h.binding body els (visited h.binding v)) r
-      ∙ (λ i. with_pipeline s line h.pipeline d (λ v t. over-same line h.binding body els (visited h.binding v) t i) r)
+  over-same line b body els _ r = refl
 
   controlled-same : (line : ℕ) (c : Control) (h : Header) (d : Value) (body : Value → Next) (els : Next) (r : Run)
       → controlled other line c h d body els r ≡ controlled s line c h d body els r
-  controlled-same line control.If h d body els r = choosing-same line h d (λ v. body d) els r
-  controlled-same line control.With h d body els r = choosing-same line h d body els r
-  controlled-same line control.Range h d body els r = ranging-same line h d body els r
+  controlled-same line control.Range h d body els r =
+      pipeline-same line h.pipeline d (λ v. over other line h.binding body els (visited h.binding v)) r
+      ∙ (λ i. with_pipeline s line h.pipeline d (λ v t. over-same line h.binding body els (visited h.binding v) t i) r)
+  controlled-same line control.If h d body els r =
+      pipeline-same line h.pipeline d (λ v r. one_of (truth v) (body d) els (with_bound h.binding (without_key v) r)) r
+  controlled-same line control.With h d body els r =
+      pipeline-same line h.pipeline d (λ v r. one_of (truth v) (body v) els (with_bound h.binding (without_key v) r)) r
 
   handing-same : (line : ℕ) (given : Option Pipeline) (d : Value) (go : Value → Next) (r : Run) → handing other line given d go r ≡ handing s line given d go r
   handing-same line None d go r = refl

@@ -1,10 +1,10 @@
 -- For `turns` and the laws `each_turn_lessens`, `only_adds`, `mark_stays`, `stays_within` and `one_end`: `does` goes over the instructions once. The turn
 -- of each is that over no text and no mark, told behind those that were there; it lessens the measure and keeps the cells within the stack.
 use Rattle.std.proofs.lemmas.Bool.Decides.{nat_tests}
-use Rattle.std.proofs.Common.{arith, inl, inr, ◌≡◌, ◌≢◌, ◌∙◌, ◌+◌, ◌-◌, ◌*◌, ◌<◌, ◌≤◌, ◌||◌, ◌++◌, nat_eq, nat_lt, ℕ, zero, suc, Bool, true, false, List, [], ◌∷◌}
-use Rattle.std.proofs.Common.{length, drop, take, reverse, refl, ap, sym, subst, Option, Some, None, Result, Ok, Err, append-nil, append_assoc, length-drop}
+use Rattle.std.proofs.Common.{arith, inl, inr, ◌≡◌, ◌≢◌, ◌∙◌, ◌+◌, ◌-◌, ◌*◌, ◌<◌, ◌≤◌, ◌||◌, ◌++◌, nat_eq, nat_lt, ℕ, zero, suc, Bool, true, false, List, []}
+use Rattle.std.proofs.Common.{◌∷◌, length, drop, take, reverse, refl, ap, sym, subst, Option, Some, None, Result, Ok, Err, append-nil, append_assoc}
 use Rattle.std.proofs.Math.Bool.{or-false, or_assoc}
-use Rattle.std.proofs.lemmas.List.{length-set}
+use Rattle.std.proofs.lemmas.List.{length-drop, length-set}
 use Rattle.std.specs.Prelude.{slice_get}
 use Rattle.std.proofs.lemmas.Option.{slice_get_within}
 use Rattle.std.proofs.Math.Nat.{mul-le-mul_right, suc-mul}
@@ -128,16 +128,13 @@ module _ (size : ℕ) (plan : Plan) (me : Template) (s : State) where
 
   ring-does : {Fit : Type 0} (cs : List Cell) (go : List ℕ → Bool → Cell → Cell → List Cell → Turn)
       → ((c d : Cell) (ds : List Cell) → length cs ≡ suc (suc (length ds)) → Unmarked Fit (λ x m. go x m c d ds)) → Unmarked Fit (λ x m. ring cs (go x m))
-  ring-does [] go h = quiet (λ x m. refl) tt
-  ring-does (c ∷ []) go h = quiet (λ x m. refl) tt
   ring-does (c ∷ d ∷ cs) go h = h c d cs refl
+  ring-does _ go h = quiet (λ x m. refl) tt
 
   frame-does : {Fit : Type 0} (cs : List Cell) (go : List ℕ → Bool → Cell → Cell → List Cell → Turn)
       → ((c d : Cell) (ds : List Cell) → length ds ≤ length cs → Unmarked Fit (λ x m. go x m c d ds)) → Unmarked Fit (λ x m. frame cs (go x m))
-  frame-does [] go h = quiet (λ x m. refl) tt
-  frame-does (c ∷ []) go h = quiet (λ x m. refl) tt
-  frame-does (c ∷ d ∷ []) go h = quiet (λ x m. refl) tt
   frame-does (c ∷ d ∷ e ∷ cs) go h = h d e cs (omega arith)
+  frame-does _ go h = quiet (λ x m. refl) tt
 
   -- ---- the parts of instructions
 
@@ -250,8 +247,7 @@ after_past x m stuck = stuck
 
 tell-past : (x y : List ℕ) (m b : Bool) (u : Turn) → tell (x ++ y) (m || b) u ≡ after_past x m (tell y b u)
 tell-past x y m b (goes t) = refl
-tell-past x y m b (ended r) = refl
-tell-past x y m b stuck = refl
+tell-past x y m b _ = refl
 
 extend-past : (bytes x y : List ℕ) → extend bytes (x ++ y) ≡ x ++ extend bytes y
 extend-past [] x y = refl

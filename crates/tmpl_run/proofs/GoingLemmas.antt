@@ -1,7 +1,8 @@
 -- For `turns`: what the loop of a run keeps from turn to turn, said of a machine and of what was put out, and what it comes to where it ends.
-use Rattle.std.proofs.Common.{arith, inl, inr, ◌≡◌, ◌∙◌, ◌+◌, ◌||◌, ◌++◌, ◌-◌, ◌^◌, ◌<◌, ◌≤◌, ℕ, suc, Bool, true, false, List, [], ◌∷◌, length, get_or, refl}
+use Rattle.std.proofs.Common.{arith, inl, inr, ◌≡◌, ◌∙◌, ◌+◌, ◌||◌, ◌++◌, ◌-◌, ◌^◌, ◌<◌, ◌≤◌, ℕ, Bool, true, false, List, [], ◌∷◌, length, get_or, refl}
 use Rattle.std.proofs.Common.{ap, sym, subst, append-nil, Option, Some, None, Result, Ok, Err}
 use Rattle.std.specs.Prelude.{option_map, slice_get}
+use Rattle.std.proofs.Math.Bool.{or-false}
 use Rattle.std.proofs.lemmas.Bool.{or_parts}
 use Rattle.std.proofs.lemmas.List.{length-map}
 use Rattle.std.proofs.lemmas.Option.{get_or_from_slice_get, slice_get-get_or, slice_get-map}
@@ -13,6 +14,7 @@ use Rattle.tmpl_syntax.specs.Set.{Template}
 use Rattle.tmpl_meaning.specs.Fault.{Cause, Fault}
 use Rattle.tmpl_meaning.specs.Meaning.{Ran}
 use Rattle.tmpl_meaning.specs.View.{cause_of}
+use Rattle.tmpl_meaning.specs.declared.fault.RunFaultKind.{RunFaultKind}
 use Rattle.tmpl_meaning.specs.declared.sink.SinkFault.{SinkFault}
 use Rattle.tmpl_code.specs.Instruction as code
 use Rattle.tmpl_code.specs.Instruction.{Instruction}
@@ -27,9 +29,9 @@ use Rattle.tmpl_run.specs.State.{Plan, State}
 use Rattle.tmpl_run.specs.computed.Came.{Came, ComesTo, IsStopped, no_template}
 use Rattle.tmpl_run.specs.computed.Machines.{Told, state_of}
 use Rattle.tmpl_run.specs.computed.Plain.{IsPlain, SparedOr}
-use Rattle.tmpl_run.specs.computed.Turned.{Executed, IsThere, Lands, Shown, TurnedBy, added, at_once, is_shown, mark_behind, put_by, put_out, text_in}
+use Rattle.tmpl_run.specs.computed.Turned.{Executed, IsThere, Lands, Shown, TurnedBy, added, at_once, mark_behind, put_by, put_out, text_in}
 use Rattle.tmpl_run.specs.computed.Turned.{told_behind, value_by}
-use Rattle.tmpl_run.specs.computed.View.{cells_of, size_of}
+use Rattle.tmpl_run.specs.computed.View.{size_of}
 use Rattle.tmpl_run.specs.declared.fault.RunError.{RunError}
 use Rattle.tmpl_run.specs.declared.fault.RunError.TheVariants as error
 use Rattle.tmpl_run.specs.declared.flow.Flow.{Flow}
@@ -38,8 +40,8 @@ use Rattle.tmpl_run.specs.declared.halt.Halt.{Halt}
 use Rattle.tmpl_run.specs.declared.halt.Halt.TheVariants as stop
 use Rattle.tmpl_run.specs.declared.machine.Machine.{Machine}
 use Rattle.tmpl_run.proofs.DoneLemmas.{ends-so, falls, finds, goes-on, is-next, ready, some-template, within-code, work, after_past, done-past, each-lessens}
-use Rattle.tmpl_run.proofs.DoneLemmas.{mark-stays, mark_next, next-depth, next-within, past-again, text-begins, with_past}
-use Rattle.tmpl_run.proofs.ShownLemmas.{ends-shown, mark-once, puts-once, quiet-once, shown-once, shown-within}
+use Rattle.tmpl_run.proofs.DoneLemmas.{mark-stays, mark_next, next-depth, past-again, text-begins, with_past}
+use Rattle.tmpl_run.proofs.ShownLemmas.{Once, ends-shown, once-is, shown-within}
 
 -- what is told of a run that has put nothing out yet, in the template that a machine runs
 abbrev pub told_at : Plan → Machine → Told
@@ -68,7 +70,6 @@ mark-behind-told _ s told = refl
 
 -- what the loop keeps: behind what was put out so far and the mark, the machine comes to the end
 pub record Stands (plan : Plan) (end : Ran) (m : Machine) (before now : Puts) : Type 0 where
-  pub within : length (cells_of m.stack) ≤ size_of m.stack
   pub depth : m.depth + m.left < 2 ^ 64 - 1
   pub text : List ℕ
   pub made : Bool
@@ -76,10 +77,8 @@ pub record Stands (plan : Plan) (end : Ran) (m : Machine) (before now : Puts) : 
   pub ends : Ends plan (size_of m.stack) (with_past text made (state_of (told_at plan m) m)) end
   pub plain : made ≡ false → IsPlain m
 
-pub starts : (plan : Plan) (end : Ran) (m : Machine) (now : Puts) → ComesTo plan m end
-    → length (cells_of m.stack) ≤ size_of m.stack → IsPlain m → m.depth + m.left < 2 ^ 64 - 1 → Stands plan end m now now
-starts plan end m now ends within plain depth =
-    record { within = within; depth = depth; text = []; made = false; given = IsPut-nil now; ends = ends; plain = λ e. plain }
+pub starts : (plan : Plan) (end : Ran) (m : Machine) (now : Puts) → ComesTo plan m end → IsPlain m → m.depth + m.left < 2 ^ 64 - 1 → Stands plan end m now now
+starts plan end m now ends plain depth = record { depth = depth; text = []; made = false; given = IsPut-nil now; ends = ends; plain = λ e. plain }
 
 module _ {plan : Plan} {end : Ran} {m : Machine} {before now : Puts} (inv : Stands plan end m before now) where
   abbrev pub told : Told
@@ -115,9 +114,6 @@ module _ {plan : Plan} {end : Ran} {m : Machine} {before now : Puts} (inv : Stan
       shifted : (u : Turn) → done plan told.template i s ≡ u → done plan told.template i past ≡ after_past inv.text inv.made u
       shifted u e = done-past inv.text inv.made plan told.template i s ∙ ap (after_past inv.text inv.made) e
 
-      next : (u : State) → done plan told.template i s ≡ goes u → next_of plan past ≡ goes (with_past inv.text inv.made u)
-      next u e = is-next plan room end i told.template past here runs inv.ends ∙ shifted (goes u) e
-
       next-ends : (u : State) → done plan told.template i s ≡ goes u → Ends plan room (with_past inv.text inv.made u) end
       next-ends u e = goes-on plan room end i told.template past here runs inv.ends (with_past inv.text inv.made u) (shifted (goes u) e)
 
@@ -132,36 +128,67 @@ module _ {plan : Plan} {end : Ran} {m : Machine} {before now : Puts} (inv : Stan
           by (ended r) e = tt
           by stuck e = finds plan room end i told.template past here runs inv.ends (shifted stuck e)
 
-      no-deeper : (u : State) → done plan told.template i s ≡ goes u → u.depth + u.left ≤ s.depth + s.left
-      no-deeper u e = by (each-lessens plan past (with_past inv.text inv.made u) (next u e))
-        where
-          deep : u.depth ≤ suc s.depth
-          deep = next-depth plan past (with_past inv.text inv.made u) (next u e)
+      -- whether the turn carries out three instructions at once
+      abbrev once : Bool
+      once = at_once plan.code m.place i
 
-          by : Lessens past (with_past inv.text inv.made u) → u.depth + u.left ≤ s.depth + s.left
-          by (inl less) = let d = deep in omega arith
-          by (inr (left, inl less)) = omega arith
-          by (inr (left, inr (depth, place))) = omega arith
+      -- behind a turn that goes on, also where a put failed in it: the run has its end behind this that it puts out
+      record Behind (n : Machine) (out : List ℕ) : Type 0 where
+        pub ends : Ends plan room (with_past (inv.text ++ out) (inv.made || mark_behind i false) (state_of told n)) end
+        pub depth : n.depth + n.left ≤ m.depth + m.left
+        pub less : work (length plan.code) (state_of told n) < work (length plan.code) s
 
-      -- the run goes on
-      onward : (n : Machine) (after : Puts) → Executed told i m n (Ok flow.On)
-          → IsPut {F = SinkFault} (Ok tt) now after (added i s)
-          → size_of n.stack ≡ room → (mark_behind i false ≡ false → IsPlain m → IsPlain n) → Stands plan end n before after
-      onward n after step more size plain = record {
-        within = subst (λ k. length (cells_of n.stack) ≤ k) (sym size)
-            (next-within room plan past (with_past inv.text inv.made u) end inv.ends inv.within (next u step));
-        depth = let deeper = no-deeper u step in let deep = inv.depth in omega arith;
-        text = inv.text ++ u.text;
-        made = inv.made || u.made_text;
-        given = IsPut-along (IsPut-append inv.given more) (ap (λ l. inv.text ++ l) (sym (text-behind i s told refl)));
-        ends = subst
-            (λ k. Ends plan k (with_past (inv.text ++ u.text) (inv.made || u.made_text) (record u { text = []; made_text = false })) end) (sym size)
-            (subst (λ v. Ends plan room v end) (past-again inv.text u.text inv.made u.made_text u) (next-ends u step));
-        plain = λ e. let both = or_parts inv.made u.made_text e in plain (sym (mark-behind-told i s told) ∙ both.1) (inv.plain both.0);
+      behind-one : (n : Machine) → Executed told i m n (Ok flow.On) → Behind n (added i s)
+      behind-one n step = record {
+        ends = subst (λ v. Ends plan room v end) same (next-ends u step);
+        depth = by (each-lessens plan past (with_past inv.text inv.made u) next);
+        less = falls plan room end i told.template past here runs inv.ends (with_past inv.text inv.made u) (shifted (goes u) step);
       }
         where
           u : State
           u = state_of (told_behind i s told) n
+
+          same : with_past inv.text inv.made u ≡ with_past (inv.text ++ added i s) (inv.made || mark_behind i false) (state_of told n)
+          same = past-again inv.text u.text inv.made u.made_text u
+              ∙ (λ j. with_past (inv.text ++ text-behind i s told refl j) (inv.made || mark-behind-told i s told j) (state_of told n))
+
+          next : next_of plan past ≡ goes (with_past inv.text inv.made u)
+          next = is-next plan room end i told.template past here runs inv.ends ∙ shifted (goes u) step
+
+          by : Lessens past (with_past inv.text inv.made u) → n.depth + n.left ≤ m.depth + m.left
+          by (inl less) = let deep = next-depth plan past (with_past inv.text inv.made u) next in omega arith
+          by (inr (left, inl less)) = omega arith
+          by (inr (left, inr (depth, place))) = omega arith
+
+      module _ (at-once : once ≡ true) where
+        first : Once plan told.template i s
+        first = once-is plan told.template i s at-once
+
+        behind-three : (n : Machine) → Shown told i m n (Ok flow.On) → Behind n (text_in (value_by plan i s))
+        behind-three n step = by (value_by plan i s) refl step.0
+          where
+            by : (r : Result Value Cause) → value_by plan i s ≡ r → IsThere r → Behind n (text_in r)
+            by (Err cause) e there = absurd there
+            by (Ok v) e there = record {
+              ends = subst (λ u. Ends plan room u end)
+                  ((λ j. record s { text = text j; made_text = made j; place = m.place + 3 })
+                  ∙ (λ j. with_past (inv.text ++ text_of v) (inv.made || mark_behind i false) (sym step.1 j)))
+                  (ends-shown plan room end i told.template past here runs first.shown v
+                  (shifted (goes (record s { cells = fresh v ∷ s.cells; place = s.place + 1 })) (first.puts v e)) inv.ends);
+              depth = let deep = ap (λ (u : State). u.depth) step.1 in let left = ap (λ (u : State). u.left) step.1 in omega (arith, deep, left);
+              less = subst (λ u. work (length plan.code) u < work (length plan.code) s) (sym step.1)
+                  (let inside = shown-within plan room end i told.template past here runs first.shown in omega arith);
+            }
+              where
+                text : (inv.text ++ []) ++ text_of v ≡ (inv.text ++ text_of v) ++ []
+                text = ap (λ l. l ++ text_of v) (append-nil inv.text) ∙ sym (append-nil (inv.text ++ text_of v))
+
+                made : (inv.made || false) ≡ ((inv.made || mark_behind i false) || false)
+                made = sym (or-false (inv.made || mark_behind i false) ∙ ap (λ b. inv.made || b) first.mark)
+
+      behind : (n : Machine) (b : Bool) → once ≡ b → TurnedBy b told i m n (Ok flow.On) → Behind n (put_out b told i m (Ok flow.On))
+      behind n false e step = behind-one n step
+      behind n true e step = behind-three e n step
 
       -- memory is refused only where the end bears the mark
       marked : (mark_behind i false ≡ false → IsPlain m → ⊥) → end.made_text ≡ true
@@ -172,7 +199,7 @@ module _ {plan : Plan} {end : Ran} {m : Machine} {before now : Puts} (inv : Stan
           by false true e f = mark_next plan room past end i inv.ends here (ap (λ b. mark_behind i (b || false)) e ∙ f)
           by false false e f = absurd (never f (inv.plain e))
 
-      module _ (after : Puts) where
+      module _ (n : Machine) (after : Puts) where
         -- the run is over, or stops at a fault
         over : (fault : Option Fault) → done plan told.template i s ≡ ended (ran_so (state_of (told_behind i s told) m) fault)
             → IsPut {F = SinkFault} (Ok tt) now after (added i s) → IsPut {F = SinkFault} (Ok tt) before after end.text × (end.fault ≡ fault)
@@ -184,132 +211,74 @@ module _ {plan : Plan} {end : Ran} {m : Machine} {before now : Puts} (inv : Stan
             so : ran_so (with_past inv.text inv.made (state_of (told_behind i s told) m)) fault ≡ end
             so = ends-so plan room end i told.template past here runs inv.ends _ (shifted _ e)
 
-        -- a put failed, behind which this would have been put out
-        cut : (u : State) → Ends plan room u end → (more : List ℕ) → u.text ≡ inv.text ++ more → IsPut {F = SinkFault} (Err (record {})) now after more
-            → Came end before after (Err error.WriteFailed)
-        cut u ends more same put =
-            let begins = text-begins plan room u end ends in
-            IsPut-along (IsPut-stop {r = Err (record {})} begins.0 refl (IsPut-append inv.given put)) (ap (λ l. l ++ begins.0) (sym same) ∙ sym begins.1)
-
-        -- a stop
-        stops : (n : Machine) (Q : Type 0) (stop : Halt) (e : RunError) → Executed told i m n (Err stop)
-            → IsPut (put_by {A = Flow} (Err stop)) now after (added i s)
-            → (mark_behind i false ≡ false → IsPlain m → SparedOr {A = Flow} (Err stop) Q) → IsStopped (slice_get plan.templates m.template) n.line stop e
-            → Came end before after (Err e)
-        stops n Q (stop.Fault kind) (error.Fault fault) step more spared is =
+        faulted : (kind : RunFaultKind) (e : RunError) → Executed told i m n (Err (stop.Fault kind)) → IsPut {F = SinkFault} (Ok tt) now after (added i s)
+            → IsStopped (slice_get plan.templates m.template) n.line (stop.Fault kind) e → Came end before after (Err e)
+        faulted kind (error.Fault fault) step more is =
             let came = over (Some (fault_in told.template n.line (cause_of kind))) step more in
             (came.0, came.1 ∙ sym (is ∙ ap (option_map (λ t. fault_in t n.line (cause_of kind))) runs))
-        stops n Q (stop.Fault kind) error.WriteFailed step more spared is = absurd is
-        stops n Q (stop.Fault kind) error.OutOfMemory step more spared is = absurd is
-        stops n Q stop.WriteFailed e step more spared is = subst (λ f. Came end before after (Err f)) (sym is)
-            (cut (with_past inv.text inv.made (state_of (told_behind i s told) n)) (next-ends _ step) (added i s)
-            (ap (λ l. inv.text ++ l) (text-behind i s told refl)) more)
-        stops n Q stop.OutOfMemory e step more spared is = subst (λ f. Came end before after (Err f)) (sym is) (
+        faulted kind _ step more is = absurd is
+
+        cut : (e : RunError) (out : List ℕ) → e ≡ error.WriteFailed → Behind n out → IsPut {F = SinkFault} (Err (record {})) now after out
+            → Came end before after (Err e)
+        cut e out is b put =
+            let begins = text-begins plan room (with_past (inv.text ++ out) (inv.made || mark_behind i false) (state_of told n)) end b.ends in
+            subst (λ f. Came end before after (Err f)) (sym is)
+            (IsPut-along (IsPut-stop {r = Err (record {})} begins.0 refl (IsPut-append inv.given put))
+            (ap (λ l. l ++ begins.0) (sym (append-nil (inv.text ++ out))) ∙ sym begins.1))
+
+        refused : (e : RunError) → e ≡ error.OutOfMemory → added i s ≡ [] → IsPut {F = SinkFault} (Ok tt) now after (added i s)
+            → (mark_behind i false ≡ false → IsPlain m → ⊥) → Came end before after (Err e)
+        refused e is none more never = subst (λ f. Came end before after (Err f)) (sym is) (
           inv.text ++ [],
           text-begins plan room past end inv.ends,
-          IsPut-along (IsPut-append inv.given more) (ap (λ l. inv.text ++ l) step),
-          marked spared,
+          IsPut-along (IsPut-append inv.given more) (ap (λ l. inv.text ++ l) none),
+          marked never,
         )
 
-      -- ---- three instructions that were carried out at once
-
-      module _ (once : at_once plan.code m.place i ≡ true) where
-        shown : is_shown plan.code m.place ≡ true
-        shown = shown-once plan.code m.place i once
-
-        -- the first of them puts nothing out
-        quiet : added i s ≡ []
-        quiet = quiet-once plan.code m.place i s once
-
-        late-ends : (v : Value) → value_by plan i s ≡ Ok v → Ends plan room (record past { text = past.text ++ text_of v; place = past.place + 3 }) end
-        late-ends v e = ends-shown plan room end i told.template past here runs shown v
-            (shifted (goes (record s { cells = fresh v ∷ s.cells; place = s.place + 1 })) (puts-once plan.code m.place plan told.template i s v once e))
-            inv.ends
-
-        onward-shown : (n : Machine) (after : Puts) → Shown told i m n (Ok flow.On)
-            → IsPut {F = SinkFault} (Ok tt) now after (text_in (value_by plan i s))
-            → size_of n.stack ≡ room → (IsPlain m → IsPlain n) → Stands plan end n before after
-        onward-shown n after step more size plain = by (value_by plan i s) refl step.0 more
-          where
-            by : (r : Result Value Cause) → value_by plan i s ≡ r → IsThere r → IsPut {F = SinkFault} (Ok tt) now after (text_in r)
-                → Stands plan end n before after
-            by (Err cause) e there more = absurd there
-            by (Ok v) e there more = record {
-              within = let same = ap (λ (u : State). length u.cells) step.1 in let fits = inv.within in omega (arith, same, fits, size);
-              depth =
-                  let deep = ap (λ (u : State). u.depth) step.1 in let left = ap (λ (u : State). u.left) step.1 in
-                  let fits = inv.depth in omega (arith, deep, left, fits);
-              text = inv.text ++ text_of v;
-              made = inv.made;
-              given = IsPut-append inv.given more;
-              ends = subst (λ k. Ends plan k (with_past (inv.text ++ text_of v) inv.made (state_of told n)) end) (sym size)
-                  (subst (λ u. Ends plan room (with_past (inv.text ++ text_of v) inv.made u) end) (sym step.1)
-                  (subst (λ l. Ends plan room (record past { text = l; place = past.place + 3 }) end)
-                  (ap (λ l. l ++ text_of v) (append-nil inv.text) ∙ sym (append-nil (inv.text ++ text_of v))) (late-ends v e)));
-              plain = λ e. plain (inv.plain e);
-            }
-
-        cut-shown : (after : Puts) → IsThere (value_by plan i s)
-            → IsPut {F = SinkFault} (Err (record {})) now after (text_in (value_by plan i s)) → Came end before after (Err error.WriteFailed)
-        cut-shown after there more = by (value_by plan i s) refl there more
-          where
-            by : (r : Result Value Cause) → value_by plan i s ≡ r → IsThere r → IsPut {F = SinkFault} (Err (record {})) now after (text_in r)
-                → Came end before after (Err error.WriteFailed)
-            by (Err cause) e there more = absurd there
-            by (Ok v) e there more = cut after (record past { text = past.text ++ text_of v; place = past.place + 3 }) (late-ends v e) (text_of v)
-                (ap (λ l. l ++ text_of v) (append-nil inv.text)) more
-
-        stops-shown : (after : Puts) (n : Machine) (Q : Type 0) (stop : Halt) (e : RunError) → Shown told i m n (Err stop)
-            → IsPut (put_by {A = Flow} (Err stop)) now after (put_out true told i m (Err stop))
-            → (mark_behind i false ≡ false → IsPlain m → SparedOr {A = Flow} (Err stop) Q)
-            → IsStopped (slice_get plan.templates m.template) n.line stop e → Came end before after (Err e)
-        stops-shown after n Q stop.WriteFailed e step more spared is = subst (λ f. Came end before after (Err f)) (sym is) (cut-shown after step.0 more)
-        stops-shown after n Q (stop.Fault kind) e step more spared is =
-            stops after n Q (stop.Fault kind) e step (IsPut-along more (sym quiet)) spared is
-        stops-shown after n Q stop.OutOfMemory e step more spared is = stops after n Q stop.OutOfMemory e quiet (IsPut-along more (sym quiet)) spared is
-
-      -- ---- a turn, whether or not it carries out three
-
-      module _ (n : Machine) (after : Puts) where
-        abbrev once : Bool
-        once = at_once plan.code m.place i
+        -- ---- by what it answers
 
         abbrev Gave : Bool → Result Flow Halt → Type 0
         Gave b r = IsPut (put_by r) now after (put_out b told i m r)
 
         pub goes-less : (f : Flow) → f ≡ flow.On → TurnedBy once told i m n (Ok f)
             → work (length plan.code) (state_of told n) < work (length plan.code) s
-        goes-less f on did = by once refl (subst (λ f. TurnedBy once told i m n (Ok f)) on did)
-          where
-            by : (b : Bool) → once ≡ b → TurnedBy b told i m n (Ok flow.On) → work (length plan.code) (state_of told n) < work (length plan.code) s
-            by false e step = falls plan room end i told.template past here runs inv.ends
-                (with_past inv.text inv.made (state_of (told_behind i s told) n)) (shifted _ step)
-            by true e step = subst (λ v. work (length plan.code) v < work (length plan.code) s) (sym step.1)
-                (let inside = shown-within plan room end i told.template past here runs (shown e) in omega arith)
+        goes-less f on did = (behind n once refl (subst (λ f. TurnedBy once told i m n (Ok f)) on did)).less
 
-        pub goes-so : (f : Flow) → f ≡ flow.On → TurnedBy once told i m n (Ok f) → IsPut (put_by {A = Flow} (Ok f)) now after (put_out once told i m (Ok f))
+        pub goes-so : (f : Flow) → f ≡ flow.On → TurnedBy once told i m n (Ok f) → Gave once (Ok f)
             → size_of n.stack ≡ room → (mark_behind i false ≡ false → IsPlain m → IsPlain n) → Stands plan end n before after
-        goes-so f on did more size plain = by once refl (subst (λ f. TurnedBy once told i m n (Ok f)) on did) (subst (λ f. Gave once (Ok f)) on more)
-          where
-            by : (b : Bool) → once ≡ b → TurnedBy b told i m n (Ok flow.On) → Gave b (Ok flow.On) → Stands plan end n before after
-            by false e step more = onward n after step more size plain
-            by true e step more = onward-shown e n after step more size (plain (mark-once plan.code m.place i e))
+        goes-so f on did more size plain =
+            let b = behind n once refl (subst (λ f. TurnedBy once told i m n (Ok f)) on did) in
+            let text = inv.text ++ put_out once told i m (Ok flow.On) in
+            let made = inv.made || mark_behind i false in
+            record {
+              depth = let deep = inv.depth in let deeper = b.depth in omega arith;
+              text = text;
+              made = made;
+              given = IsPut-append inv.given (subst (λ f. Gave once (Ok f)) on more);
+              ends = subst (λ k. Ends plan k (with_past text made (state_of told n)) end) (sym size) b.ends;
+              plain = λ e. let both = or_parts inv.made (mark_behind i false) e in plain both.1 (inv.plain both.0);
+            }
 
-        pub over-so : (f : Flow) → f ≡ flow.Over → TurnedBy once told i m n (Ok f) → IsPut (put_by {A = Flow} (Ok f)) now after (put_out once told i m (Ok f))
+        pub over-so : (f : Flow) → f ≡ flow.Over → TurnedBy once told i m n (Ok f) → Gave once (Ok f)
             → IsPut {F = SinkFault} (Ok tt) before after end.text × (end.fault ≡ None)
         over-so f is-over did more = by once (subst (λ f. TurnedBy once told i m n (Ok f)) is-over did) (subst (λ f. Gave once (Ok f)) is-over more)
           where
             by : (b : Bool) → TurnedBy b told i m n (Ok flow.Over) → Gave b (Ok flow.Over)
                 → IsPut {F = SinkFault} (Ok tt) before after end.text × (end.fault ≡ None)
-            by false step more = over after None step more
+            by false step more = over None step more
             by true step more = absurd step
 
-        pub stops-so : (Q : Type 0) (stop : Halt) (e : RunError) → TurnedBy once told i m n (Err stop)
-            → IsPut (put_by {A = Flow} (Err stop)) now after (put_out once told i m (Err stop))
-            → (mark_behind i false ≡ false → IsPlain m → SparedOr {A = Flow} (Err stop) Q)
-            → IsStopped (slice_get plan.templates m.template) n.line stop e → Came end before after (Err e)
-        stops-so Q stop e did more spared stopped = by once refl did more
+        pub stops-so : (Q : Type 0) (halt : Halt) (e : RunError) → TurnedBy once told i m n (Err halt) → Gave once (Err halt)
+            → (mark_behind i false ≡ false → IsPlain m → SparedOr {A = Flow} (Err halt) Q)
+            → IsStopped (slice_get plan.templates m.template) n.line halt e → Came end before after (Err e)
+        stops-so Q halt e did more spared is = by once refl halt did more spared is
           where
-            by : (b : Bool) → once ≡ b → TurnedBy b told i m n (Err stop) → Gave b (Err stop) → Came end before after (Err e)
-            by false is step more = stops after n Q stop e step more spared stopped
-            by true is step more = stops-shown is after n Q stop e step more spared stopped
+            by : (b : Bool) → once ≡ b → (halt : Halt) → TurnedBy b told i m n (Err halt) → Gave b (Err halt)
+                → (mark_behind i false ≡ false → IsPlain m → SparedOr {A = Flow} (Err halt) Q)
+                → IsStopped (slice_get plan.templates m.template) n.line halt e → Came end before after (Err e)
+            by false o (stop.Fault kind) step more spared is = faulted kind e step more is
+            by true o (stop.Fault kind) step more spared is = faulted kind e step (IsPut-along more (sym (first o).quiet)) is
+            by false o stop.WriteFailed step more spared is = cut e _ is (behind n false o step) more
+            by true o stop.WriteFailed step more spared is = cut e _ is (behind n true o step) more
+            by false o stop.OutOfMemory step more spared is = refused e is step more spared
+            by true o stop.OutOfMemory step more spared is = refused e is (first o).quiet (IsPut-along more (sym (first o).quiet)) spared

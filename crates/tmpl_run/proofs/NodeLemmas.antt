@@ -1,9 +1,8 @@
 -- For the law `comes_to_meaning`: the pipeline of a header and what is bound to its value, what is to be shown of the
 -- code of a node, and that the code of actions, `if` and `with` comes to what they mean.
 use Rattle.std.proofs.Common.{arith, ◌≡◌, ◌∙◌, ◌+◌, ◌≤◌, ◌||◌, ℕ, Bool, true, false, List, ◌∷◌, length, drop, refl, ap, sym, Option, Some, None, Result, Ok}
-use Rattle.std.proofs.Common.{Err, ◌++◌, suc, subst, length-drop}
+use Rattle.std.proofs.Common.{Err, ◌++◌, suc, subst}
 use Rattle.std.specs.Prelude.{slice_set}
-use Rattle.std.proofs.lemmas.List.{length-set}
 use Rattle.tmpl_values.specs.Value.{Value, nothing}
 use Rattle.tmpl_values.specs.Text.{text_of}
 use Rattle.tmpl_values.specs.Truth.{truth}
@@ -28,9 +27,9 @@ use Rattle.tmpl_run.specs.Ready.{RoomIf}
 use Rattle.tmpl_run.specs.Ends.{Comes}
 use Rattle.tmpl_run.proofs.PipelineLemmas.{FollowsBy, Puts, found-within, given_in, pipeline-leads}
 use Rattle.tmpl_run.proofs.WayLemmas.{ahead-one, ahead, Ring, Stands, Way, who_of, Inside, cut_to, exit_of}
-use Rattle.tmpl_run.proofs.SlotLemmas.{Frame, bound_in, env_of, frame-set, frame_of, length-frame, run_of, stored, stored-none, First, Over, all_grown}
-use Rattle.tmpl_run.proofs.SlotLemmas.{all_grown_in, cut-drop, first-saved, frame-binding, frame-bound, frame-drop, frame-grown, grown_in, length-env, named}
-use Rattle.tmpl_run.proofs.SlotLemmas.{over-binding, over-bound, over-grown}
+use Rattle.tmpl_run.proofs.SlotLemmas.{Cells, First, Frame, Over, all_grown, all_grown_in, bound_in, cells-set, dropped, env-dropped, env_of, first-saved}
+use Rattle.tmpl_run.proofs.SlotLemmas.{grown_in, length-cells, length-env, named, named-less, over-binding, over-bound, over-grown, over-more}
+use Rattle.tmpl_run.proofs.SlotLemmas.{run_of, stored, stored-none}
 use Rattle.tmpl_run.proofs.WayLemmas as ways
 
 -- behind the value of a pipeline
@@ -62,36 +61,36 @@ run_at lay m s = record { env = env_of lay s.cells; text = s.text; left = s.left
 abbrev pub with_left : ℕ → Run → Run
 with_left left r = record r { left = left }
 
-module _ (way : Way) (calls : Calls) where
-  -- with a value on the stack goes on behind what binds it
-  set-leads : (x : List ℕ) (o : Option ℕ) (lay : Layout) (fr : Frame) (v : Value) (mid rest : Code) (s : State) (m : Bool) (place : ℕ) → who_of s ≡ way.who
-      → slot_named x lay ≡ o → SetAt o mid rest → drop place way.plan.code ≡ mid
-      → frame_of lay s.cells ≡ fr → length lay ≤ length s.cells
-      → ((cs : List Cell) (place : ℕ) → drop place way.plan.code ≡ rest → frame_of lay cs ≡ fr → length lay ≤ length cs
-      → env_of lay cs ≡ assigned x v (env_of lay s.cells) → ways.Leading way (record s { cells = fresh v ∷ cs; made_text = m; place = place }))
-      → ways.Leading way (record s { cells = fresh v ∷ s.cells; made_text = m; place = place })
-  set-leads x None lay fr v mid rest s m place same e l at frame deep more = more s.cells place (at ∙ l) frame deep (sym (stored-none x lay s.cells v e deep))
-  set-leads x (Some k) lay fr v mid rest s m place same e l at frame deep more =
-      ways.takes way (record s { cells = fresh v ∷ s.cells; made_text = m; place = place }) (code.set k) rest same (at ∙ l)
-      (let below = found-within x lay k e in omega arith)
-      (more (slice_set s.cells k (fresh v)) (place + 1) (ahead-one way.plan.code rest place (code.set k) (at ∙ l))
-      (frame-set x lay s.cells k v e deep ∙ frame) (omega (arith, length-set s.cells k (fresh v))) (stored x lay s.cells k v e deep))
+-- at a place behind what binds a value, over these cells
+pub record Bound (way : Way) (b : Binding) (v : Value) (lay : Layout) (fr : Frame) (rest : Code) (s : State) (cs : List Cell) (place : ℕ) : Type 0 where
+  pub at : drop place way.plan.code ≡ rest
+  pub cells : Cells lay fr cs
+  pub env : env_of lay cs ≡ written b v (env_of lay s.cells)
 
+module _ (way : Way) (calls : Calls) where
   bind-leads : (b : Binding) (lay : Layout) (fr : Frame) (v : Value) (mid rest : Code) (s : State) (m : Bool) (place : ℕ) → who_of s ≡ way.who
-      → BindAt b lay mid rest → drop place way.plan.code ≡ mid
-      → frame_of lay s.cells ≡ fr → length lay ≤ length s.cells → length s.cells + declared_count b ≤ way.room
-      → ((cs : List Cell) (place : ℕ) → drop place way.plan.code ≡ rest → frame_of lay cs ≡ fr → length lay ≤ length cs
-      → env_of lay cs ≡ written b v (env_of lay s.cells) → ways.Leading way (headed b v cs m place s))
+      → BindAt b lay mid rest → drop place way.plan.code ≡ mid → Cells lay fr s.cells → length s.cells + declared_count b ≤ way.room
+      → ((cs : List Cell) (place : ℕ) → Bound way b v lay fr rest s cs place → ways.Leading way (headed b v cs m place s))
       → ways.Leading way (valued v m place s)
-  bind-leads unbound lay fr v mid rest s m place same l at frame deep fits more = more s.cells place (at ∙ l) frame deep refl
-  bind-leads (declare x) lay fr v mid rest s m place same l at frame deep fits more =
+  bind-leads unbound lay fr v mid rest s m place same l at cells fits more = more s.cells place (record { at = at ∙ l; cells = cells; env = refl })
+  bind-leads (declare x) lay fr v mid rest s m place same l at cells fits more =
       ways.takes way (valued v m place s) (code.hold false) rest same (at ∙ l) tt
-      (more s.cells (place + 1) (ahead-one way.plan.code rest place (code.hold false) (at ∙ l)) frame deep refl)
-  bind-leads (assign x) lay fr v mid rest s m place same l at frame deep fits more =
-      set-leads x (slot_named x lay) lay fr v mid rest s m place same refl l at frame deep more
-  bind-leads (declare_pair k x) lay fr v mid rest s m place same l at frame deep fits more =
+      (more s.cells (place + 1) (record { at = ahead-one way.plan.code rest place (code.hold false) (at ∙ l); cells = cells; env = refl }))
+  bind-leads (assign x) lay fr v mid rest s m place same l at cells fits more = by (slot_named x lay) refl l
+    where
+      by : (o : Option ℕ) → slot_named x lay ≡ o → SetAt o mid rest → ways.Leading way (valued v m place s)
+      by None e l = more s.cells place (record { at = at ∙ l; cells = cells; env = sym (stored-none x lay s.cells v e cells.deep) })
+      by (Some k) e l =
+          ways.takes way (valued v m place s) (code.set k) rest same (at ∙ l)
+          (let below = found-within x lay k e in let deep = cells.deep in omega arith)
+          (more (slice_set s.cells k (fresh v)) (place + 1) (record {
+            at = ahead-one way.plan.code rest place (code.set k) (at ∙ l);
+            cells = cells-set x lay s.cells k v e cells;
+            env = stored x lay s.cells k v e cells.deep;
+          }))
+  bind-leads (declare_pair k x) lay fr v mid rest s m place same l at cells fits more =
       ways.takes way (valued v m place s) (code.hold true) rest same (at ∙ l) (omega arith)
-      (more s.cells (place + 1) (ahead-one way.plan.code rest place (code.hold true) (at ∙ l)) frame deep refl)
+      (more s.cells (place + 1) (record { at = ahead-one way.plan.code rest place (code.hold true) (at ∙ l); cells = cells; env = refl }))
 
   -- a pipeline, behind whose value the meaning goes on
   pub value-leads : (A : Run → Type 0) (g : Option Ring) (line left : ℕ) (p : Pipeline) (lay : Layout) (fr : Frame) (start mid : Code) (s : State)
@@ -102,7 +101,7 @@ module _ (way : Way) (calls : Calls) where
       → ways.Leading way (valued v m place s))
       → ways.Leading way s
   value-leads A g line left p lay fr start mid s go l st same-line fits k more =
-      pipeline-leads way p lay start mid s st.runs l st.at st.deep (let long = length-frame lay s.cells st.deep in let same = ap length st.frame in omega arith)
+      pipeline-leads way p lay start mid s st.runs l st.at st.cells.deep (let long = length-cells st.cells in omega arith)
       (by (given_in way lay s p).result (s.made_text || (given_in way lay s p).made_text) k)
     where
       by : (r : Result Value Cause) (m : Bool)
@@ -117,49 +116,37 @@ module _ (way : Way) (calls : Calls) where
       → length fr + need_of_pipeline h.pipeline ≤ way.room
       → length fr + declared_count h.binding ≤ way.room
       → ways.After way A g (with_pipeline (ways.setting way calls) line h.pipeline s.dot go (run_of lay s))
-      → ((v : Value) (cs : List Cell) (m : Bool) (place : ℕ) → drop place way.plan.code ≡ mid → frame_of lay cs ≡ fr → length lay ≤ length cs
-      → env_of lay cs ≡ written h.binding v (env_of lay s.cells)
+      → ((v : Value) (cs : List Cell) (m : Bool) (place : ℕ) → Bound way h.binding v lay fr mid s cs place
       → ways.After way A g (go v (run_at lay m s)) → ways.Leading way (headed h.binding v cs m place s))
       → ways.Leading way s
   header-leads A g line h lay fr start mid s go l st same-line fits more-fits k more =
       value-leads A g line s.left h.pipeline lay fr start l.0 s go l.1 st same-line fits k
-      (λ v m place at k. bind-leads h.binding lay fr v l.0 mid s m place st.runs l.2 at st.frame st.deep
-      (let long = length-frame lay s.cells st.deep in let same = ap length st.frame in omega arith)
-      (λ cs place at frame deep env. more v cs m place at frame deep env k))
+      (λ v m place at k. bind-leads h.binding lay fr v l.0 mid s m place st.runs l.2 at st.cells (let long = length-cells st.cells in omega arith)
+      (λ cs place bound. more v cs m place bound k))
 
 -- what a control keeps of its header
-pub bound-env : (b : Binding) (lay : Layout) (v : Value) (cs : List Cell) (s : State) (m : Bool) → env_of lay cs ≡ written b v (env_of lay s.cells)
+kept-env : {way : Way} {lay : Layout} {fr : Frame} {rest : Code} {cs : List Cell} {place : ℕ} (b : Binding) (v : Value) (s : State) (m : Bool)
+    → Bound way b v lay fr rest s cs place
     → record { env = env_of (bound_on b lay) (kept_on (declares b) (fresh v) (under b cs)); text = s.text; left = s.left; made_text = m }
     ≡ with_bound b (without_key v) (run_at lay m s)
-bound-env unbound lay v cs s m e = ap (λ (w : Environment). let r : Run = record { env = w; text = s.text; left = s.left; made_text = m } in r) e
-bound-env (declare x) lay v cs s m e = ap (λ (w : Environment). let r : Run = record { env = (x, v) ∷ w; text = s.text; left = s.left; made_text = m } in r) e
-bound-env (assign x) lay v cs s m e = ap (λ (w : Environment). let r : Run = record { env = w; text = s.text; left = s.left; made_text = m } in r) e
-bound-env (declare_pair k x) lay v cs s m e =
-    ap (λ (w : Environment). let r : Run = record { env = (x, v) ∷ (k, nothing) ∷ w; text = s.text; left = s.left; made_text = m } in r) e
+kept-env {way} {lay} unbound v s m bound = ap (λ (w : Environment). record (run_at lay m s) { env = w }) bound.env
+kept-env {way} {lay} (declare x) v s m bound = ap (λ (w : Environment). record (run_at lay m s) { env = (x, v) ∷ w }) bound.env
+kept-env {way} {lay} (assign x) v s m bound = ap (λ (w : Environment). record (run_at lay m s) { env = w }) bound.env
+kept-env {way} {lay} (declare_pair k x) v s m bound = ap (λ (w : Environment). record (run_at lay m s) { env = (x, v) ∷ (k, nothing) ∷ w }) bound.env
 
-pub bound-frame : (b : Binding) (lay : Layout) (fr : Frame) (v : Value) (cs : List Cell) → frame_of lay cs ≡ fr
-    → frame_of (bound_on b lay) (kept_on (declares b) (fresh v) (under b cs)) ≡ bound_in b fr
-bound-frame unbound lay fr v cs e = e
-bound-frame (declare x) lay fr v cs e = ap (λ l. None ∷ l) e
-bound-frame (assign x) lay fr v cs e = e
-bound-frame (declare_pair k x) lay fr v cs e = ap (λ l. None ∷ None ∷ l) e
-
-pub bound-deep : (b : Binding) (lay : Layout) (v : Value) (cs : List Cell) → length lay ≤ length cs
-    → length (bound_on b lay) ≤ length (kept_on (declares b) (fresh v) (under b cs))
-bound-deep unbound lay v cs h = h
-bound-deep (declare x) lay v cs h = omega arith
-bound-deep (assign x) lay v cs h = h
-bound-deep (declare_pair k x) lay v cs h = omega arith
+kept-cells : (b : Binding) (lay : Layout) (fr : Frame) (v : Value) (cs : List Cell) → Cells lay fr cs
+    → Cells (bound_on b lay) (bound_in b fr) (kept_on (declares b) (fresh v) (under b cs))
+kept-cells (declare x) lay fr v cs c = record { frame = ap (λ l. None ∷ l) c.frame; deep = (let deep = c.deep in omega arith) }
+kept-cells (declare_pair k x) lay fr v cs c = record { frame = ap (λ l. None ∷ None ∷ l) c.frame; deep = (let deep = c.deep in omega arith) }
+kept-cells _ lay fr v cs c = c
 
 -- a cell more above those of the range around
-pub inside-more : (home : Frame) (g : Option Ring) (lay : Layout) (fr : Frame) (p : Option (List ℕ)) (c : Option Cell) → Inside home g lay fr
+inside-more : (home : Frame) (g : Option Ring) (lay : Layout) (fr : Frame) (p : Option (List ℕ)) (c : Option Cell) → Inside home g lay fr
     → Inside home g (p ∷ lay) (c ∷ fr)
-inside-more home None lay fr p c h =
-    record { n = suc h.n; over = record { rest = h.over.rest; size = (let size = h.over.size in omega arith) }; cells = h.cells }
-inside-more home (Some g) lay fr p c h =
-    record { n = suc h.n; over = record { rest = h.over.rest; size = (let size = h.over.size in omega arith) }; cells = h.cells; depth = h.depth }
+inside-more home None lay fr p c h = (suc h.0, over-more h.1 p c)
+inside-more home (Some g) lay fr p c h = record { n = suc h.n; over = over-more h.over p c; depth = h.depth }
 
-pub inside-bound : (home : Frame) (g : Option Ring) (b : Binding) (lay : Layout) (fr : Frame) → Inside home g lay fr
+inside-bound : (home : Frame) (g : Option Ring) (b : Binding) (lay : Layout) (fr : Frame) → Inside home g lay fr
     → Inside home g (bound_on b lay) (bound_in b fr)
 inside-bound home g (declare x) lay fr h = inside-more home g lay fr (Some x) None h
 inside-bound home g (declare_pair k x) lay fr h = inside-more home g (Some k ∷ lay) (None ∷ fr) (Some x) None (inside-more home g lay fr (Some k) None h)
@@ -170,25 +157,12 @@ pub inside-grown : (home : Frame) (g : Option Ring) (n : NodeKind) (lay : Layout
 inside-grown home g (tree.action a) lay fr h = inside-bound home g a.binding lay fr h
 inside-grown home g _ lay fr h = h
 
--- what is bound, and what a node leaves, takes its part of the need
-pub length-bound : (b : Binding) (fr : Frame) → length (bound_in b fr) ≡ length fr + declared_count b
-length-bound unbound fr = omega arith
-length-bound _ fr = omega arith
-
-pub length-grown : (n : NodeKind) (fr : Frame) → length (grown_in n fr) ≡ length fr + left_behind n
-length-grown (tree.action a) fr = length-bound a.binding fr
-length-grown _ fr = omega arith
-
 -- the value of a header, and the variables under it
 length-under : (b : Binding) (cs : List Cell) (room n : ℕ) → length cs + (1 + declared_count b + n) ≤ room
     → RoomIf (declares b) (suc (length (under b cs))) room
 length-under (declare x) cs room n h = omega arith
 length-under (declare_pair k x) cs room n h = omega arith
 length-under _ cs room n h = tt
-
-named-bound : (b : Binding) (lay : Layout) → named lay ≤ named (bound_on b lay)
-named-bound unbound lay = omega arith
-named-bound _ lay = omega arith
 
 module _ (way : Way) (calls : Calls) (spare : ℕ) where
   -- what is to be shown of nodes, and of a node whose step is taken; so many cells are left for calls
@@ -221,34 +195,29 @@ module _ (way : Way) (calls : Calls) (spare : ℕ) where
   spent line n e leads g lay fr here start rest s l at-node st inside fits more-fits k =
       ways.spends way calls (ways.Onward way rest (grown n lay) (grown_in n fr) s.dot) g lay line start s (stepped (ways.setting way calls) line n s.dot)
       st.runs (st.at ∙ l ∙ ap (λ i. i ∷ start) e) k
-      (λ at k. leads g lay fr start rest (ways.step_taken line s) at-node (record { at = at; runs = st.runs; frame = st.frame; deep = st.deep }) refl inside
-      fits more-fits k)
+      (λ at k. leads g lay fr start rest (ways.step_taken line s) at-node (record { at = at; runs = st.runs; cells = st.cells }) refl inside fits more-fits k)
 
   -- ---- actions
 
   acted : (b : Binding) (g : Option Ring) (lay : Layout) (fr : Frame) (mid rest : Code) (s : State) (v : Value) (cs : List Cell) (m : Bool) (place : ℕ)
-      → ways.who_of s ≡ way.who → ShownAt b mid rest
-      → drop place way.plan.code ≡ mid → frame_of lay cs ≡ fr → length lay ≤ length cs → env_of lay cs ≡ written b v (env_of lay s.cells)
+      → ways.who_of s ≡ way.who → ShownAt b mid rest → Bound way b v lay fr mid s cs place
       → ways.After way (ways.Onward way rest (bound_on b lay) (bound_in b fr) s.dot) g (shown b v (run_at lay m s)) → ways.Leading way (headed b v cs m place s)
-  acted unbound g lay fr mid rest s v cs m place same l at frame deep env k =
-      ways.takes way (headed unbound v cs m place s) code.show rest same (at ∙ l) tt
-      (k _ (record { at = ahead-one way.plan.code rest place code.show (at ∙ l); runs = same; frame = frame; deep = deep }) refl
-      (ap (λ (w : Environment). let r : Run = record { env = w; text = s.text ++ text_of v; left = s.left; made_text = m } in r) env))
-  acted (declare x) g lay fr mid rest s v cs m place same l at frame deep env k =
-      k _ (record { at = at ∙ l; runs = same; frame = ap (λ t. None ∷ t) frame; deep = omega arith }) refl (bound-env (declare x) lay v cs s m env)
-  acted (assign x) g lay fr mid rest s v cs m place same l at frame deep env k =
-      ways.takes way (headed (assign x) v cs m place s) (code.cut 1 0) rest same (at ∙ l) (omega arith)
-      (k _ (record { at = ahead way.plan.code rest place 0 (code.cut 1 0) (at ∙ l); runs = same; frame = frame; deep = deep }) refl
-      (bound-env (assign x) lay v cs s m env))
-  acted (declare_pair y x) g lay fr mid rest s v cs m place same l at frame deep env k =
-      k _ (record { at = at ∙ l; runs = same; frame = ap (λ t. None ∷ None ∷ t) frame; deep = omega arith }) refl
-      (bound-env (declare_pair y x) lay v cs s m env)
+  acted unbound g lay fr mid rest s v cs m place same l bound k =
+      ways.takes way (headed unbound v cs m place s) code.show rest same (bound.at ∙ l) tt
+      (k _ (record { at = ahead-one way.plan.code rest place code.show (bound.at ∙ l); runs = same; cells = bound.cells }) refl
+      (ap (λ (w : Environment). let r : Run = record { env = w; text = s.text ++ text_of v; left = s.left; made_text = m } in r) bound.env))
+  acted (assign x) g lay fr mid rest s v cs m place same l bound k =
+      ways.takes way (headed (assign x) v cs m place s) (code.cut 1 0) rest same (bound.at ∙ l) (omega arith)
+      (k _ (record { at = ahead way.plan.code rest place 0 (code.cut 1 0) (bound.at ∙ l); runs = same; cells = bound.cells }) refl
+      (kept-env (assign x) v s m bound))
+  acted b g lay fr mid rest s v cs m place same l bound k =
+      k _ (record { at = bound.at ∙ l; runs = same; cells = kept-cells b lay fr v cs bound.cells }) refl (kept-env b v s m bound)
 
   pub action-leads : (line : ℕ) (h : Header) → NodeLeads line (tree.action h)
   action-leads line h g lay fr here rest s l st same-line inside fits more-fits k =
       header-leads way calls (ways.Onward way rest (bound_on h.binding lay) (bound_in h.binding fr) s.dot) g line h lay fr here l.0 s (shown h.binding)
       l.1 st same-line (omega arith) more-fits k
-      (λ v cs m place at frame deep env k. acted h.binding g lay fr l.0 rest s v cs m place st.runs l.2 at frame deep env k)
+      (λ v cs m place bound k. acted h.binding g lay fr l.0 rest s v cs m place st.runs l.2 bound k)
 
   -- ---- parts of controls
 
@@ -260,38 +229,35 @@ module _ (way : Way) (calls : Calls) (spare : ℕ) where
       → Stands way.plan way.who first (bound_on b lay) (bound_in b fr) t → t.dot ≡ d → run_of (bound_on b lay) t ≡ r
       → ways.After way (λ r. ways.Onward way rest lay fr d (cut_to (named lay) r)) g (meanings (ways.setting way calls) ns d r) → ways.Leading way t
   part-leads ns ih b g lay fr first more rest to d r t l far inside fits st dot run k =
-      ih g (bound_on b lay) (bound_in b fr) first l.0 t l.1 st (inside-bound way.home g b lay fr inside) (let long = length-bound b fr in omega arith)
+      ih g (bound_on b lay) (bound_in b fr) first l.0 t l.1 st (inside-bound way.home g b lay fr inside) (omega (arith, (over-binding b lay fr).tall))
       (subst (λ e. ways.After way goal g (meanings (ways.setting way calls) ns e (run_of (bound_on b lay) t))) (sym dot)
       (subst (λ r. ways.After way goal g (meanings (ways.setting way calls) ns d r)) (sym run)
       (ways.then-map way (λ r. ways.Onward way rest lay fr d (cut_to (named lay) r)) goal g (meanings (ways.setting way calls) ns d r).0
       (meanings (ways.setting way calls) ns d r).1
-      (λ r k u su du ru. ways.closes way (declared_count b + declared_in ns) to l.0 more rest (all_grown ns (bound_on b lay)) lay fr
-      (all_grown_in ns (bound_in b fr)) d r u l.2 su (over-bound b ns lay) (frame-bound b ns fr) far (du ∙ dot) ru k) k)))
+      (λ r k u su du ru. ways.closes way (declared_count b + declared_in ns) to more rest d r u l.2 su (over-bound b ns lay fr) far (du ∙ dot) ru k) k)))
     where
       goal : Run → Type 0
       goal = ways.Onward way l.0 (all_grown ns (bound_on b lay)) (all_grown_in ns (bound_in b fr)) t.dot
 
   -- .. and with its variables made
-  bound-leads : (ns : Nodes) → NodesLead ns → (b : Binding) (g : Option Ring) (lay : Layout) (fr : Frame) (first more rest : Code) (to place : ℕ) (s : State)
-      (v : Value) (cs : List Cell) (m : Bool)
+  bound-leads : (ns : Nodes) → NodesLead ns → (b : Binding) (g : Option Ring) (lay : Layout) (fr : Frame) (mid first more rest : Code) (to was place : ℕ)
+      (s : State) (v : Value) (cs : List Cell) (m : Bool)
       → Ended (declared_count b + declared_in ns) to (NodesAt way.plan.templates ns (bound_on b lay) (exit_of g)) first more → drop to more ≡ rest
       → Inside way.home g lay fr → length fr + (declared_count b + need_of_nodes ns) + spare ≤ way.room
-      → ways.who_of s ≡ way.who → drop place way.plan.code ≡ first → frame_of lay cs ≡ fr → length lay ≤ length cs
-      → env_of lay cs ≡ written b v (env_of lay s.cells)
+      → ways.who_of s ≡ way.who → drop place way.plan.code ≡ first → Bound way b v lay fr mid s cs was
       → ways.After way (λ r. ways.Onward way rest lay fr s.dot (cut_to (named lay) r)) g
       (meanings (ways.setting way calls) ns s.dot (with_bound b (without_key v) (run_at lay m s)))
       → ways.Leading way (record (headed b v cs m place s) { cells = kept_on (declares b) (fresh v) (under b cs) })
-  bound-leads ns ih b g lay fr first more rest to place s v cs m l far inside fits same at frame deep env k =
+  bound-leads ns ih b g lay fr mid first more rest to was place s v cs m l far inside fits same at bound k =
       part-leads ns ih b g lay fr first more rest to s.dot (with_bound b (without_key v) (run_at lay m s)) _ l far inside fits
-      (record { at = at; runs = same; frame = bound-frame b lay fr v cs frame; deep = bound-deep b lay v cs deep }) refl (bound-env b lay v cs s m env) k
+      (record { at = at; runs = same; cells = kept-cells b lay fr v cs bound.cells }) refl (kept-env b v s m bound) k
 
   -- a header, and in its scope one of two parts, by its value
   choosing-leads : (line : ℕ) (h : Header) (body : Value → Next) (other : Next) (g : Option Ring) (lay : Layout) (fr : Frame) (here mid rest : Code) (s : State)
       → HeaderAt h lay here mid → Stands way.plan way.who here lay fr s → s.line ≡ line → Inside way.home g lay fr
       → length fr + need_of_pipeline h.pipeline ≤ way.room → length fr + declared_count h.binding ≤ way.room
       → ways.After way (ways.Onward way rest lay fr s.dot) g (scope (choosing (ways.setting way calls) line h s.dot body other) (run_of lay s))
-      → ((v : Value) (cs : List Cell) (m : Bool) (place : ℕ) → drop place way.plan.code ≡ mid → frame_of lay cs ≡ fr → length lay ≤ length cs
-      → env_of lay cs ≡ written h.binding v (env_of lay s.cells)
+      → ((v : Value) (cs : List Cell) (m : Bool) (place : ℕ) → Bound way h.binding v lay fr mid s cs place
       → ways.After way (λ r. ways.Onward way rest lay fr s.dot (cut_to (named lay) r)) g
       (one_of (truth v) (body v) other (with_bound h.binding (without_key v) (run_at lay m s)))
       → ways.Leading way (headed h.binding v cs m place s))
@@ -300,7 +266,7 @@ module _ (way : Way) (calls : Calls) (spare : ℕ) where
       header-leads way calls (λ r. ways.Onward way rest lay fr s.dot (cut_to (named lay) r)) g line h lay fr here mid s
       (λ v r. one_of (truth v) (body v) other (with_bound h.binding (without_key v) r)) l st same-line fits more-fits
       (ways.unscope way (ways.Onward way rest lay fr s.dot) g lay fr (length (env_of lay s.cells))
-      (choosing (ways.setting way calls) line h s.dot body other (run_of lay s)) (length-env lay s.cells st.deep) inside k) more
+      (choosing (ways.setting way calls) line h s.dot body other (run_of lay s)) (length-env lay s.cells st.cells.deep) inside k) more
 
   -- ---- `if`
 
@@ -308,104 +274,81 @@ module _ (way : Way) (calls : Calls) (spare : ℕ) where
   if-leads line h body other ih-body ih-other g lay fr here rest s l st same-line inside fits more-fits k =
       choosing-leads line h (λ v. meanings (ways.setting way calls) body s.dot) (meanings (ways.setting way calls) other s.dot) g lay fr here l.0 rest s
       l.1 st same-line inside (omega arith) (omega arith) k
-      (λ v cs m place at frame deep env k. ways.takes way (headed h.binding v cs m place s) (code.unless (declares h.binding) l.2.2) l.2.0 st.runs (at ∙ l.2.4)
-      tt
-      (by v cs m place (at ∙ l.2.4) frame deep env (truth v) k))
+      (λ v cs m place bound k. ways.takes way (headed h.binding v cs m place s) (code.unless (declares h.binding) l.2.2) l.2.0 st.runs (bound.at ∙ l.2.4) tt
+      (by v cs m place bound (truth v) k))
     where
-      B : Run → Type 0
-      B = λ r. ways.Onward way rest lay fr s.dot (cut_to (named lay) r)
-
-      by : (v : Value) (cs : List Cell) (m : Bool) (place : ℕ) → drop place way.plan.code ≡ code.unless (declares h.binding) l.2.2 ∷ l.2.0
-          → frame_of lay cs ≡ fr
-          → length lay ≤ length cs → env_of lay cs ≡ written h.binding v (env_of lay s.cells)
-          → (c : Bool) → ways.After way B g (one_of c (meanings (ways.setting way calls) body s.dot) (meanings (ways.setting way calls) other s.dot)
+      by : (v : Value) (cs : List Cell) (m : Bool) (place : ℕ) → Bound way h.binding v lay fr l.0 s cs place
+          → (c : Bool) → ways.After way (λ r. ways.Onward way rest lay fr s.dot (cut_to (named lay) r)) g
+          (one_of c (meanings (ways.setting way calls) body s.dot) (meanings (ways.setting way calls) other s.dot)
           (with_bound h.binding (without_key v) (run_at lay m s)))
           → Comes (ways.Leading way) (branch c (declares h.binding) l.2.2 (fresh v) (under h.binding cs) (headed h.binding v cs m place s)) way.end
-      by v cs m place at frame deep env true k =
-          bound-leads body ih-body h.binding g lay fr l.2.0 l.2.1 rest l.2.3 (place + 1) s v cs m l.2.5 l.2.8 inside (omega arith) st.runs
-          (ahead-one way.plan.code l.2.0 place (code.unless (declares h.binding) l.2.2) at) frame deep env k
-      by v cs m place at frame deep env false k =
-          bound-leads other ih-other h.binding g lay fr l.2.1 rest rest 0 (place + 1 + l.2.2) s v cs m l.2.6 refl inside (omega arith) st.runs
-          (ahead way.plan.code l.2.0 place l.2.2 (code.unless (declares h.binding) l.2.2) at ∙ l.2.7) frame deep env k
+      by v cs m place bound true k =
+          bound-leads body ih-body h.binding g lay fr l.0 l.2.0 l.2.1 rest l.2.3 place (place + 1) s v cs m l.2.5 l.2.8 inside (omega arith) st.runs
+          (ahead-one way.plan.code l.2.0 place (code.unless (declares h.binding) l.2.2) (bound.at ∙ l.2.4)) bound k
+      by v cs m place bound false k =
+          bound-leads other ih-other h.binding g lay fr l.0 l.2.1 rest rest 0 place (place + 1 + l.2.2) s v cs m l.2.6 refl inside (omega arith) st.runs
+          (ahead way.plan.code l.2.0 place l.2.2 (code.unless (declares h.binding) l.2.2) (bound.at ∙ l.2.4) ∙ l.2.7) bound k
 
   -- ---- `with`
 
   -- the end of its body
-  with-closes : (b : Binding) (n to : ℕ) (more rest : Code) (big lay : Layout) (fr gr : Frame) (d : Value) (r : Run) (u : State)
-      → Stands way.plan way.who (code.end_with n (declared_count b) to ∷ more) big gr u
-      → Over n big (None ∷ bound_on b lay) → drop n gr ≡ Some (fresh d) ∷ bound_in b fr → drop to more ≡ rest → run_of big u ≡ r
+  with-closes : {big : Layout} {high : Frame} (b : Binding) (n to : ℕ) (more rest : Code) (lay : Layout) (fr : Frame) (d : Value) (r : Run) (u : State)
+      → Stands way.plan way.who (code.end_with n (declared_count b) to ∷ more) big high u
+      → Over n big (None ∷ bound_on b lay) high (Some (fresh d) ∷ bound_in b fr) → drop to more ≡ rest → run_of big u ≡ r
       → ways.Onward way rest lay fr d (cut_to (named lay) r) → ways.Leading way u
-  with-closes b n to more rest big lay fr gr d r u st over underneath far is k =
+  with-closes {big} b n to more rest lay fr d r u st over far is k =
       ways.takes way u (code.end_with n (declared_count b) to) more st.runs st.at
-      (let size = over.size in let deep = st.deep in let less = (over-binding b lay).size in omega arith)
+      (let size = over.size in let deep = st.cells.deep in let less = below.size in omega arith)
       (subst (λ cs. Comes (ways.Leading way) (top cs (λ c cs. goes (record u { cells = drop (declared_count b) cs; dot = c.val; place = u.place + 1 + to })))
       way.end) (sym one.cells)
-      (k _ (record {
-        at = ahead way.plan.code more u.place to (code.end_with n (declared_count b) to) st.at
-            ∙ far;
-        runs = st.runs;
-        frame = frame-drop (declared_count b) (bound_on b lay) lay one.rest (over-binding b lay) one.deep
-            ∙ ap (drop (declared_count b)) one.frame ∙ frame-binding b fr;
-        deep = (let size = (over-binding b lay).size in let deep = one.deep in let long =
-            length-drop (declared_count b) one.rest in omega arith);
-      }) refl
-      (ap (λ (v : Environment). let r : Run = record { env = v; text = u.text; left = u.left; made_text = u.made_text } in r) env
-      ∙ ways.cut-twice (named lay) (named (bound_on b lay)) (run_of big u) (named-bound b lay)
+      (k _ (record { at = there; runs = st.runs; cells = dropped below one.under }) refl
+      (ap (λ (v : Environment). record (run_of big u) { env = v })
+      (env-dropped below one.under ∙ ap (oldest (named lay)) (sym one.env ∙ env-dropped over st.cells))
+      ∙ ways.cut-twice (named lay) (named (bound_on b lay)) (run_of big u) (named-less below)
       ∙ ap (cut_to (named lay)) is)))
     where
-      one : First (bound_on b lay) (drop n u.cells) (fresh d) (bound_in b fr)
-      one = first-saved (bound_on b lay) (drop n u.cells) (fresh d) (bound_in b fr)
-          (frame-drop n big (None ∷ bound_on b lay) u.cells over st.deep ∙ ap (drop n) st.frame ∙ underneath)
-          (let size = over.size in let deep = st.deep in let long = length-drop n u.cells in omega arith)
+      there : drop (u.place + 1 + to) way.plan.code ≡ rest
+      there = ahead way.plan.code more u.place to (code.end_with n (declared_count b) to) st.at ∙ far
 
-      env : env_of lay (drop (declared_count b) one.rest) ≡ oldest (named lay) (oldest (named (bound_on b lay)) (env_of big u.cells))
-      env =
-          sym (cut-drop (declared_count b) (bound_on b lay) lay one.rest (over-binding b lay) one.deep)
-          ∙ ap (oldest (named lay)) (sym one.env ∙ sym (cut-drop n big (None ∷ bound_on b lay) u.cells over st.deep))
+      below : Over (declared_count b) (bound_on b lay) lay (bound_in b fr) fr
+      below = over-binding b lay fr
+
+      one : First (bound_on b lay) (drop n u.cells) (fresh d) (bound_in b fr)
+      one = first-saved (bound_on b lay) (drop n u.cells) (fresh d) (bound_in b fr) (dropped over st.cells)
 
   pub with-leads : (line : ℕ) (h : Header) (body other : Nodes) → NodesLead body → NodesLead other
       → NodeLeads line (tree.control_node control.With h body other)
   with-leads line h body other ih-body ih-other g lay fr here rest s l st same-line inside fits more-fits k =
       choosing-leads line h (λ v. meanings (ways.setting way calls) body v) (meanings (ways.setting way calls) other s.dot) g lay fr here l.0 rest s
       l.1 st same-line inside (omega arith) (omega arith) k
-      (λ v cs m place at frame deep env k. ways.takes way (headed h.binding v cs m place s) (code.enter_with (declares h.binding) l.2.2) l.2.0 st.runs
-      (at ∙ l.2.4)
-      (length-under h.binding cs way.room (need_of_nodes body) (let long = length-frame lay cs deep in let same = ap length frame in omega arith))
-      (by v cs m place (at ∙ l.2.4) frame deep env (truth v) k))
+      (λ v cs m place bound k. ways.takes way (headed h.binding v cs m place s) (code.enter_with (declares h.binding) l.2.2) l.2.0 st.runs (bound.at ∙ l.2.4)
+      (length-under h.binding cs way.room (need_of_nodes body) (let long = length-cells bound.cells in omega arith))
+      (by v cs m place bound (truth v) k))
     where
       B : Run → Type 0
       B = λ r. ways.Onward way rest lay fr s.dot (cut_to (named lay) r)
 
-      by : (v : Value) (cs : List Cell) (m : Bool) (place : ℕ) → drop place way.plan.code ≡ code.enter_with (declares h.binding) l.2.2 ∷ l.2.0
-          → frame_of lay cs ≡ fr → length lay ≤ length cs → env_of lay cs ≡ written h.binding v (env_of lay s.cells)
+      by : (v : Value) (cs : List Cell) (m : Bool) (place : ℕ) → Bound way h.binding v lay fr l.0 s cs place
           → (c : Bool) → ways.After way B g (one_of c (meanings (ways.setting way calls) body v) (meanings (ways.setting way calls) other s.dot)
           (with_bound h.binding (without_key v) (run_at lay m s)))
           → Comes (ways.Leading way) (with_dot c (declares h.binding) l.2.2 (fresh v) (under h.binding cs) (headed h.binding v cs m place s)) way.end
-      by v cs m place at frame deep env true k =
+      by v cs m place bound true k =
           ih-body g (None ∷ bound_on h.binding lay) (Some (fresh s.dot) ∷ bound_in h.binding fr) l.2.0
-          (code.end_with (declared_in body) (declared_count h.binding) l.2.3 ∷ l.2.1) t l.2.5
+          (code.end_with (declared_in body) (declared_count h.binding) l.2.3 ∷ l.2.1) _ l.2.5
           (record {
-            at = ahead-one way.plan.code l.2.0 place (code.enter_with (declares h.binding) l.2.2) at;
+            at = ahead-one way.plan.code l.2.0 place (code.enter_with (declares h.binding) l.2.2) (bound.at ∙ l.2.4);
             runs = st.runs;
-            frame =
-                ap (λ x. Some (fresh s.dot) ∷ x) (bound-frame h.binding lay fr v cs frame);
-            deep = (let h = bound-deep h.binding lay v cs deep in omega arith);
+            cells = record { frame = ap (λ x. Some (fresh s.dot) ∷ x) kept.frame; deep = (let deep = kept.deep in omega arith) };
           })
           (inside-more way.home g (bound_on h.binding lay) (bound_in h.binding fr) None (Some (fresh s.dot)) (inside-bound way.home g h.binding lay fr inside))
-          (let long = length-bound h.binding fr in omega arith)
-          (subst (λ r. ways.After way goal g (meanings (ways.setting way calls) body v r)) (sym (bound-env h.binding lay v cs s m env))
+          (omega (arith, (over-binding h.binding lay fr).tall))
+          (subst (λ r. ways.After way goal g (meanings (ways.setting way calls) body v r)) (sym (kept-env h.binding v s m bound))
           (ways.then-map way B goal g x.0 x.1
-          (λ r k u su du ru. with-closes h.binding (declared_in body) l.2.3 l.2.1 rest (all_grown body (None ∷ bound_on h.binding lay)) lay fr
-          (all_grown_in body (Some (fresh s.dot) ∷ bound_in h.binding fr)) s.dot r u su (over-grown body (None ∷ bound_on h.binding lay))
-          (frame-grown body (Some (fresh s.dot) ∷ bound_in h.binding fr)) l.2.8 ru k) k))
+          (λ r k u su du ru. with-closes h.binding (declared_in body) l.2.3 l.2.1 rest lay fr s.dot r u su
+          (over-grown body (None ∷ bound_on h.binding lay) (Some (fresh s.dot) ∷ bound_in h.binding fr)) l.2.8 ru k) k))
         where
-          t : State
-          t = record (headed h.binding v cs m place s) {
-            cells = fresh s.dot ∷ kept_on (declares h.binding) (fresh v) (under h.binding cs);
-            dot = v;
-            place =
-                place + 1;
-          }
+          kept : Cells (bound_on h.binding lay) (bound_in h.binding fr) (kept_on (declares h.binding) (fresh v) (under h.binding cs))
+          kept = kept-cells h.binding lay fr v cs bound.cells
 
           x : Run × End
           x = meanings (ways.setting way calls) body v (with_bound h.binding (without_key v) (run_at lay m s))
@@ -413,6 +356,6 @@ module _ (way : Way) (calls : Calls) (spare : ℕ) where
           goal : Run → Type 0
           goal = ways.Onward way (code.end_with (declared_in body) (declared_count h.binding) l.2.3 ∷ l.2.1) (all_grown body (None ∷ bound_on h.binding lay))
               (all_grown_in body (Some (fresh s.dot) ∷ bound_in h.binding fr)) v
-      by v cs m place at frame deep env false k =
-          bound-leads other ih-other h.binding g lay fr l.2.1 rest rest 0 (place + 1 + l.2.2) s v cs m l.2.6 refl inside (omega arith) st.runs
-          (ahead way.plan.code l.2.0 place l.2.2 (code.enter_with (declares h.binding) l.2.2) at ∙ l.2.7) frame deep env k
+      by v cs m place bound false k =
+          bound-leads other ih-other h.binding g lay fr l.0 l.2.1 rest rest 0 place (place + 1 + l.2.2) s v cs m l.2.6 refl inside (omega arith) st.runs
+          (ahead way.plan.code l.2.0 place l.2.2 (code.enter_with (declares h.binding) l.2.2) (bound.at ∙ l.2.4) ∙ l.2.7) bound k

@@ -1,32 +1,28 @@
 -- For the law `text_is_named` and the clause `spared` of `run`: a template of a set that names no function which makes a text
 -- calls none, so the mark of its run stays as it is.
-use Rattle.std.proofs.Common.{◌≡◌, ◌≢◌, ◌∙◌, ◌||◌, ◌<◌, IfSome, length, ℕ, zero, suc, nat_eq, Bool, true, false, List, [], ◌∷◌, Option, Some, None, Result, Ok}
-use Rattle.std.proofs.Common.{Err, ap, refl, subst, sym}
-use Rattle.std.specs.Prelude.{◌-◌, find, get_or, option_map, slice_get, if◌then◌else◌}
+use Rattle.std.proofs.Common.{◌≡◌, ◌≢◌, ◌∙◌, ◌||◌, ◌<◌, IfSome, length, ℕ, zero, suc, Bool, true, false, List, [], ◌∷◌, Option, Some, None, Result, Ok, Err}
+use Rattle.std.proofs.Common.{ap, refl, subst, sym}
+use Rattle.std.specs.Prelude.{◌-◌, get_or, slice_get}
 use Rattle.std.proofs.lemmas.Bool.{or_parts}
 use Rattle.std.proofs.lemmas.Option.{slice_get-get_or}
 use Rattle.tmpl_values.specs.Value.{Value, nothing}
-use Rattle.tmpl_values.specs.Elements.{Element}
-use Rattle.tmpl_values.specs.Truth.{truth}
 use Rattle.tmpl_funcs.specs.Func.{makes_text, takes}
 use Rattle.tmpl_funcs.specs.declared.func.Func.{Func}
 use Rattle.tmpl_funcs.specs.declared.func.Func.TheVariants.{And, Or}
-use Rattle.tmpl_grammar.specs.Tree.{Operand, nil, function, group, Operands, no_operand, operand, Pipeline, no_command, command, Binding, unbound, Header}
-use Rattle.tmpl_grammar.specs.declared.tree.Control.{Control}
-use Rattle.tmpl_grammar.specs.declared.tree.Control.TheVariants as control
+use Rattle.tmpl_grammar.specs.Tree.{Operand, nil, function, group, Operands, no_operand, operand, Pipeline, no_command, command}
 use Rattle.tmpl_syntax.specs.Tree as tree
-use Rattle.tmpl_syntax.specs.Tree.{NodeKind, Nodes, Tree, text, action, control_node, template_node}
-use Rattle.tmpl_syntax.specs.Set.{Template, has_name, tree_named}
+use Rattle.tmpl_syntax.specs.Tree.{NodeKind, Nodes, Tree, action, control_node, template_node}
+use Rattle.tmpl_syntax.specs.Set.{Template, number_of, tree_named}
+use Rattle.tmpl_syntax.proofs.NamedLemmas.{Named, numbered, unnumbered}
 use Rattle.tmpl_meaning.specs.Fault.{Cause}
 use Rattle.tmpl_meaning.specs.Pipeline as meaning
 use Rattle.tmpl_meaning.specs.Pipeline.{Given, Place, command_value, commands_value, decided, decides, given, given_then, go_on, junction, operand_value}
 use Rattle.tmpl_meaning.specs.Pipeline.{operand_values, pipeline_value}
-use Rattle.tmpl_meaning.specs.Meaning.{Calls, End, Next, Rules, Run, Setting, after, after_turn, without_key, broke, calls_within, controlled, done, faulted}
-use Rattle.tmpl_meaning.specs.Meaning.{handing, meanings, one_of, over, ran, scope, setting_of, shown, spend, spend_if, started, starting_dot, stepped, turn}
-use Rattle.tmpl_meaning.specs.Meaning.{turns, uncalled, run_called, apart, visited, with_bound, with_pipeline, with_value}
-use Rattle.tmpl_code.specs.MakesText.{commands_make_text, given_makes_text, node_makes_text, nodes_make_text, operand_makes_text, operands_make_text}
-use Rattle.tmpl_code.specs.MakesText.{pipeline_makes_text, set_makes_text}
+use Rattle.tmpl_meaning.specs.Meaning.{Rules, Run, calls_within, ran, setting_of, started, starting_dot}
 use Rattle.tmpl_meaning.specs.Sink.{Sunk}
+use Rattle.tmpl_meaning.proofs.KeptLemmas.{Keeps, NodeHas, NodesHave, calls-kept, nodes-kept}
+use Rattle.tmpl_code.specs.MakesText.{commands_make_text, node_makes_text, nodes_make_text, operand_makes_text, operands_make_text, pipeline_makes_text}
+use Rattle.tmpl_code.specs.MakesText.{set_makes_text}
 use Rattle.tmpl_run.specs.Laws.{TextIsNamed}
 use Rattle.tmpl_run.specs.Run.{IsRun}
 use Rattle.tmpl_run.specs.computed.Came.{no_template}
@@ -109,163 +105,63 @@ mutual
       then-quiet (command_value s os piped) (λ v. commands_value s cs (Some (meaning.without_null v))) (command-quiet os s piped n.0)
       (λ v. commands-quiet cs s (Some (meaning.without_null v)) n.1)
 
-pipeline-quiet : (p : Pipeline) (s : Place) → pipeline_makes_text p ≡ false → (pipeline_value s p).made_text ≡ false
-pipeline-quiet cs s e = commands-quiet cs s None e
-
--- ---- nodes
-
--- where no text was made before it, none is behind it
-abbrev Quiet : Next → Type 0
-Quiet next = (r : Run) → r.made_text ≡ false → (next r).0.made_text ≡ false
-
--- what names call is so
-abbrev CallsQuietly : Calls → Type 0
-CallsQuietly calls = (name : List ℕ) (body : Value → Next) → calls name ≡ Ok body → (v : Value) → Quiet (body v)
-
-value-quiet : {T : Type 0} (s : Setting) (line : ℕ) (x : Result T Cause) (go : T → Next) → ((t : T) → x ≡ Ok t → Quiet (go t)) → Quiet (with_value s line x go)
-value-quiet s line (Ok t) go quiet r e = quiet t refl r e
-value-quiet s line (Err cause) go quiet r e = e
-
-with_pipeline-quiet : (s : Setting) (line : ℕ) (p : Pipeline) (d : Value) (go : Value → Next) → pipeline_makes_text p ≡ false → ((v : Value) → Quiet (go v))
-    → Quiet (with_pipeline s line p d go)
-with_pipeline-quiet s line p d go named quiet r e =
-    let at : Place = record { missing_key = s.rules.missing_key; dot = d; env = r.env } in
-    let g = pipeline_value at p in
-    value-quiet s line g.result go (λ v is. quiet v) (record r { made_text = r.made_text || g.made_text })
-    (both r.made_text g.made_text e (pipeline-quiet p at named))
-
-spend-quiet : (s : Setting) (line : ℕ) (go : Next) → Quiet go → Quiet (spend s line go)
-spend-quiet s line go quiet r e = by (nat_eq r.left 0)
-  where
-    by : (b : Bool) → (spend_if b s line go r).0.made_text ≡ false
-    by true = e
-    by false = quiet (record r { left = r.left - 1 }) e
-
-after-quiet : (part : Run × End) (go : Next) → part.0.made_text ≡ false → Quiet go → (after part go).0.made_text ≡ false
-after-quiet part go e quiet = by part.1
-  where
-    by : (end : End) → (after (part.0, end) go).0.made_text ≡ false
-    by done = quiet part.0 e
-    by _ = e
-
-shown-quiet : (b : Binding) (v : Value) → Quiet (shown b v)
-shown-quiet unbound v r e = e
-shown-quiet _ v r e = e
-
-one-quiet : (b : Bool) (body other : Next) → Quiet body → Quiet other → Quiet (one_of b body other)
-one-quiet true body other quiet rest r e = quiet r e
-one-quiet false body other quiet rest r e = rest r e
-
-turn-quiet : (end : End) (r : Run) (go : Next) → r.made_text ≡ false → Quiet go → (after_turn (r, end) go).0.made_text ≡ false
-turn-quiet broke r go e quiet = e
-turn-quiet (faulted f) r go e quiet = e
-turn-quiet _ r go e quiet = quiet r e
-
-turns-quiet : (s : Setting) (line : ℕ) (b : Binding) (body : Value → Next) (es : List Element) → ((v : Value) → Quiet (body v))
-    → Quiet (turns s line b body es)
-turns-quiet s line b body [] quiet r e = e
-turns-quiet s line b body (x ∷ es) quiet r e =
-    let part : Run × End = turn s line b body x r in
-    let turned : part.0.made_text ≡ false =
-    spend-quiet s line (scope (λ r. body x.1 (with_bound b x r))) (λ r e. quiet x.1 (with_bound b x r) e) r e in
-    turn-quiet part.1 part.0 (turns s line b body es) turned (turns-quiet s line b body es quiet)
-
-over-quiet : (s : Setting) (line : ℕ) (b : Binding) (body : Value → Next) (other : Next) (o : Option (List Element)) → ((v : Value) → Quiet (body v))
-    → Quiet other → Quiet (over s line b body other o)
-over-quiet s line b body other None quiet rest r e = e
-over-quiet s line b body other (Some []) quiet rest r e = rest r e
-over-quiet s line b body other (Some (x ∷ es)) quiet rest r e = turns-quiet s line b body (x ∷ es) quiet r e
-
-control-quiet : (s : Setting) (line : ℕ) (c : Control) (h : Header) (d : Value) (body : Value → Next) (other : Next) → pipeline_makes_text h.pipeline ≡ false
-    → ((v : Value) → Quiet (body v)) → Quiet other → Quiet (controlled s line c h d body other)
-control-quiet s line control.If h d body other named quiet rest =
-    with_pipeline-quiet s line h.pipeline d (λ v r. one_of (truth v) (body d) other (with_bound h.binding (without_key v) r)) named
-    (λ v r e. one-quiet (truth v) (body d) other (quiet d) rest (with_bound h.binding (without_key v) r) e)
-control-quiet s line control.With h d body other named quiet rest =
-    with_pipeline-quiet s line h.pipeline d (λ v r. one_of (truth v) (body v) other (with_bound h.binding (without_key v) r)) named
-    (λ v r e. one-quiet (truth v) (body v) other (quiet v) rest (with_bound h.binding (without_key v) r) e)
-control-quiet s line control.Range h d body other named quiet rest =
-    with_pipeline-quiet s line h.pipeline d (λ v. over s line h.binding body other (visited h.binding v)) named
-    (λ v. over-quiet s line h.binding body other (visited h.binding v) quiet rest)
-
-handing-quiet : (s : Setting) (line : ℕ) (given : Option Pipeline) (d : Value) (go : Value → Next) → given_makes_text given ≡ false
-    → ((v : Value) → Quiet (go v)) → Quiet (handing s line given d go)
-handing-quiet s line None d go named quiet = quiet nothing
-handing-quiet s line (Some p) d go named quiet = with_pipeline-quiet s line p d go named quiet
-
-module _ (s : Setting) (calls : CallsQuietly s.calls) where
-  mutual
-    step-quiet : (n : NodeKind) (line : ℕ) (d : Value) → node_makes_text n ≡ false → Quiet (stepped s line n d)
-    step-quiet (action h) line d named r e = with_pipeline-quiet s line h.pipeline d (shown h.binding) named (λ v. shown-quiet h.binding v) r e
-    step-quiet (control_node c h body other) line d named r e =
-        let n = or_parts (pipeline_makes_text h.pipeline) (nodes_make_text body || nodes_make_text other) named in
-        let m = or_parts (nodes_make_text body) (nodes_make_text other) n.1 in
-        control-quiet s line c h d (λ v. meanings s body v) (meanings s other d) n.0 (λ v. nodes-quiet body v m.0) (nodes-quiet other d m.1) r e
-    step-quiet (template_node name given) line d named r e =
-        value-quiet s line (s.calls name) (handing s line given d) (λ body is. handing-quiet s line given d body named (calls name body is)) r e
-    step-quiet _ line d named r e = e
-
-    nodes-quiet : (ns : Nodes) (d : Value) → nodes_make_text ns ≡ false → Quiet (meanings s ns d)
-    nodes-quiet tree.none d named r e = e
-    nodes-quiet (tree.then line n ns) d named r e =
-        let m = or_parts (node_makes_text n) (nodes_make_text ns) named in
-        after-quiet (spend s line (stepped s line n d) r) (meanings s ns d)
-        (spend-quiet s line (stepped s line n d) (step-quiet n line d m.0) r e) (nodes-quiet ns d m.1)
-
 -- ---- templates
 
--- the first template of a name names no function that makes a text
-found-quiet : (b : Bool) (x t : Template) (o : Option Template) → nodes_make_text x.1.nodes ≡ false → (o ≡ Some t → nodes_make_text t.1.nodes ≡ false)
-    → (if b then Some x else o) ≡ Some t → nodes_make_text t.1.nodes ≡ false
-found-quiet true x t o here below e = let same : x ≡ t = cc in ap (λ u. nodes_make_text u.1.nodes) (sym same) ∙ here
-found-quiet false x t o here below e = below e
+-- where no text was made before it, none is behind it
+abbrev Quiet : Run → Run → Type 0
+Quiet r q = r.made_text ≡ false → q.made_text ≡ false
 
-find-quiet : (name : List ℕ) (ts : List Template) (t : Template) → find (has_name name) ts ≡ Some t → set_makes_text ts ≡ false
-    → nodes_make_text t.1.nodes ≡ false
-find-quiet name [] t is named = cc
-find-quiet name (x ∷ ts) t is named =
-    let n = or_parts (nodes_make_text x.1.nodes) (set_makes_text ts) named in
-    found-quiet (has_name name x) x t (find (has_name name) ts) n.0 (λ e. find-quiet name ts t e n.1) is
+abbrev MakesNone : Pipeline → Type 0
+MakesNone p = pipeline_makes_text p ≡ false
 
-named-quiet : (name : List ℕ) (ts : List Template) (t : Tree) → tree_named name ts ≡ Some t → set_makes_text ts ≡ false → nodes_make_text t.nodes ≡ false
-named-quiet name ts t is named = by (find (has_name name) ts) refl is
+quiet : Keeps Quiet MakesNone
+quiet = record {
+  same = λ r e. e;
+  on = λ r q u f g e. g (f e);
+  binds = λ r env e. e;
+  spends = λ r left e. e;
+  puts = λ r bytes e. e;
+  pipes = λ p s none r e. both r.made_text (pipeline_value s p).made_text e (commands-quiet p s None none);
+}
+
+mutual
+  node-none : (n : NodeKind) → node_makes_text n ≡ false → NodeHas MakesNone n
+  node-none (control_node c h body other) e =
+      let n = or_parts (pipeline_makes_text h.pipeline) (nodes_make_text body || nodes_make_text other) e in
+      let m = or_parts (nodes_make_text body) (nodes_make_text other) n.1 in
+      (n.0, nodes-none body m.0, nodes-none other m.1)
+  node-none (template_node name None) e = tt
+  node-none (template_node name (Some p)) e = e
+  node-none (action h) e = e
+  node-none _ e = tt
+
+  nodes-none : (ns : Nodes) → nodes_make_text ns ≡ false → NodesHave MakesNone ns
+  nodes-none tree.none e = tt
+  nodes-none (tree.then line n ns) e = let m = or_parts (node_makes_text n) (nodes_make_text ns) e in (node-none n m.0, nodes-none ns m.1)
+
+at-none : (ts : List Template) (number : ℕ) (t : Template) → slice_get ts number ≡ Some t → set_makes_text ts ≡ false → nodes_make_text t.1.nodes ≡ false
+at-none [] number t is none = cc
+at-none (x ∷ ts) zero t is none =
+    let same : x ≡ t = cc in ap (λ u. nodes_make_text u.1.nodes) (sym same) ∙ (or_parts (nodes_make_text x.1.nodes) (set_makes_text ts) none).0
+at-none (x ∷ ts) (suc n) t is none = at-none ts n t is (or_parts (nodes_make_text x.1.nodes) (set_makes_text ts) none).1
+
+named-none : (name : List ℕ) (ts : List Template) (t : Tree) → tree_named name ts ≡ Some t → set_makes_text ts ≡ false → nodes_make_text t.nodes ≡ false
+named-none name ts t is none = by (number_of name ts) refl
   where
-    by : (o : Option Template) → find (has_name name) ts ≡ o → option_map (λ u. u.1) o ≡ Some t → nodes_make_text t.nodes ≡ false
-    by None found e = cc
-    by (Some x) found e = let same : x.1 ≡ t = cc in ap (λ u. nodes_make_text u.nodes) (sym same) ∙ find-quiet name ts x found named
+    by : (o : Option ℕ) → number_of name ts ≡ o → nodes_make_text t.nodes ≡ false
+    by None e = let absent = unnumbered name ts e in cc
+    by (Some m) e =
+        let found : Named name ts m = numbered name ts m e in
+        let both : Some found.t.1 ≡ Some t = sym found.tree ∙ is in
+        let same : found.t.1 ≡ t = cc in
+        ap (λ u. nodes_make_text u.nodes) (sym same) ∙ at-none ts m found.t found.at none
 
-at-quiet : (ts : List Template) (number : ℕ) (t : Template) → slice_get ts number ≡ Some t → set_makes_text ts ≡ false
-    → nodes_make_text t.1.nodes ≡ false
-at-quiet [] number t is named = cc
-at-quiet (x ∷ ts) zero t is named =
-    let same : x ≡ t = cc in ap (λ u. nodes_make_text u.1.nodes) (sym same) ∙ (or_parts (nodes_make_text x.1.nodes) (set_makes_text ts) named).0
-at-quiet (x ∷ ts) (suc n) t is named = at-quiet ts n t is (or_parts (nodes_make_text x.1.nodes) (set_makes_text ts) named).1
-
-module _ (rules : Rules) (ts : List Template) (named : set_makes_text ts ≡ false) where
-  -- a call of a template, by what it calls in turn
-  call-quiet : (calls : Calls) (name : List ℕ) (body : Value → Next) (o : Option Tree) → tree_named name ts ≡ o → CallsQuietly calls
-      → run_called rules calls name o ≡ Ok body → (v : Value) → Quiet (body v)
-  call-quiet calls name body None found quiet e v r made = cc
-  call-quiet calls name body (Some t) found quiet e v r made =
-      let s : Setting = setting_of rules calls name t in
-      let run : Value → Next = λ v. apart v (meanings s t.nodes v) in
-      let same : run ≡ body = cc in
-      ap (λ (b : Value → Next). (b v r).0.made_text) (sym same)
-      ∙ nodes-quiet s quiet t.nodes v (named-quiet name ts t found named) (record r { env = ([], v) ∷ [] }) made
-
-  none-quiet : (name : List ℕ) (body : Value → Next) (o : Option Tree) → uncalled rules name o ≡ Ok body → (v : Value) → Quiet (body v)
-  none-quiet name body None e v r made = cc
-  none-quiet name body (Some t) e v r made = cc
-
-  calls-quiet : (n : ℕ) → CallsQuietly (calls_within rules ts n)
-  calls-quiet zero name body is = none-quiet name body (tree_named name ts) is
-  calls-quiet (suc n) name body is = call-quiet (calls_within rules ts n) name body (tree_named name ts) refl (calls-quiet n) is
-
-  pub run-quiet : (number : ℕ) (t : Template) (input : Option Value) → slice_get ts number ≡ Some t → (ran rules ts t.0 t.1 input).made_text ≡ false
-  run-quiet number t input is =
-      nodes-quiet (setting_of rules (calls_within rules ts (rules.depth_limit - 1)) t.0 t.1) (calls-quiet (rules.depth_limit - 1)) t.1.nodes
-      (starting_dot input) (at-quiet ts number t is named)
-      (started rules.step_limit (starting_dot input)) refl
+pub run-quiet : (rules : Rules) (ts : List Template) → set_makes_text ts ≡ false → (number : ℕ) (t : Template) (input : Option Value)
+    → slice_get ts number ≡ Some t → (ran rules ts t.0 t.1 input).made_text ≡ false
+run-quiet rules ts none number t input is =
+    nodes-kept quiet (setting_of rules (calls_within rules ts (rules.depth_limit - 1)) t.0 t.1)
+    (calls-kept quiet rules ts (λ name u found. nodes-none u.nodes (named-none name ts u found none)) (rules.depth_limit - 1))
+    t.1.nodes (starting_dot input) (nodes-none t.1.nodes (at-none ts number t is none)) (started rules.step_limit (starting_dot input)) refl
 
 pub text_is_named : TextIsNamed
 text_is_named rules ts number t input is made = by (set_makes_text ts) refl

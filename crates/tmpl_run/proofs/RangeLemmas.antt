@@ -1,9 +1,8 @@
 -- For the law `comes_to_meaning`: the code of ranges, breaks and continues.
 use Rattle.std.proofs.Common.{arith, ◌≡◌, ◌∙◌, ◌+◌, ◌-◌, ◌≤◌, nat_eq, ℕ, suc, Bool, true, false, List, [], ◌∷◌, length, drop, refl, add-one, ap, sym, subst}
-use Rattle.std.proofs.Common.{Option, Some, None, drop-drop, length-drop}
+use Rattle.std.proofs.Common.{Option, Some, None, drop-drop}
 use Rattle.std.specs.Prelude.{slice_set}
-use Rattle.std.proofs.lemmas.List.{length-set}
-use Rattle.tmpl_values.specs.Value.{Value, nothing, null, boolean, number, string, sequence, mapping}
+use Rattle.tmpl_values.specs.Value.{Value, nothing, boolean, number, string}
 use Rattle.tmpl_values.specs.Elements.{Element, elements}
 use Rattle.tmpl_grammar.specs.Tree.{Binding, unbound, declare, assign, declare_pair, Header}
 use Rattle.tmpl_grammar.specs.Need.{declared_count}
@@ -23,12 +22,12 @@ use Rattle.tmpl_run.specs.Cell.{Cell, cell, fresh}
 use Rattle.tmpl_run.specs.State.{State}
 use Rattle.tmpl_run.specs.Machine.{again, elements_for, elements_in, fault_in, goes, left_in, onto, opened, paid_if, ran_so, ring, turned, variables_on}
 use Rattle.tmpl_run.specs.Ends.{Comes}
-use Rattle.tmpl_run.proofs.NodeLemmas.{run_at, value-leads, valued, length-bound}
+use Rattle.tmpl_run.proofs.NodeLemmas.{run_at, value-leads, valued}
 use Rattle.tmpl_run.proofs.NodeLemmas as nodes
 use Rattle.tmpl_run.proofs.PipelineLemmas.{found-within}
-use Rattle.tmpl_run.proofs.WayLemmas.{ahead, ahead-one, Ring, Rooted, Stands, Way, Within, cut_to, exit_of}
-use Rattle.tmpl_run.proofs.SlotLemmas.{First, Frame, all_grown, all_grown_in, bound_in, cut-drop, env_of, first-saved, frame-binding, frame-bound, frame-drop}
-use Rattle.tmpl_run.proofs.SlotLemmas.{frame-set, frame_of, length-env, length-frame, named, over-binding, over-bound, over-none, run_of, stored, stored-none}
+use Rattle.tmpl_run.proofs.WayLemmas.{Inside, ahead, ahead-one, Ring, Stands, Way, Within, cut_to, exit_of}
+use Rattle.tmpl_run.proofs.SlotLemmas.{Cells, First, Frame, all_grown, all_grown_in, bound_in, cells-set, dropped, env-dropped, env_of, first-saved, frame_of}
+use Rattle.tmpl_run.proofs.SlotLemmas.{length-cells, length-env, named, over-binding, over-bound, over-none, run_of, stored, stored-none}
 use Rattle.tmpl_run.proofs.WayLemmas as ways
 
 -- ---- elements
@@ -46,14 +45,10 @@ visited-is _ v = refl
 
 -- with an index or key a range visits no others
 elements-are : (key : Bool) (v : Value) (es : List Element) → elements_for key v ≡ Some es → elements_in (elements v) ≡ es
-elements-are false v es e = ap elements_in e
-elements-are true nothing es e = ap elements_in e
-elements-are true null es e = ap elements_in e
 elements-are true (boolean b) es e = cc
 elements-are true (number n) es e = cc
 elements-are true (string s) es e = cc
-elements-are true (sequence vs) es e = ap elements_in e
-elements-are true (mapping entries) es e = ap elements_in e
+elements-are _ _ es e = ap elements_in e
 
 module _ (way : Way) (calls : Calls) (spare : ℕ) where
   abbrev NodesLead : Nodes → Type 0
@@ -63,42 +58,37 @@ module _ (way : Way) (calls : Calls) (spare : ℕ) where
 
   abbrev Ringed : Ring → Layout → ℕ → State → Type 0
   Ringed g lay n s =
-      (es : List Cell) × (drop n s.cells ≡ cell g.dot g.place ∷ cell g.value g.index ∷ es) × (frame_of g.lay es ≡ g.frame) × (length g.lay ≤ length es)
-      × (env_of g.lay es ≡ oldest (named g.lay) (env_of lay s.cells))
+      (es : List Cell) × (drop n s.cells ≡ cell g.dot g.place ∷ cell g.value g.index ∷ es) × Cells g.lay g.frame es
+      × (run_of g.lay (record s { cells = es }) ≡ cut_to (named g.lay) (run_of lay s))
 
-  ring-first : (g : Ring) (lay : Layout) (fr : Frame) (here : Code) (s : State) (w : Within g lay fr) → Stands way.plan way.who here lay fr s
-      → Ringed g lay w.n s
-  ring-first g lay fr here s w st = (
+  ring-first : (g : Ring) (lay : Layout) (fr : Frame) (s : State) (w : Within g lay fr) → Cells lay fr s.cells → Ringed g lay w.n s
+  ring-first g lay fr s w cells = (
     two.rest,
     one.cells ∙ ap (λ l. cell g.dot g.place ∷ l) two.cells,
-    two.frame,
-    two.deep,
-    sym two.env ∙ sym one.env ∙ sym (cut-drop w.n lay (None ∷ None ∷ g.lay) s.cells w.over st.deep),
+    two.under,
+    ap (λ (v : Environment). record (run_of lay s) { env = v }) (sym two.env ∙ sym one.env ∙ env-dropped w.over cells),
   )
     where
       one : First (None ∷ g.lay) (drop w.n s.cells) (cell g.dot g.place) (Some (cell g.value g.index) ∷ g.frame)
-      one = first-saved (None ∷ g.lay) (drop w.n s.cells) (cell g.dot g.place) (Some (cell g.value g.index) ∷ g.frame)
-          (frame-drop w.n lay (None ∷ None ∷ g.lay) s.cells w.over st.deep ∙ ap (drop w.n) st.frame ∙ w.cells)
-          (let size = w.over.size in let deep = st.deep in let long = length-drop w.n s.cells in omega arith)
+      one = first-saved (None ∷ g.lay) (drop w.n s.cells) (cell g.dot g.place) (Some (cell g.value g.index) ∷ g.frame) (dropped w.over cells)
 
       two : First g.lay one.rest (cell g.value g.index) g.frame
-      two = first-saved g.lay one.rest (cell g.value g.index) g.frame one.frame one.deep
+      two = first-saved g.lay one.rest (cell g.value g.index) g.frame one.under
 
   -- the end of the template
   returning : (lay : Layout) (fr : Frame) (here rest : Code) (s : State) → here ≡ code.return_from (length lay - 3) ∷ rest
       → Stands way.plan way.who here lay fr s
-      → Rooted way.home lay fr → ways.Returning way s
+      → Inside way.home None lay fr → ways.Returning way s
   returning lay fr here rest s l st w = record {
     n = length lay - 3;
     more = rest;
     at = st.at ∙ l;
     runs = st.runs;
-    frame = ap (λ k. frame_of first_layout (drop k s.cells)) count ∙ frame-drop w.n lay first_layout s.cells w.over st.deep ∙ ap (drop w.n) st.frame ∙ w.cells;
-    deep = (let size = w.over.size in let deep = st.deep in omega arith);
+    frame = ap (λ k. frame_of first_layout (drop k s.cells)) count ∙ (dropped w.1 st.cells).frame;
   }
     where
-      count : length lay - 3 ≡ w.n
-      count = let size = w.over.size in omega arith
+      count : length lay - 3 ≡ w.0
+      count = let size = w.1.size in omega arith
 
   pub break-leads : (line : ℕ) → nodes.NodeLeads way calls spare line tree.break_node
   break-leads line None lay fr here rest s l st same-line w fits more-fits k = k s (returning lay fr here rest s l st w) refl
@@ -106,11 +96,10 @@ module _ (way : Way) (calls : Calls) (spare : ℕ) where
       ways.takes way s (code.leave l.0 l.1) rest st.runs (st.at ∙ l.3) tt
       (subst (λ cs. Comes (ways.Leading way) (ring cs (λ d v cs. goes (record s { cells = cs; dot = d.val; place = s.place + 1 + l.1 }))) way.end)
       (sym (ap (λ n. drop n s.cells) count ∙ cells.1))
-      (k _ (record { at = ahead way.plan.code rest s.place l.1 (code.leave l.0 l.1) (st.at ∙ l.3) ∙ l.4; runs = st.runs; frame = cells.2; deep = cells.3 }) refl
-      (ap (λ (v : Environment). let r : Run = record { env = v; text = s.text; left = s.left; made_text = s.made_text } in r) cells.4)))
+      (k _ (record { at = ahead way.plan.code rest s.place l.1 (code.leave l.0 l.1) (st.at ∙ l.3) ∙ l.4; runs = st.runs; cells = cells.2 }) refl cells.3))
     where
       cells : Ringed g lay w.n s
-      cells = ring-first g lay fr here s w st
+      cells = ring-first g lay fr s w st.cells
 
       count : l.0 ≡ w.n
       count = let size = w.over.size in let depth = w.depth in let above = l.2 in omega arith
@@ -127,13 +116,12 @@ module _ (way : Way) (calls : Calls) (spare : ℕ) where
         runs = st.runs;
         far = l.4;
         cells = ap (λ n. drop n s.cells) count ∙ cells.1;
-        frame = cells.2;
-        deep = cells.3;
-        run = ap (λ (v : Environment). let r : Run = record { env = v; text = s.text; left = s.left; made_text = s.made_text } in r) cells.4;
+        under = cells.2;
+        run = cells.3;
       })
     where
       cells : Ringed g lay w.n s
-      cells = ring-first g lay fr here s w st
+      cells = ring-first g lay fr s w st.cells
 
       count : l.0 ≡ w.n
       count = let size = w.over.size in let depth = w.depth in let above = l.2 in omega arith
@@ -174,8 +162,7 @@ module _ (way : Way) (calls : Calls) (spare : ℕ) where
 
     -- behind the range
     leaves : (r : Run) (t : State) → B r → Stands way.plan way.who rest lay fr t → t.dot ≡ d → run_of lay t ≡ r → ways.Leading way t
-    leaves r t k st dot run = k t st dot (ap (λ (v : Environment). record (run_of lay t) { env = v }) (sym (cut-drop 0 lay lay t.cells (over-none lay) st.deep))
-        ∙ ap (cut_to (named lay)) run)
+    leaves r t k st dot run = k t st dot (ways.run-dropped (over-none lay fr) t st.cells ∙ ap (cut_to (named lay)) run)
 
     on-turn : (es : List Element) (k : ℕ) (x : Run × End) (n : ℕ) → n ≡ named lay → ways.After way B g (after_turn (scoped n x) (others es))
         → ((r : Run) → ways.After way B g (others es r) → (t : State) → behind k r t → ways.Leading way t)
@@ -184,10 +171,9 @@ module _ (way : Way) (calls : Calls) (spare : ℕ) where
       where
         by : (w : End) → ways.After way B g (on_turn w (cut_to (named lay) x.0) (others es))
             → ways.Then way (λ r. (t : State) → behind k (cut_to (named lay) r) t → ways.Leading way t) (Some (turning k)) x.0 w
-        by meaning.done h = next (cut_to (named lay) x.0) h
         by meaning.broke h = λ t st dot run. leaves (cut_to (named lay) x.0) t h st dot run
-        by meaning.continued h = next (cut_to (named lay) x.0) h
         by (meaning.faulted w) h = h
+        by _ h = next (cut_to (named lay) x.0) h
 
     -- the instruction behind a turn is the end of the turn
     body-ends : (k : ℕ) (dot : Value) (r : Run) → ((t : State) → behind k (cut_to (named lay) r) t → ways.Leading way t)
@@ -196,12 +182,10 @@ module _ (way : Way) (calls : Calls) (spare : ℕ) where
     body-ends k dot r h t st same run =
         let w : Within (turning k) (all_grown body inner) (all_grown_in body (bound_in b (outer k))) = record {
           n = declared_count b + declared_in body;
-          over = over-bound b body (None ∷ None ∷ lay);
-          cells = frame-bound b body (outer k);
+          over = over-bound b body (None ∷ None ∷ lay) (outer k);
           depth = refl;
         } in
-        let cells = ring-first (turning k) (all_grown body inner) (all_grown_in body (bound_in b (outer k)))
-        (code.next (declared_count b + declared_in body) to line ∷ second) t w st in
+        let cells = ring-first (turning k) (all_grown body inner) (all_grown_in body (bound_in b (outer k))) t w st.cells in
         h t (record {
           n = declared_count b + declared_in body;
           skip = to;
@@ -211,89 +195,75 @@ module _ (way : Way) (calls : Calls) (spare : ℕ) where
           runs = st.runs;
           far = far;
           cells = cells.1;
-          frame = cells.2;
-          deep = cells.3;
-          run = ap (λ (e : Environment). record (run_of (all_grown body inner) t) { env = e }) cells.4 ∙ ap (cut_to (named lay)) run;
+          under = cells.2;
+          run = cells.3 ∙ ap (cut_to (named lay)) run;
         })
 
     -- what a turn binds
     begins-turn : (e : Element) (es : List Element) (k : ℕ) (cs : List Cell) (s : State) → ways.who_of s ≡ way.who → drop k (elements_in (elements v)) ≡ e ∷ es
-        → drop s.place way.plan.code ≡ start
-        → frame_of lay cs ≡ fr → length lay ≤ length cs
-        → ((ds : List Cell) (there : ℕ) → drop there way.plan.code ≡ first → frame_of inner ds ≡ bound_in b (outer k) → length inner ≤ length ds
+        → drop s.place way.plan.code ≡ start → Cells lay fr cs
+        → ((ds : List Cell) (there : ℕ) → drop there way.plan.code ≡ first → Cells inner (bound_in b (outer k)) ds
         → env_of inner ds ≡ bound b e (env_of lay cs) → ways.Leading way (record s { cells = ds; dot = e.1; place = there }))
         → ways.Leading way (record s { cells = saved ∷ cell v k ∷ cs })
-    begins-turn e es k cs s same here at frame deep more = by b turn-at fits more
+    begins-turn e es k cs s same here at cells more = by b turn-at fits more
       where
         now : State
         now = record s { cells = saved ∷ cell v k ∷ cs }
 
+        outside : Cells (None ∷ None ∷ lay) (outer k) now.cells
+        outside = record { frame = ap (λ l. Some saved ∷ Some (cell v k) ∷ l) cells.frame; deep = (let deep = cells.deep in omega arith) }
+
         turns-by : (n : ℕ) (is : Code) → start ≡ code.turn n ∷ is → suc (suc (length cs)) + n ≤ way.room
-            → ways.Leading way (record s { cells = variables_on n e (saved ∷ cell v k ∷ cs); dot = e.1; place = s.place + 1 }) → ways.Leading way now
+            → (drop (s.place + 1) way.plan.code ≡ is → ways.Leading way (record s { cells = variables_on n e now.cells; dot = e.1; place = s.place + 1 }))
+            → ways.Leading way now
         turns-by n is l fits h =
             ways.takes way now (code.turn n) is same (at ∙ l) fits
-            (subst (λ l. Comes (ways.Leading way) (turned n l now) way.end) (sym here) h)
+            (subst (λ l. Comes (ways.Leading way) (turned n l now) way.end) (sym here) (h (ahead-one way.plan.code is s.place (code.turn n) (at ∙ l))))
 
         long : length cs ≡ length fr
-        long = sym (length-frame lay cs deep) ∙ ap length frame
+        long = length-cells cells
 
         by : (b : Binding) → TurnAt b (None ∷ None ∷ lay) start first → length fr + (2 + declared_count b + need_of_nodes body) + spare ≤ way.room
-            → ((ds : List Cell) (there : ℕ) → drop there way.plan.code ≡ first → frame_of (bound_on b (None ∷ None ∷ lay)) ds ≡ bound_in b (outer k)
-            → length (bound_on b (None ∷ None ∷ lay)) ≤ length ds
+            → ((ds : List Cell) (there : ℕ) → drop there way.plan.code ≡ first → Cells (bound_on b (None ∷ None ∷ lay)) (bound_in b (outer k)) ds
             → env_of (bound_on b (None ∷ None ∷ lay)) ds ≡ bound b e (env_of lay cs) → ways.Leading way (record s { cells = ds; dot = e.1; place = there }))
             → ways.Leading way now
-        by unbound l fits more =
-            turns-by 0 first l (let same = long in omega arith)
-            (more (saved ∷ cell v k ∷ cs) (s.place + 1) (ahead-one way.plan.code first s.place (code.turn 0) (at ∙ l))
-            (ap (λ l. Some saved ∷ Some (cell v k) ∷ l) frame) (omega arith) refl)
-        by (declare x) l fits more =
-            turns-by 1 first l (let same = long in omega arith)
-            (more (fresh e.1 ∷ saved ∷ cell v k ∷ cs) (s.place + 1) (ahead-one way.plan.code first s.place (code.turn 1) (at ∙ l))
-            (ap (λ l. None ∷ Some saved ∷ Some (cell v k) ∷ l) frame) (omega arith) refl)
-        by (declare_pair i x) l fits more =
-            turns-by 2 first l (let same = long in omega arith)
-            (more (fresh e.1 ∷ fresh e.0 ∷ saved ∷ cell v k ∷ cs) (s.place + 1) (ahead-one way.plan.code first s.place (code.turn 2) (at ∙ l))
-            (ap (λ l. None ∷ None ∷ Some saved ∷ Some (cell v k) ∷ l) frame) (omega arith) refl)
-        by (assign x) l fits more =
-            turns-by 0 l.0 l.1 (let same = long in omega arith)
-            (sets (slot_named x (None ∷ None ∷ lay)) refl l.2)
+        by unbound l fits more = turns-by 0 first l (omega (arith, long)) (λ at. more now.cells (s.place + 1) at outside refl)
+        by (declare x) l fits more = turns-by 1 first l (omega (arith, long)) (λ at. more (fresh e.1 ∷ now.cells) (s.place + 1) at
+            (record { frame = ap (λ l. None ∷ l) outside.frame; deep = (let deep = outside.deep in omega arith) }) refl)
+        by (declare_pair i x) l fits more = turns-by 2 first l (omega (arith, long)) (λ at. more (fresh e.1 ∷ fresh e.0 ∷ now.cells) (s.place + 1) at
+            (record { frame = ap (λ l. None ∷ None ∷ l) outside.frame; deep = (let deep = outside.deep in omega arith) }) refl)
+        by (assign x) l fits more = turns-by 0 l.0 l.1 (omega (arith, long)) (sets (slot_named x (None ∷ None ∷ lay)) refl l.2)
           where
-            there : drop (s.place + 1) way.plan.code ≡ l.0
-            there = ahead-one way.plan.code l.0 s.place (code.turn 0) (at ∙ l.1)
-
-            sets : (o : Option ℕ) → slot_named x (None ∷ None ∷ lay) ≡ o → SetDotAt o l.0 first
+            sets : (o : Option ℕ) → slot_named x (None ∷ None ∷ lay) ≡ o → SetDotAt o l.0 first → drop (s.place + 1) way.plan.code ≡ l.0
                 → ways.Leading way (record s { cells = saved ∷ cell v k ∷ cs; dot = e.1; place = s.place + 1 })
-            sets None is-slot l = more (saved ∷ cell v k ∷ cs) (s.place + 1) (there ∙ l) (ap (λ l. Some saved ∷ Some (cell v k) ∷ l) frame) (omega arith)
-                (sym (stored-none x (None ∷ None ∷ lay) (saved ∷ cell v k ∷ cs) e.1 is-slot (omega arith)))
-            sets (Some i) is-slot l =
+            sets None is-slot l there = more now.cells (s.place + 1) (there ∙ l) outside
+                (sym (stored-none x (None ∷ None ∷ lay) now.cells e.1 is-slot outside.deep))
+            sets (Some i) is-slot l there =
                 ways.takes way (record s { cells = saved ∷ cell v k ∷ cs; dot = e.1; place = s.place + 1 }) (code.set_dot i) first same (there ∙ l)
-                (let below = found-within x (None ∷ None ∷ lay) i is-slot in omega arith)
-                (more (slice_set (saved ∷ cell v k ∷ cs) i (fresh e.1)) (s.place + 1 + 1)
+                (let below = found-within x (None ∷ None ∷ lay) i is-slot in let deep = cells.deep in omega arith)
+                (more (slice_set now.cells i (fresh e.1)) (s.place + 1 + 1)
                 (ahead-one way.plan.code first (s.place + 1) (code.set_dot i) (there ∙ l))
-                (frame-set x (None ∷ None ∷ lay) (saved ∷ cell v k ∷ cs) i e.1 is-slot (omega arith) ∙ ap (λ l. Some saved ∷ Some (cell v k) ∷ l) frame)
-                (omega (arith, length-set (saved ∷ cell v k ∷ cs) i (fresh e.1)))
-                (stored x (None ∷ None ∷ lay) (saved ∷ cell v k ∷ cs) i e.1 is-slot (omega arith)))
+                (cells-set x (None ∷ None ∷ lay) now.cells i e.1 is-slot outside) (stored x (None ∷ None ∷ lay) now.cells i e.1 is-slot outside.deep))
 
     -- a turn from its first instruction on
     turn-leads : NodesLead body → (e : Element) (es : List Element) (k : ℕ) (cs : List Cell) (s : State) → ways.who_of s ≡ way.who
-        → drop k (elements_in (elements v)) ≡ e ∷ es → drop s.place way.plan.code ≡ start
-        → frame_of lay cs ≡ fr → length lay ≤ length cs
+        → drop k (elements_in (elements v)) ≡ e ∷ es → drop s.place way.plan.code ≡ start → Cells lay fr cs
         → ways.After way B g (after_turn (scoped (length (env_of lay cs)) (part e (run_of lay (record s { cells = cs })))) (others es))
         → ((r : Run) → ways.After way B g (others es r) → (t : State) → behind k r t → ways.Leading way t)
         → ways.Leading way (record s { cells = saved ∷ cell v k ∷ cs })
-    turn-leads ih e es k cs s same here at frame deep h next =
-        begins-turn e es k cs s same here at frame deep
-        (λ ds there at-first is-frame is-deep is-env.
+    turn-leads ih e es k cs s same here at cells h next =
+        begins-turn e es k cs s same here at cells
+        (λ ds there at-first inside-cells is-env.
         ih (Some (turning k)) inner (bound_in b (outer k)) first (code.next (declared_count b + declared_in body) to line ∷ second)
         (record s { cells = ds; dot = e.1; place = there })
         laid
-        (record { at = at-first; runs = same; frame = is-frame; deep = is-deep })
+        (record { at = at-first; runs = same; cells = inside-cells })
         inside
-        (let long = length-bound b (outer k) in omega arith)
+        (let tall = inside.over.tall in omega arith)
         (subst (λ (w : Environment). let r : Run = record { env = w; text = s.text; left = s.left; made_text = s.made_text } in
         ways.After way goal (Some (turning k)) (meanings (ways.setting way calls) body e.1 r)) (sym is-env)
         (ways.then-map way C goal (Some (turning k)) x.0 x.1 (λ r h. body-ends k e.1 r h)
-        (on-turn es k x (length (env_of lay cs)) (length-env lay cs deep) h next))))
+        (on-turn es k x (length (env_of lay cs)) (length-env lay cs cells.deep) h next))))
       where
         x : Run × End
         x = part e (run_of lay (record s { cells = cs }))
@@ -306,12 +276,7 @@ module _ (way : Way) (calls : Calls) (spare : ℕ) where
         C r = (t : State) → behind k (cut_to (named lay) r) t → ways.Leading way t
 
         inside : Within (turning k) inner (bound_in b (outer k))
-        inside = record {
-          n = declared_count b;
-          over = over-binding b (None ∷ None ∷ lay);
-          cells = frame-binding b (outer k);
-          depth = refl;
-        }
+        inside = record { n = declared_count b; over = over-binding b (None ∷ None ∷ lay) (outer k); depth = refl }
 
     -- the instruction behind a turn, by the elements that are left
     nexts : (es : List Element) (k : ℕ) → drop (suc k) (elements_in (elements v)) ≡ es → (r : Run) (t : State) (tu : behind k r t)
@@ -328,13 +293,8 @@ module _ (way : Way) (calls : Calls) (spare : ℕ) where
     next-leads ih [] k here r h t tu =
         nexts [] k here r t tu
         (leaves r (record t { cells = tu.cs; dot = d; place = t.place + 1 + tu.skip }) h
-        (record {
-          at = ahead way.plan.code tu.more t.place tu.skip (code.next tu.n tu.skip line) tu.at
-              ∙ tu.far;
-          runs = tu.runs;
-          frame = tu.frame;
-          deep = tu.deep;
-        }) refl tu.run)
+        (record { at = ahead way.plan.code tu.more t.place tu.skip (code.next tu.n tu.skip line) tu.at ∙ tu.far; runs = tu.runs; cells = tu.under })
+        refl tu.run)
     next-leads ih (e ∷ es) k here r h t tu =
         nexts (e ∷ es) k here r t tu (on (λ r h t tu. next-leads ih es (suc k) (one-less (elements_in (elements v)) (suc k) e es here) r h t tu)
         (nat_eq t.left 0) (subst (λ r. ways.After way B g (others (e ∷ es) r)) (sym tu.run) h))
@@ -345,7 +305,7 @@ module _ (way : Way) (calls : Calls) (spare : ℕ) where
             → Comes (ways.Leading way) (paid_if c way.plan way.me line t (λ s. onto (saved ∷ cell v (suc k) ∷ tu.cs) place s)) way.end
         on next true h = h
         on next false h =
-            turn-leads ih e es (suc k) tu.cs (record t { left = t.left - 1; line = line; place = place }) tu.runs here begin tu.frame tu.deep h next
+            turn-leads ih e es (suc k) tu.cs (record t { left = t.left - 1; line = line; place = place }) tu.runs here begin tu.under h next
 
   -- ---- ranges
 
@@ -355,9 +315,9 @@ module _ (way : Way) (calls : Calls) (spare : ℕ) where
       value-leads way calls B g line s.left h.pipeline lay fr here l.0 s go
       l.1 st same-line (omega arith)
       (ways.unscope way A g lay fr (length (env_of lay s.cells)) (ranging (ways.setting way calls) line h s.dot (λ v. meanings (ways.setting way calls) body v)
-      (meanings (ways.setting way calls) other s.dot) (run_of lay s)) (length-env lay s.cells st.deep) inside k)
+      (meanings (ways.setting way calls) other s.dot) (run_of lay s)) (length-env lay s.cells st.cells.deep) inside k)
       (λ v m place at k. ways.takes way (valued v m place s) (code.enter (declares_key h.binding) l.2.3) l.2.0 st.runs (at ∙ l.2.5)
-      (let long = length-frame lay s.cells st.deep in let same = ap length st.frame in omega arith)
+      (let long = length-cells st.cells in omega arith)
       (by v m place (at ∙ l.2.5) (elements_for (declares_key h.binding) v) refl (subst
       (λ o. ways.After way B g (over (ways.setting way calls) line h.binding (λ v. meanings (ways.setting way calls) body v)
       (meanings (ways.setting way calls) other s.dot) o (run_at lay m s))) (visited-is h.binding v) k)))
@@ -381,13 +341,8 @@ module _ (way : Way) (calls : Calls) (spare : ℕ) where
       by v m place at (Some []) e k =
           nodes.part-leads way calls spare other ih-other unbound g lay fr l.2.2 rest rest 0 s.dot (run_at lay m s) _
           (subst (λ n. Ended n 0 (NodesAt way.plan.templates other lay (exit_of g)) l.2.2 rest) zero-more l.2.8) refl inside (omega arith)
-          (record {
-            at = ahead way.plan.code l.2.0 place l.2.3 (code.enter (declares_key h.binding) l.2.3) at
-                ∙ l.2.9;
-            runs = st.runs;
-            frame = st.frame;
-            deep = st.deep;
-          }) refl refl k
+          (record { at = ahead way.plan.code l.2.0 place l.2.3 (code.enter (declares_key h.binding) l.2.3) at ∙ l.2.9; runs = st.runs; cells = st.cells })
+          refl refl k
         where
           zero-more : declared_in other ≡ 0 + declared_in other
           zero-more = omega arith
@@ -410,6 +365,6 @@ module _ (way : Way) (calls : Calls) (spare : ℕ) where
           on true h = ap (λ n. ran_so (valued v m place s) (Some (fault_in way.me n (meaning.steps_spent way.plan.rules.step_limit)))) same-line ∙ h
           on false hk =
               turn-leads h.binding line body g lay fr l.2.0 l.2.1 l.2.2 rest l.2.4 s.dot v (place + 1) l.2.10 more begin l.2.6 l.2.7 ih-body e es 0 s.cells
-              (record (valued v m place s) { dot = nothing; left = s.left - 1; place = place + 1 }) st.runs here-es begin st.frame st.deep hk
+              (record (valued v m place s) { dot = nothing; left = s.left - 1; place = place + 1 }) st.runs here-es begin st.cells hk
               (λ r hr t tu. next-leads h.binding line body g lay fr l.2.0 l.2.1 l.2.2 rest l.2.4 s.dot v (place + 1) l.2.10 more begin l.2.6 l.2.7 ih-body es 0
               (one-less (elements_in (elements v)) 0 e es here-es) r hr t tu)

@@ -18,9 +18,8 @@ top-found [] go h = absurd h
 top-found (c ∷ cs) go h = omega arith
 
 pub ring-found : (cs : List Cell) (go : Cell → Cell → List Cell → Turn) → Lands (ring cs go) → 2 ≤ length cs
-ring-found [] go h = absurd h
-ring-found (c ∷ []) go h = absurd h
 ring-found (c ∷ d ∷ cs) go h = omega arith
+ring-found _ go h = absurd h
 
 pub below-found : (n : ℕ) (cs : List Cell) (go : Cell → Cell → List Cell → Turn) → Lands (ring (drop n cs) go) → n + 2 ≤ length cs
 below-found n cs go h = let two = ring-found (drop n cs) go h in let left = length-drop n cs in omega arith
@@ -31,9 +30,8 @@ top-lands A (c ∷ cs) go f h = f c cs h
 
 ring-lands : (A : Type 0) (cs : List Cell) (go : Cell → Cell → List Cell → Turn) → ((c d : Cell) (cs : List Cell) → Lands (go c d cs) → A)
     → Lands (ring cs go) → A
-ring-lands A [] go f h = absurd h
-ring-lands A (c ∷ []) go f h = absurd h
 ring-lands A (c ∷ d ∷ cs) go f h = f c d cs h
+ring-lands A _ go f h = absurd h
 
 module _ (plan : Plan) (t : Template) (s : State) where
   -- the place to which an instruction jumps
@@ -54,18 +52,16 @@ module _ (plan : Plan) (t : Template) (s : State) where
   turn-element n h e = by s.cells h e
     where
       by : (cs : List Cell) → Lands (ring cs (λ d v cs. turned n (left_in v) s)) → item_at (slot_cell 1 cs).num (slot_cell 1 cs).val ≡ None → ⊥
-      by [] h e = absurd h
-      by (c ∷ []) h e = absurd h
       by (c ∷ v ∷ cs) h e = subst (λ es. Lands (turned n es s)) (none-at (elements v.val) v.num e) h
+      by _ h e = absurd h
 
   pub next-jumps : (n skip line : ℕ) → Lands (done plan t (code.next n skip line) s) → has_more (slot_cell 1 (drop n s.cells)) ≡ false
       → s.place + 1 + skip < 2 ^ 64
   next-jumps n skip line h e = by (drop n s.cells) h e
     where
       by : (cs : List Cell) → Lands (ring cs (λ d v cs. again plan t skip line d v cs (drop 1 (left_in v)) s)) → has_more (slot_cell 1 cs) ≡ false → Jumps skip
-      by [] h e = absurd h
-      by (c ∷ []) h e = absurd h
       by (c ∷ v ∷ cs) h e = subst (λ es. Lands (again plan t skip line c v cs es s)) (none-left v e) h
+      by _ h e = absurd h
 
   pub leave-jumps : (n skip : ℕ) → Lands (done plan t (code.leave n skip) s) → s.place + 1 + skip < 2 ^ 64
   leave-jumps n skip h = ring-lands (Jumps skip) (drop n s.cells) _ (λ d v cs l. l) h
@@ -85,7 +81,5 @@ module _ (plan : Plan) (t : Template) (s : State) where
       (subst (λ b. Lands (returned_if b (drop n s.cells) s)) (let inside : nat_lt 1 s.depth ≡ true = grind (arith, nat_tests) in inside) h)
     where
       by : (cs : List Cell) → length cs ≡ length s.cells - n → Lands (returned_if true cs s) → n + 3 ≤ length s.cells
-      by [] e h = absurd h
-      by (c ∷ []) e h = absurd h
-      by (c ∷ d ∷ []) e h = absurd h
       by (c ∷ d ∷ f ∷ cs) e h = omega arith
+      by _ e h = absurd h

@@ -69,7 +69,6 @@ module _ (end : Ran) (before after : Told) (rest : List ℕ) (name : ℕ) (grows
 -- no put failed in the loop, or that is told
 pub counts-so : (end : Ran) (old new : Puts) (r : Result (Unit {0}) RunError) → Came end old new r
     → (r ≡ Err error.WriteFailed → ⊥) → new.failures ≡ old.failures
-counts-so end old new (Ok u) came h = came.0.count ∙ add-zero old.failures
-counts-so end old new (Err (error.Fault fault)) came h = came.0.count ∙ add-zero old.failures
 counts-so end old new (Err error.WriteFailed) came h = absurd (h refl)
 counts-so end old new (Err error.OutOfMemory) came h = came.2.count ∙ add-zero old.failures
+counts-so end old new _ came h = came.0.count ∙ add-zero old.failures

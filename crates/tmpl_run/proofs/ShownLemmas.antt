@@ -8,7 +8,6 @@ use Rattle.tmpl_values.specs.Value.{Value, null}
 use Rattle.tmpl_syntax.specs.Set.{Template}
 use Rattle.tmpl_meaning.specs.Meaning.{Ran}
 use Rattle.tmpl_meaning.specs.Pipeline.{without_null}
-use Rattle.tmpl_code.specs.Code.{Code}
 use Rattle.tmpl_code.specs.Instruction as code
 use Rattle.tmpl_code.specs.Instruction.{Instruction, act}
 use Rattle.tmpl_run.specs.Cell.{fresh, slot}
@@ -32,35 +31,28 @@ shows-is o e = cc
 
 -- ---- an instruction that is carried out so
 
-module _ (all : Code) (place : ℕ) where
-  pub shown-once : (i : Instruction) → at_once all place i ≡ true → is_shown all place ≡ true
-  shown-once (act code.push_dot) e = e
-  shown-once (act (code.push_fields names)) e = e
-  shown-once (act (code.push_slot k)) e = e
-  shown-once i e = cc
+pub record Once (plan : Plan) (t : Template) (i : Instruction) (s : State) : Type 0 where
+  pub shown : is_shown plan.code s.place ≡ true
+  pub mark : mark_behind i false ≡ false
+  pub quiet : added i s ≡ []
+  pub puts : (v : Value) → value_by plan i s ≡ Ok v → done plan t i s ≡ goes (record s { cells = fresh v ∷ s.cells; place = s.place + 1 })
 
-  pub mark-once : (i : Instruction) → at_once all place i ≡ true → mark_behind i false ≡ false
-  mark-once (act code.push_dot) e = refl
-  mark-once (act (code.push_fields names)) e = refl
-  mark-once (act (code.push_slot k)) e = refl
-  mark-once i e = cc
-
-  pub quiet-once : (i : Instruction) (s : State) → at_once all place i ≡ true → added i s ≡ []
-  quiet-once (act code.push_dot) s e = refl
-  quiet-once (act (code.push_fields names)) s e = refl
-  quiet-once (act (code.push_slot k)) s e = refl
-  quiet-once i s e = cc
-
-  pub puts-once : (plan : Plan) (t : Template) (i : Instruction) (s : State) (v : Value) → at_once all place i ≡ true → value_by plan i s ≡ Ok v
-      → done plan t i s ≡ goes (record s { cells = fresh v ∷ s.cells; place = s.place + 1 })
-  puts-once plan t (act code.push_dot) s v e is =
-      let same : s.dot ≡ v = cc in
-      operation.puts plan t s code.push_dot v s.cells (ap (λ w. on 0 (fresh w ∷ s.cells)) same)
-  puts-once plan t (act (code.push_fields names)) s v e is = operation.fields-give plan t s names v (sym is)
-  puts-once plan t (act (code.push_slot k)) s v e is =
-      let same : slot k s.cells ≡ v = cc in
-      operation.puts plan t s (code.push_slot k) v s.cells (ap (λ w. on 0 (fresh w ∷ s.cells)) same)
-  puts-once plan t i s v e is = cc
+pub once-is : (plan : Plan) (t : Template) (i : Instruction) (s : State) → at_once plan.code s.place i ≡ true → Once plan t i s
+once-is plan t (act code.push_dot) s e = record {
+  shown = e;
+  mark = refl;
+  quiet = refl;
+  puts = λ v is. (let same : s.dot ≡ v = cc in operation.puts plan t s code.push_dot v s.cells (ap (λ w. on 0 (fresh w ∷ s.cells)) same));
+}
+once-is plan t (act (code.push_fields names)) s e =
+    record { shown = e; mark = refl; quiet = refl; puts = λ v is. operation.fields-give plan t s names v (sym is) }
+once-is plan t (act (code.push_slot k)) s e = record {
+  shown = e;
+  mark = refl;
+  quiet = refl;
+  puts = λ v is. (let same : slot k s.cells ≡ v = cc in operation.puts plan t s (code.push_slot k) v s.cells (ap (λ w. on 0 (fresh w ∷ s.cells)) same));
+}
+once-is plan t i s e = cc
 
 -- null and nothing have one text
 text-settled : (v : Value) → text_of (without_null v) ≡ text_of v

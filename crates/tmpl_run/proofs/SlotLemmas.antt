@@ -1,8 +1,9 @@
 -- For the law `comes_to_meaning`: the slots of a layout are the variables of the meaning, and a part leaves all other cells equal.
 use Rattle.std.proofs.Common.{arith, ◌≡◌, ◌∙◌, ◌+◌, ◌-◌, ◌≤◌, ℕ, zero, suc, Bool, true, false, List, [], ◌∷◌, length, drop, set, refl, ap, sym, Option, Some}
-use Rattle.std.proofs.Common.{None, drop-drop}
+use Rattle.std.proofs.Common.{None, drop-drop, length-drop}
 use Rattle.std.specs.Prelude.{if◌then◌else◌, map}
-use Rattle.std.proofs.lemmas.List.{length-map}
+use Rattle.std.specs.List.{drop-map}
+use Rattle.std.proofs.lemmas.List.{length-map, length-set}
 use Rattle.std.specs.Str.{bytes_eq}
 use Rattle.tmpl_values.specs.Value.{Value, nothing}
 use Rattle.tmpl_meaning.specs.Pipeline.{Environment, lookup}
@@ -116,15 +117,12 @@ slots-are lay cs h = record {
     is x o e = (slotted x lay cs nothing h).found ∙ ap (λ o. by_slot o nothing (λ k. slot k cs)) e
 
 module _ (x : List ℕ) (lay : Layout) (cs : List Cell) where
-  -- an assignment to a variable is a write to its slot, and leaves the other cells
+  -- an assignment to a variable is a write to its slot
   pub stored : (k : ℕ) (v : Value) → slot_named x lay ≡ Some k → length lay ≤ length cs → env_of lay (set cs k (fresh v)) ≡ assigned x v (env_of lay cs)
   stored k v e h = sym ((slotted x lay cs v h).write ∙ ap (λ o. env_of lay (by_slot o cs (λ k. set cs k (fresh v)))) e)
 
   pub stored-none : (v : Value) → slot_named x lay ≡ None → length lay ≤ length cs → assigned x v (env_of lay cs) ≡ env_of lay cs
   stored-none v e h = (slotted x lay cs v h).write ∙ ap (λ o. env_of lay (by_slot o cs (λ k. set cs k (fresh v)))) e
-
-  pub frame-set : (k : ℕ) (v : Value) → slot_named x lay ≡ Some k → length lay ≤ length cs → frame_of lay (set cs k (fresh v)) ≡ frame_of lay cs
-  frame-set k v e h = ap (λ o. frame_of lay (by_slot o cs (λ k. set cs k (fresh v)))) (sym e) ∙ (slotted x lay cs v h).others
 
 pub length-frame : (lay : Layout) (cs : List Cell) → length lay ≤ length cs → length (frame_of lay cs) ≡ length cs
 length-frame [] cs h = length-map cs (λ c. Some c)
@@ -138,107 +136,119 @@ length-env (p ∷ ps) [] h = absurd (omega arith)
 length-env (None ∷ ps) (c ∷ cs) h = length-env ps cs (omega arith)
 length-env (Some x ∷ ps) (c ∷ cs) h = ap suc (length-env ps cs (omega arith))
 
--- the newest so many cells are those of a layout above another
-pub record Over (n : ℕ) (big lay : Layout) : Type 0 where
+-- cells of a layout, which are these apart from the values of the variables
+pub record Cells (lay : Layout) (fr : Frame) (cs : List Cell) : Type 0 where
+  pub frame : frame_of lay cs ≡ fr
+  pub deep : length lay ≤ length cs
+
+pub length-cells : {lay : Layout} {fr : Frame} {cs : List Cell} → Cells lay fr cs → length cs ≡ length fr
+length-cells {lay} {fr} {cs} c = sym (length-frame lay cs c.deep) ∙ ap length c.frame
+
+-- a write to the slot of a variable leaves the others
+pub cells-set : {fr : Frame} (x : List ℕ) (lay : Layout) (cs : List Cell) (k : ℕ) (v : Value) → slot_named x lay ≡ Some k → Cells lay fr cs
+    → Cells lay fr (set cs k (fresh v))
+cells-set x lay cs k v e c = record {
+  frame = ap (λ o. frame_of lay (by_slot o cs (λ k. set cs k (fresh v)))) (sym e) ∙ (slotted x lay cs v c.deep).others ∙ c.frame;
+  deep = (let deep = c.deep in omega (arith, length-set cs k (fresh v)));
+}
+
+-- ---- newer cells are dropped
+
+named-drop : (n : ℕ) (big : Layout) → named (drop n big) ≤ named big
+named-drop zero big = omega arith
+named-drop (suc n) [] = omega arith
+named-drop (suc n) (None ∷ big) = named-drop n big
+named-drop (suc n) (Some x ∷ big) = let less = named-drop n big in omega arith
+
+env-drop : (n : ℕ) (big : Layout) (cs : List Cell) → length big ≤ length cs → oldest (named (drop n big)) (env_of big cs) ≡ env_of (drop n big) (drop n cs)
+env-drop zero big cs h =
+    let e : length (env_of big cs) - named big ≡ 0 = (let long = length-env big cs h in omega arith) in ap (λ n. drop n (env_of big cs)) e
+env-drop (suc n) [] cs h = refl
+env-drop (suc n) (p ∷ big) [] h = absurd (omega arith)
+env-drop (suc n) (None ∷ big) (c ∷ cs) h = env-drop n big cs (omega arith)
+env-drop (suc n) (Some x ∷ big) (c ∷ cs) h =
+    let one : suc (length (env_of big cs)) - named (drop n big) ≡ suc (length (env_of big cs) - named (drop n big)) =
+    (let long = length-env big cs (omega arith) in let few = named-drop n big in omega arith) in
+    ap (λ n. drop n ((x, c.val) ∷ env_of big cs)) one ∙ env-drop n big cs (omega arith)
+
+frame-drop : (n : ℕ) (big : Layout) (cs : List Cell) → length big ≤ length cs → frame_of (drop n big) (drop n cs) ≡ drop n (frame_of big cs)
+frame-drop zero big cs h = refl
+frame-drop (suc n) [] cs h = sym (drop-map (λ c. Some c) (suc n) cs)
+frame-drop (suc n) (p ∷ big) [] h = absurd (omega arith)
+frame-drop (suc n) (None ∷ big) (c ∷ cs) h = frame-drop n big cs (omega arith)
+frame-drop (suc n) (Some x ∷ big) (c ∷ cs) h = frame-drop n big cs (omega arith)
+
+-- the newest so many cells lie above those of another layout and frame
+pub record Over (n : ℕ) (big lay : Layout) (high low : Frame) : Type 0 where
   pub rest : drop n big ≡ lay
   pub size : n + length lay ≡ length big
+  pub frame : drop n high ≡ low
+  pub tall : n + length low ≡ length high
 
-pub named-less : (n : ℕ) (big lay : Layout) → Over n big lay → named lay ≤ named big
-named-less zero big lay o = let same : named big ≡ named lay = ap named o.rest in omega arith
-named-less (suc n) [] lay o = let size = o.size in absurd (omega arith)
-named-less (suc n) (None ∷ big) lay o = let size = o.size in named-less n big lay (record { rest = o.rest; size = omega arith })
-named-less (suc n) (Some x ∷ big) lay o = let size = o.size in let less = named-less n big lay (record { rest = o.rest; size = omega arith }) in omega arith
+module _ {n : ℕ} {big lay : Layout} {high low : Frame} (o : Over n big lay high low) where
+  pub named-less : named lay ≤ named big
+  named-less = let less = named-drop n big in let same = ap named o.rest in omega arith
 
--- to drop the newer cells is to cut the environment
-pub cut-drop : (n : ℕ) (big lay : Layout) (cs : List Cell) → Over n big lay → length big ≤ length cs
-    → oldest (named lay) (env_of big cs) ≡ env_of lay (drop n cs)
-cut-drop zero big lay cs o h =
-    let e : length (env_of big cs) - named lay ≡ 0 = (let long = length-env big cs h in let same : named big ≡ named lay = ap named o.rest in omega arith) in
-    ap (λ n. drop n (env_of big cs)) e ∙ ap (λ l. env_of l cs) o.rest
-cut-drop (suc n) [] lay cs o h = let size = o.size in absurd (omega arith)
-cut-drop (suc n) (p ∷ big) lay [] o h = absurd (omega arith)
-cut-drop (suc n) (None ∷ big) lay (c ∷ cs) o h = let size = o.size in cut-drop n big lay cs (record { rest = o.rest; size = omega arith }) (omega arith)
-cut-drop (suc n) (Some x ∷ big) lay (c ∷ cs) o h =
-    let size = o.size in
-    let less : Over n big lay = record { rest = o.rest; size = omega arith } in
-    let one : suc (length (env_of big cs)) - named lay ≡ suc (length (env_of big cs) - named lay) =
-    (let long = length-env big cs (omega arith) in let few = named-less n big lay less in omega arith) in
-    ap (λ n. drop n ((x, c.val) ∷ env_of big cs)) one ∙ cut-drop n big lay cs less (omega arith)
+  module _ {cs : List Cell} (c : Cells big high cs) where
+    pub dropped : Cells lay low (drop n cs)
+    dropped = record {
+      frame = ap (λ l. frame_of l (drop n cs)) (sym o.rest) ∙ frame-drop n big cs c.deep ∙ ap (drop n) c.frame ∙ o.frame;
+      deep = (let size = o.size in let deep = c.deep in omega (arith, length-drop n cs));
+    }
 
-pub frame-drop : (n : ℕ) (big lay : Layout) (cs : List Cell) → Over n big lay → length big ≤ length cs → frame_of lay (drop n cs) ≡ drop n (frame_of big cs)
-frame-drop zero big lay cs o h = ap (λ l. frame_of l cs) (sym o.rest)
-frame-drop (suc n) [] lay cs o h = let size = o.size in absurd (omega arith)
-frame-drop (suc n) (p ∷ big) lay [] o h = absurd (omega arith)
-frame-drop (suc n) (None ∷ big) lay (c ∷ cs) o h = let size = o.size in frame-drop n big lay cs (record { rest = o.rest; size = omega arith }) (omega arith)
-frame-drop (suc n) (Some x ∷ big) lay (c ∷ cs) o h = let size = o.size in frame-drop n big lay cs (record { rest = o.rest; size = omega arith }) (omega arith)
+    -- to drop them is to cut the environment
+    pub env-dropped : env_of lay (drop n cs) ≡ oldest (named lay) (env_of big cs)
+    env-dropped = sym ((λ j. oldest (named (sym o.rest j)) (env_of big cs)) ∙ env-drop n big cs c.deep ∙ ap (λ l. env_of l (drop n cs)) o.rest)
+
+  -- a cell more
+  pub over-more : (p : Option (List ℕ)) (c : Option Cell) → Over (suc n) (p ∷ big) lay (c ∷ high) low
+  over-more p c = record { rest = o.rest; size = (let size = o.size in omega arith); frame = o.frame; tall = (let tall = o.tall in omega arith) }
 
 -- all of a layout, and one above another that is above a third
-pub over-none : (lay : Layout) → Over 0 lay lay
-over-none lay = record { rest = refl; size = omega arith }
+pub over-none : (lay : Layout) (fr : Frame) → Over 0 lay lay fr fr
+over-none lay fr = record { rest = refl; size = omega arith; frame = refl; tall = omega arith }
 
-pub over-all : (n m : ℕ) (big mid lay : Layout) → Over n big mid → Over m mid lay → Over (m + n) big lay
-over-all n m big mid lay o p =
-    let a = o.size in
-    let b = p.size in
+over-all : {n m : ℕ} {big mid lay : Layout} {high fr low : Frame} → Over n big mid high fr → Over m mid lay fr low → Over (m + n) big lay high low
+over-all {n} {m} {big} {mid} {lay} {high} {fr} {low} o p =
     let sum : n + m ≡ m + n = omega arith in
-    record { rest = sym (drop-drop m n big ∙ ap (λ k. drop k big) sum) ∙ ap (drop m) o.rest ∙ p.rest; size = omega arith }
+    record {
+      rest = sym (drop-drop m n big ∙ ap (λ k. drop k big) sum) ∙ ap (drop m) o.rest ∙ p.rest;
+      size = (let a = o.size in let b = p.size in omega arith);
+      frame = sym (drop-drop m n high ∙ ap (λ k. drop k high) sum) ∙ ap (drop m) o.frame ∙ p.frame;
+      tall = (let a = o.tall in let b = p.tall in omega arith);
+    }
 
-pub frame-all : (n m : ℕ) (gr mid fr : Frame) → drop n gr ≡ mid → drop m mid ≡ fr → drop (m + n) gr ≡ fr
-frame-all n m gr mid fr a b =
-    let sum : n + m ≡ m + n = omega arith in
-    sym (drop-drop m n gr ∙ ap (λ k. drop k gr) sum) ∙ ap (drop m) a ∙ b
+-- what is bound, what a node leaves, and what nodes do
+pub over-binding : (b : Binding) (lay : Layout) (fr : Frame) → Over (declared_count b) (bound_on b lay) lay (bound_in b fr) fr
+over-binding unbound lay fr = over-none lay fr
+over-binding _ lay fr = record { rest = refl; size = omega arith; frame = refl; tall = omega arith }
 
--- what is bound
-pub over-binding : (b : Binding) (lay : Layout) → Over (declared_count b) (bound_on b lay) lay
-over-binding (declare x) lay = record { rest = refl; size = omega arith }
-over-binding (declare_pair k x) lay = record { rest = refl; size = omega arith }
-over-binding _ lay = over-none lay
+pub over-node : (n : NodeKind) (lay : Layout) (fr : Frame) → Over (left_behind n) (grown n lay) lay (grown_in n fr) fr
+over-node (action h) lay fr = over-binding h.binding lay fr
+over-node _ lay fr = over-none lay fr
 
-pub frame-binding : (b : Binding) (fr : Frame) → drop (declared_count b) (bound_in b fr) ≡ fr
-frame-binding unbound fr = refl
-frame-binding _ fr = refl
-
--- what a node leaves
-over-node : (n : NodeKind) (lay : Layout) → Over (left_behind n) (grown n lay) lay
-over-node (action h) lay = over-binding h.binding lay
-over-node _ lay = over-none lay
-
-frame-node : (n : NodeKind) (fr : Frame) → drop (left_behind n) (grown_in n fr) ≡ fr
-frame-node (action h) fr = frame-binding h.binding fr
-frame-node _ fr = refl
-
-pub over-grown : (ns : Nodes) (lay : Layout) → Over (declared_in ns) (all_grown ns lay) lay
-over-grown tree.none lay = over-none lay
-over-grown (tree.then line n ns) lay =
-    over-all (declared_in ns) (left_behind n) (all_grown ns (grown n lay)) (grown n lay) lay (over-grown ns (grown n lay)) (over-node n lay)
-
-pub frame-grown : (ns : Nodes) (fr : Frame) → drop (declared_in ns) (all_grown_in ns fr) ≡ fr
-frame-grown tree.none fr = refl
-frame-grown (tree.then line n ns) fr =
-    frame-all (declared_in ns) (left_behind n) (all_grown_in ns (grown_in n fr)) (grown_in n fr) fr (frame-grown ns (grown_in n fr)) (frame-node n fr)
+pub over-grown : (ns : Nodes) (lay : Layout) (fr : Frame) → Over (declared_in ns) (all_grown ns lay) lay (all_grown_in ns fr) fr
+over-grown tree.none lay fr = over-none lay fr
+over-grown (tree.then line n ns) lay fr = over-all (over-grown ns (grown n lay) (grown_in n fr)) (over-node n lay fr)
 
 -- .. and nodes above what a header binds
-pub over-bound : (b : Binding) (ns : Nodes) (lay : Layout) → Over (declared_count b + declared_in ns) (all_grown ns (bound_on b lay)) lay
-over-bound b ns lay =
-    over-all (declared_in ns) (declared_count b) (all_grown ns (bound_on b lay)) (bound_on b lay) lay (over-grown ns (bound_on b lay)) (over-binding b lay)
-
-pub frame-bound : (b : Binding) (ns : Nodes) (fr : Frame) → drop (declared_count b + declared_in ns) (all_grown_in ns (bound_in b fr)) ≡ fr
-frame-bound b ns fr =
-    frame-all (declared_in ns) (declared_count b) (all_grown_in ns (bound_in b fr)) (bound_in b fr) fr (frame-grown ns (bound_in b fr)) (frame-binding b fr)
+pub over-bound : (b : Binding) (ns : Nodes) (lay : Layout) (fr : Frame)
+    → Over (declared_count b + declared_in ns) (all_grown ns (bound_on b lay)) lay (all_grown_in ns (bound_in b fr)) fr
+over-bound b ns lay fr = over-all (over-grown ns (bound_on b lay) (bound_in b fr)) (over-binding b lay fr)
 
 -- what lies under the variables: a cell that a control saves
 pub record First (lay : Layout) (cs : List Cell) (c : Cell) (fr : Frame) : Type 0 where
   pub rest : List Cell
   pub cells : cs ≡ c ∷ rest
-  pub frame : frame_of lay rest ≡ fr
-  pub deep : length lay ≤ length rest
+  pub under : Cells lay fr rest
   pub env : env_of (None ∷ lay) cs ≡ env_of lay rest
 
-pub first-saved : (lay : Layout) (cs : List Cell) (c : Cell) (fr : Frame) → frame_of (None ∷ lay) cs ≡ Some c ∷ fr → suc (length lay) ≤ length cs
-    → First lay cs c fr
-first-saved lay [] c fr e h = absurd (omega arith)
-first-saved lay (d ∷ cs) c fr e h =
-    let same : d ≡ c = cc in record { rest = cs; cells = ap (λ x. x ∷ cs) same; frame = ap (drop 1) e; deep = omega arith; env = refl }
+pub first-saved : (lay : Layout) (cs : List Cell) (c : Cell) (fr : Frame) → Cells (None ∷ lay) (Some c ∷ fr) cs → First lay cs c fr
+first-saved lay [] c fr h = absurd (let deep = h.deep in omega arith)
+first-saved lay (d ∷ cs) c fr h =
+    let e : Some d ∷ frame_of lay cs ≡ Some c ∷ fr = h.frame in
+    let same : d ≡ c = cc in
+    record { rest = cs; cells = ap (λ x. x ∷ cs) same; under = record { frame = ap (drop 1) e; deep = (let deep = h.deep in omega arith) }; env = refl }
 
 -- the cells of a frame of no variables are known
 pub below-same : (cs ds : List Cell) → below cs ≡ below ds → cs ≡ ds

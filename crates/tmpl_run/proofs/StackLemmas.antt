@@ -8,9 +8,16 @@ use Rattle.tmpl_values.specs.View.{val_of}
 use Rattle.tmpl_run.specs.Cell.{Cell, slot_cell}
 use Rattle.tmpl_run.specs.Machine.{Turn, ring, top}
 use Rattle.tmpl_run.specs.computed.Held.{cell_at, cell_of, cells_in}
+use Rattle.tmpl_run.specs.computed.View.{cells_of, size_of}
+use Rattle.tmpl_run.specs.declared.stack.Stack.{Stack}
 
 pub live-length : (top : ℕ) (cs : List held.Cell) → top ≤ length cs → length (cells_in top cs) ≡ top
 live-length top cs h = length-map (reverse (take top cs)) cell_of ∙ length-reverse (take top cs) ∙ length-take-le top cs h
+
+-- no more cells are live than there are
+pub cells-fit : (s : Stack) → length (cells_of s) ≤ size_of s
+unfolding cells_of
+cells-fit s = let live = live-length s.top s.cells.now s.within in let within = s.within in omega arith
 
 live-more : (top : ℕ) (cs : List held.Cell) (d : held.Cell) → top < length cs → cells_in (top + 1) cs ≡ cell_of (get_or cs top d) ∷ cells_in top cs
 live-more top cs d h =
@@ -116,9 +123,8 @@ top-is (c ∷ cs) go h = refl
 
 -- .. and two of them
 pub ring-is : (cs : List Cell) (go : Cell → Cell → List Cell → Turn) → 2 ≤ length cs → ring cs go ≡ go (slot_cell 0 cs) (slot_cell 1 cs) (drop 2 cs)
-ring-is [] go h = absurd (omega arith)
-ring-is (c ∷ []) go h = absurd (omega arith)
 ring-is (c ∷ d ∷ cs) go h = refl
+ring-is _ go h = absurd (omega arith)
 
 pub length-drop-cells : (n : ℕ) (cs : List Cell) → length (drop n cs) ≡ length cs - n
 length-drop-cells n cs = length-drop n cs

@@ -26,12 +26,12 @@ use Rattle.tmpl_run.specs.State.{Plan, State, starting}
 use Rattle.tmpl_run.specs.Machine.{deepened, frame, goes, invoked, paid_if, returned_if}
 use Rattle.tmpl_run.specs.Ends.{Comes, Ends}
 use Rattle.tmpl_run.proofs.CallingLemmas.{entered}
-use Rattle.tmpl_run.proofs.NodeLemmas.{run_at, value-leads, valued, with_left, action-leads, if-leads, inside-grown, length-grown, spent, with-leads}
+use Rattle.tmpl_run.proofs.NodeLemmas.{run_at, value-leads, valued, with_left, action-leads, if-leads, inside-grown, spent, with-leads}
 use Rattle.tmpl_run.proofs.DepthLemmas.{absent}
 use Rattle.tmpl_run.proofs.NodeLemmas as nodes
 use Rattle.tmpl_run.proofs.WayLemmas.{ahead, ahead-one, Ring, Stands, Way, Who, way_of, who_of, bare, seen}
-use Rattle.tmpl_run.proofs.SlotLemmas.{Frame, below, below-same, env_of, frame_of, length-frame, run_of, all_grown, all_grown_in, frame-drop, frame-grown}
-use Rattle.tmpl_run.proofs.SlotLemmas.{grown_in, over-grown, over-none}
+use Rattle.tmpl_run.proofs.SlotLemmas.{Frame, all_grown, all_grown_in, below, below-same, dropped, env_of, frame_of, grown_in, length-cells, length-frame}
+use Rattle.tmpl_run.proofs.SlotLemmas.{over-grown, over-node, over-none, run_of}
 use Rattle.tmpl_run.proofs.WayLemmas as ways
 use Rattle.tmpl_run.proofs.RangeLemmas.{break-leads, continue-leads, range-leads}
 
@@ -68,17 +68,15 @@ Left ts room n number base = (rest : List ℕ) → IsChain ts number rest → le
 abbrev called_frame : Cell → Cell → List Cell → Frame
 called_frame back saved cs = None ∷ Some back ∷ Some saved ∷ below cs
 
+saved-below : (ds : List Cell) → frame_of (None ∷ None ∷ []) ds ≡ below ds
+saved-below [] = refl
+saved-below (b ∷ []) = refl
+saved-below (b ∷ d ∷ ds) = refl
+
 framed : (ds : List Cell) (back saved : Cell) (cs : List Cell) → frame_of first_layout ds ≡ called_frame back saved cs
     → (c : Cell) × (ds ≡ c ∷ back ∷ saved ∷ cs)
 framed [] back saved cs e = cc
-framed (c ∷ []) back saved cs e = let no : [] ≡ Some back ∷ Some saved ∷ below cs = ap (drop 1) e in cc
-framed (c ∷ b ∷ []) back saved cs e = let no : [] ≡ Some saved ∷ below cs = ap (drop 2) e in cc
-framed (c ∷ b ∷ d ∷ ds) back saved cs e =
-    let first : Some b ∷ Some d ∷ below ds ≡ Some back ∷ Some saved ∷ below cs = ap (drop 1) e in
-    let second : Some d ∷ below ds ≡ Some saved ∷ below cs = ap (drop 1) first in
-    let same : b ≡ back = cc in
-    let same-too : d ≡ saved = cc in
-    (c, ap (λ x. c ∷ x ∷ d ∷ ds) same ∙ ap (λ x. c ∷ back ∷ x ∷ ds) same-too ∙ ap (λ l. c ∷ back ∷ saved ∷ l) (below-same ds cs (ap (drop 1) second)))
+framed (c ∷ ds) back saved cs e = (c, ap (λ l. c ∷ l) (below-same ds (back ∷ saved ∷ cs) (sym (saved-below ds) ∙ ap (drop 1) e)))
 
 -- a template from its start, inside which so many calls may still be made
 abbrev pub TemplateLeads : Plan → ℕ → Ran → ℕ → Type 0
@@ -131,8 +129,7 @@ module _ (way : Way) (first : 1 ≤ way.who.depth) (linked : Starts way.plan.tem
               at = st.at;
               runs = ap (λ n. let w : Who = record { number = s.template; depth = n } in w)
                   (let d = deep in let same : u.depth - 1 ≡ s.depth = omega arith in same) ∙ st.runs;
-              frame = st.frame;
-              deep = st.deep;
+              cells = st.cells;
             })
             refl (ap (λ (r : Run). record r { env = env_of lay s.cells }) same))))
           where
@@ -148,10 +145,8 @@ module _ (way : Way) (first : 1 ≤ way.who.depth) (linked : Starts way.plan.tem
 
         by : (e : End) → ways.Then way (ways.Onward way rest lay fr s.dot) g (record x.0 { env = env_of lay s.cells }) (left_by e)
             → ways.Then callee (ways.Leaves callee) None x.0 e
-        by meaning.done k = back k
-        by meaning.broke k = back k
-        by meaning.continued k = back k
         by (meaning.faulted w) k = k
+        by _ k = back k
 
     -- the call itself, with its value on the stack
     invokes : (m : ℕ) → TemplateLeads way.plan way.room way.end m → way.who.depth + suc m ≡ way.plan.rules.depth_limit
@@ -173,7 +168,7 @@ module _ (way : Way) (first : 1 ≤ way.who.depth) (linked : Starts way.plan.tem
         (let same : s.depth ≡ way.who.depth = ap (λ (w : Who). w.depth) st.runs in omega arith)
         (called_frame (cell nothing (place + 1)) (cell s.dot s.template) s.cells) inside refl start.at refl (omega arith) (length s.cells) length-called left
         (goes-back g lay fr rest (record s { made_text = made }) number named.t named.at place
-        (record { at = st.at; runs = st.runs; frame = st.frame; deep = st.deep })
+        (record { at = st.at; runs = st.runs; cells = st.cells })
         (meanings (setting_of way.plan.rules (calls_of m) named.t.0 named.t.1) named.t.1.nodes v (run_of first_layout inside))
         (subst (λ (n : List ℕ). ways.After way (ways.Onward way rest lay fr s.dot) g
         (apart v (meanings (setting_of way.plan.rules (calls_of m) n named.t.1) named.t.1.nodes v) (with_left (s.left - 1) (run_at lay made s)))) named.same
@@ -230,7 +225,7 @@ module _ (way : Way) (first : 1 ≤ way.who.depth) (linked : Starts way.plan.tem
             deeper-left : (m : ℕ) → Left way.plan.templates way.room (suc m) way.who.number base → length fr + spare ≤ way.room
                 → Left way.plan.templates way.room m number (length s.cells)
             deeper-left m left fits rest chain short =
-                let long : length fr ≡ length s.cells = sym (ap length st.frame) ∙ length-frame lay s.cells st.deep in
+                let long = length-cells st.cells in
                 let mine = need-is way.plan.templates way.who.number way.me way.is-me in
                 let all = left (number ∷ rest) (record { caller = way.me; at = way.is-me; name = name; named = is-named; number = e }, chain) (omega arith) in
                 omega arith
@@ -262,7 +257,7 @@ module _ (way : Way) (first : 1 ≤ way.who.depth) (linked : Starts way.plan.tem
                 gets : (v : Value) (made : Bool) (place : ℕ) → drop place way.plan.code ≡ code.invoke number ∷ rest
                     → ways.After way A g (body v (with_left (s.left - 1) (run_at lay made s))) → ways.Leading way (valued v made place next)
                 gets v made place at k = invokes m deeper depth g lay fr rest next name number named v made place some
-                    (record { at = ahead-one way.plan.code rest place (code.invoke number) at; runs = st.runs; frame = st.frame; deep = st.deep }) at
+                    (record { at = ahead-one way.plan.code rest place (code.invoke number) at; runs = st.runs; cells = st.cells }) at
                     (deeper-left m left (omega arith)) k
 
                 hands : (given : Option Pipeline) → GivenAt given lay start (code.invoke number ∷ rest)
@@ -270,13 +265,13 @@ module _ (way : Way) (first : 1 ≤ way.who.depth) (linked : Starts way.plan.tem
                     → ways.After way A g (handing (set_of (suc m)) line given s.dot body (with_left (s.left - 1) (run_of lay s))) → ways.Leading way next
                 hands None l fits k =
                     ways.takes way next (code.act code.push_nothing) (code.invoke number ∷ rest) st.runs (there ∙ l)
-                    (let long = sym (ap length st.frame) ∙ length-frame lay s.cells st.deep in omega arith)
+                    (let long = length-cells st.cells in omega arith)
                     (gets nothing s.made_text (s.place + 1 + 1 + 0)
                     (ahead way.plan.code (code.invoke number ∷ rest) (s.place + 1) 0 (code.act code.push_nothing)
                     (there ∙ l)) k)
                 hands (Some p) l fits k =
                     value-leads way (calls_of (suc m)) A g line (s.left - 1) p lay fr start (code.invoke number ∷ rest) next body l
-                    (record { at = there; runs = st.runs; frame = st.frame; deep = st.deep }) refl (omega arith) k
+                    (record { at = there; runs = st.runs; cells = st.cells }) refl (omega arith) k
                     (λ v made place at k. gets v made place at k)
 
             pays : (b : Bool) → nat_eq s.left 0 ≡ b → ways.After way A g (spend_if b (set_of n) line (meaning.calling (set_of n) line name given s.dot)
@@ -316,7 +311,7 @@ module _ (way : Way) (first : 1 ≤ way.who.depth) (linked : Starts way.plan.tem
   text-leads : (line : ℕ) (bytes : List ℕ) → nodes.NodeLeads way calls spare line (tree.text bytes)
   text-leads line bytes g lay fr here rest s l st same-line inside fits more-fits k =
       ways.takes way s (code.put bytes) rest st.runs (st.at ∙ l) tt
-      (k _ (record { at = ahead-one way.plan.code rest s.place (code.put bytes) (st.at ∙ l); runs = st.runs; frame = st.frame; deep = st.deep }) refl refl)
+      (k _ (record { at = ahead-one way.plan.code rest s.place (code.put bytes) (st.at ∙ l); runs = st.runs; cells = st.cells }) refl refl)
 
   mutual
     step-leads : (line : ℕ) (n : NodeKind) → Mine (λ name. NodeNames name n) → nodes.StepLeads way calls spare line n
@@ -333,13 +328,12 @@ module _ (way : Way) (first : 1 ≤ way.who.depth) (linked : Starts way.plan.tem
         call-leads way first linked n deeper depth base spare left (let own = fits-here in omega arith) line name given (mine name refl)
 
     nodes-lead : (ns : Nodes) → Mine (λ name. NodesName name ns) → nodes.NodesLead way calls spare ns
-    nodes-lead tree.none mine g lay fr here rest s l st inside fits k = k s (record { at = st.at ∙ l; runs = st.runs; frame = st.frame; deep = st.deep }) refl
-        refl
+    nodes-lead tree.none mine g lay fr here rest s l st inside fits k = k s (record { at = st.at ∙ l; runs = st.runs; cells = st.cells }) refl refl
     nodes-lead (tree.then line n ns) mine g lay fr here rest s l st inside fits k =
         step-leads line n (λ name names. mine name (inl names)) g lay fr here l.0 l.1 s l.2 l.3 st inside (omega arith) (omega arith)
         (ways.then-map way (λ r. ways.After way A g (meanings set ns s.dot r)) (ways.Onward way l.1 (grown n lay) (grown_in n fr) s.dot) g x.0 x.1
         (λ r k t stands dot run. nodes-lead ns (λ name names. mine name (inr names)) g (grown n lay) (grown_in n fr) l.1 rest t l.4 stands
-        (inside-grown way.home g n lay fr inside) (let long = length-grown n fr in omega arith)
+        (inside-grown way.home g n lay fr inside) (let tall = (over-node n lay fr).tall in omega arith)
         (subst (λ d. ways.After way (ways.Onward way rest (all_grown ns (grown n lay)) (all_grown_in ns (grown_in n fr)) d) g
         (meanings set ns d (run_of (grown n lay) t))) (sym dot)
         (subst (λ r. ways.After way A g (meanings set ns s.dot r)) (sym run) k)))
@@ -359,7 +353,7 @@ module _ (way : Way) (first : 1 ≤ way.who.depth) (linked : Starts way.plan.tem
   template-leads s same at-start frame deep k =
       nodes-lead way.me.1.nodes (λ name names. names) None first_layout way.home (drop s.place way.plan.code) end s
       (subst (λ p. NodesAt way.plan.templates way.me.1.nodes first_layout None (drop p way.plan.code) end) place start.laid)
-      (record { at = refl; runs = same; frame = frame; deep = deep }) (record { n = 0; over = over-none first_layout; cells = refl })
+      (record { at = refl; runs = same; cells = record { frame = frame; deep = deep } }) (0, over-none first_layout way.home)
       (let own = fits-here in let high = tall in omega arith)
       (ways.then-map way (ways.Leaves way) (ways.Onward way end (all_grown way.me.1.nodes first_layout) (all_grown_in way.me.1.nodes way.home) s.dot) None x.0
       x.1
@@ -368,11 +362,7 @@ module _ (way : Way) (first : 1 ≤ way.who.depth) (linked : Starts way.plan.tem
         more = start.rest;
         at = st.at;
         runs = st.runs;
-        frame =
-            frame-drop (declared_in way.me.1.nodes) (all_grown way.me.1.nodes first_layout) first_layout t.cells (over-grown way.me.1.nodes first_layout)
-            st.deep
-            ∙ ap (drop (declared_in way.me.1.nodes)) st.frame ∙ frame-grown way.me.1.nodes way.home;
-        deep = (let size = (over-grown way.me.1.nodes first_layout).size in let deep = st.deep in omega arith);
+        frame = (dropped (over-grown way.me.1.nodes first_layout way.home) st.cells).frame;
       }) (ap bare run)) k)
     where
       start : Started way.plan.templates way.me way.plan.starts way.plan.code way.who.number
@@ -426,7 +416,5 @@ module _ (plan : Plan) (room : ℕ) (linked : Starts plan.templates plan.templat
           (ap (λ (r : Run). seen r None) same ∙ is))
 
       by : (e : End) → x.1 ≡ e → ways.Then (way_of plan room f who me is-me home) (ways.Leaves (way_of plan room f who me is-me home)) None x.0 e
-      by meaning.done e = leaves (λ j. ran_of (x.0, sym e j))
-      by meaning.broke e = leaves (λ j. ran_of (x.0, sym e j))
-      by meaning.continued e = leaves (λ j. ran_of (x.0, sym e j))
       by (meaning.faulted w) e = λ j. ran_of (x.0, sym e j)
+      by _ e = leaves (λ j. ran_of (x.0, sym e j))

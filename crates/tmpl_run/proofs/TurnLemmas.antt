@@ -103,9 +103,8 @@ none-left v h =
 
 -- the second cell counts something else
 recounted : (cs : List Cell) (k : ℕ) → 2 ≤ length cs → slice_set cs 1 (cell (slot 1 cs) k) ≡ slot_cell 0 cs ∷ cell (slot_cell 1 cs).val k ∷ drop 2 cs
-recounted [] k h = absurd (omega arith)
-recounted (c ∷ []) k h = absurd (omega arith)
 recounted (c ∷ d ∷ cs) k h = refl
+recounted _ k h = absurd (omega arith)
 
 module _ (plan : Plan) (t : Template) (n skip line : ℕ) (s : State) (some : 2 ≤ length (drop n s.cells)) where
   abbrev v : Cell

@@ -18,7 +18,7 @@ use Rattle.tmpl_run.specs.State.{Plan, State}
 use Rattle.tmpl_run.specs.Machine.{Turn, done, done_in, ended, goes, next_of, onto, paid_if, stuck}
 use Rattle.tmpl_run.specs.Ready.{Has}
 use Rattle.tmpl_run.specs.Ends.{Comes, Ends, IsReady, Leads}
-use Rattle.tmpl_run.proofs.SlotLemmas.{Frame, Over, cut-drop, frame-drop, frame_of, named, named-less, run_of}
+use Rattle.tmpl_run.proofs.SlotLemmas.{Cells, Frame, Over, dropped, env-dropped, frame_of, named, named-less, run_of}
 
 pub here : (code is : Code) (pc : ℕ) (i : Instruction) → drop pc code ≡ i ∷ is → slice_get code pc ≡ Some i
 here [] is zero i e = cc
@@ -49,8 +49,7 @@ who_of s = record { number = s.template; depth = s.depth }
 pub record Stands (plan : Plan) (who : Who) (code : Code) (lay : Layout) (fr : Frame) (s : State) : Type 0 where
   pub at : drop s.place plan.code ≡ code
   pub runs : who_of s ≡ who
-  pub frame : frame_of lay s.cells ≡ fr
-  pub deep : length lay ≤ length s.cells
+  pub cells : Cells lay fr s.cells
 
 -- the turn of a range around: what lies outside of it, what its cells hold, and where it goes
 pub record Ring : Type 0 where
@@ -69,18 +68,12 @@ exit_of (Some g) = Some g.around
 -- the cells of the range lie under so many
 pub record Within (g : Ring) (lay : Layout) (fr : Frame) : Type 0 where
   pub n : ℕ
-  pub over : Over n lay (None ∷ None ∷ g.lay)
-  pub cells : drop n fr ≡ Some (cell g.dot g.place) ∷ Some (cell g.value g.index) ∷ g.frame
+  pub over : Over n lay (None ∷ None ∷ g.lay) fr (Some (cell g.dot g.place) ∷ Some (cell g.value g.index) ∷ g.frame)
   pub depth : g.around.below ≡ length g.lay
 
 -- .. or those of the template
-pub record Rooted (home : Frame) (lay : Layout) (fr : Frame) : Type 0 where
-  pub n : ℕ
-  pub over : Over n lay first_layout
-  pub cells : drop n fr ≡ home
-
 abbrev pub Inside : Frame → Option Ring → Layout → Frame → Type 0
-Inside home None lay fr = Rooted home lay fr
+Inside home None lay fr = (n : ℕ) × Over n lay first_layout fr home
 Inside home (Some g) lay fr = Within g lay fr
 
 abbrev pub cut_to : ℕ → Run → Run
@@ -101,6 +94,10 @@ cut-twice m n r h = ap (λ (v : Environment). record r { env = v }) (oldest-twic
         let long = length-drop (length env - n) env in
         let sum : (length env - n) + (length (oldest n env) - m) ≡ length env - m = omega arith in
         drop-drop (length (oldest n env) - m) (length env - n) env ∙ ap (λ k. drop k env) sum
+
+pub run-dropped : {n : ℕ} {big lay : Layout} {high low : Frame} → Over n big lay high low → (s : State) → Cells big high s.cells
+    → run_of lay (record s { cells = drop n s.cells }) ≡ cut_to (named lay) (run_of big s)
+run-dropped {n} {big} o s c = ap (λ (v : Environment). record (run_of big s) { env = v }) (env-dropped o c)
 
 -- one instruction, by where it goes
 pub taken : (plan : Plan) (room : ℕ) (f : Ran) (me : Template) (s : State) (i : Instruction) → slice_get plan.templates s.template ≡ Some me
@@ -160,8 +157,7 @@ module _ (way : Way) where
     pub runs : who_of t ≡ way.who
     pub far : drop skip more ≡ g.around.out
     pub cells : drop n t.cells ≡ cell g.dot g.place ∷ cell g.value g.index ∷ cs
-    pub frame : frame_of g.lay cs ≡ g.frame
-    pub deep : length g.lay ≤ length cs
+    pub under : Cells g.lay g.frame cs
     pub run : run_of g.lay (record t { cells = cs }) ≡ r
 
   -- the end of the template: at an instruction that returns
@@ -171,7 +167,6 @@ module _ (way : Way) where
     pub at : drop t.place way.plan.code ≡ code.return_from n ∷ more
     pub runs : who_of t ≡ way.who
     pub frame : frame_of first_layout (drop n t.cells) ≡ way.home
-    pub deep : n + 3 ≤ length t.cells
 
   abbrev pub Leaves : Run → Type 0
   Leaves r = (t : State) → Returning t → run_of [] t ≡ bare r → Leading t
@@ -196,16 +191,11 @@ module _ (way : Way) where
 
   pub then-map : (A B : Run → Type 0) (g : Option Ring) (r : Run) (e : End) → ((r : Run) → A r → B r) → Then A g r e → Then B g r e
   then-map A B g r meaning.done h k = h r k
-  then-map A B g r meaning.broke h k = k
-  then-map A B g r meaning.continued h k = k
-  then-map A B g r (meaning.faulted w) h k = k
+  then-map A B g r _ h k = k
 
   pub then-on : (A : Run → Type 0) (g : Option Ring) (r : Run) (e : End) (go : Next) → After A g (on_end e r go) → Then (λ r. After A g (go r)) g r e
   then-on A g r meaning.done go k = k
   then-on A g r _ go k = k
-
-  within-less : (g : Ring) (lay : Layout) (fr : Frame) → Within g lay fr → named g.lay ≤ named lay
-  within-less g lay fr w = named-less w.n lay (None ∷ None ∷ g.lay) w.over
 
   -- out of a scope
   pub unscope : (A : Run → Type 0) (g : Option Ring) (lay : Layout) (fr : Frame) (n : ℕ) (x : Run × End) → n ≡ named lay → Inside way.home g lay fr
@@ -216,10 +206,10 @@ module _ (way : Way) where
       by g meaning.done inside k = k
       by None meaning.broke inside k = k
       by (Some g) meaning.broke inside k =
-          subst (λ r. Onward g.around.out g.lay g.frame g.dot r) (cut-twice (named g.lay) (named lay) x.0 (within-less g lay fr inside)) k
+          subst (λ r. Onward g.around.out g.lay g.frame g.dot r) (cut-twice (named g.lay) (named lay) x.0 (named-less inside.over)) k
       by None meaning.continued inside k = k
       by (Some g) meaning.continued inside k =
-          subst (λ r. (t : State) → Turning g r t → Leading t) (cut-twice (named g.lay) (named lay) x.0 (within-less g lay fr inside)) k
+          subst (λ r. (t : State) → Turning g r t → Leading t) (cut-twice (named g.lay) (named lay) x.0 (named-less inside.over)) k
       by g (meaning.faulted w) inside k = k
 
   -- the step of a node
@@ -235,35 +225,22 @@ module _ (way : Way) where
       by false k = more (ahead-one way.plan.code is s.place (code.spend line) at) k
 
   -- so many cells are forgotten, and a part goes on at this place
-  closed : (n place : ℕ) (end rest : Code) (big lay : Layout) (fr gr : Frame) (d : Value) (r : Run) (s : State) → drop place way.plan.code ≡ rest
-      → Stands way.plan way.who end big gr s → Over n big lay → drop n gr ≡ fr
-      → s.dot ≡ d → run_of big s ≡ r → Onward rest lay fr d (cut_to (named lay) r) → Leading (record s { cells = drop n s.cells; place = place })
-  closed n place end rest big lay fr gr d r s at st over under same is k = k (record s { cells = drop n s.cells; place = place })
-      (record {
-        at = at;
-        runs = st.runs;
-        frame = frame-drop n big lay s.cells over st.deep ∙ ap (drop n) st.frame
-            ∙ under;
-        deep = (let size = over.size in let d = st.deep in let l = length-drop n s.cells in omega arith);
-      })
-      same
-      (ap (λ (v : Environment). record (run_of big s) { env = v }) (sym (cut-drop n big lay s.cells over st.deep)) ∙ ap (cut_to (named lay)) is)
+  closed : {n : ℕ} {end : Code} {big lay : Layout} {high low : Frame} (place : ℕ) (rest : Code) (d : Value) (r : Run) (s : State)
+      → drop place way.plan.code ≡ rest → Stands way.plan way.who end big high s → Over n big lay high low → s.dot ≡ d → run_of big s ≡ r
+      → Onward rest lay low d (cut_to (named lay) r) → Leading (record s { cells = drop n s.cells; place = place })
+  closed {n} {end} {big} {lay} place rest d r s at st over same is k =
+      k _ (record { at = at; runs = st.runs; cells = dropped over st.cells }) same (run-dropped over s st.cells ∙ ap (cut_to (named lay)) is)
 
-  forgets : (n skip : ℕ) (end more rest : Code) (big lay : Layout) (fr gr : Frame) (d : Value) (r : Run) (s : State) → end ≡ code.cut n skip ∷ more
-      → Stands way.plan way.who end big gr s → Over n big lay → drop n gr ≡ fr
-      → drop skip more ≡ rest → s.dot ≡ d → run_of big s ≡ r → Onward rest lay fr d (cut_to (named lay) r) → Leading s
-  forgets n skip end more rest big lay fr gr d r s e st over under far same is k =
-      takes s (code.cut n skip) more st.runs (st.at ∙ e) (omega (arith, over.size, st.deep))
-      (closed n (s.place + 1 + skip) end rest big lay fr gr d r s (ahead way.plan.code more s.place skip (code.cut n skip) (st.at ∙ e) ∙ far) st over under same
-      is k)
+  forgets : {end : Code} {big lay : Layout} {high low : Frame} (n skip : ℕ) (more rest : Code) (d : Value) (r : Run) (s : State) → end ≡ code.cut n skip ∷ more
+      → Stands way.plan way.who end big high s → Over n big lay high low → drop skip more ≡ rest → s.dot ≡ d → run_of big s ≡ r
+      → Onward rest lay low d (cut_to (named lay) r) → Leading s
+  forgets n skip more rest d r s e st over far same is k =
+      takes s (code.cut n skip) more st.runs (st.at ∙ e) (let deep = st.cells.deep in omega (arith, over.size))
+      (closed (s.place + 1 + skip) rest d r s (ahead way.plan.code more s.place skip (code.cut n skip) (st.at ∙ e) ∙ far) st over same is k)
 
   -- the end of a part
-  pub closes : (n skip : ℕ) (end more rest : Code) (big lay : Layout) (fr gr : Frame) (d : Value) (r : Run) (s : State) → EndAt n skip end more
-      → Stands way.plan way.who end big gr s → Over n big lay → drop n gr ≡ fr
-      → drop skip more ≡ rest → s.dot ≡ d → run_of big s ≡ r → Onward rest lay fr d (cut_to (named lay) r) → Leading s
-  closes zero zero end more rest big lay fr gr d r s e st over under far same is k =
-      closed 0 s.place end rest big lay fr gr d r s (st.at ∙ e ∙ far) st over under same is k
-  closes zero (suc skip) end more rest big lay fr gr d r s e st over under far same is k =
-      forgets 0 (suc skip) end more rest big lay fr gr d r s e st over under far same is k
-  closes (suc n) skip end more rest big lay fr gr d r s e st over under far same is k =
-      forgets (suc n) skip end more rest big lay fr gr d r s e st over under far same is k
+  pub closes : {end : Code} {big lay : Layout} {high low : Frame} (n skip : ℕ) (more rest : Code) (d : Value) (r : Run) (s : State) → EndAt n skip end more
+      → Stands way.plan way.who end big high s → Over n big lay high low → drop skip more ≡ rest → s.dot ≡ d → run_of big s ≡ r
+      → Onward rest lay low d (cut_to (named lay) r) → Leading s
+  closes zero zero more rest d r s e st over far same is k = closed s.place rest d r s (st.at ∙ e ∙ far) st over same is k
+  closes n skip more rest d r s e st over far same is k = forgets n skip more rest d r s e st over far same is k

@@ -15,7 +15,7 @@ ghost use Rattle.tmpl_run.specs.computed.Plain.{IsPlain};
 ghost use Rattle.tmpl_run.specs.Run.{IsRun};
 ghost use Rattle.tmpl_run.specs.computed.Plan.{plan_of};
 ghost use Rattle.tmpl_run.specs.State.{starting};
-ghost use Rattle.tmpl_run.specs.computed.View.{cells_of, size_of};
+ghost use Rattle.tmpl_run.specs.computed.View.{size_of};
 
 use crate::fault::RunError;
 use crate::flow::Flow;
@@ -82,7 +82,6 @@ impl<'m, 'a> Machine<'m, 'a> {
         sink: &mut S,
     ) -> Result<(), RunError<'a>>
         requires ends { (end : Ran) × ComesTo (plan_of options.now program.now) self.old end }
-        requires within { length (cells_of self.old.stack) ≤ size_of self.old.stack }
         requires plain { IsPlain self.old }
         requires depth { self.old.depth + self.old.left < 2 ^ 64 - 1 }
         requires countable { (S.so_far sink.old).failures < 2 ^ 64 - 1 }

@@ -9,7 +9,7 @@ use Rattle.tmpl_code.proofs.pipeline.+pipeline.Goals as goal
 pub put_junction-put_decide-requires : goal.put_junction-put_decide-requires
 put_junction-put_decide-requires t c =
     let a = c.args in
-    let more = longer _ _ (junction_ends a.is_or (operands_in (drop c.loop-i.i a.operands.now)) a.piped a.above (layout_of a.scope.now) (code_of c.loop-i.code)
+    let more = longer (junction_ends a.is_or (operands_in (drop c.loop-i.i a.operands.now)) a.piped a.above (layout_of a.scope.now) (code_of c.loop-i.code)
     (code_of a.code.now) c.loop-i.invariant.put) in
     omega (arith, more)
 

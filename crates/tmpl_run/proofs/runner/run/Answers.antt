@@ -14,7 +14,6 @@ use Rattle.tmpl_run.specs.computed.Output.{Grows, given_of, waiting}
 use Rattle.tmpl_run.specs.Run.{IsRun}
 use Rattle.tmpl_run.specs.computed.Plan.{plan_of}
 use Rattle.tmpl_run.specs.State.{Plan, State}
-use Rattle.tmpl_run.specs.computed.View.{cells_of}
 use Rattle.tmpl_run.proofs.OutputLemmas.{behind, grows-on}
 use Rattle.tmpl_run.proofs.QuietLemmas.{spared}
 use Rattle.tmpl_run.proofs.RunLemmas.{comes-to, counts-so}
@@ -52,14 +51,10 @@ turns-end-requires g c =
     let linked = c.parts-parts.ensures.linked in
     let inside = entry-of c.args.entry.number p c.args.program.now c.parts-parts.ensures.value c.requires.entry in
     let room = room-of c.args.options.now.depth c.args.entry.number size p c.args.program.now c.parts-parts.ensures.value c.requires.room in
-    let some = c.args.options.now.depth_in_range.0 in
-    let three = start.three plan size c.args.entry.number linked inside some room in
-    let count : length (cells_of m.stack) ≡ 3 = ap (λ (t : State). length t.cells) begun.state in
     let deep : m.depth ≡ 1 = ap (λ (t : State). t.depth) begun.state in
     let left : m.left ≡ c.args.options.now.steps = ap (λ (t : State). t.left) begun.state in
     record {
-      ends = (_, start.comes-so plan size c.args.entry.number linked inside some room m _ begun.size begun.state);
-      within = omega (arith, count, three, begun.size);
+      ends = (_, start.comes-so plan size c.args.entry.number linked inside c.args.options.now.depth_in_range.0 room m _ begun.size begun.state);
       plain = begun.plain;
       depth = omega (arith, deep, left, c.args.options.now.steps_in_range.1);
       countable = c.requires.countable;

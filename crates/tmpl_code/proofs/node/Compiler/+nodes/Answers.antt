@@ -1,10 +1,11 @@
 use Rattle.std.proofs.Common.{◌∙◌, ◌-◌, ◌∷◌, length, refl, ap, arith}
+use Rattle.std.proofs.lemmas.Result.{on_ok_weaker}
 use Rattle.tmpl_grammar.specs.View.{binding_of, header_of}
 use Rattle.tmpl_syntax.specs.View.{nodes_in, set_view}
 use Rattle.tmpl_code.specs.computed.Held.{code_of, layout_of}
 use Rattle.tmpl_code.proofs.NodeLemmas.{item-weight}
 use Rattle.tmpl_code.proofs.TailLemmas as tail
-use Rattle.tmpl_code.proofs.TailLemmas.{dotted_part, end_ends, ended_part, nodes_part, on_ok, open_on, turns_part, ends_one, longer}
+use Rattle.tmpl_code.proofs.TailLemmas.{dotted_part, end_ends, ended_part, nodes_ends, open_on, turns_part, ends_one, longer}
 use Rattle.tmpl_code.proofs.node.Compiler.+nodes.Goals as goal
 
 pub put_nodes-put_node-requires : goal.put_nodes-put_node-requires
@@ -31,16 +32,13 @@ put_nodes-returns t c = tail.put_all (omega arith) c.loop-i.invariant
 pub put_ended-put_part-requires : goal.put_ended-put_part-requires
 put_ended-put_part-requires t c =
     let a = c.args in
-    let lay = layout_of a.self.now.scope in (
-      omega arith,
-      open_on a.site.exit (code_of a.self.now.code) (code_of c.put_end.new.code) lay lay (end_ends _ _ _ _ c.in_ok-put_end.ensures) (omega arith)
-          c.requires,
-    )
+    let lay = layout_of a.self.now.scope in
+    (omega arith, open_on a.site.exit lay lay (end_ends _ _ _ _ c.in_ok-put_end.ensures) (omega arith) c.requires)
 
 pub put_ended-returns : goal.put_ended-returns
 put_ended-returns t c =
     let a = c.args in
-    on_ok _ _ _ (λ p. tail.put_ended (set_view a.site.set.now) c.requires (binding_of a.binding.now) (nodes_in a.nodes.now) a.skip _ refl
+    on_ok_weaker _ (λ p. tail.put_ended (set_view a.site.set.now) c.requires (binding_of a.binding.now) (nodes_in a.nodes.now) a.skip _ refl
     c.in_ok-declared_by.ensures c.in_ok-put_end.ensures p) c.put_part.ensures
 
 pub put_if-since-requires : goal.put_if-since-requires
@@ -49,10 +47,7 @@ put_if-since-requires t c =
     omega (arith, more, c.len-end.ensures)
 
 pub put_if-put_ended-requires-2 : goal.put_if-put_ended-requires-2
-put_if-put_ended-requires-2 t c = (
-  omega arith,
-  tail.still_open (ended_part _ _ _ _) c.in_ok-put_ended.ensures c.requires,
-)
+put_if-put_ended-requires-2 t c = (omega arith, tail.still_open (ended_part _ _ _ _) c.in_ok-put_ended.ensures c.requires)
 
 pub put_if-since-requires-2 : goal.put_if-since-requires-2
 put_if-since-requires-2 t c =
@@ -63,7 +58,7 @@ pub put_if-returns : goal.put_if-returns
 put_if-returns t c =
     let a = c.args in
     let p = a.parts in
-    on_ok _ _ _ (λ headed. tail.put_if (set_view a.site.set.now) c.requires (header_of p.header.now) (nodes_in p.body.now) (nodes_in p.other.now)
+    on_ok_weaker _ (λ headed. tail.put_if (set_view a.site.set.now) c.requires (header_of p.header.now) (nodes_in p.body.now) (nodes_in p.other.now)
     c.in_ok-to.to c.in_ok-skip.skip c.declares-kept.result c.in_ok-put_ended.ensures c.in_ok-put_ended-2.ensures
     (c.in_ok-to.ensures ∙ ap (λ n. length (code_of c.put_ended.new.self.code) - n) c.len-end.ensures)
     (c.in_ok-skip.ensures ∙ ap (λ n. length (code_of c.put_ended-2.new.self.code) - n) c.len-second.ensures) c.declares-kept.ensures c.in_ok-push.ensures refl
@@ -77,22 +72,21 @@ put_with-since-requires t c =
 pub put_with-put_dotted_part-requires : goal.put_with-put_dotted_part-requires
 put_with-put_dotted_part-requires t c =
     let a = c.args in
-    let s = c.put_ended.new.self in
     let still = tail.still_open (ended_part _ _ _ _) c.in_ok-put_ended.ensures c.requires in
-    let lay = layout_of s.scope in
-    (omega arith, open_on a.site.exit (code_of s.code) (code_of c.push.new.self) lay lay (ends_one _ _ _ c.in_ok-push.ensures) (omega arith) still)
+    let lay = layout_of c.put_ended.new.self.scope in
+    (omega arith, open_on a.site.exit lay lay (ends_one c.in_ok-push.ensures) (omega arith) still)
 
 pub put_with-since-requires-2 : goal.put_with-since-requires-2
 put_with-since-requires-2 t c =
     let more = tail.more_code (dotted_part _ _ _) c.in_ok-put_dotted_part.ensures in
-    let one = longer _ _ (ends_one _ _ _ c.in_ok-push.ensures) in
+    let one = longer (ends_one c.in_ok-push.ensures) in
     omega (arith, more, one, c.len-second.ensures)
 
 pub put_with-returns : goal.put_with-returns
 put_with-returns t c =
     let a = c.args in
     let p = a.parts in
-    on_ok _ _ _ (λ headed. tail.put_with (set_view a.site.set.now) c.requires (header_of p.header.now) (nodes_in p.body.now) (nodes_in p.other.now)
+    on_ok_weaker _ (λ headed. tail.put_with (set_view a.site.set.now) c.requires (header_of p.header.now) (nodes_in p.body.now) (nodes_in p.other.now)
     c.in_ok-skip.skip c.in_ok-skip-2.skip _ _ c.declares-kept.result
     c.in_ok-put_ended.ensures refl c.in_ok-push.ensures c.in_ok-put_dotted_part.ensures
     (c.in_ok-short.ensures.value ∙ c.in_ok-declared_in.ensures) (c.in_ok-short-2.ensures.value ∙ c.declared_count.ensures)
@@ -102,28 +96,28 @@ put_with-returns t c =
 
 pub put_range-since-requires : goal.put_range-since-requires
 put_range-since-requires t c =
-    let more = tail.more_code (nodes_part _ _) c.in_ok-put_nodes.ensures in
-    let end = longer _ _ (end_ends _ _ _ _ c.in_ok-put_end.ensures) in
+    let more = tail.more_code (nodes_ends _ _) c.in_ok-put_nodes.ensures in
+    let end = longer (end_ends _ _ _ _ c.in_ok-put_end.ensures) in
     omega (arith, more, end, c.len-after.ensures)
 
 pub put_range-put_turns-requires : goal.put_range-put_turns-requires
 put_range-put_turns-requires t c =
-    let more = tail.more_code (nodes_part _ _) c.in_ok-put_nodes.ensures in
-    let end = longer _ _ (end_ends _ _ _ _ c.in_ok-put_end.ensures) in
-    let one = longer _ _ (ends_one _ _ _ c.in_ok-push.ensures) in
+    let more = tail.more_code (nodes_ends _ _) c.in_ok-put_nodes.ensures in
+    let end = longer (end_ends _ _ _ _ c.in_ok-put_end.ensures) in
+    let one = longer (ends_one c.in_ok-push.ensures) in
     (omega arith, (omega (arith, more, end, one, c.len-after.ensures), c.len-below.ensures))
 
 pub put_range-since-requires-2 : goal.put_range-since-requires-2
 put_range-since-requires-2 t c =
     let more = tail.more_code (turns_part _ _ _) c.in_ok-put_turns.ensures in
-    let one = longer _ _ (ends_one _ _ _ c.in_ok-push.ensures) in
+    let one = longer (ends_one c.in_ok-push.ensures) in
     omega (arith, more, one, c.len-second.ensures)
 
 pub put_range-returns : goal.put_range-returns
 put_range-returns t c =
     let a = c.args in
     let p = a.parts in
-    on_ok _ _ _ (λ piped. tail.put_range (set_view a.site.set.now) c.requires (header_of p.header.now) (nodes_in p.body.now) (nodes_in p.other.now)
+    on_ok_weaker _ (λ piped. tail.put_range (set_view a.site.set.now) c.requires (header_of p.header.now) (nodes_in p.body.now) (nodes_in p.other.now)
     a.line c.in_ok-skip.skip c.in_ok-skip-2.skip _ _ c.declares_key-key.result
     _ refl (c.in_ok-short.ensures.value ∙ c.in_ok-declared_in.ensures)
     c.in_ok-put_end.ensures c.in_ok-put_nodes.ensures refl c.in_ok-push.ensures c.len-after.ensures refl c.len-below.ensures c.in_ok-put_turns.ensures

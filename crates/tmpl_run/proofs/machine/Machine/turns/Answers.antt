@@ -5,13 +5,13 @@ use Rattle.tmpl_run.specs.computed.Output.{given_of}
 use Rattle.tmpl_run.specs.computed.Plain.{IsPlain}
 use Rattle.tmpl_run.proofs.GoingLemmas as going
 use Rattle.tmpl_run.proofs.OutputLemmas.{grows-on, grows-same}
+use Rattle.tmpl_run.proofs.StackLemmas.{cells-fit}
 use Rattle.tmpl_run.proofs.machine.Machine.turns.Goals as goal
 
 pub loop-stop-init : goal.loop-stop-init
 loop-stop-init g c = record {
   taken = grows-same (g.S.Sink.so_far c.args.sink.now);
-  stands = λ end ends. going.starts _ end c.args.self.now (given_of (g.S.Sink.so_far c.args.sink.now) c.args.piece.now) ends c.requires.within c.requires.plain
-      c.requires.depth;
+  stands = λ end ends. going.starts _ end c.args.self.now (given_of (g.S.Sink.so_far c.args.sink.now) c.args.piece.now) ends c.requires.plain c.requires.depth;
 }
 
 pub bounds-code-self : goal.bounds-code-self
@@ -35,7 +35,8 @@ execute-requires g c =
     let lands = going.lands inv items code item.is (omega (arith, fits)) in
     let count = inv.given.count in
     let few = c.requires.countable in
-    λ κs h. (h, (refl, (omega (arith, inside, fits), (omega (arith, deep), (inv.within, (has, (lands, (omega (arith, count, few), (code, inside)))))))))
+    let within = cells-fit c.loop-stop.self.stack in
+    λ κs h. (h, (refl, (omega (arith, inside, fits), (omega (arith, deep), (within, (has, (lands, (omega (arith, count, few), (code, inside)))))))))
 
 pub loop-stop-smaller : goal.loop-stop-smaller
 loop-stop-smaller g c =
