@@ -21,7 +21,7 @@ use Rattle.tmpl_syntax.specs.computed.Build as build
 use Rattle.tmpl_syntax.specs.computed.Build.{no_parts, first_of, rest_of, with_node_before, put_before, control_before, definition_before, else_before}
 use Rattle.tmpl_syntax.specs.computed.Build.{branch_before, end_before, parts_with, parts_before, nodes_from, definitions_from}
 use Rattle.tmpl_syntax.specs.Laws.{SpellsAtMostOne}
-use Rattle.tmpl_syntax.proofs.FaultLemmas.{TellsRole, tells}
+use Rattle.tmpl_syntax.proofs.FaultLemmas.{faultless}
 
 -- a part behind which an else may stand
 open-end : (b : Option Branch) (f : Frame) → takes_else b (Some f) ≡ true → (is_template f.opening || f.has_else) ≡ false
@@ -80,9 +80,6 @@ template-body xs ys zs es gs {ds = ds} {ns = ns} c d =
     subst (λ k. Leads xs ds ns (item c.0 (action_item end_action) ∷ zs) k) c.3 (subst (λ y. Leads xs ds ns y es) c.1 d)
 
 module _ (names : List Name) (xs : List Item) (p : build.Parts) where
-  placed : (x : Item) (t : Option Frame) → fault_at (role_of x) t names ≡ None → TellsRole (role_of x) t names None
-  placed x t e = subst (TellsRole (role_of x) t names) e (tells (role_of x) t names)
-
   -- a plain action's node
   at-node : {what : ItemKind} {n : NodeKind} (fs : List Frame) (line : ℕ) → IsNode what n → Rest fs xs p.definitions p.inner p.around
       → Rest fs (item line what ∷ xs) p.definitions (with_node_before line n p.inner) p.around
@@ -94,14 +91,13 @@ module _ (names : List Name) (xs : List Item) (p : build.Parts) where
   step (item line (text_item bytes)) fs e r = at-node fs line a_text r
   step (item line unreadable_item) fs e r = cc
   step (item line unread_item) fs e r = cc
-  step (item line (deep_item branch)) fs e r =
-      let g : true ≡ false = (placed (item line (deep_item branch)) (top fs) e).1 in cc
+  step (item line (deep_item branch)) fs e r = let g : true ≡ false = (faultless _ _ _ e).1 in cc
   step (item line (action_item (pipeline_action h))) fs e r = at-node fs line an_action r
   step (item line (action_item (opening c h))) fs e r = rest-node fs _ r.3 p.definitions r.4 line (control_node c h p.inner.nodes p.inner.other)
       (first_of p.around) (rest_of p.around) (λ ns ys es d. a_control r.2 r.5 d) r.6
   step (item line (action_item plain_else)) [] e r = cc
   step (item line (action_item plain_else)) (f ∷ fs) e r =
-      let takes = open-end None f (placed (item line (action_item plain_else)) (Some f) e).0 in
+      let takes = open-end None f (faultless _ _ _ e).0 in
       let end = elsed-closing f _ _ _ _ _ r.5 in (
         item line (action_item plain_else) ∷ xs,
         p.definitions,
@@ -112,10 +108,9 @@ module _ (names : List Name) (xs : List Item) (p : build.Parts) where
             end.3 (subst (λ ys. Leads xs p.definitions p.inner.nodes ys r.1) end.1 r.2))),
         r.6,
       )
-  step (item line (action_item (else_branch branch h))) [] e r =
-      let g = (placed (item line (action_item (else_branch branch h))) None e).0 in let h : false ≡ true = g in cc
+  step (item line (action_item (else_branch branch h))) [] e r = cc
   step (item line (action_item (else_branch branch h))) (f ∷ fs) e r =
-      let takes = open-end (Some branch) f (placed (item line (action_item (else_branch branch h))) (Some f) e).0 in (
+      let takes = open-end (Some branch) f (faultless _ _ _ e).0 in (
         item line (action_item (else_branch branch h)) ∷ xs,
         p.definitions,
         nothing,
