@@ -1,5 +1,5 @@
 -- For `one_verdict`: names in scope move with what is open, and what a further part of a control sees.
-use Rattle.std.proofs.Common.{arith, ◌≡◌, ◌≢◌, ℕ, ◌+◌, ◌<◌, ◌≤◌, false, List, refl, sym, subst, Option, Some, inl, inr, ⊎_elim, ◌⊎◌, ap, ◌∙◌, None}
+use Rattle.std.proofs.Common.{arith, ◌≡◌, ℕ, ◌+◌, ◌<◌, ◌≤◌, false, List, [], refl, sym, subst, Option, Some, inl, inr, ⊎_elim, ◌⊎◌, ap, ◌∙◌, None}
 use Rattle.std.specs.Prelude.{slice_get, Contains}
 use Rattle.std.proofs.lemmas.Bool.{cases_lt, cases_order}
 use Rattle.tmpl_grammar.specs.declared.action.Branch.{Branch}
@@ -12,6 +12,7 @@ use Rattle.tmpl_syntax.specs.Place.Opening.{Opening}
 use Rattle.tmpl_syntax.specs.Place.Opening as opened
 use Rattle.tmpl_grammar.specs.declared.tree.Control.TheVariants.{Range}
 use Rattle.tmpl_syntax.specs.Place.Role.{Name, Names, plain, opener, else_part, Role, act_role}
+use Rattle.tmpl_syntax.specs.Place.Body.{names_in}
 
 -- as Declares, with no else from after k to before b
 pub data Reaches (xs : List Role) (k a b : ℕ) (name : Name) : Type 0 where
@@ -63,15 +64,20 @@ reaches-moves xs k a b c d n o e r (from_inside {j = j} at h l p ne) =
 reaches-moves xs k a b c d n o e r (from_header at h p nr) = from_header at h (o k (omega arith) p) (λ is has. nr is (r p has))
 reaches-moves xs k a b c d n o e r (from_else_branch {j = j} t h p) = let lt = t.belongs.is_open.before in from_else_branch t h (o j (omega arith) p)
 
--- what the piece at a place is, by what brings a name there
-pub wrong-piece : (xs : List Role) (k a b : ℕ) (n : Name) (x : Role) → slice_get xs k ≡ Some x → ((p : Names) → x ≢ act_role (plain p))
-    → ((c : Opening) (p : Names) → x ≢ act_role (opener c p)) → ((c : Option (Branch × Names)) → x ≢ act_role (else_part c))
-    → Reaches xs k a b n → ⊥
-wrong-piece xs k a b n x at np nopen nt (from_top {p = p} e h z) = np p (same-piece xs k x (act_role (plain p)) at e)
-wrong-piece xs k a b n x at np nopen nt (from_inside {p = p} e h l o ne) = np p (same-piece xs k x (act_role (plain p)) at e)
-wrong-piece xs k a b n x at np nopen nt (from_header {c = c} {p = p} e h o r) = nopen c p (same-piece xs k x (act_role (opener c p)) at e)
-wrong-piece xs k a b n x at np nopen nt (from_else_branch {c = c} {p = p} t h o) =
-    nt (Some (c, p)) (same-piece xs k x (act_role (else_part (Some (c, p)))) at t.at)
+-- the names that a piece declares
+abbrev pub declared_at : Role → List Name
+declared_at (act_role a) = (names_in a).declares
+declared_at x = []
+
+-- what a piece brings it declares
+pub brings : (xs : List Role) (k a b : ℕ) (n : Name) (x : Role) → slice_get xs k ≡ Some x → Reaches xs k a b n → Contains (declared_at x) n
+brings xs k a b n x at r = by r (λ y e. subst (λ z. Contains (declared_at z) n) (same-piece xs k y x e at))
+  where
+    by : Reaches xs k a b n → ((y : Role) → slice_get xs k ≡ Some y → Contains (declared_at y) n → Contains (declared_at x) n) → Contains (declared_at x) n
+    by (from_top {p = p} e c z) same = same (act_role (plain p)) e c
+    by (from_inside {p = p} e c l o ne) same = same (act_role (plain p)) e c
+    by (from_header {c = d} {p = p} e c o r) same = same (act_role (opener d p)) e c
+    by (from_else_branch {c = d} {p = p} t c o) same = same (act_role (else_part (Some (d, p)))) t.at c
 
 -- where the same stands, what was in scope is
 pub brought-same : (xs : List Role) (j m : ℕ) (n : Name) → Same xs j m → Brought xs j j n → Brought xs m m n
@@ -158,18 +164,9 @@ brought-opened-back xs i n c p at nt b = ⊎_elim
           (λ ok. else_before xs b.by i (i + 1) (omega arith))
           b.reaches;
     }))
-    (λ ge. let g = b.before in let s : b.by ≡ i = omega arith in inr (new (subst (λ k. Reaches xs k (i + 1) (i + 1) n) s b.reaches)))
+    (λ ge. let g = b.before in let s : b.by ≡ i = omega arith in
+    inr (brings xs i (i + 1) (i + 1) n (act_role (opener c p)) at (subst (λ k. Reaches xs k (i + 1) (i + 1) n) s b.reaches)))
     (cases_lt b.by i)
-  where
-    same-pipe : (d : Opening) (q : Names) → act_role (opener c p) ≡ act_role (opener d q) → p ≡ q
-    same-pipe d q e = cc
-
-    new : Reaches xs i (i + 1) (i + 1) n → Contains p.declares n
-    new (from_top {p = q} e h z) = cc
-    new (from_inside {p = q} e h l oq ne) = cc
-    new (from_header {c = d} {p = q} e h oq r) =
-        let g = same-pipe d q (same-piece xs i (act_role (opener c p)) (act_role (opener d q)) at e) in subst (λ z. Contains z.declares n) (sym g) h
-    new (from_else_branch {c = d} {p = q} e h oq) = absurd (no-else xs (act_role (opener c p)) i at (λ u g. cc) (Some (d, q)) _ e)
 
 -- what an else part of the opening at j sees, were it to begin at h
 pub data Part (xs : List Role) (j h : ℕ) (name : Name) : Type 0 where

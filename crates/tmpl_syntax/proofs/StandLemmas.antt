@@ -6,12 +6,12 @@ use Rattle.std.specs.Bool.{Decides}
 use Rattle.std.proofs.lemmas.Bool.{cases_lt}
 use Rattle.std.proofs.lemmas.Bool.Decides.{Decides-like}
 use Rattle.tmpl_syntax.specs.computed.Frames.{Frame}
-use Rattle.tmpl_syntax.specs.Place.Open.{opens, ends, NothingOpen, IsLast, HasElse, is_template, IsTemplate}
+use Rattle.tmpl_syntax.specs.Place.Open.{NothingOpen, IsLast, HasElse, is_template, IsTemplate}
 use Rattle.tmpl_syntax.specs.Place.Body.{IsLoop, Levels}
 use Rattle.tmpl_syntax.specs.computed.Frames.{top, loops, in_loop, levels, entered, Known, with_inner, closed_if, closed_names, with_names}
 use Rattle.tmpl_syntax.proofs.FaultLemmas.{IsWithin, in-nothing}
 use Rattle.tmpl_syntax.proofs.NameLemmas.{with-longer, take-with, with-left, with-right, with-cases}
-use Rattle.tmpl_syntax.proofs.OpenLemmas.{ups, downs, count-split, same-opening, cut, Same, opened-keeps, opened_new}
+use Rattle.tmpl_syntax.proofs.OpenLemmas.{ups, downs, same-opening, cut, Same, opened-keeps, opened_new}
 use Rattle.tmpl_syntax.proofs.PlaceLemmas.{alike-back, alike-even, alike-opened, template-moves, template-opened, template-apart}
 use Rattle.tmpl_syntax.proofs.PlaceLemmas.{levels-same, levels-opened, InLoop, loop-moves, else_before, else-same, loop-same, loop-same-back, has-before}
 use Rattle.tmpl_syntax.proofs.ScopeLemmas.{Brought, brought-same, brought-same-back, brought-opened, brought-header, brought-opened-back}
@@ -36,7 +36,7 @@ pub record Stood (xs : List Role) (i : ℕ) (seen : List Name) (f : Frame) (j : 
   pub names : Names
   pub opened : slice_get xs j ≡ Some (act_role (opener f.opening names))
   pub last : IsLast xs j i
-  pub over : ups xs (j + 1) i ≡ downs xs (j + 1) i
+  pub over : ups xs i + downs xs (j + 1) ≡ ups xs (j + 1) + downs xs i
   pub has : Decides f.has_else (HasElse xs j i)
   pub around : Decides f.around (InLoop xs j)
   pub within : IsWithin f (length seen)
@@ -85,7 +85,7 @@ module _ (xs : List Role) (j m : ℕ) (s : Same xs j m) (known : Known) (ds : Li
         names = h.names;
         opened = h.opened;
         last = record { is_open = s.even.keeps q o; last = λ k qk ok. h.last.last k qk (s.even.only k ok) };
-        over = omega (arith, h.over, s.even.balance, count-split opens xs (q + 1) j m (omega arith) le, count-split ends xs (q + 1) j m (omega arith) le);
+        over = omega (arith, h.over, s.even.balance);
         has = Decides-like f.has_else (else_before xs q j m le) (else-same xs q j m s o) h.has;
         around = h.around;
         within = record { started = h.within.started; parted = let p = h.within.parted in omega (arith, with-longer names ds) };

@@ -10,11 +10,11 @@ use Rattle.tmpl_syntax.specs.computed.Frames.{parted, is_placed, closed_if}
 use Rattle.tmpl_syntax.specs.Place.Open.{opens, ends, NothingOpen, IsLast, is_template, IsElseOf, HasElse}
 use Rattle.tmpl_syntax.proofs.FaultLemmas.{IsWithin, in-nothing}
 use Rattle.tmpl_syntax.proofs.NameLemmas.{take-before, with-left, with-right, with-cases, part-low, part-high, with-longer, take-with}
-use Rattle.tmpl_syntax.proofs.OpenLemmas.{count-none, same-piece, cut, Same, shut-at, same-ended, same-still, opened_new, count-split, same-opening, through}
+use Rattle.tmpl_syntax.proofs.OpenLemmas.{same-piece, cut, Same, shut-at, same-ended, same-still, opened_new, same-opening, through}
 use Rattle.tmpl_syntax.proofs.OpenLemmas.{Even, even-step}
-use Rattle.tmpl_syntax.proofs.PlaceLemmas.{alike-even, template-moves, no-else, alike-back, alike-last, levels-else, InLoop, loop-moves, else_before}
+use Rattle.tmpl_syntax.proofs.PlaceLemmas.{alike-even, template-moves, alike-back, alike-last, levels-else, InLoop, loop-moves, else_before}
 use Rattle.tmpl_syntax.proofs.PlaceLemmas.{has-before}
-use Rattle.tmpl_syntax.proofs.ScopeLemmas.{Reaches, from_top, from_inside, from_header, from_else_branch, Brought, wrong-piece, brought-late, Part, earlier}
+use Rattle.tmpl_syntax.proofs.ScopeLemmas.{Reaches, from_top, from_inside, from_else_branch, Brought, declared_at, brings, brought-late, Part, earlier}
 use Rattle.tmpl_syntax.proofs.ScopeLemmas.{header, branch_header, BroughtFrom, part-later, to-part, from-part}
 use Rattle.tmpl_syntax.proofs.StandLemmas.{Here, Stood, closed_at, Stands, here-of, stands-moves, here-control, here-template}
 use Rattle.tmpl_syntax.specs.Place.Opening.{Opening}
@@ -82,7 +82,7 @@ module _ (xs : List Role) (i : ℕ) (names : List Name) (c : Opening) (p : Names
     names = p;
     opened = at;
     last = record { is_open = opened_new xs i c p at; last = λ k lt b. let g = b.before in omega arith };
-    over = omega (arith, count-none opens xs (i + 1), count-none ends xs (i + 1));
+    over = refl;
     has = (λ e. cc, λ e. let a = e.1 in let b = e.2.belongs.is_open.before in absurd (omega arith));
     around = h.looped;
     within = within;
@@ -145,51 +145,35 @@ pub last-of : (xs : List Role) (i : ℕ) (known : Known) (fs : List Frame) → S
 last-of xs i known [] s = inl s.0
 last-of xs i known (f ∷ fs) s = inr (s.1, s.2.last)
 
-pub stands-declared : (xs : List Role) (i : ℕ) (known : Known) (p : Names) (fs : List Frame) → slice_get xs i ≡ Some (act_role (plain p))
-    → Stands xs i known fs → Stands xs (i + 1) (with_inner known (with_names known.inner p.declares)) fs
-stands-declared xs i known p fs at s = stands-moves xs i (i + 1) same known p.declares new
-    (λ n b ge. let u = b.before in let e : b.by ≡ i = omega arith in old n (subst (λ k. Reaches xs k (i + 1) (i + 1) n) e b.reaches)) fs s
+-- after a piece that is no opening, end or else, what it declares is known
+pub stands-passed : (xs : List Role) (i : ℕ) (known : Known) (x : Role) (fs : List Frame) → slice_get xs i ≡ Some x → opens x ≡ false
+    → ends x ≡ false → ((b : Option (Branch × Names)) → x ≢ act_role (else_part b)) → Stands xs i known fs
+    → Stands xs (i + 1) (with_inner known (with_names known.inner (declared_at x))) fs
+stands-passed xs i known x fs at o e nt s = stands-moves xs i (i + 1) same known (declared_at x) (new x at o nt)
+    (λ n b ge. let u = b.before in let m : b.by ≡ i = omega arith in
+    brings xs i (i + 1) (i + 1) n x at (subst (λ k. Reaches xs k (i + 1) (i + 1) n) m b.reaches))
+    fs s
   where
     same : Same xs i (i + 1)
-    same = same-still xs (act_role (plain p)) i at refl refl (λ b g. cc)
+    same = same-still xs x i at o e nt
 
     h : Here xs i (top fs) known.inner
     h = here-of xs i known fs s
 
-    reaches : (n : Name) → Contains p.declares n → Reaches xs i (i + 1) (i + 1) n
-    reaches n c = ⊎_elim (λ z. from_top at c z) (λ l. from_inside at c l.1 (same.even.keeps l.0 l.1.is_open) (λ m d from to e. omega arith))
-        (last-of xs i known fs s)
-
-    new : (n : Name) → Contains p.declares n → Brought xs (i + 1) (i + 1) n
-    new n c = record {
+    new : (y : Role) → slice_get xs i ≡ Some y → opens y ≡ false → ((b : Option (Branch × Names)) → y ≢ act_role (else_part b))
+        → (n : Name) → Contains (declared_at y) n → Brought xs (i + 1) (i + 1) n
+    new (act_role (plain p)) at o nt n c = record {
       by = i;
       before = omega arith;
-      template = (
-        h.template,
-        h.is_template_here,
-        template-moves xs i (i + 1) (alike-even xs i (i + 1) same.even)
-            h.template h.is_template_here,
-      );
-      reaches = reaches n c;
+      template = (h.template, h.is_template_here, template-moves xs i (i + 1) (alike-even xs i (i + 1) same.even) h.template h.is_template_here);
+      reaches = ⊎_elim
+          (λ z. from_top at c z)
+          (λ l. from_inside at c l.1 (same.even.keeps l.0 l.1.is_open) (λ m d from to e. omega arith))
+          (last-of xs i known fs s);
     }
-
-    same-pipe : (q : Names) → slice_get xs i ≡ Some (act_role (plain q)) → p ≡ q
-    same-pipe q e = cc
-
-    old : (n : Name) → Reaches xs i (i + 1) (i + 1) n → Contains p.declares n
-    old n (from_top {p = q} e c z) = subst (λ z. Contains z.declares n) (sym (same-pipe q e)) c
-    old n (from_inside {p = q} e c l o ne) = subst (λ z. Contains z.declares n) (sym (same-pipe q e)) c
-    old n (from_header {c = d} {p = q} e c o r) = cc
-    old n (from_else_branch {c = d} {p = q} {j = j} e c o) = absurd (no-else xs (act_role (plain p)) i at (λ b g. cc) (Some (d, q)) j e)
-
-pub stands-still : (xs : List Role) (i : ℕ) (known : Known) (x : Role) (fs : List Frame) → slice_get xs i ≡ Some x → opens x ≡ false
-    → ends x ≡ false → ((p : Names) → x ≢ act_role (plain p)) → ((c : Opening) (p : Names) → x ≢ act_role (opener c p))
-    → ((b : Option (Branch × Names)) → x ≢ act_role (else_part b)) → Stands xs i known fs → Stands xs (i + 1) known fs
-stands-still xs i known x fs at o e np nopen nt s =
-    stands-moves xs i (i + 1) (same-still xs x i at o e nt) known [] (λ n c. in-nothing n c)
-    (λ n b ge. let u = b.before in let m : b.by ≡ i = omega arith in absurd (wrong-piece xs i (i + 1) (i + 1) n x at np nopen nt
-    (subst (λ k. Reaches xs k (i + 1) (i + 1) n) m b.reaches)))
-    fs s
+    new (act_role (opener d p)) at o nt n c = cc
+    new (act_role (else_part b)) at o nt n c = absurd (nt b refl)
+    new _ at o nt n c = in-nothing n c
 
 -- an else stands in a control, and one that begins with a control in no range
 pub joins-own : (b : Option Branch) (c : Opening) → joins b c ≡ true → is_template c ≡ false
@@ -326,10 +310,7 @@ module _ (xs : List Role) (i : ℕ) (known : Known) (f : Frame) (fs : List Frame
   new n c = let w = declares n c in from_else_branch w.2 w.3 last-after.is_open
 
   old : (n : Name) → Reaches xs i (i + 1) (i + 1) n → Contains ds n
-  old n (from_top {p = q} e c z) = cc
-  old n (from_inside {p = q} e c l o ne) = cc
-  old n (from_header {c = d} {p = q} e c o r) = cc
-  old n (from_else_branch {c = d} {p = q} e c o) = declared d q n e.at c
+  old n r = brings xs i (i + 1) (i + 1) n (act_role (else_part b)) at r
 
   new-part : (n : Name) → Contains ds n → Part xs s.1 (i + 1) n
   new-part n c = let w = declares n c in branch_header (omega arith) w.2 w.3
@@ -389,14 +370,7 @@ module _ (xs : List Role) (i : ℕ) (known : Known) (f : Frame) (fs : List Frame
     names = s.2.names;
     opened = s.2.opened;
     last = last-after;
-    over = let z = low in omega (
-      arith,
-      s.2.over,
-      even.balance,
-      count-split opens xs (s.1 + 1) i (i + 1) (omega arith) (omega arith),
-      count-split ends xs
-          (s.1 + 1) i (i + 1) (omega arith) (omega arith),
-    );
+    over = omega (arith, s.2.over, even.balance);
     has = has-is;
     around = s.2.around;
     within = record { started = let a = s.2.within.started in omega (arith, front, with-longer (take f.part names) ds); parted = omega arith };

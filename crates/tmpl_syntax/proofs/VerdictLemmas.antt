@@ -17,7 +17,7 @@ use Rattle.tmpl_syntax.proofs.OpenLemmas.{same-piece}
 use Rattle.std.specs.Bool.{Decides}
 use Rattle.std.proofs.lemmas.Bool.Decides.{not_from_Decides}
 use Rattle.tmpl_syntax.proofs.StandLemmas.{Stands, here-of}
-use Rattle.tmpl_syntax.proofs.StepLemmas.{stands-opened, stands-ended, stands-declared, stands-still, stands-parted}
+use Rattle.tmpl_syntax.proofs.StepLemmas.{stands-opened, stands-ended, stands-passed, stands-parted}
 use Rattle.tmpl_syntax.proofs.JudgeLemmas.{placed, deep, declared}
 use Rattle.std.proofs.lemmas.List.{drop-drop}
 
@@ -140,13 +140,13 @@ tells xs i known fs s (act_role a) at = by_tests xs i a at (is_placed a (top fs)
 after : (xs : List Role) (i : ℕ) (known : Known) (fs : List Frame) (a : Act) → slice_get xs i ≡ Some (act_role a) → is_placed a (top fs) ≡ true
     → Stands xs i known fs → Stands xs (i + 1) (known_after a (top fs) (with_inner known (names_at a (top fs) known.inner)))
     (frames_after a fs (names_at a (top fs) known.inner))
-after xs i known fs (plain p) at e s = stands-declared xs i known p fs at s
+after xs i known fs (plain p) at e s = stands-passed xs i known (act_role (plain p)) fs at refl refl (λ b g. cc) s
 after xs i known fs (opener c p) at e s = stands-opened xs i known p fs s c at
 after xs i known (f ∷ fs) (else_part None) at e s = stands-parted xs i known f fs s None at e
 after xs i known (f ∷ fs) (else_part (Some (b, p))) at e s = stands-parted xs i known f fs s (Some (b, p)) at e
 after xs i known (f ∷ fs) closer at e s = stands-ended xs i known f fs at s
-after xs i known fs (nested d) at e s = stands-still xs i known (act_role (nested d)) fs at refl refl (λ q g. cc) (λ c q g. cc) (λ b g. cc) s
-after xs i known fs jump at e s = stands-still xs i known (act_role jump) fs at refl refl (λ q g. cc) (λ c q g. cc) (λ b g. cc) s
+after xs i known fs (nested d) at e s = stands-passed xs i known (act_role (nested d)) fs at refl refl (λ b g. cc) s
+after xs i known fs jump at e s = stands-passed xs i known (act_role jump) fs at refl refl (λ b g. cc) s
 after xs i known [] (else_part (Some (b, p))) at e s = cc
 after xs i known [] _ at e s = cc
 
@@ -154,7 +154,7 @@ after xs i known [] _ at e s = cc
 past : (xs : List Role) (i : ℕ) (known : Known) (fs : List Frame) (x : Role) → slice_get xs i ≡ Some x
     → fault_at x (top fs) (seen_at x (top fs) known.inner) ≡ None → Stands xs i known fs
     → Stands xs (i + 1) (known_past x (top fs) (with_inner known (seen_at x (top fs) known.inner))) (frames_past x fs (seen_at x (top fs) known.inner))
-past xs i known fs text_role at e s = stands-still xs i known text_role fs at refl refl (λ q g. cc) (λ c q g. cc) (λ b g. cc) s
+past xs i known fs text_role at e s = stands-passed xs i known text_role fs at refl refl (λ b g. cc) s
 past xs i known fs (act_role a) at e s = after xs i known fs a at (faultless (is_placed a (top fs)) _ _ e).0 s
 past xs i known fs _ at e s = cc
 
