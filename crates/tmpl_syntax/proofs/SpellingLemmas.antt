@@ -33,10 +33,9 @@ abbrev ends_only : Frame → Bool
 ends_only f = is_template f.opening || f.has_else
 
 -- what stands behind a part
-abbrev Closing : Bool → List Item → List Definition → Nodes → List Item → List Definition → Type 0
-Closing false ys es other zs gs = Closes ys es other zs gs
-Closing true ys es other zs gs =
-    (line : ℕ) × (ys ≡ item line (action_item end_action) ∷ zs) × (other ≡ none) × (es ≡ gs)
+data Closing : Bool → List Item → List Definition → Nodes → List Item → List Definition → Type 0 where
+  by_end : {b : Bool} {line : ℕ} {zs : List Item} {gs : List Definition} → Closing b (item line (action_item end_action) ∷ zs) gs none zs gs
+  by_else : {ys zs : List Item} {es gs : List Definition} {other : Nodes} → Closes ys es other zs gs → Closing false ys es other zs gs
 
 -- inside these frames the rest of the items spells these parts
 abbrev Rest : List Frame → List Item → List Definition → build.Level → List build.Level → Type 0
@@ -57,27 +56,18 @@ rest-node : (fs : List Frame) (xs zs : List Item) (ds gs : List Definition) (lin
     → Rest fs zs gs l ls → Rest fs xs ds (with_node_before line n l) ls
 rest-node fs xs zs ds gs line n l ls more r = rest-led fs xs zs ds gs l (with_node_before line n l) ls refl (λ ys es. more l.nodes ys es) r
 
-closing-end : (b : Bool) (line : ℕ) (xs : List Item) (ds : List Definition) → Closing b (item line (action_item end_action) ∷ xs) ds none xs ds
-closing-end false line xs ds = an_end
-closing-end true line xs ds = (line, refl, refl, refl)
+closes-of : {ys zs : List Item} {es gs : List Definition} {other : Nodes} (b : Bool) → b ≡ false → Closing b ys es other zs gs → Closes ys es other zs gs
+closes-of b e by_end = an_end
+closes-of _ e (by_else c) = c
 
-closing-of : (f : Frame) (ys zs : List Item) (es gs : List Definition) (other : Nodes) → ends_only f ≡ false
-    → Closes ys es other zs gs → Closing (ends_only f) ys es other zs gs
-closing-of f ys zs es gs other e c = subst (λ k. Closing k ys es other zs gs) (sym e) c
-
-closes-of : (f : Frame) (ys zs : List Item) (es gs : List Definition) (other : Nodes) → ends_only f ≡ false
-    → Closing (ends_only f) ys es other zs gs → Closes ys es other zs gs
-closes-of f ys zs es gs other e c = subst (λ k. Closing k ys es other zs gs) e c
+closing-of : {ys zs : List Item} {es gs : List Definition} {other : Nodes} (b : Bool) → b ≡ false → Closes ys es other zs gs → Closing b ys es other zs gs
+closing-of b e c = rw e (by_else c)
 
 -- behind a plain else, and in the body of a template, only the `end` stands
-elsed-closing : (f : Frame) (ys zs : List Item) (es gs : List Definition) (other : Nodes)
-    → Closing (is_template f.opening || true) ys es other zs gs → Closing true ys es other zs gs
-elsed-closing f ys zs es gs other c = subst (λ b. Closing b ys es other zs gs) (or_right (is_template f.opening) true refl) c
-
-template-body : (xs ys zs : List Item) (es gs : List Definition) {ds : List Definition} {ns other : Nodes} (c : Closing true ys es other zs gs)
-    → Leads xs ds ns ys es → Leads xs ds ns (item c.0 (action_item end_action) ∷ zs) gs
-template-body xs ys zs es gs {ds = ds} {ns = ns} c d =
-    subst (λ k. Leads xs ds ns (item c.0 (action_item end_action) ∷ zs) k) c.3 (subst (λ y. Leads xs ds ns y es) c.1 d)
+ended : {xs ys zs : List Item} {ds es gs : List Definition} {ns other : Nodes} (b : Bool) → b ≡ true → Closing b ys es other zs gs → Leads xs ds ns ys es
+    → (line : ℕ) × Leads xs ds ns (item line (action_item end_action) ∷ zs) gs
+ended b e (by_end {line = line}) d = (line, d)
+ended _ e (by_else c) d = cc
 
 module _ (names : List Name) (xs : List Item) (p : build.Parts) where
   -- a plain action's node
@@ -94,43 +84,29 @@ module _ (names : List Name) (xs : List Item) (p : build.Parts) where
   step (item line (deep_item branch)) fs e r = let g : true ≡ false = (faultless _ _ _ e).1 in cc
   step (item line (action_item (pipeline_action h))) fs e r = at-node fs line an_action r
   step (item line (action_item (opening c h))) fs e r = rest-node fs _ r.3 p.definitions r.4 line (control_node c h p.inner.nodes p.inner.other)
-      (first_of p.around) (rest_of p.around) (λ ns ys es d. a_control r.2 r.5 d) r.6
+      (first_of p.around) (rest_of p.around) (λ ns ys es d. a_control r.2 (closes-of false refl r.5) d) r.6
   step (item line (action_item plain_else)) [] e r = cc
   step (item line (action_item plain_else)) (f ∷ fs) e r =
       let takes = open-end None f (faultless _ _ _ e).0 in
-      let end = elsed-closing f _ _ _ _ _ r.5 in (
-        item line (action_item plain_else) ∷ xs,
-        p.definitions,
-        nothing,
-        r.3,
-        r.4,
-        closing-of f _ _ _ _ _ takes (an_else {last = end.0} (subst (λ es. Leads xs p.definitions p.inner.nodes (item end.0 (action_item end_action) ∷ r.3) es)
-            end.3 (subst (λ ys. Leads xs p.definitions p.inner.nodes ys r.1) end.1 r.2))),
-        r.6,
-      )
+      let body = ended (is_template f.opening || true) (or_right (is_template f.opening) true refl) r.5 r.2 in
+      (item line (action_item plain_else) ∷ xs, p.definitions, nothing, r.3, r.4, closing-of (ends_only f) takes (an_else {last = body.0} body.1), r.6)
   step (item line (action_item (else_branch branch h))) [] e r = cc
   step (item line (action_item (else_branch branch h))) (f ∷ fs) e r =
-      let takes = open-end (Some branch) f (faultless _ _ _ e).0 in (
-        item line (action_item (else_branch branch h)) ∷ xs,
-        p.definitions,
-        nothing,
-        r.3,
-        r.4,
-        closing-of f _ _ _ _ _ takes (an_else_branch r.2 (closes-of f _ _ _ _ _ takes r.5)),
-        r.6,
-      )
+      let takes = open-end (Some branch) f (faultless _ _ _ e).0 in
+      let other = closes-of (ends_only f) takes r.5 in
+      (item line (action_item (else_branch branch h)) ∷ xs, p.definitions, nothing, r.3, r.4, closing-of (ends_only f) takes (an_else_branch r.2 other), r.6)
   step (item line (action_item end_action)) [] e r = cc
   step (item line (action_item end_action)) (f ∷ fs) e r =
-      (item line (action_item end_action) ∷ xs, p.definitions, nothing, xs, p.definitions, closing-end (ends_only f) line xs p.definitions, r)
+      (item line (action_item end_action) ∷ xs, p.definitions, nothing, xs, p.definitions, by_end, r)
   step (item line (action_item break_action)) fs e r = at-node fs line a_break r
   step (item line (action_item continue_action)) fs e r = at-node fs line a_continue r
   step (item line (action_item (template_action name given))) fs e r = at-node fs line a_template r
   step (item line (action_item (define_action name))) fs e r =
-      let body = template-body _ _ _ _ _ r.5 r.2 in
-      rest-led fs _ r.3 _ r.4 (first_of p.around) (first_of p.around) (rest_of p.around) refl (λ ys es d. a_define {last = r.5.0} body d) r.6
+      let body = ended true refl r.5 r.2 in
+      rest-led fs _ r.3 _ r.4 (first_of p.around) (first_of p.around) (rest_of p.around) refl (λ ys es d. a_define {last = body.0} body.1 d) r.6
   step (item line (action_item (block_action name q))) fs e r =
-      let body = template-body _ _ _ _ _ r.5 r.2 in
-      rest-node fs _ r.3 _ r.4 line (template_node name (Some q)) (first_of p.around) (rest_of p.around) (λ ns ys es d. a_block {last = r.5.0} body d) r.6
+      let body = ended true refl r.5 r.2 in
+      rest-node fs _ r.3 _ r.4 line (template_node name (Some q)) (first_of p.around) (rest_of p.around) (λ ns ys es d. a_block {last = body.0} body.1 d) r.6
 
 unless-fine : (o : Option Reason) (i : ℕ) (v : Verdict) → unless_fault o i v ≡ fine → (o ≡ None) × (v ≡ fine)
 unless-fine None i v e = (refl, e)
