@@ -100,3 +100,13 @@ part-low _ names ds = with-longer names ds
 pub part-high : (c : Control) (names ds : List Name) → part_of c (length names) (length (with_names names ds)) ≤ length (with_names names ds)
 part-high Range names ds = with-longer names ds
 part-high _ names ds = omega arith
+
+-- what an else part sees: a range's own names are not among it
+abbrev pub else_names : Control → List Name → List Name → List Name
+else_names Range names ds = names
+else_names _ names ds = with_names names ds
+
+pub take-part : (c : Control) (names ds : List Name)
+    → take (part_of c (length names) (length (with_names names ds))) (with_names names ds) ≡ else_names c names ds
+take-part Range names ds = take-before names ds
+take-part _ names ds = take-length (with_names names ds)
