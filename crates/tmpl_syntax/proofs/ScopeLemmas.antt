@@ -6,7 +6,8 @@ use Rattle.tmpl_grammar.specs.declared.action.Branch.{Branch}
 use Rattle.tmpl_syntax.specs.Place.Open.{IsOpen, NothingOpen, IsLast, IsElseOf, HasElse, is_template, IsTemplate, OfOneTemplate, opens}
 use Rattle.tmpl_syntax.specs.Place.Scope.{Declares, at_the_top, inside, in_header, in_else_branch, IsInScope}
 use Rattle.tmpl_syntax.proofs.OpenLemmas.{same-piece, cut, Same, opened-keeps, opened_new, same-opening, through, shut-at}
-use Rattle.tmpl_syntax.proofs.PlaceLemmas.{Alike, alike-here, alike-even, alike-back, alike-opened, one-moves, template-moves, else_before, else-same, no-else, has-before}
+use Rattle.tmpl_syntax.proofs.PlaceLemmas.{Alike, alike-here, alike-even, alike-back, alike-opened, one-moves, template-moves, else_before, else-same, no-else}
+use Rattle.tmpl_syntax.proofs.PlaceLemmas.{has-before}
 use Rattle.tmpl_syntax.proofs.PlaceLemmas.{alike-last}
 use Rattle.tmpl_syntax.specs.Place.Opening.{Opening}
 use Rattle.tmpl_syntax.specs.Place.Opening as opened

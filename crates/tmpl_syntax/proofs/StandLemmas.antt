@@ -19,7 +19,7 @@ use Rattle.tmpl_syntax.proofs.ScopeLemmas.{Part, part-later, part-sooner}
 use Rattle.tmpl_syntax.specs.Place.Opening.{Opening}
 use Rattle.tmpl_syntax.specs.Place.Opening as opened
 use Rattle.tmpl_grammar.specs.declared.tree.Control.{Control}
-use Rattle.tmpl_grammar.specs.declared.tree.Control.TheVariants.{If, With, Range}
+use Rattle.tmpl_grammar.specs.declared.tree.Control.TheVariants.{Range}
 use Rattle.tmpl_syntax.specs.Place.Role.{Name, Names, opener, Role, act_role}
 
 -- what the newest frame and the names say of the place i
@@ -153,11 +153,9 @@ module _ (xs : List Role) (i : ℕ) (names : List Name) (c : Opening) (p : Names
         (i, (opened_new xs i c p at, e, (h.template, h.is_template_here, moved), none-of-it))
 
     pub here-control : (d : Control) → c ≡ opened.control d → Here xs (i + 1) (Some (entered c p t names)) (with_names names p.declares)
-    here-control If e = here-plain (in_loop t) (Decides-like (in_loop t) (loop-on own)
-        (loop-off own (λ r. cc)) h.looped) (ap (λ z. loops z false (in_loop t)) (sym e))
-    here-control With e = here-plain (in_loop t) (Decides-like (in_loop t) (loop-on own)
-        (loop-off own (λ r. cc)) h.looped) (ap (λ z. loops z false (in_loop t)) (sym e))
     here-control Range e = here-plain true (λ g. new-loop e, λ l. refl) (ap (λ z. loops z false (in_loop t)) (sym e))
+    here-control _ e = here-plain (in_loop t) (Decides-like (in_loop t) (loop-on own)
+        (loop-off own (λ r. cc)) h.looped) (ap (λ z. loops z false (in_loop t)) (sym e))
 
   -- in a template nothing is known, and no loop is around it
   pub here-template : is_template c ≡ true → Here xs (i + 1) (Some (entered c p t names)) []

@@ -20,7 +20,7 @@ use Rattle.tmpl_syntax.proofs.StandLemmas.{Here, Stood, closed_at, Stands, here-
 use Rattle.tmpl_syntax.specs.Place.Opening.{Opening}
 use Rattle.tmpl_syntax.specs.Place.Opening as opened
 use Rattle.tmpl_grammar.specs.declared.tree.Control.{Control}
-use Rattle.tmpl_grammar.specs.declared.tree.Control.TheVariants.{If, With, Range}
+use Rattle.tmpl_grammar.specs.declared.tree.Control.TheVariants.{Range}
 use Rattle.tmpl_syntax.specs.Place.Role.{Name, Names, plain, opener, else_part, closer, Role, act_role}
 use Rattle.std.specs.Bool.{Decides}
 use Rattle.std.proofs.lemmas.Bool.Decides.{Decides-like}
@@ -45,9 +45,8 @@ module _ (xs : List Role) (i : ℕ) (names : List Name) (c : Opening) (p : Names
 
   -- what the parts see at first
   part-first : (d : Control) → c ≡ opened.control d → (n : Name) → Contains (else_names d names p.declares) n → Part xs i (i + 1) n
-  part-first If e n k = ⊎_elim (λ l. earlier (h.to n l)) (λ r. header at r (λ z. cc)) (with-cases names p.declares n k)
-  part-first With e n k = ⊎_elim (λ l. earlier (h.to n l)) (λ r. header at r (λ z. cc)) (with-cases names p.declares n k)
   part-first Range e n k = earlier (h.to n k)
+  part-first _ e n k = ⊎_elim (λ l. earlier (h.to n l)) (λ r. header at r (λ z. cc)) (with-cases names p.declares n k)
 
   part-first-back : (d : Control) → c ≡ opened.control d → (n : Name) → Part xs i (i + 1) n → Contains (else_names d names p.declares) n
   part-first-back Range e n k = ⊎_elim (λ b. h.back n b) (λ r. absurd (r.1 e)) (part-new n k)
