@@ -45,12 +45,9 @@ module _ (xs : List Role) (i : ℕ) (known : Known) (fs : List Frame) (x : Role)
 pub item-at : (items : List held.Item) (i : ℕ) (x : held.Item) → i < length items → x ≡ get_or items i x → slice_get (map item_of items) i ≡ Some (item_of x)
 item-at items i x lt is = slice_get-map item_of items i ∙ ap (option_map item_of) (slice_get_read items (length items) i x refl lt is)
 
-role-at : (items : List Item) (i : ℕ) (x : Item) → slice_get items i ≡ Some x → slice_get (roles_of items) i ≡ Some (role_of x)
-role-at items i x at = slice_get-map role_of items i ∙ ap (option_map role_of) at
-
 pub role-here : (items : List held.Item) (i : ℕ) (x : held.Item) → i < length items → x ≡ get_or items i x
     → slice_get (roles_of (map item_of items)) i ≡ Some (role_of (item_of x))
-role-here items i x lt is = role-at (map item_of items) i (item_of x) (item-at items i x lt is)
+role-here items i x lt is = slice_get-map role_of (map item_of items) i ∙ ap (option_map role_of) (item-at items i x lt is)
 
 pub checked-refused : (bytes : List ℕ) (items : List Item) (i : ℕ) (x : Item) (f : Reason) (line : ℕ) (o : Option Reason) → slice_get items i ≡ Some x
     → verdict_of (roles_of items) ≡ refused i f → line ≡ line_in (Some x) → o ≡ Some f → IsRefusal (checked bytes items) line o

@@ -6,13 +6,13 @@ use Rattle.std.specs.Bool.{Decides}
 use Rattle.std.proofs.lemmas.Bool.{cases_lt}
 use Rattle.std.proofs.lemmas.Bool.Decides.{Decides-like}
 use Rattle.tmpl_syntax.specs.computed.Frames.{Frame}
-use Rattle.tmpl_syntax.specs.Place.Open.{NothingOpen, IsLast, HasElse, is_template, IsTemplate}
+use Rattle.tmpl_syntax.specs.Place.Open.{NothingOpen, IsLast, HasElse, is_template, IsTemplate, OfOneTemplate}
 use Rattle.tmpl_syntax.specs.Place.Body.{IsLoop, Levels}
 use Rattle.tmpl_syntax.specs.computed.Frames.{top, loops, in_loop, levels, entered, Known, with_inner, closed_if, closed_names, with_names}
 use Rattle.tmpl_syntax.proofs.FaultLemmas.{IsWithin, in-nothing}
 use Rattle.tmpl_syntax.proofs.NameLemmas.{with-longer, take-with, with-left, with-right, with-cases}
 use Rattle.tmpl_syntax.proofs.OpenLemmas.{ups, downs, same-opening, cut, Same, opened-keeps, opened_new}
-use Rattle.tmpl_syntax.proofs.PlaceLemmas.{alike-back, alike-even, alike-opened, template-moves, template-opened, template-apart}
+use Rattle.tmpl_syntax.proofs.PlaceLemmas.{Alike, alike-back, alike-even, alike-opened, template-moves, template-opened, template-apart}
 use Rattle.tmpl_syntax.proofs.PlaceLemmas.{levels-same, levels-opened, InLoop, loop-moves, else_before, else-same, loop-same, loop-same-back, has-before}
 use Rattle.tmpl_syntax.proofs.ScopeLemmas.{Brought, brought-same, brought-same-back, brought-opened, brought-header, brought-opened-back}
 use Rattle.tmpl_syntax.proofs.ScopeLemmas.{Part, part-later, part-sooner}
@@ -55,6 +55,10 @@ Stands xs i known (f ∷ fs) = Here xs i (Some f) known.inner × (j : ℕ) × St
 pub here-of : (xs : List Role) (i : ℕ) (known : Known) (fs : List Frame) → Stands xs i known fs → Here xs i (top fs) known.inner
 here-of xs i known [] s = s.1
 here-of xs i known (f ∷ fs) s = s.0
+
+-- a place is of the template of the one before it, where the same templates are open
+pub one-here : (xs : List Role) (i m : ℕ) (t : Option Frame) (names : List Name) → Here xs i t names → Alike xs i m → OfOneTemplate xs i m
+one-here xs i m t names h e = (h.template, h.is_template_here, template-moves xs i m e h.template h.is_template_here)
 
 -- to a place where the same stands, with what was declared on the way
 module _ (xs : List Role) (j m : ℕ) (s : Same xs j m) (known : Known) (ds : List Name) (new : (n : Name) → Contains ds n → Brought xs m m n)
@@ -148,9 +152,7 @@ module _ (xs : List Role) (i : ℕ) (names : List Name) (c : Opening) (p : Names
     }
 
     new-loop : c ≡ opened.control Range → InLoop xs (i + 1)
-    new-loop e =
-        let moved = template-moves xs i (i + 1) (alike-opened xs i c p at own) h.template h.is_template_here in
-        (i, (opened_new xs i c p at, e, (h.template, h.is_template_here, moved), none-of-it))
+    new-loop e = (i, (opened_new xs i c p at, e, one-here xs i (i + 1) t names h (alike-opened xs i c p at own), none-of-it))
 
     pub here-control : (d : Control) → c ≡ opened.control d → Here xs (i + 1) (Some (entered c p t names)) (with_names names p.declares)
     here-control Range e = here-plain true (λ g. new-loop e, λ l. refl) (ap (λ z. loops z false (in_loop t)) (sym e))

@@ -16,7 +16,7 @@ use Rattle.tmpl_syntax.proofs.PlaceLemmas.{alike-even, template-moves, alike-bac
 use Rattle.tmpl_syntax.proofs.PlaceLemmas.{has-before}
 use Rattle.tmpl_syntax.proofs.ScopeLemmas.{Reaches, from_top, from_inside, from_else_branch, Brought, declared_at, brings, brought-late, Part, earlier}
 use Rattle.tmpl_syntax.proofs.ScopeLemmas.{header, branch_header, BroughtFrom, part-later, to-part, from-part}
-use Rattle.tmpl_syntax.proofs.StandLemmas.{Here, Stood, closed_at, Stands, here-of, stands-moves, here-control, here-template}
+use Rattle.tmpl_syntax.proofs.StandLemmas.{Here, Stood, closed_at, Stands, here-of, one-here, stands-moves, here-control, here-template}
 use Rattle.tmpl_syntax.specs.Place.Opening.{Opening}
 use Rattle.tmpl_syntax.specs.Place.Opening as opened
 use Rattle.tmpl_grammar.specs.declared.tree.Control.{Control}
@@ -143,7 +143,7 @@ stands-passed xs i known x fs at o e nt s = stands-moves xs i (i + 1) same known
     new (act_role (plain p)) at o nt n c = record {
       by = i;
       before = omega arith;
-      template = (h.template, h.is_template_here, template-moves xs i (i + 1) (alike-even xs i (i + 1) same.even) h.template h.is_template_here);
+      template = one-here xs i (i + 1) (top fs) known.inner h (alike-even xs i (i + 1) same.even);
       reaches = ⊎_elim
           (λ z. from_top at c z)
           (λ l. from_inside at c l.1 (same.even.keeps l.0 l.1.is_open) (λ m d from to e. omega arith))
@@ -317,12 +317,7 @@ module _ (xs : List Role) (i : ℕ) (known : Known) (f : Frame) (fs : List Frame
         (λ r. record {
           by = i;
           before = omega arith;
-          template = (
-            s.0.template,
-            s.0.is_template_here,
-            template-moves xs i (i + 1)
-                (alike-even xs i (i + 1) even) s.0.template s.0.is_template_here,
-          );
+          template = one-here xs i (i + 1) (Some f) names s.0 (alike-even xs i (i + 1) even);
           reaches = new n r;
         })
         (with-cases (take f.part names) ds n k);
