@@ -1,11 +1,12 @@
 -- For `Set`: its entries as a list of names and trees.
-use Rattle.std.proofs.Common.{◌≡◌, ℕ, suc, ◌+◌, nat_lt, not, length, Bool, true, false, List, [], ◌∷◌, Option, Some, None, refl, sym, ap}
+use Rattle.std.proofs.Common.{◌≡◌, ℕ, ◌+◌, nat_lt, not, length, Bool, true, false, List, [], ◌∷◌, Option, Some, None, refl, sym, ap}
 use Rattle.std.proofs.Common.{◌∙◌, ◌&&◌, cond, map, Vec, Global}
 use Rattle.std.specs.Option.{option_map, is_some}
 use Rattle.std.specs.List.{find, list_all, position, position_or_len}
 use Rattle.std.specs.Str.{bytes_eq}
 use Rattle.std.specs.Map.{lookup, keys_of}
 use Rattle.std.proofs.lemmas.Bool.{and_parts}
+use Rattle.std.proofs.lemmas.List.{length-map}
 use Rattle.tmpl_syntax.specs.View.{tree_of, node_of, nodes_in, template_of}
 use Rattle.tmpl_syntax.specs.Tree.{Tree}
 use Rattle.tmpl_syntax.specs.declared.tree.Tree as held
@@ -87,16 +88,12 @@ place-view : (name : List ℕ) (es : List Entry)
 place-view name [] = refl
 place-view name (e ∷ es) = ap (λ n. cond (not (bytes_eq name e.0.items)) (1 + n) 0) (place-view name es)
 
-count-view : (es : List Entry) → length (keys_of es) ≡ length (map template_of es)
-count-view [] = refl
-count-view (e ∷ es) = ap (λ n. suc n) (count-view es)
-
 abbrev within : ℕ → ℕ → Option ℕ
 within place count = cond (nat_lt place count) (Some place) None
 
 pub number-view : (name : List ℕ) (es : List Entry) → position (λ (k : Vec ℕ Global). bytes_eq name k.items) (keys_of es) ≡ number_of name (map template_of es)
 number-view name es =
     ap (λ place. within place (length (keys_of es))) (place-view name es)
-    ∙ ap (λ count. within (position_or_len (has_name name) (map template_of es)) count) (count-view es)
+    ∙ ap (λ count. within (position_or_len (has_name name) (map template_of es)) count) (length-map es (λ (e : Entry). e.0) ∙ sym (length-map es template_of))
 
 pub ruleset views = (names-view, kept-as-is)

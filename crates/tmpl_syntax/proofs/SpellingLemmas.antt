@@ -1,9 +1,9 @@
 -- For `one_spelling` and `parts_before`: the items of an accepted file spell what is built from them, and nothing else.
-use Rattle.std.proofs.Common.{◌≡◌, ℕ, Bool, true, false, not, ◌||◌, List, [], ◌∷◌, ◌++◌, refl, sym, ap, ◌∙◌, subst, Option, Some, None}
+use Rattle.std.proofs.Common.{◌≡◌, ℕ, Bool, true, false, not, ◌||◌, List, [], ◌∷◌, ◌++◌, refl, sym, ap, ◌∙◌, Option, Some, None}
 use Rattle.std.proofs.lemmas.Bool.{and_parts, not-true, or_right}
 use Rattle.tmpl_syntax.specs.Fault.{Reason}
 use Rattle.tmpl_syntax.specs.computed.Frames.{Frame}
-use Rattle.tmpl_syntax.specs.Tree.{NodeKind, control_node, template_node, Nodes, none, then, Definition}
+use Rattle.tmpl_syntax.specs.Tree.{NodeKind, template_node, Nodes, none, Definition}
 use Rattle.tmpl_grammar.specs.Action.{pipeline_action, opening, plain_else, else_branch, end_action, break_action, continue_action}
 use Rattle.tmpl_grammar.specs.Action.{define_action, template_action, block_action}
 use Rattle.tmpl_syntax.specs.Item.{ItemKind, Item, item, text_item, unreadable_item, unread_item, deep_item, action_item}
@@ -45,16 +45,11 @@ Rest (f ∷ fs) xs ds l ls =
     × Closing (ends_only f) ys es l.other zs gs × Rest fs zs gs (first_of ls) (rest_of ls)
 
 -- items before the rest
-rest-led : (fs : List Frame) (xs zs : List Item) (ds gs : List Definition) (l k : build.Level) (ls : List build.Level) → l.other ≡ k.other
-    → ((ys : List Item) (es : List Definition) → Leads zs gs l.nodes ys es → Leads xs ds k.nodes ys es) → Rest fs zs gs l ls
-    → Rest fs xs ds k ls
-rest-led [] xs zs ds gs l k ls e more r = more [] [] r
-rest-led (f ∷ fs) xs zs ds gs l k ls e more r = (r.0, r.1, more r.0 r.1 r.2, r.3, r.4, subst (λ o. Closing (ends_only f) r.0 r.1 o r.3 r.4) e r.5, r.6)
-
-rest-node : (fs : List Frame) (xs zs : List Item) (ds gs : List Definition) (line : ℕ) (n : NodeKind) (l : build.Level) (ls : List build.Level)
-    → ((ns : Nodes) (ys : List Item) (es : List Definition) → Leads zs gs ns ys es → Leads xs ds (then line n ns) ys es)
-    → Rest fs zs gs l ls → Rest fs xs ds (with_node_before line n l) ls
-rest-node fs xs zs ds gs line n l ls more r = rest-led fs xs zs ds gs l (with_node_before line n l) ls refl (λ ys es. more l.nodes ys es) r
+rest-led : (fs : List Frame) (xs zs : List Item) (ds gs : List Definition) (ns : Nodes) (l : build.Level) (ls : List build.Level)
+    → ((ys : List Item) (es : List Definition) → Leads zs gs l.nodes ys es → Leads xs ds ns ys es) → Rest fs zs gs l ls
+    → Rest fs xs ds (record { nodes = ns; other = l.other }) ls
+rest-led [] xs zs ds gs ns l ls more r = more [] [] r
+rest-led (f ∷ fs) xs zs ds gs ns l ls more r = (r.0, r.1, more r.0 r.1 r.2, r.3, r.4, r.5, r.6)
 
 closes-of : {ys zs : List Item} {es gs : List Definition} {other : Nodes} (b : Bool) → b ≡ false → Closing b ys es other zs gs → Closes ys es other zs gs
 closes-of b e by_end = an_end
@@ -73,7 +68,7 @@ module _ (names : List Name) (xs : List Item) (p : build.Parts) where
   -- a plain action's node
   at-node : {what : ItemKind} {n : NodeKind} (fs : List Frame) (line : ℕ) → IsNode what n → Rest fs xs p.definitions p.inner p.around
       → Rest fs (item line what ∷ xs) p.definitions (with_node_before line n p.inner) p.around
-  at-node {n = n} fs line is r = rest-node fs _ xs p.definitions p.definitions line n p.inner p.around (λ ns ys es d. a_node is d) r
+  at-node {n = n} fs line is r = rest-led fs _ xs p.definitions p.definitions _ p.inner p.around (λ ys es d. a_node is d) r
 
   step : (x : Item) (fs : List Frame) → fault_at (role_of x) (top fs) names ≡ None
       → Rest (frames_past (role_of x) fs names) xs p.definitions p.inner p.around
@@ -83,8 +78,8 @@ module _ (names : List Name) (xs : List Item) (p : build.Parts) where
   step (item line unread_item) fs e r = cc
   step (item line (deep_item branch)) fs e r = let g : true ≡ false = (faultless _ _ _ e).1 in cc
   step (item line (action_item (pipeline_action h))) fs e r = at-node fs line an_action r
-  step (item line (action_item (opening c h))) fs e r = rest-node fs _ r.3 p.definitions r.4 line (control_node c h p.inner.nodes p.inner.other)
-      (first_of p.around) (rest_of p.around) (λ ns ys es d. a_control r.2 (closes-of false refl r.5) d) r.6
+  step (item line (action_item (opening c h))) fs e r =
+      rest-led fs _ r.3 p.definitions r.4 _ (first_of p.around) (rest_of p.around) (λ ys es d. a_control r.2 (closes-of false refl r.5) d) r.6
   step (item line (action_item plain_else)) [] e r = cc
   step (item line (action_item plain_else)) (f ∷ fs) e r =
       let takes = open-end None f (faultless _ _ _ e).0 in
@@ -103,10 +98,10 @@ module _ (names : List Name) (xs : List Item) (p : build.Parts) where
   step (item line (action_item (template_action name given))) fs e r = at-node fs line a_template r
   step (item line (action_item (define_action name))) fs e r =
       let body = ended true refl r.5 r.2 in
-      rest-led fs _ r.3 _ r.4 (first_of p.around) (first_of p.around) (rest_of p.around) refl (λ ys es d. a_define {last = body.0} body.1 d) r.6
+      rest-led fs _ r.3 _ r.4 _ (first_of p.around) (rest_of p.around) (λ ys es d. a_define {last = body.0} body.1 d) r.6
   step (item line (action_item (block_action name q))) fs e r =
       let body = ended true refl r.5 r.2 in
-      rest-node fs _ r.3 _ r.4 line (template_node name (Some q)) (first_of p.around) (rest_of p.around) (λ ns ys es d. a_block {last = body.0} body.1 d) r.6
+      rest-led fs _ r.3 _ r.4 _ (first_of p.around) (rest_of p.around) (λ ys es d. a_block {last = body.0} body.1 d) r.6
 
 unless-fine : (o : Option Reason) (i : ℕ) (v : Verdict) → unless_fault o i v ≡ fine → (o ≡ None) × (v ≡ fine)
 unless-fine None i v e = (refl, e)

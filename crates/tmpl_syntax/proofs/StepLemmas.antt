@@ -282,9 +282,6 @@ module _ (xs : List Role) (i : ℕ) (known : Known) (f : Frame) (fs : List Frame
   new : (n : Name) → Contains ds n → Reaches xs i (i + 1) (i + 1) n
   new n c = let w = branch-of xs i s.1 b n part c in from_else_branch w.2 w.3 last-after.is_open
 
-  old : (n : Name) → Reaches xs i (i + 1) (i + 1) n → Contains ds n
-  old n r = brings xs i (i + 1) (i + 1) n (act_role (else_part b)) at r
-
   new-part : (n : Name) → Contains ds n → Part xs s.1 (i + 1) n
   new-part n c = let w = branch-of xs i s.1 b n part c in branch_header (omega arith) w.2 w.3
 
@@ -326,7 +323,7 @@ module _ (xs : List Role) (i : ℕ) (known : Known) (f : Frame) (fs : List Frame
         (to-part xs s.1 i (i + 1) (i + 1) last-after own-after b part low (omega arith) (omega arith) (omega arith) ranged-last n
         (record { by = v.by; before = lt; template = v.template; reaches = v.reaches }))))
         (λ ge. let u = v.before in let e : v.by ≡ i = omega arith in with-right (take f.part names) ds n
-        (old n (subst (λ k. Reaches xs k (i + 1) (i + 1) n) e v.reaches)))
+        (brings xs i (i + 1) (i + 1) n (act_role (else_part b)) at (subst (λ k. Reaches xs k (i + 1) (i + 1) n) e v.reaches)))
         (cases_lt v.by i);
   }
 

@@ -123,10 +123,7 @@ module _ (xs : List Role) (i : ℕ) (a : Act) (at : slice_get xs i ≡ Some (act
 -- the fault of an item is the reason that applies first
 tells : (xs : List Role) (i : ℕ) (known : Known) (fs : List Frame) → Stands xs i known fs → (x : Role) → slice_get xs i ≡ Some x
     → Tells xs i (fault_at x (top fs) (seen_at x (top fs) known.inner))
-tells xs i known fs s text_role at = λ r h. none r (said xs i text_role at r h)
-  where
-    none : (r : Reason) → Says xs i text_role r → ⊥
-    none _ h = h
+tells xs i known fs s text_role at = λ r h. said xs i text_role at r h
 tells xs i known fs s unreadable_role at = (unreadable at, λ r lt h. omega arith)
 tells xs i known fs s unread_role at = (unread at, λ r lt h. none r lt (said xs i unread_role at r h))
   where
