@@ -1,5 +1,5 @@
 -- For `check`: the verdict, from item to item and at the end.
-use Rattle.std.proofs.Common.{arith, ◌≡◌, ◌≢◌, ℕ, ◌+◌, ◌<◌, ◌≤◌, List, [], ◌∷◌, refl, sym, ap, ◌∙◌, subst, length, map, drop, get_or, reverse}
+use Rattle.std.proofs.Common.{arith, ◌≡◌, ◌≢◌, ℕ, ◌+◌, ◌<◌, ◌≤◌, List, [], ◌∷◌, refl, sym, ap, ◌∙◌, length, map, drop, get_or, reverse}
 use Rattle.std.proofs.Common.{Option, Some, None, Ok, Err}
 use Rattle.std.specs.Prelude.{slice_get}
 use Rattle.std.specs.Option.{option_map}
@@ -12,90 +12,55 @@ use Rattle.tmpl_syntax.specs.Fault.{Reason, open_at_end}
 use Rattle.tmpl_syntax.specs.Item.{Item}
 use Rattle.tmpl_syntax.specs.computed.View.{item_of, frame_of, frames_in}
 use Rattle.tmpl_syntax.specs.Place.Role.{Name, Role, role_of, roles_of}
-use Rattle.tmpl_syntax.specs.Place.Body.{Verdict, fine, refused, left_open}
+use Rattle.tmpl_syntax.specs.Place.Body.{fine, refused, left_open}
 use Rattle.tmpl_syntax.specs.computed.Frames.{top, seen_at, fault_at, frames_past, at_end, Known, with_inner, known_past, none_known}
 use Rattle.tmpl_syntax.specs.computed.Frames.{unless_fault, verdict_from, verdict_of}
 use Rattle.tmpl_syntax.specs.computed.Parse.{IsRefusal, line_in, by_verdict, checked}
 use Rattle.tmpl_syntax.specs.Parse.{last_line}
-use Rattle.tmpl_syntax.proofs.FaultLemmas.{TellsRole, tells}
 use Rattle.tmpl_syntax.proofs.SecondLemmas.{drop-next}
-use Rattle.tmpl_syntax.proofs.VerdictLemmas.{Sound, sound-start, sound-past}
 
--- up to the place i none is refused, and there these frames and names stand
-pub record IsChecking (xs : List Role) (i : ℕ) (known : Known) (fs : List Frame) : Type 0 where
-  pub sound : Sound xs i known fs
-  pub goes : verdict_of xs ≡ verdict_from i fs known (drop i xs)
+-- from the place i on, where these frames and names stand, the verdict is that of all items
+abbrev pub IsChecking : List Role → ℕ → Known → List Frame → Type 0
+IsChecking xs i known fs = verdict_of xs ≡ verdict_from i fs known (drop i xs)
 
 pub checking-start : (xs : List Role) (known : Known) (fs : List Frame) → known ≡ none_known → fs ≡ [] → IsChecking xs 0 known fs
 unfolding verdict_of
-checking-start xs known fs e f = subst (λ k. IsChecking xs 0 k fs) (sym e) (subst (λ s. IsChecking xs 0 none_known s) (sym f) start)
-  where
-    start : IsChecking xs 0 none_known []
-    start = record { sound = sound-start xs; goes = refl }
+checking-start xs known fs e f = rw (e, f)
 
-module _ (xs : List Role) (i : ℕ) (known : Known) (fs : List Frame) (x : Role) (at : slice_get xs i ≡ Some x) (c : IsChecking xs i known fs) where
-  abbrev seen : List Name
-  seen = seen_at x (top fs) known.inner
+module _ (xs : List Role) (i : ℕ) (known : Known) (fs : List Frame) (x : Role) (at : slice_get xs i ≡ Some x) (c : IsChecking xs i known fs)
+    (t : Option Frame) (ms : List Name) (same : t ≡ top fs) (sees : ms ≡ seen_at x t known.inner) where
+  -- by the fault of the item
+  goes : (o : Option Reason) → fault_at x t ms ≡ o → verdict_of xs
+      ≡ unless_fault o i (verdict_from (i + 1) (frames_past x fs ms) (known_past x (top fs) (with_inner known ms)) (drop (i + 1) xs))
+  goes o e = c ∙ rw (drop-next xs i x at) (rw (← e, sees, same) refl)
 
-  abbrev next : List Name → Known
-  next names = known_past x (top fs) (with_inner known names)
+  pub checking-past : (k : Known) (gs : List Frame) → k ≡ known_past x (top fs) (with_inner known ms) → gs ≡ frames_past x fs ms
+      → fault_at x t ms ≡ None → IsChecking xs (i + 1) k gs
+  checking-past k gs e f none = rw (e, f) (goes None none)
 
-  here : (o : Option Reason) → fault_at x (top fs) seen ≡ o
-      → verdict_of xs ≡ unless_fault o i (verdict_from (i + 1) (frames_past x fs seen) (next seen) (drop (i + 1) xs))
-  here o e =
-      c.goes ∙ ap (verdict_from i fs known) (drop-next xs i x at)
-      ∙ ap (λ p. unless_fault p i (verdict_from (i + 1) (frames_past x fs seen) (next seen) (drop (i + 1) xs))) e
-
-  past : fault_at x (top fs) seen ≡ None → IsChecking xs (i + 1) (next seen) (frames_past x fs seen)
-  past none = record {
-    sound = sound-past xs i known fs x at (subst (TellsRole x (top fs) seen) none (tells x (top fs) seen)) c.sound;
-    goes = here None none;
-  }
-
-  module _ (t : Option Frame) (ms : List Name) (same : t ≡ top fs) (sees : ms ≡ seen_at x t known.inner) where
-    sees' : ms ≡ seen
-    sees' = sees ∙ ap (λ u. seen_at x u known.inner) same
-
-    fault-same : (o : Option Reason) → fault_at x t ms ≡ o → fault_at x (top fs) seen ≡ o
-    fault-same o e = sym (ap (λ u. fault_at x u ms) same ∙ ap (fault_at x (top fs)) sees') ∙ e
-
-    pub checking-past : (k : Known) (gs : List Frame) → k ≡ next ms → gs ≡ frames_past x fs ms → fault_at x t ms ≡ None → IsChecking xs (i + 1) k gs
-    checking-past k gs e f none =
-        subst (λ n. IsChecking xs (i + 1) n gs) (sym (e ∙ ap next sees'))
-        (subst (λ s. IsChecking xs (i + 1) (next seen) s) (sym (f ∙ ap (frames_past x fs) sees')) (past (fault-same None none)))
-
-    pub checking-refused : (f : Reason) → fault_at x t ms ≡ Some f → verdict_of xs ≡ refused i f
-    checking-refused f e = here (Some f) (fault-same (Some f) e)
+  pub checking-refused : (f : Reason) → fault_at x t ms ≡ Some f → verdict_of xs ≡ refused i f
+  checking-refused f e = goes (Some f) e
 
 -- the item at a place, as it is held and by its role
 pub item-at : (items : List held.Item) (i : ℕ) (x : held.Item) → i < length items → x ≡ get_or items i x → slice_get (map item_of items) i ≡ Some (item_of x)
 item-at items i x lt is = slice_get-map item_of items i ∙ ap (option_map item_of) (slice_get_read items (length items) i x refl lt is)
 
-role-at : (items : List Item) (i : ℕ) (x : Item) → slice_get items i ≡ Some x → slice_get (roles_of items) i ≡ Some (role_of x)
-role-at items i x at = slice_get-map role_of items i ∙ ap (option_map role_of) at
-
 pub role-here : (items : List held.Item) (i : ℕ) (x : held.Item) → i < length items → x ≡ get_or items i x
     → slice_get (roles_of (map item_of items)) i ≡ Some (role_of (item_of x))
-role-here items i x lt is = role-at (map item_of items) i (item_of x) (item-at items i x lt is)
+role-here items i x lt is = slice_get-map role_of (map item_of items) i ∙ ap (option_map role_of) (item-at items i x lt is)
 
-module _ (bytes : List ℕ) (items : List Item) where
-  by : (v : Verdict) → verdict_of (roles_of items) ≡ v → checked bytes items ≡ by_verdict (last_line bytes) items v
-  unfolding checked
-  by v e = ap (by_verdict (last_line bytes) items) e
+pub checked-refused : (bytes : List ℕ) (items : List Item) (i : ℕ) (x : Item) (f : Reason) (line : ℕ) (o : Option Reason) → slice_get items i ≡ Some x
+    → verdict_of (roles_of items) ≡ refused i f → line ≡ line_in (Some x) → o ≡ Some f → IsRefusal (checked bytes items) line o
+unfolding checked
+checked-refused bytes items i x f line o at e is named = rw (named, is, e, at)
 
-  pub checked-refused : (i : ℕ) (x : Item) (f : Reason) (line : ℕ) (o : Option Reason) → slice_get items i ≡ Some x
-      → verdict_of (roles_of items) ≡ refused i f → line ≡ line_in (Some x) → o ≡ Some f → IsRefusal (checked bytes items) line o
-  checked-refused i x f line o at e is named =
-      subst (λ n. IsRefusal (checked bytes items) n o) (sym is) (subst (λ z. IsRefusal (checked bytes items) (line_in (Some x)) z) (sym named)
-      (by (refused i f) e ∙ ap (λ y. Err (line_in y, f)) at))
+fine-at : (fs : List Frame) → length fs ≡ 0 → at_end fs ≡ fine
+fine-at [] n = refl
+fine-at (f ∷ fs) n = absurd (omega arith)
 
-  fine-at : (fs : List Frame) → length fs ≡ 0 → verdict_of (roles_of items) ≡ at_end fs → checked bytes items ≡ Ok tt
-  fine-at [] n e = by fine e
-  fine-at (f ∷ fs) n e = absurd (omega arith)
-
-  open-at : (fs : List Frame) → length fs ≢ 0 → verdict_of (roles_of items) ≡ at_end fs → checked bytes items ≡ Err (last_line bytes, open_at_end)
-  open-at [] n e = absurd (n refl)
-  open-at (f ∷ fs) n e = by left_open e
+open-at : (fs : List Frame) → length fs ≢ 0 → at_end fs ≡ left_open
+open-at [] n = absurd (n refl)
+open-at (f ∷ fs) n = refl
 
 -- at the end
 module _ (bytes : List ℕ) (items : List held.Item) (i : ℕ) (known : Known) (stack : List held_frame.Frame) (le : length items ≤ i)
@@ -103,14 +68,15 @@ module _ (bytes : List ℕ) (items : List held.Item) (i : ℕ) (known : Known) (
   count : length (frames_in stack) ≡ length stack
   count = length-map (reverse stack) frame_of ∙ length-reverse stack
 
-  ended : verdict_of (roles_of (map item_of items)) ≡ at_end (frames_in stack)
-  ended = c.goes ∙ ap (verdict_from i (frames_in stack) known)
-      (drop_all i (roles_of (map item_of items)) (omega (arith, length-map (map item_of items) role_of, length-map items item_of)))
+  ended : checked bytes (map item_of items) ≡ by_verdict (last_line bytes) (map item_of items) (at_end (frames_in stack))
+  unfolding checked
+  ended = ap (by_verdict (last_line bytes) (map item_of items)) (c ∙ ap (verdict_from i (frames_in stack) known)
+      (drop_all i (roles_of (map item_of items)) (omega (arith, length-map (map item_of items) role_of, length-map items item_of))))
 
   pub checked-fine : length stack ≡ 0 → checked bytes (map item_of items) ≡ Ok tt
-  checked-fine n = fine-at bytes (map item_of items) (frames_in stack) (count ∙ n) ended
+  checked-fine n = ended ∙ ap (by_verdict (last_line bytes) (map item_of items)) (fine-at (frames_in stack) (count ∙ n))
 
   pub checked-open : length stack ≢ 0 → checked bytes (map item_of items) ≡ Err (last_line bytes, open_at_end)
-  checked-open n = open-at bytes (map item_of items) (frames_in stack) (λ e. n (sym count ∙ e)) ended
+  checked-open n = ended ∙ ap (by_verdict (last_line bytes) (map item_of items)) (open-at (frames_in stack) (λ e. n (sym count ∙ e)))
 
 pub ruleset checks = (checking-refused, item-at, role-here, checked-refused, checked-fine, checked-open)

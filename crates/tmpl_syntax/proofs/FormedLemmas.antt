@@ -2,8 +2,7 @@
 use Rattle.std.proofs.Common.{arith, ◌≡◌, ◌∙◌, ℕ, ◌+◌, ◌≤◌, Bool, true, false, not, ◌||◌, ◌&&◌, leb, nat_lt, List, [], ◌∷◌, length, take}
 use Rattle.std.proofs.Common.{Option, Some, None, refl, sym, ap, length-take}
 use Rattle.std.proofs.Math.Bool.{and_comm, or_comm}
-use Rattle.std.proofs.Math.Seq.{take-length}
-use Rattle.std.proofs.lemmas.Bool.{false≢true, and_parts, lt-ltb, le-ltb, ltb-true, leb-true, leb-false}
+use Rattle.std.proofs.lemmas.Bool.{false≢true, and_parts, lt-ltb, ltb-true}
 use Rattle.std.specs.Cmp.Derive.{both_true}
 use Rattle.std.specs.Str.{bytes_eq}
 use Rattle.tmpl_grammar.specs.Tree.{Binding, unbound, declare, assign, declare_pair, Header}
@@ -19,7 +18,8 @@ use Rattle.tmpl_syntax.specs.Place.Role.{Name, declared_by, names_of, names_give
 use Rattle.tmpl_syntax.specs.Place.Body.{most_levels, Verdict, fine}
 use Rattle.tmpl_syntax.specs.computed.Frames.{Frame, top, loops, in_loop, levels, is_known, knows, first_fault, part_of, entered, seen_at, fault_at}
 use Rattle.tmpl_syntax.specs.computed.Frames.{frames_past, unless_fault, Known, with_inner, with_names, known_past, verdict_from}
-use Rattle.tmpl_syntax.proofs.NameLemmas.{one-known, with-longer, take-with, take-before, part-high}
+use Rattle.tmpl_syntax.proofs.NameLemmas.{one-known, with-longer, take-with, take-before, part-high, else_names, take-part}
+use Rattle.std.proofs.lemmas.Bool.Decides.{nat_tests}
 
 -- ---- what the judge asks, as a test
 
@@ -61,9 +61,6 @@ passes-fine (x ∷ xs) i fs known =
     go (Some f) v b e = refl
 
 -- ---- the names in sight
-
-abbrev pub part_names : Control → List Name → List Name → List Name
-part_names k names declares = take (part_of k (length names) (length (with_names names declares))) (with_names names declares)
 
 abbrev pub seen_past : List Name → NodeKind → List Name
 seen_past names (action h) = with_names names (names_of h).declares
@@ -114,9 +111,9 @@ alike-declared (declare_pair key name) names scope a x =
     ∙ ap (λ b. b || bytes_eq x name) (one-known names key x ∙ ap (λ b. b || bytes_eq x key) (a x) ∙ or_comm (is_known scope x) (bytes_eq x key))
     ∙ or_comm (bytes_eq x key || is_known scope x) (bytes_eq x name)
 
-alike-else : (c : Control) (b : Binding) (names scope : List Name) → Alike names scope → Alike (part_names c names (declared_by b)) (else_scope c b scope)
-alike-else Range b names scope a x = ap (λ ns. is_known ns x) (take-before names (declared_by b)) ∙ a x
-alike-else _ b names scope a x = ap (λ ns. is_known ns x) (take-length (with_names names (declared_by b))) ∙ alike-declared b names scope a x
+alike-else : (c : Control) (b : Binding) (names scope : List Name) → Alike names scope → Alike (else_names c names (declared_by b)) (else_scope c b scope)
+alike-else Range b names scope a = a
+alike-else _ b names scope a = alike-declared b names scope a
 
 -- what an else part sees behind this body
 pub alike-part : (c : Control) (h : Header) (names scope : List Name) (body : Nodes) → Alike names scope
@@ -124,7 +121,7 @@ pub alike-part : (c : Control) (h : Header) (names scope : List Name) (body : No
     (else_scope c h.binding scope)
 alike-part c h names scope body a x =
     let ds : List Name = (names_of h).declares in
-    ap (λ ns. is_known ns x) (take-seen _ body (with_names names ds) (part-high c names ds)) ∙ alike-else c h.binding names scope a x
+    ap (λ ns. is_known ns x) (take-seen _ body (with_names names ds) (part-high c names ds) ∙ take-part c names ds) ∙ alike-else c h.binding names scope a x
 
 pub alike-past : (n : NodeKind) (names scope : List Name) → Alike names scope → Alike (seen_past names n) (scope_behind n scope)
 alike-past (action h) names scope a = alike-declared h.binding names scope a
@@ -133,8 +130,7 @@ alike-past _ names scope a = a
 -- ---- one item
 
 first-none : (deep known : Bool) → no_fault (first_fault true deep known) ≡ (not deep && known)
-first-none true true = refl
-first-none true false = refl
+first-none true known = refl
 first-none false true = refl
 first-none false false = refl
 
@@ -148,11 +144,7 @@ placed-test true d k e = (refl, sym (first-none d k) ∙ e)
 placed-test false d k e = absurd (false≢true e)
 
 room-is : (m n : ℕ) → not (leb m n) ≡ nat_lt n m
-room-is m n = by (leb m n) refl
-  where
-    by : (b : Bool) → leb m n ≡ b → not b ≡ nat_lt n m
-    by true e = sym (le-ltb n m (leb-true m n e))
-    by false e = let lt = leb-false m n e in sym (lt-ltb n m (omega (arith, lt)))
+room-is m n = grind (arith, nat_tests)
 
 pub headed : (names scope uses : List Name) (n : ℕ) → Alike names scope
     → (not (leb most_levels n) && knows names uses) ≡ (are_among scope uses && nat_lt n most_levels)

@@ -1,5 +1,6 @@
 -- For `one_list_of_items` and `read_all`: the pieces of a file are read as the items that are computed, also part by part.
 use Rattle.std.proofs.Common.{◌≡◌, ◌∙◌, ◌≤◌, ◌<◌, ℕ, Bool, true, false, List, [], ◌∷◌, map, Option, Some, None, refl, ap, sym, subst, ⊎_elim, ◌++◌}
+use Rattle.std.proofs.Math.Path.{fun_ext}
 use Rattle.std.proofs.lemmas.Bool.{le-leb, cases_lt}
 use Rattle.std.proofs.lemmas.Option.{same_Some}
 use Rattle.tmpl_lex.specs.computed.Cut.{cut_of}
@@ -132,12 +133,8 @@ has-some branches bytes = (map (item_for branches) (cut_of bytes), has-those bra
 pub one-list : HasOneList
 one-list branches bytes xs ys h k = only-those branches bytes xs h ∙ sym (only-those branches bytes ys k)
 
-in-every : (ps : List Piece) → map (item_for every_branch) ps ≡ items_in ps
-in-every [] = refl
-in-every (p ∷ ps) = ap (λ y. y ∷ map (item_for every_branch) ps) (for-every p) ∙ ap (λ ys. item_in p ∷ ys) (in-every ps)
-
 pub has-items : HasItemsOf
-has-items bytes = subst (HasItems every_branch bytes) (in-every (cut_of bytes)) (has-those every_branch bytes)
+has-items bytes = subst (HasItems every_branch bytes) (ap (λ f. map f (cut_of bytes)) (fun_ext for-every)) (has-those every_branch bytes)
 
 pub no-others : (bytes : List ℕ) (items : List Item) → HasItems every_branch bytes items → items ≡ items_of bytes
 no-others bytes items h = one-list every_branch bytes items (items_of bytes) h (has-items bytes)

@@ -3,7 +3,7 @@ use Rattle.std.proofs.Common.{arith, ◌≡◌, ◌∙◌, ℕ, ◌+◌, ◌<◌
 use Rattle.std.proofs.Common.{length, append_assoc, append-nil, reverse, Some, None, if◌then◌else◌, codes}
 use Rattle.std.proofs.lemmas.Bool.{eqb-true}
 use Rattle.std.proofs.lemmas.List.{reverse-append}
-use Rattle.std.proofs.Math.Bool.{and-false}
+use Rattle.std.proofs.Math.Bool.{and-false, and-true}
 use Rattle.tmpl_lex.specs.Bytes.{is_space, Absent, BeginsNone, Stops}
 use Rattle.tmpl_lex.specs.Cut.{a_comment, an_action as tokens_closed, Leads, Cuts, last, closed}
 use Rattle.tmpl_lex.specs.Delimiter.{IsLeftMarker, left_marker, opens, opens_marked, closes}
@@ -17,18 +17,12 @@ use Rattle.tmpl_grammar.proofs.FrontLemmas.{solid, solid-unmarked}
 
 -- ---- a text, and what opens behind it
 
-clear-brace : (t : List ℕ) → Absent (123 ∷ 123 ∷ []) t → ends_brace t ≡ false → Absent (123 ∷ 123 ∷ []) (t ++ 123 ∷ [])
-clear-brace [] h n = absent-one 123 123
-clear-brace (b ∷ []) h n = absent-cons 123 123 b (123 ∷ []) (ap (λ k. k && true) n) (absent-one 123 123)
-clear-brace (b ∷ c ∷ t) h n =
-    absent-cons 123 123 b (c ∷ (t ++ 123 ∷ [])) (absent-here 123 123 b c t h) (clear-brace (c ∷ t) (absent-rest b (123 ∷ 123 ∷ []) (c ∷ t) h) n)
-
--- a space behind a text
-clear-space : (t : List ℕ) → Absent (123 ∷ 123 ∷ []) t → Absent (123 ∷ 123 ∷ []) (t ++ 32 ∷ [])
-clear-space [] h = absent-cons 123 123 32 [] refl (absent-nil 123 123)
-clear-space (b ∷ []) h = absent-cons 123 123 b (32 ∷ []) (and-false (nat_eq b 123)) (clear-space [] (absent-nil 123 123))
-clear-space (b ∷ c ∷ t) h =
-    absent-cons 123 123 b (c ∷ (t ++ 32 ∷ [])) (absent-here 123 123 b c t h) (clear-space (c ∷ t) (absent-rest b (123 ∷ 123 ∷ []) (c ∷ t) h))
+-- a byte more, which makes no `{{` with the end of the text
+clear-more : (t : List ℕ) (c : ℕ) → Absent (123 ∷ 123 ∷ []) t → (ends_brace t && nat_eq c 123) ≡ false → Absent (123 ∷ 123 ∷ []) (t ++ c ∷ [])
+clear-more [] c h n = absent-cons 123 123 c [] (and-false (nat_eq c 123)) (absent-nil 123 123)
+clear-more (b ∷ []) c h n = absent-cons 123 123 b (c ∷ []) n (clear-more [] c (absent-nil 123 123) refl)
+clear-more (b ∷ d ∷ t) c h n =
+    absent-cons 123 123 b (d ∷ (t ++ c ∷ [])) (absent-here 123 123 b d t h) (clear-more (d ∷ t) c (absent-rest b (123 ∷ 123 ∷ []) (d ∷ t) h) n)
 
 spaced-end : (t : List ℕ) → ends_brace (t ++ 32 ∷ []) ≡ false
 spaced-end (b ∷ c ∷ t) = spaced-end (c ∷ t)
@@ -90,7 +84,7 @@ opens-behind line t a clear plain = go (ends_brace t) refl
     go false e = record {
       before = t;
       delimiter = 123 ∷ 123 ∷ [];
-      leads = record { left = false; first = clear-brace t clear e; opens = opens plain; texts = texts-whole line t };
+      leads = record { left = false; first = clear-more t 123 clear (rw and-true e); opens = opens plain; texts = texts-whole line t };
       is = ap (λ k. t ++ (opened_by k ++ a)) (sym e);
     }
     go true e = record {
@@ -98,7 +92,7 @@ opens-behind line t a clear plain = go (ends_brace t) refl
       delimiter = 123 ∷ 123 ∷ 45 ∷ 32 ∷ [];
       leads = record {
         left = true;
-        first = clear-brace (t ++ 32 ∷ []) (clear-space t clear) (spaced-end t);
+        first = clear-more (t ++ 32 ∷ []) 123 (clear-more t 32 clear (and-false (ends_brace t))) (rw and-true (spaced-end t));
         opens = opens_marked (left_marker refl);
         texts = texts-spaced line t e;
       };
@@ -114,20 +108,17 @@ some-text line (b ∷ t) h qs = refl
 pub cut-back : (ps : List Part) → AreParts ps → (t : List ℕ) → Absent (codes "{{") t → (line : ℕ) → HasParts line t ps
 cut-back [] h t clear line = record {
   pieces = [];
-  cuts = subst (λ (bs : List ℕ). Cuts false line bs (text_piece line t ++ [])) (sym (append-nil t))
-      (subst (λ (qs : List Piece). Cuts false line t qs) (sym (append-nil (text_piece line t))) (last clear (texts-whole line t)));
+  cuts = simp append-nil (last clear (texts-whole line t));
   same = no_piece;
 }
 cut-back (an_action ts ∷ ps) h t clear line =
     let rest : List ℕ = file_of None ps in
     let body : List ℕ = bytes_of ts ++ codes "}}" in
-    let inside : body ++ rest ≡ bytes_of ts ++ (codes "}}" ++ rest) = append_assoc (bytes_of ts) (codes "}}") rest in
-    let o = opens-behind line t (body ++ rest) clear (subst (BeginsNone IsLeftMarker) (sym inside) (h.0.unmarked rest)) in
+    let o = opens-behind line t (body ++ rest) clear (rw append_assoc (h.0.unmarked rest)) in
     let here : ℕ = line + newlines o.before in
     let more = cut-back ps h.1 [] (absent-nil 123 123) (line + newlines (o.before ++ o.delimiter ++ body)) in
     let file : o.before ++ o.delimiter ++ body ++ rest ≡ t ++ (opening (before_of t) ++ (bytes_of ts ++ (codes "}}" ++ rest))) =
-    append_assoc (o.before ++ o.delimiter) body rest ∙ append_assoc o.before o.delimiter (body ++ rest) ∙ o.is
-    ∙ ap (λ l. t ++ (open_behind t ++ l)) inside ∙ ap (λ l. t ++ (l ++ (bytes_of ts ++ (codes "}}" ++ rest)))) (sym (open-is t)) in
+    append_assoc (o.before ++ o.delimiter) body rest ∙ append_assoc o.before o.delimiter (body ++ rest) ∙ o.is ∙ rw (open-is, append_assoc (bytes_of ts)) in
     record {
       pieces = action here ts ∷ more.pieces;
       cuts = subst (λ (bs : List ℕ). Cuts false line bs (text_piece line t ++ action here ts ∷ more.pieces)) file
@@ -140,8 +131,7 @@ cut-back (a_text u ∷ ps) h [] clear line =
     let more = cut-back ps h.1 u h.0.clear line in
     record {
       pieces = text line u ∷ more.pieces;
-      cuts = subst (λ k. Cuts false line (u ++ file_of k ps) (text line u ∷ more.pieces)) (sym (some-before u h.0.some))
-          (subst (λ qs. Cuts false line (u ++ file_of (before_of u) ps) qs) (some-text line u h.0.some more.pieces) more.cuts);
+      cuts = rw (some-before u h.0.some) (rw (some-text line u h.0.some more.pieces) at more.cuts);
       same = same_text more.same;
     }
 cut-back (a_text u ∷ ps) h (b ∷ t) clear line =
@@ -151,13 +141,11 @@ cut-back (a_text u ∷ ps) h (b ∷ t) clear line =
     let next : ℕ = line + newlines (o.before ++ o.delimiter ++ body) in
     let more = cut-back ps h.1 u h.0.clear next in
     let file : o.before ++ o.delimiter ++ body ++ rest ≡ (b ∷ t) ++ (parting (Some (b ∷ t)) ++ (u ++ file_of (Some u) ps)) =
-    append_assoc (o.before ++ o.delimiter) body rest ∙ append_assoc o.before o.delimiter (body ++ rest) ∙ o.is
-    ∙ ap (λ l. (b ∷ t) ++ l) (sym (parting-is (b ∷ t) rest))
-    ∙ ap (λ k. (b ∷ t) ++ (parting (Some (b ∷ t)) ++ (u ++ file_of k ps))) (sym (some-before u h.0.some)) in
+    simp (append_assoc, o.is, parting-is (b ∷ t) rest, some-before u h.0.some) in
     record {
       pieces = text next u ∷ more.pieces;
       cuts = subst (λ (bs : List ℕ). Cuts false line bs (text line (b ∷ t) ∷ text next u ∷ more.pieces)) file
           (closed o.leads (a_comment [] (absent-one 42 47) closes)
-          (subst (λ qs. Cuts false next rest qs) (some-text next u h.0.some more.pieces) more.cuts));
+          (rw (some-text next u h.0.some more.pieces) at more.cuts));
       same = same_text more.same;
     }

@@ -1,13 +1,15 @@
 -- For `KnownNames`, `one_verdict`, `formed` and `accepted_back`: the names that are known, as they are held, and with more
 -- behind them.
-use Rattle.std.proofs.Common.{arith, ◌≡◌, ℕ, ◌≤◌, Bool, true, false, ◌||◌, List, [], ◌∷◌, ◌++◌, refl, sym, ap, ◌∙◌, length, take, map, Bor, ⊎_elim, ◌⊎◌}
+use Rattle.std.proofs.Common.{arith, ◌≡◌, ℕ, ◌≤◌, Bool, true, false, ◌||◌, List, [], ◌∷◌, ◌++◌, refl, sym, ap, ◌∙◌, length, take, map, Bor, ◌⊎◌}
 use Rattle.std.proofs.Common.{inl, inr, append_assoc, append-nil, length-append, if◌then◌else◌}
 use Rattle.std.specs.Prelude.{Contains}
 use Rattle.std.specs.List.{list_any}
 use Rattle.std.specs.Str.{bytes_eq}
 use Rattle.std.proofs.Math.Bool.{or-false, or_assoc}
 use Rattle.std.proofs.Math.Seq.{take-length}
-use Rattle.std.proofs.lemmas.Bool.{or_cases, or_right}
+use Rattle.std.proofs.lemmas.Bool.{or_right}
+use Rattle.std.proofs.lemmas.Bool.Decides.{Decides-at, Decides-or}
+use Rattle.std.specs.Bool.{Decides}
 use Rattle.std.proofs.lemmas.List.{map-append, take-append-le}
 use Rattle.std.proofs.lemmas.List.Folds.{list_any-append}
 use Rattle.std.proofs.lemmas.Slice.Eq.{bytes_eq-Decides}
@@ -15,7 +17,7 @@ use Rattle.tmpl_grammar.specs.declared.tree.Control.{Control}
 use Rattle.tmpl_grammar.specs.declared.tree.Control.TheVariants.{Range}
 use Rattle.tmpl_syntax.specs.Place.Role.{Name}
 use Rattle.tmpl_syntax.specs.computed.Frames.{is_known, part_of, with_name, with_names}
-use Rattle.tmpl_syntax.proofs.FaultLemmas.{found, has}
+use Rattle.tmpl_syntax.proofs.FaultLemmas.{known-Decides}
 
 -- ---- as they are held
 
@@ -75,16 +77,20 @@ with-known names [] x = sym (or-false (is_known names x))
 with-known names (d ∷ ds) x =
     with-known (with_name names d) ds x ∙ ap (λ b. b || is_known ds x) (one-known names d x) ∙ or_assoc (is_known names x) (bytes_eq x d) (is_known ds x)
 
+-- known with more is what was known, and what is more
+pub with-Decides : (names ds : List Name) (n : Name) → Decides (is_known (with_names names ds) n) (Contains names n ⊎ Contains ds n)
+with-Decides names ds n =
+    Decides-at _ _ (with-known names ds n) (Decides-or (is_known names n) (is_known ds n) (known-Decides names n) (known-Decides ds n))
+
 module _ (names ds : List Name) (n : Name) where
   pub with-left : Contains names n → Contains (with_names names ds) n
-  with-left c = found n (with_names names ds) (with-known names ds n ∙ ap (λ b. b || is_known ds n) (has n names c))
+  with-left c = (known-Decides (with_names names ds) n).0 ((with-Decides names ds n).1 (inl c))
 
   pub with-right : Contains ds n → Contains (with_names names ds) n
-  with-right c = found n (with_names names ds) (with-known names ds n ∙ or_right (is_known names n) (is_known ds n) (has n ds c))
+  with-right c = (known-Decides (with_names names ds) n).0 ((with-Decides names ds n).1 (inr c))
 
   pub with-cases : Contains (with_names names ds) n → Contains names n ⊎ Contains ds n
-  with-cases c = ⊎_elim (λ l. inl (found n names l)) (λ r. inr (found n ds r))
-      (or_cases (is_known names n) (is_known ds n) (sym (with-known names ds n) ∙ has n (with_names names ds) c))
+  with-cases c = (with-Decides names ds n).0 ((known-Decides (with_names names ds) n).1 c)
 
 -- an else part sees no fewer names than there were before the header, and no more than there are in the body
 pub part-low : (c : Control) (names ds : List Name) → length names ≤ part_of c (length names) (length (with_names names ds))
@@ -94,3 +100,13 @@ part-low _ names ds = with-longer names ds
 pub part-high : (c : Control) (names ds : List Name) → part_of c (length names) (length (with_names names ds)) ≤ length (with_names names ds)
 part-high Range names ds = with-longer names ds
 part-high _ names ds = omega arith
+
+-- what an else part sees: a range's own names are not among it
+abbrev pub else_names : Control → List Name → List Name → List Name
+else_names Range names ds = names
+else_names _ names ds = with_names names ds
+
+pub take-part : (c : Control) (names ds : List Name)
+    → take (part_of c (length names) (length (with_names names ds))) (with_names names ds) ≡ else_names c names ds
+take-part Range names ds = take-before names ds
+take-part _ names ds = take-length (with_names names ds)

@@ -5,6 +5,7 @@ use Rattle.std.specs.Prelude.{slice_get, option_map}
 use Rattle.std.specs.List.{position_or_len}
 use Rattle.std.proofs.lemmas.List.Folds.{find_at}
 use Rattle.std.proofs.lemmas.List.Quantifiers.{position-Some}
+use Rattle.std.proofs.lemmas.List.Sums.{position_or_len_is}
 use Rattle.std.proofs.lemmas.Option.{slice_get-get_or, slice_get_past}
 use Rattle.std.proofs.lemmas.Slice.Eq.{bytes_eq-Decides}
 use Rattle.tmpl_syntax.specs.Tree as tree
@@ -36,11 +37,7 @@ numbered name ts k e = record {
     at = slice_get-get_or ts k some found.0
 
     index : position_or_len (has_name name) ts ≡ k
-    index = by (nat_lt (position_or_len (has_name name) ts) (length ts)) e
-      where
-        by : (b : Bool) → cond b (Some (position_or_len (has_name name) ts)) None ≡ Some k → position_or_len (has_name name) ts ≡ k
-        by true e = cc
-        by false e = cc
+    index = position_or_len_is (has_name name) ts k some (let lt = found.0 in omega arith) found.2 (λ lt. found.1)
 
 pub unnumbered : (name : List ℕ) (ts : List Template) → number_of name ts ≡ None → tree_named name ts ≡ None
 unnumbered name ts e = ap (λ o. option_map (λ (t : Template). t.1) o) (find_at (has_name name) ts

@@ -1,13 +1,12 @@
 -- For `one_verdict`: what is open moves with the place.
-use Rattle.std.proofs.Common.{arith, ◌≡◌, ◌≢◌, ℕ, suc, ◌+◌, ◌-◌, ◌<◌, ◌≤◌, Bool, true, false, cond, List, [], ◌∷◌, ◌++◌, refl, sym, ap, ◌∙◌}
-use Rattle.std.proofs.Common.{subst, length, take, drop, get_or, length-drop, get_or-drop, zero-add, Option, Some, ⊎_elim}
+use Rattle.std.proofs.Common.{arith, ◌≡◌, ◌≢◌, ℕ, ◌+◌, ◌-◌, ◌<◌, ◌≤◌, Bool, true, false, cond, List, refl, sym, ap, ◌∙◌}
+use Rattle.std.proofs.Common.{subst, take, drop, add-zero, Option, Some, ⊎_elim}
 use Rattle.std.specs.Prelude.{slice_get, slice_range}
 use Rattle.std.specs.List.{count_by}
 use Rattle.std.proofs.lemmas.Bool.{cases_order, cases_lt}
-use Rattle.std.proofs.lemmas.List.{take-take, drop-drop, drop-take, take-append-drop}
+use Rattle.std.proofs.lemmas.List.{take-take, drop-take}
 use Rattle.std.proofs.lemmas.Option.{get_or_from_slice_get, slice_get_within}
-use Rattle.std.proofs.Math.Seq.{take-suc}
-use Rattle.std.proofs.lemmas.List.Sums.{sum_by-append}
+use Rattle.std.proofs.lemmas.List.Sums.{sum_by-take-drop, count_by_more_yes, count_by_more_no}
 use Rattle.tmpl_grammar.specs.declared.action.Branch.{Branch}
 use Rattle.tmpl_syntax.specs.Place.Open.{opens, ends, IsOpen, IsLast, IsElseOf}
 use Rattle.tmpl_syntax.specs.Place.Opening.{Opening}
@@ -16,42 +15,48 @@ use Rattle.tmpl_syntax.specs.Place.Role.{Names, opener, else_part, closer, Role,
 abbrev pub one_if : Bool → ℕ
 one_if b = cond b 1 0
 
--- openings and ends of a stretch
-abbrev pub ups : List Role → ℕ → ℕ → ℕ
-ups xs a n = count_by opens (slice_range xs a n)
+-- openings and ends before a place
+abbrev pub ups : List Role → ℕ → ℕ
+ups xs n = count_by opens (take n xs)
 
-abbrev pub downs : List Role → ℕ → ℕ → ℕ
-downs xs a n = count_by ends (slice_range xs a n)
+abbrev pub downs : List Role → ℕ → ℕ
+downs xs n = count_by ends (take n xs)
 
-pub count-split : (p : Role → Bool) (xs : List Role) (a m n : ℕ) → a ≤ m → m ≤ n
-    → count_by p (slice_range xs a n) ≡ count_by p (slice_range xs a m) + count_by p (slice_range xs m n)
-count-split p xs a m n low high =
-    let ys = drop a xs in
-    let u = m - a in
-    let v = n - m in
-    let whole : n - a ≡ u + v = omega arith in
-    let at : a + u ≡ m = omega arith in
-    let front : take u (take (u + v) ys) ≡ take u ys = take-take u (u + v) ys (omega arith) in
-    let back : drop u (take (u + v) ys) ≡ take v (drop m xs) = drop-take u v ys ∙ ap (take v) (drop-drop u a xs ∙ ap (λ k. drop k xs) at) in
-    let cut : take (n - a) ys ≡ take u ys ++ take v (drop m xs) = ap (λ k. take k ys) whole ∙ sym (take-append-drop u (take (u + v) ys))
-    ∙ ap (λ l. l ++ drop u (take (u + v) ys)) front ∙ ap (λ l. take u ys ++ l) back in
-    ap (count_by p) cut ∙ sum_by-append (λ y. cond (p y) 1 0) (take u ys) (take v (drop m xs))
+-- a stretch has the rest of them
+pub count-front : (p : Role → Bool) (xs : List Role) (a n : ℕ) → a ≤ n
+    → count_by p (take n xs) ≡ count_by p (take a xs) + count_by p (slice_range xs a n)
+count-front p xs a n le =
+    let rest : n ≡ a + (n - a) = omega arith in
+    sym (sum_by-take-drop (λ x. cond (p x) 1 0) (take n xs) a)
+    ∙ ap (λ l. count_by p l + count_by p (drop a (take n xs))) (take-take a n xs le)
+    ∙ ap (λ l. count_by p (take a xs) + count_by p l) (ap (λ k. drop a (take k xs)) rest ∙ drop-take a (n - a) xs)
 
-pub count-none : (p : Role → Bool) (xs : List Role) (n : ℕ) → count_by p (slice_range xs n n) ≡ 0
-count-none p xs n = let e : n - n ≡ 0 = omega arith in ap (λ k. count_by p (take k (drop n xs))) e
+-- one more piece
+count-more : (p : Role → Bool) (xs : List Role) (x : Role) (n : ℕ) → slice_get xs n ≡ Some x
+    → count_by p (take (n + 1) xs) ≡ count_by p (take n xs) + one_if (p x)
+count-more p xs x n at = by (p x) refl
+  where
+    by : (b : Bool) → p x ≡ b → count_by p (take (n + 1) xs) ≡ count_by p (take n xs) + one_if b
+    by true e = count_by_more_yes p xs n x (slice_get_within xs n x at) (ap p (get_or_from_slice_get xs n x x at) ∙ e)
+    by false e = count_by_more_no p xs n x (slice_get_within xs n x at) (ap p (get_or_from_slice_get xs n x x at) ∙ e) ∙ sym (add-zero _)
 
-pub count-one : (p : Role → Bool) (xs : List Role) (x : Role) (n : ℕ) → slice_get xs n ≡ Some x → count_by p (slice_range xs n (n + 1)) ≡ one_if (p x)
-count-one p xs x n at =
-    let lt : n < length xs = slice_get_within xs n x at in
-    let one : n + 1 - n ≡ suc 0 = omega arith in
-    let inside : 0 < length (drop n xs) = omega (arith, length-drop n xs) in
-    let same : get_or (drop n xs) 0 x ≡ x = get_or-drop n xs 0 x ∙ ap (λ k. get_or xs k x) (omega arith) ∙ get_or_from_slice_get xs n x x at in
-    ap (λ k. count_by p (take k (drop n xs))) one ∙ ap (count_by p) (take-suc (drop n xs) 0 x inside ∙ ap (λ y. y ∷ []) same) ∙ zero-add (one_if (p x))
+-- up to n no more ends than openings since the opening at j
+abbrev pub IsFront : List Role → ℕ → ℕ → Type 0
+IsFront xs j n = downs xs n + ups xs (j + 1) ≤ ups xs n + downs xs (j + 1)
 
--- one more piece in a stretch
-pub count-more : (p : Role → Bool) (xs : List Role) (x : Role) (a n : ℕ) → a ≤ n → slice_get xs n ≡ Some x
-    → count_by p (slice_range xs a (n + 1)) ≡ count_by p (slice_range xs a n) + one_if (p x)
-count-more p xs x a n le at = count-split p xs a n (n + 1) le (omega arith) ∙ ap (λ k. count_by p (slice_range xs a n) + k) (count-one p xs x n at)
+front : (xs : List Role) (j i : ℕ) → IsOpen xs j i → (n : ℕ) → j < n → n ≤ i → IsFront xs j n
+front xs j i h n from to =
+    omega (arith, h.fronts n from to, count-front ends xs (j + 1) n (omega arith), count-front opens xs (j + 1) n (omega arith))
+
+abbrev pub open-by : (xs : List Role) (j i : ℕ) (c : Opening) (p : Names) → slice_get xs j ≡ Some (act_role (opener c p)) → j < i
+    → ((n : ℕ) → j < n → n ≤ i → IsFront xs j n) → IsOpen xs j i
+open-by xs j i c p at before fronts = record {
+  opened = c;
+  names = p;
+  at = at;
+  before = before;
+  fronts = λ n from to. omega (arith, fronts n from to, count-front ends xs (j + 1) n (omega arith), count-front opens xs (j + 1) n (omega arith));
+}
 
 pub same-piece : (xs : List Role) (i : ℕ) (a b : Role) → slice_get xs i ≡ Some a → slice_get xs i ≡ Some b → a ≡ b
 same-piece xs i a b e f = cc
@@ -66,30 +71,19 @@ cut xs k m i lt le h = record { opened = h.opened; names = h.names; at = h.at; b
 
 -- what is open at an open opening is open
 pub through : (xs : List Role) (k j i : ℕ) → IsOpen xs k j → IsOpen xs j i → IsOpen xs k i
-through xs k j i a b = record {
-  opened = a.opened;
-  names = a.names;
-  at = a.at;
-  before = let lt = a.before in let gt = b.before in omega arith;
-  fronts = λ n from to. ⊎_elim
-      (λ beyond. let lt = a.before in
-      let first = a.fronts j lt (omega arith) in
-      let second = b.fronts n beyond to in
-      let e1 = count-more ends xs (act_role (opener b.opened b.names)) (k + 1) j (omega arith) b.at in
-      let e2 = count-more opens xs (act_role (opener b.opened b.names)) (k + 1) j (omega arith) b.at in
-      omega (
-        arith,
-        e1,
-        e2,
-        first,
-        second,
-        count-split ends xs (k + 1) (j + 1) n (omega arith) (omega arith),
-        count-split opens xs (k + 1) (j + 1) n
-            (omega arith) (omega arith),
-      ))
-      (λ le. a.fronts n from le)
-      (cases_lt j n);
-}
+through xs k j i a b =
+    let lt = a.before in
+    let gt = b.before in
+    open-by xs k i a.opened a.names a.at (omega arith) (λ n from to. ⊎_elim
+    (λ beyond. omega (
+      arith,
+      front xs k j a j lt (omega arith),
+      front xs j i b n beyond to,
+      count-more ends xs (act_role (opener b.opened b.names)) j b.at,
+      count-more opens xs (act_role (opener b.opened b.names)) j b.at,
+    ))
+    (λ le. front xs k j a n from le)
+    (cases_lt j n))
 
 pub one-last : (xs : List Role) (j k i : ℕ) → IsLast xs j i → IsLast xs k i → j ≡ k
 one-last xs j k i a b = ⊎_elim (λ e. e) (λ o. ⊎_elim (λ lt. absurd (a.last k lt b.is_open)) (λ lt. absurd (b.last j lt a.is_open)) o) (cases_order j k)
@@ -97,7 +91,7 @@ one-last xs j k i a b = ⊎_elim (λ e. e) (λ o. ⊎_elim (λ lt. absurd (a.las
 -- at two places the same is open
 pub record Even (xs : List Role) (j m : ℕ) : Type 0 where
   pub le : j ≤ m
-  pub balance : ups xs j m ≡ downs xs j m
+  pub balance : ups xs m + downs xs j ≡ ups xs j + downs xs m
   pub keeps : (k : ℕ) → IsOpen xs k j → IsOpen xs k m
   pub only : (k : ℕ) → IsOpen xs k m → IsOpen xs k j
 
@@ -112,112 +106,64 @@ shut-at xs x i m at shut h =
     let t : true ≡ false = ap opens (same-piece xs i (act_role (opener h.opened h.names)) x h.at at) ∙ shut in cc
 
 -- what is open is open past one place more, where that ends no more than was opened since
-open-past : (xs : List Role) (k i : ℕ) → IsOpen xs k i → downs xs (k + 1) (i + 1) ≤ ups xs (k + 1) (i + 1) → IsOpen xs k (i + 1)
-open-past xs k i h past = record {
-  opened = h.opened;
-  names = h.names;
-  at = h.at;
-  before = let lt = h.before in omega arith;
-  fronts = λ n from to. ⊎_elim
-      (λ below. h.fronts n from (omega arith))
-      (λ ge. let s : i + 1 ≡ n = omega arith in subst (λ m. downs xs (k + 1) m ≤ ups xs (k + 1) m) s past)
-      (cases_lt n (i + 1));
-}
+open-past : (xs : List Role) (k i : ℕ) → IsOpen xs k i → IsFront xs k (i + 1) → IsOpen xs k (i + 1)
+open-past xs k i h past = let lt = h.before in open-by xs k (i + 1) h.opened h.names h.at (omega arith) (λ n from to. ⊎_elim
+    (λ below. front xs k i h n from (omega arith))
+    (λ ge. let s : n ≡ i + 1 = omega arith in rw s past)
+    (cases_lt n (i + 1)))
 
 -- what ends nothing leaves open what is open
 pub opened-keeps : (xs : List Role) (x : Role) (i k : ℕ) → slice_get xs i ≡ Some x → ends x ≡ false → IsOpen xs k i → IsOpen xs k (i + 1)
 opened-keeps xs x i k at e h =
-    let ze : one_if (ends x) ≡ 0 = ap one_if e in
-    let lt = h.before in
-    let f = h.fronts i lt (omega arith) in
-    open-past xs k i h (omega (arith, f, ze, count-more ends xs x (k + 1) i (omega arith) at, count-more opens xs x (k + 1) i (omega arith) at))
+    open-past xs k i h (omega (arith, front xs k i h i h.before (omega arith), ap one_if e, count-more ends xs x i at, count-more opens xs x i at))
 
 pub even-step : (xs : List Role) (x : Role) (i : ℕ) → slice_get xs i ≡ Some x → opens x ≡ false → ends x ≡ false → Even xs i (i + 1)
-even-step xs x i at o e =
-    let zo : one_if (opens x) ≡ 0 = ap one_if o in
-    let ze : one_if (ends x) ≡ 0 = ap one_if e in
-    record {
-      le = omega arith;
-      balance = omega (arith, zo, ze, count-one ends xs x i at, count-one opens xs x i at);
-      keeps = λ k h. opened-keeps xs x i k at e h;
-      only = λ k h. ⊎_elim
-          (λ lt. cut xs k i (i + 1) lt (omega arith) h)
-          (λ ge. let lt = h.before in let s : k ≡ i = omega arith in absurd (shut-at xs x i (i + 1) at o (subst (λ n. IsOpen xs n (i + 1)) s h)))
-          (cases_lt k i);
-    }
+even-step xs x i at o e = record {
+  le = omega arith;
+  balance = omega (arith, ap one_if o, ap one_if e, count-more ends xs x i at, count-more opens xs x i at);
+  keeps = λ k h. opened-keeps xs x i k at e h;
+  only = λ k h. ⊎_elim
+      (λ lt. cut xs k i (i + 1) lt (omega arith) h)
+      (λ ge. let lt = h.before in let s : k ≡ i = omega arith in absurd (shut-at xs x i (i + 1) at o (subst (λ n. IsOpen xs n (i + 1)) s h)))
+      (cases_lt k i);
+}
 
 -- after an end stands what stood before its opening
-pub same-ended : (xs : List Role) (j i : ℕ) → IsLast xs j i → ups xs (j + 1) i ≡ downs xs (j + 1) i
+pub same-ended : (xs : List Role) (j i : ℕ) → IsLast xs j i → ups xs i + downs xs (j + 1) ≡ ups xs (j + 1) + downs xs i
     → slice_get xs i ≡ Some (act_role closer) → Same xs j (i + 1)
 same-ended xs j i l over at =
     let lt = l.is_open.before in
     let p = act_role (opener l.is_open.opened l.is_open.names) in
-    let me = count-more ends xs (act_role closer) (j + 1) i (omega arith) at in
-    let mo = count-more opens xs (act_role closer) (j + 1) i (omega arith) at in
+    let me = count-more ends xs (act_role closer) i at in
+    let mo = count-more opens xs (act_role closer) i at in
+    let pe = count-more ends xs p j l.is_open.at in
+    let po = count-more opens xs p j l.is_open.at in
     record {
       even = record {
         le = omega arith;
-        balance = omega (
-          arith,
-          over,
-          me,
-          mo,
-          count-one ends xs p j l.is_open.at,
-          count-one opens xs p j l.is_open.at,
-          count-split ends xs j (j + 1) (i + 1)
-              (omega arith) (omega arith),
-          count-split opens xs j (j + 1) (i + 1) (omega arith) (omega arith),
-        );
-        keeps = λ k h.
-            let kt = h.before in
-            let f = h.fronts j kt (omega arith) in
-            let ce = count-more ends xs p (k + 1) j (omega arith) l.is_open.at in
-            let co = count-more opens xs p (k + 1) j (omega arith) l.is_open.at in
-            let se = count-split ends xs (k + 1) (j + 1) (i + 1) (omega arith) (omega arith) in
-            let so = count-split opens xs (k + 1) (j + 1) (i + 1) (omega arith) (omega arith) in
-            open-past xs k i (through xs k j i h l.is_open) (omega (arith, f, over, me, mo, ce, co, se, so));
+        balance = omega (arith, over, me, mo, pe, po);
+        keeps = λ k h. open-past xs k i (through xs k j i h l.is_open) (omega (arith, front xs k j h j h.before (omega arith), over, me, mo, pe, po));
         only = λ k h. ⊎_elim
             (λ below. cut xs k j (i + 1) below (omega arith) h)
             (λ ge. absurd (⊎_elim
-            (λ ki. let on = cut xs k i (i + 1) ki (omega arith) h in
-            ⊎_elim (λ e. closed k e h)
-            (λ o. ⊎_elim (λ kj. omega arith) (λ jk. l.last k jk on) o)
+            (λ ki. ⊎_elim
+            (λ e. omega (arith, front xs j (i + 1) (subst (λ n. IsOpen xs n (i + 1)) e h) (i + 1) (omega arith) (omega arith), over, me, mo))
+            (λ o. ⊎_elim (λ kj. omega arith) (λ jk. l.last k jk (cut xs k i (i + 1) ki (omega arith) h)) o)
             (cases_order k j))
             (λ ik. let kb = h.before in let s : k ≡ i = omega arith in shut-at xs (act_role closer) i (i + 1) at refl (subst (λ n. IsOpen xs n (i + 1)) s h))
             (cases_lt k i)))
             (cases_lt k j);
       };
-      no_else = λ b q h from to o e. inner q h from to o e.belongs
-          (λ s. let g : act_role (else_part b) ≡ act_role closer = same-piece xs i (act_role (else_part b)) (act_role closer)
+      no_else = λ b q h from to o e. ⊎_elim
+          (λ hi. ⊎_elim
+          (λ jh. e.belongs.last j o.before (cut xs j h i jh (omega arith) l.is_open))
+          (λ hj. let s : h ≡ j = omega arith in shut-at xs (act_role (else_part b)) j i (subst (λ n. slice_get xs n ≡ Some (act_role (else_part b))) s e.at)
+          refl l.is_open)
+          (cases_lt j h))
+          (λ ih. let s : h ≡ i = omega arith in let g : act_role (else_part b) ≡ act_role closer = same-piece xs i (act_role (else_part b)) (act_role closer)
           (subst (λ n. slice_get xs n ≡ Some (act_role (else_part b))) s e.at) at in cc)
-          (λ s. not-opening (act_role (else_part b)) (subst (λ n. slice_get xs n ≡ Some (act_role (else_part b))) s e.at) refl);
+          (cases_lt h i);
     }
-  where
-    closed : (k : ℕ) → k ≡ j → IsOpen xs k (i + 1) → ⊥
-    closed k e h =
-        let o : IsOpen xs j (i + 1) = subst (λ n. IsOpen xs n (i + 1)) e h in
-        let lt = l.is_open.before in
-        let f = o.fronts (i + 1) (omega arith) (omega arith) in
-        omega (
-          arith,
-          f,
-          over,
-          count-more ends xs (act_role closer) (j + 1) i (omega arith) at,
-          count-more opens xs (act_role closer) (j + 1) i (omega arith)
-              at,
-        )
-
-    not-opening : (x : Role) → slice_get xs j ≡ Some x → opens x ≡ false → ⊥
-    not-opening x a shut = shut-at xs x j i a shut l.is_open
-
-    inner : (q h : ℕ) → j ≤ h → h < i + 1 → IsOpen xs q j → IsLast xs q h → (h ≡ i → ⊥) → (h ≡ j → ⊥) → ⊥
-    inner q h from to o belongs ni nj = ⊎_elim
-        (λ hi. ⊎_elim
-        (λ jh. belongs.last j o.before (cut xs j h i jh (omega arith) l.is_open))
-        (λ hj. nj (omega arith))
-        (cases_lt j h))
-        (λ ih. ni (omega arith))
-        (cases_lt h i)
 
 -- .. and after a piece that is no opening, end or else
 pub same-still : (xs : List Role) (x : Role) (i : ℕ) → slice_get xs i ≡ Some x → opens x ≡ false → ends x ≡ false
@@ -230,11 +176,4 @@ same-still xs x i at o e ne = record {
 
 -- what an opening adds
 abbrev pub opened_new : (xs : List Role) (i : ℕ) (c : Opening) (p : Names) → slice_get xs i ≡ Some (act_role (opener c p)) → IsOpen xs i (i + 1)
-opened_new xs i c p at = record {
-  opened = c;
-  names = p;
-  at = at;
-  before = omega arith;
-  fronts = λ n from to. let s : i + 1 ≡ n = omega arith in subst (λ m. downs xs (i + 1) m ≤ ups xs (i + 1) m) s
-      (omega (arith, count-none ends xs (i + 1), count-none opens xs (i + 1)));
-}
+opened_new xs i c p at = open-by xs i (i + 1) c p at (omega arith) (λ n from to. let s : n ≡ i + 1 = omega arith in rw s (omega arith))

@@ -46,11 +46,8 @@ pub text-put : (before : Option (List ℕ)) (t old : List ℕ) {parted ended : L
 unfolding page_with
 text-put before t old h i = simp (i, h, append_assoc, append-nil)
 
-flip : (a b : ℕ) → nat_eq a b ≡ nat_eq b a
-flip a b = grind (arith, nat_tests)
-
 last-at : (b : ℕ) (t : List ℕ) → pointwise nat_eq (123 ∷ []) (drop (length t) (b ∷ t)) ≡ ends_brace (b ∷ t)
-last-at b [] = and-true (nat_eq 123 b) ∙ flip 123 b
+last-at b [] = and-true (nat_eq 123 b) ∙ grind (arith, nat_tests)
 last-at b (c ∷ t) = last-at c t
 
 -- the last byte of a text

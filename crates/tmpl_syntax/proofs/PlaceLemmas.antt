@@ -30,6 +30,9 @@ one-moves xs k a b e h = (h.0, h.1, template-moves xs a b e h.0 h.2)
 pub alike-back : (xs : List Role) (a b : ℕ) → Alike xs a b → Alike xs b a
 alike-back xs a b e = record { to = e.back; back = e.to }
 
+pub alike-here : (xs : List Role) (a : ℕ) → Alike xs a a
+alike-here xs a = record { to = λ k h. h; back = λ k h. h }
+
 pub alike-even : (xs : List Role) (a b : ℕ) → Even xs a b → Alike xs a b
 alike-even xs a b e = record { to = λ k h. move-body xs k a b h (e.keeps k h.is_open); back = λ k h. move-body xs k b a h (e.only k h.is_open) }
 

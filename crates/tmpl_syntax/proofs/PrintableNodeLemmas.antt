@@ -59,54 +59,41 @@ else-of none h = tt
 else-of (then line n ns) h = (tt, h)
 
 -- this can be printed, and the items behind it are as good; the definitions can if those behind them can
-record Kept (ss : List Said) (ys : List Item) (ds es : List Definition) : Type 0 where
-  nodes : AreSaid ss
-  behind_them : OfItems ys
-  definitions : (path : List ℕ) → ArePrintable (map (template_in path) es) → ArePrintable (map (template_in path) ds)
+abbrev Kept : List Said → List Item → List Definition → List Definition → Type 0
+Kept ss ys ds es = AreSaid ss × OfItems ys × ((path : List ℕ) → ArePrintable (map (template_in path) es) → ArePrintable (map (template_in path) ds))
 
 mutual
   leads-of : {xs ys : List Item} {ds es : List Definition} {ns : Nodes} → Leads xs ds ns ys es → OfItems xs → Kept (nodes_said ns) ys ds es
-  leads-of nothing h = record { nodes = tt; behind_them = h; definitions = λ path k. k }
-  leads-of (a_node a_text l) h = let m = leads-of l h.1 in record { nodes = (h.0, m.nodes); behind_them = m.behind_them; definitions = m.definitions }
-  leads-of (a_node _ l) h = let m = leads-of l h.1 in record { nodes = (h.0, m.nodes); behind_them = m.behind_them; definitions = m.definitions }
+  leads-of nothing h = (tt, h, λ path k. k)
+  leads-of (a_node a_text l) h = let m = leads-of l h.1 in ((h.0, m.0), m.1, m.2)
+  leads-of (a_node _ l) h = let m = leads-of l h.1 in ((h.0, m.0), m.1, m.2)
   leads-of (a_control {c = c} {h = r} {body = body} {other = other} {ns = ns} b o l) h =
       let i = leads-of b h.1 in
-      let e = closes-of o i.behind_them in
-      let m = leads-of l e.behind_them in
-      record {
-        nodes = said-append (node_said (control_node c r body other)) (nodes_said ns)
-            (control-of c r (nodes_said body) (else_said other (nodes_said other)) h.0 i.nodes e.nodes) m.nodes;
-        behind_them = m.behind_them;
-        definitions = λ path k. i.definitions path (e.definitions path (m.definitions path k));
-      }
+      let e = closes-of o i.1 in
+      let m = leads-of l e.1 in (
+        said-append (node_said (control_node c r body other)) (nodes_said ns)
+            (control-of c r (nodes_said body) (else_said other (nodes_said other)) h.0 i.0 e.0) m.0,
+        m.1,
+        λ path k. i.2 path (e.2 path (m.2 path k)),
+      )
   leads-of (a_define b l) h =
       let i = leads-of b h.1 in
-      let m = leads-of l i.behind_them.1 in
-      record { nodes = m.nodes; behind_them = m.behind_them; definitions = λ path k. (h.0, i.nodes, i.definitions path (m.definitions path k)) }
+      let m = leads-of l i.1.1 in (m.0, m.1, λ path k. (h.0, i.0, i.2 path (m.2 path k)))
   leads-of (a_block b l) h =
       let i = leads-of b h.1 in
-      let m = leads-of l i.behind_them.1 in
-      record { nodes = (h.0, m.nodes); behind_them = m.behind_them; definitions = λ path k. (h.0.0, i.nodes, i.definitions path (m.definitions path k)) }
+      let m = leads-of l i.1.1 in ((h.0, m.0), m.1, λ path k. (h.0.0, i.0, i.2 path (m.2 path k)))
 
   closes-of : {xs ys : List Item} {ds es : List Definition} {other : Nodes} → Closes xs ds other ys es → OfItems xs
       → Kept (else_said other (nodes_said other)) ys ds es
-  closes-of an_end h = record { nodes = tt; behind_them = h.1; definitions = λ path k. k }
-  closes-of (an_else {other = other} l) h =
-      let m = leads-of l h.1 in record { nodes = else-of other m.nodes; behind_them = m.behind_them.1; definitions = m.definitions }
+  closes-of an_end h = (tt, h.1, λ path k. k)
+  closes-of (an_else {other = other} l) h = let m = leads-of l h.1 in (else-of other m.0, m.1.1, m.2)
   closes-of (an_else_branch {branch = br} {h = r} {body = body} {other = other} l o) h =
       let i = leads-of l h.1 in
-      let e = closes-of o i.behind_them in
-      record {
-        nodes = (
-          tt,
-          said-append (node_said (control_node (control_in br) r body other)) []
-              (control-of (control_in br) r (nodes_said body) (else_said other (nodes_said other)) (branch-of br r h.0) i.nodes e.nodes) tt,
-        );
-        behind_them = e.behind_them;
-        definitions = λ path k. i.definitions path (e.definitions path k);
-      }
+      let e = closes-of o i.1 in
+      let said = control-of (control_in br) r (nodes_said body) (else_said other (nodes_said other)) (branch-of br r h.0) i.0 e.0 in
+      ((tt, said-append (node_said (control_node (control_in br) r body other)) [] said tt), e.1, λ path k. i.2 path (e.2 path k))
 
 pub keeps-printable : KeepsPrintable
 keeps-printable branches bytes items ds own h has spells =
     let k = leads-of spells (of-items branches has.0 items has.2 (cuts-of has.1 h)) in
-    (λ path. k.definitions path tt, k.nodes)
+    (λ path. k.2 path tt, k.0)

@@ -1,17 +1,19 @@
 -- For `one_verdict`: names in scope move with what is open, and what a further part of a control sees.
-use Rattle.std.proofs.Common.{arith, ◌≡◌, ◌≢◌, ℕ, ◌+◌, ◌<◌, ◌≤◌, false, List, refl, sym, subst, Option, Some, inl, inr, ⊎_elim, ◌⊎◌, ap, ◌∙◌, None}
+use Rattle.std.proofs.Common.{arith, ◌≡◌, ℕ, ◌+◌, ◌<◌, ◌≤◌, false, List, [], refl, sym, subst, Option, Some, inl, inr, ⊎_elim, ◌⊎◌, ap, ◌∙◌, None}
 use Rattle.std.specs.Prelude.{slice_get, Contains}
 use Rattle.std.proofs.lemmas.Bool.{cases_lt, cases_order}
 use Rattle.tmpl_grammar.specs.declared.action.Branch.{Branch}
 use Rattle.tmpl_syntax.specs.Place.Open.{IsOpen, NothingOpen, IsLast, IsElseOf, HasElse, is_template, IsTemplate, OfOneTemplate, opens}
 use Rattle.tmpl_syntax.specs.Place.Scope.{Declares, at_the_top, inside, in_header, in_else_branch, IsInScope}
 use Rattle.tmpl_syntax.proofs.OpenLemmas.{same-piece, cut, Same, opened-keeps, opened_new, same-opening, through, shut-at}
-use Rattle.tmpl_syntax.proofs.PlaceLemmas.{alike-even, alike-back, alike-opened, one-moves, template-moves, else_before, else-same, no-else, has-before}
+use Rattle.tmpl_syntax.proofs.PlaceLemmas.{Alike, alike-here, alike-even, alike-back, alike-opened, one-moves, template-moves, else_before, else-same, no-else}
+use Rattle.tmpl_syntax.proofs.PlaceLemmas.{has-before}
 use Rattle.tmpl_syntax.proofs.PlaceLemmas.{alike-last}
 use Rattle.tmpl_syntax.specs.Place.Opening.{Opening}
 use Rattle.tmpl_syntax.specs.Place.Opening as opened
 use Rattle.tmpl_grammar.specs.declared.tree.Control.TheVariants.{Range}
 use Rattle.tmpl_syntax.specs.Place.Role.{Name, Names, plain, opener, else_part, Role, act_role}
+use Rattle.tmpl_syntax.specs.Place.Body.{names_in}
 
 -- as Declares, with no else from after k to before b
 pub data Reaches (xs : List Role) (k a b : ℕ) (name : Name) : Type 0 where
@@ -63,34 +65,42 @@ reaches-moves xs k a b c d n o e r (from_inside {j = j} at h l p ne) =
 reaches-moves xs k a b c d n o e r (from_header at h p nr) = from_header at h (o k (omega arith) p) (λ is has. nr is (r p has))
 reaches-moves xs k a b c d n o e r (from_else_branch {j = j} t h p) = let lt = t.belongs.is_open.before in from_else_branch t h (o j (omega arith) p)
 
--- what the piece at a place is, by what brings a name there
-pub wrong-piece : (xs : List Role) (k a b : ℕ) (n : Name) (x : Role) → slice_get xs k ≡ Some x → ((p : Names) → x ≢ act_role (plain p))
-    → ((c : Opening) (p : Names) → x ≢ act_role (opener c p)) → ((c : Option (Branch × Names)) → x ≢ act_role (else_part c))
-    → Reaches xs k a b n → ⊥
-wrong-piece xs k a b n x at np nopen nt (from_top {p = p} e h z) = np p (same-piece xs k x (act_role (plain p)) at e)
-wrong-piece xs k a b n x at np nopen nt (from_inside {p = p} e h l o ne) = np p (same-piece xs k x (act_role (plain p)) at e)
-wrong-piece xs k a b n x at np nopen nt (from_header {c = c} {p = p} e h o r) = nopen c p (same-piece xs k x (act_role (opener c p)) at e)
-wrong-piece xs k a b n x at np nopen nt (from_else_branch {c = c} {p = p} t h o) =
-    nt (Some (c, p)) (same-piece xs k x (act_role (else_part (Some (c, p)))) at t.at)
+-- the names that a piece declares
+abbrev pub declared_at : Role → List Name
+declared_at (act_role a) = (names_in a).declares
+declared_at x = []
+
+-- what a piece brings it declares
+pub brings : (xs : List Role) (k a b : ℕ) (n : Name) (x : Role) → slice_get xs k ≡ Some x → Reaches xs k a b n → Contains (declared_at x) n
+brings xs k a b n x at r = by r (λ y e. subst (λ z. Contains (declared_at z) n) (same-piece xs k y x e at))
+  where
+    by : Reaches xs k a b n → ((y : Role) → slice_get xs k ≡ Some y → Contains (declared_at y) n → Contains (declared_at x) n) → Contains (declared_at x) n
+    by (from_top {p = p} e c z) same = same (act_role (plain p)) e c
+    by (from_inside {p = p} e c l o ne) same = same (act_role (plain p)) e c
+    by (from_header {c = d} {p = p} e c o r) same = same (act_role (opener d p)) e c
+    by (from_else_branch {c = d} {p = p} t c o) same = same (act_role (else_part (Some (d, p)))) t.at c
+
+-- what is brought moves with what is open
+brought-moves : (xs : List Role) (h a b g c d : ℕ) (n : Name) → Alike xs a c → (f : BroughtFrom xs h a b n) → f.by < g
+    → ((q : ℕ) → q ≤ f.by → IsOpen xs q a → IsOpen xs q c)
+    → ((s : Option (Branch × Names)) (q m : ℕ) → q < f.by → IsOpen xs q a → b ≤ m → m < d → IsElseOf xs s q m → ⊥)
+    → (IsOpen xs f.by a → HasElse xs f.by c → HasElse xs f.by a) → BroughtFrom xs g c d n
+brought-moves xs h a b g c d n e f lt o el r =
+    record { by = f.by; before = lt; template = one-moves xs f.by a c e f.template; reaches = reaches-moves xs f.by a b c d n o el r f.reaches }
 
 -- where the same stands, what was in scope is
 pub brought-same : (xs : List Role) (j m : ℕ) (n : Name) → Same xs j m → Brought xs j j n → Brought xs m m n
-brought-same xs j m n s b = record {
-  by = b.by;
-  before = let lt = b.before in let le = s.even.le in omega arith;
-  template = one-moves xs b.by j m (alike-even xs j m s.even) b.template;
-  reaches = reaches-moves xs b.by j j m m n (λ q le. s.even.keeps q) (λ d q h lt o from to. s.no_else d q h from to o) (λ o. else-same xs b.by j m s o)
-      b.reaches;
-}
+brought-same xs j m n s b =
+    let lt = b.before in
+    let le = s.even.le in
+    brought-moves xs j j j m m m n (alike-even xs j m s.even) b (omega arith) (λ q le. s.even.keeps q) (λ d q h lt o from to. s.no_else d q h from to o)
+    (λ o. else-same xs b.by j m s o)
 
 pub brought-same-back : (xs : List Role) (j m : ℕ) (n : Name) → Same xs j m → (b : Brought xs m m n) → b.by < j → Brought xs j j n
-brought-same-back xs j m n s b lt = record {
-  by = b.by;
-  before = lt;
-  template = one-moves xs b.by m j (alike-back xs j m (alike-even xs j m s.even)) b.template;
-  reaches = let le = s.even.le in reaches-moves xs b.by m m j j n (λ q le2. s.even.only q) (λ d q h lt2 o from to e. omega arith)
-      (λ o. else_before xs b.by j m le) b.reaches;
-}
+brought-same-back xs j m n s b lt =
+    let le = s.even.le in
+    brought-moves xs m m m j j j n (alike-back xs j m (alike-even xs j m s.even)) b lt (λ q le. s.even.only q) (λ d q h lt o from to e. omega arith)
+    (λ o. else_before xs b.by j m le)
 
 -- a header or an else if between brings nothing; an action does where it stands in what is open
 pub brought-late : (xs : List Role) (j m : ℕ) (n : Name) (k : ℕ) → Same xs j m → j ≤ k → k < m → Reaches xs k m m n
@@ -102,38 +112,23 @@ brought-late xs j m n k s from to (from_else_branch {c = c} {p = p} {j = q} t h 
 
 -- at an action that is no else, the definition is what was brought before it
 pub at-place : (xs : List Role) (i : ℕ) (n : Name) → ((d : Option (Branch × Names)) (j : ℕ) → IsElseOf xs d j i → ⊥) → Brought xs i i n → IsInScope xs i n
-at-place xs i n ne b = to-scope xs i n (record {
-  by = b.by;
-  before = b.before;
-  template = b.template;
-  reaches = reaches-moves xs b.by i i i (i + 1) n (λ q le o. o)
-      (λ d q m lt o from to e. let s : m ≡ i = omega arith in ne d q (subst (IsElseOf xs d q) s e))
-      (λ o h. h) b.reaches;
-})
+at-place xs i n ne b = to-scope xs i n (brought-moves xs i i i i i (i + 1) n (alike-here xs i) b b.before (λ q le o. o)
+    (λ d q m lt o from to e. let s : m ≡ i = omega arith in ne d q (subst (IsElseOf xs d q) s e)) (λ o h. h))
 
 pub at-place-back : (xs : List Role) (i : ℕ) (n : Name) → IsInScope xs i n → Brought xs i i n
-at-place-back xs i n s = let b = from-scope xs i n s in record {
-  by = b.by;
-  before = b.before;
-  template = b.template;
-  reaches = reaches-moves xs b.by i (i + 1) i i n (λ q le o. o) (λ d q m lt o from to e. omega arith) (λ o h. h) b.reaches;
-}
+at-place-back xs i n s =
+    let b = from-scope xs i n s in
+    brought-moves xs i i (i + 1) i i i n (alike-here xs i) b b.before (λ q le o. o) (λ d q m lt o from to e. omega arith) (λ o h. h)
 
 -- after an opening that is no define or block
 pub brought-opened : (xs : List Role) (i : ℕ) (n : Name) (c : Opening) (p : Names) → slice_get xs i ≡ Some (act_role (opener c p))
     → is_template c ≡ false → Brought xs i i n → Brought xs (i + 1) (i + 1) n
 brought-opened xs i n c p at nt b =
     let x = act_role (opener c p) in
-    record {
-      by = b.by;
-      before = let lt = b.before in omega arith;
-      template = one-moves xs b.by i (i + 1) (alike-opened xs i c p at nt) b.template;
-      reaches = let lt = b.before in reaches-moves xs b.by i i (i + 1) (i + 1) n
-          (λ q le. opened-keeps xs x i q at refl)
-          (λ d q m lt2 oq from to e. let s : m ≡ i = omega arith in no-else xs x i at (λ u g. cc) d q (subst (IsElseOf xs d q) s e))
-          (λ ok. has-before xs x i at (λ g. cc) b.by)
-          b.reaches;
-    }
+    let lt = b.before in
+    brought-moves xs i i i (i + 1) (i + 1) (i + 1) n (alike-opened xs i c p at nt) b (omega arith) (λ q le. opened-keeps xs x i q at refl)
+    (λ d q m lt2 oq from to e. let s : m ≡ i = omega arith in no-else xs x i at (λ u g. cc) d q (subst (IsElseOf xs d q) s e))
+    (λ ok. has-before xs x i at (λ g. cc) b.by)
 
 pub brought-header : (xs : List Role) (i : ℕ) (n : Name) (t : Option ℕ) (c : Opening) (p : Names)
     → slice_get xs i ≡ Some (act_role (opener c p)) → is_template c ≡ false → IsTemplate xs i t
@@ -148,28 +143,11 @@ brought-header xs i n t c p at nt is h = record {
 pub brought-opened-back : (xs : List Role) (i : ℕ) (n : Name) (c : Opening) (p : Names) → slice_get xs i ≡ Some (act_role (opener c p))
     → is_template c ≡ false → Brought xs (i + 1) (i + 1) n → Brought xs i i n ⊎ Contains p.declares n
 brought-opened-back xs i n c p at nt b = ⊎_elim
-    (λ lt. inl (record {
-      by = b.by;
-      before = lt;
-      template = one-moves xs b.by (i + 1) i (alike-back xs i (i + 1) (alike-opened xs i c p at nt)) b.template;
-      reaches = reaches-moves xs b.by (i + 1) (i + 1) i i n
-          (λ q le. cut xs q i (i + 1) (omega arith) (omega arith))
-          (λ d q m lt2 oq from to e. omega arith)
-          (λ ok. else_before xs b.by i (i + 1) (omega arith))
-          b.reaches;
-    }))
-    (λ ge. let g = b.before in let s : b.by ≡ i = omega arith in inr (new (subst (λ k. Reaches xs k (i + 1) (i + 1) n) s b.reaches)))
+    (λ lt. inl (brought-moves xs (i + 1) (i + 1) (i + 1) i i i n (alike-back xs i (i + 1) (alike-opened xs i c p at nt)) b lt
+    (λ q le. cut xs q i (i + 1) (omega arith) (omega arith)) (λ d q m lt2 oq from to e. omega arith) (λ ok. else_before xs b.by i (i + 1) (omega arith))))
+    (λ ge. let g = b.before in let s : b.by ≡ i = omega arith in
+    inr (brings xs i (i + 1) (i + 1) n (act_role (opener c p)) at (subst (λ k. Reaches xs k (i + 1) (i + 1) n) s b.reaches)))
     (cases_lt b.by i)
-  where
-    same-pipe : (d : Opening) (q : Names) → act_role (opener c p) ≡ act_role (opener d q) → p ≡ q
-    same-pipe d q e = cc
-
-    new : Reaches xs i (i + 1) (i + 1) n → Contains p.declares n
-    new (from_top {p = q} e h z) = cc
-    new (from_inside {p = q} e h l oq ne) = cc
-    new (from_header {c = d} {p = q} e h oq r) =
-        let g = same-pipe d q (same-piece xs i (act_role (opener c p)) (act_role (opener d q)) at e) in subst (λ z. Contains z.declares n) (sym g) h
-    new (from_else_branch {c = d} {p = q} e h oq) = absurd (no-else xs (act_role (opener c p)) i at (λ u g. cc) (Some (d, q)) _ e)
 
 -- what an else part of the opening at j sees, were it to begin at h
 pub data Part (xs : List Role) (j h : ℕ) (name : Name) : Type 0 where
@@ -206,16 +184,9 @@ module _ (xs : List Role) (j h a b : ℕ) (l : IsLast xs j a) (own : is_template
   not-lower : (k q : ℕ) → j < k → k ≤ a → q < j → IsLast xs q k → ⊥
   not-lower k q jk ka qj lq = lq.last j qj (cut xs j k a jk ka l.is_open)
 
-  before-j : (k : ℕ) (n : Name) → k < j → OfOneTemplate xs k a → Reaches xs k a b n → Part xs j h n
-  before-j k n lt same r = earlier (record {
-    by = k;
-    before = lt;
-    template = one-moves xs k a j (alike-back xs j a (alike-last xs j a l own)) same;
-    reaches = reaches-moves xs k a b j j n
-        (λ q le. cut xs q j a (omega arith) (omega arith))
-        (λ s q m lq o from to e. omega arith)
-        (λ o. else_before xs k j a (omega arith)) r;
-  })
+  before-j : (n : Name) (f : BroughtFrom xs h a b n) → f.by < j → Part xs j h n
+  before-j n f lt = earlier (brought-moves xs h a b j j j n (alike-back xs j a (alike-last xs j a l own)) f lt
+      (λ q le. cut xs q j a (omega arith) (omega arith)) (λ s q m lq o from to e. omega arith) (λ o. else_before xs f.by j a (omega arith)))
 
   at-j : (n : Name) → Reaches xs j a b n → Part xs j h n
   at-j n (from_top {p = p} e c z) = absurd (at-opening (act_role (plain p)) e refl)
@@ -236,20 +207,15 @@ module _ (xs : List Role) (j h a b : ℕ) (l : IsLast xs j a) (own : is_template
   pub to-part : (n : Name) → BroughtFrom xs h a b n → Part xs j h n
   to-part n f = ⊎_elim
       (λ e. at-j n (subst (λ k. Reaches xs k a b n) e f.reaches))
-      (λ o. ⊎_elim (λ lt. before-j f.by n lt f.template f.reaches) (λ gt. after-j f.by n gt f.before f.reaches) o)
+      (λ o. ⊎_elim (λ lt. before-j n f lt) (λ gt. after-j f.by n gt f.before f.reaches) o)
       (cases_order f.by j)
 
   pub from-part : (t : Option ℕ) → IsTemplate xs j t → (n : Name) → Part xs j h n → BroughtFrom xs h a b n
-  from-part t is n (earlier e) = record {
-    by = e.by;
-    before = let lt = e.before in omega arith;
-    template = one-moves xs e.by j a (alike-last xs j a l own) e.template;
-    reaches = let lt = e.before in reaches-moves xs e.by j j a b n
-        (λ q le o. through xs q j a o l.is_open)
-        (λ s q m lq o from to el. late s m q from (omega arith) o.before el)
-        (λ o has. ⊎_elim (λ low. (has.0, low, has.2)) (λ high. absurd (late None has.0 e.by high (let g = has.1 in omega arith) lt has.2)) (cases_lt has.0 j))
-        e.reaches;
-  }
+  from-part t is n (earlier e) =
+      let lt = e.before in
+      brought-moves xs j j j h a b n (alike-last xs j a l own) e (omega arith) (λ q le o. through xs q j a o l.is_open)
+      (λ s q m lq o from to el. late s m q from (omega arith) o.before el)
+      (λ o has. ⊎_elim (λ low. (has.0, low, has.2)) (λ high. absurd (late None has.0 e.by high (let g = has.1 in omega arith) lt has.2)) (cases_lt has.0 j))
     where
       late : (s : Option (Branch × Names)) (m q : ℕ) → j ≤ m → m ≤ a → q < j → IsElseOf xs s q m → ⊥
       late s m q from to qj el = ⊎_elim

@@ -1,11 +1,12 @@
 -- For `Set`: its entries as a list of names and trees.
-use Rattle.std.proofs.Common.{◌≡◌, ℕ, suc, ◌+◌, nat_lt, not, length, Bool, true, false, List, [], ◌∷◌, Option, Some, None, refl, sym, ap}
+use Rattle.std.proofs.Common.{◌≡◌, ℕ, ◌+◌, nat_lt, not, length, Bool, true, false, List, [], ◌∷◌, Option, Some, None, refl, sym, ap}
 use Rattle.std.proofs.Common.{◌∙◌, ◌&&◌, cond, map, Vec, Global}
 use Rattle.std.specs.Option.{option_map, is_some}
 use Rattle.std.specs.List.{find, list_all, position, position_or_len}
 use Rattle.std.specs.Str.{bytes_eq}
 use Rattle.std.specs.Map.{lookup, keys_of}
 use Rattle.std.proofs.lemmas.Bool.{and_parts}
+use Rattle.std.proofs.lemmas.List.{length-map}
 use Rattle.tmpl_syntax.specs.View.{tree_of, node_of, nodes_in, template_of}
 use Rattle.tmpl_syntax.specs.Tree.{Tree}
 use Rattle.tmpl_syntax.specs.declared.tree.Tree as held
@@ -35,23 +36,16 @@ pub blank-list : (ns : List held_node.Node) → list_all (λ n. is_blank_node (n
 blank-list [] = refl
 blank-list (n ∷ ns) = ap (λ b. is_blank_node (node_of n).what && b) (blank-list ns)
 
-abbrev named : Bool → Template → Option Tree → Option Tree
-named same t other = cond same (Some t.1) other
-
-named-find : (name : List ℕ) (t : Template) (ts : List Template) → tree_named name (t ∷ ts) ≡ named (bytes_eq name t.0) t (tree_named name ts)
-named-find name t ts = go (bytes_eq name t.0)
-  where
-    go : (same : Bool) → option_map (λ (t : Template). t.1) (cond same (Some t) (find (has_name name) ts))
-        ≡ cond same (Some t.1) (option_map (λ (t : Template). t.1) (find (has_name name) ts))
-    go true = refl
-    go false = refl
+-- the tree of this template or of another one
+abbrev named : Bool → Template → Option Template → Option Tree
+named same t other = option_map (λ (u : Template). u.1) (cond same (Some t) other)
 
 kept : (ts : List Template) (name : List ℕ) (tree : Tree) → is_blank tree.nodes ≡ true → is_some (tree_named name ts) ≡ true → ts ≡ defined ts name tree
 kept [] name tree blank there = cc
-kept (t ∷ ts) name tree blank there = go (bytes_eq name t.0) (kept ts name tree blank) (sym (ap is_some (named-find name t ts)) ∙ there)
+kept (t ∷ ts) name tree blank there = go (bytes_eq name t.0) (kept ts name tree blank) there
   where
     go : (same : Bool) → (is_some (tree_named name ts) ≡ true → ts ≡ defined ts name tree)
-        → is_some (named same t (tree_named name ts)) ≡ true → t ∷ ts ≡ cond same ((t.0, chosen t.1 tree) ∷ ts) (t ∷ defined ts name tree)
+        → is_some (named same t (find (has_name name) ts)) ≡ true → t ∷ ts ≡ cond same ((t.0, chosen t.1 tree) ∷ ts) (t ∷ defined ts name tree)
     go true ih h = ap (λ b. (t.0, cond b t.1 tree) ∷ ts) (sym blank)
     go false ih h = ap (λ us. t ∷ us) (ih h)
 
@@ -64,13 +58,12 @@ pub defined-insert : (es : List Entry) (k : Vec ℕ Global) (tree : held.Tree)
     → (is_blank (tree_of tree).nodes && is_some (tree_named k.items (map template_of es))) ≡ false
     → map template_of (insert_entry (λ (x y : Vec ℕ Global). bytes_eq x.items y.items) es k tree) ≡ defined (map template_of es) k.items (tree_of tree)
 defined-insert [] k tree e = refl
-defined-insert (d ∷ es) k tree e = go (bytes_eq k.items d.0.items) (is_blank (tree_of tree).nodes) refl (defined-insert es k tree)
-    (sym (ap (λ o. is_blank (tree_of tree).nodes && is_some o) (named-find k.items (template_of d) (map template_of es))) ∙ e)
+defined-insert (d ∷ es) k tree e = go (bytes_eq k.items d.0.items) (is_blank (tree_of tree).nodes) refl (defined-insert es k tree) e
   where
     go : (same blank : Bool) → is_blank (tree_of tree).nodes ≡ blank → ((is_blank (tree_of tree).nodes && is_some (tree_named k.items (map template_of es)))
         ≡ false → map template_of (insert_entry (λ (x y : Vec ℕ Global). bytes_eq x.items y.items) es k tree)
         ≡ defined (map template_of es) k.items (tree_of tree)) → (is_blank (tree_of tree).nodes && is_some
-        (named same (template_of d) (tree_named k.items (map template_of es)))) ≡ false
+        (named same (template_of d) (find (has_name k.items) (map template_of es)))) ≡ false
         → map template_of (cond same ((d.0, tree) ∷ es) (d ∷ insert_entry (λ (x y : Vec ℕ Global). bytes_eq x.items y.items) es k tree))
         ≡ cond same ((d.0.items, chosen (tree_of d.1) (tree_of tree)) ∷ map template_of es)
         (template_of d ∷ defined (map template_of es) k.items (tree_of tree))
@@ -87,16 +80,12 @@ place-view : (name : List ℕ) (es : List Entry)
 place-view name [] = refl
 place-view name (e ∷ es) = ap (λ n. cond (not (bytes_eq name e.0.items)) (1 + n) 0) (place-view name es)
 
-count-view : (es : List Entry) → length (keys_of es) ≡ length (map template_of es)
-count-view [] = refl
-count-view (e ∷ es) = ap (λ n. suc n) (count-view es)
-
 abbrev within : ℕ → ℕ → Option ℕ
 within place count = cond (nat_lt place count) (Some place) None
 
 pub number-view : (name : List ℕ) (es : List Entry) → position (λ (k : Vec ℕ Global). bytes_eq name k.items) (keys_of es) ≡ number_of name (map template_of es)
 number-view name es =
     ap (λ place. within place (length (keys_of es))) (place-view name es)
-    ∙ ap (λ count. within (position_or_len (has_name name) (map template_of es)) count) (count-view es)
+    ∙ ap (λ count. within (position_or_len (has_name name) (map template_of es)) count) (length-map es (λ (e : Entry). e.0) ∙ sym (length-map es template_of))
 
 pub ruleset views = (names-view, kept-as-is)

@@ -1,9 +1,9 @@
 -- For `one_spelling` and `parts_before`: the items of an accepted file spell what is built from them, and nothing else.
-use Rattle.std.proofs.Common.{◌≡◌, ℕ, Bool, true, false, not, ◌||◌, List, [], ◌∷◌, ◌++◌, refl, sym, ap, ◌∙◌, subst, Option, Some, None}
+use Rattle.std.proofs.Common.{◌≡◌, ℕ, Bool, true, false, not, ◌||◌, List, [], ◌∷◌, ◌++◌, refl, sym, ap, ◌∙◌, Option, Some, None}
 use Rattle.std.proofs.lemmas.Bool.{and_parts, not-true, or_right}
 use Rattle.tmpl_syntax.specs.Fault.{Reason}
 use Rattle.tmpl_syntax.specs.computed.Frames.{Frame}
-use Rattle.tmpl_syntax.specs.Tree.{NodeKind, control_node, template_node, Nodes, none, then, Definition}
+use Rattle.tmpl_syntax.specs.Tree.{NodeKind, template_node, Nodes, none, Definition}
 use Rattle.tmpl_grammar.specs.Action.{pipeline_action, opening, plain_else, else_branch, end_action, break_action, continue_action}
 use Rattle.tmpl_grammar.specs.Action.{define_action, template_action, block_action}
 use Rattle.tmpl_syntax.specs.Item.{ItemKind, Item, item, text_item, unreadable_item, unread_item, deep_item, action_item}
@@ -21,7 +21,7 @@ use Rattle.tmpl_syntax.specs.computed.Build as build
 use Rattle.tmpl_syntax.specs.computed.Build.{no_parts, first_of, rest_of, with_node_before, put_before, control_before, definition_before, else_before}
 use Rattle.tmpl_syntax.specs.computed.Build.{branch_before, end_before, parts_with, parts_before, nodes_from, definitions_from}
 use Rattle.tmpl_syntax.specs.Laws.{SpellsAtMostOne}
-use Rattle.tmpl_syntax.proofs.FaultLemmas.{TellsRole, tells}
+use Rattle.tmpl_syntax.proofs.FaultLemmas.{faultless}
 
 -- a part behind which an else may stand
 open-end : (b : Option Branch) (f : Frame) → takes_else b (Some f) ≡ true → (is_template f.opening || f.has_else) ≡ false
@@ -33,10 +33,9 @@ abbrev ends_only : Frame → Bool
 ends_only f = is_template f.opening || f.has_else
 
 -- what stands behind a part
-abbrev Closing : Bool → List Item → List Definition → Nodes → List Item → List Definition → Type 0
-Closing false ys es other zs gs = Closes ys es other zs gs
-Closing true ys es other zs gs =
-    (line : ℕ) × (ys ≡ item line (action_item end_action) ∷ zs) × (other ≡ none) × (es ≡ gs)
+data Closing : Bool → List Item → List Definition → Nodes → List Item → List Definition → Type 0 where
+  by_end : {b : Bool} {line : ℕ} {zs : List Item} {gs : List Definition} → Closing b (item line (action_item end_action) ∷ zs) gs none zs gs
+  by_else : {ys zs : List Item} {es gs : List Definition} {other : Nodes} → Closes ys es other zs gs → Closing false ys es other zs gs
 
 -- inside these frames the rest of the items spells these parts
 abbrev Rest : List Frame → List Item → List Definition → build.Level → List build.Level → Type 0
@@ -46,47 +45,30 @@ Rest (f ∷ fs) xs ds l ls =
     × Closing (ends_only f) ys es l.other zs gs × Rest fs zs gs (first_of ls) (rest_of ls)
 
 -- items before the rest
-rest-led : (fs : List Frame) (xs zs : List Item) (ds gs : List Definition) (l k : build.Level) (ls : List build.Level) → l.other ≡ k.other
-    → ((ys : List Item) (es : List Definition) → Leads zs gs l.nodes ys es → Leads xs ds k.nodes ys es) → Rest fs zs gs l ls
-    → Rest fs xs ds k ls
-rest-led [] xs zs ds gs l k ls e more r = more [] [] r
-rest-led (f ∷ fs) xs zs ds gs l k ls e more r = (r.0, r.1, more r.0 r.1 r.2, r.3, r.4, subst (λ o. Closing (ends_only f) r.0 r.1 o r.3 r.4) e r.5, r.6)
+rest-led : (fs : List Frame) (xs zs : List Item) (ds gs : List Definition) (ns : Nodes) (l : build.Level) (ls : List build.Level)
+    → ((ys : List Item) (es : List Definition) → Leads zs gs l.nodes ys es → Leads xs ds ns ys es) → Rest fs zs gs l ls
+    → Rest fs xs ds (record { nodes = ns; other = l.other }) ls
+rest-led [] xs zs ds gs ns l ls more r = more [] [] r
+rest-led (f ∷ fs) xs zs ds gs ns l ls more r = (r.0, r.1, more r.0 r.1 r.2, r.3, r.4, r.5, r.6)
 
-rest-node : (fs : List Frame) (xs zs : List Item) (ds gs : List Definition) (line : ℕ) (n : NodeKind) (l : build.Level) (ls : List build.Level)
-    → ((ns : Nodes) (ys : List Item) (es : List Definition) → Leads zs gs ns ys es → Leads xs ds (then line n ns) ys es)
-    → Rest fs zs gs l ls → Rest fs xs ds (with_node_before line n l) ls
-rest-node fs xs zs ds gs line n l ls more r = rest-led fs xs zs ds gs l (with_node_before line n l) ls refl (λ ys es. more l.nodes ys es) r
+closes-of : {ys zs : List Item} {es gs : List Definition} {other : Nodes} (b : Bool) → b ≡ false → Closing b ys es other zs gs → Closes ys es other zs gs
+closes-of b e by_end = an_end
+closes-of _ e (by_else c) = c
 
-closing-end : (b : Bool) (line : ℕ) (xs : List Item) (ds : List Definition) → Closing b (item line (action_item end_action) ∷ xs) ds none xs ds
-closing-end false line xs ds = an_end
-closing-end true line xs ds = (line, refl, refl, refl)
-
-closing-of : (f : Frame) (ys zs : List Item) (es gs : List Definition) (other : Nodes) → ends_only f ≡ false
-    → Closes ys es other zs gs → Closing (ends_only f) ys es other zs gs
-closing-of f ys zs es gs other e c = subst (λ k. Closing k ys es other zs gs) (sym e) c
-
-closes-of : (f : Frame) (ys zs : List Item) (es gs : List Definition) (other : Nodes) → ends_only f ≡ false
-    → Closing (ends_only f) ys es other zs gs → Closes ys es other zs gs
-closes-of f ys zs es gs other e c = subst (λ k. Closing k ys es other zs gs) e c
+closing-of : {ys zs : List Item} {es gs : List Definition} {other : Nodes} (b : Bool) → b ≡ false → Closes ys es other zs gs → Closing b ys es other zs gs
+closing-of b e c = rw e (by_else c)
 
 -- behind a plain else, and in the body of a template, only the `end` stands
-elsed-closing : (f : Frame) (ys zs : List Item) (es gs : List Definition) (other : Nodes)
-    → Closing (is_template f.opening || true) ys es other zs gs → Closing true ys es other zs gs
-elsed-closing f ys zs es gs other c = subst (λ b. Closing b ys es other zs gs) (or_right (is_template f.opening) true refl) c
-
-template-body : (xs ys zs : List Item) (es gs : List Definition) {ds : List Definition} {ns other : Nodes} (c : Closing true ys es other zs gs)
-    → Leads xs ds ns ys es → Leads xs ds ns (item c.0 (action_item end_action) ∷ zs) gs
-template-body xs ys zs es gs {ds = ds} {ns = ns} c d =
-    subst (λ k. Leads xs ds ns (item c.0 (action_item end_action) ∷ zs) k) c.3 (subst (λ y. Leads xs ds ns y es) c.1 d)
+ended : {xs ys zs : List Item} {ds es gs : List Definition} {ns other : Nodes} (b : Bool) → b ≡ true → Closing b ys es other zs gs → Leads xs ds ns ys es
+    → (line : ℕ) × Leads xs ds ns (item line (action_item end_action) ∷ zs) gs
+ended b e (by_end {line = line}) d = (line, d)
+ended _ e (by_else c) d = cc
 
 module _ (names : List Name) (xs : List Item) (p : build.Parts) where
-  placed : (x : Item) (t : Option Frame) → fault_at (role_of x) t names ≡ None → TellsRole (role_of x) t names None
-  placed x t e = subst (TellsRole (role_of x) t names) e (tells (role_of x) t names)
-
   -- a plain action's node
   at-node : {what : ItemKind} {n : NodeKind} (fs : List Frame) (line : ℕ) → IsNode what n → Rest fs xs p.definitions p.inner p.around
       → Rest fs (item line what ∷ xs) p.definitions (with_node_before line n p.inner) p.around
-  at-node {n = n} fs line is r = rest-node fs _ xs p.definitions p.definitions line n p.inner p.around (λ ns ys es d. a_node is d) r
+  at-node {n = n} fs line is r = rest-led fs _ xs p.definitions p.definitions _ p.inner p.around (λ ys es d. a_node is d) r
 
   step : (x : Item) (fs : List Frame) → fault_at (role_of x) (top fs) names ≡ None
       → Rest (frames_past (role_of x) fs names) xs p.definitions p.inner p.around
@@ -94,48 +76,32 @@ module _ (names : List Name) (xs : List Item) (p : build.Parts) where
   step (item line (text_item bytes)) fs e r = at-node fs line a_text r
   step (item line unreadable_item) fs e r = cc
   step (item line unread_item) fs e r = cc
-  step (item line (deep_item branch)) fs e r =
-      let g : true ≡ false = (placed (item line (deep_item branch)) (top fs) e).1 in cc
+  step (item line (deep_item branch)) fs e r = let g : true ≡ false = (faultless _ _ _ e).1 in cc
   step (item line (action_item (pipeline_action h))) fs e r = at-node fs line an_action r
-  step (item line (action_item (opening c h))) fs e r = rest-node fs _ r.3 p.definitions r.4 line (control_node c h p.inner.nodes p.inner.other)
-      (first_of p.around) (rest_of p.around) (λ ns ys es d. a_control r.2 r.5 d) r.6
+  step (item line (action_item (opening c h))) fs e r =
+      rest-led fs _ r.3 p.definitions r.4 _ (first_of p.around) (rest_of p.around) (λ ys es d. a_control r.2 (closes-of false refl r.5) d) r.6
   step (item line (action_item plain_else)) [] e r = cc
   step (item line (action_item plain_else)) (f ∷ fs) e r =
-      let takes = open-end None f (placed (item line (action_item plain_else)) (Some f) e).0 in
-      let end = elsed-closing f _ _ _ _ _ r.5 in (
-        item line (action_item plain_else) ∷ xs,
-        p.definitions,
-        nothing,
-        r.3,
-        r.4,
-        closing-of f _ _ _ _ _ takes (an_else {last = end.0} (subst (λ es. Leads xs p.definitions p.inner.nodes (item end.0 (action_item end_action) ∷ r.3) es)
-            end.3 (subst (λ ys. Leads xs p.definitions p.inner.nodes ys r.1) end.1 r.2))),
-        r.6,
-      )
-  step (item line (action_item (else_branch branch h))) [] e r =
-      let g = (placed (item line (action_item (else_branch branch h))) None e).0 in let h : false ≡ true = g in cc
+      let takes = open-end None f (faultless _ _ _ e).0 in
+      let body = ended (is_template f.opening || true) (or_right (is_template f.opening) true refl) r.5 r.2 in
+      (item line (action_item plain_else) ∷ xs, p.definitions, nothing, r.3, r.4, closing-of (ends_only f) takes (an_else {last = body.0} body.1), r.6)
+  step (item line (action_item (else_branch branch h))) [] e r = cc
   step (item line (action_item (else_branch branch h))) (f ∷ fs) e r =
-      let takes = open-end (Some branch) f (placed (item line (action_item (else_branch branch h))) (Some f) e).0 in (
-        item line (action_item (else_branch branch h)) ∷ xs,
-        p.definitions,
-        nothing,
-        r.3,
-        r.4,
-        closing-of f _ _ _ _ _ takes (an_else_branch r.2 (closes-of f _ _ _ _ _ takes r.5)),
-        r.6,
-      )
+      let takes = open-end (Some branch) f (faultless _ _ _ e).0 in
+      let other = closes-of (ends_only f) takes r.5 in
+      (item line (action_item (else_branch branch h)) ∷ xs, p.definitions, nothing, r.3, r.4, closing-of (ends_only f) takes (an_else_branch r.2 other), r.6)
   step (item line (action_item end_action)) [] e r = cc
   step (item line (action_item end_action)) (f ∷ fs) e r =
-      (item line (action_item end_action) ∷ xs, p.definitions, nothing, xs, p.definitions, closing-end (ends_only f) line xs p.definitions, r)
+      (item line (action_item end_action) ∷ xs, p.definitions, nothing, xs, p.definitions, by_end, r)
   step (item line (action_item break_action)) fs e r = at-node fs line a_break r
   step (item line (action_item continue_action)) fs e r = at-node fs line a_continue r
   step (item line (action_item (template_action name given))) fs e r = at-node fs line a_template r
   step (item line (action_item (define_action name))) fs e r =
-      let body = template-body _ _ _ _ _ r.5 r.2 in
-      rest-led fs _ r.3 _ r.4 (first_of p.around) (first_of p.around) (rest_of p.around) refl (λ ys es d. a_define {last = r.5.0} body d) r.6
+      let body = ended true refl r.5 r.2 in
+      rest-led fs _ r.3 _ r.4 _ (first_of p.around) (rest_of p.around) (λ ys es d. a_define {last = body.0} body.1 d) r.6
   step (item line (action_item (block_action name q))) fs e r =
-      let body = template-body _ _ _ _ _ r.5 r.2 in
-      rest-node fs _ r.3 _ r.4 line (template_node name (Some q)) (first_of p.around) (rest_of p.around) (λ ns ys es d. a_block {last = r.5.0} body d) r.6
+      let body = ended true refl r.5 r.2 in
+      rest-led fs _ r.3 _ r.4 _ (first_of p.around) (rest_of p.around) (λ ys es d. a_block {last = body.0} body.1 d) r.6
 
 unless-fine : (o : Option Reason) (i : ℕ) (v : Verdict) → unless_fault o i v ≡ fine → (o ≡ None) × (v ≡ fine)
 unless-fine None i v e = (refl, e)

@@ -6,20 +6,20 @@ use Rattle.std.specs.Bool.{Decides}
 use Rattle.std.proofs.lemmas.Bool.{cases_lt}
 use Rattle.std.proofs.lemmas.Bool.Decides.{Decides-like}
 use Rattle.tmpl_syntax.specs.computed.Frames.{Frame}
-use Rattle.tmpl_syntax.specs.Place.Open.{opens, ends, NothingOpen, IsLast, HasElse, is_template, IsTemplate}
+use Rattle.tmpl_syntax.specs.Place.Open.{NothingOpen, IsLast, HasElse, is_template, IsTemplate, OfOneTemplate}
 use Rattle.tmpl_syntax.specs.Place.Body.{IsLoop, Levels}
 use Rattle.tmpl_syntax.specs.computed.Frames.{top, loops, in_loop, levels, entered, Known, with_inner, closed_if, closed_names, with_names}
 use Rattle.tmpl_syntax.proofs.FaultLemmas.{IsWithin, in-nothing}
 use Rattle.tmpl_syntax.proofs.NameLemmas.{with-longer, take-with, with-left, with-right, with-cases}
-use Rattle.tmpl_syntax.proofs.OpenLemmas.{ups, downs, count-split, same-opening, cut, Same, opened-keeps, opened_new}
-use Rattle.tmpl_syntax.proofs.PlaceLemmas.{alike-back, alike-even, alike-opened, template-moves, template-opened, template-apart}
+use Rattle.tmpl_syntax.proofs.OpenLemmas.{ups, downs, same-opening, cut, Same, opened-keeps, opened_new}
+use Rattle.tmpl_syntax.proofs.PlaceLemmas.{Alike, alike-back, alike-even, alike-opened, template-moves, template-opened, template-apart}
 use Rattle.tmpl_syntax.proofs.PlaceLemmas.{levels-same, levels-opened, InLoop, loop-moves, else_before, else-same, loop-same, loop-same-back, has-before}
 use Rattle.tmpl_syntax.proofs.ScopeLemmas.{Brought, brought-same, brought-same-back, brought-opened, brought-header, brought-opened-back}
 use Rattle.tmpl_syntax.proofs.ScopeLemmas.{Part, part-later, part-sooner}
 use Rattle.tmpl_syntax.specs.Place.Opening.{Opening}
 use Rattle.tmpl_syntax.specs.Place.Opening as opened
 use Rattle.tmpl_grammar.specs.declared.tree.Control.{Control}
-use Rattle.tmpl_grammar.specs.declared.tree.Control.TheVariants.{If, With, Range}
+use Rattle.tmpl_grammar.specs.declared.tree.Control.TheVariants.{Range}
 use Rattle.tmpl_syntax.specs.Place.Role.{Name, Names, opener, Role, act_role}
 
 -- what the newest frame and the names say of the place i
@@ -36,7 +36,7 @@ pub record Stood (xs : List Role) (i : ℕ) (seen : List Name) (f : Frame) (j : 
   pub names : Names
   pub opened : slice_get xs j ≡ Some (act_role (opener f.opening names))
   pub last : IsLast xs j i
-  pub over : ups xs (j + 1) i ≡ downs xs (j + 1) i
+  pub over : ups xs i + downs xs (j + 1) ≡ ups xs (j + 1) + downs xs i
   pub has : Decides f.has_else (HasElse xs j i)
   pub around : Decides f.around (InLoop xs j)
   pub within : IsWithin f (length seen)
@@ -55,6 +55,10 @@ Stands xs i known (f ∷ fs) = Here xs i (Some f) known.inner × (j : ℕ) × St
 pub here-of : (xs : List Role) (i : ℕ) (known : Known) (fs : List Frame) → Stands xs i known fs → Here xs i (top fs) known.inner
 here-of xs i known [] s = s.1
 here-of xs i known (f ∷ fs) s = s.0
+
+-- a place is of the template of the one before it, where the same templates are open
+pub one-here : (xs : List Role) (i m : ℕ) (t : Option Frame) (names : List Name) → Here xs i t names → Alike xs i m → OfOneTemplate xs i m
+one-here xs i m t names h e = (h.template, h.is_template_here, template-moves xs i m e h.template h.is_template_here)
 
 -- to a place where the same stands, with what was declared on the way
 module _ (xs : List Role) (j m : ℕ) (s : Same xs j m) (known : Known) (ds : List Name) (new : (n : Name) → Contains ds n → Brought xs m m n)
@@ -85,7 +89,7 @@ module _ (xs : List Role) (j m : ℕ) (s : Same xs j m) (known : Known) (ds : Li
         names = h.names;
         opened = h.opened;
         last = record { is_open = s.even.keeps q o; last = λ k qk ok. h.last.last k qk (s.even.only k ok) };
-        over = omega (arith, h.over, s.even.balance, count-split opens xs (q + 1) j m (omega arith) le, count-split ends xs (q + 1) j m (omega arith) le);
+        over = omega (arith, h.over, s.even.balance);
         has = Decides-like f.has_else (else_before xs q j m le) (else-same xs q j m s o) h.has;
         around = h.around;
         within = record { started = h.within.started; parted = let p = h.within.parted in omega (arith, with-longer names ds) };
@@ -148,16 +152,12 @@ module _ (xs : List Role) (i : ℕ) (names : List Name) (c : Opening) (p : Names
     }
 
     new-loop : c ≡ opened.control Range → InLoop xs (i + 1)
-    new-loop e =
-        let moved = template-moves xs i (i + 1) (alike-opened xs i c p at own) h.template h.is_template_here in
-        (i, (opened_new xs i c p at, e, (h.template, h.is_template_here, moved), none-of-it))
+    new-loop e = (i, (opened_new xs i c p at, e, one-here xs i (i + 1) t names h (alike-opened xs i c p at own), none-of-it))
 
     pub here-control : (d : Control) → c ≡ opened.control d → Here xs (i + 1) (Some (entered c p t names)) (with_names names p.declares)
-    here-control If e = here-plain (in_loop t) (Decides-like (in_loop t) (loop-on own)
-        (loop-off own (λ r. cc)) h.looped) (ap (λ z. loops z false (in_loop t)) (sym e))
-    here-control With e = here-plain (in_loop t) (Decides-like (in_loop t) (loop-on own)
-        (loop-off own (λ r. cc)) h.looped) (ap (λ z. loops z false (in_loop t)) (sym e))
     here-control Range e = here-plain true (λ g. new-loop e, λ l. refl) (ap (λ z. loops z false (in_loop t)) (sym e))
+    here-control _ e = here-plain (in_loop t) (Decides-like (in_loop t) (loop-on own)
+        (loop-off own (λ r. cc)) h.looped) (ap (λ z. loops z false (in_loop t)) (sym e))
 
   -- in a template nothing is known, and no loop is around it
   pub here-template : is_template c ≡ true → Here xs (i + 1) (Some (entered c p t names)) []

@@ -5,22 +5,22 @@ use Rattle.std.specs.Prelude.{slice_get, Contains, is_some}
 use Rattle.std.proofs.lemmas.Bool.{cases_lt, cases_order, and_parts}
 use Rattle.std.proofs.Math.Seq.{take-length}
 use Rattle.tmpl_grammar.specs.declared.action.Branch.{Branch}
-use Rattle.tmpl_syntax.specs.computed.Frames.{Frame, top, part_of, entered, Known, with_inner, with_names, opened_names, loops, else_came, else_levels}
+use Rattle.tmpl_syntax.specs.computed.Frames.{Frame, top, entered, Known, with_inner, with_names, opened_names, loops, else_came, else_levels}
 use Rattle.tmpl_syntax.specs.computed.Frames.{parted, is_placed, closed_if}
 use Rattle.tmpl_syntax.specs.Place.Open.{opens, ends, NothingOpen, IsLast, is_template, IsElseOf, HasElse}
 use Rattle.tmpl_syntax.proofs.FaultLemmas.{IsWithin, in-nothing}
-use Rattle.tmpl_syntax.proofs.NameLemmas.{take-before, with-left, with-right, with-cases, part-low, part-high, with-longer, take-with}
-use Rattle.tmpl_syntax.proofs.OpenLemmas.{count-none, same-piece, cut, Same, shut-at, same-ended, same-still, opened_new, count-split, same-opening, through}
+use Rattle.tmpl_syntax.proofs.NameLemmas.{take-before, with-left, with-right, with-cases, part-low, part-high, else_names, take-part, with-longer, take-with}
+use Rattle.tmpl_syntax.proofs.OpenLemmas.{same-piece, cut, Same, shut-at, same-ended, same-still, opened_new, same-opening, through}
 use Rattle.tmpl_syntax.proofs.OpenLemmas.{Even, even-step}
-use Rattle.tmpl_syntax.proofs.PlaceLemmas.{alike-even, template-moves, no-else, alike-back, alike-last, levels-else, InLoop, loop-moves, else_before}
+use Rattle.tmpl_syntax.proofs.PlaceLemmas.{alike-even, template-moves, alike-back, alike-last, levels-else, InLoop, loop-moves, else_before}
 use Rattle.tmpl_syntax.proofs.PlaceLemmas.{has-before}
-use Rattle.tmpl_syntax.proofs.ScopeLemmas.{Reaches, from_top, from_inside, from_header, from_else_branch, Brought, wrong-piece, brought-late, Part, earlier}
+use Rattle.tmpl_syntax.proofs.ScopeLemmas.{Reaches, from_top, from_inside, from_else_branch, Brought, declared_at, brings, brought-late, Part, earlier}
 use Rattle.tmpl_syntax.proofs.ScopeLemmas.{header, branch_header, BroughtFrom, part-later, to-part, from-part}
-use Rattle.tmpl_syntax.proofs.StandLemmas.{Here, Stood, closed_at, Stands, here-of, stands-moves, here-control, here-template}
+use Rattle.tmpl_syntax.proofs.StandLemmas.{Here, Stood, closed_at, Stands, here-of, one-here, stands-moves, here-control, here-template}
 use Rattle.tmpl_syntax.specs.Place.Opening.{Opening}
 use Rattle.tmpl_syntax.specs.Place.Opening as opened
 use Rattle.tmpl_grammar.specs.declared.tree.Control.{Control}
-use Rattle.tmpl_grammar.specs.declared.tree.Control.TheVariants.{If, With, Range}
+use Rattle.tmpl_grammar.specs.declared.tree.Control.TheVariants.{Range}
 use Rattle.tmpl_syntax.specs.Place.Role.{Name, Names, plain, opener, else_part, closer, Role, act_role}
 use Rattle.std.specs.Bool.{Decides}
 use Rattle.std.proofs.lemmas.Bool.Decides.{Decides-like}
@@ -43,36 +43,14 @@ module _ (xs : List Role) (i : ℕ) (names : List Name) (c : Opening) (p : Names
       inr (subst (λ z. Contains z.declares n) (sym gp) k, λ z. r (sym gc ∙ z))
   part-new n (branch_header lt e k) = not-after _ lt e.belongs
 
-  -- what the parts see at first: for an if or with
-  part-wide : c ≢ opened.control Range → (n : Name) → Contains (take (length (with_names names p.declares)) (with_names names p.declares)) n
-      → Part xs i (i + 1) n
-  part-wide nr n k =
-      let e = take-length (with_names names p.declares) in
-      ⊎_elim (λ l. earlier (h.to n l)) (λ r. header at r nr)
-      (with-cases names p.declares n (subst (λ l. Contains l n) e k))
+  -- what the parts see at first
+  part-first : (d : Control) → c ≡ opened.control d → (n : Name) → Contains (else_names d names p.declares) n → Part xs i (i + 1) n
+  part-first Range e n k = earlier (h.to n k)
+  part-first _ e n k = ⊎_elim (λ l. earlier (h.to n l)) (λ r. header at r (λ z. cc)) (with-cases names p.declares n k)
 
-  part-wide-back : (n : Name) → Part xs i (i + 1) n → Contains (take (length (with_names names p.declares)) (with_names names p.declares)) n
-  part-wide-back n k =
-      let e = take-length (with_names names p.declares) in
-      subst (λ l. Contains l n) (sym e) (⊎_elim
-      (λ b. with-left names p.declares n (h.back n b))
-      (λ r. with-right names p.declares n r.0)
-      (part-new n k))
-
-  part-first : (d : Control) → c ≡ opened.control d → (n : Name)
-      → Contains (take (part_of d (length names) (length (with_names names p.declares))) (with_names names p.declares)) n → Part xs i (i + 1) n
-  part-first If e n k = part-wide (λ r. cc) n k
-  part-first With e n k = part-wide (λ r. cc) n k
-  part-first Range e n k =
-      let s : take (length names) (with_names names p.declares) ≡ names = take-before names p.declares in
-      earlier (h.to n (subst (λ l. Contains l n) s k))
-
-  part-first-back : (d : Control) → c ≡ opened.control d → (n : Name) → Part xs i (i + 1) n
-      → Contains (take (part_of d (length names) (length (with_names names p.declares))) (with_names names p.declares)) n
-  part-first-back Range e n k =
-      let s : take (length names) (with_names names p.declares) ≡ names = take-before names p.declares in
-      subst (λ l. Contains l n) (sym s) (⊎_elim (λ b. h.back n b) (λ r. absurd (r.1 e)) (part-new n k))
-  part-first-back _ e n k = part-wide-back n k
+  part-first-back : (d : Control) → c ≡ opened.control d → (n : Name) → Part xs i (i + 1) n → Contains (else_names d names p.declares) n
+  part-first-back Range e n k = ⊎_elim (λ b. h.back n b) (λ r. absurd (r.1 e)) (part-new n k)
+  part-first-back _ e n k = ⊎_elim (λ b. with-left names p.declares n (h.back n b)) (λ r. with-right names p.declares n r.0) (part-new n k)
 
   stood-opened : (ns : List Name) → IsWithin (entered c p t names) (length ns)
       → (is_template c ≡ false → (n : Name) → Contains (take (entered c p t names).part ns) n → Part xs i (i + 1) n)
@@ -82,7 +60,7 @@ module _ (xs : List Role) (i : ℕ) (names : List Name) (c : Opening) (p : Names
     names = p;
     opened = at;
     last = record { is_open = opened_new xs i c p at; last = λ k lt b. let g = b.before in omega arith };
-    over = omega (arith, count-none opens xs (i + 1), count-none ends xs (i + 1));
+    over = refl;
     has = (λ e. cc, λ e. let a = e.1 in let b = e.2.belongs.is_open.before in absurd (omega arith));
     around = h.looped;
     within = within;
@@ -103,8 +81,8 @@ module _ (xs : List Role) (i : ℕ) (known : Known) (p : Names) (fs : List Frame
               started = part-low d known.inner p.declares;
               parted = part-high d known.inner p.declares;
             })
-            (λ own n k. part-first xs i known.inner c p at (top fs) h d refl n k)
-            (λ own n k. part-first-back xs i known.inner c p at (top fs) h d refl n k),
+            (λ own n k. part-first xs i known.inner c p at (top fs) h d refl n (rw take-part at k))
+            (λ own n k. rw take-part (part-first-back xs i known.inner c p at (top fs) h d refl n k)),
         subst (λ l. Stands xs i (with_inner known l) fs) (sym (take-before known.inner p.declares)) s,
       )
 
@@ -145,51 +123,35 @@ pub last-of : (xs : List Role) (i : ℕ) (known : Known) (fs : List Frame) → S
 last-of xs i known [] s = inl s.0
 last-of xs i known (f ∷ fs) s = inr (s.1, s.2.last)
 
-pub stands-declared : (xs : List Role) (i : ℕ) (known : Known) (p : Names) (fs : List Frame) → slice_get xs i ≡ Some (act_role (plain p))
-    → Stands xs i known fs → Stands xs (i + 1) (with_inner known (with_names known.inner p.declares)) fs
-stands-declared xs i known p fs at s = stands-moves xs i (i + 1) same known p.declares new
-    (λ n b ge. let u = b.before in let e : b.by ≡ i = omega arith in old n (subst (λ k. Reaches xs k (i + 1) (i + 1) n) e b.reaches)) fs s
+-- after a piece that is no opening, end or else, what it declares is known
+pub stands-passed : (xs : List Role) (i : ℕ) (known : Known) (x : Role) (fs : List Frame) → slice_get xs i ≡ Some x → opens x ≡ false
+    → ends x ≡ false → ((b : Option (Branch × Names)) → x ≢ act_role (else_part b)) → Stands xs i known fs
+    → Stands xs (i + 1) (with_inner known (with_names known.inner (declared_at x))) fs
+stands-passed xs i known x fs at o e nt s = stands-moves xs i (i + 1) same known (declared_at x) (new x at o nt)
+    (λ n b ge. let u = b.before in let m : b.by ≡ i = omega arith in
+    brings xs i (i + 1) (i + 1) n x at (subst (λ k. Reaches xs k (i + 1) (i + 1) n) m b.reaches))
+    fs s
   where
     same : Same xs i (i + 1)
-    same = same-still xs (act_role (plain p)) i at refl refl (λ b g. cc)
+    same = same-still xs x i at o e nt
 
     h : Here xs i (top fs) known.inner
     h = here-of xs i known fs s
 
-    reaches : (n : Name) → Contains p.declares n → Reaches xs i (i + 1) (i + 1) n
-    reaches n c = ⊎_elim (λ z. from_top at c z) (λ l. from_inside at c l.1 (same.even.keeps l.0 l.1.is_open) (λ m d from to e. omega arith))
-        (last-of xs i known fs s)
-
-    new : (n : Name) → Contains p.declares n → Brought xs (i + 1) (i + 1) n
-    new n c = record {
+    new : (y : Role) → slice_get xs i ≡ Some y → opens y ≡ false → ((b : Option (Branch × Names)) → y ≢ act_role (else_part b))
+        → (n : Name) → Contains (declared_at y) n → Brought xs (i + 1) (i + 1) n
+    new (act_role (plain p)) at o nt n c = record {
       by = i;
       before = omega arith;
-      template = (
-        h.template,
-        h.is_template_here,
-        template-moves xs i (i + 1) (alike-even xs i (i + 1) same.even)
-            h.template h.is_template_here,
-      );
-      reaches = reaches n c;
+      template = one-here xs i (i + 1) (top fs) known.inner h (alike-even xs i (i + 1) same.even);
+      reaches = ⊎_elim
+          (λ z. from_top at c z)
+          (λ l. from_inside at c l.1 (same.even.keeps l.0 l.1.is_open) (λ m d from to e. omega arith))
+          (last-of xs i known fs s);
     }
-
-    same-pipe : (q : Names) → slice_get xs i ≡ Some (act_role (plain q)) → p ≡ q
-    same-pipe q e = cc
-
-    old : (n : Name) → Reaches xs i (i + 1) (i + 1) n → Contains p.declares n
-    old n (from_top {p = q} e c z) = subst (λ z. Contains z.declares n) (sym (same-pipe q e)) c
-    old n (from_inside {p = q} e c l o ne) = subst (λ z. Contains z.declares n) (sym (same-pipe q e)) c
-    old n (from_header {c = d} {p = q} e c o r) = cc
-    old n (from_else_branch {c = d} {p = q} {j = j} e c o) = absurd (no-else xs (act_role (plain p)) i at (λ b g. cc) (Some (d, q)) j e)
-
-pub stands-still : (xs : List Role) (i : ℕ) (known : Known) (x : Role) (fs : List Frame) → slice_get xs i ≡ Some x → opens x ≡ false
-    → ends x ≡ false → ((p : Names) → x ≢ act_role (plain p)) → ((c : Opening) (p : Names) → x ≢ act_role (opener c p))
-    → ((b : Option (Branch × Names)) → x ≢ act_role (else_part b)) → Stands xs i known fs → Stands xs (i + 1) known fs
-stands-still xs i known x fs at o e np nopen nt s =
-    stands-moves xs i (i + 1) (same-still xs x i at o e nt) known [] (λ n c. in-nothing n c)
-    (λ n b ge. let u = b.before in let m : b.by ≡ i = omega arith in absurd (wrong-piece xs i (i + 1) (i + 1) n x at np nopen nt
-    (subst (λ k. Reaches xs k (i + 1) (i + 1) n) m b.reaches)))
-    fs s
+    new (act_role (opener d p)) at o nt n c = cc
+    new (act_role (else_part b)) at o nt n c = absurd (nt b refl)
+    new _ at o nt n c = in-nothing n c
 
 -- an else stands in a control, and one that begins with a control in no range
 pub joins-own : (b : Option Branch) (c : Opening) → joins b c ≡ true → is_template c ≡ false
@@ -225,6 +187,29 @@ else-own (Some (b, p)) f e = joins-own (Some b) f.opening (and_parts (joins (Som
 
 else-no-range : (b : Branch) (p : Names) (f : Frame) → is_placed (else_part (Some (b, p))) (Some f) ≡ true → f.opening ≢ opened.control Range
 else-no-range b p f e = joins-no-range b f.opening (and_parts (joins (Some b) f.opening) (not f.has_else) e).0
+
+looped-else : (b : Option (Branch × Names)) (f : Frame) → is_placed (else_part b) (Some f) ≡ true
+    → loops f.opening (else_came (is_some b) f.has_else) f.around ≡ f.around
+looped-else None f e = loops-else f.opening f.around (else-own None f e)
+looped-else (Some (b, p)) f e = loops-other f.opening f.has_else f.around (else-own (Some (b, p)) f e) (else-no-range b p f e)
+
+-- an else of a range is a plain one
+ranged-else : (xs : List Role) (i j : ℕ) (b : Option (Branch × Names)) (f : Frame) → IsElseOf xs b j i → is_placed (else_part b) (Some f) ≡ true
+    → f.opening ≡ opened.control Range → HasElse xs j (i + 1)
+ranged-else xs i j None f part e r = (i, omega arith, part)
+ranged-else xs i j (Some (b, p)) f part e r = absurd (else-no-range b p f e r)
+
+has-came : (xs : List Role) (i j : ℕ) (b : Option (Branch × Names)) (h : Bool) → IsElseOf xs b j i → Decides h (HasElse xs j i)
+    → Decides (else_came (is_some b) h) (HasElse xs j (i + 1))
+has-came xs i j None h part d = (λ e. (i, omega arith, part), λ e. refl)
+has-came xs i j (Some b) h part d =
+    Decides-like h (else_before xs j i (i + 1) (omega arith)) (has-before xs (act_role (else_part (Some b))) i part.at (λ g. cc) j) d
+
+-- the branch that declares a name
+branch-of : (xs : List Role) (i j : ℕ) (b : Option (Branch × Names)) (n : Name) → IsElseOf xs b j i → Contains (names_in (else_part b)).declares n
+    → (d : Branch) × (q : Names) × IsElseOf xs (Some (d, q)) j i × Contains q.declares n
+branch-of xs i j None n part c = in-nothing n c
+branch-of xs i j (Some (d, q)) n part c = (d, q, part, c)
 
 module _ (xs : List Role) (i : ℕ) (known : Known) (f : Frame) (fs : List Frame) (s : Stands xs i known (f ∷ fs)) (b : Option (Branch × Names))
     (at : slice_get xs i ≡ Some (act_role (else_part b))) (placed : is_placed (else_part b) (Some f) ≡ true) where
@@ -270,12 +255,7 @@ module _ (xs : List Role) (i : ℕ) (known : Known) (f : Frame) (fs : List Frame
   )
 
   ranged : f.opening ≡ opened.control Range → HasElse xs s.1 (i + 1)
-  ranged = go b part placed
-    where
-      go : (d : Option (Branch × Names)) → IsElseOf xs d s.1 i → is_placed (else_part d) (Some f) ≡ true → f.opening ≡ opened.control Range
-          → HasElse xs s.1 (i + 1)
-      go None p e r = (i, omega arith, p)
-      go (Some (d, q)) p e r = absurd (else-no-range d q f e r)
+  ranged = ranged-else xs i s.1 b f part placed
 
   loop-out : InLoop xs (i + 1) → InLoop xs s.1
   loop-out l = ⊎_elim
@@ -290,21 +270,6 @@ module _ (xs : List Role) (i : ℕ) (known : Known) (f : Frame) (fs : List Frame
       (λ gt. absurd (last-after.last l.0 gt l.1.0)) o)
       (cases_order l.0 s.1)
 
-  looped : loops f.opening (else_came (is_some b) f.has_else) f.around ≡ f.around
-  looped = go b placed
-    where
-      go : (d : Option (Branch × Names)) → is_placed (else_part d) (Some f) ≡ true → loops f.opening (else_came (is_some d) f.has_else) f.around ≡ f.around
-      go None e = loops-else f.opening f.around own
-      go (Some (d, q)) e = loops-other f.opening f.has_else f.around own (else-no-range d q f e)
-
-  has-is : Decides (else_came (is_some b) f.has_else) (HasElse xs s.1 (i + 1))
-  has-is = go b part
-    where
-      go : (d : Option (Branch × Names)) → IsElseOf xs d s.1 i → Decides (else_came (is_some d) f.has_else) (HasElse xs s.1 (i + 1))
-      go None p = (λ e. (i, omega arith, p), λ h. refl)
-      go (Some d) p = Decides-like f.has_else (else_before xs s.1 i (i + 1) (omega arith))
-          (has-before xs (act_role (else_part (Some d))) i p.at (λ g. cc) s.1) s.2.has
-
   leveled : Levels xs (i + 1) (i + 1) (else_levels (is_some b) f.levels)
   leveled = levels-else xs i s.1 f.levels b even part
       (ap is_level (same-opening xs s.1 s.2.last.is_open.opened f.opening s.2.last.is_open.at s.2.opened) ∙ level-there f.opening own) s.0.levels_are
@@ -314,25 +279,11 @@ module _ (xs : List Role) (i : ℕ) (known : Known) (f : Frame) (fs : List Frame
   declared d q n e c =
       let is : b ≡ Some (d, q) = cc in subst (λ z. Contains (names_in (else_part z)).declares n) (sym is) c
 
-  declares : (n : Name) → Contains ds n → (d : Branch) × (q : Names) × IsElseOf xs (Some (d, q)) s.1 i × Contains q.declares n
-  declares n = go b part
-    where
-      go : (z : Option (Branch × Names)) → IsElseOf xs z s.1 i → Contains (names_in (else_part z)).declares n
-          → (d : Branch) × (q : Names) × IsElseOf xs (Some (d, q)) s.1 i × Contains q.declares n
-      go None p c = in-nothing n c
-      go (Some (d, q)) p c = (d, q, p, c)
-
   new : (n : Name) → Contains ds n → Reaches xs i (i + 1) (i + 1) n
-  new n c = let w = declares n c in from_else_branch w.2 w.3 last-after.is_open
-
-  old : (n : Name) → Reaches xs i (i + 1) (i + 1) n → Contains ds n
-  old n (from_top {p = q} e c z) = cc
-  old n (from_inside {p = q} e c l o ne) = cc
-  old n (from_header {c = d} {p = q} e c o r) = cc
-  old n (from_else_branch {c = d} {p = q} e c o) = declared d q n e.at c
+  new n c = let w = branch-of xs i s.1 b n part c in from_else_branch w.2 w.3 last-after.is_open
 
   new-part : (n : Name) → Contains ds n → Part xs s.1 (i + 1) n
-  new-part n c = let w = declares n c in branch_header (omega arith) w.2 w.3
+  new-part n c = let w = branch-of xs i s.1 b n part c in branch_header (omega arith) w.2 w.3
 
   old-part : (n : Name) → Part xs s.1 (i + 1) n → Part xs s.1 i n ⊎ Contains ds n
   old-part n (earlier h) = inl (earlier h)
@@ -357,18 +308,13 @@ module _ (xs : List Role) (i : ℕ) (known : Known) (f : Frame) (fs : List Frame
     template = s.0.template;
     is_template_here = template-moves xs i (i + 1) (alike-even xs i (i + 1) even) s.0.template s.0.is_template_here;
     levels_are = leveled;
-    looped = subst (λ z. Decides z (InLoop xs (i + 1))) (sym looped) (Decides-like f.around loop-in loop-out s.2.around);
+    looped = subst (λ z. Decides z (InLoop xs (i + 1))) (sym (looped-else b f placed)) (Decides-like f.around loop-in loop-out s.2.around);
     to = λ n k. ⊎_elim
         (λ l. let v = seen n (s.2.to own n l) in record { by = v.by; before = let lt = v.before in omega arith; template = v.template; reaches = v.reaches })
         (λ r. record {
           by = i;
           before = omega arith;
-          template = (
-            s.0.template,
-            s.0.is_template_here,
-            template-moves xs i (i + 1)
-                (alike-even xs i (i + 1) even) s.0.template s.0.is_template_here,
-          );
+          template = one-here xs i (i + 1) (Some f) names s.0 (alike-even xs i (i + 1) even);
           reaches = new n r;
         })
         (with-cases (take f.part names) ds n k);
@@ -377,7 +323,7 @@ module _ (xs : List Role) (i : ℕ) (known : Known) (f : Frame) (fs : List Frame
         (to-part xs s.1 i (i + 1) (i + 1) last-after own-after b part low (omega arith) (omega arith) (omega arith) ranged-last n
         (record { by = v.by; before = lt; template = v.template; reaches = v.reaches }))))
         (λ ge. let u = v.before in let e : v.by ≡ i = omega arith in with-right (take f.part names) ds n
-        (old n (subst (λ k. Reaches xs k (i + 1) (i + 1) n) e v.reaches)))
+        (brings xs i (i + 1) (i + 1) n (act_role (else_part b)) at (subst (λ k. Reaches xs k (i + 1) (i + 1) n) e v.reaches)))
         (cases_lt v.by i);
   }
 
@@ -389,15 +335,8 @@ module _ (xs : List Role) (i : ℕ) (known : Known) (f : Frame) (fs : List Frame
     names = s.2.names;
     opened = s.2.opened;
     last = last-after;
-    over = let z = low in omega (
-      arith,
-      s.2.over,
-      even.balance,
-      count-split opens xs (s.1 + 1) i (i + 1) (omega arith) (omega arith),
-      count-split ends xs
-          (s.1 + 1) i (i + 1) (omega arith) (omega arith),
-    );
-    has = has-is;
+    over = omega (arith, s.2.over, even.balance);
+    has = has-came xs i s.1 b f.has_else part s.2.has;
     around = s.2.around;
     within = record { started = let a = s.2.within.started in omega (arith, front, with-longer (take f.part names) ds); parted = omega arith };
     to = λ o n k. ⊎_elim
