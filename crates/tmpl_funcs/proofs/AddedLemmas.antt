@@ -1,9 +1,9 @@
 -- For `add_segment`, `add_form` and `add_formatted`: what was added so far, before the text of the rest, is the whole text.
-use Rattle.std.proofs.Common.{◌≡◌, ◌∙◌, ℕ, zero, suc, ◌+◌, ◌-◌, ◌<◌, ◌≤◌, Bool, true, false, cond, List, [], ◌∷◌, ◌++◌}
+use Rattle.std.proofs.Common.{◌≡◌, ◌∙◌, ℕ, suc, ◌+◌, ◌-◌, ◌<◌, ◌≤◌, Bool, true, false, cond, List, [], ◌∷◌, ◌++◌}
 use Rattle.std.proofs.Common.{length, get_or, take, drop, Option, Some, None, option_map, Result, Ok, Err, IsErrAnd}
 use Rattle.std.proofs.Common.{refl, sym, ap, subst, arith, append_assoc, append-nil, length-append, length-drop}
 use Rattle.std.specs.List.{prefix_len}
-use Rattle.std.proofs.lemmas.List.{take_all, drop-drop, nil_from_length}
+use Rattle.std.proofs.lemmas.List.{take_all, drop-drop, drop-map, length-map, nil_from_length}
 use Rattle.std.proofs.lemmas.Bool.Decides.{nat_tests}
 use Rattle.tmpl_values.specs.Value.{Value}
 use Rattle.tmpl_values.specs.View.{val_of}
@@ -42,8 +42,7 @@ values_of-nil [] h = refl
 values_of-nil (c ∷ cells) h = absurd (omega arith)
 
 pub length-values_of : (cells : List Cell) → length (values_of cells) ≡ length cells
-length-values_of [] = refl
-length-values_of (c ∷ cells) = ap suc (length-values_of cells)
+length-values_of cells = length-map cells (λ c. val_of c.val)
 
 -- a form that was refused
 pub IsSegmentAdded-refused : (asked : Option (List ℕ)) (old new format : List ℕ) (vs : List Value) (e : CallError) → IsAdded asked old new (Err e)
@@ -64,9 +63,8 @@ module _ (bs : List ℕ) (some : 0 < length bs) (plain : is_plain (get_or bs 0 0
     (form : Form) (rest : List ℕ) (f : WrittenForm) (read : form_at bs ≡ Some f) (same : form ≡ form_of f) (all : bs ≡ form_bytes f ++ rest) where
   formatted-first_form : formatted (37 ∷ bs) (values_of cells) ≡ both (printed form (val_of x.val)) (formatted rest (drop 1 (values_of cells)))
   formatted-first_form =
-      ap (formatted (37 ∷ bs)) (values_of-first cells x there is) ∙
-      formatted-form bs some plain f (val_of x.val) (drop 1 (values_of cells)) rest read all ∙
-      ap (λ (g : Form). both (printed g (val_of x.val)) (formatted rest (drop 1 (values_of cells)))) (sym same)
+      let vs = drop 1 (values_of cells) in
+      rw (same, sym (formatted-form bs some plain f (val_of x.val) vs rest read all)) (ap (formatted (37 ∷ bs)) (values_of-first cells x there is))
 
   -- the text of a form was added
   pub formatted-form_added : (old new : List ℕ) → option_map (λ text. old ++ text) (printed form (val_of x.val)) ≡ Some new
@@ -131,14 +129,10 @@ formatted-percent_added bs rest behind vs old new first second added = (
 pub formatted-percent_lone : (bs rest : List ℕ) (vs : List Value) → bs ≡ 37 ∷ rest → length rest ≤ 0 → formatted bs vs ≡ None
 formatted-percent_lone bs rest vs first none = ap (λ f. formatted f vs) (first ∙ ap (λ r. 37 ∷ r) (nil_from_length rest (omega arith))) ∙ formatted-lone vs
 
-values_of-drop : (n : ℕ) (cells : List Cell) → values_of (drop n cells) ≡ drop n (values_of cells)
-values_of-drop zero cells = refl
-values_of-drop (suc n) [] = refl
-values_of-drop (suc n) (c ∷ cells) = values_of-drop n cells
-
 -- the values of the cells behind so many, as a slice has them
 pub values_of-behind : (n : ℕ) (cells : List Cell) → values_of (take (length cells - n) (drop n cells)) ≡ drop n (values_of cells)
-values_of-behind n cells = ap values_of (take_all (length cells - n) (drop n cells) (omega (arith, length-drop n cells))) ∙ values_of-drop n cells
+values_of-behind n cells =
+    ap values_of (take_all (length cells - n) (drop n cells) (omega (arith, length-drop n cells))) ∙ sym (drop-map (λ c. val_of c.val) n cells)
 
 module _ (format rest behind : List ℕ) (cells : List Cell) (used taken : ℕ) (front text old mid new : List ℕ) where
   -- one segment more was added
@@ -156,24 +150,12 @@ module _ (format rest : List ℕ) (vs left : List Value) (front old new : List �
     (all : formatted format vs ≡ both (Some front) (formatted rest left)) (past : length rest ≤ 0) where
   -- nothing is left
   formatted-all : length left ≤ 0 → option_map (λ text. old ++ text) (formatted format vs) ≡ Some new
-  formatted-all none = go left none all
-    where
-      go : (ws : List Value) → length ws ≤ 0 → formatted format vs ≡ both (Some front) (formatted rest ws)
-          → option_map (λ text. old ++ text) (formatted format vs) ≡ Some new
-      go [] h is =
-          ap (option_map (λ text. old ++ text)) (is ∙ ap (λ r. both (Some front) (formatted r [])) (nil_from_length rest (omega arith))
-          ∙ ap (both (Some front)) formatted-nil) ∙
-          ap (λ d. Some (old ++ d)) (append-nil front) ∙ ap Some (sym so_far)
-      go (w ∷ ws) h is = absurd (omega arith)
+  formatted-all none =
+      rw (all, nil_from_length rest (omega arith), nil_from_length left (omega arith), formatted-nil, append-nil front, so_far) refl
 
   -- values are left
   formatted-too_many : 0 < length left → formatted format vs ≡ None
-  formatted-too_many some = go left some all
-    where
-      go : (ws : List Value) → 0 < length ws → formatted format vs ≡ both (Some front) (formatted rest ws) → formatted format vs ≡ None
-      go [] h is = absurd (omega arith)
-      go (w ∷ ws) h is = is ∙ ap (λ r. both (Some front) (formatted r (w ∷ ws))) (nil_from_length rest (omega arith))
-          ∙ ap (both (Some front)) (formatted-over w ws)
+  formatted-too_many some = rw (all, nil_from_length rest (omega arith), formatted-over left some) refl
 
 -- a format of which nothing is left, over these cells, of which so many were used
 pub formatted-end : (format rest : List ℕ) (cells : List Cell) (used : ℕ) (front old new : List ℕ) → new ≡ old ++ front

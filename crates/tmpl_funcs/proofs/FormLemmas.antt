@@ -1,18 +1,17 @@
 -- For `read_form` and what it calls: a form is read part by part.
 use Rattle.std.proofs.Common.{◌≡◌, ◌∙◌, ℕ, suc, ◌-◌, ◌≤◌, ◌==◌, Bool, true, false, List, [], ◌∷◌, ◌++◌, length, get_or}
-use Rattle.std.proofs.Common.{take, drop, Option, Some, None, option_map, if◌then◌else◌, refl, sym, ap, subst, arith}
+use Rattle.std.proofs.Common.{take, drop, find, IfSome, Option, Some, option_map, if◌then◌else◌, refl, sym, ap, subst, arith}
 use Rattle.std.proofs.Common.{append_assoc, length-drop}
 use Rattle.std.specs.Borrow.{Bor}
 use Rattle.std.specs.List.{prefix_len}
 use Rattle.std.proofs.lemmas.List.{take_all, take-append-drop}
 use Rattle.std.proofs.lemmas.Bool.Decides.{nat_tests}
 use Rattle.tmpl_funcs.specs.printf.Form.{WrittenForm, letter, pointed, form_bytes, is_decimal, is_flag}
-use Rattle.tmpl_funcs.specs.printf.Reading.{verb_of, form_if, form_by, form_at, width_behind, precision_behind, verb_behind}
+use Rattle.tmpl_funcs.specs.printf.Reading.{verbs, verb_of, form_if, form_by, form_at, width_behind, precision_behind, verb_behind}
 use Rattle.tmpl_funcs.specs.printf.Form.{form_of}
 use Rattle.tmpl_funcs.specs.computed.Reading.{IsRead}
 use Rattle.tmpl_funcs.specs.declared.printf.form.Form.{Form}
 use Rattle.tmpl_funcs.specs.declared.printf.form.Verb.{Verb}
-use Rattle.tmpl_funcs.specs.declared.printf.form.Verb.TheVariants as verb
 
 -- the same reading of the same bytes
 pub IsRead-along : {asked asked' : Option WrittenForm} {all all' : List ℕ} (read : Option (Form × Bor (List ℕ))) → IsRead asked all read
@@ -20,31 +19,18 @@ pub IsRead-along : {asked asked' : Option WrittenForm} {all all' : List ℕ} (re
 IsRead-along {asked} {asked'} {all} {all'} read h e w =
     subst (λ (bs : List ℕ). IsRead asked' bs read) w (subst (λ (o : Option WrittenForm). IsRead o all read) e h)
 
-letter-pick_by : (t : Bool) (b k : ℕ) (w v : Verb) (rest : Option Verb) → (b == k) ≡ t → letter w ≡ k → (rest ≡ Some v → letter v ≡ b)
-    → (if t then Some w else rest) ≡ Some v → letter v ≡ b
-letter-pick_by true b k w v rest test is more h =
-    let same : b ≡ k = grind (arith, nat_tests) in
-    let one : w ≡ v = cc in
-    sym (ap letter one) ∙ is ∙ sym same
-letter-pick_by false b k w v rest test is more h = more h
+found-by : (b : ℕ) (t : Bool) (w : Verb) (ws : List Verb) → (b == letter w) ≡ t → IfSome (find (λ v. b == letter v) ws) (λ v. letter v ≡ b)
+    → IfSome (if t then Some w else find (λ v. b == letter v) ws) (λ v. letter v ≡ b)
+found-by b true w ws is more = grind (arith, nat_tests)
+found-by b false w ws is more = more
 
-letter-pick : (b k : ℕ) (w v : Verb) (rest : Option Verb) → letter w ≡ k → (rest ≡ Some v → letter v ≡ b) → (if b == k then Some w else rest) ≡ Some v
-    → letter v ≡ b
-letter-pick b k w v rest is more h = letter-pick_by (b == k) b k w v rest refl is more h
+found-in : (b : ℕ) (ws : List Verb) → IfSome (find (λ v. b == letter v) ws) (λ v. letter v ≡ b)
+found-in b [] = tt
+found-in b (w ∷ ws) = found-by b (b == letter w) w ws refl (found-in b ws)
 
 -- the letter of the verb of a letter
 pub letter-verb_of : (b : ℕ) (v : Verb) → verb_of b ≡ Some v → letter v ≡ b
-letter-verb_of b v =
-    letter-pick b 118 verb.Value v _ refl (
-    letter-pick b 100 verb.Decimal v _ refl (
-    letter-pick b 111 verb.Octal v _ refl (
-    letter-pick b 98 verb.Binary v _ refl (
-    letter-pick b 120 verb.Hex v _ refl (
-    letter-pick b 88 verb.UpperHex v _ refl (
-    letter-pick b 115 verb.Text v _ refl (
-    letter-pick b 113 verb.Quoted v _ refl (
-    letter-pick b 99 verb.Char v _ refl (
-    letter-pick b 116 verb.Truth v None refl (λ h. cc))))))))))
+letter-verb_of b v is = subst (λ o. IfSome o (λ v. letter v ≡ b)) is (found-in b verbs)
 
 module _ (flags width : List ℕ) (p : Option (List ℕ)) (b : ℕ) (bs : List ℕ) (v : Verb) (form : Form) (is : letter v ≡ b) where
   form_if-made : (t : Bool) → option_map form_of (form_if t flags width p v) ≡ Some form

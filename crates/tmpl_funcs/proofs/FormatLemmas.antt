@@ -106,11 +106,13 @@ module _ (bs : List ℕ) (some : 0 < length bs) (plain : is_plain (get_or bs 0 0
   unfolding formatted
   formatted-form f v vs rest is spells =
       let n : suc (length (form_bytes f)) - 1 ≡ length (form_bytes f) = omega arith in
-      formatted-first 37 bs (v ∷ vs) (Some (form f)) (first_segment-form_first bs some plain (Some f) is) ∙
-      filled-form f (reading (drop (suc (length (form_bytes f)) - 1) bs)) v vs ∙
-      ap (λ k. both (printed (form_of f) v) (filled (reading (drop k bs)) vs)) n ∙
-      ap (λ cs. both (printed (form_of f) v) (filled (reading (drop (length (form_bytes f)) cs)) vs)) spells ∙
-      ap (λ r. both (printed (form_of f) v) (filled (reading r) vs)) (drop-append_seam (form_bytes f) rest)
+      rw (
+        formatted-first 37 bs (v ∷ vs) (Some (form f)) (first_segment-form_first bs some plain (Some f) is),
+        filled-form f (reading (drop (suc (length (form_bytes f)) - 1) bs)) v vs,
+        n,
+        spells,
+        drop-append_seam (form_bytes f) rest,
+      ) refl
 
   -- a form at the front, and no value
   pub formatted-form_alone : (f : WrittenForm) → form_at bs ≡ Some f → formatted (37 ∷ bs) [] ≡ None
@@ -128,6 +130,7 @@ unfolding formatted reading
 formatted-nil = refl
 
 -- values are left
-pub formatted-over : (v : Value) (vs : List Value) → formatted [] (v ∷ vs) ≡ None
+pub formatted-over : (vs : List Value) → 0 < length vs → formatted [] vs ≡ None
 unfolding formatted reading
-formatted-over v vs = refl
+formatted-over [] some = absurd (omega arith)
+formatted-over (v ∷ vs) some = refl

@@ -1,24 +1,25 @@
 -- For the law `one_format_reading`: a format has one reading, and it is the one that is computed.
 use Rattle.std.proofs.Common.{◌≡◌, ◌∙◌, ℕ, zero, suc, ◌-◌, ◌==◌, Bool, true, false, ◌&&◌, not, cond, List, [], ◌∷◌}
-use Rattle.std.proofs.Common.{◌++◌, length, drop, Option, Some, None, option_map, refl, sym, ap, subst, arith, append_assoc}
+use Rattle.std.proofs.Common.{◌++◌, length, drop, IfSome, Option, Some, None, option_map, refl, sym, ap, subst, arith, append_assoc}
 use Rattle.std.specs.List.{flat_map, prefix_len, take_while, list_all}
 use Rattle.std.proofs.Math.Seq.{drop-append_seam}
 use Rattle.std.proofs.lemmas.Bool.{false≢true}
 use Rattle.std.proofs.lemmas.Bool.Decides.{nat_tests}
 use Rattle.std.proofs.lemmas.List.{length-take}
-use Rattle.std.proofs.lemmas.List.Sums.{prefix_len-le-length}
+use Rattle.std.proofs.lemmas.List.Sums.{prefix_len-le-length, take_while-cons}
+use Rattle.std.proofs.lemmas.Option.{IfSome_then}
 use Rattle.tmpl_funcs.specs.printf.Form.{WrittenForm, Segment, literal, percent, form, letter, pointed, form_bytes}
 use Rattle.tmpl_funcs.specs.printf.Form.{segment_bytes, is_plain, is_flag, is_decimal, is_short, begins_above_0}
 use Rattle.tmpl_funcs.specs.printf.Form.{takes_precision, IsPrecision, IsForm, IsNoRun, AreSegments, IsReading}
 use Rattle.tmpl_funcs.specs.printf.Reading.{is_precision, verb_of, behind, form_if, form_by, verb_behind}
-use Rattle.tmpl_funcs.specs.printf.Reading.{precision_behind, width_behind, form_at, segment_behind}
+use Rattle.tmpl_funcs.specs.printf.Reading.{precision_behind, form_at, segment_behind}
 use Rattle.tmpl_funcs.specs.printf.Reading.{first_segment, rest_len, with_segment, segments_after, reading}
 use Rattle.tmpl_funcs.specs.declared.printf.form.Verb.{Verb}
 use Rattle.tmpl_funcs.specs.declared.printf.form.Verb.TheVariants as verb
 use Rattle.tmpl_funcs.proofs.FormLemmas.{letter-verb_of}
 use Rattle.tmpl_funcs.proofs.FormatLemmas.{reading-first, first_segment-plain, first_segment-form}
 use Rattle.tmpl_funcs.proofs.FrontLemmas.{begins, take_while-append, behind-append, list_all-take_while, begins-behind}
-use Rattle.tmpl_funcs.proofs.FrontLemmas.{take_while-behind, take_while-passing, take_while-failing}
+use Rattle.tmpl_funcs.proofs.FrontLemmas.{take_while-behind, take_while-passing}
 use Rattle.std.proofs.lemmas.Bool.{and_parts}
 
 -- ---- from the relation to the function
@@ -48,33 +49,28 @@ is_plain-decimal b d = grind (arith, nat_tests)
 is_plain-flag : (b : ℕ) → is_flag b ≡ true → is_plain b ≡ true
 is_plain-flag b d = grind (arith, nat_tests)
 
+-- a part that passes a test with all its bytes, before others
+begins-front : (p q : ℕ → Bool) (xs ys zs : List ℕ) → ((b : ℕ) → q b ≡ true → p b ≡ true) → list_all q xs ≡ true → begins p (ys ++ zs) ≡ true
+    → begins p ((xs ++ ys) ++ zs) ≡ true
+begins-front p q [] ys zs each all more = more
+begins-front p q (x ∷ xs) ys zs each all more = each x (and_parts (q x) (list_all q xs) all).0
+
 module _ (v : Verb) (rest : List ℕ) where
-  pointed-no_digit : (p : Option (List ℕ)) → begins is_decimal ((pointed p ++ letter v ∷ []) ++ rest) ≡ false
-  pointed-no_digit None = (letter-IsLetter v).digit
-  pointed-no_digit (Some ds) = refl
-
-  pointed-no_flag : (p : Option (List ℕ)) → begins is_flag ((pointed p ++ letter v ∷ []) ++ rest) ≡ false
-  pointed-no_flag None = (letter-IsLetter v).flag
-  pointed-no_flag (Some ds) = refl
-
-  pointed-plain : (p : Option (List ℕ)) → begins is_plain ((pointed p ++ letter v ∷ []) ++ rest) ≡ true
-  pointed-plain None = (letter-IsLetter v).plain
-  pointed-plain (Some ds) = refl
+  -- what begins at the precision begins with a point or the letter
+  pointed-first : (q : ℕ → Bool) (t : Bool) (p : Option (List ℕ)) → q 46 ≡ t → q (letter v) ≡ t → begins q ((pointed p ++ letter v ∷ []) ++ rest) ≡ t
+  pointed-first q t None point is = is
+  pointed-first q t (Some ds) point is = point
 
   width-no_flag : (width : List ℕ) (p : Option (List ℕ)) → list_all is_decimal width ≡ true → begins_above_0 width ≡ true
       → begins is_flag ((width ++ (pointed p ++ letter v ∷ [])) ++ rest) ≡ false
-  width-no_flag [] p all above = pointed-no_flag p
+  width-no_flag [] p all above = pointed-first is_flag false p refl (letter-IsLetter v).flag
   width-no_flag (d ∷ ds) p all above = is_flag-decimal d (and_parts (is_decimal d) (list_all is_decimal ds) all).0 above
-
-  width-plain : (width : List ℕ) (p : Option (List ℕ)) → list_all is_decimal width ≡ true
-      → begins is_plain ((width ++ (pointed p ++ letter v ∷ [])) ++ rest) ≡ true
-  width-plain [] p all = pointed-plain p
-  width-plain (d ∷ ds) p all = is_plain-decimal d (and_parts (is_decimal d) (list_all is_decimal ds) all).0
 
   flags-plain : (flags width : List ℕ) (p : Option (List ℕ)) → list_all is_flag flags ≡ true → list_all is_decimal width ≡ true
       → begins is_plain ((flags ++ (width ++ (pointed p ++ letter v ∷ []))) ++ rest) ≡ true
-  flags-plain [] width p flags_all all = width-plain width p all
-  flags-plain (b ∷ bs) width p flags_all all = is_plain-flag b (and_parts (is_flag b) (list_all is_flag bs) flags_all).0
+  flags-plain flags width p flags_all all =
+      begins-front is_plain is_flag flags _ rest is_plain-flag flags_all
+      (begins-front is_plain is_decimal width _ rest is_plain-decimal all (pointed-first is_plain true p refl (letter-IsLetter v).plain))
 
   verb_behind-letter : (flags width : List ℕ) (p : Option (List ℕ)) → is_short width ≡ true → is_precision p v ≡ true
       → verb_behind flags width p (letter v ∷ rest) ≡ Some (record { flags = flags; width = width; precision = p; verb = v })
@@ -85,31 +81,28 @@ module _ (v : Verb) (rest : List ℕ) where
   precision_behind-pointed flags width None short fits = rw (letter-IsLetter v).point (verb_behind-letter flags width None short refl)
   precision_behind-pointed flags width (Some ds) short fits =
       let stop : begins is_decimal (letter v ∷ rest) ≡ false = (letter-IsLetter v).digit in
-      let cut : (ds ++ letter v ∷ []) ++ rest ≡ ds ++ letter v ∷ rest = append_assoc ds (letter v ∷ []) rest in
-      let both : is_precision (Some ds) v ≡ true = rw (fits.1, fits.2) refl in
-      ap (λ t. verb_behind flags width (Some (take_while is_decimal t)) (behind is_decimal t)) cut ∙
-      ap (λ t. verb_behind flags width (Some t) (behind is_decimal (ds ++ letter v ∷ rest))) (take_while-append is_decimal ds (letter v ∷ rest) fits.0 stop) ∙
-      ap (verb_behind flags width (Some ds)) (behind-append is_decimal ds (letter v ∷ rest) fits.0 stop) ∙
-      verb_behind-letter flags width (Some ds) short both
+      rw (
+        append_assoc ds (letter v ∷ []) rest,
+        take_while-append is_decimal ds (letter v ∷ rest) fits.0 stop,
+        behind-append is_decimal ds (letter v ∷ rest) fits.0 stop,
+      ) (verb_behind-letter flags width (Some ds) short (rw (fits.1, fits.2) refl))
 
 -- a form is read as it is spelled
 form_at-form_bytes : (f : WrittenForm) (rest : List ℕ) → IsForm f → form_at (form_bytes f ++ rest) ≡ Some f
 unfolding form_at
 form_at-form_bytes f rest is =
-    let v = f.verb in
-    let tail : List ℕ = (pointed f.precision ++ letter v ∷ []) ++ rest in
-    let wide : List ℕ = (f.width ++ (pointed f.precision ++ letter v ∷ [])) ++ rest in
-    let cut : form_bytes f ++ rest ≡ f.flags ++ wide = append_assoc f.flags (f.width ++ (pointed f.precision ++ letter v ∷ [])) rest in
-    let stop = width-no_flag v rest f.width f.precision is.width is.above in
-    let inner : wide ≡ f.width ++ tail = append_assoc f.width (pointed f.precision ++ letter v ∷ []) rest in
-    let digits = pointed-no_digit v rest f.precision in
-    ap (λ t. width_behind (take_while is_flag t) (behind is_flag t)) cut ∙
-    ap (λ t. width_behind t (behind is_flag (f.flags ++ wide))) (take_while-append is_flag f.flags wide is.flags stop) ∙
-    ap (width_behind f.flags) (behind-append is_flag f.flags wide is.flags stop) ∙
-    ap (width_behind f.flags) inner ∙
-    ap (λ t. precision_behind f.flags t (behind is_decimal (f.width ++ tail))) (take_while-append is_decimal f.width tail is.width digits) ∙
-    ap (precision_behind f.flags f.width) (behind-append is_decimal f.width tail is.width digits) ∙
-    precision_behind-pointed v rest f.flags f.width f.precision is.short is.precision
+    let tail : List ℕ = pointed f.precision ++ letter f.verb ∷ [] in
+    let stop = width-no_flag f.verb rest f.width f.precision is.width is.above in
+    let digits = pointed-first f.verb rest is_decimal false f.precision refl (letter-IsLetter f.verb).digit in
+    rw (
+      append_assoc f.flags (f.width ++ tail) rest,
+      take_while-append is_flag f.flags ((f.width ++ tail) ++ rest) is.flags stop,
+      behind-append is_flag f.flags ((f.width ++ tail) ++ rest) is.flags stop,
+      append_assoc f.width tail rest,
+      take_while-append is_decimal f.width (tail ++ rest) is.width digits,
+      behind-append is_decimal f.width (tail ++ rest) is.width digits,
+    )
+    (precision_behind-pointed f.verb rest f.flags f.width f.precision is.short is.precision)
 
 first_segment-form_at : (bs : List ℕ) (f : WrittenForm) → begins is_plain bs ≡ true → form_at bs ≡ Some f → first_segment (37 ∷ bs) ≡ Some (form f)
 first_segment-form_at [] f h is = cc
@@ -122,35 +115,28 @@ begins-no_run (literal run ∷ ps) h = absurd h
 begins-no_run (percent ∷ ps) h = refl
 begins-no_run (form f ∷ ps) h = refl
 
-reading-nil : reading [] ≡ Some []
-unfolding reading
-reading-nil = refl
+-- a segment that is found at the front, before what is read
+reading-cons : (p : Segment) (b : ℕ) (run rest : List ℕ) (ps : List Segment) → b ∷ run ≡ segment_bytes p → first_segment (b ∷ (run ++ rest)) ≡ Some p
+    → reading rest ≡ Some ps → reading (b ∷ (run ++ rest)) ≡ Some (p ∷ ps)
+reading-cons p b run rest ps spells first more =
+    let n : rest_len (Some p) ≡ length run = omega (arith, ap length spells) in
+    rw (reading-first b (run ++ rest) (Some p) first, n, drop-append_seam run rest, more) refl
 
 -- a reading is what the function reads
-pub reading-found : (ps : List Segment) (format : List ℕ) → format ≡ flat_map segment_bytes ps → AreSegments ps → reading format ≡ Some ps
-reading-found [] format spells are = ap reading spells ∙ reading-nil
-reading-found (literal [] ∷ ps) format spells are = absurd are.0
-reading-found (literal (b ∷ run) ∷ ps) format spells are =
+reading-found : (ps : List Segment) → AreSegments ps → reading (flat_map segment_bytes ps) ≡ Some ps
+unfolding reading
+reading-found [] are = refl
+reading-found (literal [] ∷ ps) are = absurd are.0
+reading-found (literal (b ∷ run) ∷ ps) are =
     let rest : List ℕ = flat_map segment_bytes ps in
     let plain = and_parts (is_plain b) (list_all is_plain run) are.0 in
-    let first : first_segment (b ∷ (run ++ rest)) ≡ Some (literal (b ∷ run)) =
-    first_segment-plain b (run ++ rest) plain.0 ∙ ap (λ t. Some (literal t)) (take_while-append is_plain (b ∷ run) rest are.0 (begins-no_run ps are.1)) in
-    ap reading spells ∙ reading-first b (run ++ rest) (Some (literal (b ∷ run))) first ∙
-    ap (λ n. with_segment (Some (literal (b ∷ run))) (reading (drop n (run ++ rest)))) {x = suc (length run) - 1} {y = length run} (omega arith) ∙
-    ap (λ r. with_segment (Some (literal (b ∷ run))) (reading r)) (drop-append_seam run rest) ∙
-    ap (with_segment (Some (literal (b ∷ run)))) (reading-found ps rest refl are.2)
-reading-found (percent ∷ ps) format spells are =
+    reading-cons (literal (b ∷ run)) b run rest ps refl (first_segment-plain b (run ++ rest) plain.0
+    ∙ ap (λ t. Some (literal t)) (take_while-append is_plain (b ∷ run) rest are.0 (begins-no_run ps are.1))) (reading-found ps are.2)
+reading-found (percent ∷ ps) are = reading-cons percent 37 (37 ∷ []) (flat_map segment_bytes ps) ps refl refl (reading-found ps are)
+reading-found (form f ∷ ps) are =
     let rest : List ℕ = flat_map segment_bytes ps in
-    ap reading spells ∙ reading-first 37 (37 ∷ rest) (Some percent) refl ∙ ap (with_segment (Some percent)) (reading-found ps rest refl are)
-reading-found (form f ∷ ps) format spells are =
-    let rest : List ℕ = flat_map segment_bytes ps in
-    let first = first_segment-form_at (form_bytes f ++ rest) f (flags-plain f.verb rest f.flags f.width f.precision are.0.flags are.0.width)
-    (form_at-form_bytes f rest are.0) in
-    ap reading spells ∙ reading-first 37 (form_bytes f ++ rest) (Some (form f)) first ∙
-    ap (λ n. with_segment (Some (form f)) (reading (drop n (form_bytes f ++ rest)))) {x = suc (length (form_bytes f)) - 1} {y = length (form_bytes f)}
-    (omega arith) ∙
-    ap (λ r. with_segment (Some (form f)) (reading r)) (drop-append_seam (form_bytes f) rest) ∙
-    ap (with_segment (Some (form f))) (reading-found ps rest refl are.1)
+    reading-cons (form f) 37 (form_bytes f) rest ps refl (first_segment-form_at (form_bytes f ++ rest) f
+    (flags-plain f.verb rest f.flags f.width f.precision are.0.flags are.0.width) (form_at-form_bytes f rest are.0)) (reading-found ps are.1)
 
 -- ---- from the function to the relation
 
@@ -173,68 +159,59 @@ IsPrecision-by None v digits fits = tt
 IsPrecision-by (Some ds) v digits fits = let both = and_parts (is_short ds) (takes_precision v) fits in (digits, both.0, both.1)
 
 module _ (flags width : List ℕ) (p : Option (List ℕ)) (digits : AreDigits p) where
-  module _ (b : ℕ) (bs : List ℕ) (f : WrittenForm) where
-    abbrev Found : Type 0
-    Found = IsFound flags width (flags ++ (width ++ (pointed p ++ b ∷ bs))) f
+  form_by-sound : (b : ℕ) (bs : List ℕ) (o : Option Verb) → verb_of b ≡ o
+      → IfSome (form_by flags width p o) (IsFound flags width (flags ++ (width ++ (pointed p ++ b ∷ bs))))
+  form_by-sound b bs None is = tt
+  form_by-sound b bs (Some v) is = go (is_short width && is_precision p v) refl
+    where
+      go : (t : Bool) → (is_short width && is_precision p v) ≡ t
+          → IfSome (form_if t flags width p v) (IsFound flags width (flags ++ (width ++ (pointed p ++ b ∷ bs))))
+      go false test = tt
+      go true test = let both = and_parts (is_short width) (is_precision p v) test in record {
+        rest = bs;
+        spells = sym (simp append_assoc (ap (λ c. flags ++ (width ++ (pointed p ++ c ∷ bs))) (letter-verb_of b v is)));
+        flags_is = refl;
+        width_is = refl;
+        short = both.0;
+        precision = IsPrecision-by p v digits both.1;
+      }
 
-    form_if-sound : (t : Bool) (v : Verb) → letter v ≡ b → (is_short width && is_precision p v) ≡ t → form_if t flags width p v ≡ Some f → Found
-    form_if-sound true v is test h =
-        let both = and_parts (is_short width) (is_precision p v) test in
-        let x : WrittenForm = record { flags = flags; width = width; precision = p; verb = v } in
-        let same : x ≡ f = cc in
-        subst (IsFound flags width (flags ++ (width ++ (pointed p ++ b ∷ bs)))) same (record {
-          rest = bs;
-          spells = sym (simp append_assoc (ap (λ c. flags ++ (width ++ (pointed p ++ c ∷ bs))) is));
-          flags_is = refl;
-          width_is = refl;
-          short = both.0;
-          precision = IsPrecision-by p v digits both.1;
-        })
-    form_if-sound false v is test h = cc
+  verb_behind-sound : (bs : List ℕ) → IfSome (verb_behind flags width p bs) (IsFound flags width (flags ++ (width ++ (pointed p ++ bs))))
+  verb_behind-sound [] = tt
+  verb_behind-sound (b ∷ bs) = form_by-sound b bs (verb_of b) refl
 
-    form_by-sound : (o : Option Verb) → verb_of b ≡ o → form_by flags width p o ≡ Some f → Found
-    form_by-sound None is h = cc
-    form_by-sound (Some v) is h = form_if-sound (is_short width && is_precision p v) v (letter-verb_of b v is) refl h
-
-  verb_behind-sound : (bs : List ℕ) (f : WrittenForm) → verb_behind flags width p bs ≡ Some f
-      → IsFound flags width (flags ++ (width ++ (pointed p ++ bs))) f
-  verb_behind-sound [] f h = cc
-  verb_behind-sound (b ∷ bs) f h = form_by-sound b bs f (verb_of b) refl h
-
-module _ (flags width : List ℕ) (b : ℕ) (bs : List ℕ) (f : WrittenForm) where
-  precision_behind-by : (t : Bool) → (b == 46) ≡ t
-      → cond t (verb_behind flags width (Some (take_while is_decimal bs)) (behind is_decimal bs)) (verb_behind flags width None (b ∷ bs)) ≡ Some f
-      → IsFound flags width (flags ++ (width ++ b ∷ bs)) f
-  precision_behind-by true is h =
+module _ (flags width : List ℕ) where
+  precision_behind-by : (b : ℕ) (bs : List ℕ) (t : Bool) → (b == 46) ≡ t
+      → IfSome (cond t (verb_behind flags width (Some (take_while is_decimal bs)) (behind is_decimal bs)) (verb_behind flags width None (b ∷ bs)))
+      (IsFound flags width (flags ++ (width ++ b ∷ bs)))
+  precision_behind-by b bs true is =
       let point : 46 ≡ b = grind (arith, nat_tests) in
-      let found = verb_behind-sound flags width (Some (take_while is_decimal bs)) (list_all-take_while is_decimal bs) (behind is_decimal bs) f h in
-      subst (λ (t : List ℕ). IsFound flags width (flags ++ (width ++ t)) f) (λ i. point i ∷ take_while-behind is_decimal bs i) found
-  precision_behind-by false is h = verb_behind-sound flags width None tt (b ∷ bs) f h
+      subst (λ t. IfSome (verb_behind flags width (Some (take_while is_decimal bs)) (behind is_decimal bs)) (IsFound flags width (flags ++ (width ++ t))))
+      (λ i. point i ∷ take_while-behind is_decimal bs i)
+      (verb_behind-sound flags width (Some (take_while is_decimal bs)) (list_all-take_while is_decimal bs) (behind is_decimal bs))
+  precision_behind-by b bs false is = verb_behind-sound flags width None tt (b ∷ bs)
 
-precision_behind-sound : (flags width bs : List ℕ) (f : WrittenForm) → precision_behind flags width bs ≡ Some f
-    → IsFound flags width (flags ++ (width ++ bs)) f
-precision_behind-sound flags width [] f h = cc
-precision_behind-sound flags width (b ∷ bs) f h = precision_behind-by flags width b bs f (b == 46) refl h
-
-is_flag-false : (b : ℕ) → is_flag b ≡ false → not (b == 48) ≡ true
-is_flag-false b h = grind (arith, nat_tests)
-
-begins_above_0-by : (t : Bool) (b : ℕ) (bs : List ℕ) → is_decimal b ≡ t → is_flag b ≡ false → begins_above_0 (take_while is_decimal (b ∷ bs)) ≡ true
-begins_above_0-by true b bs is stop = ap begins_above_0 (take_while-passing is_decimal b bs is) ∙ is_flag-false b stop
-begins_above_0-by false b bs is stop = ap begins_above_0 (take_while-failing is_decimal b bs is)
+  precision_behind-sound : (bs : List ℕ) → IfSome (precision_behind flags width bs) (IsFound flags width (flags ++ (width ++ bs)))
+  precision_behind-sound [] = tt
+  precision_behind-sound (b ∷ bs) = precision_behind-by b bs (b == 46) refl
 
 -- digits behind what is no flag do not begin with 0
 begins_above_0-digits : (bs : List ℕ) → begins is_flag bs ≡ false → begins_above_0 (take_while is_decimal bs) ≡ true
 begins_above_0-digits [] stop = refl
-begins_above_0-digits (b ∷ bs) stop = begins_above_0-by (is_decimal b) b bs refl stop
+begins_above_0-digits (b ∷ bs) stop = rw (take_while-cons is_decimal b bs) (grind (arith, nat_tests))
 
-form_at-sound : (bs : List ℕ) (f : WrittenForm) → form_at bs ≡ Some f → IsForm f × (bs ≡ form_bytes f ++ drop (length (form_bytes f)) bs)
+-- a form at the front of bytes
+abbrev BeginsWith : List ℕ → WrittenForm → Type 0
+BeginsWith bs f = IsForm f × (bs ≡ form_bytes f ++ drop (length (form_bytes f)) bs)
+
+form_at-sound : (bs : List ℕ) → IfSome (form_at bs) (BeginsWith bs)
 unfolding form_at
-form_at-sound bs f h =
-    let flags : List ℕ = take_while is_flag bs in
+form_at-sound bs =
     let tail : List ℕ = behind is_flag bs in
+    let flags : List ℕ = take_while is_flag bs in
     let width : List ℕ = take_while is_decimal tail in
-    let parts = precision_behind-sound flags width (behind is_decimal tail) f h in
+    IfSome_then _ {Q = BeginsWith bs} (precision_behind-sound flags width (behind is_decimal tail))
+    (λ f (parts : IsFound flags width (flags ++ (width ++ behind is_decimal tail)) f).
     let spells : bs ≡ form_bytes f ++ parts.rest = sym (ap (λ t. flags ++ t) (take_while-behind is_decimal tail) ∙ take_while-behind is_flag bs)
     ∙ parts.spells in
     let left : drop (length (form_bytes f)) bs ≡ parts.rest = ap (drop (length (form_bytes f))) spells ∙ drop-append_seam (form_bytes f) parts.rest in (
@@ -246,43 +223,32 @@ form_at-sound bs f h =
         precision = parts.precision;
       },
       spells ∙ ap (λ r. form_bytes f ++ r) (sym left),
-    )
+    ))
 
 -- the segment at the front of bytes
 data FirstOf (b : ℕ) (bs : List ℕ) : Segment → Type 0 where
   a_run : is_plain b ≡ true → FirstOf b bs (literal (b ∷ take_while is_plain bs))
   a_percent : (cs : List ℕ) → b ≡ 37 → bs ≡ 37 ∷ cs → FirstOf b bs percent
-  a_form : (f : WrittenForm) → b ≡ 37 → IsForm f → bs ≡ form_bytes f ++ drop (length (form_bytes f)) bs → FirstOf b bs (form f)
+  a_form : (f : WrittenForm) → b ≡ 37 → BeginsWith bs f → FirstOf b bs (form f)
 
-module _ (b c : ℕ) (cs : List ℕ) (is : b ≡ 37) where
-  form_segment-sound : (o : Option WrittenForm) (p : Segment) → form_at (c ∷ cs) ≡ o → option_map form o ≡ Some p → FirstOf b (c ∷ cs) p
-  form_segment-sound None p e h = cc
-  form_segment-sound (Some f) p e h =
-      let sound = form_at-sound (c ∷ cs) f e in
-      let same : form f ≡ p = cc in
-      subst (FirstOf b (c ∷ cs)) same (a_form f is sound.0 sound.1)
+segment_behind-by : (b c : ℕ) (cs : List ℕ) → b ≡ 37 → (t : Bool) → (c == 37) ≡ t
+    → IfSome (cond t (Some percent) (option_map form (form_at (c ∷ cs)))) (FirstOf b (c ∷ cs))
+segment_behind-by b c cs is true e = let second : c ≡ 37 = grind (arith, nat_tests) in a_percent cs is (ap (λ d. d ∷ cs) second)
+segment_behind-by b c cs is false e = go (form_at (c ∷ cs)) (form_at-sound (c ∷ cs))
+  where
+    go : (o : Option WrittenForm) → IfSome o (BeginsWith (c ∷ cs)) → IfSome (option_map form o) (FirstOf b (c ∷ cs))
+    go None sound = tt
+    go (Some f) sound = a_form f is sound
 
-  segment_behind-by : (t : Bool) (p : Segment) → (c == 37) ≡ t → cond t (Some percent) (option_map form (form_at (c ∷ cs))) ≡ Some p → FirstOf b (c ∷ cs) p
-  segment_behind-by true p e h =
-      let second : c ≡ 37 = grind (arith, nat_tests) in
-      let same : percent ≡ p = cc in
-      subst (FirstOf b (c ∷ cs)) same (a_percent cs is (ap (λ d. d ∷ cs) second))
-  segment_behind-by false p e h = form_segment-sound (form_at (c ∷ cs)) p refl h
+segment_behind-sound : (b : ℕ) (bs : List ℕ) → b ≡ 37 → IfSome (segment_behind bs) (FirstOf b bs)
+segment_behind-sound b [] is = tt
+segment_behind-sound b (c ∷ cs) is = segment_behind-by b c cs is (c == 37) refl
 
-segment_behind-sound : (b : ℕ) (bs : List ℕ) (p : Segment) → b ≡ 37 → segment_behind bs ≡ Some p → FirstOf b bs p
-segment_behind-sound b [] p is h = cc
-segment_behind-sound b (c ∷ cs) p is h = segment_behind-by b c cs is (c == 37) p refl h
-
-first_segment-by : (t : Bool) (b : ℕ) (bs : List ℕ) (p : Segment) → (b == 37) ≡ t
-    → cond t (segment_behind bs) (Some (literal (take_while is_plain (b ∷ bs)))) ≡ Some p → FirstOf b bs p
-first_segment-by true b bs p e h = let is : b ≡ 37 = grind (arith, nat_tests) in segment_behind-sound b bs p is h
-first_segment-by false b bs p e h =
-    let plain : is_plain b ≡ true = rw e refl in
-    let same : literal (take_while is_plain (b ∷ bs)) ≡ p = cc in
-    subst (FirstOf b bs) (ap literal (sym (take_while-passing is_plain b bs plain)) ∙ same) (a_run plain)
-
-first_segment-sound : (b : ℕ) (bs : List ℕ) (p : Segment) → first_segment (b ∷ bs) ≡ Some p → FirstOf b bs p
-first_segment-sound b bs p h = first_segment-by (b == 37) b bs p refl h
+first_segment-by : (b : ℕ) (bs : List ℕ) (t : Bool) → (b == 37) ≡ t
+    → IfSome (cond t (segment_behind bs) (Some (literal (take_while is_plain (b ∷ bs))))) (FirstOf b bs)
+first_segment-by b bs true e = segment_behind-sound b bs (grind (arith, nat_tests))
+first_segment-by b bs false e =
+    let plain : is_plain b ≡ true = rw e refl in rw (take_while-passing is_plain b bs plain) (a_run plain)
 
 -- segments that are a reading, of which the first is no run where the first byte is not plain
 record IsSound (bs : List ℕ) (ps : List Segment) : Type 0 where
@@ -304,44 +270,35 @@ IsSound-cons b bs _ ps (a_percent cs is second) sound = record {
   segments = sound.segments;
   apart = λ no. tt;
 }
-IsSound-cons b bs _ ps (a_form f is good spells) sound =
+IsSound-cons b bs _ ps (a_form f is good) sound =
     let n : suc (length (form_bytes f)) - 1 ≡ length (form_bytes f) = omega arith in record {
-      spells = ap (λ c. c ∷ bs) is ∙ ap (λ t. 37 ∷ t) (spells ∙ ap (λ r. form_bytes f ++ r) (sym (ap (λ k. drop k bs) n) ∙ sound.spells));
-      segments = (good, sound.segments);
+      spells = ap (λ c. c ∷ bs) is ∙ ap (λ t. 37 ∷ t) (good.1 ∙ ap (λ r. form_bytes f ++ r) (sym (ap (λ k. drop k bs) n) ∙ sound.spells));
+      segments = (good.0, sound.segments);
       apart = λ no. tt;
     }
 
-module _ (b : ℕ) (bs : List ℕ) (behind_it : (n : ℕ) (ps : List Segment) → segments_after n bs ≡ Some ps → IsSound (drop n bs) ps) where
-  IsSound-behind : (p : Segment) (q : Option (List Segment)) (ps : List Segment) → first_segment (b ∷ bs) ≡ Some p
-      → segments_after (rest_len (Some p)) bs ≡ q → with_segment (Some p) q ≡ Some ps → IsSound (b ∷ bs) ps
-  IsSound-behind p None ps first e h = cc
-  IsSound-behind p (Some qs) ps first e h =
-      let same : p ∷ qs ≡ ps = cc in
-      subst (IsSound (b ∷ bs)) same (IsSound-cons b bs p qs (first_segment-sound b bs p first) (behind_it (rest_len (Some p)) qs e))
+IsSound-front : (b : ℕ) (bs : List ℕ) (o : Option Segment) (q : Option (List Segment)) → IfSome o (FirstOf b bs)
+    → IfSome q (IsSound (drop (rest_len o) bs)) → IfSome (with_segment o q) (IsSound (b ∷ bs))
+IsSound-front b bs (Some p) (Some ps) first sound = IsSound-cons b bs p ps first sound
+IsSound-front b bs _ _ first sound = tt
 
-  IsSound-front : (o : Option Segment) (ps : List Segment) → first_segment (b ∷ bs) ≡ o → with_segment o (segments_after (rest_len o) bs) ≡ Some ps
-      → IsSound (b ∷ bs) ps
-  IsSound-front None ps first h = cc
-  IsSound-front (Some p) ps first h = IsSound-behind p (segments_after (rest_len (Some p)) bs) ps first refl h
-
-IsSound-nil : (ps : List Segment) → segments_after 0 [] ≡ Some ps → IsSound [] ps
-IsSound-nil [] h = record { spells = refl; segments = tt; apart = λ no. tt }
-IsSound-nil (p ∷ ps) h = cc
-
-segments_after-sound : (bs : List ℕ) (n : ℕ) (ps : List Segment) → segments_after n bs ≡ Some ps → IsSound (drop n bs) ps
-segments_after-sound [] zero ps h = IsSound-nil ps h
-segments_after-sound [] (suc n) ps h = IsSound-nil ps h
-segments_after-sound (b ∷ bs) (suc n) ps h = segments_after-sound bs n ps h
-segments_after-sound (b ∷ bs) zero ps h = IsSound-front b bs (segments_after-sound bs) (first_segment (b ∷ bs)) ps refl h
+segments_after-sound : (bs : List ℕ) (n : ℕ) → IfSome (segments_after n bs) (IsSound (drop n bs))
+segments_after-sound [] zero = record { spells = refl; segments = tt; apart = λ no. tt }
+segments_after-sound [] (suc n) = record { spells = refl; segments = tt; apart = λ no. tt }
+segments_after-sound (b ∷ bs) (suc n) = segments_after-sound bs n
+segments_after-sound (b ∷ bs) zero =
+    let first = first_segment (b ∷ bs) in
+    IsSound-front b bs first (segments_after (rest_len first) bs) (first_segment-by b bs (b == 37) refl) (segments_after-sound bs (rest_len first))
 
 -- what the function reads is a reading
 pub reading-sound : (format : List ℕ) (ps : List Segment) → reading format ≡ Some ps → IsReading format ps
 unfolding reading
-reading-sound format ps h = let sound = segments_after-sound format 0 ps h in record { spells = sound.spells; segments = sound.segments }
+reading-sound format ps h =
+    let sound = subst (λ o. IfSome o (IsSound format)) h (segments_after-sound format 0) in record { spells = sound.spells; segments = sound.segments }
 
 -- it reads each reading
 pub reading-complete : (format : List ℕ) (ps : List Segment) → IsReading format ps → reading format ≡ Some ps
-reading-complete format ps is = reading-found ps format is.spells is.segments
+reading-complete format ps is = ap reading is.spells ∙ reading-found ps is.segments
 
 -- so there is one
 pub IsReading-one : (format : List ℕ) (ps qs : List Segment) → IsReading format ps → IsReading format qs → ps ≡ qs
