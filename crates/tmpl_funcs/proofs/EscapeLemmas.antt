@@ -24,18 +24,22 @@ module _ (f : ℕ → List ℕ) (bs : List ℕ) (start i : ℕ) (front all : Lis
       → front ++ (slice_range bs start (i + 1) ++ flat_map f (drop (i + 1) bs)) ≡ all
   flat_map-plain s h plain =
       let b : ℕ = get_or bs i 0 in
-      ap (λ r. front ++ (r ++ flat_map f (drop (i + 1) bs))) (slice_range-suc bs start i s h) ∙
-      ap (λ u. front ++ u) (append_assoc (slice_range bs start i) (b ∷ []) (flat_map f (drop (i + 1) bs))) ∙
-      ap (λ u. front ++ (slice_range bs start i ++ (u ++ flat_map f (drop (i + 1) bs)))) plain ∙
-      ap (λ u. front ++ (slice_range bs start i ++ u)) (sym (at_drop_more (flat_map f) bs i 0 h)) ∙ so_far
+      rw (
+        slice_range-suc bs start i s h,
+        plain,
+        append_assoc (slice_range bs start i) (f b) (flat_map f (drop (i + 1) bs)),
+        sym (at_drop_more (flat_map f) bs i 0 h),
+      ) so_far
 
   -- a byte that is replaced
   pub flat_map-escaped : i < length bs → (text : List ℕ) → text ≡ f (get_or bs i 0)
       → ((front ++ slice_range bs start i) ++ text) ++ (slice_range bs (i + 1) (i + 1) ++ flat_map f (drop (i + 1) bs)) ≡ all
   flat_map-escaped h text is =
       let rest : List ℕ = flat_map f (drop (i + 1) bs) in
-      ap (λ r. ((front ++ slice_range bs start i) ++ text) ++ (r ++ rest)) (slice_range-nil bs (i + 1)) ∙
-      append_assoc (front ++ slice_range bs start i) text rest ∙
-      append_assoc front (slice_range bs start i) (text ++ rest) ∙
-      ap (λ u. front ++ (slice_range bs start i ++ (u ++ rest))) is ∙
-      ap (λ u. front ++ (slice_range bs start i ++ u)) (sym (at_drop_more (flat_map f) bs i 0 h)) ∙ so_far
+      rw (
+        slice_range-nil bs (i + 1),
+        append_assoc (front ++ slice_range bs start i) text rest,
+        append_assoc front (slice_range bs start i) (text ++ rest),
+        is,
+        sym (at_drop_more (flat_map f) bs i 0 h),
+      ) so_far

@@ -1,5 +1,6 @@
 -- For `add_joined`, `add_parted` and `print`: operands are joined one by one.
 use Rattle.std.proofs.Common.{◌≡◌, ℕ, Bool, true, false, ◌||◌, List, [], ◌∷◌, ◌++◌, map, refl, ap}
+use Rattle.std.proofs.lemmas.List.{map-id}
 use Rattle.tmpl_values.specs.Value.{Value}
 use Rattle.tmpl_values.specs.Text.{inner_text, parted, spaced}
 use Rattle.tmpl_values.specs.declared.value.Cell.{Cell}
@@ -40,5 +41,4 @@ abbrev pub operands_of : NothingText → List Cell → List Value
 operands_of m cells = map (shown m) (values_of cells)
 
 pub map-shown : (vs : List Value) → map (shown Nil) vs ≡ vs
-map-shown [] = refl
-map-shown (v ∷ vs) = ap (λ ws. v ∷ ws) (map-shown vs)
+map-shown vs = map-id vs

@@ -35,11 +35,7 @@ first_bytes n bs = flat_map bytes_in (take n (runes bs))
 
 first_bytes-more : (n k : ℕ) (bs rest : List ℕ) → n ≡ suc k → 0 < length bs → rest ≡ drop (suc (tail_len (first_rune bs))) bs
     → first_bytes n bs ≡ take (suc (tail_len (first_rune bs))) bs ++ first_bytes k rest
-first_bytes-more n k bs rest one h is =
-    ap (λ m. first_bytes m bs) one ∙
-    ap (λ rs. flat_map bytes_in (take (suc k) rs)) (runes-first bs (first_rune bs) h refl) ∙
-    ap (λ t. t ++ flat_map bytes_in (take k (runes (drop (suc (tail_len (first_rune bs))) bs)))) (bytes_in-front bs h) ∙
-    ap (λ r. take (suc (tail_len (first_rune bs))) bs ++ first_bytes k r) (sym is)
+first_bytes-more n k bs rest one h is = rw (one, is, runes-first bs (first_rune bs) h refl, bytes_in-front bs h) refl
 
 -- a text of which some runes are cut off: what is taken, and how many are still to be taken of the rest
 pub record IsCutting (text : List ℕ) (count : ℕ) (rest : List ℕ) (left : ℕ) : Type 0 where
@@ -53,12 +49,12 @@ pub IsCutting-more : (text : List ℕ) (count : ℕ) (rest : List ℕ) (left : �
 IsCutting-more text count rest left rest' so_far some there is =
     let n : ℕ = suc (tail_len (first_rune rest)) in record {
       taken = so_far.taken ++ take n rest;
-      split =
-          so_far.split ∙ ap (λ t. so_far.taken ++ t) (sym (take-append-drop n rest)) ∙
-          sym (append_assoc so_far.taken (take n rest) (drop n rest)) ∙ ap (λ r. (so_far.taken ++ take n rest) ++ r) (sym is);
+      split = rw (is, append_assoc so_far.taken (take n rest) (drop n rest), take-append-drop n rest) so_far.split;
       wanted =
-          so_far.wanted ∙ ap (λ t. so_far.taken ++ t) (first_bytes-more left (left - 1) rest rest' (omega arith) there is) ∙
-          sym (append_assoc so_far.taken (take n rest) (first_bytes (left - 1) rest'));
+          rw (
+            append_assoc so_far.taken (take n rest) (first_bytes (left - 1) rest'),
+            sym (first_bytes-more left (left - 1) rest rest' (omega arith) there is),
+          ) so_far.wanted;
     }
 
 cut-end : (text : List ℕ) (count : ℕ) (rest : List ℕ) (left : ℕ) (c : IsCutting text count rest left) → first_bytes left rest ≡ []

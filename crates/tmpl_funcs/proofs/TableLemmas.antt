@@ -1,6 +1,6 @@
 -- For the law `count_first`: the definition of each row refuses the numbers of arguments that its row does not have.
-use Rattle.std.proofs.Common.{◌≡◌, ◌∙◌, ℕ, suc, ◌&&◌, nat_le, Bool, true, false, List, [], ◌∷◌, length, Option, Result, Err}
-use Rattle.std.proofs.Common.{refl, sym, arith}
+use Rattle.std.proofs.Common.{◌≡◌, ◌&&◌, nat_le, Bool, true, false, List, [], ◌∷◌, length, Option, Result, Err}
+use Rattle.std.proofs.Common.{refl, arith}
 use Rattle.std.proofs.lemmas.Bool.Decides.{nat_tests}
 use Rattle.tmpl_values.specs.Value.{Value}
 use Rattle.tmpl_values.specs.Compare.{order}
@@ -22,21 +22,12 @@ use Rattle.tmpl_funcs.specs.declared.func.Func.TheVariants.{Html, Urlquery, Eq, 
 abbrev Gives : Type 0
 Gives = List Value → Result Value CallFault
 
-zero-or-more : (n : ℕ) → (nat_le 0 n && true) ≡ true
-zero-or-more n = grind (arith, nat_tests)
-
-one-or-more : (n : ℕ) → (nat_le 1 (suc n) && true) ≡ true
-one-or-more n = grind (arith, nat_tests)
-
-two-or-more : (n : ℕ) → (nat_le 2 (suc (suc n)) && true) ≡ true
-two-or-more n = grind (arith, nat_tests)
-
 of-any : (g : Gives) (vs : List Value) → (nat_le 0 (length vs) && true) ≡ false → g vs ≡ Err WrongCount
-of-any g vs h = let t : true ≡ false = sym (zero-or-more (length vs)) ∙ h in cc
+of-any g vs h = grind (arith, nat_tests)
 
 of-some : (g : Gives) → g [] ≡ Err WrongCount → (vs : List Value) → (nat_le 1 (length vs) && true) ≡ false → g vs ≡ Err WrongCount
 of-some g none [] h = none
-of-some g none (v ∷ vs) h = let t : true ≡ false = sym (one-or-more (length vs)) ∙ h in cc
+of-some g none (v ∷ vs) h = grind (arith, nat_tests)
 
 of-one : (g : Gives) → g [] ≡ Err WrongCount → ((v w : Value) (vs : List Value) → g (v ∷ w ∷ vs) ≡ Err WrongCount)
     → (vs : List Value) → (nat_le 1 (length vs) && nat_le (length vs) 1) ≡ false → g vs ≡ Err WrongCount
@@ -54,7 +45,7 @@ of-pair f (v ∷ w ∷ u ∷ vs) h = refl
 of-eq : (vs : List Value) → (nat_le 2 (length vs) && true) ≡ false → eq_of vs ≡ Err WrongCount
 of-eq [] h = refl
 of-eq (v ∷ []) h = refl
-of-eq (v ∷ w ∷ vs) h = let t : true ≡ false = sym (two-or-more (length vs)) ∙ h in cc
+of-eq (v ∷ w ∷ vs) h = grind (arith, nat_tests)
 
 of-slice : (vs : List Value) → (nat_le 1 (length vs) && nat_le (length vs) 3) ≡ false → slice_of vs ≡ Err WrongCount
 of-slice [] h = refl
