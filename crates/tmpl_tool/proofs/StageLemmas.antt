@@ -1,12 +1,9 @@
 -- For the laws of the command: what it comes to, stage by stage, and that it never comes to the status of refused memory.
 use Rattle.std.proofs.Common.{◌≡◌, ◌≢◌, ◌∙◌, ◌++◌, ◌+◌, add-zero, arith, ℕ, suc, Bool, true, false, List, [], ◌∷◌, length, Option, Some}
 use Rattle.std.proofs.Common.{None, Result, Ok, Err, ap, refl, sym, inl, inr}
-use Rattle.std.specs.Option.{ok_or, option_map_or}
-use Rattle.tmpl_values.specs.Value.{Value}
-use Rattle.tmpl_syntax.specs.Tree.{Tree}
-use Rattle.tmpl_syntax.specs.Set.{Template, tree_named}
-use Rattle.tmpl_meaning.specs.Meaning.{Fault, Ran, ran}
-use Rattle.tmpl_tool.specs.Words.{Wanted, wanted}
+use Rattle.std.specs.Option.{option_map_or}
+use Rattle.tmpl_syntax.specs.Set.{Template}
+use Rattle.tmpl_meaning.specs.Meaning.{Fault, Ran}
 use Rattle.tmpl_tool.specs.Source.{Bytes, Files}
 use Rattle.tmpl_tool.specs.Outcome.{BegunIf}
 use Rattle.tmpl_tool.specs.Laws.{GivesHelp, Prints, RefusesWords, Runs, StopsAtData, StopsAtDataRead, StopsAtFile, StopsAtName, StopsAtRead}
@@ -14,44 +11,13 @@ use Rattle.tmpl_tool.specs.Laws.{TellsFailedWrite, TellsRefusedMemory}
 use Rattle.tmpl_tool.specs.Tool as tool
 use Rattle.tmpl_tool.specs.Tool.{Failing, Parse, Stop, answer_of, asked_by, asked_name, data_found, loaded, stop_if, tool_answer, with_file}
 use Rattle.tmpl_values.specs.Stage.{and_then}
-use Rattle.tmpl_tool.specs.computed.Load.{after_print, after_set, after_words, rendered}
-
-module _ (parse : Parse) (words : List Bytes) (files : Files) (fails : Failing) where
-  pub with_words : (r : Result Wanted Stop) → asked_by words ≡ r
-      → tool_answer parse words files fails ≡ answer_of (and_then r (λ w. after_words parse files w fails))
-  with_words r is = ap (λ r. answer_of (and_then r (λ w. after_words parse files w fails))) is
-
-  module _ (w : Wanted) (asks : asked_by words ≡ Ok w) where
-    with_files : (r : Result (List Template) Stop) → loaded parse files fails 0 [] w.files ≡ r
-        → tool_answer parse words files fails ≡ answer_of (and_then r (after_set files fails w))
-    with_files r is = with_words (Ok w) asks ∙ ap (λ r. answer_of (and_then r (after_set files fails w))) is
-
-    module _ (set : List Template) (loads : loaded parse files fails 0 [] w.files ≡ Ok set) where
-      with_print : (p : Bool) → w.print ≡ p
-          → tool_answer parse words files fails ≡ answer_of (and_then (stop_if p (tool.printed set)) (λ u. after_print files fails w set))
-      with_print p is = with_files (Ok set) loads ∙ ap (λ p. answer_of (and_then (stop_if p (tool.printed set)) (λ u. after_print files fails w set))) is
-
-      module _ (is_run : w.print ≡ false) where
-        with_data : (r : Result (Option Value) Stop) → data_found files (fails (length w.files)) w.data_file ≡ r
-            → tool_answer parse words files fails ≡ answer_of (and_then r (rendered w set))
-        with_data r is = with_print false is_run ∙ ap (λ r. answer_of (and_then r (rendered w set))) is
-
-        with_name : (input : Option Value) → data_found files (fails (length w.files)) w.data_file ≡ Ok input
-            → (o : Option Tree) → tree_named (asked_name w) set ≡ o
-            → tool_answer parse words files fails
-            ≡ answer_of (and_then (ok_or o (tool.unnamed (asked_name w))) (λ tree. Ok (ran w.rules set (asked_name w) tree input)))
-        with_name input found o is =
-            with_data (Ok input) found
-            ∙ ap (λ o. answer_of (and_then (ok_or o (tool.unnamed (asked_name w))) (λ tree. Ok (ran w.rules set (asked_name w) tree input)))) is
+use Rattle.tmpl_tool.specs.computed.Load.{after_words}
 
 pub gives_help : GivesHelp
-gives_help parse words files fails helps =
-    with_words parse words files fails (Err tool.help) (ap (λ b. and_then (stop_if b tool.help) (λ u. ok_or (wanted words) tool.bad_words)) helps)
+gives_help parse words files fails helps = rw helps refl
 
 pub refuses_words : RefusesWords
-refuses_words parse words files fails helps none =
-    with_words parse words files fails (Err tool.bad_words)
-    (ap (λ b. and_then (stop_if b tool.help) (λ u. ok_or (wanted words) tool.bad_words)) helps ∙ ap (λ o. ok_or o tool.bad_words) none)
+refuses_words parse words files fails helps none = rw (helps, none) refl
 
 -- a stage behind two is the same as one behind the second
 pub and_then-and_then : (r : Result (List Template) Stop) (f g h : List Template → Result (List Template) Stop) → ((s : List Template) → f s ≡ and_then (g s) h)
@@ -73,29 +39,26 @@ loaded_part parse files fails k set (n ∷ before) rest =
 
 pub stops_at_file : StopsAtFile
 stops_at_file parse words files fails w asks before name behind is set loads stop refuses =
-    with_files parse words files fails w asks (Err stop)
-    (ap (loaded parse files fails 0 []) is ∙ loaded_part parse files fails 0 [] before (name ∷ behind)
-    ∙ ap (λ r. and_then r (λ s. loaded parse files fails (0 + length before) s (name ∷ behind))) loads
-    ∙ ap (λ n. and_then (with_file parse files (fails n) set name) (λ s. loaded parse files fails (suc n) s behind)) (omega arith)
-    ∙ ap (λ r. and_then r (λ s. loaded parse files fails (suc (length before)) s behind)) refuses)
+    let moved : 0 + length before ≡ length before = omega arith in
+    rw (asks, is, loaded_part parse files fails 0 [] before (name ∷ behind), loads, moved, refuses) refl
 
 pub stops_at_read : StopsAtRead
 stops_at_read parse files set name = refl
 
 pub prints : Prints
-prints parse words files fails w set loads is = with_print parse words files fails w loads.0 set loads.1 true is
+prints parse words files fails w set loads is = rw (loads.0, loads.1, is) refl
 
 pub stops_at_data : StopsAtData
-stops_at_data parse words files fails w set goes stop is = with_data parse words files fails w goes.0.0 set goes.0.1 goes.1 (Err stop) is
+stops_at_data parse words files fails w set goes stop is = rw (goes.0.0, goes.0.1, goes.1, is) refl
 
 pub stops_at_data_read : StopsAtDataRead
 stops_at_data_read files name = refl
 
 pub stops_at_name : StopsAtName
-stops_at_name parse words files fails w set goes input found none = with_name parse words files fails w goes.0.0 set goes.0.1 goes.1 input found None none
+stops_at_name parse words files fails w set goes input found none = rw (goes.0.0, goes.0.1, goes.1, found, none) refl
 
 pub runs : Runs
-runs parse words files fails w set goes input found tree is = with_name parse words files fails w goes.0.0 set goes.0.1 goes.1 input found (Some tree) is
+runs parse words files fails w set goes input found tree is = rw (goes.0.0, goes.0.1, goes.1, found, is) refl
 
 -- ---- the ends
 

@@ -26,7 +26,6 @@ use Rattle.tmpl_tool.specs.declared.stop.Stop as held
 use Rattle.tmpl_tool.specs.declared.stop.Stop.TheVariants as stop
 use Rattle.tmpl_tool.proofs.LoadLemmas.{all_succeed, asked-append, nat_eq-add, other-above}
 use Rattle.tmpl_tool.proofs.MessageLemmas.{nothing_out, nothing_put}
-use Rattle.tmpl_tool.proofs.StageLemmas.{with_words}
 
 -- the data behind a set
 abbrev with_data : List Template → Result (Option Value) Stop → Result (List Template × Option Value) Stop
@@ -44,8 +43,7 @@ module _ (files : Files) (w : Wanted) where
     -- where a template file stops the program nothing is read behind it
     no_more : (fails : Failing) (s : Stop) → loaded parsed files fails 0 [] w.files ≡ Err s → Made (template_reads files w fails)
         → Made (inputs_reads parsed files w fails)
-    no_more fails s h made =
-        subst Made (sym (ap (λ r. template_reads files w fails ++ behind_templates w r) h ∙ append-nil (template_reads files w fails))) made
+    no_more fails s h made = rw (h, append-nil (template_reads files w fails)) made
 
     -- a template file stops the program
     pub load_stops : (s : Option Stop) → StopsAt Made (λ fails. loaded parsed files fails 0 [] w.files) (template_reads files w) s
@@ -53,23 +51,15 @@ module _ (files : Files) (w : Wanted) where
     load_stops None (front, rest, e, made) =
         let more = behind_templates w (loaded parsed files no_read 0 [] w.files) in
         (front, rest ++ more, sym (append_assoc front rest more) ∙ ap (λ (names : List Bytes). names ++ more) e, made)
-    load_stops (Some (tool.unread n)) (k, h, made) = (
-      k,
-      ap (λ r. and_then r (λ set. with_data set (data_found files (nat_eq k (length w.files)) (data_wanted w)))) h,
-      no_more (nat_eq k) (tool.unread n) h made,
-    )
-    load_stops (Some s) h =
-        (ap (λ r. and_then r (λ set. with_data set (data_found files false (data_wanted w)))) h.0, no_more no_read s h.0 h.1)
+    load_stops (Some (tool.unread n)) (k, h, made) = (k, rw h refl, no_more (nat_eq k) (tool.unread n) h made)
+    load_stops (Some s) h = (rw h.0 refl, no_more no_read s h.0 h.1)
 
   module _ (before between after : Option (List Bytes)) (set : List Template) (loads : loaded parsed files no_read 0 [] w.files ≡ Ok set)
       (asked : Asked before between (template_reads files w no_read)) where
     -- the templates are read, and then this is
     reads_next : (fails : Failing) → loaded parsed files fails 0 [] w.files ≡ Ok set → template_reads files w fails ≡ template_reads files w no_read
         → (o : Option Bytes) → data_wanted w ≡ o → inputs_reads parsed files w fails ≡ template_reads files w no_read ++ option_to_list o
-    reads_next fails all same o is =
-        ap (λ r. template_reads files w fails ++ behind_templates w r) all
-        ∙ ap (λ (names : List Bytes). names ++ option_to_list (data_wanted w)) same
-        ∙ ap (λ (o : Option Bytes). template_reads files w no_read ++ option_to_list o) is
+    reads_next fails all same o is = rw (all, same, is) refl
 
     asked_next : (fails : Failing) → loaded parsed files fails 0 [] w.files ≡ Ok set → template_reads files w fails ≡ template_reads files w no_read
         → (o : Option Bytes) → data_wanted w ≡ o → Asked between after (option_to_list o) → Asked before after (inputs_reads parsed files w fails)
@@ -80,20 +70,18 @@ module _ (files : Files) (w : Wanted) where
     -- the templates are read, and the data is next
     data_next : (fails : Failing) → loaded parsed files fails 0 [] w.files ≡ Ok set → (o : Option Bytes) → data_wanted w ≡ o
         → inputs_of parsed files w fails ≡ with_data set (data_found files (fails (length w.files)) o)
-    data_next fails all o is =
-        ap (λ r. and_then r (λ set. with_data set (data_found files (fails (length w.files)) (data_wanted w)))) all
-        ∙ ap (λ o. with_data set (data_found files (fails (length w.files)) o)) is
+    data_next fails all o is = rw (all, is) refl
 
     -- the set is to be printed, whatever the data is, and nothing more is read
     pub printed_next : w.print ≡ true → Asked between after []
         → (inputs_of parsed files w no_read ≡ Ok (set, None)) × Asked before after (inputs_reads parsed files w no_read)
     printed_next is more =
-        let none = ap (λ p. if p then None else w.data_file) is in
+        let none : data_wanted w ≡ None = rw is refl in
         (data_next no_read loads None none, asked_next no_read loads refl None none more)
 
     module _ (runs : w.print ≡ false) where
       wanted_data : data_wanted w ≡ w.data_file
-      wanted_data = ap (λ p. if p then None else w.data_file) runs
+      wanted_data = rw runs refl
 
       -- the data stops the program
       pub data_stops : (s : Option Stop)
@@ -173,15 +161,10 @@ module _ (err : Sunk) (code : ℕ) where
     refused_memory counts made status says =
         inl (counts, inr (status, made), nothing_out (answer_of (after_words parse files w no_read)) t err code status says)
 
-    refusal : (f : ParseFault) (why : Option Reason) (o : Option Stop) → o ≡ option_map (λ r. tool.refused f.file.now (f.line, r)) why → is ≡ was
+    refusal : (f : ParseFault) (why : Option Reason) → let o = option_map (λ r. tool.refused f.file.now (f.line, r)) why in is ≡ was
         → StopsAt Made (after_words parse files w) (inputs_reads parse files w) o → code ≡ (said_of o).status → Says (said_of o).line err → Comes
-    refusal f None o e counts h status says =
-        refused_memory counts (subst (λ o. StopsAt Made (after_words parse files w) (inputs_reads parse files w) o) e h)
-        (subst (λ o. code ≡ (said_of o).status) e status) (subst (λ o. Says (said_of o).line err) e says)
-    refusal f (Some r) o e counts h status says =
-        stops_at (tool.refused f.file.now (f.line, r)) counts
-        (subst (λ o. StopsAt Made (after_words parse files w) (inputs_reads parse files w) o) e h) (subst (λ o. code ≡ (said_of o).status) e status)
-        (subst (λ o. Says (said_of o).line err) e says) refl
+    refusal f None counts h status says = refused_memory counts h status says
+    refusal f (Some r) counts h status says = stops_at (tool.refused f.file.now (f.line, r)) counts h status says refl
 
     -- the program stops, and says why
     pub stops : (s : held.Stop) → Counts {T = ℕ} was is (Err s) → StopsAt Made (after_words parse files w) (inputs_reads parse files w) (stop_seen s)
@@ -189,7 +172,7 @@ module _ (err : Sunk) (code : ℕ) where
     stops (stop.NotFound m) counts h status says = stops_at (tool.not_found m.now) counts h status says refl
     stops (stop.Failed m) counts (k, h, made) status says =
         inr (counts, (k, ap (λ r. (answer_of r).unread) h, made, outcome_as _ _ _ (ap answer_of h) (inl (nothing_put t, status, says))))
-    stops (stop.Template f) counts h status says = refusal f (reason_of f.kind) (refusal_seen f) refl counts h status says
+    stops (stop.Template f) counts h status says = refusal f (reason_of f.kind) counts h status says
     stops (stop.NotJson m) counts h status says = stops_at (tool.flawed m.now not_json) counts h status says refl
     stops (stop.NotWhole m) counts h status says = stops_at (tool.flawed m.now not_whole) counts h status says refl
     stops stop.OutOfMemory counts h status says = refused_memory counts h status says
@@ -200,12 +183,9 @@ module _ (err : Sunk) (code : ℕ) where
         → Follows (λ fails. answer_of (after_words parse files w fails)) (inputs_reads parse files w) was is Made out err code
         → Follows (tool_answer parse words files) (tool_reads parse words files) was is Made out err code
     accepted words asked h =
-        subst (λ (reads : Failing → List Bytes). Follows (tool_answer parse words files) reads was is Made out err code)
-        (λ i fails. sym (ap (λ r. reads_behind (λ w. inputs_reads parse files w fails) r) asked) i)
-        (subst (λ (answers : Failing → Answer). Follows answers (inputs_reads parse files w) was is Made out err code)
-        (λ i fails. sym (with_words parse words files fails (Ok w) asked) i) h)
+        subst (λ r. Follows (λ fails. answer_of (and_then r (λ w. after_words parse files w fails)))
+        (λ fails. reads_behind (λ w. inputs_reads parse files w fails) r) was is Made out err code) (sym asked) h
 
 -- words that are taken
 pub asks : (words : List Bytes) (w : Wanted) → wanted words ≡ Some w → asks_help words ≡ false → asked_by words ≡ Ok w
-asks words w asked helps =
-    ap (λ b. and_then (stop_if b tool.help) (λ u. ok_or (wanted words) tool.bad_words)) helps ∙ ap (λ o. ok_or o tool.bad_words) asked
+asks words w asked helps = rw (helps, asked) refl
