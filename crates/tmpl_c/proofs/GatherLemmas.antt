@@ -1,6 +1,5 @@
 -- For `fill`: what was gathered is what a call comes to, as far as no memory was refused.
-use Rattle.std.proofs.Common.{◌≡◌, ◌≢◌, ◌∙◌, ◌+◌, ◌++◌, ◌<◌, ◌≤◌, ℕ, Bool, true, false, [], Some, ap, arith, length, refl, subst, sym, inl, inr}
-use Rattle.std.specs.Prelude.{if◌then◌else◌}
+use Rattle.std.proofs.Common.{◌≡◌, ◌≢◌, ◌∙◌, ◌+◌, ◌++◌, ◌<◌, ◌≤◌, ℕ, Bool, true, false, [], Some, ap, arith, length, refl, sym, inl, inr}
 use Rattle.std.proofs.lemmas.Bool.{le-leb, lt-leb}
 use Rattle.std.proofs.lemmas.List.{append-nil}
 use Rattle.tmpl_meaning.specs.Sink.{Sunk, Told, sunk}
@@ -52,26 +51,18 @@ module _ (a : Answer) (all line : Bytes) (f g code : ℕ) (o : Outcome a (sunk (
     is = outcome_exact a all line f g code o fine
 
     fills_text : Fills a.text room out
-    fills_text = subst (λ (t : Bytes). Fills t room out) is.0 puts
+    fills_text = rw (sym is.0) puts
 
     -- the text does not fit
     pub full_rendered : room < length all → Fills write_line line_room err → Rendered a room out line_room err 6
     full_rendered more says =
         let same : length all ≡ length a.text = ap length is.0 in
         let no : fits room a ≡ false = lt-leb (length a.text) room (omega (arith, same, more)) in
-        inl (
-          fills_text,
-          subst (λ (b : Bool). Fills (if b then a.line else write_line) line_room err) (sym no) says,
-          ap (λ (b : Bool). if b then a.status else 6) (sym no),
-        )
+        inl (fills_text, rw no says, rw no refl)
 
     -- it fits
     pub exact_rendered : length all ≤ room → Fills line line_room err → Rendered a room out line_room err code
     exact_rendered most says =
         let same : length all ≡ length a.text = ap length is.0 in
         let yes : fits room a ≡ true = le-leb (length a.text) room (omega (arith, same, most)) in
-        inl (
-          fills_text,
-          subst (λ (b : Bool). Fills (if b then a.line else write_line) line_room err) (sym yes) (subst (λ (l : Bytes). Fills l line_room err) is.1 says),
-          is.2 ∙ ap (λ (b : Bool). if b then a.status else 6) (sym yes),
-        )
+        inl (fills_text, rw (yes, sym is.1) says, rw yes is.2)

@@ -1,8 +1,8 @@
 -- For what a call does stage by stage: what a stage comes to, the whole comes to.
-use Rattle.std.proofs.Common.{◌≡◌, ◌∙◌, ℕ, Bool, true, false, List, [], Option, Some, None, Result, Ok, Err, IfSome, ap, codes, inl, refl, subst, sym}
+use Rattle.std.proofs.Common.{◌≡◌, ◌∙◌, ℕ, Bool, true, false, List, [], Option, Some, None, Ok, Err, IfSome, codes, inl, refl, subst, sym}
 use Rattle.std.specs.Prelude.{option_map}
-use Rattle.std.specs.Result.{result_map_both}
 use Rattle.std.specs.Str.{IsUtf8}
+use Rattle.std.proofs.lemmas.Option.{IfSome_then}
 use Rattle.std.proofs.lemmas.Str.{is_utf8-from_IsUtf8}
 use Rattle.tmpl_values.specs.Value.{Value}
 use Rattle.tmpl_syntax.specs.Fault.{Reason, reason_of}
@@ -17,12 +17,10 @@ use Rattle.tmpl_tool.specs.Outcome.{Answer, Outcome, Says}
 use Rattle.tmpl_tool.specs.Source.{Bytes}
 use Rattle.tmpl_tool.specs.Tool as tool
 use Rattle.tmpl_tool.specs.Tool.{IsParse, Parse, Stop, added, answer_of, named_run, only_text, stop_answer, stop_if}
-use Rattle.tmpl_values.specs.Stage.{and_then}
 use Rattle.tmpl_tool.specs.declared.stop.Stop.TheVariants as stop
 use Rattle.tmpl_tool.proofs.MessageLemmas.{nothing_out, nothing_put}
 use Rattle.tmpl_tool.proofs.ParseLemmas.{for_each}
 use Rattle.tmpl_c.specs.Lent.{data_lent, each_added, render_answer, with_lent}
-use Rattle.tmpl_c.proofs.LawLemmas.{named_by}
 use Rattle.tmpl_c.specs.computed.Load.{halt_seen}
 use Rattle.tmpl_c.specs.declared.load.Halt.{Halt}
 use Rattle.tmpl_c.specs.declared.load.Halt.TheVariants as halt
@@ -31,19 +29,17 @@ use Rattle.tmpl_c.specs.declared.load.Halt.TheVariants as halt
 
 -- a file whose name is a text
 pub text_added : (old : List Template) (f : Bytes × Bytes) (name : Bytes) → name ≡ f.0 → IsUtf8 f.0 → with_lent parsed old f ≡ added parsed old name f.1
-text_added old f name same is =
-    named_by parsed old f true (is_utf8-from_IsUtf8 f.0 is) ∙ ap (λ (n : Bytes). added parsed old n f.1) (sym same)
+text_added old f name same is = rw (is_utf8-from_IsUtf8 f.0 is, same) refl
 
 module _ (old : List Template) (f : Bytes × Bytes) (name : Bytes) where
   pub file_added : (new : List Template) → with_lent parsed old f ≡ added parsed old name f.1 → parsed old name f.1 ≡ Ok new → with_lent parsed old f ≡ Ok new
-  file_added new same is = same ∙ ap (result_map_both (λ (s : List Template). s) (tool.refused name)) is
+  file_added new same is = same ∙ rw is refl
 
   pub file_refused : (fault : ParseFault) (why : Option Reason) → fault.file.now ≡ name → with_lent parsed old f ≡ added parsed old name f.1
       → IsRefusal (parsed old name f.1) fault.line why
       → IfSome (option_map (λ r. tool.refused fault.file.now (fault.line, r)) why) (λ s. with_lent parsed old f ≡ Err s)
   file_refused fault None named same is = tt
-  file_refused fault (Some r) named same is =
-      same ∙ ap (result_map_both (λ (s : List Template). s) (tool.refused name)) is ∙ ap (λ (n : Bytes). Err (tool.refused n (fault.line, r))) (sym named)
+  file_refused fault (Some r) named same is = same ∙ rw (is, named) refl
 
 -- ---- nothing is put out where nothing is run
 
@@ -69,25 +65,11 @@ module _ (a : Answer) (t : Told) (err : Sunk) (code : ℕ) where
       subst (λ (x : Answer). Outcome x (sunk t t) err code) (sym is)
       (inl (subst (λ (x : Bytes). Whole x (sunk t t)) (sym empty) (nothing_put t), status, says))
 
--- what follows of the stop of a stage
-if_some : {A : Type 0} (P Q : A → Type 0) (o : Option A) → ((x : A) → P x → Q x) → IfSome o P → IfSome o Q
-if_some P Q None then h = tt
-if_some P Q (Some x) then h = then x h
-
 module _ (rules : Rules) (print : Bool) (files : List (Bytes × Bytes)) (name input : Bytes) where
-  abbrev behind_files : Bool → Result (List Template) Stop → Answer
-  behind_files p r = answer_of (and_then r (λ set.
-      and_then (stop_if p (tool.printed set)) (λ u. and_then (data_lent (codes "data") input) (λ v. named_run rules name set v))))
-
   -- by any function that keeps the rules
   pub by_any : (out err : Sunk) (code : ℕ) → Outcome (render_answer parsed rules print files name input) out err code
       → (parse : Parse) → IsParse parse → Outcome (render_answer parse rules print files name input) out err code
   by_any out err code h parse is = for_each (λ (p : Parse). Outcome (render_answer p rules print files name input) out err code) h parse is
-
-  from_files : (old : List Template) → old ≡ [] → (r : Result (List Template) Stop) → each_added parsed old files ≡ r
-      → render_answer parsed rules print files name input ≡ behind_files print r
-  from_files old none r is =
-      ap (λ (o : List Template). behind_files print (each_added parsed o files)) (sym none) ∙ ap (behind_files print) is
 
   module _ (t : Told) (err : Sunk) (code : ℕ) where
     -- a file stops it
@@ -96,35 +78,27 @@ module _ (rules : Rules) (print : Bool) (files : List (Bytes × Bytes)) (name in
         → (parse : Parse) → IsParse parse → Outcome (render_answer parse rules print files name input) (sunk t t) err code
     file_stops old none why h status says =
         by_any (sunk t t) err code (stop_outcome (render_answer parsed rules print files name input) t err code (halt_seen why) (quiet why)
-        (if_some _ _ (halt_seen why) (λ s e. from_files old none (Err s) e) h) status says)
+        (IfSome_then (halt_seen why) (rw none at h) (λ s e. rw e refl)) status says)
 
   module _ (old set : List Template) (none : old ≡ []) (loads : each_added parsed old files ≡ Ok set) where
     -- the set is to be printed
     pub printed_out : (out err : Sunk) (code : ℕ) → print ≡ true → Outcome (only_text (printed_set set)) out err code
         → (parse : Parse) → IsParse parse → Outcome (render_answer parse rules print files name input) out err code
     printed_out out err code is h =
-        by_any out err code (subst (λ (a : Answer). Outcome a out err code)
-        (sym (from_files old none (Ok set) loads ∙ ap (λ (p : Bool). behind_files p (Ok set)) is)) h)
+        by_any out err code (let added = rw none at loads in rw (added, is) h)
 
     module _ (runs : print ≡ false) where
-      with_data : (r : Result (Option Value) Stop) → data_lent (codes "data") input ≡ r
-          → render_answer parsed rules print files name input ≡ answer_of (and_then r (λ v. named_run rules name set v))
-      with_data r is =
-          from_files old none (Ok set) loads ∙ ap (λ (p : Bool). behind_files p (Ok set)) runs
-          ∙ ap (λ (r : Result (Option Value) Stop). answer_of (and_then r (λ v. named_run rules name set v))) is
-
       -- the data stops it
       pub data_stops : (t : Told) (err : Sunk) (code : ℕ) (why : Halt) → IfSome (halt_seen why) (λ s. data_lent (codes "data") input ≡ Err s)
           → code ≡ (said_of (halt_seen why)).status → Says (said_of (halt_seen why)).line err
           → (parse : Parse) → IsParse parse → Outcome (render_answer parse rules print files name input) (sunk t t) err code
       data_stops t err code why h status says =
           by_any (sunk t t) err code (stop_outcome (render_answer parsed rules print files name input) t err code (halt_seen why) (quiet why)
-          (if_some _ _ (halt_seen why) (λ s e. with_data (Err s) e) h) status says)
+          (IfSome_then (halt_seen why) h (λ s e. let added = rw none at loads in rw (added, runs, e) refl)) status says)
 
       -- nothing stops it
       pub goes_on : (out err : Sunk) (code : ℕ) (value found : Option Value) → data_lent (codes "data") input ≡ Ok value → found ≡ value
           → Outcome (answer_of (named_run rules name set found)) out err code
           → (parse : Parse) → IsParse parse → Outcome (render_answer parse rules print files name input) out err code
       goes_on out err code value found is same h =
-          by_any out err code (subst (λ (a : Answer). Outcome a out err code)
-          (sym (with_data (Ok value) is ∙ ap (λ (v : Option Value). answer_of (named_run rules name set v)) (sym same))) h)
+          by_any out err code (let added = rw none at loads in rw (added, runs, is, sym same) h)

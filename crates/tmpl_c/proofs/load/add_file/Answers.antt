@@ -1,21 +1,18 @@
-use Rattle.std.proofs.Common.{Bor, ap, false, refl}
+use Rattle.std.proofs.Common.{◌≡◌, Bor, ap, false, refl}
+use Rattle.std.specs.Str.{is_utf8}
 use Rattle.std.proofs.lemmas.Bool.{false_from_ne_true}
 use Rattle.std.proofs.lemmas.Str.{IsUtf8-from_is_utf8}
 use Rattle.tmpl_syntax.specs.View.{set_view}
 use Rattle.tmpl_syntax.specs.Fault.{reason_of}
-use Rattle.tmpl_syntax.specs.computed.Parse.{parsed}
 use Rattle.tmpl_tool.specs.Source.{Bytes}
 use Rattle.tmpl_c.specs.Lent.{pair_of}
-use Rattle.tmpl_c.proofs.LawLemmas.{named_by}
 use Rattle.tmpl_c.proofs.LentLemmas.{file_added, file_refused, text_added}
 use Rattle.tmpl_c.proofs.load.add_file.Goals as goal
 
 pub returns-in_default : goal.returns-in_default
-returns-in_default c = record {
-  comes = named_by parsed (set_view c.args.set.now) (pair_of c.args.file.now) false
-      (false_from_ne_true _ (λ e. c.in_default.ensures.cases.0 (IsUtf8-from_is_utf8 _ e)));
-  kept = refl;
-}
+returns-in_default c =
+    let no : is_utf8 (pair_of c.args.file.now).0 ≡ false = false_from_ne_true _ (λ e. c.in_default.ensures.cases.0 (IsUtf8-from_is_utf8 _ e)) in
+    record { comes = rw no refl; kept = refl }
 
 pub returns-in-Ok-parse_file : goal.returns-in-Ok-parse_file
 returns-in-Ok-parse_file c =
