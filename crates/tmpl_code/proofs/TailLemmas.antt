@@ -1,7 +1,7 @@
 -- For `put_junction`, `Compiler::put_nodes` and what they call: code ends with what stands behind it, so a jump is as long as what was put, and one
 -- out of a range still leads behind it; controls from their parts, and nodes one by one.
 use Rattle.std.proofs.Common.{arith, ◌≡◌, ◌∙◌, ◌+◌, ◌-◌, ◌≤◌, ℕ, suc, Bool, true, false, List, [], ◌∷◌, ◌++◌, length, drop, refl, ap, sym, Option, Some, None}
-use Rattle.std.proofs.Common.{append_assoc, length-append, ◌<◌, zero, take, get_or, subst, Result, Ok, Err, OnOk}
+use Rattle.std.proofs.Common.{append_assoc, length-append, ◌<◌, zero, take, get_or, subst}
 use Rattle.std.proofs.Math.Seq.{drop-append-add}
 use Rattle.std.proofs.lemmas.List.{take-append-drop}
 use Rattle.std.proofs.lemmas.List.Prefix.{end_rest}
@@ -255,10 +255,7 @@ put_on : {P : NodesPart} {e : Option held_around.Around} (old : Compiler) {mid n
     → Ends (code_of old.code) (code_of mid.code)
     → layout_of mid.scope ≡ layout_of old.scope → Put P e mid new
     → P (layout_of old.scope) (exit_seen e (code_of old.code)) (code_of new.code) (code_of mid.code)
-put_on {P} {e} old {mid} {new} h t same p =
-    subst (λ (l : Layout). P l (exit_seen e (code_of old.code)) (code_of new.code) (code_of mid.code)) same
-    (subst (λ (x : Exit). P (layout_of mid.scope) x (code_of new.code) (code_of mid.code))
-    (exit_on e (layout_of old.scope) h t) p.code)
+put_on {P} {e} old {mid} {new} h t same p = let out = exit_on e (layout_of old.scope) h t in rw (same, out) at p.code
 
 pub dotted_part : (ts : List Template) (b : Binding) (ns : Nodes) → AllEnd (DottedPart ts b ns)
 dotted_part ts b ns lay exit code rest l = nodes_ends ts ns (None ∷ bound_on b lay) exit code rest l
@@ -281,7 +278,7 @@ module _ (ts : List Template) {e : Option held_around.Around} {old : Compiler} (
     code = (
       code_of mid.code,
       put_on {P = BoundPart ts b ns} old h (end_ends n skip (code_of mid.code) (code_of old.code) end) same p,
-      subst (λ k. EndAt k skip (code_of mid.code) (code_of old.code)) count end,
+      rw count at end,
     );
     scope = p.scope ∙ same;
   }
@@ -299,7 +296,7 @@ module _ (ts : List Template) {e : Option held_around.Around} {old : Compiler} (
         record {
           code = (
             start,
-            subst (λ (l : Layout). HeaderAt head l (code_of new.code) start) scope headed,
+            rw scope at headed,
             (
               code_of first.code,
               code_of second.code,
@@ -332,15 +329,14 @@ module _ (ts : List Template) {e : Option held_around.Around} {old : Compiler} (
         record {
           code = (
             start,
-            subst (λ (l : Layout). HeaderAt head l (code_of new.code) start) scope headed,
+            rw scope at headed,
             (
               code_of first.code,
               code_of second.code,
               skip,
               to,
               is ∙ ap (λ k. enter_with k skip ∷ code_of first.code) keeps,
-              subst (λ (c : Code). DottedPart ts head.binding body (layout_of old.scope) (exit_seen e (code_of old.code)) (code_of first.code) c)
-                  (goes ∙ (λ j. end_with (ns j) (vs j) to ∷ code_of second.code)) part,
+              rw (goes, ns, vs) at part,
               p.code,
               passes behind skipped,
               passes (tail (ended_part ts head.binding others 0) p) tos,
@@ -372,12 +368,11 @@ module _ (ts : List Template) {e : Option held_around.Around} {old : Compiler} (
         let around : exit_seen (Some a) (code_of mid.code) ≡ Some (record { out = code_of old.code; line = line; below = length (layout_of old.scope) }) =
         (λ j. Some (record { out = out j; line = lines j; below = (below ∙ ap (λ (l : Layout). length l) lay) j })) in
         let inner : Exit = Some (record { out = code_of old.code; line = line; below = length (layout_of old.scope) }) in
-        let turns = subst (λ (l : Layout). TurnsPart ts head.binding body l inner (code_of first.code) (code_of mid.code)) lay
-        (subst (λ (x : Exit). TurnsPart ts head.binding body (layout_of mid.scope) x (code_of first.code) (code_of mid.code)) around q.code) in
+        let turns = rw (lay, around) at q.code in
         record {
           code = (
             start,
-            subst (λ (l : Layout). PipelineAt head.pipeline l (code_of new.code) start) scope piped,
+            rw scope at piped,
             (
               code_of first.code,
               turns.0,
@@ -386,9 +381,8 @@ module _ (ts : List Template) {e : Option held_around.Around} {old : Compiler} (
               to,
               is ∙ ap (λ k. enter k skip ∷ code_of first.code) keys,
               turns.1,
-              subst (λ (c : Code). NodesAt ts body (bound_on head.binding (None ∷ None ∷ layout_of old.scope)) inner turns.0 c)
-                  (goes ∙ ap (λ k. next k to line ∷ code_of second.code) ns) turns.2,
-              (code_of end.code, put_on {P = NodesAt ts others} old h closed ended p, subst (λ k. EndAt k 0 (code_of end.code) (code_of old.code)) ms close),
+              rw (goes, ns) at turns.2,
+              (code_of end.code, put_on {P = NodesAt ts others} old h closed ended p, rw ms at close),
               passes behind skipped,
               passes before tos,
             ),
@@ -407,13 +401,7 @@ pub record Putting (ts : List Template) (e : Option held_around.Around) (ns : Li
 pub put_all : {ts : List Template} {e : Option held_around.Around} {ns : List held_node.Node} {i : ℕ} {old now : Compiler} → i ≡ 0 → Putting ts e ns i old now
     → Put (NodesAt ts (nodes_in ns)) e old now
 put_all {ts} {e} {ns} {i} {old} {now} none l =
-    let scope : layout_of now.scope ≡ layout_of old.scope = l.layout ∙ ap (λ k. all_grown (nodes_in (take k ns)) (layout_of old.scope)) none in
-    record {
-      code = subst (λ (y : Layout). NodesAt ts (nodes_in ns) y (exit_seen e (code_of old.code)) (code_of now.code) (code_of old.code)) scope
-          (subst (λ k. NodesAt ts (nodes_in (drop k ns)) (layout_of now.scope) (exit_seen e (code_of old.code)) (code_of now.code) (code_of old.code)) none
-          l.put);
-      scope = scope;
-    }
+    let scope : layout_of now.scope ≡ layout_of old.scope = rw none at l.layout in record { code = rw (none, scope) at l.put; scope = scope }
 
 -- a node more, whose variables went out of scope
 module _ {ts : List Template} {e : Option held_around.Around} {ns : List held_node.Node} {i : ℕ} {old now : Compiler} (start : Compiler)
@@ -441,10 +429,8 @@ module _ {ts : List Template} {e : Option held_around.Around} {ns : List held_no
       let what = (node_of n).what in
       let x = exit_seen e (code_of old.code) in
       let before = all_grown (nodes_in (take j ns)) (layout_of old.scope) in
-      let seen = subst (λ (y : Exit). NodeAt ts line what (layout_of start.scope) y (code_of mid.code) (code_of start.code))
-      (exit_on e (layout_of old.scope) h behind) p.code in
-      let one = subst (λ (y : Layout). NodeAt ts line what y x (code_of mid.code) (code_of now.code)) layout
-      (subst (λ (c : Code). NodeAt ts line what (layout_of start.scope) x (code_of mid.code) c) same seen) in
+      let out = exit_on e (layout_of old.scope) h behind in
+      let one = rw (out, same, layout) at p.code in
       let put = nodes_more ts ns i j n x before (layout_of now.scope) (code_of new.code) (code_of mid.code) (code_of now.code) (code_of old.code) here next is
       (grows ns i j n (layout_of old.scope) (layout_of now.scope) here next is l.layout) step one l.put in
       let scope = kept ∙ p.scope ∙ layout in
