@@ -1,9 +1,8 @@
 -- For `load_files`: the files read so far, and those that are left.
 use Rattle.std.proofs.Common.{◌≡◌, ◌∙◌, ◌+◌, ◌++◌, ◌<◌, ℕ, zero, suc, false, List, [], ◌∷◌, length, Option, Some, None, Result, Ok, Err, add-zero}
-use Rattle.std.proofs.Common.{IfSome, Bor, drop, map, ◌≤◌, ap, append_assoc, arith, eq-eqb, inl, inr, refl, subst, sym, zero-add}
+use Rattle.std.proofs.Common.{IfSome, Bor, drop, map, ◌≤◌, ap, append_assoc, arith, eq-eqb, inl, inr, refl, sym, zero-add}
 use Rattle.std.specs.Prelude.{nat_eq, option_map}
 use Rattle.std.proofs.lemmas.List.{append-nil, drop_all, length-append}
-use Rattle.std.specs.Option.{ok_or}
 use Rattle.std.specs.Result.{result_map_both}
 use Rattle.std.proofs.Math.Dec.{eqb-suc-zero}
 use Rattle.std.proofs.lemmas.Bool.{ne_eqb}
@@ -41,15 +40,13 @@ module _ (Made : List Bytes → Type 0) (files : Files) (set : List Template) (n
   -- a beginning that is too long is refused as the whole is
   same_parsed : parsed set name (bytes ++ found.0) ≡ parsed set name bytes
   same_parsed = elim found.2 [
-    | inl none ↦ ap (λ (rest : Bytes). parsed set name (bytes ++ rest)) none ∙ ap (parsed set name) (append-nil bytes)
+    | inl none ↦ rw (none, append-nil bytes) refl
     | inr long ↦
         parsed-long set name (bytes ++ found.0) (omega (arith, long, length-append bytes found.0)) ∙ sym (parsed-long set name bytes long)
   ]
 
   as_parsed : with_file parsed files false set name ≡ result_map_both (λ s. s) (tool.refused name) (parsed set name bytes)
-  as_parsed =
-      ap (λ o. and_then (ok_or o (tool.not_found name)) (λ bytes. result_map_both (λ s. s) (tool.refused name) (parsed set name bytes))) found.1
-      ∙ ap (result_map_both (λ s. s) (tool.refused name)) same_parsed
+  as_parsed = rw (found.1, same_parsed) refl
 
   refusal_comes : (f : ParseFault) (why : Option Reason)
       → IfSome (option_map (λ r. tool.refused f.file.now (f.line, r)) why) (λ s. result_map_both (λ t. t) (tool.refused name) (parsed set name bytes) ≡ Err s)
@@ -60,7 +57,7 @@ module _ (Made : List Bytes → Type 0) (files : Files) (set : List Template) (n
   -- a file that was read comes to what it is parsed to
   pub file_comes : (r : Result (Unit {0}) held.Stop) → Adds (parsed set name bytes) name new r
       → ComesOf Made (λ fails. with_file parsed files (fails 0) set name) (λ fails. name ∷ []) (λ u. new) r
-  file_comes (Ok u) h = (as_parsed ∙ ap (result_map_both (λ s. s) (tool.refused name)) h, made)
+  file_comes (Ok u) h = (as_parsed ∙ rw h refl, made)
   file_comes (Err (stop.Template f)) h = refusal_comes f (reason_of f.kind) h
   file_comes (Err s) h = absurd h
 
@@ -86,19 +83,6 @@ nat_eq-add (suc n) i = ne_eqb (suc n + i) i (λ e. omega (arith, e)) ∙ sym (eq
 
 module _ (before between after : Option (List Bytes)) (files : Files) (start : List Template) (names : List Bytes) (i : ℕ) (set : List Template)
     (name : Bytes) (left : List Bytes) (so_far : ComesTo (Asked before between) files start names i set (name ∷ left)) where
-  -- what is read behind the file
-  abbrev behind : Failing → Result (List Template) Stop → List Bytes
-  behind fails r = reads_behind (λ s. file_reads parsed files fails (suc i) s left) r
-
-  -- the file comes to this where its read does as that of a number
-  one_file : (fails : Failing) → Succeed i fails → (r : Result (List Template) Stop) → with_file parsed files (fails i) set name ≡ r
-      → loaded parsed files fails 0 start names ≡ and_then r (λ s. loaded parsed files fails (suc i) s left)
-  one_file fails succeed r is = (so_far.2 fails succeed).0 ∙ ap (λ r. and_then r (λ s. loaded parsed files fails (suc i) s left)) is
-
-  one_read : (fails : Failing) → Succeed i fails → (r : Result (List Template) Stop) → with_file parsed files (fails i) set name ≡ r
-      → file_reads parsed files fails 0 start names ≡ so_far.0 ++ (name ∷ behind fails r)
-  one_read fails succeed r is = (so_far.2 fails succeed).1 ∙ ap (λ r. so_far.0 ++ (name ∷ behind fails r)) is
-
   -- one more file
   pub one_more : (new : List Template) → with_file parsed files false set name ≡ Ok new → Asked between after (name ∷ [])
       → ComesTo (Asked before after) files start names (i + 1) new left
@@ -107,11 +91,11 @@ module _ (before between after : Option (List Bytes)) (files : Files) (start : L
     asked-append before between after so_far.0 (name ∷ []) so_far.1 asked,
     λ fails succeed.
         let fewer : Succeed i fails = λ k lt. succeed k (omega (arith, lt)) in
-        let here : with_file parsed files (fails i) set name ≡ Ok new = ap (λ b. with_file parsed files b set name) (succeed i (omega arith)) ∙ is in
-        let next : suc i ≡ i + 1 = omega arith in (
-          one_file fails fewer (Ok new) here ∙ ap (λ n. loaded parsed files fails n new left) next,
-          one_read fails fewer (Ok new) here ∙ sym (append_assoc so_far.0 (name ∷ []) (file_reads parsed files fails (suc i) new left))
-              ∙ ap (λ n. (so_far.0 ++ name ∷ []) ++ file_reads parsed files fails n new left) next,
+        let first : fails i ≡ false = succeed i (omega arith) in
+        let next : suc i ≡ i + 1 = omega arith in
+        let come = so_far.2 fails fewer in (
+          rw (come.0, first, is, next) refl,
+          rw (come.1, first, is, next) (sym (append_assoc so_far.0 (name ∷ []) (file_reads parsed files fails (i + 1) new left))),
         ),
   )
 
@@ -119,26 +103,22 @@ module _ (before between after : Option (List Bytes)) (files : Files) (start : L
   pub stops_there : (s : Option Stop) → StopsAt (Asked between after) (λ fails. with_file parsed files (fails 0) set name) (λ fails. name ∷ []) s
       → StopsAt (Asked before after) (λ fails. loaded parsed files fails 0 start names) (λ fails. file_reads parsed files fails 0 start names) s
   stops_there None (front, rest, e, asked) =
-      let tail = behind no_read (with_file parsed files false set name) in
+      let tail = reads_behind (λ s. file_reads parsed files no_read (suc i) s left) (with_file parsed files false set name) in
       let parted : (so_far.0 ++ front) ++ (rest ++ tail) ≡ so_far.0 ++ ((front ++ rest) ++ tail) = simp append_assoc in (
         so_far.0 ++ front,
         rest ++ tail,
-        parted ∙ ap (λ (x : List Bytes). so_far.0 ++ (x ++ tail)) e ∙ sym (one_read no_read (λ j lt. refl) (with_file parsed files false set name) refl),
+        parted ∙ rw (e, (so_far.2 no_read (λ j lt. refl)).1) refl,
         asked-append before between after so_far.0 front so_far.1 asked,
       )
   stops_there (Some (tool.unread n)) (k, is, asked) =
-      let fails : Failing = nat_eq (k + i) in
-      let here : with_file parsed files (fails i) set name ≡ Err (tool.unread n) = ap (λ b. with_file parsed files b set name) (nat_eq-add k i) ∙ is in (
+      let come = so_far.2 (nat_eq (k + i)) (λ j lt. other-above j k i lt) in (
         k + i,
-        one_file fails (λ j lt. other-above j k i lt) (Err (tool.unread n)) here,
-        subst (Asked before after) (sym (one_read fails (λ j lt. other-above j k i lt) (Err (tool.unread n)) here))
-            (asked-append before between after so_far.0 (name ∷ []) so_far.1 asked),
+        rw (come.0, nat_eq-add k i, is) refl,
+        rw (come.1, nat_eq-add k i, is) (asked-append before between after so_far.0 (name ∷ []) so_far.1 asked),
       )
-  stops_there (Some s) h = (
-    one_file no_read (λ j lt. refl) (Err s) h.0,
-    subst (Asked before after) (sym (one_read no_read (λ j lt. refl) (Err s) h.0))
-        (asked-append before between after so_far.0 (name ∷ []) so_far.1 h.1),
-  )
+  stops_there (Some s) h =
+      let come = so_far.2 no_read (λ j lt. refl) in
+      (rw (come.0, h.0) refl, rw (come.1, h.0) (asked-append before between after so_far.0 (name ∷ []) so_far.1 h.1))
 
 -- nothing is left
 pub all_come : (before between : Option (List Bytes)) (files : Files) (start : List Template) (names : List (Bor Bytes)) (i : ℕ) (set : List Template)
@@ -146,10 +126,8 @@ pub all_come : (before between : Option (List Bytes)) (files : Files) (start : L
     → (loaded parsed files no_read 0 start (map (λ s. s.now) names) ≡ Ok set)
     × Asked before between (file_reads parsed files no_read 0 start (map (λ s. s.now) names))
 all_come before between files start names i set past comes =
-    let all =
-    subst (λ (ns : List (Bor Bytes)). ComesTo (Asked before between) files start (map (λ s. s.now) names) i set (map (λ s. s.now) ns)) (drop_all i names past)
-    comes in
-    let none = all.2 no_read (λ k lt. refl) in (none.0, subst (Asked before between) (sym (none.1 ∙ append-nil all.0)) all.1)
+    let all = rw (drop_all i names past) at comes in
+    let none = all.2 no_read (λ k lt. refl) in (none.0, rw (none.1, append-nil all.0) all.1)
 
 -- where no read fails of a list of files, they come to what they come to where none fails at all, and as many of them are read
 pub all_succeed : (files : Files) (fails : Failing) (k : ℕ) (set : List Template) (names : List Bytes)

@@ -3,7 +3,6 @@ use Rattle.std.proofs.Common.{◌≡◌, ◌∙◌, ◌+◌, ◌++◌, ◌<◌, 
 use Rattle.std.proofs.Common.{append_assoc, refl, sym, subst, inl, inr, zero-add}
 use Rattle.std.proofs.lemmas.List.{append-nil}
 use Rattle.std.specs.Prelude.{nat_eq, option_map, option_to_list, if◌then◌else◌}
-use Rattle.std.specs.Option.{ok_or}
 use Rattle.std.specs.Result.{result_map_both}
 use Rattle.tmpl_values.specs.Value.{Value}
 use Rattle.tmpl_values.specs.Json.{not_json, not_whole}
@@ -20,7 +19,7 @@ use Rattle.tmpl_tool.specs.Tool as tool
 use Rattle.tmpl_tool.specs.Tool.{Failing, Follows, MadeOf, Parse, Stop, answer_of, asked_by, data_found, data_wanted, file_reads}
 use Rattle.tmpl_tool.specs.Tool.{loaded, no_read, reads_behind, stop_answer, stop_if, tool_answer, tool_reads}
 use Rattle.tmpl_values.specs.Stage.{and_then}
-use Rattle.tmpl_tool.specs.Inputs.{Counts, StopsAt, inputs_of, inputs_reads, refusal_seen, said_of, stop_seen}
+use Rattle.tmpl_tool.specs.Inputs.{Counts, StopsAt, inputs_of, inputs_reads, said_of, stop_seen}
 use Rattle.tmpl_tool.specs.computed.Load.{after_set, after_words, finished, rendered}
 use Rattle.tmpl_tool.specs.declared.stop.Stop as held
 use Rattle.tmpl_tool.specs.declared.stop.Stop.TheVariants as stop

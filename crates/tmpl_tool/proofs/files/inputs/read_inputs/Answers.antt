@@ -1,4 +1,4 @@
-use Rattle.std.proofs.Common.{◌≡◌, ◌∙◌, sym, subst, map, rules, [], List, Bor, None, Ok, IfSome}
+use Rattle.std.proofs.Common.{◌≡◌, ◌∙◌, map, rules, [], List, Bor, None, Result, Ok, Err, IfSome}
 use Rattle.std.specs.Option.{option_map}
 use Rattle.tmpl_values.specs.View.{value_of}
 use Rattle.tmpl_syntax.specs.Set.{Template}
@@ -6,24 +6,23 @@ use Rattle.tmpl_syntax.specs.View.{set_view}
 use Rattle.tmpl_syntax.specs.computed.Parse.{parsed}
 use Rattle.tmpl_meaning.proofs.ToldLemmas.{err_up, if_told, of_told}
 use Rattle.tmpl_tool.specs.Source.{Asked, Bytes, Files}
+use Rattle.tmpl_tool.specs.declared.stop.Stop.{Stop}
 use Rattle.tmpl_tool.specs.Tool.{Parse, file_reads, loaded, no_read}
 use Rattle.tmpl_tool.specs.View.{seen}
-use Rattle.tmpl_tool.specs.Inputs.{ComesOf, StopsAt, inputs_of, inputs_reads, inputs_seen, stop_seen}
+use Rattle.tmpl_tool.specs.Inputs.{ComesOf, inputs_of, inputs_reads, inputs_seen, stop_seen}
 use Rattle.tmpl_tool.proofs.LoadLemmas.{asked-nothing}
 use Rattle.tmpl_tool.proofs.ParseLemmas.{for_each}
 use Rattle.tmpl_tool.proofs.StopLemmas.{data_stops, load_stops, nothing_stops, printed_next}
 use Rattle.tmpl_tool.proofs.files.inputs.read_inputs.Goals as goal
 
 -- the templates of FILEs, which are given as a slice, and what is read for them
-all_loaded : (Made : List Bytes → Type 0) (files : Files) (old : List Template) (names given : List (Bor Bytes)) (set : List Template)
-    → [] ≡ old → names ≡ given
-    → (loaded parsed files no_read 0 old (map (λ s. s.now) given) ≡ Ok set) × Made (file_reads parsed files no_read 0 old (map (λ s. s.now) given))
-    → (loaded parsed files no_read 0 [] (map (λ s. s.now) names) ≡ Ok set) × Made (file_reads parsed files no_read 0 [] (map (λ s. s.now) names))
-all_loaded Made files old names given set none same h =
-    subst (λ (ns : List (Bor Bytes)). (loaded parsed files no_read 0 [] (map (λ s. s.now) ns) ≡ Ok set)
-    × Made (file_reads parsed files no_read 0 [] (map (λ s. s.now) ns))) (sym same)
-    (subst (λ (old : List Template). (loaded parsed files no_read 0 old (map (λ s. s.now) given) ≡ Ok set)
-    × Made (file_reads parsed files no_read 0 old (map (λ s. s.now) given))) (sym none) h)
+loads_as : (Made : List Bytes → Type 0) (files : Files) (old : List Template) (given names : List (Bor Bytes)) (set : List Template)
+    (r : Result (Unit {0}) Stop) → old ≡ [] → given ≡ names
+    → ComesOf Made (λ fails. loaded parsed files fails 0 old (map (λ s. s.now) given)) (λ fails. file_reads parsed files fails 0 old (map (λ s. s.now) given))
+    (λ u. set) r
+    → ComesOf Made (λ fails. loaded parsed files fails 0 [] (map (λ s. s.now) names)) (λ fails. file_reads parsed files fails 0 [] (map (λ s. s.now) names))
+    (λ u. set) r
+loads_as Made files old given names set r none same h = rw (none, same) at h
 
 pub returns-in_err-load_files-clause-reads : goal.returns-in_err-load_files-clause-reads
 returns-in_err-load_files-clause-reads g c =
@@ -33,14 +32,10 @@ returns-in_err-load_files-clause-reads g c =
     _)) (
     let stop = c.in_err-load_files.field-0.0 in
     if_told _ (g.S.Source.contents c.args.source.now) (λ files told.
-    let stops = of_told _ _ files told c.in_err-load_files.ensures.loads in
-    let stops_here : StopsAt Made (λ fails. loaded parsed files fails 0 [] w.files) (λ fails. file_reads parsed files fails 0 [] w.files) (stop_seen stop) =
-    subst (λ (ns : List (Bor Bytes)). StopsAt Made (λ fails. loaded parsed files fails 0 [] (map (λ s. s.now) ns))
-    (λ fails. file_reads parsed files fails 0 [] (map (λ s. s.now) ns)) (stop_seen stop)) c.as_slice.ensures.value
-    (subst (λ (old : List Template). StopsAt Made (λ fails. loaded parsed files fails 0 old (map (λ s. s.now) c.as_slice.result.now))
-    (λ fails. file_reads parsed files fails 0 old (map (λ s. s.now) c.as_slice.result.now)) (stop_seen stop)) c.with_hash-set.ensures stops) in
+    let stops = loads_as Made files _ _ _ [] (Err stop) c.with_hash-set.ensures c.as_slice.ensures.value
+    (of_told _ _ files told c.in_err-load_files.ensures.loads) in
     err_up (ComesOf Made (inputs_of parsed files w) (inputs_reads parsed files w) inputs_seen) c.from_residual.result _ c.from_residual.ensures.1
-    (load_stops files w Made (stop_seen stop) stops_here)))
+    (load_stops files w Made (stop_seen stop) stops)))
 
 pub returns-in_err-data-clause-reads : goal.returns-in_err-data-clause-reads
 returns-in_err-data-clause-reads g c =
@@ -53,7 +48,7 @@ returns-in_err-data-clause-reads g c =
     let set = set_view c.load_files.new.set in
     let stop = c.in_err-data.field-0.0 in
     if_told _ (g.S.Source.contents c.args.source.now) (λ files told.
-    let loads = all_loaded (Asked before between) files _ _ _ set (sym c.with_hash-set.ensures) (sym c.as_slice.ensures.value)
+    let loads = loads_as (Asked before between) files _ _ _ set (Ok tt) c.with_hash-set.ensures c.as_slice.ensures.value
     (of_told _ _ files told c.in_ok-load_files.ensures.loads) in
     let stops = of_told _ _ files (c.in_ok-load_files.ensures.contents ∙ told) c.in_err-data.ensures.reads in
     err_up (ComesOf (Asked before after) (inputs_of parsed files w) (inputs_reads parsed files w) inputs_seen) c.from_residual-in_err-data.result _
@@ -69,7 +64,7 @@ returns-clause-reads g c parse is =
     let between = g.S.Source.asked c.load_files.new.source in
     let after = g.S.Source.asked c.read_data.new.source in
     if_told _ (g.S.Source.contents c.args.source.now) (λ files told.
-    let loads = all_loaded (Asked before between) files _ _ _ set (sym c.with_hash-set.ensures) (sym c.as_slice.ensures.value)
+    let loads = loads_as (Asked before between) files _ _ _ set (Ok tt) c.with_hash-set.ensures c.as_slice.ensures.value
     (of_told _ _ files told c.in_ok-load_files.ensures.loads) in
     let found = of_told _ _ files (c.in_ok-load_files.ensures.contents ∙ told) c.in_ok-data.ensures.reads in
     for_each (λ (p : Parse). (inputs_of p files w no_read ≡ Ok (set, input)) × Asked before after (inputs_reads p files w no_read))
@@ -83,7 +78,7 @@ returns-then-request-clause-reads g c parse is =
     let before = g.S.Source.asked c.args.source.now in
     let between = g.S.Source.asked c.load_files.new.source in
     if_told _ (g.S.Source.contents c.args.source.now) (λ files told.
-    let loads = all_loaded (Asked before between) files _ _ _ set (sym c.with_hash-set.ensures) (sym c.as_slice.ensures.value)
+    let loads = loads_as (Asked before between) files _ _ _ set (Ok tt) c.with_hash-set.ensures c.as_slice.ensures.value
     (of_told _ _ files told c.in_ok-load_files.ensures.loads) in
     for_each (λ (p : Parse). (inputs_of p files w no_read ≡ Ok (set, None)) × Asked before between (inputs_reads p files w no_read))
     (printed_next files w before between between set loads.0 loads.1 (search rules) (asked-nothing between))
