@@ -55,32 +55,15 @@ module _ (files : Files) (w : Wanted) where
 
   module _ (before between after : Option (List Bytes)) (set : List Template) (loads : loaded parsed files no_read 0 [] w.files ≡ Ok set)
       (asked : Asked before between (template_reads files w no_read)) where
-    -- the templates are read, and then this is
-    reads_next : (fails : Failing) → loaded parsed files fails 0 [] w.files ≡ Ok set → template_reads files w fails ≡ template_reads files w no_read
-        → (o : Option Bytes) → data_wanted w ≡ o → inputs_reads parsed files w fails ≡ template_reads files w no_read ++ option_to_list o
-    reads_next fails all same o is = rw (all, same, is) refl
-
-    asked_next : (fails : Failing) → loaded parsed files fails 0 [] w.files ≡ Ok set → template_reads files w fails ≡ template_reads files w no_read
-        → (o : Option Bytes) → data_wanted w ≡ o → Asked between after (option_to_list o) → Asked before after (inputs_reads parsed files w fails)
-    asked_next fails all same o is more =
-        subst (Asked before after) (sym (reads_next fails all same o is))
-        (asked-append before between after (template_reads files w no_read) (option_to_list o) asked more)
-
-    -- the templates are read, and the data is next
-    data_next : (fails : Failing) → loaded parsed files fails 0 [] w.files ≡ Ok set → (o : Option Bytes) → data_wanted w ≡ o
-        → inputs_of parsed files w fails ≡ with_data set (data_found files (fails (length w.files)) o)
-    data_next fails all o is = rw (all, is) refl
-
     -- the set is to be printed, whatever the data is, and nothing more is read
     pub printed_next : w.print ≡ true → Asked between after []
         → (inputs_of parsed files w no_read ≡ Ok (set, None)) × Asked before after (inputs_reads parsed files w no_read)
-    printed_next is more =
-        let none : data_wanted w ≡ None = rw is refl in
-        (data_next no_read loads None none, asked_next no_read loads refl None none more)
+    printed_next is more = (rw (loads, is) refl, rw (loads, is) (asked-append before between after (template_reads files w no_read) [] asked more))
 
     module _ (runs : w.print ≡ false) where
-      wanted_data : data_wanted w ≡ w.data_file
-      wanted_data = rw runs refl
+      -- the templates are read, and then what is read for the data
+      behind_files : Asked between after (option_to_list w.data_file) → Asked before after (template_reads files w no_read ++ option_to_list w.data_file)
+      behind_files more = asked-append before between after (template_reads files w no_read) (option_to_list w.data_file) asked more
 
       -- the data stops the program
       pub data_stops : (s : Option Stop)
@@ -90,7 +73,7 @@ module _ (files : Files) (w : Wanted) where
           let first = template_reads files w no_read in (
             first ++ front,
             rest,
-            append_assoc first front rest ∙ ap (λ (names : List Bytes). first ++ names) e ∙ sym (reads_next no_read loads refl w.data_file wanted_data),
+            rw (loads, runs, append_assoc first front rest, e) refl,
             asked-append before between after first front asked more,
           )
       data_stops (Some (tool.unread n)) (k, h, more) =
@@ -98,20 +81,13 @@ module _ (files : Files) (w : Wanted) where
           let fails : Failing = nat_eq (k + size) in
           let succeed : (j : ℕ) → j < size → fails (0 + j) ≡ false = λ j lt. other-above (0 + j) k size (subst (λ i. i < size) (sym (zero-add j)) lt) in
           let same = all_succeed files fails 0 [] w.files succeed in
-          let all = same.0 ∙ loads in (
-            k + size,
-            data_next fails all w.data_file wanted_data
-                ∙ ap (λ b. with_data set (data_found files b w.data_file)) (nat_eq-add k size) ∙ ap (with_data set) h,
-            asked_next fails all same.1 w.data_file wanted_data more,
-          )
-      data_stops (Some s) h =
-          (data_next no_read loads w.data_file wanted_data ∙ ap (with_data set) h.0, asked_next no_read loads refl w.data_file wanted_data h.1)
+          (k + size, rw (same.0, loads, runs, nat_eq-add k size, h) refl, rw (same.0, same.1, loads, runs) (behind_files more))
+      data_stops (Some s) h = (rw (loads, runs, h.0) refl, rw (loads, runs) (behind_files h.1))
 
       -- nothing stops it
       pub nothing_stops : (input : Option Value) → data_found files false w.data_file ≡ Ok input → Asked between after (option_to_list w.data_file)
           → (inputs_of parsed files w no_read ≡ Ok (set, input)) × Asked before after (inputs_reads parsed files w no_read)
-      nothing_stops input found more =
-          (data_next no_read loads w.data_file wanted_data ∙ ap (with_data set) found, asked_next no_read loads refl w.data_file wanted_data more)
+      nothing_stops input found more = (rw (loads, runs, found) refl, rw (loads, runs) (behind_files more))
 
 module _ (parse : Parse) (files : Files) (w : Wanted) where
   -- behind the inputs stands what is done with them
@@ -138,8 +114,8 @@ module _ (parse : Parse) (files : Files) (w : Wanted) where
   pub stops_after : (Made : List Bytes → Type 0) (s : Option Stop) → StopsAt Made (inputs_of parse files w) (inputs_reads parse files w) s
       → StopsAt Made (after_words parse files w) (inputs_reads parse files w) s
   stops_after Made None h = h
-  stops_after Made (Some (tool.unread n)) (k, h, made) = (k, after_inputs (nat_eq k) ∙ ap (λ r. and_then r (λ i. finished w i.0 i.1)) h, made)
-  stops_after Made (Some s) h = (after_inputs no_read ∙ ap (λ r. and_then r (λ i. finished w i.0 i.1)) h.0, h.1)
+  stops_after Made (Some (tool.unread n)) (k, h, made) = (k, rw (after_inputs (nat_eq k), h) refl, made)
+  stops_after Made (Some s) h = (rw (after_inputs no_read, h.0) refl, h.1)
 
 module _ (err : Sunk) (code : ℕ) where
   -- an outcome of what comes to the same
