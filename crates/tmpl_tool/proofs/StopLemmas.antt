@@ -10,11 +10,11 @@ use Rattle.tmpl_syntax.specs.Fault.{Reason, reason_of}
 use Rattle.tmpl_syntax.specs.Set.{Template}
 use Rattle.tmpl_syntax.specs.computed.Parse.{parsed}
 use Rattle.tmpl_syntax.specs.declared.fault.ParseFault.{ParseFault}
-use Rattle.tmpl_meaning.specs.Sink.{Told, Sunk, Whole, sunk}
+use Rattle.tmpl_meaning.specs.Sink.{Told, Sunk, sunk}
 use Rattle.tmpl_tool.specs.Words.{Wanted, wanted}
 use Rattle.tmpl_tool.specs.Help.{asks_help}
 use Rattle.tmpl_tool.specs.Source.{Asked, Bytes, Files}
-use Rattle.tmpl_tool.specs.Outcome.{Answer, Outcome, Says}
+use Rattle.tmpl_tool.specs.Outcome.{Says}
 use Rattle.tmpl_tool.specs.Tool as tool
 use Rattle.tmpl_tool.specs.Tool.{Failing, Follows, MadeOf, Parse, Stop, answer_of, asked_by, data_found, data_wanted, file_reads}
 use Rattle.tmpl_tool.specs.Tool.{loaded, no_read, reads_behind, stop_answer, stop_if, tool_answer, tool_reads}
@@ -118,10 +118,6 @@ module _ (parse : Parse) (files : Files) (w : Wanted) where
   stops_after Made (Some s) h = (rw (after_inputs no_read, h.0) refl, h.1)
 
 module _ (err : Sunk) (code : ℕ) where
-  -- an outcome of what comes to the same
-  pub outcome_as : (out : Sunk) (a b : Answer) → a ≡ b → Outcome b out err code → Outcome a out err code
-  outcome_as out a b is o = subst (λ (x : Answer). Outcome x out err code) (sym is) o
-
   module _ (parse : Parse) (t : Told) (was is : ℕ) (Made : List Bytes → Type 0) (w : Wanted) (files : Files) where
     -- what is read, and what comes of it
     abbrev Comes : Type 0
@@ -130,7 +126,7 @@ module _ (err : Sunk) (code : ℕ) where
     stops_at : (s : Stop) → is ≡ was → (after_words parse files w no_read ≡ Err s) × Made (inputs_reads parse files w no_read)
         → code ≡ (stop_answer s).status → Says (stop_answer s).line err → (stop_answer s).text ≡ [] → Comes
     stops_at s counts (h, made) status says empty =
-        inl (counts, inl made, outcome_as _ _ _ (ap answer_of h) (inl (subst (λ x. Whole x (sunk t t)) (sym empty) (nothing_put t), status, says)))
+        inl (counts, inl made, rw (h, empty) (inl (nothing_put t, status, says)))
 
     refused_memory : is ≡ was → MadeOf Made (inputs_reads parse files w no_read) → code ≡ 7 → Says (said_of None).line err → Comes
     refused_memory counts made status says =
@@ -146,7 +142,7 @@ module _ (err : Sunk) (code : ℕ) where
         → code ≡ (said_of (stop_seen s)).status → Says (said_of (stop_seen s)).line err → Comes
     stops (stop.NotFound m) counts h status says = stops_at (tool.not_found m.now) counts h status says refl
     stops (stop.Failed m) counts (k, h, made) status says =
-        inr (counts, (k, ap (λ r. (answer_of r).unread) h, made, outcome_as _ _ _ (ap answer_of h) (inl (nothing_put t, status, says))))
+        inr (counts, (k, rw h refl, made, rw h (inl (nothing_put t, status, says))))
     stops (stop.Template f) counts h status says = refusal f (reason_of f.kind) counts h status says
     stops (stop.NotJson m) counts h status says = stops_at (tool.flawed m.now not_json) counts h status says refl
     stops (stop.NotWhole m) counts h status says = stops_at (tool.flawed m.now not_whole) counts h status says refl

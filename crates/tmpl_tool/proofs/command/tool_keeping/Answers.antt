@@ -1,24 +1,18 @@
-use Rattle.std.proofs.Common.{◌≡◌, ◌∙◌, [], ap, refl, subst, sym, map, rules, false, true, inl, inr}
+use Rattle.std.proofs.Common.{◌≡◌, ◌∙◌, [], ap, refl, sym, map, rules, false, true, inl, inr}
 use Rattle.std.specs.String.{string_bytes}
-use Rattle.std.specs.Option.{ok_or, option_map}
+use Rattle.std.specs.Option.{option_map}
 use Rattle.tmpl_values.specs.View.{value_of}
-use Rattle.tmpl_syntax.specs.View.{set_view}
 use Rattle.tmpl_meaning.specs.Sink.{sunk}
 use Rattle.tmpl_meaning.proofs.ToldLemmas.{if_told, of_told}
 use Rattle.tmpl_tool.specs.Help.{asks_help}
-use Rattle.tmpl_tool.specs.Inputs.{inputs_reads, stop_seen}
-use Rattle.tmpl_tool.specs.Outcome.{Outcome}
-use Rattle.tmpl_tool.specs.Source.{Asked}
-use Rattle.tmpl_tool.specs.Tool.{answer_of, bad_words, help, no_read, reads_behind, stop_if, tool_answer, tool_reads}
-use Rattle.tmpl_values.specs.Stage.{and_then}
-use Rattle.tmpl_tool.specs.Words.{wanted}
+use Rattle.tmpl_tool.specs.Inputs.{stop_seen}
+use Rattle.tmpl_tool.specs.Tool.{no_read, tool_answer, tool_reads}
 use Rattle.tmpl_tool.specs.declared.status.Status.{Status}
 use Rattle.tmpl_tool.specs.View.{seen}
-use Rattle.tmpl_tool.specs.computed.Load.{finished}
 use Rattle.tmpl_tool.proofs.LoadLemmas.{asked-nothing}
 use Rattle.tmpl_tool.proofs.MessageLemmas.{nothing_out}
 use Rattle.tmpl_tool.proofs.StageLemmas.{gives_help}
-use Rattle.tmpl_tool.proofs.StopLemmas.{accepted, after_inputs, asks, outcome_as, stops, stops_after}
+use Rattle.tmpl_tool.proofs.StopLemmas.{accepted, after_inputs, asks, stops, stops_after}
 use Rattle.tmpl_tool.proofs.command.tool_keeping.Goals as goal
 
 pub returns-then-asks_help-clause-told : goal.returns-then-asks_help-clause-told
@@ -26,17 +20,8 @@ returns-then-asks_help-clause-told g c parse is =
     let words = map (λ word. string_bytes word) c.args.words.now in
     let helps : asks_help words ≡ true = search rules in
     let asked = g.S.Source.asked c.args.source.now in
-    let out = sunk (g.O.Sink.so_far c.args.out.now) (g.O.Sink.so_far c.put_out.new.out) in
-    let err = sunk (g.E.Sink.so_far c.args.err.now) (g.E.Sink.so_far c.put_out.new.err) in
     if_told _ (g.S.Source.contents c.args.source.now) (λ files told.
-    inl (
-      refl,
-      inl (subst (Asked asked asked)
-          (ap (λ b. reads_behind (λ w. inputs_reads parse files w no_read) (and_then (stop_if b help) (λ u. ok_or (wanted words) bad_words))) (sym helps))
-          (asked-nothing asked)),
-      subst (λ (s : Status). Outcome (tool_answer parse words files no_read) out err s.code) (sym c.stopped.ensures)
-          (outcome_as err c.put_out.result.code out _ _ (gives_help parse words files no_read helps) c.put_out.ensures.outcome),
-    ))
+    inl (refl, inl (rw helps (asked-nothing asked)), rw (c.stopped.ensures, gives_help parse words files no_read helps) c.put_out.ensures.outcome))
 
 pub returns-in-Ok-read_inputs-clause-told : goal.returns-in-Ok-read_inputs-clause-told
 returns-in-Ok-read_inputs-clause-told g c parse is =
@@ -51,11 +36,7 @@ returns-in-Ok-read_inputs-clause-told g c parse is =
     (inl (
       c.in-Ok-read_inputs.ensures.counts,
       inl reads.1,
-      outcome_as _ c.answer.result.code _ _ _
-          (ap answer_of
-          (after_inputs parse files w no_read ∙ ap (λ r. and_then r (λ i. finished w i.0 i.1)) reads.0
-          ∙ ap (finished w (set_view inputs.set)) (sym same)))
-          c.answer.ensures.outcome,
+      rw (after_inputs parse files w no_read, reads.0, sym same) c.answer.ensures.outcome,
     )))
 
 pub returns-in-Ok-clause-told : goal.returns-in-Ok-clause-told

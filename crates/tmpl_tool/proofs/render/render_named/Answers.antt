@@ -1,12 +1,9 @@
-use Rattle.std.proofs.Common.{ap, option_map, sym}
+use Rattle.std.proofs.Common.{option_map, sym}
 use Rattle.tmpl_values.specs.View.{value_of}
 use Rattle.tmpl_syntax.specs.View.{set_view}
-use Rattle.tmpl_meaning.specs.Sink.{sunk}
 use Rattle.tmpl_meaning.specs.View.{rules_of}
 use Rattle.tmpl_engine.specs.Render.{ran_named}
-use Rattle.tmpl_tool.specs.Tool.{answer_of}
 use Rattle.tmpl_tool.proofs.RenderLemmas.{ok_or-ran_named}
-use Rattle.tmpl_tool.proofs.StopLemmas.{outcome_as}
 use Rattle.tmpl_tool.proofs.render.render_named.Goals as goal
 
 pub returns : goal.returns
@@ -21,7 +18,5 @@ returns g c =
     record {
       counts = c.tell_end.ensures.counts ran before after c.render_through-end.ensures;
       cuts = c.tell_end.ensures.cuts;
-      outcome =
-          outcome_as (sunk (g.E.Sink.so_far c.args.err.now) (g.E.Sink.so_far c.tell_end.new.err)) c.tell_end.result.code (sunk before after) _ _
-          (sym (ap answer_of (ok_or-ran_named rules name set input))) (c.tell_end.ensures.outcome ran before after c.render_through-end.ensures);
+      outcome = rw (sym (ok_or-ran_named rules name set input)) (c.tell_end.ensures.outcome ran before after c.render_through-end.ensures);
     }
