@@ -1,5 +1,5 @@
 -- For the loops of `row_of` and `table_of`: what is converted stands before what the rest is read as.
-use Rattle.std.proofs.Common.{◌≡◌, ℕ, List, [], ◌∷◌, ◌++◌, Option, Some, None, Ok, option_map, String, Global, string_bytes, refl, sym, ap, ◌∙◌}
+use Rattle.std.proofs.Common.{◌≡◌, ℕ, List, [], ◌∷◌, ◌++◌, Option, Some, None, Ok, option_map, String, Global, string_bytes, refl, ap}
 use Rattle.serde_json.specs.declared.value.Value as json
 use Rattle.serde_json.specs.View.{view, items_view, members_view}
 use Rattle.tmpl_values.specs.declared.data.Data.{Data}
@@ -47,16 +47,13 @@ module _ (all : Option Items) (ds ds' : List Data) (rest rest' : List json.Value
       → if_whole (tree_value (view v)) ≡ Ok (value_of d) → ds' ≡ ds ++ d ∷ []
       → all ≡ option_map (before ds') (tree_items (items_view rest'))
   tree_items-step so_far cut read grown =
-      so_far ∙
-      ap (λ vs. option_map (before ds) (tree_items (items_view vs))) cut ∙
-      rw (if_whole-Ok _ _ read)
-      (option_map-option_map (before ds) (item (value_of d)) (before (ds ++ d ∷ [])) _ (before-one ds d)) ∙
-      ap (λ es. option_map (before es) (tree_items (items_view rest'))) (sym grown)
+      rw (so_far, cut, if_whole-Ok _ _ read, grown)
+      (option_map-option_map (before ds) (item (value_of d)) (before (ds ++ d ∷ [])) _ (before-one ds d))
 
 -- all items are done
 pub tree_items-end : (all : Option Items) (ds : List Data) (rest : List json.Value)
     → all ≡ option_map (before ds) (tree_items (items_view rest)) → rest ≡ [] → all ≡ Some (items_of ds)
-tree_items-end all ds rest so_far past = so_far ∙ ap (λ vs. option_map (before ds) (tree_items (items_view vs))) past ∙ ap Some (before-all ds)
+tree_items-end all ds rest so_far past = rw (so_far, past) (ap Some (before-all ds))
 
 module _ (all : Option Entries) (ds ds' : List (List ℕ × Data)) (rest rest' : List (String Global × json.Value)) (k : String Global)
     (v : json.Value) (d : Data) where
@@ -65,15 +62,10 @@ module _ (all : Option Entries) (ds ds' : List (List ℕ × Data)) (rest rest' :
       → if_whole (tree_value (view v)) ≡ Ok (value_of d) → ds' ≡ ds ++ (string_bytes k, d) ∷ []
       → all ≡ option_map (before_entries ds') (tree_entries (members_view rest'))
   tree_entries-step so_far cut read grown =
-      so_far ∙
-      ap (λ ms. option_map (before_entries ds) (tree_entries (members_view ms))) cut ∙
-      rw (if_whole-Ok _ _ read)
-      (option_map-option_map (before_entries ds) (entry (string_bytes k) (value_of d)) (before_entries (ds ++ (string_bytes k, d) ∷ [])) _
-      (before_entries-one ds (string_bytes k, d))) ∙
-      ap (λ es. option_map (before_entries es) (tree_entries (members_view rest'))) (sym grown)
+      rw (so_far, cut, if_whole-Ok _ _ read, grown) (option_map-option_map (before_entries ds) (entry (string_bytes k) (value_of d))
+      (before_entries (ds ++ (string_bytes k, d) ∷ [])) _ (before_entries-one ds (string_bytes k, d)))
 
 -- all members are done
 pub tree_entries-end : (all : Option Entries) (ds : List (List ℕ × Data)) (rest : List (String Global × json.Value))
     → all ≡ option_map (before_entries ds) (tree_entries (members_view rest)) → rest ≡ [] → all ≡ Some (entries_of ds)
-tree_entries-end all ds rest so_far past = so_far ∙ ap (λ ms. option_map (before_entries ds) (tree_entries (members_view ms))) past
-    ∙ ap Some (before_entries-all ds)
+tree_entries-end all ds rest so_far past = rw (so_far, past) (ap Some (before_entries-all ds))
