@@ -147,9 +147,9 @@ mutual
         λ k. inner.2 (behind.2 k),
       )
 
-pub spells-formed : SpellsFormed
+pub spells_formed : SpellsFormed
 unfolding verdict_of
-spells-formed items ds own judged spells =
+spells_formed items ds own judged spells =
     let v = one-verdict (roles_of items) (verdict_of (roles_of items)) fine (judged-all (roles_of items)) judged in
     let fit = leads-formed spells [] none_known [] (λ x. refl) (sym (passes-fine (roles_of items) 0 [] none_known) ∙ ap is_fine v) in
     (fit.2 tt, fit.0)
@@ -243,5 +243,5 @@ pub accepts-back : AcceptsBack
 unfolding verdict_of
 accepts-back items ds own judged spells read s =
     let passed = passes-fine (roles_of read) 0 [] none_known ∙ ap (passes [] none_known) (says-roles s ∙ ap roles_said (sym (append-nil (nodes_said own))))
-    ∙ nodes-passes own [] none_known [] [] (λ x. refl) ∙ ap (λ b. b && true) (spells-formed items ds own judged spells).1 in
+    ∙ nodes-passes own [] none_known [] [] (λ x. refl) ∙ ap (λ b. b && true) (spells_formed items ds own judged spells).1 in
     subst (Judged (roles_of read)) (fine-back (verdict_of (roles_of read)) passed) (judged-all (roles_of read))

@@ -23,7 +23,7 @@ use Rattle.tmpl_syntax.specs.computed.Build.{nodes_from, definitions_from}
 use Rattle.tmpl_syntax.specs.computed.Parse.{by_verdict, checked, all_from, items_of}
 use Rattle.tmpl_syntax.proofs.ItemLemmas.{has-items}
 use Rattle.tmpl_syntax.proofs.SpellingLemmas.{spells-fine}
-use Rattle.tmpl_syntax.proofs.AcceptedLemmas.{spells-formed}
+use Rattle.tmpl_syntax.proofs.AcceptedLemmas.{spells_formed}
 use Rattle.tmpl_syntax.proofs.VerdictLemmas.{judged-all}
 use Rattle.tmpl_syntax.proofs.NeedLemmas.{need-most}
 use Rattle.tmpl_syntax.proofs.PrintableNodeLemmas.{keeps-printable}
@@ -99,7 +99,7 @@ file-kept file bytes ts name h within passed built =
     let own = nodes_from items in
     let accepted = checked-verdict bytes items passed in
     let spelled = spells-fine items accepted in
-    let formed = spells-formed items ds own (subst (Judged (roles_of items)) accepted (judged-all (roles_of items))) spelled in
+    let formed = spells_formed items ds own (subst (Judged (roles_of items)) accepted (judged-all (roles_of items))) spelled in
     let printable = keeps-printable every_branch bytes items ds own h (has-items bytes) spelled in
     subst AreKept (sym built) (all-kept file ds own name formed (printable.0 file) printable.1
     (need-most every_branch file bytes items ds own within (has-items bytes) spelled))

@@ -95,6 +95,9 @@ pub record Even (xs : List Role) (j m : ℕ) : Type 0 where
   pub keeps : (k : ℕ) → IsOpen xs k j → IsOpen xs k m
   pub only : (k : ℕ) → IsOpen xs k m → IsOpen xs k j
 
+pub even-here : (xs : List Role) (i : ℕ) → Even xs i i
+even-here xs i = record { le = omega arith; balance = refl; keeps = λ k o. o; only = λ k o. o }
+
 -- .. and no else between belongs to what is open
 pub record Same (xs : List Role) (j m : ℕ) : Type 0 where
   pub even : Even xs j m
