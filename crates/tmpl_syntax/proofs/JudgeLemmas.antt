@@ -18,7 +18,7 @@ use Rattle.tmpl_syntax.proofs.FaultLemmas.{Clears, clears, in-nothing, knows-cle
 use Rattle.tmpl_syntax.proofs.OpenLemmas.{same-opening, one-last, even-here}
 use Rattle.tmpl_syntax.proofs.PlaceLemmas.{levels-unique, no-else, InLoop}
 use Rattle.tmpl_syntax.proofs.ScopeLemmas.{to-scope, from-scope, at-place, at-place-back, else-sees, else-seen}
-use Rattle.tmpl_syntax.proofs.StandLemmas.{Here, Stands, here-of}
+use Rattle.tmpl_syntax.proofs.StandLemmas.{Here, Stands, here-of, looped}
 use Rattle.tmpl_syntax.proofs.StepLemmas.{joins-own, joins-no-range}
 use Rattle.tmpl_syntax.specs.Place.Opening.{Opening}
 use Rattle.tmpl_syntax.specs.Place.Opening as opened
@@ -53,7 +53,7 @@ placed xs i known fs (else_part (Some (b, p))) s = clears _ (takes xs i known (S
 placed xs i known fs (nested (Some b)) s = clears _ (takes xs i known (Some b) fs s)
 placed xs i known [] closer s = s.0
 placed xs i known (f ∷ fs) closer s = λ h. h s.1 s.2.last.is_open
-placed xs i known fs jump s = by (in_loop (top fs)) (here-of xs i known fs s).looped
+placed xs i known fs jump s = by (in_loop (top fs)) (looped xs i known fs s)
   where
     by : (b : Bool) → Decides b (InLoop xs i) → Clears b ((j : ℕ) → IsLoop xs j i → ⊥)
     by true d = λ none. let l = d.0 refl in none l.0 l.1

@@ -180,3 +180,6 @@ same-still xs x i at o e ne = record {
 -- what an opening adds
 abbrev pub opened_new : (xs : List Role) (i : ℕ) (c : Opening) (p : Names) → slice_get xs i ≡ Some (act_role (opener c p)) → IsOpen xs i (i + 1)
 opened_new xs i c p at = open-by xs i (i + 1) c p at (omega arith) (λ n from to. let s : n ≡ i + 1 = omega arith in rw s (omega arith))
+
+abbrev pub last_new : (xs : List Role) (i : ℕ) (c : Opening) (p : Names) → slice_get xs i ≡ Some (act_role (opener c p)) → IsLast xs i (i + 1)
+last_new xs i c p at = record { is_open = opened_new xs i c p at; last = λ k lt o. let le = o.before in omega arith }

@@ -1,18 +1,18 @@
 -- For `one_verdict`: what stands on the stack is what is open, and the names are those in scope.
-use Rattle.std.proofs.Common.{arith, ◌≡◌, ◌≢◌, ℕ, ◌+◌, ◌≤◌, Bool, true, false, List, [], ◌∷◌, refl, sym, ap, ◌∙◌, subst, length, take}
-use Rattle.std.proofs.Common.{Option, Some, None, ⊎_elim, inl, inr}
+use Rattle.std.proofs.Common.{arith, ◌≡◌, ℕ, ◌+◌, ◌≤◌, true, false, List, [], ◌∷◌, refl, sym, ap, ◌∙◌, subst, length, take}
+use Rattle.std.proofs.Common.{Option, Some, None, ⊎_elim, inl, inr, not, ◌||◌}
 use Rattle.std.specs.Prelude.{slice_get, Contains}
 use Rattle.std.specs.Bool.{Decides}
 use Rattle.std.proofs.lemmas.Bool.{cases_lt, cases_order}
-use Rattle.std.proofs.lemmas.Bool.Decides.{Decides-like}
-use Rattle.tmpl_syntax.specs.Place.Open.{NothingOpen, IsLast, HasElse, is_template, IsTemplate, OfOneTemplate}
+use Rattle.std.proofs.lemmas.Bool.Decides.{Decides-like, Decides-not, Decides-or}
+use Rattle.tmpl_syntax.specs.Place.Open.{IsOpen, NothingOpen, IsLast, HasElse, is_template, IsTemplate, OfOneTemplate}
 use Rattle.tmpl_syntax.specs.Place.Body.{IsLoop, Levels}
 use Rattle.tmpl_syntax.specs.computed.Frames.{Frame, top, loops, in_loop, levels, is_known, entered, Known, with_inner, closed_if, closed_names, with_names}
 use Rattle.tmpl_syntax.proofs.FaultLemmas.{IsWithin}
 use Rattle.tmpl_syntax.proofs.NameLemmas.{with-longer, take-with, with-Decides}
-use Rattle.tmpl_syntax.proofs.OpenLemmas.{ups, downs, same-opening, cut, Same, opened-keeps, opened_new}
-use Rattle.tmpl_syntax.proofs.PlaceLemmas.{Alike, alike-back, alike-even, alike-opened, template-moves, template-opened, template-apart}
-use Rattle.tmpl_syntax.proofs.PlaceLemmas.{levels-same, levels-opened, InLoop, loop-moves, else_before, else-same, loop-same, loop-same-back, has-before}
+use Rattle.tmpl_syntax.proofs.OpenLemmas.{ups, downs, same-opening, cut, Same}
+use Rattle.tmpl_syntax.proofs.PlaceLemmas.{Alike, alike-last, loop-in, loop-out, alike-back, alike-even, alike-opened, template-moves, template-opened, template-apart}
+use Rattle.tmpl_syntax.proofs.PlaceLemmas.{levels-same, levels-opened, InLoop, else_before, else-same}
 use Rattle.tmpl_syntax.proofs.ScopeLemmas.{Brought, Sees, brought-same, brought-same-back, brought-late, sees-opened}
 use Rattle.tmpl_syntax.specs.Place.Opening.{Opening}
 use Rattle.tmpl_syntax.specs.Place.Opening as opened
@@ -25,7 +25,6 @@ pub record Here (xs : List Role) (i : ℕ) (t : Option Frame) (names : List Name
   pub template : Option ℕ
   pub is_template_here : IsTemplate xs i template
   pub levels_are : Levels xs i i (levels t)
-  pub looped : Decides (in_loop t) (InLoop xs i)
   pub sees : Sees xs None i names
 
 -- the frame stands for the opening at j, the last one open at i
@@ -52,6 +51,42 @@ pub here-of : (xs : List Role) (i : ℕ) (known : Known) (fs : List Frame) → S
 here-of xs i known [] s = s.1
 here-of xs i known (f ∷ fs) s = s.0
 
+-- a break may stand where the newest frame says so
+pub looped : (xs : List Role) (i : ℕ) (known : Known) (fs : List Frame) → Stands xs i known fs → Decides (in_loop (top fs)) (InLoop xs i)
+looped xs i known [] s = (λ e. cc, λ l. absurd (s.0 l.0 l.1.0))
+looped xs i known (f ∷ fs) (h, j, s, below) = by f.opening refl
+  where
+    same : (o : IsOpen xs j i) → o.opened ≡ f.opening
+    same o = same-opening xs j o.opened f.opening o.at s.opened
+
+    by : (c : Opening) → f.opening ≡ c → Decides (loops c f.has_else f.around) (InLoop xs i)
+    by (opened.control Range) e =
+        let own = ap is_template (same s.last.is_open ∙ e) in
+        let back = alike-back xs j i (alike-last xs j i s.last own) in
+        Decides-like (not f.has_else || f.around)
+        (⊎_elim (λ no. (
+          j,
+          (
+            s.last.is_open,
+            same s.last.is_open ∙ e,
+            (h.template, template-moves xs i j back h.template h.is_template_here, h.is_template_here),
+            no,
+          ),
+        )) (loop-in xs j i s.last own))
+        (λ l. ⊎_elim (λ k. inl (subst (λ q. IsLoop xs q i) k l.1).3) (λ k. inr k) (loop-out xs j i s.last own l))
+        (Decides-or (not f.has_else) f.around (Decides-not f.has_else s.has) s.around)
+    by (opened.control d) e =
+        let own = ap is_template (same s.last.is_open ∙ e) in
+        Decides-like f.around (loop-in xs j i s.last own)
+        (λ l. ⊎_elim (λ k. let w = subst (λ q. IsLoop xs q i) k l.1 in let g = sym (same w.0) ∙ w.1 in absurd (cc)) (λ k. k) (loop-out xs j i s.last own l))
+        s.around
+    by c e = (
+      λ k. cc,
+      λ l. absurd (⊎_elim (λ gt. s.last.last l.0 gt l.1.0)
+          (λ le. template-apart xs j l.0 i (record { is_open = s.last.is_open; own = ap is_template (same s.last.is_open ∙ e) }) le l.1.2)
+          (cases_lt j l.0)),
+    )
+
 -- a place is of the template of the one before it, where the same templates are open
 pub one-here : (xs : List Role) (i m : ℕ) (t : Option Frame) (names : List Name) → Here xs i t names → Alike xs i m → OfOneTemplate xs i m
 one-here xs i m t names h e = (h.template, h.is_template_here, template-moves xs i m e h.template h.is_template_here)
@@ -67,7 +102,6 @@ module _ (xs : List Role) (j m : ℕ) (s : Same xs j m) (known : Known) (ds : Li
     template = h.template;
     is_template_here = template-moves xs j m (alike-even xs j m s.even) h.template h.is_template_here;
     levels_are = levels-same xs j m (levels t) s h.levels_are;
-    looped = Decides-like (in_loop t) (loop-same xs j m s) (loop-same-back xs j m s) h.looped;
     sees = λ n. Decides-like (is_known (with_names names ds) n)
         (⊎_elim (brought-same xs None j m s n) (new n))
         (λ b. ⊎_elim (λ lt. inl (brought-same-back xs None j m s n b lt)) (λ ge. inr (old n b ge)) (cases_lt b.by j))
@@ -117,54 +151,15 @@ module _ (xs : List Role) (i : ℕ) (names : List Name) (d : Control) (p : Names
   alike : Alike xs i (i + 1)
   alike = alike-opened xs i c p at refl
 
-  loop-on : InLoop xs i → InLoop xs (i + 1)
-  loop-on l = (
-    l.0,
-    loop-moves xs l.0 i (i + 1) alike
-        (opened-keeps xs (act_role (opener c p)) i l.0 at refl l.1.0) (has-before xs (act_role (opener c p)) i at (λ g. cc) l.0) l.1,
-  )
-
-  loop-off : c ≢ opened.control Range → InLoop xs (i + 1) → InLoop xs i
-  loop-off nr l = ⊎_elim
-      (λ lt. (
-        l.0,
-        loop-moves xs l.0 (i + 1) i (alike-back xs i (i + 1) alike)
-            (cut xs l.0 i (i + 1) lt (omega arith) l.1.0) (else_before xs l.0 i (i + 1) (omega arith)) l.1,
-      ))
-      (λ ge. let b = l.1.0.before in let s : l.0 ≡ i = omega arith in
-      let w : IsLoop xs i (i + 1) = subst (λ k. IsLoop xs k (i + 1)) s l.1 in
-      absurd (nr (same-opening xs i c w.0.opened at w.0.at ∙ w.1)))
-      (cases_lt l.0 i)
-
-  looped-behind : (e : Control) → d ≡ e → Decides (loops (opened.control e) false (in_loop t)) (InLoop xs (i + 1))
-  looped-behind Range e = (
-    λ g. (
-      i,
-      (
-        opened_new xs i c p at,
-        ap opened.control e,
-        one-here xs i (i + 1) t names h alike,
-        λ has. let lt = has.1 in let b = has.2.belongs.is_open.before in omega arith,
-      ),
-    ),
-    λ l. refl,
-  )
-  looped-behind _ e = Decides-like (in_loop t) loop-on (loop-off (λ r. cc)) h.looped
-
   pub here-control : Here xs (i + 1) (Some (entered c p t names)) (with_names names p.declares)
   here-control = record {
     template = h.template;
     is_template_here = template-moves xs i (i + 1) alike h.template h.is_template_here;
     levels_are = levels-opened xs i (levels t) c p at h.levels_are;
-    looped = looped-behind d refl;
     sees = sees-opened xs i c p at refl None (λ q e. cc) names h.sees h.template h.is_template_here (λ r e. cc);
   }
 
-loops-template : (c : Opening) (has around : Bool) → is_template c ≡ true → loops c has around ≡ false
-loops-template (opened.control c) has around own = cc
-loops-template _ has around own = refl
-
--- in a template nothing is known, and no loop is around it
+-- in a template nothing is known
 pub here-template : (xs : List Role) (i : ℕ) (names : List Name) (c : Opening) (p : Names) → slice_get xs i ≡ Some (act_role (opener c p)) → (t : Option Frame)
     → Here xs i t names → is_template c ≡ true → Here xs (i + 1) (Some (entered c p t names)) []
 here-template xs i names c p at t h own =
@@ -173,9 +168,5 @@ here-template xs i names c p at t h own =
       template = Some i;
       is_template_here = body;
       levels_are = levels-opened xs i (levels t) c p at h.levels_are;
-      looped = (
-        λ e. let g : true ≡ false = sym e ∙ loops-template c false (in_loop t) own in cc,
-        λ l. absurd (let lt = l.1.0.before in template-apart xs i l.0 (i + 1) body.0 (omega arith) l.1.2),
-      );
       sees = λ n. (λ k. cc, λ b. absurd (let lt = b.before in template-apart xs i b.by (i + 1) body.0 (omega arith) b.template));
     }

@@ -1,32 +1,33 @@
 -- For `one_verdict`: what stands after an opening, an end, a declaration, an else, and what changes no frame.
-use Rattle.std.proofs.Common.{arith, ◌≡◌, ◌≢◌, ℕ, ◌+◌, ◌<◌, true, false, List, [], ◌∷◌, refl, sym, ◌∙◌, subst, length, take, Option, Some, inl, inr, ⊎_elim}
+use Rattle.std.proofs.Common.{arith, ◌≡◌, ◌≢◌, ℕ, ◌+◌, true, false, List, [], ◌∷◌, refl, sym, ◌∙◌, subst, length, take, Option, Some, inl, inr, ⊎_elim}
 use Rattle.std.proofs.Common.{◌⊎◌, Bool, not, ap, None}
 use Rattle.std.specs.Prelude.{slice_get, Contains, is_some}
-use Rattle.std.proofs.lemmas.Bool.{cases_lt, cases_order, and_parts}
+use Rattle.std.proofs.lemmas.Bool.{cases_lt, and_parts}
 use Rattle.std.proofs.Math.Seq.{take-length}
 use Rattle.tmpl_grammar.specs.declared.action.Branch.{Branch}
-use Rattle.tmpl_syntax.specs.computed.Frames.{Frame, top, is_known, entered, Known, with_inner, with_names, opened_names, loops, else_came, else_levels}
+use Rattle.tmpl_grammar.specs.Action.{control_in}
+use Rattle.tmpl_syntax.specs.computed.Frames.{Frame, top, is_known, entered, Known, with_inner, with_names, opened_names, else_came}
 use Rattle.tmpl_syntax.specs.computed.Frames.{parted, is_placed, closed_if}
 use Rattle.tmpl_syntax.specs.Place.Open.{opens, ends, IsOpen, NothingOpen, IsLast, is_template, IsElseOf, HasElse}
 use Rattle.tmpl_syntax.proofs.FaultLemmas.{IsWithin, in-nothing}
 use Rattle.tmpl_syntax.proofs.NameLemmas.{take-before, with-Decides, part-low, part-high, else_names, take-part, with-longer, take-with}
-use Rattle.tmpl_syntax.proofs.OpenLemmas.{cut, Same, shut-at, same-ended, same-still, opened_new, same-opening, through}
+use Rattle.tmpl_syntax.proofs.OpenLemmas.{cut, Same, shut-at, same-ended, same-still, last_new, same-opening}
 use Rattle.tmpl_syntax.proofs.OpenLemmas.{Even, even-step}
-use Rattle.tmpl_syntax.proofs.PlaceLemmas.{alike-even, template-moves, alike-back, alike-last, levels-else, InLoop, loop-moves, else_before}
+use Rattle.tmpl_syntax.proofs.PlaceLemmas.{alike-even, template-moves, levels-else, else_before}
 use Rattle.tmpl_syntax.proofs.PlaceLemmas.{has-before}
 use Rattle.tmpl_syntax.proofs.ScopeLemmas.{Reaches, from_top, from_inside, from_else_branch, Brought, Sees, declared_at, brings, brought-late, sees-opened}
 use Rattle.tmpl_syntax.proofs.ScopeLemmas.{sees-ranged, else-sees, else-seen}
-use Rattle.tmpl_syntax.proofs.StandLemmas.{Here, Stood, closed_at, Stands, here-of, one-here, stands-moves, here-control, here-template}
+use Rattle.tmpl_syntax.proofs.StandLemmas.{looped, Here, Stood, closed_at, Stands, here-of, one-here, stands-moves, here-control, here-template}
 use Rattle.tmpl_syntax.specs.Place.Opening.{Opening}
 use Rattle.tmpl_syntax.specs.Place.Opening as opened
 use Rattle.tmpl_grammar.specs.declared.tree.Control.{Control}
-use Rattle.tmpl_grammar.specs.declared.tree.Control.TheVariants.{Range}
+use Rattle.tmpl_grammar.specs.declared.tree.Control.TheVariants.{If, With, Range}
 use Rattle.tmpl_syntax.specs.Place.Role.{Name, Names, plain, opener, else_part, closer, Role, act_role}
 use Rattle.std.specs.Bool.{Decides}
 use Rattle.std.proofs.lemmas.Bool.Decides.{Decides-like}
 use Rattle.std.proofs.lemmas.List.{length-take-le, take-take}
 use Rattle.tmpl_grammar.specs.declared.action.Branch.TheVariants.{If as if_branch, With as with_branch}
-use Rattle.tmpl_syntax.specs.Place.Body.{joins, is_level, IsLoop, Levels, names_in}
+use Rattle.tmpl_syntax.specs.Place.Body.{joins, is_level, names_in}
 
 -- after an opening
 module _ (xs : List Role) (i : ℕ) (known : Known) (p : Names) (fs : List Frame) (s : Stands xs i known fs) where
@@ -42,10 +43,10 @@ module _ (xs : List Role) (i : ℕ) (known : Known) (p : Names) (fs : List Frame
   stood-opened c at ns within part = record {
     names = p;
     opened = at;
-    last = record { is_open = opened_new xs i c p at; last = λ k lt b. let g = b.before in omega arith };
+    last = last_new xs i c p at;
     over = refl;
     has = (λ e. cc, λ e. let a = e.1 in let b = e.2.belongs.is_open.before in absurd (omega arith));
-    around = h.looped;
+    around = looped xs i known fs s;
     within = within;
     part = part;
   }
@@ -122,51 +123,36 @@ stands-passed xs i known x fs at o e nt s = stands-moves xs i (i + 1) same known
     new (act_role (else_part b)) at o nt n c = absurd (nt b refl)
     new _ at o nt n c = in-nothing n c
 
--- an else stands in a control, and one that begins with a control in no range
+-- an else stands in a control, and one that begins with a control in such a one, which is no range
+pub joins-control : (b : Branch) (c : Opening) → joins (Some b) c ≡ true → c ≡ opened.control (control_in b)
+joins-control if_branch (opened.control If) e = refl
+joins-control with_branch (opened.control With) e = refl
+joins-control _ _ e = cc
+
 pub joins-own : (b : Option Branch) (c : Opening) → joins b c ≡ true → is_template c ≡ false
-joins-own b (opened.control d) e = refl
+joins-own None (opened.control d) e = refl
 joins-own None _ e = cc
-joins-own (Some if_branch) _ e = cc
-joins-own (Some with_branch) _ e = cc
+joins-own (Some b) c e = ap is_template (joins-control b c e)
 
 pub joins-no-range : (b : Branch) (c : Opening) → joins (Some b) c ≡ true → c ≢ opened.control Range
-joins-no-range if_branch c j e = let t : true ≡ false = sym j ∙ ap (joins (Some if_branch)) e in cc
-joins-no-range with_branch c j e = let t : true ≡ false = sym j ∙ ap (joins (Some with_branch)) e in cc
+joins-no-range if_branch c j e = let is = joins-control if_branch c j in cc
+joins-no-range with_branch c j e = let is = joins-control with_branch c j in cc
 
 -- a control is a level
 level-there : (c : Opening) → is_template c ≡ false → is_level c ≡ true
 level-there opened.define e = cc
 level-there _ e = refl
 
-loops-else : (c : Opening) (a : Bool) → is_template c ≡ false → loops c true a ≡ a
-loops-else (opened.control Range) a own = refl
-loops-else (opened.control _) a own = refl
-loops-else _ a own = cc
-
-loops-other : (c : Opening) (h a : Bool) → is_template c ≡ false → c ≢ opened.control Range → loops c h a ≡ a
-loops-other (opened.control Range) h a own nr = absurd (nr refl)
-loops-other opened.define h a own nr = cc
-loops-other opened.block h a own nr = cc
-loops-other _ h a own nr = refl
-
--- what may take an else is a control, and no range if it begins with a control
+-- what may take an else is a control
 else-own : (b : Option (Branch × Names)) (f : Frame) → is_placed (else_part b) (Some f) ≡ true → is_template f.opening ≡ false
 else-own None f e = joins-own None f.opening (and_parts (joins None f.opening) (not f.has_else) e).0
 else-own (Some (b, p)) f e = joins-own (Some b) f.opening (and_parts (joins (Some b) f.opening) (not f.has_else) e).0
-
-else-no-range : (b : Branch) (p : Names) (f : Frame) → is_placed (else_part (Some (b, p))) (Some f) ≡ true → f.opening ≢ opened.control Range
-else-no-range b p f e = joins-no-range b f.opening (and_parts (joins (Some b) f.opening) (not f.has_else) e).0
-
-looped-else : (b : Option (Branch × Names)) (f : Frame) → is_placed (else_part b) (Some f) ≡ true
-    → loops f.opening (else_came (is_some b) f.has_else) f.around ≡ f.around
-looped-else None f e = loops-else f.opening f.around (else-own None f e)
-looped-else (Some (b, p)) f e = loops-other f.opening f.has_else f.around (else-own (Some (b, p)) f e) (else-no-range b p f e)
 
 -- an else of a range is a plain one
 ranged-else : (xs : List Role) (i j : ℕ) (b : Option (Branch × Names)) (f : Frame) → IsElseOf xs b j i → is_placed (else_part b) (Some f) ≡ true
     → f.opening ≡ opened.control Range → HasElse xs j (i + 1)
 ranged-else xs i j None f part e r = (i, omega arith, part)
-ranged-else xs i j (Some (b, p)) f part e r = absurd (else-no-range b p f e r)
+ranged-else xs i j (Some (b, p)) f part e r = absurd (joins-no-range b f.opening (and_parts (joins (Some b) f.opening) (not f.has_else) e).0 r)
 
 has-came : (xs : List Role) (i j : ℕ) (b : Option (Branch × Names)) (h : Bool) → IsElseOf xs b j i → Decides h (HasElse xs j i)
     → Decides (else_came (is_some b) h) (HasElse xs j (i + 1))
@@ -200,45 +186,8 @@ module _ (xs : List Role) (i : ℕ) (known : Known) (f : Frame) (fs : List Frame
   last-after : IsLast xs s.1 (i + 1)
   last-after = record { is_open = even.keeps s.1 s.2.last.is_open; last = λ k lt o. s.2.last.last k lt (even.only k o) }
 
-  own-after : is_template last-after.is_open.opened ≡ false
-  own-after = ap is_template (same-opening xs s.1 last-after.is_open.opened f.opening last-after.is_open.at s.2.opened) ∙ own
-
-  low : s.1 < i
-  low = s.2.last.is_open.before
-
-  -- a loop around the opening is one around its else part
-  loop-in : InLoop xs s.1 → InLoop xs (i + 1)
-  loop-in l = let lt = l.1.0.before in (
-    l.0,
-    loop-moves xs l.0 s.1 (i + 1) (alike-last xs s.1 (i + 1) last-after own-after) (through xs l.0 s.1 (i + 1) l.1.0 last-after.is_open)
-        (λ has. ⊎_elim (λ b. (has.0, b, has.2))
-        (λ ge. absurd (⊎_elim
-        (λ gt. has.2.belongs.last s.1 lt (cut xs s.1 has.0 (i + 1) gt (let u = has.1 in omega arith) last-after.is_open))
-        (λ le. let e : has.0 ≡ s.1 = omega arith in
-        shut-at xs (act_role (else_part None)) s.1 i (subst (λ z. slice_get xs z ≡ Some (act_role (else_part None))) e has.2.at) refl s.2.last.is_open)
-        (cases_lt s.1 has.0)))
-        (cases_lt has.0 s.1)) l.1,
-  )
-
   ranged : (o : IsOpen xs s.1 (i + 1)) → o.opened ≡ opened.control Range → HasElse xs s.1 (i + 1)
   ranged o e = ranged-else xs i s.1 b f part placed (same-opening xs s.1 f.opening o.opened s.2.opened o.at ∙ e)
-
-  loop-out : InLoop xs (i + 1) → InLoop xs s.1
-  loop-out l = ⊎_elim
-      (λ e. let w : IsLoop xs s.1 (i + 1) = subst (λ k. IsLoop xs k (i + 1)) e l.1 in
-      absurd (w.3 (ranged w.0 w.1)))
-      (λ o. ⊎_elim
-      (λ lt. (
-        l.0,
-        loop-moves xs l.0 (i + 1) s.1 (alike-back xs s.1 (i + 1) (alike-last xs s.1 (i + 1) last-after own-after))
-            (cut xs l.0 s.1 (i + 1) lt (let z = low in omega arith) l.1.0) (else_before xs l.0 s.1 (i + 1) (let z = low in omega arith)) l.1,
-      ))
-      (λ gt. absurd (last-after.last l.0 gt l.1.0)) o)
-      (cases_order l.0 s.1)
-
-  leveled : Levels xs (i + 1) (i + 1) (else_levels (is_some b) f.levels)
-  leveled = levels-else xs i s.1 f.levels b even part
-      (ap is_level (same-opening xs s.1 s.2.last.is_open.opened f.opening s.2.last.is_open.at s.2.opened) ∙ level-there f.opening own) s.0.levels_are
 
   -- behind it, in its part and in a further one, is seen what it declares and what the part before saw
   abbrev seen : List Name
@@ -263,8 +212,8 @@ module _ (xs : List Role) (i : ℕ) (known : Known) (f : Frame) (fs : List Frame
   here-parted = record {
     template = s.0.template;
     is_template_here = template-moves xs i (i + 1) (alike-even xs i (i + 1) even) s.0.template s.0.is_template_here;
-    levels_are = leveled;
-    looped = subst (λ z. Decides z (InLoop xs (i + 1))) (sym (looped-else b f placed)) (Decides-like f.around loop-in loop-out s.2.around);
+    levels_are = levels-else xs i s.1 f.levels b even part
+        (ap is_level (same-opening xs s.1 s.2.last.is_open.opened f.opening s.2.last.is_open.at s.2.opened) ∙ level-there f.opening own) s.0.levels_are;
     sees = sees-parted None (λ q e. cc);
   }
 

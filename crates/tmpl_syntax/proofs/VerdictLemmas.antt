@@ -83,7 +83,6 @@ sound-start xs = record {
       template = None;
       is_template_here = λ j b. let lt = b.is_open.before in omega arith;
       levels_are = none;
-      looped = (λ e. cc, λ l. let lt = l.1.0.before in absurd (omega arith));
       sees = λ n. (λ e. cc, λ b. let lt = b.before in absurd (omega arith));
     },
   );
