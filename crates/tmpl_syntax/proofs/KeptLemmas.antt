@@ -30,13 +30,10 @@ use Rattle.tmpl_syntax.proofs.PrintableNodeLemmas.{keeps-printable}
 
 -- ---- by number
 
-kept-at : (ts : List Template) (number : ℕ) → AreKept ts → IfSome (slice_get ts number) (λ t. IsKept t.1)
-kept-at [] number h = tt
-kept-at (t ∷ ts) zero h = h.1
-kept-at (t ∷ ts) (suc number) h = kept-at ts number h.2
-
 pub at-kept : (ts : List Template) (number : ℕ) (t : Template) → AreKept ts → Some t ≡ slice_get ts number → IsKept t.1
-at-kept ts number t h at = subst (λ o. IfSome o (λ (t : Template). IsKept t.1)) (sym at) (kept-at ts number h)
+at-kept [] number t h at = cc
+at-kept (u ∷ ts) zero t h at = let same : t ≡ u = cc in rw same h.1
+at-kept (u ∷ ts) (suc number) t h at = at-kept ts number t h.2 at
 
 -- ---- a definition
 

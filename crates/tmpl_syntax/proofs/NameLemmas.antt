@@ -3,7 +3,7 @@
 use Rattle.std.proofs.Common.{arith, ◌≡◌, ℕ, ◌≤◌, Bool, true, false, ◌||◌, List, [], ◌∷◌, ◌++◌, refl, sym, ap, ◌∙◌, length, take, map, Bor, ◌⊎◌}
 use Rattle.std.proofs.Common.{append_assoc, append-nil, length-append, if◌then◌else◌}
 use Rattle.std.specs.Prelude.{Contains}
-use Rattle.std.specs.List.{list_any}
+use Rattle.std.specs.List.{list_any, take-map}
 use Rattle.std.specs.Str.{bytes_eq}
 use Rattle.std.proofs.Math.Bool.{or-false, or_assoc}
 use Rattle.std.proofs.Math.Seq.{take-length}
@@ -39,6 +39,8 @@ with-held keys name =
     by : (b : Bool) → seen (if b then keys else keys ++ name ∷ []) ≡ (if b then seen keys else seen keys ++ name.now ∷ [])
     by true = refl
     by false = map-append (λ (k : Bor (List ℕ)). k.now) keys (name ∷ [])
+
+pub ruleset held = take-map
 
 -- ---- names with more
 
