@@ -5,10 +5,10 @@ use Rattle.tmpl_grammar.specs.Tree.{Operands, no_operand, operand}
 use Rattle.tmpl_grammar.specs.View.{operand_of, operands_in, commands_in}
 use Rattle.tmpl_grammar.specs.declared.tree.Operand as held
 use Rattle.tmpl_grammar.specs.declared.tree.Command as held_command
-use Rattle.tmpl_code.specs.computed.Held.{decided}
+use Rattle.tmpl_code.specs.computed.Held.{Ends, decided}
 use Rattle.tmpl_code.specs.Layout.{Layout}
 use Rattle.tmpl_code.specs.Code.{Code, is_last, DecideAt, OperandAt, JunctionAt}
-use Rattle.tmpl_code.proofs.TailLemmas.{passes, junction_ends}
+use Rattle.tmpl_code.proofs.TailLemmas.{passes}
 
 -- a loop to the first that ended there says of all what it kept
 pub at-first : {A B : Type 0} (f : List A → B) (xs : List A) {i : ℕ} {v : B} → v ≡ f (drop i xs) → i ≡ 0 → v ≡ f xs
@@ -26,8 +26,8 @@ operands_from os i o h is = at_drop_more operands_in os i o h ∙ ap (λ (d : he
 pub junction_more : (lay : Layout) (above : ℕ) (is_or piped : Bool) (os : List held.Operand) (i : ℕ) (o : held.Operand) (last : Bool) (new mid more old : Code)
     → i < length os → o ≡ get_or os i o → last ≡ is_last (operands_in (drop (i + 1) os)) piped → mid ≡ decided last is_or piped (length old) more
     → OperandAt (operand_of o) above lay new mid → JunctionAt is_or (operands_in (drop (i + 1) os)) piped above lay more old
-    → JunctionAt is_or (operands_in (drop i os)) piped above lay new old
-junction_more lay above is_or piped os i o last new mid more old h is e put at others =
+    → Ends old more → JunctionAt is_or (operands_in (drop i os)) piped above lay new old
+junction_more lay above is_or piped os i o last new mid more old h is e put at others on =
     subst (λ (x : Operands). JunctionAt is_or x piped above lay new old) (sym (operands_from os i o h is)) (mid, at, decides)
   where
     go : (os : Operands) (piped b last : Bool) → last ≡ b → mid ≡ decided last is_or piped (length old) more → JunctionAt is_or os piped above lay more old
@@ -37,7 +37,7 @@ junction_more lay above is_or piped os i o last new mid more old h is e put at o
     go os piped true false e put others none = cc
     go os piped false true e put others none = cc
     go os piped false false e put others none =
-        (length more - length old, more, put, others, passes (junction_ends is_or os piped above lay more old others) refl)
+        (length more - length old, more, put, others, passes on refl)
 
     none : (os : Operands) (piped : Bool) → is_last os piped ≡ true → JunctionAt is_or os piped above lay more old → more ≡ old
     none no_operand false e l = l

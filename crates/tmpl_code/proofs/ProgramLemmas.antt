@@ -1,16 +1,10 @@
 -- For `compile`, which puts the last template first: what the relation says of one template more in front.
-use Rattle.std.proofs.Common.{arith, ◌≡◌, ◌∙◌, ◌-◌, ℕ, zero, suc, List, [], ◌∷◌, ◌++◌, length, drop, reverse, Some, None, slice_get, ap, sym, subst}
+use Rattle.std.proofs.Common.{arith, ◌≡◌, ◌∙◌, ◌-◌, ℕ, zero, suc, List, [], ◌∷◌, ◌++◌, length, drop, reverse, Some, slice_get, ap, sym, subst}
 use Rattle.std.proofs.lemmas.List.{reverse-append}
-use Rattle.tmpl_syntax.specs.Tree.{Nodes}
 use Rattle.tmpl_syntax.specs.Set.{Template}
-use Rattle.tmpl_code.specs.Layout.{declared_in, first_layout}
-use Rattle.tmpl_code.specs.Instruction.{return_from}
 use Rattle.tmpl_code.specs.Code.{Code, TreeAt, Starts}
-use Rattle.tmpl_code.specs.computed.Held.{last_of, places, LastStarts}
-use Rattle.tmpl_code.proofs.TailLemmas.{Ends, ends_under, longer, nodes_ends, last-on}
-
-tree_ends : (all : List Template) (ns : Nodes) (code rest : Code) → TreeAt all ns code rest → Ends rest code
-tree_ends all ns code rest l = ends_under (nodes_ends all ns first_layout None code (return_from (declared_in ns) ∷ rest) l)
+use Rattle.tmpl_code.specs.computed.Held.{Ends, last_of, places, LastStarts}
+use Rattle.tmpl_code.proofs.TailLemmas.{longer, last-on}
 
 -- where code stands that is put before other code, the others stand as before
 starts_on : (all ts : List Template) (ns : List ℕ) (old new : Code) → Ends old new → LastStarts all ts ns old → LastStarts all ts ns new
@@ -33,17 +27,17 @@ from-number (u ∷ us) zero t at = let same : u ≡ t = cc in ap (λ (x : Templa
 from-number (u ∷ us) (suc i) t at = from-number us i t at
 
 pub starts_more : (all : List Template) (i : ℕ) (t : Template) (ns more : List ℕ) (n : ℕ) (old new : Code) → slice_get all i ≡ Some t
-    → more ≡ ns ++ n ∷ [] → n ≡ length new → TreeAt all t.1.nodes new old → LastStarts all (drop (suc i) all) (reverse ns) old
+    → more ≡ ns ++ n ∷ [] → n ≡ length new → TreeAt all t.1.nodes new old → Ends old new
+    → LastStarts all (drop (suc i) all) (reverse ns) old
     → LastStarts all (drop i all) (reverse more) new
-starts_more all i t ns more n old new at put len lies s =
+starts_more all i t ns more n old new at put len lies on s =
     let first : reverse more ≡ n ∷ reverse ns = ap reverse put ∙ reverse-append ns (n ∷ []) in
     let begins : last_of n new ≡ new = ap (λ k. last_of k new) len ∙ whole new in
     subst (λ (ts : List Template). LastStarts all ts (reverse more) new) (sym (from-number all i t at))
     (subst (λ (ks : List ℕ). LastStarts all (t ∷ drop (suc i) all) ks new) (sym first) (
       omega (arith, len),
       (old, subst (λ (c : Code). TreeAt all t.1.nodes c old) (sym begins) lies),
-      starts_on all (drop (suc i) all) (reverse ns) old new
-          (tree_ends all t.1.nodes new old lies) s,
+      starts_on all (drop (suc i) all) (reverse ns) old new on s,
     ))
 
 -- so much code is left from its place on

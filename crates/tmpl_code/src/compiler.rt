@@ -7,7 +7,7 @@ ghost use Rattle.tmpl_code.specs.Code as spec;
 ghost use Rattle.tmpl_code.specs.Layout.{first_layout};
 ghost use Rattle.tmpl_code.specs.MakesText.{nodes_make_text};
 ghost use Rattle.tmpl_code.specs.Program.{IsLinked};
-ghost use Rattle.tmpl_code.specs.computed.Held.{IsOpen, Put, code_of, layout_of, places};
+ghost use Rattle.tmpl_code.specs.computed.Held.{Ends, IsOpen, Put, code_of, layout_of, places};
 
 use crate::bound::bound_of;
 use crate::code::Code;
@@ -74,6 +74,7 @@ impl<'s> Compiler<'s> {
     ) -> Result<Survey, AllocError>
         ensures code { OnOk result
             (spec.TreeAt (set_view set.now) (nodes_in nodes.now) (code_of self.new.code) (code_of self.old.code)) }
+        ensures ends { OnOk result (Ends (code_of self.old.code) (code_of self.new.code)) }
         ensures need { IfOk result (λ s. s.need ≡ 3 + need_of_nodes (nodes_in nodes.now)) }
         ensures text { IfOk result (λ s. s.makes_text ≡ nodes_make_text (nodes_in nodes.now)) }
         ensures calls { IfOk result (λ s. s.calls ≡ nodes_call (nodes_in nodes.now)) }
@@ -86,10 +87,12 @@ impl<'s> Compiler<'s> {
 
     /// Puts the nodes of a template, and tells what they need and do. Each is surveyed as soon as it is put, while its
     /// part of the tree is at hand.
+    #[tactic(auto, using(crate::proofs::TailLemmas::ends))]
     fn put_surveyed(&mut self, site: Site<'_>, nodes: &'s [Node]) -> Result<Survey, AllocError>
         requires { IsOpen site.exit (code_of self.old.code) (layout_of self.old.scope) }
         ensures code { OnOk result (Put (spec.NodesAt (set_view site.entry.set.now) (nodes_in nodes.now))
             site.entry.exit self.old self.new) }
+        ensures ends { OnOk result (Ends (code_of self.old.code) (code_of self.new.code)) }
         ensures need { IfOk result (λ s. s.need ≡ need_of_nodes (nodes_in nodes.now)) }
         ensures text { IfOk result (λ s. s.makes_text ≡ nodes_make_text (nodes_in nodes.now)) }
         ensures calls { IfOk result (λ s. s.calls ≡ nodes_call (nodes_in nodes.now)) }

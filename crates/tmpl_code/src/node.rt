@@ -1,4 +1,6 @@
 //! Nodes to code, each from its last part to its first.
+#![tactic(auto, using(crate::proofs::TailLemmas::ends))]
+
 ghost use Rattle.std.specs.Prelude.{◌≡◌, ◌+◌, ◌≤◌, IfOk, OnOk, Some, length, option_map};
 ghost use Rattle.tmpl_grammar.specs.Need.{declared_count};
 ghost use Rattle.tmpl_grammar.specs.View.{binding_of, pipeline_of};
@@ -8,7 +10,7 @@ ghost use Rattle.tmpl_syntax.specs.View.{control_of, node_of, nodes_in, set_view
 ghost use Rattle.tmpl_code.specs.Code as spec;
 ghost use Rattle.tmpl_code.specs.Layout.{declared_in, grown};
 ghost use Rattle.tmpl_code.specs.View.{instruction_of};
-ghost use Rattle.tmpl_code.specs.computed.Held.{BoundPart, DottedPart, EndedPart, IsOpen, PartsAt, Put, TurnsPart};
+ghost use Rattle.tmpl_code.specs.computed.Held.{Ends, BoundPart, DottedPart, EndedPart, IsOpen, PartsAt, Put, TurnsPart};
 ghost use Rattle.tmpl_code.specs.computed.Held.{all_grown, code_of, exit_seen, layout_of, shrunk};
 
 use crate::binding::{
@@ -130,8 +132,9 @@ pub(crate) fn grow_all<'s>(scope: &mut Scope<'s>, nodes: &'s [Node]) -> Result<(
 /// Puts a break.
 fn put_break(code: &mut Code<'_>, scope: &Scope<'_>, exit: Option<Around>) -> Result<(), AllocError>
     requires { IsOpen exit (code_of code.old) (layout_of scope.now) }
-    ensures { OnOk result (spec.BreakAt (exit_seen exit (code_of code.old)) (layout_of scope.now)
+    ensures code { OnOk result (spec.BreakAt (exit_seen exit (code_of code.old)) (layout_of scope.now)
         (code_of code.new) (code_of code.old)) }
+    ensures ends { OnOk result (Ends (code_of code.old) (code_of code.new)) }
 {
     match exit {
         Some(around) => {
@@ -150,8 +153,9 @@ fn put_continue(
     exit: Option<Around>,
 ) -> Result<(), AllocError>
     requires { IsOpen exit (code_of code.old) (layout_of scope.now) }
-    ensures { OnOk result (spec.ContinueAt (exit_seen exit (code_of code.old)) (layout_of scope.now)
+    ensures code { OnOk result (spec.ContinueAt (exit_seen exit (code_of code.old)) (layout_of scope.now)
         (code_of code.new) (code_of code.old)) }
+    ensures ends { OnOk result (Ends (code_of code.old) (code_of code.new)) }
 {
     match exit {
         Some(around) => {
@@ -175,8 +179,9 @@ fn put_template<'s>(
     number: Option<usize>,
     given: &'s Option<Pipeline>,
 ) -> Result<(), AllocError>
-    ensures { OnOk result (spec.CallAt name.now number (option_map pipeline_of given.now) (layout_of scope.now)
+    ensures code { OnOk result (spec.CallAt name.now number (option_map pipeline_of given.now) (layout_of scope.now)
         (code_of code.new) (code_of code.old)) }
+    ensures ends { OnOk result (Ends (code_of code.old) (code_of code.new)) }
 {
     match number {
         Some(number) => {
@@ -193,8 +198,9 @@ fn put_given<'s>(
     scope: &Scope<'s>,
     given: &'s Option<Pipeline>,
 ) -> Result<(), AllocError>
-    ensures { OnOk result (spec.GivenAt (option_map pipeline_of given.now) (layout_of scope.now)
+    ensures code { OnOk result (spec.GivenAt (option_map pipeline_of given.now) (layout_of scope.now)
         (code_of code.new) (code_of code.old)) }
+    ensures ends { OnOk result (Ends (code_of code.old) (code_of code.new)) }
 {
     match given {
         Some(pipeline) => put_pipeline(code, scope, pipeline),
@@ -220,9 +226,10 @@ pub(crate) fn first_instruction<'s>(set: &Set, node: &Node) -> Instruction<'s>
 
 /// Puts what ends a part: it forgets so many cells and passes over so many instructions. Where there is none of
 /// either, nothing ends it.
-#[tactic(auto, using(crate::proofs::TailLemmas::end_at))]
+#[tactic(auto, using(crate::proofs::TailLemmas::end_at, crate::proofs::TailLemmas::ends))]
 fn put_end(code: &mut Code<'_>, count: u32, skip: u32) -> Result<(), AllocError>
-    ensures { OnOk result (spec.EndAt count skip (code_of code.new) (code_of code.old)) }
+    ensures code { OnOk result (spec.EndAt count skip (code_of code.new) (code_of code.old)) }
+    ensures ends { OnOk result (Ends (code_of code.old) (code_of code.new)) }
 {
     match (count, skip) {
         (0, 0) => Ok(()),
@@ -235,8 +242,9 @@ impl<'s> Compiler<'s> {
     #[cycle(nodes)]
     pub(crate) fn put_nodes(&mut self, site: Site<'_>, nodes: &'s [Node]) -> Result<(), AllocError>
         requires { IsOpen site.exit (code_of self.old.code) (layout_of self.old.scope) }
-        ensures { OnOk result (Put (spec.NodesAt (set_view site.entry.set.now) (nodes_in nodes.now)) site.entry.exit
+        ensures part { OnOk result (Put (spec.NodesAt (set_view site.entry.set.now) (nodes_in nodes.now)) site.entry.exit
             self.old self.new) }
+        ensures ends { OnOk result (Ends (code_of self.old.code) (code_of self.new.code)) }
     {
         grow_all(&mut self.scope, nodes)?;
         let mut i = nodes.len();
@@ -252,12 +260,13 @@ impl<'s> Compiler<'s> {
 
     /// Puts a node whose step is taken.
     #[cycle(nodes)]
-    #[tactic(auto, using(tmpl_syntax::proofs::ViewLemmas::controls))]
+    #[tactic(auto, using(tmpl_syntax::proofs::ViewLemmas::controls, crate::proofs::TailLemmas::ends))]
     pub(crate) fn put_node(&mut self, site: Site<'_>, node: &'s Node) -> Result<(), AllocError>
         requires { IsOpen site.exit (code_of self.old.code) (layout_of self.old.scope) }
-        ensures { OnOk result (Put
+        ensures part { OnOk result (Put
             (spec.NodeAt (set_view site.entry.set.now) (node_of node.now).line (node_of node.now).what)
             site.entry.exit self.old self.new) }
+        ensures ends { OnOk result (Ends (code_of self.old.code) (code_of self.new.code)) }
     {
         match &node.what {
             NodeKind::Text(text) => self.code.push(Instruction::Put(text)),
@@ -277,7 +286,7 @@ impl<'s> Compiler<'s> {
 
     /// Puts a control.
     #[cycle(nodes)]
-    #[tactic(auto, using(tmpl_syntax::proofs::ViewLemmas::controls))]
+    #[tactic(auto, using(tmpl_syntax::proofs::ViewLemmas::controls, crate::proofs::TailLemmas::ends))]
     fn put_control(
         &mut self,
         site: Site<'_>,
@@ -285,8 +294,9 @@ impl<'s> Compiler<'s> {
         node: &'s ControlNode,
     ) -> Result<(), AllocError>
         requires { IsOpen site.exit (code_of self.old.code) (layout_of self.old.scope) }
-        ensures { OnOk result (Put (spec.NodeAt (set_view site.entry.set.now) line (control_of node.now))
+        ensures part { OnOk result (Put (spec.NodeAt (set_view site.entry.set.now) line (control_of node.now))
             site.entry.exit self.old self.new) }
+        ensures ends { OnOk result (Ends (code_of self.old.code) (code_of self.new.code)) }
     {
         let parts = Parts {
             header: &node.header,
@@ -304,8 +314,9 @@ impl<'s> Compiler<'s> {
     #[cycle(nodes)]
     fn put_if(&mut self, site: Site<'_>, parts: Parts<'s>) -> Result<(), AllocError>
         requires { IsOpen site.exit (code_of self.old.code) (layout_of self.old.scope) }
-        ensures { OnOk result (Put (PartsAt (set_view site.entry.set.now) 0 control.If parts.entry)
+        ensures part { OnOk result (Put (PartsAt (set_view site.entry.set.now) 0 control.If parts.entry)
             site.entry.exit self.old self.new) }
+        ensures ends { OnOk result (Ends (code_of self.old.code) (code_of self.new.code)) }
     {
         let end = self.code.len();
         self.put_ended(site, &parts.header.binding, parts.other, 0)?;
@@ -322,8 +333,9 @@ impl<'s> Compiler<'s> {
     #[cycle(nodes)]
     fn put_with(&mut self, site: Site<'_>, parts: Parts<'s>) -> Result<(), AllocError>
         requires { IsOpen site.exit (code_of self.old.code) (layout_of self.old.scope) }
-        ensures { OnOk result (Put (PartsAt (set_view site.entry.set.now) 0 control.With parts.entry)
+        ensures part { OnOk result (Put (PartsAt (set_view site.entry.set.now) 0 control.With parts.entry)
             site.entry.exit self.old self.new) }
+        ensures ends { OnOk result (Ends (code_of self.old.code) (code_of self.new.code)) }
     {
         let end = self.code.len();
         self.put_ended(site, &parts.header.binding, parts.other, 0)?;
@@ -345,8 +357,9 @@ impl<'s> Compiler<'s> {
     #[cycle(nodes)]
     fn put_range(&mut self, site: Site<'_>, line: u32, parts: Parts<'s>) -> Result<(), AllocError>
         requires { IsOpen site.exit (code_of self.old.code) (layout_of self.old.scope) }
-        ensures { OnOk result (Put (PartsAt (set_view site.entry.set.now) line control.Range parts.entry)
+        ensures part { OnOk result (Put (PartsAt (set_view site.entry.set.now) line control.Range parts.entry)
             site.entry.exit self.old self.new) }
+        ensures ends { OnOk result (Ends (code_of self.old.code) (code_of self.new.code)) }
     {
         let after = self.code.len();
         put_end(&mut self.code, short(declared_in(parts.other)?)?, 0)?;
@@ -379,9 +392,10 @@ impl<'s> Compiler<'s> {
         skip: u32,
     ) -> Result<(), AllocError>
         requires { IsOpen site.exit (code_of self.old.code) (layout_of self.old.scope) }
-        ensures { OnOk result (Put
+        ensures part { OnOk result (Put
             (EndedPart (set_view site.entry.set.now) (binding_of binding.now) (nodes_in nodes.now) skip)
             site.entry.exit self.old self.new) }
+        ensures ends { OnOk result (Ends (code_of self.old.code) (code_of self.new.code)) }
     {
         put_end(&mut self.code, declared_by(binding, nodes)?, skip)?;
         self.put_part(site, binding, nodes)
@@ -389,7 +403,7 @@ impl<'s> Compiler<'s> {
 
     /// Puts a part behind a header.
     #[cycle(nodes)]
-    #[tactic(auto, using(crate::proofs::NodeLemmas::offs))]
+    #[tactic(auto, using(crate::proofs::NodeLemmas::offs, crate::proofs::TailLemmas::ends))]
     fn put_part(
         &mut self,
         site: Site<'_>,
@@ -397,9 +411,10 @@ impl<'s> Compiler<'s> {
         nodes: &'s [Node],
     ) -> Result<(), AllocError>
         requires { IsOpen site.exit (code_of self.old.code) (layout_of self.old.scope) }
-        ensures { OnOk result (Put
+        ensures part { OnOk result (Put
             (BoundPart (set_view site.entry.set.now) (binding_of binding.now) (nodes_in nodes.now))
             site.entry.exit self.old self.new) }
+        ensures ends { OnOk result (Ends (code_of self.old.code) (code_of self.new.code)) }
     {
         open(&mut self.scope, binding)?;
         self.put_nodes(site, nodes)?;
@@ -409,7 +424,7 @@ impl<'s> Compiler<'s> {
 
     /// Puts a part behind a header and a saved dot.
     #[cycle(nodes)]
-    #[tactic(auto, using(crate::proofs::NodeLemmas::offs))]
+    #[tactic(auto, using(crate::proofs::NodeLemmas::offs, crate::proofs::TailLemmas::ends))]
     fn put_dotted_part(
         &mut self,
         site: Site<'_>,
@@ -417,9 +432,10 @@ impl<'s> Compiler<'s> {
         nodes: &'s [Node],
     ) -> Result<(), AllocError>
         requires { IsOpen site.exit (code_of self.old.code) (layout_of self.old.scope) }
-        ensures { OnOk result (Put
+        ensures part { OnOk result (Put
             (DottedPart (set_view site.entry.set.now) (binding_of binding.now) (nodes_in nodes.now))
             site.entry.exit self.old self.new) }
+        ensures ends { OnOk result (Ends (code_of self.old.code) (code_of self.new.code)) }
     {
         open(&mut self.scope, binding)?;
         self.scope.save()?;
@@ -431,7 +447,7 @@ impl<'s> Compiler<'s> {
 
     /// Puts the body of a range, and before it what binds the variables.
     #[cycle(nodes)]
-    #[tactic(auto, using(crate::proofs::NodeLemmas::offs))]
+    #[tactic(auto, using(crate::proofs::NodeLemmas::offs, crate::proofs::TailLemmas::ends))]
     fn put_turns(
         &mut self,
         set: &Set,
@@ -441,8 +457,9 @@ impl<'s> Compiler<'s> {
     ) -> Result<(), AllocError>
         requires after { around.after ≤ length (code_of self.old.code) }
         requires below { around.below ≡ length (layout_of self.old.scope) }
-        ensures { OnOk result (Put (TurnsPart (set_view set.now) (binding_of binding.now) (nodes_in body.now))
+        ensures part { OnOk result (Put (TurnsPart (set_view set.now) (binding_of binding.now) (nodes_in body.now))
             (Some around) self.old self.new) }
+        ensures ends { OnOk result (Ends (code_of self.old.code) (code_of self.new.code)) }
     {
         self.scope.save()?;
         self.scope.save()?;

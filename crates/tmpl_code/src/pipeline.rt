@@ -1,11 +1,13 @@
 //! Pipelines to code, each from its last operand to its first.
+#![tactic(auto, using(crate::proofs::TailLemmas::ends))]
+
 ghost use Rattle.std.specs.Prelude.{◌≡◌, ◌+◌, ◌^◌, ◌≤◌, ◌<◌, ◌∷◌, IfOk, IsOk, OnOk, false, length, true};
 ghost use Rattle.tmpl_funcs.specs.Func.{takes};
 ghost use Rattle.tmpl_grammar.specs.View.{commands_in, operand_of, operands_in, pipeline_of};
 ghost use Rattle.tmpl_code.specs.Code as spec;
 ghost use Rattle.tmpl_code.specs.Instruction.{act, call_with};
 ghost use Rattle.tmpl_code.specs.Layout.{slot_named};
-ghost use Rattle.tmpl_code.specs.computed.Held.{code_of, decided, layout_of};
+ghost use Rattle.tmpl_code.specs.computed.Held.{Ends, code_of, decided, layout_of};
 
 use crate::code::Code;
 use crate::instruction::{Instruction, Refusal};
@@ -44,8 +46,9 @@ pub(crate) fn put_pipeline<'s>(
     scope: &Scope<'s>,
     pipeline: &'s Pipeline,
 ) -> Result<(), AllocError>
-    ensures { OnOk result (spec.PipelineAt (pipeline_of pipeline.now) (layout_of scope.now)
+    ensures code { OnOk result (spec.PipelineAt (pipeline_of pipeline.now) (layout_of scope.now)
         (code_of code.new) (code_of code.old)) }
+    ensures ends { OnOk result (Ends (code_of code.old) (code_of code.new)) }
 {
     put_commands(code, scope, 0, pipeline.commands.as_slice())
 }
@@ -58,8 +61,9 @@ fn put_commands<'s>(
     above: usize,
     commands: &'s [Command],
 ) -> Result<(), AllocError>
-    ensures { OnOk result (spec.CommandsAt (commands_in commands.now) false above (layout_of scope.now)
+    ensures code { OnOk result (spec.CommandsAt (commands_in commands.now) false above (layout_of scope.now)
         (code_of code.new) (code_of code.old)) }
+    ensures ends { OnOk result (Ends (code_of code.old) (code_of code.new)) }
 {
     match commands {
         [first, rest @ ..] => {
@@ -73,15 +77,16 @@ fn put_commands<'s>(
 
 /// Puts commands to each of which a value is piped.
 #[cycle(pipeline)]
-#[tactic(auto, using(crate::proofs::OperandLemmas::lighter))]
+#[tactic(auto, using(crate::proofs::OperandLemmas::lighter, crate::proofs::TailLemmas::ends))]
 fn put_piped<'s>(
     code: &mut Code<'s>,
     scope: &Scope<'s>,
     above: usize,
     commands: &'s [Command],
 ) -> Result<(), AllocError>
-    ensures { OnOk result (spec.CommandsAt (commands_in commands.now) true above (layout_of scope.now)
+    ensures code { OnOk result (spec.CommandsAt (commands_in commands.now) true above (layout_of scope.now)
         (code_of code.new) (code_of code.old)) }
+    ensures ends { OnOk result (Ends (code_of code.old) (code_of code.new)) }
 {
     let below = sum(above, 1)?;
     let mut i = commands.len();
@@ -102,8 +107,9 @@ fn put_command<'s>(
     piped: bool,
     operands: &'s [Operand],
 ) -> Result<(), AllocError>
-    ensures { OnOk result (spec.CommandAt (operands_in operands.now) piped above (layout_of scope.now)
+    ensures code { OnOk result (spec.CommandAt (operands_in operands.now) piped above (layout_of scope.now)
         (code_of code.new) (code_of code.old)) }
+    ensures ends { OnOk result (Ends (code_of code.old) (code_of code.new)) }
 {
     match operands {
         [first, rest @ ..] => match first {
@@ -134,8 +140,9 @@ fn put_alone<'s>(
     above: usize,
     operand: &'s Operand,
 ) -> Result<(), AllocError>
-    ensures { OnOk result (spec.AloneAt (operand_of operand.now)
+    ensures code { OnOk result (spec.AloneAt (operand_of operand.now)
         (spec.OperandAt (operand_of operand.now) above (layout_of scope.now)) (code_of code.new) (code_of code.old)) }
+    ensures ends { OnOk result (Ends (code_of code.old) (code_of code.new)) }
 {
     match operand {
         Operand::Nil => code.push(Instruction::Refuse(Refusal::NilCommand)),
@@ -171,13 +178,14 @@ fn put_call<'s>(
     func: Func,
     operands: &'s [Operand],
 ) -> Result<(), AllocError>
-    ensures { let os = operands_in operands.now in let cells = layout_of scope.now in
+    ensures code { let os = operands_in operands.now in let cells = layout_of scope.now in
         OnOk result (spec.CountedAt (takes func (spec.argument_count os piped)) func
         (spec.CallBy func
         (λ code rest. spec.OperandsAt os above cells code (act (call_with func (spec.operand_count os) piped) ∷ rest))
         (spec.JunctionAt false os piped above cells)
         (spec.JunctionAt true os piped above cells))
         (code_of code.new) (code_of code.old)) }
+    ensures ends { OnOk result (Ends (code_of code.old) (code_of code.new)) }
 {
     if !func.takes(argument_count(operands, piped)) {
         return code.push(Instruction::Refuse(Refusal::WrongCount(func)));
@@ -195,15 +203,16 @@ fn put_call<'s>(
 
 /// Puts the operands of a call.
 #[cycle(pipeline)]
-#[tactic(auto, using(crate::proofs::OperandLemmas::lighter))]
+#[tactic(auto, using(crate::proofs::OperandLemmas::lighter, crate::proofs::TailLemmas::ends))]
 fn put_operands<'s>(
     code: &mut Code<'s>,
     scope: &Scope<'s>,
     above: usize,
     operands: &'s [Operand],
 ) -> Result<(), AllocError>
-    ensures { OnOk result (spec.OperandsAt (operands_in operands.now) above (layout_of scope.now)
+    ensures code { OnOk result (spec.OperandsAt (operands_in operands.now) above (layout_of scope.now)
         (code_of code.new) (code_of code.old)) }
+    ensures ends { OnOk result (Ends (code_of code.old) (code_of code.new)) }
 {
     let mut i = operands.len();
     while i > 0 {
@@ -215,7 +224,7 @@ fn put_operands<'s>(
 
 /// Puts the operands of an `or`, or else of an `and`.
 #[cycle(pipeline)]
-#[tactic(auto, using(crate::proofs::OperandLemmas::lighter))]
+#[tactic(auto, using(crate::proofs::OperandLemmas::lighter, crate::proofs::TailLemmas::ends))]
 fn put_junction<'s>(
     code: &mut Code<'s>,
     scope: &Scope<'s>,
@@ -224,8 +233,9 @@ fn put_junction<'s>(
     piped: bool,
     operands: &'s [Operand],
 ) -> Result<(), AllocError>
-    ensures { OnOk result (spec.JunctionAt is_or (operands_in operands.now) piped above (layout_of scope.now)
+    ensures code { OnOk result (spec.JunctionAt is_or (operands_in operands.now) piped above (layout_of scope.now)
         (code_of code.new) (code_of code.old)) }
+    ensures ends { OnOk result (Ends (code_of code.old) (code_of code.new)) }
 {
     let end = code.len();
     let mut last = !piped;
@@ -248,7 +258,8 @@ fn put_decide(
     last: bool,
 ) -> Result<(), AllocError>
     requires { end ≤ length (code_of code.old) }
-    ensures { OnOk result (code_of code.new ≡ decided last is_or piped end (code_of code.old)) }
+    ensures code { OnOk result (code_of code.new ≡ decided last is_or piped end (code_of code.old)) }
+    ensures ends { OnOk result (Ends (code_of code.old) (code_of code.new)) }
 {
     if last {
         return Ok(());
@@ -259,15 +270,16 @@ fn put_decide(
 
 /// Puts an operand, above so many values.
 #[cycle(pipeline)]
-#[tactic(auto, using(tmpl_grammar::proofs::ViewLemmas::group_seen))]
+#[tactic(auto, using(tmpl_grammar::proofs::ViewLemmas::group_seen, crate::proofs::TailLemmas::ends))]
 fn put_operand<'s>(
     code: &mut Code<'s>,
     scope: &Scope<'s>,
     above: usize,
     operand: &'s Operand,
 ) -> Result<(), AllocError>
-    ensures { OnOk result (spec.OperandAt (operand_of operand.now) above (layout_of scope.now)
+    ensures code { OnOk result (spec.OperandAt (operand_of operand.now) above (layout_of scope.now)
         (code_of code.new) (code_of code.old)) }
+    ensures ends { OnOk result (Ends (code_of code.old) (code_of code.new)) }
 {
     match operand {
         Operand::Dot => code.push(Instruction::PushDot),
@@ -290,7 +302,8 @@ fn put_operand<'s>(
 
 /// Puts a chain of fields behind a value, if there is one.
 fn put_chain<'s>(code: &mut Code<'s>, names: &'s Vec<Bytes>) -> Result<(), AllocError>
-    ensures { OnOk result (code_of code.new ≡ spec.chain_before names.now.items (code_of code.old)) }
+    ensures code { OnOk result (code_of code.new ≡ spec.chain_before names.now.items (code_of code.old)) }
+    ensures ends { OnOk result (Ends (code_of code.old) (code_of code.new)) }
 {
     match names.as_slice() {
         [] => Ok(()),
@@ -300,7 +313,8 @@ fn put_chain<'s>(code: &mut Code<'s>, names: &'s Vec<Bytes>) -> Result<(), Alloc
 
 /// Puts the variable of a slot, below so many values.
 fn put_variable(code: &mut Code<'_>, slot: Option<usize>, above: usize) -> Result<(), AllocError>
-    ensures { OnOk result (spec.VariableAt slot above (code_of code.new) (code_of code.old)) }
+    ensures code { OnOk result (spec.VariableAt slot above (code_of code.new) (code_of code.old)) }
+    ensures ends { OnOk result (Ends (code_of code.old) (code_of code.new)) }
 {
     match slot {
         Some(slot) => code.push(Instruction::PushSlot(short(sum(above, slot)?)?)),
@@ -310,7 +324,8 @@ fn put_variable(code: &mut Code<'_>, slot: Option<usize>, above: usize) -> Resul
 
 /// Puts a function as an argument: a call without arguments.
 fn put_bare(code: &mut Code<'_>, func: Func) -> Result<(), AllocError>
-    ensures { OnOk result (spec.BareAt (takes func 0) func (code_of code.new) (code_of code.old)) }
+    ensures code { OnOk result (spec.BareAt (takes func 0) func (code_of code.new) (code_of code.old)) }
+    ensures ends { OnOk result (Ends (code_of code.old) (code_of code.new)) }
 {
     if func.takes(0) {
         code.push(Instruction::Call {

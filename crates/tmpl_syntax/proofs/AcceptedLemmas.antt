@@ -1,16 +1,15 @@
 -- For `formed` and `accepted_back`: what an accepted list spells is formed, and what formed nodes say is accepted.
 use Rattle.std.proofs.Common.{arith, ◌≡◌, ◌∙◌, ℕ, ◌+◌, ◌≤◌, Bool, true, false, not, ◌&&◌, leb, nat_lt, List, [], ◌∷◌, ◌++◌, length, take, Some}
 use Rattle.std.proofs.Common.{refl, sym, ap, subst, map, append_assoc, length-take}
-use Rattle.std.proofs.Math.Bool.{and_assoc}
 use Rattle.std.proofs.Math.Seq.{take-length}
-use Rattle.std.proofs.lemmas.Bool.{false≢true, and_parts}
+use Rattle.std.proofs.lemmas.Bool.{and_parts}
 use Rattle.std.proofs.lemmas.List.{append-nil, take-take}
 use Rattle.tmpl_syntax.proofs.NameLemmas.{with-longer, take-with, part-low, part-high}
 use Rattle.std.specs.Cmp.Derive.{both_true}
 use Rattle.tmpl_grammar.specs.declared.action.Branch.{Branch}
 use Rattle.tmpl_grammar.specs.declared.action.Branch.TheVariants as branch
 use Rattle.tmpl_grammar.specs.declared.tree.Control.{Control}
-use Rattle.tmpl_grammar.specs.declared.tree.Control.TheVariants.{If, With}
+use Rattle.tmpl_grammar.specs.declared.tree.Control.TheVariants.{If}
 use Rattle.tmpl_syntax.specs.computed.Frames.{Frame}
 use Rattle.tmpl_syntax.specs.Place.Opening.{Opening}
 use Rattle.tmpl_syntax.specs.Place.Opening as opened
@@ -28,18 +27,13 @@ use Rattle.tmpl_syntax.specs.Spelling.{a_text, an_action, a_break, a_continue, a
 use Rattle.tmpl_syntax.specs.Spelling.{Closes, an_end, an_else, an_else_branch}
 use Rattle.tmpl_syntax.specs.Print.Printed.{Said, said_text, said, else_said, node_said, nodes_said}
 use Rattle.tmpl_syntax.specs.Print.Laws.{Says, says_nothing, says_text, says, AcceptsBack}
+use Rattle.tmpl_syntax.proofs.StepLemmas.{joins-control}
 use Rattle.tmpl_syntax.proofs.VerdictLemmas.{one-verdict, judged-all}
-use Rattle.tmpl_syntax.specs.Formed.{are_among, declared_to, else_scope, is_looped, scope_behind, is_formed, are_formed, AreFormed}
+use Rattle.tmpl_syntax.specs.Formed.{are_among, declared_to, else_scope, scope_behind, is_formed, are_formed, AreFormed}
 use Rattle.tmpl_syntax.specs.Laws.{SpellsFormed}
 use Rattle.tmpl_syntax.proofs.FormedLemmas.{passes, is_fine, fine-back, passes-fine, seen_past, seen_behind, take-seen, part-long, control-names}
-use Rattle.tmpl_syntax.proofs.FormedLemmas.{Alike, alike-uses, alike-declared, alike-part, alike-past, placed-test, headed, alone-passes, opened-passes}
-use Rattle.tmpl_syntax.proofs.FormedLemmas.{looped, unlooped, formed-lower}
-
--- an else branch joins the control with which it begins, and that is no range
-joins-control : (b : Branch) (o : Opening) → joins (Some b) o ≡ true → o ≡ opened.control (control_in b)
-joins-control branch.If (opened.control If) e = refl
-joins-control branch.With (opened.control With) e = refl
-joins-control _ _ e = absurd (false≢true e)
+use Rattle.tmpl_syntax.proofs.FormedLemmas.{Alike, alike-declared, alike-part, alike-past, placed-test, headed, alone-passes, opened-passes}
+use Rattle.tmpl_syntax.proofs.FormedLemmas.{looped, unlooped, formed-lower, control-formed}
 
 branch-loops : (b : Branch) (o : Opening) (x a : Bool) → o ≡ opened.control (control_in b) → loops o x a ≡ a
 branch-loops branch.If o x a e = ap (λ j. loops j x a) e
@@ -77,14 +71,13 @@ mutual
       let more = leads-formed l fs known scope a inner.1 in
       (more.0, more.1, λ k. (formed-lower body [] false f.levels 0 (omega arith) inner.0, inner.2 (more.2 k)))
   leads-formed (a_block {p = p} {xs = xs} {body = body} b l) fs known scope a h =
-      let names : List Name = (names_given (Some p)).uses in
       let f : Frame = entered opened.block (names_given (Some p)) (top fs) known.inner in
-      let e = and_parts _ (passes (f ∷ fs) (opened_names opened.block [] known) (roles_of xs)) h in
-      let t = placed-test true (leb most_levels (levels (top fs))) (knows known.inner names) e.0 in
-      let k = and_parts (not (leb most_levels (levels (top fs)))) (knows known.inner names) t.1 in
+      let head = are_among scope (names_given (Some p)).uses in
+      let e = and_parts (head && nat_lt (levels (top fs)) most_levels) (passes (f ∷ fs) (opened_names opened.block [] known) (roles_of xs))
+      (sym (opened-passes fs known scope (roles_of xs) a opened.block (names_given (Some p)) refl) ∙ h) in
       let inner = leads-formed b (f ∷ fs) (opened_names opened.block [] known) [] (λ x. refl) e.1 in
       let more = leads-formed l fs known scope a inner.1 in (
-        both_true (sym (alike-uses known.inner scope names a) ∙ k.1) more.0,
+        both_true (and_parts head (nat_lt (levels (top fs)) most_levels) e.0).0 more.0,
         more.1,
         λ k. (formed-lower body [] false f.levels 0 (omega arith) inner.0, inner.2 (more.2 k)),
       )
@@ -95,7 +88,7 @@ mutual
       let f : Frame = entered (opened.control c) (names_of r) (top fs) names in
       let inside : Known = with_inner known (with_names names ds) in
       let e = and_parts (are_among scope (names_of r).uses && nat_lt n most_levels) (passes (f ∷ fs) inside (roles_of xs))
-      (sym (opened-passes fs known scope (roles_of xs) a c r) ∙ h) in
+      (sym (opened-passes fs known scope (roles_of xs) a (opened.control c) (names_of r) refl) ∙ h) in
       let inner = leads-formed b (f ∷ fs) inside (declared_to r.binding scope) (alike-declared r.binding names scope a) e.1 in
       let behind = closes-formed o f fs (with_inner known (seen_behind inside.inner body)) (else_scope c r.binding scope) (alike-part c r names scope body a)
       refl (part-low c names ds) (part-long inside.inner body _ (part-high c names ds)) inner.1 in
@@ -147,9 +140,9 @@ mutual
         λ k. inner.2 (behind.2 k),
       )
 
-pub spells-formed : SpellsFormed
+pub spells_formed : SpellsFormed
 unfolding verdict_of
-spells-formed items ds own judged spells =
+spells_formed items ds own judged spells =
     let v = one-verdict (roles_of items) (verdict_of (roles_of items)) fine (judged-all (roles_of items)) judged in
     let fit = leads-formed spells [] none_known [] (λ x. refl) (sym (passes-fine (roles_of items) 0 [] none_known) ∙ ap is_fine v) in
     (fit.2 tt, fit.0)
@@ -172,76 +165,68 @@ abbrev control_frame : Control → Bool → ℕ → ℕ → ℕ → Frame
 control_frame c around n start part =
     record { opening = opened.control c; has_else = false; around = around; levels = n; start = start; part = part }
 
--- what nodes say passes where they are formed and what is said behind them passes
+-- what formed nodes say passes where what is said behind them does
 abbrev Passes : Nodes → Type 0
 Passes ns =
     (fs : List Frame) (known : Known) (scope : List Name) (ss : List Said) → Alike known.inner scope
-    → passes fs known (roles_said (nodes_said ns ++ ss))
-    ≡ (are_formed ns scope (in_loop (top fs)) (levels (top fs)) && passes fs (with_inner known (seen_behind known.inner ns)) (roles_said ss))
+    → are_formed ns scope (in_loop (top fs)) (levels (top fs)) ≡ true
+    → passes fs (with_inner known (seen_behind known.inner ns)) (roles_said ss) ≡ true → passes fs known (roles_said (nodes_said ns ++ ss)) ≡ true
 
 -- .. an else part with the `end` behind it
 else-passes : (c : Control) (other : Nodes) → Passes other → (around : Bool) (n start part : ℕ) (fs : List Frame) (known : Known) (scope : List Name)
-    (ss : List Said) → Alike (take part known.inner) scope → start ≤ part → part ≤ length known.inner
-    → passes (control_frame c around n start part ∷ fs) known (roles_said (else_said other (nodes_said other) ++ said end_action ∷ ss))
-    ≡ (are_formed other scope around n && passes fs (with_inner known (take start known.inner)) (roles_said ss))
-else-passes c none in_other around n start part fs known scope ss a low high = refl
-else-passes c (then line m ms) in_other around n start part fs known scope ss a low high =
+    (ss : List Said) → Alike (take part known.inner) scope → start ≤ part → part ≤ length known.inner → are_formed other scope around n ≡ true
+    → passes fs (with_inner known (take start known.inner)) (roles_said ss) ≡ true
+    → passes (control_frame c around n start part ∷ fs) known (roles_said (else_said other (nodes_said other) ++ said end_action ∷ ss)) ≡ true
+else-passes c none in_other around n start part fs known scope ss a low high e more = more
+else-passes c (then line m ms) in_other around n start part fs known scope ss a low high e more =
     let other : Nodes = then line m ms in
     let seen : List Name = take part known.inner in
     let fits_in = length-take part known.inner in
     in_other (parted false (length seen) (control_frame c around n start part) ∷ fs) (with_inner known seen) scope (said end_action ∷ ss) a
-    ∙ ap (λ ns. are_formed other scope (loops (opened.control c) true around) n && passes fs (with_inner known ns) (roles_said ss))
-    (take-seen start other seen (omega arith) ∙ take-take start part known.inner low)
-    ∙ ap (λ l. are_formed other scope l n && passes fs (with_inner known (take start known.inner)) (roles_said ss)) (unlooped c around)
+    (subst (λ l. are_formed other scope l n ≡ true) (sym (unlooped c around)) e)
+    (subst (λ ns. passes fs (with_inner known ns) (roles_said ss) ≡ true)
+    (sym (take-seen start other seen (omega arith) ∙ take-take start part known.inner low)) more)
 
 mutual
   node-passes : (n : NodeKind) (fs : List Frame) (known : Known) (scope : List Name) (ss : List Said) → Alike known.inner scope
-      → passes fs known (roles_said (node_said n ++ ss))
-      ≡ (is_formed n scope (in_loop (top fs)) (levels (top fs)) && passes fs (with_inner known (seen_past known.inner n)) (roles_said ss))
-  node-passes (control_node c h body other) fs known scope ss a =
+      → is_formed n scope (in_loop (top fs)) (levels (top fs)) ≡ true
+      → passes fs (with_inner known (seen_past known.inner n)) (roles_said ss) ≡ true → passes fs known (roles_said (node_said n ++ ss)) ≡ true
+  node-passes (control_node c h body other) fs known scope ss a e more =
       let names : List Name = known.inner in
       let ds : List Name = (names_of h).declares in
       let n : ℕ = levels (top fs) in
-      let loop : Bool = in_loop (top fs) in
       let f : Frame = entered (opened.control c) (names_of h) (top fs) names in
       let inside : Known = with_inner known (with_names names ds) in
-      let behind : Known = with_inner known (seen_behind inside.inner body) in
       let ends : List Said = else_said other (nodes_said other) in
-      let rest : List Said = said end_action ∷ ss in
-      let more : Bool = passes fs known (roles_said ss) in
-      let head : Bool = are_among scope (names_of h).uses && nat_lt n most_levels in
-      let in_body : Bool = are_formed body (declared_to h.binding scope) (is_looped c loop) (n + 1) in
-      let in_other : Bool = are_formed other (else_scope c h.binding scope) loop (n + 1) in
-      ap (λ ts. passes fs known (act_role (opener (opened.control c) (names_of h)) ∷ roles_said ts))
-      (append_assoc (nodes_said body) (ends ++ said end_action ∷ []) ss ∙ ap (λ ts. nodes_said body ++ ts) (append_assoc ends (said end_action ∷ []) ss))
-      ∙ opened-passes fs known scope (roles_said (nodes_said body ++ (ends ++ rest))) a c h
-      ∙ ap (λ b. head && b) (nodes-passes body (f ∷ fs) inside (declared_to h.binding scope) (ends ++ rest) (alike-declared h.binding names scope a)
-      ∙ ap (λ l. are_formed body (declared_to h.binding scope) l (n + 1) && passes (f ∷ fs) behind (roles_said (ends ++ rest))) (looped c loop)
-      ∙ ap (λ b. in_body && b) (else-passes c other (nodes-passes other) f.around f.levels f.start f.part fs behind (else_scope c h.binding scope) ss
-      (alike-part c h names scope body a) (part-low c names ds) (part-long inside.inner body _ (part-high c names ds))
-      ∙ ap (λ ns. in_other && passes fs (with_inner known ns) (roles_said ss)) (control-names names ds body)))
-      ∙ sym (and_assoc head in_body (in_other && more)) ∙ sym (and_assoc (head && in_body) in_other more)
-  node-passes (text bytes) fs known scope ss a = alone-passes fs known scope (roles_said ss) a 0 (a_text {bytes = bytes})
-  node-passes (action h) fs known scope ss a = alone-passes fs known scope (roles_said ss) a 0 (an_action {h = h})
-  node-passes (template_node name given) fs known scope ss a = alone-passes fs known scope (roles_said ss) a 0 (a_template {name = name} {given = given})
-  node-passes break_node fs known scope ss a = alone-passes fs known scope (roles_said ss) a 0 a_break
-  node-passes continue_node fs known scope ss a = alone-passes fs known scope (roles_said ss) a 0 a_continue
+      let rest : List Said = ends ++ said end_action ∷ ss in
+      let p = control-formed c h body other scope (in_loop (top fs)) n e in
+      let in_rest = else-passes c other (nodes-passes other) f.around f.levels f.start f.part fs (with_inner known (seen_behind inside.inner body))
+      (else_scope c h.binding scope) ss (alike-part c h names scope body a) (part-low c names ds) (part-long inside.inner body _ (part-high c names ds)) p.in_other
+      (subst (λ ns. passes fs (with_inner known ns) (roles_said ss) ≡ true) (sym (control-names names ds body)) more) in
+      let in_body = nodes-passes body (f ∷ fs) inside (declared_to h.binding scope) rest (alike-declared h.binding names scope a)
+      (subst (λ l. are_formed body (declared_to h.binding scope) l (n + 1) ≡ true) (sym (looped c (in_loop (top fs)))) p.in_body) in_rest in
+      let joined : (nodes_said body ++ (ends ++ said end_action ∷ [])) ++ ss ≡ nodes_said body ++ rest = simp append_assoc in
+      ap (λ ts. passes fs known (act_role (opener (opened.control c) (names_of h)) ∷ roles_said ts)) joined
+      ∙ opened-passes fs known scope (roles_said (nodes_said body ++ rest)) a (opened.control c) (names_of h) refl
+      ∙ both_true (both_true p.uses p.room) in_body
+  node-passes (text bytes) fs known scope ss a e more = alone-passes fs known scope (roles_said ss) a 0 (a_text {bytes = bytes}) ∙ both_true e more
+  node-passes (action h) fs known scope ss a e more = alone-passes fs known scope (roles_said ss) a 0 (an_action {h = h}) ∙ both_true e more
+  node-passes (template_node name given) fs known scope ss a e more =
+      alone-passes fs known scope (roles_said ss) a 0 (a_template {name = name} {given = given}) ∙ both_true e more
+  node-passes break_node fs known scope ss a e more = alone-passes fs known scope (roles_said ss) a 0 a_break ∙ both_true e more
+  node-passes continue_node fs known scope ss a e more = alone-passes fs known scope (roles_said ss) a 0 a_continue ∙ both_true e more
 
   nodes-passes : (ns : Nodes) → Passes ns
-  nodes-passes none fs known scope ss a = refl
-  nodes-passes (then line n ns) fs known scope ss a =
-      let past : Known = with_inner known (seen_past known.inner n) in
-      let loop : Bool = in_loop (top fs) in
-      let here : Bool = is_formed n scope loop (levels (top fs)) in
-      ap (λ ts. passes fs known (roles_said ts)) (append_assoc (node_said n) (nodes_said ns) ss) ∙ node-passes n fs known scope (nodes_said ns ++ ss) a
-      ∙ ap (λ b. here && b) (nodes-passes ns fs past (scope_behind n scope) ss (alike-past n known.inner scope a))
-      ∙ sym (and_assoc here (are_formed ns (scope_behind n scope) loop (levels (top fs)))
-      (passes fs (with_inner past (seen_behind past.inner ns)) (roles_said ss)))
+  nodes-passes none fs known scope ss a e more = more
+  nodes-passes (then line n ns) fs known scope ss a e more =
+      let p = and_parts (is_formed n scope (in_loop (top fs)) (levels (top fs))) _ e in
+      rw append_assoc (node-passes n fs known scope (nodes_said ns ++ ss) a p.0
+      (nodes-passes ns fs (with_inner known (seen_past known.inner n)) (scope_behind n scope) ss (alike-past n known.inner scope a) p.1 more))
 
 -- the own template of an accepted list
 pub accepts-back : AcceptsBack
 unfolding verdict_of
 accepts-back items ds own judged spells read s =
-    let passed = passes-fine (roles_of read) 0 [] none_known ∙ ap (passes [] none_known) (says-roles s ∙ ap roles_said (sym (append-nil (nodes_said own))))
-    ∙ nodes-passes own [] none_known [] [] (λ x. refl) ∙ ap (λ b. b && true) (spells-formed items ds own judged spells).1 in
-    subst (Judged (roles_of read)) (fine-back (verdict_of (roles_of read)) passed) (judged-all (roles_of read))
+    let passed = nodes-passes own [] none_known [] [] (λ x. refl) (spells_formed items ds own judged spells).1 refl in
+    subst (Judged (roles_of read)) (fine-back (verdict_of (roles_of read))
+    (passes-fine (roles_of read) 0 [] none_known ∙ ap (passes [] none_known) (says-roles s) ∙ rw append-nil at passed)) (judged-all (roles_of read))

@@ -1,9 +1,10 @@
 -- For `add_copy`, `add_file` and `add_items`: a file and the set before and after it, by where the file is refused.
-use Rattle.std.proofs.Common.{◌≡◌, ◌<◌, ◌≤◌, ℕ, List, Option, Some, None, Ok, Err, sym, ap, ◌∙◌, length, cond, map}
+use Rattle.std.proofs.Common.{◌≡◌, ◌<◌, ◌≤◌, ℕ, List, Option, Some, None, Result, Ok, Err, refl, ap, ◌∙◌, length, cond, map}
 use Rattle.std.proofs.lemmas.Bool.{lt-ltb, le-ltb}
 use Rattle.tmpl_syntax.specs.Fault.{Reason, too_long}
+use Rattle.tmpl_syntax.specs.Tree.{Definition}
 use Rattle.tmpl_syntax.specs.Set.{Template, defined_each}
-use Rattle.tmpl_syntax.specs.computed.Parse.{Refusal, IsRefusal, checked, second_in, unless_second, IsSecondAt, definitions_or, bodies_of}
+use Rattle.tmpl_syntax.specs.computed.Parse.{Refusal, IsRefusal, checked, second_in, IsSecondAt, definitions_or, bodies_of}
 use Rattle.tmpl_syntax.specs.computed.Parse.{all_from, items_of, placed, parsed}
 use Rattle.tmpl_syntax.specs.Parse.{base_name, most_bytes, template_in}
 
@@ -16,31 +17,28 @@ module _ (set : List Template) (file bytes : List ℕ) where
   unfolding parsed
   parsed-short h = ap (λ b. cond b (Err (1, too_long)) (placed set file (bodies_of file bytes (items_of bytes)))) (le-ltb most_bytes (length bytes) h)
 
-  refused-short : (r : Refusal) → length bytes ≤ most_bytes → checked bytes (items_of bytes) ≡ Err r → parsed set file bytes ≡ Err r
-  refused-short r h e = parsed-short h ∙ ap (λ c. placed set file (definitions_or c (all_from (base_name file) (items_of bytes)))) e
+  abbrev ds : List Definition
+  ds = all_from (base_name file) (items_of bytes)
+
+  checked-as : (c : Result (Unit {0}) Refusal) → length bytes ≤ most_bytes → checked bytes (items_of bytes) ≡ c
+      → parsed set file bytes ≡ placed set file (definitions_or c ds)
+  checked-as c h e = rw (← e) (parsed-short h)
 
   -- the refusal of the items is that of their file
   pub refusal-placed : (line : ℕ) (o : Option Reason) → length bytes ≤ most_bytes → IsRefusal (checked bytes (items_of bytes)) line o
       → IsRefusal (parsed set file bytes) line o
   refusal-placed line None h e = e
-  refusal-placed line (Some reason) h e = refused-short (line, reason) h e
+  refusal-placed line (Some reason) h e = checked-as (Err (line, reason)) h e
 
-  -- a file all of whose items are in place
-  in-place : length bytes ≤ most_bytes → checked bytes (items_of bytes) ≡ Ok tt
-      → let ds = all_from (base_name file) (items_of bytes) in parsed set file bytes ≡ placed set file (unless_second (second_in ds) ds)
-  in-place h e = parsed-short h ∙ ap (λ c. placed set file (definitions_or c (all_from (base_name file) (items_of bytes)))) e
-
-  pub fine-placed : length bytes ≤ most_bytes → checked bytes (items_of bytes) ≡ Ok tt → second_in (all_from (base_name file) (items_of bytes)) ≡ None
-      → parsed set file bytes ≡ Ok (defined_each set (map (template_in file) (all_from (base_name file) (items_of bytes))))
-  fine-placed h e none = in-place h e ∙ ap (λ k. placed set file (unless_second k (all_from (base_name file) (items_of bytes)))) none
+  pub fine-placed : length bytes ≤ most_bytes → checked bytes (items_of bytes) ≡ Ok tt → second_in ds ≡ None
+      → parsed set file bytes ≡ Ok (defined_each set (map (template_in file) ds))
+  fine-placed h e none = checked-as (Ok tt) h e ∙ rw none refl
 
   -- the refusal of a second definition is that of its file
   pub second-placed : (line : ℕ) (o : Option Reason) → length bytes ≤ most_bytes → checked bytes (items_of bytes) ≡ Ok tt
-      → IsSecondAt (second_in (all_from (base_name file) (items_of bytes))) line o → IsRefusal (parsed set file bytes) line o
+      → IsSecondAt (second_in ds) line o → IsRefusal (parsed set file bytes) line o
   second-placed line None h e s = s
-  second-placed line (Some reason) h e s =
-      let ds = all_from (base_name file) (items_of bytes) in
-      in-place h e ∙ ap (λ k. placed set file (unless_second k ds)) s.0 ∙ ap (λ r. Err (line, r)) (sym s.1)
+  second-placed line (Some reason) h e s = checked-as (Ok tt) h e ∙ rw (s.0, s.1) refl
 
 pub ruleset long = parsed-long
 

@@ -3,6 +3,7 @@ use Rattle.std.proofs.Common.{arith, ◌≡◌, ◌∙◌, ℕ, ◌+◌, ◌≤�
 use Rattle.std.proofs.Common.{Option, Some, None, refl, sym, ap, length-take}
 use Rattle.std.proofs.Math.Bool.{and_comm, or_comm}
 use Rattle.std.proofs.lemmas.Bool.{false≢true, and_parts, lt-ltb, ltb-true}
+pub use Rattle.std.proofs.lemmas.Bool.{or_left as or-left, or_right as or-right}
 use Rattle.std.specs.Cmp.Derive.{both_true}
 use Rattle.std.specs.Str.{bytes_eq}
 use Rattle.tmpl_grammar.specs.Tree.{Binding, unbound, declare, assign, declare_pair, Header}
@@ -13,11 +14,12 @@ use Rattle.tmpl_syntax.specs.Tree.{NodeKind, action, control_node, Nodes, none, 
 use Rattle.tmpl_syntax.specs.Item.{ItemKind, item}
 use Rattle.tmpl_syntax.specs.Spelling.{IsNode, a_text, an_action, a_break, a_continue, a_template}
 use Rattle.tmpl_syntax.specs.Formed.{are_among, declared_to, else_scope, is_looped, scope_behind, is_formed, are_formed}
+use Rattle.tmpl_syntax.specs.Place.Opening.{Opening}
 use Rattle.tmpl_syntax.specs.Place.Opening as opened
-use Rattle.tmpl_syntax.specs.Place.Role.{Name, declared_by, names_of, names_given, opener, Role, act_role, role_of}
-use Rattle.tmpl_syntax.specs.Place.Body.{most_levels, Verdict, fine}
+use Rattle.tmpl_syntax.specs.Place.Role.{Name, Names, declared_by, names_of, names_given, opener, Role, act_role, role_of}
+use Rattle.tmpl_syntax.specs.Place.Body.{is_level, most_levels, Verdict, fine}
 use Rattle.tmpl_syntax.specs.computed.Frames.{Frame, top, loops, in_loop, levels, is_known, knows, first_fault, part_of, entered, seen_at, fault_at}
-use Rattle.tmpl_syntax.specs.computed.Frames.{frames_past, unless_fault, Known, with_inner, with_names, known_past, verdict_from}
+use Rattle.tmpl_syntax.specs.computed.Frames.{frames_past, unless_fault, Known, with_inner, with_names, opened_names, known_past, verdict_from}
 use Rattle.tmpl_syntax.proofs.NameLemmas.{one-known, with-longer, take-with, take-before, part-high, else_names, take-part}
 use Rattle.std.proofs.lemmas.Bool.Decides.{nat_tests}
 
@@ -165,14 +167,13 @@ module _ (fs : List Frame) (known : Known) (scope : List Name) (rs : List Role) 
   alone-passes line (a_template {given = given}) = ap (λ b. b && passes fs known rs)
       (first-none false (knows known.inner (names_given given).uses) ∙ alike-uses known.inner scope (names_given given).uses a)
 
-  -- one that opens a control
-  pub opened-passes : (c : Control) (h : Header) → passes fs known (act_role (opener (opened.control c) (names_of h)) ∷ rs)
-      ≡ (are_among scope (names_of h).uses && nat_lt (levels (top fs)) most_levels
-      && passes (entered (opened.control c) (names_of h) (top fs) known.inner ∷ fs) (with_inner known (with_names known.inner (names_of h).declares)) rs)
-  opened-passes c h =
-      ap (λ b. b && passes (entered (opened.control c) (names_of h) (top fs) known.inner ∷ fs)
-      (with_inner known (with_names known.inner (names_of h).declares)) rs)
-      (first-none (leb most_levels (levels (top fs))) (knows known.inner (names_of h).uses) ∙ headed known.inner scope (names_of h).uses (levels (top fs)) a)
+  -- one that opens a level
+  pub opened-passes : (c : Opening) (p : Names) → is_level c ≡ true → passes fs known (act_role (opener c p) ∷ rs)
+      ≡ (are_among scope p.uses && nat_lt (levels (top fs)) most_levels
+      && passes (entered c p (top fs) known.inner ∷ fs) (opened_names c p.declares known) rs)
+  opened-passes opened.define p level = cc
+  opened-passes c p level = ap (λ b. b && passes (entered c p (top fs) known.inner ∷ fs) (opened_names c p.declares known) rs)
+      (first-none (leb most_levels (levels (top fs))) (knows known.inner p.uses) ∙ headed known.inner scope p.uses (levels (top fs)) a)
 
 -- ---- formed nodes
 
@@ -183,14 +184,6 @@ looped _ loop = refl
 pub unlooped : (c : Control) (loop : Bool) → loops (opened.control c) true loop ≡ loop
 unlooped If loop = refl
 unlooped _ loop = refl
-
-pub or-left : (a b : Bool) → a ≡ true → (a || b) ≡ true
-or-left true b e = refl
-or-left false b e = absurd (false≢true e)
-
-pub or-right : (a b : Bool) → b ≡ true → (a || b) ≡ true
-or-right true b e = refl
-or-right false b e = e
 
 -- what a formed control says of its parts
 pub record FormedControl (c : Control) (h : Header) (body other : Nodes) (scope : List Name) (loop : Bool) (levels : ℕ) : Type 0 where

@@ -11,7 +11,7 @@ use Rattle.tmpl_lex.specs.Piece.{Piece, text, action}
 use Rattle.tmpl_lex.specs.Text.{newlines, text_piece, keeps_front, keeps_end, trims_end, Texts, trimmed}
 use Rattle.tmpl_lex.proofs.PartLemmas.{absent-rest, absent-here, absent-nil, absent-one, absent-cons}
 use Rattle.tmpl_syntax.specs.Print.Join.{Part, a_text, an_action, ends_brace, opening, parting, before_of, file_of, AreParts, no_piece}
-use Rattle.tmpl_syntax.specs.Print.Join.{same_text, same_action, HasParts}
+use Rattle.tmpl_syntax.specs.Print.Join.{same_text, same_action, HasParts, CutsBack}
 use Rattle.tmpl_grammar.specs.Print.{bytes_of}
 use Rattle.tmpl_grammar.proofs.FrontLemmas.{solid, solid-unmarked}
 
@@ -149,3 +149,6 @@ cut-back (a_text u ∷ ps) h (b ∷ t) clear line =
           (rw (some-text next u h.0.some more.pieces) at more.cuts));
       same = same_text more.same;
     }
+
+pub cuts_back : CutsBack
+cuts_back ps h line = cut-back ps h [] (absent-nil 123 123) line

@@ -1,5 +1,5 @@
 -- For `one_verdict`: what the tests of frames and names say of an item.
-use Rattle.std.proofs.Common.{arith, ◌≡◌, ◌≢◌, ℕ, ◌+◌, ◌≤◌, true, false, not, ◌&&◌, leb, List, [], ◌∷◌, refl, sym, ap, ◌∙◌}
+use Rattle.std.proofs.Common.{arith, ◌≡◌, ◌≢◌, ℕ, ◌≤◌, true, false, not, ◌&&◌, leb, List, [], ◌∷◌, refl, sym, ap, ◌∙◌}
 use Rattle.std.proofs.Common.{subst, take, Bool, Option, Some, None, ◌⊎◌, inl, inr}
 use Rattle.std.specs.Prelude.{slice_get, Contains}
 use Rattle.std.specs.Bool.{Decides}
@@ -7,18 +7,18 @@ use Rattle.std.proofs.lemmas.Bool.{and_parts, le-leb, leb-true}
 use Rattle.std.proofs.lemmas.Bool.Decides.{Decides-and, Decides-like, Decides-not, Decides-or, not_from_Decides}
 use Rattle.tmpl_grammar.specs.declared.action.Branch.{Branch}
 use Rattle.tmpl_syntax.specs.computed.Frames.{Frame}
-use Rattle.tmpl_syntax.specs.Place.Open.{IsLast, IsElseOf, HasElse, is_template}
+use Rattle.tmpl_syntax.specs.Place.Open.{IsOpen, IsLast, IsElseOf, HasElse}
 use Rattle.tmpl_syntax.specs.Place.Scope.{IsInScope}
 use Rattle.tmpl_syntax.specs.Place.Body.{joins, TakesElse, IsLoop}
 use Rattle.tmpl_syntax.specs.Place.Body.{IsMisplaced, names_in, opens_level, most_levels, IsTooDeep, in_levels, in_parentheses}
 use Rattle.tmpl_syntax.specs.Place.Body.{IsUndeclared}
 use Rattle.tmpl_syntax.specs.computed.Frames.{top, in_loop, levels, takes_else, is_placed, is_nested, is_known, knows}
 use Rattle.tmpl_syntax.specs.computed.Frames.{is_too_deep, names_at, Known}
-use Rattle.tmpl_syntax.proofs.FaultLemmas.{Clears, clears, in-nothing, known-Decides, knows-clears}
-use Rattle.tmpl_syntax.proofs.OpenLemmas.{same-opening, one-last}
+use Rattle.tmpl_syntax.proofs.FaultLemmas.{Clears, clears, in-nothing, knows-clears}
+use Rattle.tmpl_syntax.proofs.OpenLemmas.{same-opening, one-last, even-here}
 use Rattle.tmpl_syntax.proofs.PlaceLemmas.{levels-unique, no-else, InLoop}
-use Rattle.tmpl_syntax.proofs.ScopeLemmas.{to-scope, from-scope, at-place, at-place-back, to-part, from-part}
-use Rattle.tmpl_syntax.proofs.StandLemmas.{Here, closed_at, Stands, here-of}
+use Rattle.tmpl_syntax.proofs.ScopeLemmas.{to-scope, from-scope, at-place, at-place-back, else-sees, else-seen}
+use Rattle.tmpl_syntax.proofs.StandLemmas.{Here, Stands, here-of, looped}
 use Rattle.tmpl_syntax.proofs.StepLemmas.{joins-own, joins-no-range}
 use Rattle.tmpl_syntax.specs.Place.Opening.{Opening}
 use Rattle.tmpl_syntax.specs.Place.Opening as opened
@@ -53,7 +53,7 @@ placed xs i known fs (else_part (Some (b, p))) s = clears _ (takes xs i known (S
 placed xs i known fs (nested (Some b)) s = clears _ (takes xs i known (Some b) fs s)
 placed xs i known [] closer s = s.0
 placed xs i known (f ∷ fs) closer s = λ h. h s.1 s.2.last.is_open
-placed xs i known fs jump s = by (in_loop (top fs)) (here-of xs i known fs s).looped
+placed xs i known fs jump s = by (in_loop (top fs)) (looped xs i known fs s)
   where
     by : (b : Bool) → Decides b (InLoop xs i) → Clears b ((j : ℕ) → IsLoop xs j i → ⊥)
     by true d = λ none. let l = d.0 refl in none l.0 l.1
@@ -90,24 +90,19 @@ module _ (xs : List Role) (i : ℕ) (known : Known) where
       → (n : Name) → Decides (is_known names n) (IsInScope xs i n)
   wide fs s x at ne n =
       let h = here-of xs i known fs s in
-      Decides-like (is_known names n) (λ k. at-place xs i n (no-else xs x i at ne) (h.to n k)) (λ k. h.back n (at-place-back xs i n k)) (known-Decides names n)
+      Decides-like (is_known names n) (at-place xs i n (no-else xs x i at ne)) (at-place-back xs i n) (h.sees n)
 
   -- .. and where it is an else branch, those that its part sees
   narrow : (f : Frame) (fs : List Frame) → Stands xs i known (f ∷ fs) → (b : Branch) (p : Names) → slice_get xs i ≡ Some (act_role (else_part (Some (b, p))))
       → joins (Some b) f.opening ≡ true → (n : Name) → Decides (is_known (take f.part names) n) (IsInScope xs i n)
   narrow f fs s b p at joining n =
-      let low = s.2.last.is_open.before in
-      let top = top-opening xs i known f fs s s.1 s.2.last in
-      let own = joins-own (Some b) f.opening joining in
       let part : IsElseOf xs (Some (b, p)) s.1 i = record { at = at; belongs = s.2.last } in
-      let below : Here xs s.1 _ (closed_at f known).inner = here-of xs s.1 (closed_at f known) fs s.3 in
-      let not_ranged : s.2.last.is_open.opened ≡ opened.control Range → HasElse xs s.1 i = λ e. absurd (joins-no-range b f.opening joining (sym top ∙ e)) in
-      Decides-like (is_known (take f.part names) n)
-      (λ k. to-scope xs i n (from-part xs s.1 i i (i + 1) s.2.last (ap is_template top ∙ own) (Some (b, p)) part low (omega arith) (omega arith) (omega arith)
-      not_ranged below.template below.is_template_here n (s.2.to own n k)))
-      (λ k. s.2.back own n (to-part xs s.1 i i (i + 1) s.2.last (ap is_template top ∙ own) (Some (b, p)) part low (omega arith) (omega arith) (omega arith)
-      not_ranged n (from-scope xs i n k)))
-      (known-Decides (take f.part names) n)
+      let ranged : (o : IsOpen xs s.1 i) → o.opened ≡ opened.control Range → HasElse xs s.1 i =
+      λ o e. absurd (joins-no-range b f.opening joining (same-opening xs s.1 f.opening o.opened s.2.opened o.at ∙ e)) in
+      let sees = else-sees xs i s.1 i (Some (b, p)) part (even-here xs i) (omega arith) ranged None (λ q e. cc) n in
+      let seen = else-seen xs i s.1 i (Some (b, p)) part (even-here xs i) (omega arith) ranged None (λ q e. cc) n in
+      Decides-like (is_known (take f.part names) n) (λ k. to-scope xs i n (sees k)) (λ k. let v = from-scope xs i n k in seen v v.before)
+      (s.2.part (joins-own (Some b) f.opening joining) n)
 
   -- of the names that an action uses those are known that are in scope
   scoped : (fs : List Frame) → Stands xs i known fs → (a : Act) → slice_get xs i ≡ Some (act_role a) → is_placed a (top fs) ≡ true

@@ -23,20 +23,17 @@ use Rattle.tmpl_syntax.specs.computed.Build.{nodes_from, definitions_from}
 use Rattle.tmpl_syntax.specs.computed.Parse.{by_verdict, checked, all_from, items_of}
 use Rattle.tmpl_syntax.proofs.ItemLemmas.{has-items}
 use Rattle.tmpl_syntax.proofs.SpellingLemmas.{spells-fine}
-use Rattle.tmpl_syntax.proofs.AcceptedLemmas.{spells-formed}
+use Rattle.tmpl_syntax.proofs.AcceptedLemmas.{spells_formed}
 use Rattle.tmpl_syntax.proofs.VerdictLemmas.{judged-all}
 use Rattle.tmpl_syntax.proofs.NeedLemmas.{need-most}
 use Rattle.tmpl_syntax.proofs.PrintableNodeLemmas.{keeps-printable}
 
 -- ---- by number
 
-kept-at : (ts : List Template) (number : ℕ) → AreKept ts → IfSome (slice_get ts number) (λ t. IsKept t.1)
-kept-at [] number h = tt
-kept-at (t ∷ ts) zero h = h.1
-kept-at (t ∷ ts) (suc number) h = kept-at ts number h.2
-
 pub at-kept : (ts : List Template) (number : ℕ) (t : Template) → AreKept ts → Some t ≡ slice_get ts number → IsKept t.1
-at-kept ts number t h at = subst (λ o. IfSome o (λ (t : Template). IsKept t.1)) (sym at) (kept-at ts number h)
+at-kept [] number t h at = cc
+at-kept (u ∷ ts) zero t h at = let same : t ≡ u = cc in rw same h.1
+at-kept (u ∷ ts) (suc number) t h at = at-kept ts number t h.2 at
 
 -- ---- a definition
 
@@ -99,7 +96,7 @@ file-kept file bytes ts name h within passed built =
     let own = nodes_from items in
     let accepted = checked-verdict bytes items passed in
     let spelled = spells-fine items accepted in
-    let formed = spells-formed items ds own (subst (Judged (roles_of items)) accepted (judged-all (roles_of items))) spelled in
+    let formed = spells_formed items ds own (subst (Judged (roles_of items)) accepted (judged-all (roles_of items))) spelled in
     let printable = keeps-printable every_branch bytes items ds own h (has-items bytes) spelled in
     subst AreKept (sym built) (all-kept file ds own name formed (printable.0 file) printable.1
     (need-most every_branch file bytes items ds own within (has-items bytes) spelled))

@@ -1,9 +1,9 @@
 -- For `KnownNames`, `one_verdict`, `formed` and `accepted_back`: the names that are known, as they are held, and with more
 -- behind them.
 use Rattle.std.proofs.Common.{arith, ◌≡◌, ℕ, ◌≤◌, Bool, true, false, ◌||◌, List, [], ◌∷◌, ◌++◌, refl, sym, ap, ◌∙◌, length, take, map, Bor, ◌⊎◌}
-use Rattle.std.proofs.Common.{inl, inr, append_assoc, append-nil, length-append, if◌then◌else◌}
+use Rattle.std.proofs.Common.{append_assoc, append-nil, length-append, if◌then◌else◌}
 use Rattle.std.specs.Prelude.{Contains}
-use Rattle.std.specs.List.{list_any}
+use Rattle.std.specs.List.{list_any, take-map}
 use Rattle.std.specs.Str.{bytes_eq}
 use Rattle.std.proofs.Math.Bool.{or-false, or_assoc}
 use Rattle.std.proofs.Math.Seq.{take-length}
@@ -39,6 +39,8 @@ with-held keys name =
     by : (b : Bool) → seen (if b then keys else keys ++ name ∷ []) ≡ (if b then seen keys else seen keys ++ name.now ∷ [])
     by true = refl
     by false = map-append (λ (k : Bor (List ℕ)). k.now) keys (name ∷ [])
+
+pub ruleset held = take-map
 
 -- ---- names with more
 
@@ -78,19 +80,9 @@ with-known names (d ∷ ds) x =
     with-known (with_name names d) ds x ∙ ap (λ b. b || is_known ds x) (one-known names d x) ∙ or_assoc (is_known names x) (bytes_eq x d) (is_known ds x)
 
 -- known with more is what was known, and what is more
-pub with-Decides : (names ds : List Name) (n : Name) → Decides (is_known (with_names names ds) n) (Contains names n ⊎ Contains ds n)
-with-Decides names ds n =
-    Decides-at _ _ (with-known names ds n) (Decides-or (is_known names n) (is_known ds n) (known-Decides names n) (known-Decides ds n))
-
-module _ (names ds : List Name) (n : Name) where
-  pub with-left : Contains names n → Contains (with_names names ds) n
-  with-left c = (known-Decides (with_names names ds) n).0 ((with-Decides names ds n).1 (inl c))
-
-  pub with-right : Contains ds n → Contains (with_names names ds) n
-  with-right c = (known-Decides (with_names names ds) n).0 ((with-Decides names ds n).1 (inr c))
-
-  pub with-cases : Contains (with_names names ds) n → Contains names n ⊎ Contains ds n
-  with-cases c = (with-Decides names ds n).0 ((known-Decides (with_names names ds) n).1 c)
+pub with-Decides : {P : Type 0} (names ds : List Name) (n : Name) → Decides (is_known names n) P
+    → Decides (is_known (with_names names ds) n) (P ⊎ Contains ds n)
+with-Decides names ds n d = Decides-at _ _ (with-known names ds n) (Decides-or (is_known names n) (is_known ds n) d (known-Decides ds n))
 
 -- an else part sees no fewer names than there were before the header, and no more than there are in the body
 pub part-low : (c : Control) (names ds : List Name) → length names ≤ part_of c (length names) (length (with_names names ds))

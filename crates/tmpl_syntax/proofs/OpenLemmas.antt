@@ -95,6 +95,9 @@ pub record Even (xs : List Role) (j m : ℕ) : Type 0 where
   pub keeps : (k : ℕ) → IsOpen xs k j → IsOpen xs k m
   pub only : (k : ℕ) → IsOpen xs k m → IsOpen xs k j
 
+pub even-here : (xs : List Role) (i : ℕ) → Even xs i i
+even-here xs i = record { le = omega arith; balance = refl; keeps = λ k o. o; only = λ k o. o }
+
 -- .. and no else between belongs to what is open
 pub record Same (xs : List Role) (j m : ℕ) : Type 0 where
   pub even : Even xs j m
@@ -177,3 +180,6 @@ same-still xs x i at o e ne = record {
 -- what an opening adds
 abbrev pub opened_new : (xs : List Role) (i : ℕ) (c : Opening) (p : Names) → slice_get xs i ≡ Some (act_role (opener c p)) → IsOpen xs i (i + 1)
 opened_new xs i c p at = open-by xs i (i + 1) c p at (omega arith) (λ n from to. let s : n ≡ i + 1 = omega arith in rw s (omega arith))
+
+abbrev pub last_new : (xs : List Role) (i : ℕ) (c : Opening) (p : Names) → slice_get xs i ≡ Some (act_role (opener c p)) → IsLast xs i (i + 1)
+last_new xs i c p at = record { is_open = opened_new xs i c p at; last = λ k lt o. let le = o.before in omega arith }

@@ -1,13 +1,13 @@
 -- For `one_verdict`: templates, levels and loops move with what is open.
 use Rattle.std.proofs.Common.{arith, ◌≡◌, ◌≢◌, ℕ, zero, suc, ◌+◌, ◌<◌, ◌≤◌, true, false, List, refl, sym, ap, ◌∙◌, subst, add-one, add-zero}
-use Rattle.std.proofs.Common.{Option, Some, None, ⊎_elim}
+use Rattle.std.proofs.Common.{Option, Some, None, ⊎_elim, ◌⊎◌, inl, inr}
 use Rattle.std.specs.Prelude.{slice_get, is_some}
 use Rattle.std.proofs.lemmas.Bool.{cases_order, cases_lt}
 use Rattle.tmpl_grammar.specs.declared.action.Branch.{Branch}
 use Rattle.tmpl_syntax.specs.Place.Open.{IsOpen, IsLast, IsElseOf, HasElse, is_template, IsBody, IsTemplate, OfOneTemplate}
 use Rattle.tmpl_syntax.specs.Place.Body.{is_level, IsLoop, IsLevel, of_opening, of_else_branch, Levels, none, one, other}
 use Rattle.tmpl_syntax.specs.computed.Frames.{level_of, else_levels}
-use Rattle.tmpl_syntax.proofs.OpenLemmas.{same-opening, same-piece, cut, through, Even, Same, shut-at, opened-keeps, opened_new}
+use Rattle.tmpl_syntax.proofs.OpenLemmas.{same-opening, same-piece, cut, through, Even, Same, shut-at, opened-keeps, opened_new, last_new}
 use Rattle.tmpl_syntax.specs.Place.Opening.{Opening}
 use Rattle.tmpl_syntax.specs.Place.Opening as opened
 use Rattle.tmpl_syntax.specs.Place.Role.{Names, opener, else_part, Role, act_role}
@@ -56,19 +56,7 @@ alike-last xs j i l nt = record {
 
 pub alike-opened : (xs : List Role) (i : ℕ) (c : Opening) (p : Names) → slice_get xs i ≡ Some (act_role (opener c p)) → is_template c ≡ false
     → Alike xs i (i + 1)
-alike-opened xs i c p at nt = record {
-  to = λ k h. move-body xs k i (i + 1) h (opened-keeps xs (act_role (opener c p)) i k at refl h.is_open);
-  back = λ k h. ⊎_elim
-      (λ lt. move-body xs k (i + 1) i h (cut xs k i (i + 1) lt (omega arith) h.is_open))
-      (λ ge. let b = h.is_open.before in absurd (own k (omega arith) h))
-      (cases_lt k i);
-}
-  where
-    own : (k : ℕ) → k ≡ i → IsBody xs k (i + 1) → ⊥
-    own k s h =
-        let b : IsBody xs i (i + 1) = subst (λ n. IsBody xs n (i + 1)) s h in
-        let d : b.is_open.opened ≡ c = same-opening xs i b.is_open.opened c b.is_open.at at in
-        let t : true ≡ false = sym b.own ∙ ap is_template d ∙ nt in cc
+alike-opened xs i c p at nt = alike-last xs i (i + 1) (last_new xs i c p at) nt
 
 -- the body of a define or block is a template of its own, and no place before it is of that template
 pub template-opened : (xs : List Role) (i : ℕ) (c : Opening) (p : Names) → slice_get xs i ≡ Some (act_role (opener c p)) → is_template c ≡ true
@@ -182,9 +170,23 @@ has-before xs x i at ne q e = ⊎_elim (λ lt. (e.0, lt, e.2)) (λ ge. let g = e
 pub else-same : (xs : List Role) (q j m : ℕ) → Same xs j m → IsOpen xs q j → HasElse xs q m → HasElse xs q j
 else-same xs q j m s o h = ⊎_elim (λ lt. (h.0, lt, h.2)) (λ ge. absurd (s.no_else None q h.0 ge h.1 o h.2)) (cases_lt h.0 j)
 
-pub loop-same : (xs : List Role) (j m : ℕ) → Same xs j m → InLoop xs j → InLoop xs m
-loop-same xs j m s l = (l.0, loop-moves xs l.0 j m (alike-even xs j m s.even) (s.even.keeps l.0 l.1.0) (else-same xs l.0 j m s l.1.0) l.1)
+-- inside a control the loops are those around it, and itself, if it is one
+module _ (xs : List Role) (j i : ℕ) (l : IsLast xs j i) (own : is_template l.is_open.opened ≡ false) where
+  pub loop-in : InLoop xs j → InLoop xs i
+  loop-in (q, loop) = (q, loop-moves xs q j i (alike-last xs j i l own) (through xs q j i loop.0 l.is_open) sooner loop)
+    where
+      sooner : HasElse xs q i → HasElse xs q j
+      sooner has = ⊎_elim (λ lt. (has.0, lt, has.2))
+          (λ ge. absurd (⊎_elim
+          (λ gt. has.2.belongs.last j loop.0.before (cut xs j has.0 i gt (let lt = has.1 in omega arith) l.is_open))
+          (λ le. let e : has.0 ≡ j = omega arith in
+          shut-at xs (act_role (else_part None)) j i (subst (λ z. slice_get xs z ≡ Some (act_role (else_part None))) e has.2.at) refl l.is_open)
+          (cases_lt j has.0)))
+          (cases_lt has.0 j)
 
-pub loop-same-back : (xs : List Role) (j m : ℕ) → Same xs j m → InLoop xs m → InLoop xs j
-loop-same-back xs j m s l =
-    (l.0, loop-moves xs l.0 m j (alike-back xs j m (alike-even xs j m s.even)) (s.even.only l.0 l.1.0) (else_before xs l.0 j m s.even.le) l.1)
+  pub loop-out : (k : InLoop xs i) → (k.0 ≡ j) ⊎ InLoop xs j
+  loop-out (q, loop) = ⊎_elim (λ e. inl e) (λ o. ⊎_elim
+      (λ lt. let le = l.is_open.before in
+      inr (q, loop-moves xs q i j (alike-back xs j i (alike-last xs j i l own)) (cut xs q j i lt (omega arith) loop.0) (else_before xs q j i (omega arith)) loop))
+      (λ gt. absurd (l.last q gt loop.0)) o)
+      (cases_order q j)

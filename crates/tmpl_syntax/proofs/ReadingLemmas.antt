@@ -38,9 +38,7 @@ module _ (set : List Template) (file bytes : List ℕ) where
   short-by : (v : Verdict) → length bytes ≤ most_bytes → verdict_of (roles_of (items_of bytes)) ≡ v
       → parsed set file bytes ≡ placed set file (definitions_or (by_verdict (last_line bytes) (items_of bytes) v) (all_from (base_name file) (items_of bytes)))
   unfolding checked
-  short-by v h e =
-      parsed-short set file bytes h
-      ∙ ap (λ w. placed set file (definitions_or (by_verdict (last_line bytes) (items_of bytes) w) (all_from (base_name file) (items_of bytes)))) e
+  short-by v h e = rw (← e) (parsed-short set file bytes h)
 
   judged-by : (v : Verdict) → verdict_of (roles_of (items_of bytes)) ≡ v → Judged (roles_of (items_of bytes)) v
   judged-by v e = subst (Judged (roles_of (items_of bytes))) e (judged-all (roles_of (items_of bytes)))
@@ -50,12 +48,6 @@ module _ (set : List Template) (file bytes : List ℕ) where
   ds = all_from (base_name file) (items_of bytes)
 
   -- ---- from the function
-
-  refused-there : (i : ℕ) (why : Reason) → Judged (roles_of (items_of bytes)) (refused i why) → IsRefusedAt (items_of bytes) (line_at (items_of bytes) i) why
-  refused-there i why j =
-      let n = within (roles_of (items_of bytes)) i why j.0 in
-      let it = item-there (items_of bytes) i (omega (arith, n, length-map (items_of bytes) role_of)) in
-      (i, it.0, j, it.1)
 
   -- what applies to an item is no reason that is asked for at the front or at the end of a file
   refused-as : (line : ℕ) (why : Reason) → {i : ℕ} → Applies (roles_of (items_of bytes)) i why → length bytes ≤ most_bytes
@@ -92,7 +84,10 @@ module _ (set : List Template) (file bytes : List ℕ) where
       by : length bytes ≤ most_bytes → (v : Verdict) → verdict_of (roles_of (items_of bytes)) ≡ v
           → Parses set file bytes (placed set file (definitions_or (by_verdict (last_line bytes) (items_of bytes) v) ds))
       by short fine v = once short v (second_in ds) refl
-      by short (refused i f) v = let j = judged-by (refused i f) v in refused-as (line_at (items_of bytes) i) f j.0 short (refused-there i f j)
+      by short (refused i f) v =
+          let j = judged-by (refused i f) v in
+          let it = item-there (items_of bytes) i (omega (arith, within (roles_of (items_of bytes)) i f j.0, length-map (items_of bytes) role_of)) in
+          refused-as (line_at (items_of bytes) i) f j.0 short (i, it.0, j, it.1)
       by short left_open v = (short, items_of bytes, has-items bytes, (judged-by left_open v, refl))
 
   pub accepted : (new : List Template) → parsed set file bytes ≡ Ok new → IsAccepted every_branch set file bytes new
@@ -112,11 +107,8 @@ module _ (set : List Template) (file bytes : List ℕ) where
   verdict-as : (items : List Item) → HasItems every_branch bytes items → (v : Verdict) → Judged (roles_of items) v
       → length bytes ≤ most_bytes
       → parsed set file bytes ≡ placed set file (definitions_or (by_verdict (last_line bytes) items v) (all_from (base_name file) items))
-  verdict-as items has v j short =
-      let same : items ≡ items_of bytes = no-others bytes items has in
-      let is : verdict_of (roles_of items) ≡ v = one-verdict (roles_of items) (verdict_of (roles_of items)) v (judged-all (roles_of items)) j in
-      short-by v short (ap (λ xs. verdict_of (roles_of xs)) (sym same) ∙ is)
-      ∙ ap (λ xs. placed set file (definitions_or (by_verdict (last_line bytes) xs v) (all_from (base_name file) xs))) (sym same)
+  verdict-as items has v j short = rw (no-others bytes items has) (short-by v short (one-verdict _ _ v (judged-all (roles_of (items_of bytes)))
+      (subst (λ xs. Judged (roles_of xs) v) (no-others bytes items has) j)))
 
   -- .. which spell these definitions
   fine-as : (items : List Item) → HasItems every_branch bytes items → (es : List Definition) (own : Nodes) → Judged (roles_of items) fine
@@ -124,10 +116,7 @@ module _ (set : List Template) (file bytes : List ℕ) where
       → parsed set file bytes ≡ placed set file (unless_second o (all_defined file es own))
   fine-as items has es own j s short o second =
       let same = spells-built items es own s in
-      verdict-as items has fine j short
-      ∙ ap (λ xs. placed set file (definitions_or (Ok tt) (all_defined file xs (nodes_from items)))) same.0
-      ∙ ap (λ ns. placed set file (definitions_or (Ok tt) (all_defined file es ns))) same.1
-      ∙ ap (λ k. placed set file (unless_second k (all_defined file es own))) second
+      verdict-as items has fine j short ∙ rw (same.0, same.1, second) refl
 
   pub parsed-accepted : (new : List Template) → IsAccepted every_branch set file bytes new → parsed set file bytes ≡ Ok new
   parsed-accepted new h =

@@ -40,18 +40,16 @@ blank-list (n ∷ ns) = ap (λ b. is_blank_node (node_of n).what && b) (blank-li
 abbrev named : Bool → Template → Option Template → Option Tree
 named same t other = option_map (λ (u : Template). u.1) (cond same (Some t) other)
 
-kept : (ts : List Template) (name : List ℕ) (tree : Tree) → is_blank tree.nodes ≡ true → is_some (tree_named name ts) ≡ true → ts ≡ defined ts name tree
-kept [] name tree blank there = cc
-kept (t ∷ ts) name tree blank there = go (bytes_eq name t.0) (kept ts name tree blank) there
-  where
-    go : (same : Bool) → (is_some (tree_named name ts) ≡ true → ts ≡ defined ts name tree)
-        → is_some (named same t (find (has_name name) ts)) ≡ true → t ∷ ts ≡ cond same ((t.0, chosen t.1 tree) ∷ ts) (t ∷ defined ts name tree)
-    go true ih h = ap (λ b. (t.0, cond b t.1 tree) ∷ ts) (sym blank)
-    go false ih h = ap (λ us. t ∷ us) (ih h)
-
 -- a blank definition of a name that is there leaves the set as it is
 pub kept-as-is : (ts : List Template) (name : List ℕ) (tree : Tree) → (is_blank tree.nodes && is_some (tree_named name ts)) ≡ true → ts ≡ defined ts name tree
-kept-as-is ts name tree e = let parts = and_parts (is_blank tree.nodes) (is_some (tree_named name ts)) e in kept ts name tree parts.0 parts.1
+kept-as-is [] name tree e = let parts = and_parts (is_blank tree.nodes) false e in cc
+kept-as-is (t ∷ ts) name tree e = go (bytes_eq name t.0) (kept-as-is ts name tree) e
+  where
+    go : (same : Bool) → ((is_blank tree.nodes && is_some (tree_named name ts)) ≡ true → ts ≡ defined ts name tree)
+        → (is_blank tree.nodes && is_some (named same t (find (has_name name) ts))) ≡ true
+        → t ∷ ts ≡ cond same ((t.0, chosen t.1 tree) ∷ ts) (t ∷ defined ts name tree)
+    go true ih h = ap (λ b. (t.0, cond b t.1 tree) ∷ ts) (sym (and_parts (is_blank tree.nodes) true h).0)
+    go false ih h = ap (λ us. t ∷ us) (ih h)
 
 -- any other is inserted
 pub defined-insert : (es : List Entry) (k : Vec ℕ Global) (tree : held.Tree)

@@ -13,6 +13,7 @@ use Rattle.tmpl_syntax.specs.Place.Body.{Verdict, fine}
 use Rattle.tmpl_syntax.specs.computed.Frames.{Known, none_known, top, takes_else, seen_at, fault_at, frames_past}
 use Rattle.tmpl_syntax.specs.Place.Body.{joins}
 use Rattle.tmpl_syntax.proofs.StepLemmas.{joins-own}
+use Rattle.tmpl_syntax.proofs.VerdictLemmas.{one-verdict, judged-all}
 use Rattle.tmpl_grammar.specs.declared.action.Branch.{Branch}
 use Rattle.tmpl_syntax.specs.computed.Frames.{unless_fault, verdict_from, verdict_of}
 use Rattle.tmpl_syntax.specs.Spelling.{IsNode, a_text, an_action, a_break, a_continue, a_template, Leads, nothing, a_node, a_control, a_define, a_block}
@@ -20,7 +21,7 @@ use Rattle.tmpl_syntax.specs.Spelling.{Closes, an_end, an_else, an_else_branch, 
 use Rattle.tmpl_syntax.specs.computed.Build as build
 use Rattle.tmpl_syntax.specs.computed.Build.{no_parts, first_of, rest_of, with_node_before, put_before, control_before, definition_before, else_before}
 use Rattle.tmpl_syntax.specs.computed.Build.{branch_before, end_before, parts_with, parts_before, nodes_from, definitions_from}
-use Rattle.tmpl_syntax.specs.Laws.{SpellsAtMostOne}
+use Rattle.tmpl_syntax.specs.Laws.{SpellsWhereFine, SpellsAtMostOne}
 use Rattle.tmpl_syntax.proofs.FaultLemmas.{faultless}
 
 -- a part behind which an else may stand
@@ -121,6 +122,9 @@ pub spells-fine : (items : List Item) → verdict_of (roles_of items) ≡ fine �
 unfolding verdict_of nodes_from definitions_from
 spells-fine items e = rest-from items 0 none_known [] e
 
+pub spells-where-fine : SpellsWhereFine
+spells-where-fine items j = spells-fine items (one-verdict (roles_of items) (verdict_of (roles_of items)) fine (judged-all (roles_of items)) j)
+
 -- ---- what items spell is built from them, so they spell nothing else
 
 -- a part of these nodes, those around it, and definitions
@@ -163,6 +167,8 @@ spells-built items ds ns d =
 pub one-spelling : SpellsAtMostOne
 one-spelling items ds es ns ms d e =
     let p = spells-built items ds ns d in let q = spells-built items es ms e in (sym p.0 ∙ q.0, sym p.1 ∙ q.1)
+
+pub ruleset spellings = (spells-where-fine, one-spelling)
 
 -- ---- the last item's part, which is built first
 

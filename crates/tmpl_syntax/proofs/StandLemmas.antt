@@ -1,21 +1,19 @@
 -- For `one_verdict`: what stands on the stack is what is open, and the names are those in scope.
-use Rattle.std.proofs.Common.{arith, ◌≡◌, ◌≢◌, ℕ, ◌+◌, ◌≤◌, Bool, true, false, List, [], ◌∷◌, refl, sym, ap, ◌∙◌, subst, length, take}
-use Rattle.std.proofs.Common.{Option, Some, None, ⊎_elim}
+use Rattle.std.proofs.Common.{arith, ◌≡◌, ℕ, ◌+◌, ◌≤◌, true, false, List, [], ◌∷◌, refl, sym, ap, ◌∙◌, subst, length, take}
+use Rattle.std.proofs.Common.{Option, Some, None, ⊎_elim, inl, inr, not, ◌||◌}
 use Rattle.std.specs.Prelude.{slice_get, Contains}
 use Rattle.std.specs.Bool.{Decides}
-use Rattle.std.proofs.lemmas.Bool.{cases_lt}
-use Rattle.std.proofs.lemmas.Bool.Decides.{Decides-like}
-use Rattle.tmpl_syntax.specs.computed.Frames.{Frame}
-use Rattle.tmpl_syntax.specs.Place.Open.{NothingOpen, IsLast, HasElse, is_template, IsTemplate, OfOneTemplate}
+use Rattle.std.proofs.lemmas.Bool.{cases_lt, cases_order}
+use Rattle.std.proofs.lemmas.Bool.Decides.{Decides-like, Decides-not, Decides-or}
+use Rattle.tmpl_syntax.specs.Place.Open.{IsOpen, NothingOpen, IsLast, HasElse, is_template, IsTemplate, OfOneTemplate}
 use Rattle.tmpl_syntax.specs.Place.Body.{IsLoop, Levels}
-use Rattle.tmpl_syntax.specs.computed.Frames.{top, loops, in_loop, levels, entered, Known, with_inner, closed_if, closed_names, with_names}
-use Rattle.tmpl_syntax.proofs.FaultLemmas.{IsWithin, in-nothing}
-use Rattle.tmpl_syntax.proofs.NameLemmas.{with-longer, take-with, with-left, with-right, with-cases}
-use Rattle.tmpl_syntax.proofs.OpenLemmas.{ups, downs, same-opening, cut, Same, opened-keeps, opened_new}
-use Rattle.tmpl_syntax.proofs.PlaceLemmas.{Alike, alike-back, alike-even, alike-opened, template-moves, template-opened, template-apart}
-use Rattle.tmpl_syntax.proofs.PlaceLemmas.{levels-same, levels-opened, InLoop, loop-moves, else_before, else-same, loop-same, loop-same-back, has-before}
-use Rattle.tmpl_syntax.proofs.ScopeLemmas.{Brought, brought-same, brought-same-back, brought-opened, brought-header, brought-opened-back}
-use Rattle.tmpl_syntax.proofs.ScopeLemmas.{Part, part-later, part-sooner}
+use Rattle.tmpl_syntax.specs.computed.Frames.{Frame, top, loops, in_loop, levels, is_known, entered, Known, with_inner, closed_if, closed_names, with_names}
+use Rattle.tmpl_syntax.proofs.FaultLemmas.{IsWithin}
+use Rattle.tmpl_syntax.proofs.NameLemmas.{with-longer, take-with, with-Decides}
+use Rattle.tmpl_syntax.proofs.OpenLemmas.{ups, downs, same-opening, cut, Same}
+use Rattle.tmpl_syntax.proofs.PlaceLemmas.{Alike, alike-last, loop-in, loop-out, alike-back, alike-even, alike-opened, template-moves, template-opened, template-apart}
+use Rattle.tmpl_syntax.proofs.PlaceLemmas.{levels-same, levels-opened, InLoop, else_before, else-same}
+use Rattle.tmpl_syntax.proofs.ScopeLemmas.{Brought, Sees, brought-same, brought-same-back, brought-late, sees-opened}
 use Rattle.tmpl_syntax.specs.Place.Opening.{Opening}
 use Rattle.tmpl_syntax.specs.Place.Opening as opened
 use Rattle.tmpl_grammar.specs.declared.tree.Control.{Control}
@@ -27,9 +25,7 @@ pub record Here (xs : List Role) (i : ℕ) (t : Option Frame) (names : List Name
   pub template : Option ℕ
   pub is_template_here : IsTemplate xs i template
   pub levels_are : Levels xs i i (levels t)
-  pub looped : Decides (in_loop t) (InLoop xs i)
-  pub to : (n : Name) → Contains names n → Brought xs i i n
-  pub back : (n : Name) → Brought xs i i n → Contains names n
+  pub sees : Sees xs None i names
 
 -- the frame stands for the opening at j, the last one open at i
 pub record Stood (xs : List Role) (i : ℕ) (seen : List Name) (f : Frame) (j : ℕ) : Type 0 where
@@ -40,8 +36,7 @@ pub record Stood (xs : List Role) (i : ℕ) (seen : List Name) (f : Frame) (j : 
   pub has : Decides f.has_else (HasElse xs j i)
   pub around : Decides f.around (InLoop xs j)
   pub within : IsWithin f (length seen)
-  pub to : is_template f.opening ≡ false → (n : Name) → Contains (take f.part seen) n → Part xs j i n
-  pub back : is_template f.opening ≡ false → (n : Name) → Part xs j i n → Contains (take f.part seen) n
+  pub part : is_template f.opening ≡ false → Sees xs (Some j) i (take f.part seen)
 
 -- what is known again behind the end of the frame
 abbrev pub closed_at : Frame → Known → Known
@@ -56,13 +51,49 @@ pub here-of : (xs : List Role) (i : ℕ) (known : Known) (fs : List Frame) → S
 here-of xs i known [] s = s.1
 here-of xs i known (f ∷ fs) s = s.0
 
+-- a break may stand where the newest frame says so
+pub looped : (xs : List Role) (i : ℕ) (known : Known) (fs : List Frame) → Stands xs i known fs → Decides (in_loop (top fs)) (InLoop xs i)
+looped xs i known [] s = (λ e. cc, λ l. absurd (s.0 l.0 l.1.0))
+looped xs i known (f ∷ fs) (h, j, s, below) = by f.opening refl
+  where
+    same : (o : IsOpen xs j i) → o.opened ≡ f.opening
+    same o = same-opening xs j o.opened f.opening o.at s.opened
+
+    by : (c : Opening) → f.opening ≡ c → Decides (loops c f.has_else f.around) (InLoop xs i)
+    by (opened.control Range) e =
+        let own = ap is_template (same s.last.is_open ∙ e) in
+        let back = alike-back xs j i (alike-last xs j i s.last own) in
+        Decides-like (not f.has_else || f.around)
+        (⊎_elim (λ no. (
+          j,
+          (
+            s.last.is_open,
+            same s.last.is_open ∙ e,
+            (h.template, template-moves xs i j back h.template h.is_template_here, h.is_template_here),
+            no,
+          ),
+        )) (loop-in xs j i s.last own))
+        (λ l. ⊎_elim (λ k. inl (subst (λ q. IsLoop xs q i) k l.1).3) (λ k. inr k) (loop-out xs j i s.last own l))
+        (Decides-or (not f.has_else) f.around (Decides-not f.has_else s.has) s.around)
+    by (opened.control d) e =
+        let own = ap is_template (same s.last.is_open ∙ e) in
+        Decides-like f.around (loop-in xs j i s.last own)
+        (λ l. ⊎_elim (λ k. let w = subst (λ q. IsLoop xs q i) k l.1 in let g = sym (same w.0) ∙ w.1 in absurd (cc)) (λ k. k) (loop-out xs j i s.last own l))
+        s.around
+    by c e = (
+      λ k. cc,
+      λ l. absurd (⊎_elim (λ gt. s.last.last l.0 gt l.1.0)
+          (λ le. template-apart xs j l.0 i (record { is_open = s.last.is_open; own = ap is_template (same s.last.is_open ∙ e) }) le l.1.2)
+          (cases_lt j l.0)),
+    )
+
 -- a place is of the template of the one before it, where the same templates are open
 pub one-here : (xs : List Role) (i m : ℕ) (t : Option Frame) (names : List Name) → Here xs i t names → Alike xs i m → OfOneTemplate xs i m
 one-here xs i m t names h e = (h.template, h.is_template_here, template-moves xs i m e h.template h.is_template_here)
 
 -- to a place where the same stands, with what was declared on the way
-module _ (xs : List Role) (j m : ℕ) (s : Same xs j m) (known : Known) (ds : List Name) (new : (n : Name) → Contains ds n → Brought xs m m n)
-    (old : (n : Name) → (b : Brought xs m m n) → j ≤ b.by → Contains ds n) where
+module _ (xs : List Role) (j m : ℕ) (s : Same xs j m) (known : Known) (ds : List Name) (new : (n : Name) → Contains ds n → Brought xs None m m n)
+    (old : (n : Name) → (b : Brought xs None m m n) → j ≤ b.by → Contains ds n) where
   abbrev names : List Name
   names = known.inner
 
@@ -71,12 +102,10 @@ module _ (xs : List Role) (j m : ℕ) (s : Same xs j m) (known : Known) (ds : Li
     template = h.template;
     is_template_here = template-moves xs j m (alike-even xs j m s.even) h.template h.is_template_here;
     levels_are = levels-same xs j m (levels t) s h.levels_are;
-    looped = Decides-like (in_loop t) (loop-same xs j m s) (loop-same-back xs j m s) h.looped;
-    to = λ n c. ⊎_elim (λ l. brought-same xs j m n s (h.to n l)) (λ r. new n r) (with-cases names ds n c);
-    back = λ n b. ⊎_elim
-        (λ lt. with-left names ds n (h.back n (brought-same-back xs j m n s b lt)))
-        (λ ge. with-right names ds n (old n b ge))
-        (cases_lt b.by j);
+    sees = λ n. Decides-like (is_known (with_names names ds) n)
+        (⊎_elim (brought-same xs None j m s n) (new n))
+        (λ b. ⊎_elim (λ lt. inl (brought-same-back xs None j m s n b lt)) (λ ge. inr (old n b ge)) (cases_lt b.by j))
+        (with-Decides names ds n (h.sees n));
   }
 
   stood-moves : (f : Frame) (q : ℕ) → Stood xs j names f q → Stood xs m (with_names names ds) f q
@@ -84,7 +113,6 @@ module _ (xs : List Role) (j m : ℕ) (s : Same xs j m) (known : Known) (ds : Li
       let o = h.last.is_open in
       let lt = o.before in
       let le = s.even.le in
-      let e : take f.part (with_names names ds) ≡ take f.part names = take-with f.part names ds h.within.parted in
       record {
         names = h.names;
         opened = h.opened;
@@ -93,9 +121,19 @@ module _ (xs : List Role) (j m : ℕ) (s : Same xs j m) (known : Known) (ds : Li
         has = Decides-like f.has_else (else_before xs q j m le) (else-same xs q j m s o) h.has;
         around = h.around;
         within = record { started = h.within.started; parted = let p = h.within.parted in omega (arith, with-longer names ds) };
-        to = λ own n c. part-later xs q j m n le (h.to own n (subst (λ l. Contains l n) e c));
-        back = λ own n p. subst (λ l. Contains l n) (sym e) (h.back own n (part-sooner xs q j m n (λ b k from to. s.no_else b q k from to o) p));
+        part = λ own. subst (Sees xs (Some q) m) (sym (take-with f.part names ds h.within.parted)) (λ n. Decides-like (is_known (take f.part names) n)
+            (brought-same xs (Some q) j m s n)
+            (λ b. ⊎_elim (λ low. brought-same-back xs (Some q) j m s n b low) (λ ge. absurd (late n b ge)) (cases_lt b.by j)) (h.part own n));
       }
+    where
+      -- what is declared since then stands in the frame's opening, where an else is thought of
+      late : (n : Name) → (b : Brought xs (Some q) m m n) → j ≤ b.by → ⊥
+      late n b ge =
+          let there = cut xs q b.by m (let lt = h.last.is_open.before in omega arith) (let lt = b.before in omega arith) (s.even.keeps q h.last.is_open) in
+          brought-late xs (Some q) j m s n b.by ge b.before b.reaches (λ p e c. ⊎_elim (λ none. none q there) (λ r. ⊎_elim
+          (λ is. r.3 (ap (λ k. Some k) is))
+          (λ o. ⊎_elim (λ lt. h.last.last r.0 lt r.2) (λ gt. r.1.last q gt there) o)
+          (cases_order q r.0)))
 
   pub stands-moves : (fs : List Frame) → Stands xs j known fs → Stands xs m (with_inner known (with_names names ds)) fs
   stands-moves [] h = (λ k o. h.0 k (s.even.only k o), here-moves None h.1)
@@ -104,73 +142,31 @@ module _ (xs : List Role) (j m : ℕ) (s : Same xs j m) (known : Known) (ds : Li
       let e : take f.start (with_names names ds) ≡ take f.start names = take-with f.start names ds (let p = w.parted in let q = w.started in omega arith) in
       (here-moves (Some f) h.0, h.1, stood-moves f h.1 h.2, subst (λ l. Stands xs h.1 (closed_if (is_template f.opening) (with_inner known l)) fs) (sym e) h.3)
 
-loops-template : (c : Opening) (has around : Bool) → is_template c ≡ true → loops c has around ≡ false
-loops-template (opened.control c) has around own = cc
-loops-template _ has around own = refl
-
--- an opening
-module _ (xs : List Role) (i : ℕ) (names : List Name) (c : Opening) (p : Names) (at : slice_get xs i ≡ Some (act_role (opener c p)))
+-- after the opening of a control
+module _ (xs : List Role) (i : ℕ) (names : List Name) (d : Control) (p : Names) (at : slice_get xs i ≡ Some (act_role (opener (opened.control d) p)))
     (t : Option Frame) (h : Here xs i t names) where
-  none-of-it : HasElse xs i (i + 1) → ⊥
-  none-of-it e = let a = e.1 in let b = e.2.belongs.is_open.before in omega arith
+  abbrev c : Opening
+  c = opened.control d
 
-  loop-on : is_template c ≡ false → InLoop xs i → InLoop xs (i + 1)
-  loop-on own l = (
-    l.0,
-    loop-moves xs l.0 i (i + 1) (alike-opened xs i c p at own)
-        (opened-keeps xs (act_role (opener c p)) i l.0 at refl l.1.0) (has-before xs (act_role (opener c p)) i at (λ g. cc) l.0) l.1,
-  )
+  alike : Alike xs i (i + 1)
+  alike = alike-opened xs i c p at refl
 
-  loop-off : is_template c ≡ false → c ≢ opened.control Range → InLoop xs (i + 1) → InLoop xs i
-  loop-off own nr l = ⊎_elim
-      (λ lt. (
-        l.0,
-        loop-moves xs l.0 (i + 1) i (alike-back xs i (i + 1) (alike-opened xs i c p at own))
-            (cut xs l.0 i (i + 1) lt (omega arith) l.1.0) (else_before xs l.0 i (i + 1) (omega arith)) l.1,
-      ))
-      (λ ge. let b = l.1.0.before in let s : l.0 ≡ i = omega arith in
-      let w : IsLoop xs i (i + 1) = subst (λ k. IsLoop xs k (i + 1)) s l.1 in
-      absurd (nr (same-opening xs i c w.0.opened at w.0.at ∙ w.1)))
-      (cases_lt l.0 i)
+  pub here-control : Here xs (i + 1) (Some (entered c p t names)) (with_names names p.declares)
+  here-control = record {
+    template = h.template;
+    is_template_here = template-moves xs i (i + 1) alike h.template h.is_template_here;
+    levels_are = levels-opened xs i (levels t) c p at h.levels_are;
+    sees = sees-opened xs i c p at refl None (λ q e. cc) names h.sees h.template h.is_template_here (λ r e. cc);
+  }
 
-  module _ (own : is_template c ≡ false) where
-    here-plain : (l : Bool) → Decides l (InLoop xs (i + 1)) → l ≡ loops c false (in_loop t)
-        → Here xs (i + 1) (Some (entered c p t names)) (with_names names p.declares)
-    here-plain l d dl = record {
-      template = h.template;
-      is_template_here = template-moves xs i (i + 1) (alike-opened xs i c p at own) h.template h.is_template_here;
+-- in a template nothing is known
+pub here-template : (xs : List Role) (i : ℕ) (names : List Name) (c : Opening) (p : Names) → slice_get xs i ≡ Some (act_role (opener c p)) → (t : Option Frame)
+    → Here xs i t names → is_template c ≡ true → Here xs (i + 1) (Some (entered c p t names)) []
+here-template xs i names c p at t h own =
+    let body = template-opened xs i c p at own in
+    record {
+      template = Some i;
+      is_template_here = body;
       levels_are = levels-opened xs i (levels t) c p at h.levels_are;
-      looped = subst (λ b. Decides b (InLoop xs (i + 1))) dl d;
-      to = λ n k. ⊎_elim
-          (λ l. brought-opened xs i n c p at own (h.to n l))
-          (λ r. brought-header xs i n h.template c p at own h.is_template_here r)
-          (with-cases names p.declares n k);
-      back = λ n b. ⊎_elim
-          (λ old. with-left names p.declares n (h.back n old))
-          (λ new. with-right names p.declares n new)
-          (brought-opened-back xs i n c p at own b);
+      sees = λ n. (λ k. cc, λ b. absurd (let lt = b.before in template-apart xs i b.by (i + 1) body.0 (omega arith) b.template));
     }
-
-    new-loop : c ≡ opened.control Range → InLoop xs (i + 1)
-    new-loop e = (i, (opened_new xs i c p at, e, one-here xs i (i + 1) t names h (alike-opened xs i c p at own), none-of-it))
-
-    pub here-control : (d : Control) → c ≡ opened.control d → Here xs (i + 1) (Some (entered c p t names)) (with_names names p.declares)
-    here-control Range e = here-plain true (λ g. new-loop e, λ l. refl) (ap (λ z. loops z false (in_loop t)) (sym e))
-    here-control _ e = here-plain (in_loop t) (Decides-like (in_loop t) (loop-on own)
-        (loop-off own (λ r. cc)) h.looped) (ap (λ z. loops z false (in_loop t)) (sym e))
-
-  -- in a template nothing is known, and no loop is around it
-  pub here-template : is_template c ≡ true → Here xs (i + 1) (Some (entered c p t names)) []
-  here-template own =
-      let body = template-opened xs i c p at own in
-      record {
-        template = Some i;
-        is_template_here = body;
-        levels_are = levels-opened xs i (levels t) c p at h.levels_are;
-        looped = (
-          λ e. let g : true ≡ false = sym e ∙ loops-template c false (in_loop t) own in cc,
-          λ l. absurd (let lt = l.1.0.before in template-apart xs i l.0 (i + 1) body.0 (omega arith) l.1.2),
-        );
-        to = λ n k. in-nothing n k;
-        back = λ n b. absurd (let lt = b.before in template-apart xs i b.by (i + 1) body.0 (omega arith) b.template);
-      }

@@ -12,7 +12,7 @@ use Rattle.std.specs.Prelude.{slice_get}
 use Rattle.tmpl_syntax.specs.Fault as reason
 use Rattle.tmpl_syntax.specs.computed.Frames.{Frame, top, is_placed, is_too_deep, names_at, seen_at, frames_after, frames_past, at_end, Known, with_inner}
 use Rattle.tmpl_syntax.specs.computed.Frames.{known_after, known_past, none_known, fault_at, first_fault, knows, unless_fault, verdict_from, verdict_of}
-use Rattle.tmpl_syntax.proofs.FaultLemmas.{Clears, faultless, in-nothing}
+use Rattle.tmpl_syntax.proofs.FaultLemmas.{Clears, faultless}
 use Rattle.tmpl_syntax.proofs.OpenLemmas.{same-piece}
 use Rattle.std.specs.Bool.{Decides}
 use Rattle.std.proofs.lemmas.Bool.Decides.{not_from_Decides}
@@ -83,9 +83,7 @@ sound-start xs = record {
       template = None;
       is_template_here = λ j b. let lt = b.is_open.before in omega arith;
       levels_are = none;
-      looped = (λ e. cc, λ l. let lt = l.1.0.before in absurd (omega arith));
-      to = λ n c. in-nothing n c;
-      back = λ n b. let lt = b.before in absurd (omega arith);
+      sees = λ n. (λ e. cc, λ b. let lt = b.before in absurd (omega arith));
     },
   );
   none_refused = λ k f lt h. omega arith;
@@ -193,3 +191,5 @@ module _ (xs : List Role) where
   pub judged-all : Judged xs (verdict_of xs)
   unfolding verdict_of
   judged-all = judged-from xs 0 none_known [] refl (omega arith) (sound-start xs)
+
+pub ruleset verdicts = (judged-all, one-verdict)

@@ -16,12 +16,14 @@ pub fn one_list_of_items()
 
 /// The law that each list of items has one verdict: none is refused and nothing is open at its end,
 /// or a certain item is the first that is refused, for a certain reason, or something is open.
+#[tactic(auto, using(crate::proofs::VerdictLemmas::verdicts))]
 pub fn one_verdict()
     ensures exists { HasVerdict }
     ensures one { HasOneVerdict }
 {}
 
 /// The law that a list of items spells definitions and nodes in one way at most, and in one where the verdict is fine.
+#[tactic(auto, using(crate::proofs::SpellingLemmas::spellings))]
 pub fn one_spelling()
     ensures exists { SpellsWhereFine }
     ensures one { SpellsAtMostOne }
@@ -30,6 +32,7 @@ pub fn one_spelling()
 /// The law that each definition that an accepted list of items spells is formed, and the nodes of its own template:
 /// each name that is used or assigned is in scope, each `break` and `continue` stands in the body of a range, and at
 /// most 500 levels are inside one another.
+#[tactic(auto, using(crate::proofs::AcceptedLemmas::spells_formed))]
 pub fn formed()
     ensures { SpellsFormed }
 {}
@@ -58,6 +61,7 @@ pub fn bounded_need()
 {}
 
 /// The law that parts which are joined to a file are cut into the same parts.
+#[tactic(auto, using(crate::proofs::JoinLemmas::cuts_back))]
 pub fn cut_back()
     ensures { CutsBack }
 {}

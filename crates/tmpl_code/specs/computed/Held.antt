@@ -1,7 +1,7 @@
 -- What the compiler holds, apart from how it is held. Code is held from its last instruction to its first, cells from
 -- the oldest to the newest.
 use Rattle.std.specs.Prelude.{◌≡◌, ℕ, ◌+◌, ◌-◌, ◌≤◌, Bool, true, false, List, [], ◌∷◌, length, drop, Option, Some, None}
-use Rattle.std.specs.Prelude.{map, reverse}
+use Rattle.std.specs.Prelude.{map, reverse, ◌++◌}
 use Rattle.tmpl_grammar.specs.Need.{declared_count}
 use Rattle.tmpl_grammar.specs.Tree.{Binding, unbound, declare, assign, declare_pair}
 use Rattle.tmpl_grammar.specs.View.{header_of}
@@ -36,6 +36,11 @@ layout_of s = layout_in s.cells.items
 abbrev pub decided : Bool → Bool → Bool → ℕ → Code → Code
 decided true is_or piped end code = code
 decided false is_or piped end code = act (decide is_or piped (length code - end)) ∷ code
+
+-- the code ends with other code
+pub record Ends (rest code : Code) : Type 0 where
+  pub front : Code
+  pub is : code ≡ front ++ rest
 
 -- the last so many instructions
 abbrev pub last_of : ℕ → Code → Code

@@ -14,7 +14,7 @@ pub(crate) struct KnownNames<'i> {
     names: IndexSet<&'i [u8], NameHash>,
 }
 
-#[tactic(auto, unfolding(crate::specs::computed::View::known_names))]
+#[tactic(auto, using(crate::proofs::NameLemmas::held), unfolding(crate::specs::computed::View::known_names))]
 impl<'i> KnownNames<'i> {
     /// No names, which are to be hashed so.
     pub(crate) fn new(alloc: Global, hash: NameHash) -> KnownNames<'i>

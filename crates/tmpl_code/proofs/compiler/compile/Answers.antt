@@ -41,7 +41,7 @@ loop-i-preserved c =
     record {
       within = omega arith;
       starts = starts_more ts i t l.lengths.items c.push.new.self.items c.len.result old new c.template.ensures.value c.in_ok-push.ensures.items c.len.ensures
-          lies starts;
+          lies c.in_ok-own.ensures.ends starts;
       needs =
           ap reverse c.in_ok-push-2.ensures.items ∙ reverse-append l.needs.items (found.own.need ∷ [])
           ∙ (λ j. needs j ∷ (l.invariant.needs ∙ ap (λ n. map (λ (t : Template). need t.1) (drop n ts)) next) j)

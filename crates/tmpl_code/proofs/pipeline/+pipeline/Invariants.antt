@@ -1,6 +1,6 @@
 use Rattle.std.proofs.Common.{◌≡◌, ◌≤◌, ◌+◌, ◌*◌, true, drop, length}
 use Rattle.tmpl_grammar.specs.View.{commands_in, operand_of, operands_in}
-use Rattle.tmpl_code.specs.computed.Held.{code_of, layout_of}
+use Rattle.tmpl_code.specs.computed.Held.{Ends, code_of, layout_of}
 use Rattle.tmpl_code.specs.Code.{is_last, CommandsAt, JunctionAt, OperandsAt}
 use Rattle.tmpl_code.proofs.OperandLemmas.{all_weight, weight, weights}
 use Rattle.tmpl_code.proofs.pipeline.+pipeline.Given as goal
@@ -42,12 +42,14 @@ abbrev pub invariant-put_piped-loop-i : goal.invariant-put_piped-loop-i
 invariant-put_piped-loop-i l = record {
   within : l.i ≤ length l.commands;
   put : CommandsAt (commands_in (drop l.i l.commands)) true l.above (layout_of l.scope) (code_of l.code) (code_of l.initial.code);
+  ends : Ends (code_of l.initial.code) (code_of l.code);
 }
 
 abbrev pub invariant-put_operands-loop-i : goal.invariant-put_operands-loop-i
 invariant-put_operands-loop-i l = record {
   within : l.i ≤ length l.operands;
   put : OperandsAt (operands_in (drop l.i l.operands)) (l.above + l.i) (layout_of l.scope) (code_of l.code) (code_of l.initial.code);
+  ends : Ends (code_of l.initial.code) (code_of l.code);
 }
 
 abbrev pub invariant-put_junction-loop-i : goal.invariant-put_junction-loop-i
@@ -56,4 +58,5 @@ invariant-put_junction-loop-i l = record {
   last : l.last ≡ is_last (operands_in (drop l.i l.operands)) l.piped;
   end : l.end ≡ length (code_of l.initial.code);
   put : JunctionAt l.is_or (operands_in (drop l.i l.operands)) l.piped l.above (layout_of l.scope) (code_of l.code) (code_of l.initial.code);
+  ends : Ends (code_of l.initial.code) (code_of l.code);
 }

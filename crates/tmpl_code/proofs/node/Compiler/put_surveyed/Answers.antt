@@ -27,7 +27,8 @@ loop-i-preserved c =
     record {
       nodes =
           tail.put_more (record { code = l.self.code; scope = c.shrink.new.scope }) c.requires l.invariant.nodes (l.i - 1) item (omega arith) (omega arith)
-          c.index-nodes-i.is refl c.shrink.ensures c.in_ok-put_node.ensures
+          c.index-nodes-i.is refl c.shrink.ensures c.in_ok-put_node.ensures.part
+          c.in_ok-put_node.ensures.ends
           (c.in_ok-push.ensures ∙ ap (λ i. i ∷ code_of c.put_node.new.self.code) c.first_instruction.ensures) refl;
       need = joined.need ∙ (λ j. max (found.need j) ((above.need ∙ (λ k. c.left_behind.ensures k + l.invariant.need k)) j)) ∙ ap need_of_nodes here;
       text = joined.text ∙ (λ j. found.text j || (above.text ∙ l.invariant.text) j) ∙ ap nodes_make_text here;
