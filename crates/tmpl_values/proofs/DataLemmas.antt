@@ -168,3 +168,5 @@ has-rising-keys bytes v e =
     let whole = option_and_then (λ p. json.if_last p.0 p.1) (json.value max_depth (tokens bytes)) in
     let tree_rises = subst (λ (o : Option tree.Data). IfSome o TreeRises) t.1 (chained TreeRises of_json whole (always whole) (λ j _. rises j)) in
     subst (λ (o : Option Value). IfSome o IsRising) t.2 (value-rises t.0 tree_rises)
+
+pub ruleset bounded = (nests-within, has-rising-keys)

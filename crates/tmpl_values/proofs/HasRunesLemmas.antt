@@ -6,7 +6,7 @@ use Rattle.std.proofs.Math.Seq.{drop-append_seam}
 use Rattle.std.specs.Char.{encode_utf8, len_utf8}
 use Rattle.tmpl_values.specs.Laws.{HasTheseRunes, HasNoOtherRunes, HasRunes, at_end, a_char, a_byte}
 use Rattle.tmpl_values.specs.Rune.{Rune, char, byte, BeginsNoChar, first_rune, runes, runes_after, tail_len}
-use Rattle.tmpl_values.proofs.RuneLemmas.{Front, encoding, lone, bytes_in-Front, first_rune-encode, front, runes-first, runes-nil}
+use Rattle.tmpl_values.proofs.RuneLemmas.{Front, encoding, lone, bytes_in-Front, first_rune-encode, front, runes-first, runes-nil, text-runes}
 
 -- where no character is found none begins
 pub begins-none : (bs : List ℕ) (b : ℕ) → first_rune bs ≡ byte b → BeginsNoChar bs
@@ -51,3 +51,5 @@ one-list _ _ (a_char {c = c} {rest = rest} {rs = rs} s more) =
 one-list _ _ (a_byte {b = b} {rest = rest} {rs = rs} none more) =
     let first = byte-first b rest none (first_rune (b ∷ rest)) (front (b ∷ rest)) in
     ap (λ qs. byte b ∷ qs) (one-list rest rs more) ∙ sym (runes-first (b ∷ rest) (byte b) (omega arith) first)
+
+pub ruleset one_list = (has-runes, one-list, text-runes)

@@ -2,6 +2,7 @@
 ghost use Rattle.tmpl_values.specs.Laws.{HasNoOtherRunes, HasRisingKeys, HasTheseRunes, JoinsBack, NestsWithin};
 
 /// The law that bytes have one list of runes, which joined are the bytes.
+#[tactic(auto, using(crate::proofs::HasRunesLemmas::one_list))]
 pub fn one_list_of_runes()
     ensures exists { HasTheseRunes }
     ensures one { HasNoOtherRunes }
@@ -9,6 +10,7 @@ pub fn one_list_of_runes()
 {}
 
 /// The law that data is nested at most 127 deep, and that the keys of each of its maps rise.
+#[tactic(auto, using(crate::proofs::DataLemmas::bounded))]
 pub fn data_is_bounded()
     ensures nests { NestsWithin }
     ensures rising { HasRisingKeys }
