@@ -1,7 +1,8 @@
 -- For `one_operand`: the operands of one token that are computed are those that the relation admits.
 use Rattle.std.proofs.Common.{◌≡◌, ◌∙◌, ℕ, Bool, true, false, cond, List, [], ◌∷◌, Option, Some, IfSome, refl, subst, bytes_eq, codes, find}
 use Rattle.std.proofs.Common.{drop}
-use Rattle.std.proofs.lemmas.Slice.Eq.{bytes_eq-Decides}
+use lib.Pointwise.{bytes_decides}
+use Rattle.std.proofs.lemmas.Bool.{cond_both}
 use Rattle.std.proofs.lemmas.Option.{IfSome_then}
 use Rattle.tmpl_funcs.specs.Func.{name_of}
 use Rattle.tmpl_funcs.specs.declared.func.Func.{Func}
@@ -54,28 +55,19 @@ is-constant t = IfSome_then (constant_of t) (constant-admitted t) (λ o is. oper
 
 find-named : (fs : List Func) (name : List ℕ) → IfSome (find (λ f. bytes_eq (name_of f) name) fs) (λ f. name_of f ≡ name)
 find-named [] name = tt
-find-named (g ∷ fs) name = go (bytes_eq (name_of g) name) refl (find-named fs name)
-  where
-    go : (b : Bool) → bytes_eq (name_of g) name ≡ b → IfSome (find (λ f. bytes_eq (name_of f) name) fs) (λ f. name_of f ≡ name)
-        → IfSome (cond b (Some g) (find (λ f. bytes_eq (name_of f) name) fs)) (λ f. name_of f ≡ name)
-    go true h more = (bytes_eq-Decides (name_of g) name).0 h
-    go false h more = more
+find-named (g ∷ fs) name = cond_both _ _ _ (λ o. IfSome o (λ f. name_of f ≡ name)) (bytes_decides (name_of g) name).0 (λ e. find-named fs name)
 
 is-named : (name : List ℕ) → IfSome (word_operand name) (IsOperand (token kind.Word name))
 unfolding word_operand func_named
 is-named name =
     at (codes "true") (tree.bool_constant true) (operand.truth true) _ (at (codes "false") (tree.bool_constant false) (operand.truth false) _
     (at (codes "nil") tree.nil operand.nil_word _
-    (mapped tree.function (λ f. name_of f ≡ name) (IsOperand (token kind.Word name)) (func_named name) (find-named funcs name)
+    (mapped tree.function (IsOperand (token kind.Word name)) (func_named name) (find-named funcs name)
     (λ f is. subst (λ bs. IsOperand (token kind.Word bs) (tree.function f)) is (operand.a_function f)))))
   where
     at : (word : List ℕ) (o : Operand) → IsOperand (token kind.Word word) o → (q : Option Operand) → IfSome q (IsOperand (token kind.Word name))
         → IfSome (cond (bytes_eq name word) (Some o) q) (IsOperand (token kind.Word name))
-    at word o is q more = go (bytes_eq name word) refl
-      where
-        go : (b : Bool) → bytes_eq name word ≡ b → IfSome (cond b (Some o) q) (IsOperand (token kind.Word name))
-        go true h = rw ((bytes_eq-Decides name word).0 h) is
-        go false h = more
+    at word o is q more = cond_both _ _ _ (λ p. IfSome p (IsOperand (token kind.Word name))) (λ e. rw ((bytes_decides name word).0 e) is) (λ e. more)
 
 is-operand : (k : TokenKind) (bs : List ℕ) → IfSome (operand_by k (token k bs)) (IsOperand (token k bs))
 is-operand kind.Dot bs = operand.dot

@@ -12,14 +12,14 @@ pub told : {A : Type 0} (P : A → Type 0) (o : Option A) → ((x : A) → o ≡
 told P None f = tt
 told P (Some x) f = f x refl
 
-pub mapped : {A B : Type 0} (f : A → B) (P : A → Type 0) (Q : B → Type 0) (o : Option A) → IfSome o P → ((x : A) → P x → Q (f x)) → IfSome (option_map f o) Q
-mapped f P Q None h g = tt
-mapped f P Q (Some x) h g = g x h
+pub mapped : {A B : Type 0} (f : A → B) {P : A → Type 0} (Q : B → Type 0) (o : Option A) → IfSome o P → ((x : A) → P x → Q (f x)) → IfSome (option_map f o) Q
+mapped f Q None h g = tt
+mapped f Q (Some x) h g = g x h
 
-pub chained : {A B : Type 0} (f : A → Option B) (P : A → Type 0) (Q : B → Type 0) (o : Option A) → IfSome o P → ((x : A) → P x → IfSome (f x) Q)
+pub chained : {A B : Type 0} (f : A → Option B) {P : A → Type 0} (Q : B → Type 0) (o : Option A) → IfSome o P → ((x : A) → P x → IfSome (f x) Q)
     → IfSome (option_and_then f o) Q
-chained f P Q None h g = tt
-chained f P Q (Some x) h g = g x h
+chained f Q None h g = tt
+chained f Q (Some x) h g = g x h
 
 -- what is computed is admitted
 pub admitted : {X Y : Type 0} (Is : X → Y → Type 0) (f : X → Option Y) → ((x : X) → IfSome (f x) (Is x)) → IsAdmitted Is f

@@ -17,4 +17,4 @@ reads-spelled ts cs s = let e = pipeline-read cs ts s [] in simp (e.to, e.outer_
 pub pipeline-admitted : (ts : List Token) → IfSome (pipeline_in ts) (λ p. SpellsPipeline p ts)
 unfolding pipeline_in
 pipeline-admitted ts =
-    mapped commands_from (λ cs. SpellsPipeline (commands_from cs) ts) (λ p. SpellsPipeline p ts) (commands_after start ts) (read-spells ts) (λ cs s. s)
+    mapped commands_from (λ p. SpellsPipeline p ts) (commands_after start ts) (read-spells ts) (λ cs s. s)

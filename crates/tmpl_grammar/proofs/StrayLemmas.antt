@@ -9,7 +9,6 @@ use Rattle.tmpl_grammar.specs.Tree.{Operand, Pipeline}
 use Rattle.tmpl_grammar.specs.Pipeline.{IsBlank, SpellsPipeline}
 use Rattle.tmpl_grammar.specs.Keyword.{IsWord}
 use Rattle.tmpl_grammar.specs.computed.Keyword.{spelling}
-use Rattle.tmpl_grammar.specs.Header.{Then}
 use Rattle.tmpl_grammar.specs.computed.Reading.{pipeline_in}
 use Rattle.tmpl_grammar.specs.declared.keyword.Keyword.{Keyword}
 use Rattle.tmpl_grammar.specs.declared.keyword.Keyword.TheVariants as word
@@ -30,8 +29,7 @@ none-placed (Some o) h = refl
 pub sign-stray : (k : TokenKind) → ((t : Token) (h : Parser) → step_by k t h ≡ placed h.last (operand_at t) h) → ((t : Token) → operand_by k t ≡ None)
     → (t : Token) → t.kind ≡ k → IsStray t
 unfolding operand_at
-sign-stray k steps none t e h =
-    step-at k t h e ∙ steps t h ∙ simp (e, none) (none-placed h.last h)
+sign-stray k steps none t e h = step-at k t h e ∙ steps t h ∙ simp (e, none) (none-placed h.last h)
 
 -- no keyword is an operand
 keyword-none : (k : Keyword) → word_operand (spelling k) ≡ None
@@ -41,40 +39,26 @@ keyword-none _ = refl
 
 pub word-stray : (k : Keyword) (t : Token) → IsWord (spelling k) t → IsStray t
 unfolding operand_at
-word-stray k t w h =
-    step-at kind.Word t h w.0 ∙ simp (w.0, w.1, keyword-none k) (none-placed h.last h)
-
--- tokens that no pipeline ends with
-abbrev pub IsDead : List Token → Type 0
-IsDead ts = (o : Option Parser) → steps o ts ≡ None
+word-stray k t w h = step-at kind.Word t h w.0 ∙ simp (w.0, w.1, keyword-none k) (none-placed h.last h)
 
 steps-none : (ts : List Token) → steps None ts ≡ None
 steps-none [] = refl
 steps-none (t ∷ ts) = steps-none ts
 
-foreign-dead : (t : Token) (ts : List Token) → IsStray t → IsDead (t ∷ ts)
-foreign-dead t ts f None = steps-none ts
-foreign-dead t ts f (Some h) = simp (f h, steps-none ts)
+-- tokens that spell a pipeline have none of these among them, and are not all white space
+module _ {A : Type 0} (cs : Pipeline) where
+  pub none-stray : (ts us : List Token) (t : Token) → IsStray t → SpellsPipeline cs (ts ++ t ∷ us) → A
+  unfolding pipeline_in
+  none-stray ts us t stray s =
+      let none : pipeline_in (ts ++ t ∷ us) ≡ None = simp (steps-append (Some start) ts (t ∷ us), by (steps (Some start) ts)) in
+      no-value cs (sym none ∙ reads-spelled (ts ++ t ∷ us) cs s)
+    where
+      by : (o : Option Parser) → steps o (t ∷ us) ≡ None
+      by None = steps-none us
+      by (Some h) = simp (stray h, steps-none us)
 
-behind-dead : (ws ts : List Token) → IsDead ts → IsDead (ws ++ ts)
-behind-dead ws ts d o = steps-append o ws ts ∙ d (steps o ws)
-
-pub then-stray : (Is : Token → Type 0) (Rest : List Token → Type 0) (ts : List Token) → ((t : Token) → Is t → IsStray t) → Then Is Rest ts → IsDead ts
-then-stray Is Rest ts f (ws, t, us, at, blank, is, rest) =
-    rw at (behind-dead ws (t ∷ us) (foreign-dead t us (f t is)))
-
-pub then-dead : (Is : Token → Type 0) (Rest : List Token → Type 0) (ts : List Token) → ((us : List Token) → Rest us → IsDead us) → Then Is Rest ts → IsDead ts
-then-dead Is Rest ts f (ws, t, us, at, blank, is, rest) =
-    rw at (behind-dead ws (t ∷ us) (behind-dead (t ∷ []) us (f us rest)))
-
-pub dead-read : (ts : List Token) → IsDead ts → pipeline_in ts ≡ None
-unfolding pipeline_in
-dead-read ts d = simp (d (Some start))
-
-pub blank-read : (ts : List Token) → IsBlank ts → pipeline_in ts ≡ None
-unfolding pipeline_in finished
-blank-read ts b = simp (blank-steps [] [] [] ts b)
-
--- tokens that spell a pipeline are none of these
-pub spelled-lives : {A : Type 0} (ts : List Token) (cs : Pipeline) → SpellsPipeline cs ts → pipeline_in ts ≡ None → A
-spelled-lives ts cs s e = no-value cs (sym e ∙ reads-spelled ts cs s)
+  pub none-blank : (ts : List Token) → IsBlank ts → SpellsPipeline cs ts → A
+  unfolding pipeline_in finished
+  none-blank ts b s =
+      let none : pipeline_in ts ≡ None = simp (blank-steps [] [] [] ts b) in
+      no-value cs (sym none ∙ reads-spelled ts cs s)
