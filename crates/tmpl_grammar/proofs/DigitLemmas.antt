@@ -1,6 +1,6 @@
 -- For `one_constant`: digits at the front, and the number that they write, as escapes have them.
-use Rattle.std.proofs.Common.{◌≡◌, ◌∙◌, ℕ, ◌+◌, ◌*◌, ◌<◌, ◌≤◌, true, List, [], ◌∷◌, ◌++◌, length, take, drop, IfSome, Some}
-use Rattle.std.proofs.Common.{nat_le, refl, sym, ap, arith, length-append, length-take, leb-true, lt-ltb, ltb-true}
+use Rattle.std.proofs.Common.{◌≡◌, ℕ, ◌+◌, ◌*◌, ◌<◌, ◌≤◌, true, List, [], ◌∷◌, ◌++◌, length, take, drop, IfSome, Some}
+use Rattle.std.proofs.Common.{nat_le, refl, sym, arith, length-append, length-take, leb-true, lt-ltb, ltb-true}
 use Rattle.std.specs.List.{list_all}
 use Rattle.std.specs.Char.{digit_value, is_digit}
 use Rattle.std.specs.Str.Parse.{AllDigits, digits_value}
@@ -23,10 +23,7 @@ digits-all base (d ∷ ds) h =
 
 -- so many digits at the front are read
 pub code-digits : (base count : ℕ) (ds rest : List ℕ) → AreDigits base count ds → code base count (ds ++ rest) ≡ Some (digits_value base ds)
-code-digits base count ds rest are =
-    let long : nat_le count (length (ds ++ rest)) ≡ true = grind (arith, nat_tests, length-append ds rest, are.0) in
-    let front : take count (ds ++ rest) ≡ ds = ap (λ n. take n (ds ++ rest)) (sym are.0) ∙ take-append_seam ds rest in
-    simp (long, front, all-digits base ds are.1)
+code-digits base count ds rest h1 = grind (arith, nat_tests, all-digits, length-append, nat_le, take-append_seam)
 
 -- .. and no other number is
 pub code-tells : (base count : ℕ) (bs : List ℕ) (P : ℕ → Type 0) → ((ds rest : List ℕ) → bs ≡ ds ++ rest → AreDigits base count ds → P (digits_value base ds))

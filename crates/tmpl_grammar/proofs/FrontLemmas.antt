@@ -20,8 +20,7 @@ IsFront t rest = IsToken t.kind t.bytes rest
 
 -- what ends a number ends a name
 pub stops-name : (rest : List ℕ) → Stops is_number_byte rest → Stops is_name_byte rest
-stops-name [] e = tt
-stops-name (b ∷ rest) e = (or_parts (is_name_byte b) (nat_eq b 46) e).0
+stops-name rest h1 = grind (arith, nat_tests, nat_eq, or_parts)
 
 -- ---- words, fields and variables
 
@@ -60,14 +59,10 @@ pub data Solid : List ℕ → Type 0 where
   minus : {d : ℕ} {bs : List ℕ} → is_ascii_digit d ≡ true → Solid (45 ∷ d ∷ bs)
 
 solid-stops : {bs : List ℕ} → Solid bs → Stops is_space bs
-solid-stops (solid w m) = w
-solid-stops (minus n) = refl
+solid-stops h1 = grind (arith, nat_tests)
 
 solid-undashed : {bs : List ℕ} → Solid bs → BeginsNone (λ xs. xs ≡ codes "-}}") bs
-solid-undashed (solid {b = b} {bs = bs} w m) xs ys e f = both_ways (nat_eq b 45) m (ap (λ l. nat_eq (get_or l 0 0) 45) (f ∙ ap (λ l. l ++ ys) e))
-solid-undashed (minus {d = d} {bs = bs} n) xs ys e f =
-    let other : nat_eq d 125 ≡ false = grind (arith, nat_tests) in
-    both_ways (nat_eq d 125) other (ap (λ l. nat_eq (get_or l 1 0) 125) (f ∙ ap (λ l. l ++ ys) e))
+solid-undashed h1 = grind (arith, nat_tests, both_ways, nat_eq)
 
 marker-dash : {marker : List ℕ} (ys : List ℕ) → IsLeftMarker marker → nat_eq (get_or (marker ++ ys) 0 0) 45 ≡ true
 marker-dash ys (left_marker e) = refl
@@ -76,10 +71,7 @@ marker-space : {marker : List ℕ} (ys : List ℕ) → IsLeftMarker marker → i
 marker-space ys (left_marker e) = e
 
 pub solid-unmarked : {bs : List ℕ} → Solid bs → BeginsNone IsLeftMarker bs
-solid-unmarked (solid {b = b} {bs = bs} w m) xs ys h f = both_ways (nat_eq b 45) m (ap (λ l. nat_eq (get_or l 0 0) 45) f ∙ marker-dash ys h)
-solid-unmarked (minus {d = d} {bs = bs} n) xs ys h f =
-    let white : is_space d ≡ false = grind (arith, nat_tests) in
-    both_ways (is_space d) white (ap (λ l. is_space (get_or l 1 0)) f ∙ marker-space ys h)
+solid-unmarked h1 = grind (arith, nat_tests, both_ways, marker-dash, marker-space, nat_eq)
 
 pub space-front : (rest : List ℕ) → Solid rest → IsFront space rest
 space-front rest s = row.space refl (at_byte (solid-stops s) (solid-undashed s))

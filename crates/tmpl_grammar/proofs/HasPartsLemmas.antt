@@ -1,5 +1,5 @@
 -- For `one_constant`: the runes between quotes that are computed are those that the relation admits.
-use Rattle.std.proofs.Common.{◌≡◌, ◌∙◌, ℕ, zero, suc, ◌<◌, ◌≤◌, true, false, nat_eq, List, [], ◌∷◌, ◌++◌, length, drop, get_or}
+use Rattle.std.proofs.Common.{◌≡◌, ◌∙◌, ℕ, zero, suc, ◌<◌, ◌≤◌, true, false, nat_eq, List, [], ◌∷◌, ◌++◌, length, drop}
 use Rattle.std.proofs.Common.{Option, Some, None, IfSome, option_and_then, refl, sym, ap, arith, length-append}
 use Rattle.std.specs.Char.{encode_utf8, len_utf8, IsScalar}
 use Rattle.std.proofs.Math.Seq.{drop-append_seam}
@@ -13,15 +13,14 @@ use Rattle.tmpl_values.proofs.HasRunesLemmas.{begins-none, byte-first}
 use Rattle.tmpl_values.proofs.RuneLemmas.{first_rune-encode, Front, encoding, lone, front}
 use Rattle.tmpl_grammar.specs.Constant.Quoted.{code_of, SpellsRunes, at_end, a_char, a_byte, an_escape}
 use Rattle.tmpl_grammar.specs.computed.Quoted.{Spelled, rune_part, part_at, with_part, parts, whole_code, rune_code}
-use Rattle.tmpl_grammar.proofs.EscapeLemmas.{IsMark, double, single, escape-at, escape-some, FirstPart, has-escape}
+use Rattle.tmpl_grammar.proofs.EscapeLemmas.{IsMark, escape-at, escape-some, FirstPart, has-escape}
 use Rattle.tmpl_grammar.proofs.OptionLemmas.{mapped, chained}
 use Rattle.tmpl_grammar.proofs.QuotedLemmas.{parts-nil, parts-first, parts-none}
 
 -- ---- what the relation admits is computed
 
 mark-low : (quote : ℕ) → IsMark quote → quote < 128
-mark-low _ double = omega arith
-mark-low _ single = omega arith
+mark-low quote h1 = grind (arith, nat_tests)
 
 -- neither a backslash nor the quote comes first
 part-rune : (quote b : ℕ) (bs : List ℕ) → (b ≡ 92 → ⊥) → (b ≡ quote → ⊥) → part_at quote (b ∷ bs) ≡ Some (rune_part (first_rune (b ∷ bs)))
@@ -89,10 +88,7 @@ rune-computed quote bs r m has =
 -- ---- what is computed the relation admits
 
 other-char : (b k c : ℕ) (bs rest : List ℕ) → encode_utf8 c ++ rest ≡ b ∷ bs → k < 128 → nat_eq b k ≡ false → c ≡ k → ⊥
-other-char b k c bs rest is low h e =
-    let first : k ∷ rest ≡ b ∷ bs = ap (λ t. t ++ rest) (sym (encode_ascii k low)) ∙ ap (λ x. encode_utf8 x ++ rest) (sym e) ∙ is in
-    let same : k ≡ b = ap (λ l. get_or l 0 0) first in
-    grind (arith, nat_tests)
+other-char b k c bs rest h1 h2 h3 h4 = grind (arith, nat_tests, encode_ascii)
 
 rune-first : (quote b : ℕ) (bs : List ℕ) (r : Rune) → quote < 128 → nat_eq b 92 ≡ false → nat_eq b quote ≡ false → first_rune (b ∷ bs) ≡ r
     → Front (b ∷ bs) r → FirstPart quote (b ∷ bs) (rune_part r)

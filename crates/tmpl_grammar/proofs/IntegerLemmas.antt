@@ -50,9 +50,7 @@ digits-plain base (d ∷ ds) h all =
 
 -- no number past 2^63 in magnitude fits
 pub signed-within : (negative : Bool) (o : Option ℕ) → option_and_then (signed negative) (within o) ≡ option_and_then (signed negative) o
-signed-within negative None = refl
-signed-within true (Some n) = grind (arith, nat_tests)
-signed-within false (Some n) = grind (arith, nat_tests)
+signed-within negative o = grind (arith, nat_tests)
 
 -- the byte of a sign
 abbrev pub sign_byte : Bool → ℕ
@@ -61,8 +59,7 @@ sign_byte false = 43
 
 behind-sign : (negative : Bool) (bs : List ℕ) → integer (sign_byte negative ∷ bs) ≡ option_and_then (signed negative) (magnitude bs)
 unfolding integer
-behind-sign true bs = refl
-behind-sign false bs = refl
+behind-sign negative bs = grind (arith, nat_tests)
 
 pub integer-signed : (negative : Bool) (bs : List ℕ) → 1 ≤ length bs → get_or bs 0 0 ≡ sign_byte negative
     → option_and_then (signed negative) (within (magnitude (take (length bs - 1) (drop 1 bs)))) ≡ integer bs

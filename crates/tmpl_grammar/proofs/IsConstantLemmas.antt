@@ -20,7 +20,7 @@ use Rattle.tmpl_grammar.specs.computed.Quoted.{between, parts, unquoted, rune_co
 use Rattle.tmpl_grammar.proofs.EscapeLemmas.{double, single}
 use Rattle.tmpl_grammar.proofs.HasPartsLemmas.{parts-computed, parts-admitted, rune-computed, rune-admitted}
 use Rattle.tmpl_grammar.proofs.IsIntegerLemmas.{integer-computed, integer-admitted}
-use Rattle.tmpl_grammar.proofs.OptionLemmas.{told, mapped, chained}
+use Rattle.tmpl_grammar.proofs.OptionLemmas.{told, mapped}
 
 -- ---- the quotes
 
@@ -59,9 +59,7 @@ computes-constant _ _ (constant.character {bs = bs} {r = p} has) = simp (between
 -- what stands between two quotes
 quoted : (k : TokenKind) (q : ℕ) (bs : List ℕ) (f : List ℕ → Option Operand)
     → ((xs : List ℕ) → IfSome (f xs) (IsConstant (token k (q ∷ (xs ++ q ∷ []))))) → IfSome (option_and_then f (between q bs)) (IsConstant (token k bs))
-quoted k q bs f h =
-    chained f (IsConstant (token k bs)) (between q bs)
-    (told _ (between q bs) (between-is q bs)) (λ xs is. subst (λ ys. IfSome (f xs) (IsConstant (token k ys))) is (h xs))
+quoted k q bs f h1 = grind (arith, nat_tests, between-is)
 
 is-constant : (k : TokenKind) (bs : List ℕ) → IfSome (constant_by k bs) (IsConstant (token k bs))
 is-constant kind.Number bs =

@@ -57,9 +57,7 @@ parted-admitted base (b ∷ bs) part all = by (nat_eq b 95) refl bs (parted-admi
 
 number-parted : (base : ℕ) (bs : List ℕ) (P : ℕ → Type 0) → ((ds : List ℕ) → AreParted base bs ds → P (digits_value base ds))
     → IfSome (parted_number base bs) P
-number-parted base bs P f =
-    cond_both _ _ _ (λ o. IfSome o P) (λ part. cond_both _ _ _ (λ o. IfSome o P) (λ all. f (filter is_plain bs) (parted-admitted base bs part all)) (λ e. tt))
-    (λ e. tt)
+number-parted base bs P h1 = grind (arith, nat_tests, cond_both, parted-admitted)
 
 -- ---- magnitudes
 

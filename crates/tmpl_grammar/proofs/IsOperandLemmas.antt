@@ -1,19 +1,17 @@
 -- For `one_operand`: the operands of one token that are computed are those that the relation admits.
-use Rattle.std.proofs.Common.{◌≡◌, ◌∙◌, ℕ, Bool, true, false, cond, List, [], ◌∷◌, Option, Some, IfSome, refl, subst, bytes_eq, codes, find}
+use Rattle.std.proofs.Common.{arith, ◌≡◌, ℕ, Bool, true, false, cond, List, [], ◌∷◌, Option, Some, IfSome, refl, subst, bytes_eq, codes, find}
 use Rattle.std.proofs.Common.{drop}
 use lib.Pointwise.{bytes_decides}
 use Rattle.std.proofs.lemmas.Bool.{cond_both}
 use Rattle.std.proofs.lemmas.Option.{IfSome_then}
 use Rattle.tmpl_funcs.specs.Func.{name_of}
 use Rattle.tmpl_funcs.specs.declared.func.Func.{Func}
-use Rattle.tmpl_funcs.specs.declared.func.Func.TheVariants.{And}
 use Rattle.tmpl_lex.specs.Piece.{Token}
 use Rattle.tmpl_lex.specs.declared.piece.TokenKind.{TokenKind}
 use Rattle.tmpl_lex.specs.declared.piece.TokenKind.TheVariants as kind
 use Rattle.tmpl_grammar.specs.Token.{token, begins_name}
 use Rattle.tmpl_grammar.specs.Tree as tree
 use Rattle.tmpl_grammar.specs.Tree.{Operand}
-use Rattle.tmpl_grammar.specs.Constant as constant
 use Rattle.tmpl_grammar.specs.Constant.{IsConstant}
 use Rattle.tmpl_grammar.specs.Operand as operand
 use Rattle.tmpl_grammar.specs.Operand.{IsOperand}
@@ -27,22 +25,15 @@ use Rattle.tmpl_grammar.proofs.OptionLemmas.{mapped}
 
 function-read : (f : Func) → word_operand (name_of f) ≡ Some (tree.function f)
 unfolding word_operand func_named
-function-read And = refl
-function-read _ = refl
+function-read f = grind arith
 
 constant-kind : (t : Token) (o : Operand) → IsConstant t o → operand_at t ≡ constant_of t
 unfolding operand_at
-constant-kind _ _ (constant.number is) = refl
-constant-kind _ _ _ = refl
+constant-kind t o h1 = grind arith
 
 pub computes-operand : IsComputed IsOperand operand_at
 unfolding operand_at word_operand
-computes-operand t _ (operand.field is begins) = simp (is, begins)
-computes-operand t _ (operand.variable is) = simp is
-computes-operand _ _ (operand.a_function f) = function-read f
-computes-operand t o (operand.a_constant is) = constant-kind t o is ∙ computes-constant t o is
-computes-operand _ _ (operand.truth true) = refl
-computes-operand _ _ _ = refl
+computes-operand = grind (arith, computes-constant, constant-kind, function-read)
 
 -- ---- what is computed the relation admits
 

@@ -1,5 +1,5 @@
 -- For the bound on what a template needs: an action needs no more than two and one for each of its tokens.
-use Rattle.std.proofs.Common.{arith, ◌≡◌, ◌∙◌, ◌≤◌, ℕ, suc, ◌+◌, max, Bool, false, List, [], ◌∷◌, ◌++◌, Option, Some, None, ap, length, length-append}
+use Rattle.std.proofs.Common.{arith, ◌≡◌, ◌∙◌, ◌≤◌, ℕ, suc, ◌+◌, max, Bool, false, List, [], ◌∷◌, ◌++◌, Option, ap, length, length-append}
 use Rattle.tmpl_lex.specs.Piece.{Token}
 use Rattle.tmpl_grammar.specs.Tree as tree
 use Rattle.tmpl_grammar.specs.Tree.{Operand, Operands, Pipeline, Binding, unbound, declare_pair, Header}
@@ -12,8 +12,7 @@ use Rattle.tmpl_grammar.specs.Need.{need_of_pipeline, need_of_given, declared_co
 -- ---- each value has a cell
 
 by-first : (P : ℕ → Type 0) (o : Operand) (call alone : ℕ) → P call → P alone → P (called_or_alone o call alone)
-by-first P (tree.function f) call alone c a = c
-by-first P _ call alone c a = a
+by-first P o call alone h1 h2 = grind arith
 
 commands-least : (piped : ℕ) (cs : Pipeline) → 1 ≤ need_of_commands piped cs
 commands-least piped tree.no_command = omega arith
@@ -30,9 +29,7 @@ command-least piped (tree.operand o os) = by-first (λ n. 1 ≤ n) o (max 1 (nee
 -- ---- each value has a token
 
 one-token : (o : Operand) (names : List (List ℕ)) (ts : List Token) → IsChained o names ts → 1 ≤ length ts
-one-token o names ts s =
-    let n : length ts ≡ suc (length s.1) = ap length s.2 in
-    omega (arith, n)
+one-token o names ts h1 = grind arith
 
 joined : (ts us vs : List Token) → ts ≡ us ++ vs → length ts ≡ length us + length vs
 joined ts us vs e = ap length e ∙ length-append us vs
@@ -109,8 +106,7 @@ header-within : (in_range : Bool) (h : Header) (ts : List Token) → SpellsHeade
 header-within in_range h ts spelled = bound-within h.binding h.pipeline ts spelled.1
 
 given-within : (given : Option Pipeline) (ts : List Token) → SpellsGiven given ts → need_of_given given ≤ 1 + length ts
-given-within None ts s = omega arith
-given-within (Some p) ts s = let n = pipeline-within p ts s in omega (arith, n)
+given-within given ts h1 = grind (arith, pipeline-within)
 
 pub action-within : (a : Action) (ts : List Token) → SpellsAction a ts → cells_of a ≤ 2 + length ts
 action-within (pipeline_action h) ts s = let n = header-within false h ts s in omega (arith, n)

@@ -1,5 +1,5 @@
 -- For what can be printed: the constants that tokens are, are numbers within the range, and texts of bytes.
-use Rattle.std.proofs.Common.{arith, ◌≡◌, ℕ, zero, suc, ◌+◌, ◌/◌, ◌^◌, ◌<◌, ◌≤◌, Bool, true, false, not, nat_eq, nat_lt, cond}
+use Rattle.std.proofs.Common.{arith, ◌≡◌, ℕ, ◌+◌, ◌/◌, ◌^◌, ◌<◌, ◌≤◌, Bool, true, false, not, nat_eq, nat_lt, cond}
 use Rattle.std.proofs.Common.{List, [], ◌∷◌, ◌++◌, refl, pos, neg_ℤ, ⊎_elim}
 use lib.IntN.{ℤ}
 use lib.Signed.{mag}
@@ -13,8 +13,8 @@ use Rattle.tmpl_lex.specs.Piece.{Token}
 use Rattle.tmpl_grammar.specs.Tree.{Operand}
 use Rattle.tmpl_grammar.specs.Constant as constant
 use Rattle.tmpl_grammar.specs.Constant.{IsConstant}
-use Rattle.tmpl_grammar.specs.Constant.Integer.{IsInteger, minus, plus, unsigned}
-use Rattle.tmpl_grammar.specs.Constant.Quoted.{code_of, without_returns, IsEscape, a_letter, the_quote, octal, two_digits, four_digits, eight_digits}
+use Rattle.tmpl_grammar.specs.Constant.Integer.{IsInteger}
+use Rattle.tmpl_grammar.specs.Constant.Quoted.{code_of, without_returns, IsEscape}
 use Rattle.tmpl_grammar.specs.Constant.Quoted.{SpellsRunes, at_end, a_char, a_byte, an_escape}
 use Rattle.tmpl_grammar.specs.Printable.{OfOperand}
 use Rattle.tmpl_grammar.proofs.DigitLemmas.{hex-byte}
@@ -24,13 +24,10 @@ use Rattle.tmpl_grammar.proofs.QuotePartLemmas.{letter-ascii}
 -- ---- numbers
 
 neg-range : (n : ℕ) → n ≤ 2 ^ 63 → mag (neg_ℤ (pos n)) < 2 ^ 63
-neg-range zero h = omega arith
-neg-range (suc n) h = omega arith
+neg-range n h1 = grind (arith, nat_tests)
 
 integer-range : {bs : List ℕ} {n : ℤ} → IsInteger bs n → mag n < 2 ^ 63
-integer-range (minus {n = n} m h) = neg-range n h
-integer-range (plus m h) = h
-integer-range (unsigned m h) = h
+integer-range h1 = grind (arith, nat_tests, neg-range)
 
 -- ---- the runes of a text
 
@@ -39,12 +36,7 @@ OfRune (byte b) = b < 256
 OfRune (char c) = IsScalar c
 
 escape-rune : {quote : ℕ} {s : List ℕ} {r : Rune} → quote < 256 → IsEscape quote s r → OfRune r
-escape-rune h (a_letter {c = c} {letter = e} is other) = let low = letter-ascii c e is in omega (arith, low)
-escape-rune h the_quote = h
-escape-rune h (octal are low) = low
-escape-rune h (two_digits {ds = ds} are) = hex-byte ds are
-escape-rune h (four_digits are s) = s
-escape-rune h (eight_digits are s) = s
+escape-rune h1 h2 = grind (arith, nat_tests, hex-byte, letter-ascii)
 
 abbrev AreOf : List Rune → Type 0
 AreOf [] = Unit {0}
@@ -65,18 +57,14 @@ bytes-append (x ∷ xs) ys h k = (h.0, bytes-append xs ys h.1 k)
 encode-by : (a b d : Bool) (c : ℕ) → c < 1114112 → nat_lt c 128 ≡ a → nat_lt c 2048 ≡ b → nat_lt c 65536 ≡ d
     → AreBytes (cond a (c ∷ []) (cond b ((192 + c / 64) ∷ next c ∷ []) (cond d ((224 + c / 4096) ∷ next (c / 64) ∷ next c ∷ [])
     ((240 + c / 262144) ∷ next (c / 4096) ∷ next (c / 64) ∷ next c ∷ []))))
-encode-by true b d c h p q r = (grind (arith, nat_tests), tt)
-encode-by false true d c h p q r = (grind (arith, nat_tests), (omega arith, tt))
-encode-by false false true c h p q r = (grind (arith, nat_tests), (omega arith, (omega arith, tt)))
-encode-by false false false c h p q r = (grind (arith, nat_tests), (omega arith, (omega arith, (omega arith, tt))))
+encode-by a b d c h1 h2 h3 h4 = grind (arith, nat_tests)
 
 below : (c : ℕ) → IsScalar c → c < 1114112
 below c s = ⊎_elim (λ h. omega arith) (λ h. h.1) (scalar_cases c s)
 
 rune-bytes : (r : Rune) → OfRune r → AreBytes (bytes_in r)
 unfolding encode_utf8
-rune-bytes (byte b) h = (h, tt)
-rune-bytes (char c) h = encode-by _ _ _ c (below c h) refl refl refl
+rune-bytes r h1 = grind (arith, nat_tests, encode-by)
 
 text-bytes : (rs : List Rune) → AreOf rs → AreBytes (flat_map bytes_in rs)
 text-bytes [] h = tt
@@ -93,8 +81,7 @@ raw-bytes (b ∷ bs) h = go (not (nat_eq b 13)) (raw-bytes bs h.1)
 -- ---- constants
 
 code-range : (r : Rune) → OfRune r → code_of r < 2 ^ 63
-code-range (byte b) h = omega arith
-code-range (char c) h = let low = below c h in omega arith
+code-range r h1 = grind (arith, nat_tests)
 
 pub of-constant : (t : Token) (o : Operand) → AreBytes t.bytes → IsConstant t o → OfOperand o
 of-constant _ _ h (constant.number is) = integer-range is

@@ -1,5 +1,5 @@
 -- For `one_action`: tokens that no pipeline has, so that no header begins with a keyword.
-use Rattle.std.proofs.Common.{◌≡◌, ◌∙◌, List, [], ◌∷◌, ◌++◌, Option, Some, None, refl, sym}
+use Rattle.std.proofs.Common.{arith, ◌≡◌, ◌∙◌, List, [], ◌∷◌, ◌++◌, Option, Some, None, refl, sym}
 use Rattle.tmpl_lex.specs.declared.piece.TokenKind.{TokenKind}
 use Rattle.tmpl_lex.specs.declared.piece.TokenKind.TheVariants as kind
 use Rattle.tmpl_lex.specs.Piece.{Token}
@@ -22,8 +22,7 @@ abbrev pub IsStray : Token → Type 0
 IsStray t = (h : Parser) → step t h ≡ None
 
 none-placed : (last : Option Operand) (h : Parser) → placed last None h ≡ None
-none-placed None h = refl
-none-placed (Some o) h = refl
+none-placed last h = grind arith
 
 -- a sign is no operand
 pub sign-stray : (k : TokenKind) → ((t : Token) (h : Parser) → step_by k t h ≡ placed h.last (operand_at t) h) → ((t : Token) → operand_by k t ≡ None)
