@@ -1,5 +1,5 @@
 -- For `one_action`: the grammar of an action and its reading agree, keyword by keyword.
-use Rattle.std.proofs.Common.{◌≡◌, ◌∙◌, ℕ, Bool, true, false, cond, List, ◌∷◌, ◌++◌, Option, Some, None, IfSome, option_map, bytes_eq, refl, ap, sym, subst}
+use Rattle.std.proofs.Common.{arith, ◌≡◌, ◌∙◌, ℕ, Bool, true, false, cond, List, ◌∷◌, ◌++◌, Option, Some, None, IfSome, option_map, refl, ap, sym, subst}
 use Rattle.std.proofs.lemmas.Option.{IfSome_then}
 use Rattle.std.proofs.lemmas.Bool.{cond_both}
 use lib.Pointwise.{bytes_decides}
@@ -35,21 +35,14 @@ use Rattle.tmpl_grammar.proofs.HeaderLemmas.{variable-other, header-read, header
 -- ---- keywords
 
 known : (k : Keyword) → spells_keyword (spelling k) ≡ Some k
-known (word.Control control.If) = refl
-known _ = refl
+known k = grind arith
 
 word-known : (k : Keyword) (t : Token) → IsWord (spelling k) t → keyword_of t ≡ Some k
 unfolding keyword_of
 word-known k t w = simp (w.0, w.1) (known k)
 
 spelled-known : (bs : List ℕ) → IfSome (spells_keyword bs) (λ k. bs ≡ spelling k)
-spelled-known bs =
-    at (word.Control control.If) _ (at (word.Control control.With) _ (at (word.Control control.Range) _ (at word.Else _ (at word.End _
-    (at word.Break _ (at word.Continue _ (at word.Define _ (at word.Template _ (at word.Block None tt)))))))))
-  where
-    at : (j : Keyword) (rest : Option Keyword) → IfSome rest (λ k. bs ≡ spelling k)
-        → IfSome (cond (bytes_eq bs (spelling j)) (Some j) rest) (λ k. bs ≡ spelling k)
-    at j rest more = cond_both _ _ _ (λ o. IfSome o (λ k. bs ≡ spelling k)) (bytes_decides bs (spelling j)).0 (λ e. more)
+spelled-known bs = grind (arith, bytes_decides)
 
 known-word : (t : Token) → IfSome (keyword_of t) (λ k. IsWord (spelling k) t)
 unfolding keyword_of
@@ -70,8 +63,7 @@ keyed k s e = simp (first-is (word-other k) s, word-known k s.1 s.5) e
 
 -- a branch is found by the control with which it begins
 branch-known : (br : Branch) → branch_of (word.Control (control_in br)) ≡ Some br
-branch-known branch.If = refl
-branch-known branch.With = refl
+branch-known br = grind arith
 
 -- ---- headers
 
@@ -104,8 +96,7 @@ header-plain (declare_pair key name) p ts s = named-plain s
 -- ---- names in quotes
 
 quoted-other : (k : TokenKind) (name bs : List ℕ) → constant_by k bs ≡ Some (text_constant name) → is_space_kind k ≡ false
-quoted-other kind.Space name bs e = no-value (text_constant name) e
-quoted-other _ name bs e = refl
+quoted-other k name bs e = grind arith
 
 quoted-solid : (name : List ℕ) (t : Token) → IsQuoted name t → is_white t ≡ false
 unfolding constant_of

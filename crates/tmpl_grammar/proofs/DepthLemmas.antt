@@ -7,7 +7,6 @@ use Rattle.tmpl_lex.specs.declared.piece.TokenKind.TheVariants as kind
 use Rattle.tmpl_lex.specs.Piece.{Token}
 use Rattle.tmpl_grammar.specs.Tree as tree
 use Rattle.tmpl_grammar.specs.Tree.{Operand, Operands, Pipeline}
-use Rattle.tmpl_grammar.specs.Constant.{IsConstant}
 use Rattle.tmpl_grammar.specs.Operand.{IsOperand}
 use Rattle.tmpl_grammar.specs.Pipeline.{IsBlank, IsChain, IsChained, SpellsOperand, SpellsMore, SpellsCommand, SpellsLater, SpellsPipeline}
 use Rattle.tmpl_grammar.specs.Depth.{depth_of_operand, depth_of_operands, depth_of_pipeline}
@@ -35,7 +34,7 @@ none-nests n us = let low = least n us in omega (arith, low)
 
 -- a token that is no parenthesis, and tokens behind it
 one-nests : (t : Token) (ts : List Token) (d : ℕ) → ((n : ℕ) → depth_behind t.kind n ≡ n) → Nests d ts → Nests d (t ∷ ts)
-one-nests t ts d h1 h2 = grind (arith, nat_tests)
+one-nests t ts d same h = grind arith
 
 of-kind : (t : Token) (ts : List Token) (d : ℕ) (k : TokenKind) → t.kind ≡ k → ((n : ℕ) → depth_behind k n ≡ n) → Nests d ts → Nests d (t ∷ ts)
 of-kind t ts d k is same = one-nests t ts d (λ n. ap (λ k. depth_behind k n) is ∙ same n)
@@ -57,11 +56,8 @@ chain-nests [] ts c = rw c none-nests
 chain-nests (n ∷ names) ts (t, us, is, field, begins, name, rest) =
     rw is (of-kind t us 0 kind.Field field (λ n. refl) (chain-nests names us rest))
 
-constant-apart : (t : Token) (o : Operand) → IsConstant t o → (n : ℕ) → depth_behind t.kind n ≡ n
-constant-apart t o h1 n = grind (arith, nat_tests)
-
 operand-apart : (t : Token) (o : Operand) → IsOperand t o → (n : ℕ) → depth_behind t.kind n ≡ n
-operand-apart t o h1 n = grind (arith, nat_tests, constant-apart)
+operand-apart t o is n = grind arith
 
 chained-nests : (o : Operand) (names : List (List ℕ)) (ts : List Token) → IsChained o names ts → Nests 0 ts
 chained-nests o names ts (t, us, is, at, chain) = rw is (one-nests t us 0 (operand-apart t o at) (chain-nests names us chain))

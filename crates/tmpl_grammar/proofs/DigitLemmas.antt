@@ -23,7 +23,7 @@ digits-all base (d ∷ ds) h =
 
 -- so many digits at the front are read
 pub code-digits : (base count : ℕ) (ds rest : List ℕ) → AreDigits base count ds → code base count (ds ++ rest) ≡ Some (digits_value base ds)
-code-digits base count ds rest h1 = grind (arith, nat_tests, all-digits, length-append, nat_le, take-append_seam)
+code-digits base count ds rest h = grind (arith, nat_tests, all-digits, length-append, take-append_seam)
 
 -- .. and no other number is
 pub code-tells : (base count : ℕ) (bs : List ℕ) (P : ℕ → Type 0) → ((ds rest : List ℕ) → bs ≡ ds ++ rest → AreDigits base count ds → P (digits_value base ds))

@@ -21,14 +21,14 @@ pub data IsMark : ℕ → Type 0 where
 -- ---- what the relation admits is computed
 
 not-named : (quote e : ℕ) → IsMark quote → 48 ≤ e → e < 56 → byte_named quote e ≡ None
-not-named quote e h1 h2 h3 = grind (arith, nat_tests)
+not-named quote e h k l = grind (arith, nat_tests)
 
 not-lettered : (e : ℕ) (bs : List ℕ) → 48 ≤ e → e < 56 → coded e bs ≡ option_and_then (as_byte 4) (code 8 3 (e ∷ bs))
 not-lettered e bs low high = grind (arith, nat_tests)
 
 byte-read : (base count : ℕ) (ds rest : List ℕ) → AreDigits base count ds → digits_value base ds < 256
     → option_and_then (as_byte 4) (code base count (ds ++ rest)) ≡ Some (byte (digits_value base ds), 4)
-byte-read base count ds rest h1 h2 = grind (arith, nat_tests, code-digits, nat_lt)
+byte-read base count ds rest h k = grind (arith, nat_tests, code-digits)
 
 char-read : (len count : ℕ) (ds rest : List ℕ) → AreDigits 16 count ds → scalar (digits_value 16 ds) ≡ true
     → option_and_then (as_char len) (code 16 count (ds ++ rest)) ≡ Some (char (digits_value 16 ds), len)
@@ -47,10 +47,10 @@ coded-read _ e bs double h k = simp h
 coded-read _ e bs single h k = simp k
 
 quote-read : (quote : ℕ) (rest : List ℕ) → IsMark quote → escape quote (quote ∷ rest) ≡ Some (byte quote, 2)
-quote-read quote rest h1 = grind (arith, nat_tests)
+quote-read quote rest h = grind (arith, nat_tests)
 
 named : (quote c e : ℕ) → IsMark quote → letter_of c letters ≡ Some e → (c ≡ 34 → ⊥) → byte_named quote e ≡ Some c
-named quote c e h1 h2 h3 = grind (arith, nat_tests)
+named quote c e h k l = grind (arith, nat_tests)
 
 pub escape-at : (quote : ℕ) (s rest : List ℕ) (p : Rune) → IsMark quote → IsEscape quote s p → part_at quote (s ++ rest) ≡ Some (p, length s)
 unfolding part_at
@@ -63,7 +63,7 @@ escape-at quote _ rest _ m (four_digits {ds = ds} are s) = rw are.0 (coded-read 
 escape-at quote _ rest _ m (eight_digits {ds = ds} are s) = rw are.0 (coded-read quote 85 (ds ++ rest) m refl refl ∙ char-read 10 8 ds rest are s)
 
 pub escape-some : (quote : ℕ) (s : List ℕ) (p : Rune) → IsEscape quote s p → 0 < length s
-escape-some quote s p h1 = grind (arith, nat_tests)
+escape-some quote s p h = grind (arith, nat_tests)
 
 -- ---- what is computed the relation admits
 

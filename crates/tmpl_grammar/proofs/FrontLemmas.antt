@@ -1,14 +1,13 @@
 -- For `printed_tokens`: the tokens that are printed stand at the front of what is printed.
-use Rattle.std.proofs.Common.{arith, ◌≡◌, ◌∙◌, ℕ, true, false, nat_eq, List, [], ◌∷◌, ◌++◌, refl, sym, ap, subst, append_assoc, get_or, codes}
+use Rattle.std.proofs.Common.{arith, ◌≡◌, ◌∙◌, ℕ, true, false, nat_eq, List, [], ◌∷◌, ◌++◌, refl, sym, ap, subst, append_assoc, codes}
 use Rattle.std.specs.Char.{is_ascii_digit}
 use Rattle.std.specs.List.{list_all}
 use Rattle.std.specs.Str.Parse.{AllDigits}
 use Rattle.std.proofs.lemmas.List.Concat.{flat_map-append}
-use Rattle.std.proofs.lemmas.Bool.{or_parts, both_ways}
 use Rattle.std.proofs.lemmas.Bool.Decides.{nat_tests}
 use Rattle.tmpl_lex.specs.declared.piece.TokenKind.TheVariants as kind
 use Rattle.tmpl_lex.specs.Bytes.{is_space, is_name_byte, is_number_byte, BeginsNone, Stops}
-use Rattle.tmpl_lex.specs.Delimiter.{IsLeftMarker, left_marker}
+use Rattle.tmpl_lex.specs.Delimiter.{IsLeftMarker}
 use Rattle.tmpl_lex.specs.Piece.{Token}
 use Rattle.tmpl_lex.specs.Token as row
 use Rattle.tmpl_lex.specs.Token.{IsToken, IsQuoted, no_sign, at_byte}
@@ -20,7 +19,7 @@ IsFront t rest = IsToken t.kind t.bytes rest
 
 -- what ends a number ends a name
 pub stops-name : (rest : List ℕ) → Stops is_number_byte rest → Stops is_name_byte rest
-stops-name rest h1 = grind (arith, nat_tests, nat_eq, or_parts)
+stops-name rest stop = grind (arith, nat_tests)
 
 -- ---- words, fields and variables
 
@@ -59,19 +58,13 @@ pub data Solid : List ℕ → Type 0 where
   minus : {d : ℕ} {bs : List ℕ} → is_ascii_digit d ≡ true → Solid (45 ∷ d ∷ bs)
 
 solid-stops : {bs : List ℕ} → Solid bs → Stops is_space bs
-solid-stops h1 = grind (arith, nat_tests)
+solid-stops s = grind (arith, nat_tests)
 
 solid-undashed : {bs : List ℕ} → Solid bs → BeginsNone (λ xs. xs ≡ codes "-}}") bs
-solid-undashed h1 = grind (arith, nat_tests, both_ways, nat_eq)
-
-marker-dash : {marker : List ℕ} (ys : List ℕ) → IsLeftMarker marker → nat_eq (get_or (marker ++ ys) 0 0) 45 ≡ true
-marker-dash ys (left_marker e) = refl
-
-marker-space : {marker : List ℕ} (ys : List ℕ) → IsLeftMarker marker → is_space (get_or (marker ++ ys) 1 0) ≡ true
-marker-space ys (left_marker e) = e
+solid-undashed s = grind (arith, nat_tests)
 
 pub solid-unmarked : {bs : List ℕ} → Solid bs → BeginsNone IsLeftMarker bs
-solid-unmarked h1 = grind (arith, nat_tests, both_ways, marker-dash, marker-space, nat_eq)
+solid-unmarked s = grind (arith, nat_tests)
 
 pub space-front : (rest : List ℕ) → Solid rest → IsFront space rest
 space-front rest s = row.space refl (at_byte (solid-stops s) (solid-undashed s))

@@ -20,7 +20,7 @@ use Rattle.tmpl_grammar.proofs.QuotedLemmas.{parts-nil, parts-first, parts-none}
 -- ---- what the relation admits is computed
 
 mark-low : (quote : ℕ) → IsMark quote → quote < 128
-mark-low quote h1 = grind (arith, nat_tests)
+mark-low quote h = grind (arith, nat_tests)
 
 -- neither a backslash nor the quote comes first
 part-rune : (quote b : ℕ) (bs : List ℕ) → (b ≡ 92 → ⊥) → (b ≡ quote → ⊥) → part_at quote (b ∷ bs) ≡ Some (rune_part (first_rune (b ∷ bs)))
@@ -88,7 +88,7 @@ rune-computed quote bs r m has =
 -- ---- what is computed the relation admits
 
 other-char : (b k c : ℕ) (bs rest : List ℕ) → encode_utf8 c ++ rest ≡ b ∷ bs → k < 128 → nat_eq b k ≡ false → c ≡ k → ⊥
-other-char b k c bs rest h1 h2 h3 h4 = grind (arith, nat_tests, encode_ascii)
+other-char b k c bs rest h l e m = grind (arith, nat_tests, encode_ascii)
 
 rune-first : (quote b : ℕ) (bs : List ℕ) (r : Rune) → quote < 128 → nat_eq b 92 ≡ false → nat_eq b quote ≡ false → first_rune (b ∷ bs) ≡ r
     → Front (b ∷ bs) r → FirstPart quote (b ∷ bs) (rune_part r)

@@ -79,7 +79,7 @@ split-bound (declare_pair key name) p ts s =
     (s.6.6.6.2, simp (variable-is key kind.Comma refl s, variable-is name kind.Declare refl s.6.6), s.6.6.6.6)
 
 pub header-read : (in_range : Bool) (h : Header) (ts : List Token) → SpellsHeader in_range h ts → header_in in_range ts ≡ Some h
-header-read in_range h ts h1 = grind (arith, reads-spelled, split-bound)
+header-read in_range h ts k = grind (arith, reads-spelled, split-bound)
 
 pub header-admitted : (in_range : Bool) (ts : List Token) → IfSome (header_in in_range ts) (λ h. SpellsHeader in_range h ts)
 unfolding split

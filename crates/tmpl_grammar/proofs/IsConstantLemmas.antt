@@ -59,7 +59,7 @@ computes-constant _ _ (constant.character {bs = bs} {r = p} has) = simp (between
 -- what stands between two quotes
 quoted : (k : TokenKind) (q : ℕ) (bs : List ℕ) (f : List ℕ → Option Operand)
     → ((xs : List ℕ) → IfSome (f xs) (IsConstant (token k (q ∷ (xs ++ q ∷ []))))) → IfSome (option_and_then f (between q bs)) (IsConstant (token k bs))
-quoted k q bs f h1 = grind (arith, nat_tests, between-is)
+quoted k q bs f h = grind (arith, nat_tests, between-is)
 
 is-constant : (k : TokenKind) (bs : List ℕ) → IfSome (constant_by k bs) (IsConstant (token k bs))
 is-constant kind.Number bs =

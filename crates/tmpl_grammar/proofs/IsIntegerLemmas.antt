@@ -57,7 +57,7 @@ parted-admitted base (b ∷ bs) part all = by (nat_eq b 95) refl bs (parted-admi
 
 number-parted : (base : ℕ) (bs : List ℕ) (P : ℕ → Type 0) → ((ds : List ℕ) → AreParted base bs ds → P (digits_value base ds))
     → IfSome (parted_number base bs) P
-number-parted base bs P h1 = grind (arith, nat_tests, cond_both, parted-admitted)
+number-parted base bs P h = grind (arith, nat_tests, parted-admitted)
 
 -- ---- magnitudes
 

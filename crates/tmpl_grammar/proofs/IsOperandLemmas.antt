@@ -29,7 +29,7 @@ function-read f = grind arith
 
 constant-kind : (t : Token) (o : Operand) → IsConstant t o → operand_at t ≡ constant_of t
 unfolding operand_at
-constant-kind t o h1 = grind arith
+constant-kind t o h = grind arith
 
 pub computes-operand : IsComputed IsOperand operand_at
 unfolding operand_at word_operand

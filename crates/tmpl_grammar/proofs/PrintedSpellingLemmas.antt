@@ -122,7 +122,7 @@ spells-header : (in_range : Bool) (h : Header) → OfHeader in_range h → Spell
 spells-header in_range h of = (of.0, spells-bound h.binding h.pipeline of.1 of.2 (space ∷ []) (refl, tt) (spaced-pipeline h.pipeline of.2))
 
 spells-given : (given : Option Pipeline) → OfGiven given → SpellsGiven given (given_tokens given)
-spells-given given h1 = grind (arith, spaced-pipeline)
+spells-given given h = grind (arith, spaced-pipeline)
 
 -- a name in quotes, before what stands behind it
 named : {name : List ℕ} {Rest : List Token → Type 0} {ts : List Token} → AreBytes name → Rest ts

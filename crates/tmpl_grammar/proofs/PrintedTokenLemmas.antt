@@ -62,7 +62,7 @@ word-reads (b ∷ bs) ts rest is stop l =
 -- ---- chains
 
 field-stands : (n : List ℕ) (rest : List ℕ) → IsFieldName n → Stops is_name_byte rest → IsFront (token kind.Field (46 ∷ n)) rest
-field-stands n rest h1 h2 = grind (arith, nat_tests, field-front)
+field-stands n rest h k = grind (arith, nat_tests, field-front)
 
 chain-stops : (ns : List (List ℕ)) (rest : List ℕ) → EndsToken rest → Stops is_name_byte (bytes_of (chain_tokens ns) ++ rest)
 chain-stops [] rest stop = stops-name rest stop

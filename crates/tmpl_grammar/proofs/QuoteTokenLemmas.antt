@@ -2,7 +2,7 @@
 use Rattle.std.proofs.Common.{◌≡◌, ◌∙◌, ℕ, zero, suc, ◌/◌, ◌%◌, ◌<◌, Bool, true, false, nat_eq, List, [], ◌∷◌, ◌++◌, get_or}
 use Rattle.std.proofs.Common.{Option, Some, None, if◌then◌else◌, refl, sym, ap, arith, append-nil, not, ◌||◌}
 use Rattle.std.specs.List.{flat_map, list_all}
-use Rattle.std.proofs.lemmas.Bool.{and_parts, true_from_ne_false}
+use Rattle.std.proofs.lemmas.Bool.{and_parts}
 use Rattle.std.proofs.lemmas.List.Elements.{All-from_get_or}
 use Rattle.std.proofs.lemmas.List.Folds.{list_all-append}
 use Rattle.std.proofs.lemmas.List.Sums.{list_all-from_AllPass}
@@ -39,7 +39,7 @@ plain-hexes zero c = refl
 plain-hexes (suc k) c = simp (list_all-append, plain-hexes k (c / 16), plain-digit (c % 16) (omega arith))
 
 plain-byte : (b : ℕ) → (b < 128 → letter_of b letters ≡ None) → is_plain b ≡ true
-plain-byte b h1 = grind (arith, nat_tests, true_from_ne_false)
+plain-byte b h = grind (arith, nat_tests)
 
 plain-encode : (c : ℕ) → letter_of c letters ≡ None → list_all is_plain (encode_utf8 c) ≡ true
 plain-encode c is = list_all-from_AllPass is_plain (encode_utf8 c) (All-from_get_or (λ b. is_plain b ≡ true) (encode_utf8 c) 0 (λ k h.
@@ -50,14 +50,14 @@ plain-encode c is = list_all-from_AllPass is_plain (encode_utf8 c) (All-from_get
 
 code-within : (p low bmp : Bool) (c : ℕ) (t : List ℕ) → letter_of c letters ≡ None → IsQuoted 34 t
     → IsQuoted 34 ((if p then encode_utf8 c else (if low then 92 ∷ 120 ∷ hexes 2 c else (if bmp then 92 ∷ 117 ∷ hexes 4 c else 92 ∷ 85 ∷ hexes 8 c))) ++ t)
-code-within p low bmp c t h1 h2 = grind (arith, nat_tests, plain-encode, plain-hexes, within-escape, within-plain)
+code-within p low bmp c t h k = grind (arith, nat_tests, plain-encode, plain-hexes, within-escape, within-plain)
 
 char-within : (prints : ℕ → Bool) (c : ℕ) (o : Option ℕ) (t : List ℕ) → letter_of c letters ≡ o → IsQuoted 34 t → IsQuoted 34 (rune_spelling prints c o ++ t)
 char-within prints c (Some e) t is k = within-escape e [] t (letter-no-newline c e is) refl k
 char-within prints c None t is k = code-within (prints c) _ _ c t is k
 
 within : (prints : ℕ → Bool) (r : Rune) (t : List ℕ) → IsQuoted 34 t → IsQuoted 34 (spelling prints r ++ t)
-within prints r t h1 = grind (arith, nat_tests, char-within, plain-hexes, within-escape)
+within prints r t h = grind (arith, nat_tests, char-within, plain-hexes, within-escape)
 
 all-within : (prints : ℕ → Bool) (rs : List Rune) → IsQuoted 34 (flat_map (spelling prints) rs)
 all-within prints [] = no_byte

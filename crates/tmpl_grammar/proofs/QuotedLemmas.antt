@@ -18,7 +18,7 @@ parts-nil quote = refl
 pub parts-first : (quote : ℕ) (bs : List ℕ) (p : Spelled) → 0 < length bs → part_at quote bs ≡ Some p → 0 < p.1 → p.1 ≤ length bs
     → parts quote bs ≡ with_part p.0 (parts quote (drop p.1 bs))
 unfolding parts
-parts-first quote bs p h1 h2 h3 h4 = grind (arith, skip-to)
+parts-first quote bs p h k l e = grind (arith, skip-to)
 
 pub parts-none : (quote : ℕ) (bs : List ℕ) → 0 < length bs → part_at quote bs ≡ None → parts quote bs ≡ None
 unfolding parts

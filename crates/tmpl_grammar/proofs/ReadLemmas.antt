@@ -52,7 +52,7 @@ abbrev Ends : List Operands → List Token → Type 0
 Ends cs ts = (later : Pipeline) (vs : List Token) → SpellsLater later vs → SpellsPipeline (commands_from (cs ++ command_list later)) (ts ++ vs)
 
 whole-command : (cs : List Operands) (ms : Operands) (us : List Token) → SpellsApart ms us → MayFollow cs [] ms → SpellsCommand ms us
-whole-command cs ms us h1 h2 = grind arith
+whole-command cs ms us h k = grind arith
 
 begins-start : Begins [] [] []
 begins-start ms later us vs s may l = rw (operands-back ms, commands-back later) (us, vs, refl, whole-command [] ms us s may, l)

@@ -1,18 +1,16 @@
 -- For `one_action`: tokens that no pipeline has, so that no header begins with a keyword.
-use Rattle.std.proofs.Common.{arith, ◌≡◌, ◌∙◌, List, [], ◌∷◌, ◌++◌, Option, Some, None, refl, sym}
+use Rattle.std.proofs.Common.{arith, ◌≡◌, ◌∙◌, List, [], ◌∷◌, ◌++◌, Option, None, refl}
 use Rattle.tmpl_lex.specs.declared.piece.TokenKind.{TokenKind}
 use Rattle.tmpl_lex.specs.declared.piece.TokenKind.TheVariants as kind
 use Rattle.tmpl_lex.specs.Piece.{Token}
 use Rattle.tmpl_grammar.specs.computed.Operand.{operand_at, operand_by, word_operand, func_named}
-use Rattle.tmpl_grammar.specs.computed.Parser.{Parser, step, step_by, steps, placed, start, finished}
+use Rattle.tmpl_grammar.specs.computed.Parser.{Parser, step, step_by, steps, placed, finished}
 use Rattle.tmpl_grammar.specs.Tree.{Operand, Pipeline}
 use Rattle.tmpl_grammar.specs.Pipeline.{IsBlank, SpellsPipeline}
 use Rattle.tmpl_grammar.specs.Keyword.{IsWord}
 use Rattle.tmpl_grammar.specs.computed.Keyword.{spelling}
 use Rattle.tmpl_grammar.specs.computed.Reading.{pipeline_in}
 use Rattle.tmpl_grammar.specs.declared.keyword.Keyword.{Keyword}
-use Rattle.tmpl_grammar.specs.declared.keyword.Keyword.TheVariants as word
-use Rattle.tmpl_grammar.specs.declared.tree.Control.TheVariants as control
 use Rattle.tmpl_grammar.proofs.SpelledLemmas.{steps-append, step-at, blank-steps}
 use Rattle.tmpl_grammar.proofs.PipelineLemmas.{reads-spelled}
 use Rattle.tmpl_grammar.proofs.OptionLemmas.{no-value}
@@ -33,8 +31,7 @@ sign-stray k steps none t e h = step-at k t h e ∙ steps t h ∙ simp (e, none)
 -- no keyword is an operand
 keyword-none : (k : Keyword) → word_operand (spelling k) ≡ None
 unfolding word_operand func_named
-keyword-none (word.Control control.If) = refl
-keyword-none _ = refl
+keyword-none k = grind arith
 
 pub word-stray : (k : Keyword) (t : Token) → IsWord (spelling k) t → IsStray t
 unfolding operand_at
@@ -48,16 +45,8 @@ steps-none (t ∷ ts) = steps-none ts
 module _ {A : Type 0} (cs : Pipeline) where
   pub none-stray : (ts us : List Token) (t : Token) → IsStray t → SpellsPipeline cs (ts ++ t ∷ us) → A
   unfolding pipeline_in
-  none-stray ts us t stray s =
-      let none : pipeline_in (ts ++ t ∷ us) ≡ None = simp (steps-append (Some start) ts (t ∷ us), by (steps (Some start) ts)) in
-      no-value cs (sym none ∙ reads-spelled (ts ++ t ∷ us) cs s)
-    where
-      by : (o : Option Parser) → steps o (t ∷ us) ≡ None
-      by None = steps-none us
-      by (Some h) = simp (stray h, steps-none us)
+  none-stray ts us t stray s = grind (arith, no-value, reads-spelled, steps-append, steps-none)
 
   pub none-blank : (ts : List Token) → IsBlank ts → SpellsPipeline cs ts → A
   unfolding pipeline_in finished
-  none-blank ts b s =
-      let none : pipeline_in ts ≡ None = simp (blank-steps [] [] [] ts b) in
-      no-value cs (sym none ∙ reads-spelled ts cs s)
+  none-blank ts b s = grind (arith, blank-steps, no-value, reads-spelled)
