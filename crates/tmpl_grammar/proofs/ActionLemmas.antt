@@ -206,3 +206,5 @@ spells-action = admitted IsAction action_in (λ ts. first-spelled ts (next ts) r
 -- tokens that are not read spell no action
 pub none-spelled : (ts : List Token) → action_in ts ≡ None → (a : Action) → SpellsAction a ts → ⊥
 none-spelled ts e a s = no-value a (sym e ∙ reads-action ts a s)
+
+pub ruleset actions = (reads-action, spells-action)

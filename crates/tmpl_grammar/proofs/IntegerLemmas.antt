@@ -68,4 +68,6 @@ integer-signed negative (b ∷ bs) h is =
     ap (λ t. option_and_then (signed negative) (within (magnitude t))) (take-rest (b ∷ bs) 1 (length (b ∷ bs) - 1) (omega arith) refl)
     ∙ signed-within negative (magnitude bs) ∙ sym (ap (λ x. integer (x ∷ bs)) is ∙ behind-sign negative bs)
 
-pub ruleset signs = (signed-within)
+pub ruleset signs = (signed-within, integer-signed)
+
+pub ruleset plain = (digits-plain)

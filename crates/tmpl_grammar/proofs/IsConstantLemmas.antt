@@ -13,14 +13,14 @@ use Rattle.tmpl_grammar.specs.Tree.{Operand, number_constant, text_constant}
 use Rattle.tmpl_grammar.specs.Constant as constant
 use Rattle.tmpl_grammar.specs.Constant.{IsConstant}
 use Rattle.tmpl_grammar.specs.computed.Integer.{integer}
-use Rattle.tmpl_grammar.specs.Laws.{IsComputed}
+use Rattle.tmpl_grammar.specs.Laws.{IsAdmitted, IsComputed}
 use Rattle.tmpl_lex.specs.Piece.{Token}
 use Rattle.tmpl_grammar.specs.computed.Constant.{constant_of, constant_by, string_in, raw_string_in, character_in}
 use Rattle.tmpl_grammar.specs.computed.Quoted.{between, parts, unquoted, rune_code}
 use Rattle.tmpl_grammar.proofs.EscapeLemmas.{double, single}
 use Rattle.tmpl_grammar.proofs.HasPartsLemmas.{parts-computed, parts-admitted, rune-computed, rune-admitted}
 use Rattle.tmpl_grammar.proofs.IsIntegerLemmas.{integer-computed, integer-admitted}
-use Rattle.tmpl_grammar.proofs.OptionLemmas.{told, mapped}
+use Rattle.tmpl_grammar.proofs.OptionLemmas.{admitted, told, mapped}
 
 -- ---- the quotes
 
@@ -81,3 +81,8 @@ is-constant _ bs = tt
 pub constant-admitted : (t : Token) → IfSome (constant_of t) (IsConstant t)
 unfolding constant_of
 constant-admitted t = is-constant t.kind t.bytes
+
+pub admits-constant : IsAdmitted IsConstant constant_of
+admits-constant = admitted IsConstant constant_of constant-admitted
+
+pub ruleset constants = (computes-constant, admits-constant)

@@ -15,11 +15,11 @@ use Rattle.tmpl_grammar.specs.Tree.{Operand}
 use Rattle.tmpl_grammar.specs.Constant.{IsConstant}
 use Rattle.tmpl_grammar.specs.Operand as operand
 use Rattle.tmpl_grammar.specs.Operand.{IsOperand}
-use Rattle.tmpl_grammar.specs.Laws.{IsComputed}
+use Rattle.tmpl_grammar.specs.Laws.{IsAdmitted, IsComputed}
 use Rattle.tmpl_grammar.specs.computed.Constant.{constant_of}
 use Rattle.tmpl_grammar.specs.computed.Operand.{funcs, func_named, word_operand, field_operand, operand_by, operand_at}
 use Rattle.tmpl_grammar.proofs.IsConstantLemmas.{computes-constant, constant-admitted}
-use Rattle.tmpl_grammar.proofs.OptionLemmas.{mapped}
+use Rattle.tmpl_grammar.proofs.OptionLemmas.{admitted, mapped}
 
 -- ---- what the relation admits is computed
 
@@ -74,3 +74,8 @@ is-operand _ bs = tt
 pub operand-admitted : (t : Token) → IfSome (operand_at t) (IsOperand t)
 unfolding operand_at
 operand-admitted t = is-operand t.kind t.bytes
+
+pub admits-operand : IsAdmitted IsOperand operand_at
+admits-operand = admitted IsOperand operand_at operand-admitted
+
+pub ruleset operands = (computes-operand, admits-operand)

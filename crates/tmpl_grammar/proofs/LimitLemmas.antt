@@ -106,3 +106,5 @@ limited-read ts =
         → limited_commands (nat_le (deepest 0 ts) most_deep) o ≡ option_map limited_pipeline (option_map commands_from o)
     by None deep = refl
     by (Some cs) deep = simp deep
+
+pub ruleset limits = (limited-read)

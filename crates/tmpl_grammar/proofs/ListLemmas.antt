@@ -2,7 +2,7 @@
 use Rattle.std.proofs.Common.{arith, ◌≡◌, ◌∙◌, ◌+◌, ◌-◌, ◌≤◌, ℕ, Bool, List, [], ◌∷◌, refl, ap, cond, map, length, take, drop, length-drop}
 use Rattle.std.specs.List.{prefix_len}
 use Rattle.std.proofs.Math.Seq.{take-length}
-use Rattle.std.proofs.lemmas.List.Sums.{prefix_len-le-length, suffix_len-le-length}
+use Rattle.std.proofs.lemmas.List.{drop-map}
 
 pub prefix-map : {X Y : Type 0} (p : Y → Bool) (f : X → Y) (xs : List X) → prefix_len p (map f xs) ≡ prefix_len (λ x. p (f x)) xs
 prefix-map p f [] = refl
@@ -12,4 +12,4 @@ prefix-map p f (x ∷ xs) = ap (λ n. cond (p (f x)) (1 + n) 0) (prefix-map p f 
 pub take-rest : {X : Type 0} (xs : List X) (k n : ℕ) → k ≤ length xs → n ≡ length xs - k → take n (drop k xs) ≡ drop k xs
 take-rest xs k n h e = ap (λ m. take m (drop k xs)) (let same : n ≡ length (drop k xs) = omega (arith, length-drop k xs) in same) ∙ take-length (drop k xs)
 
-pub ruleset runs = (prefix_len-le-length, suffix_len-le-length)
+pub ruleset fronts = (drop-map, prefix-map, take-rest)

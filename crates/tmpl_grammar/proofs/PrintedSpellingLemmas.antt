@@ -137,3 +137,5 @@ spells-tokens (define_action name) of = led [] _ _ tt (refl, refl) (named of tt)
 spells-tokens (template_action name given) of = led [] _ _ tt (refl, refl) (named of.0 (spells-given given of.1))
 spells-tokens (block_action name p) of = led [] _ _ tt (refl, refl) (named of.0 (spaced-pipeline p of.1))
 spells-tokens _ of = led [] _ _ tt (refl, refl) tt
+
+pub ruleset spellings = (spells-tokens)

@@ -199,3 +199,5 @@ action-inside a h = record {
   spells = λ rest. (action-reads a (125 ∷ 125 ∷ rest) h refl).spells;
   unmarked = λ rest. solid-unmarked (action-reads a (125 ∷ 125 ∷ rest) h refl).firm;
 }
+
+pub ruleset tokens = (action-inside)

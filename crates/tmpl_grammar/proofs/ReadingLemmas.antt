@@ -36,3 +36,5 @@ held-reading ts = by (action_in ts) (told (λ a. SpellsAction a ts) (action_in t
     by : (o : Option Action) → IfSome o (λ a. SpellsAction a ts) → reading_held (option_map limited_action o) ≡ reading_of o
     by None s = refl
     by (Some a) s = held-by a (action-there a ts s)
+
+pub ruleset readings = (held-reading)

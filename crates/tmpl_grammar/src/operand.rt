@@ -47,6 +47,7 @@ fn front_len(tokens: &[Token<'_>]) -> usize
 }
 
 /// The tokens without the white space at their front.
+#[tactic(auto, using(crate::proofs::ListLemmas::fronts))]
 fn without_front<'t, 'b>(tokens: &'t [Token<'b>]) -> &'t [Token<'b>]
     ensures { map token_of result.now ≡ white.without_front (map token_of tokens.now) }
 {

@@ -1,4 +1,5 @@
 use Rattle.std.proofs.Common.{◌∙◌, ap, sym, arith, drop, refl}
+use Rattle.std.proofs.lemmas.Grind.{common_steps}
 use Rattle.tmpl_grammar.specs.computed.Quoted.{unquoted}
 use Rattle.tmpl_grammar.specs.computed.View.{rune_of}
 use Rattle.tmpl_grammar.proofs.ListLemmas.{take-rest}
@@ -6,9 +7,7 @@ use Rattle.tmpl_grammar.proofs.QuotedLemmas.{led, unquoted-first, unquoted-none,
 use Rattle.tmpl_grammar.proofs.constant.quoted.unquote.Goals as goal
 
 pub returns-in_default : goal.returns-in_default
-returns-in_default c =
-    sym (c.loop-rest.invariant
-    ∙ unquoted-none c.args.quote c.loop-rest.text.items c.loop-rest.rest.now (omega arith) (sym c.in_default.ensures.value))
+returns-in_default c = grind (arith, common_steps, unquoted-none)
 
 pub loop-rest-preserved : goal.loop-rest-preserved
 loop-rest-preserved c =
@@ -20,4 +19,4 @@ loop-rest-preserved c =
     ∙ ap (λ t. led c.add_to.new.text.items (unquoted c.args.quote t)) (sym (take-rest rest c.in-Some.len _ fits.1 refl))
 
 pub returns : goal.returns
-returns c = sym (c.loop-rest.invariant ∙ unquoted-end c.args.quote c.loop-rest.text.items c.loop-rest.rest.now (omega arith))
+returns c = grind (arith, common_steps, unquoted-end)
