@@ -27,16 +27,14 @@ split_pair-lengths x y bs before after e =
 -- ---- from one place of the first byte to the next
 
 behind-nil : (o : Option (List ℕ × List ℕ)) → behind [] o ≡ o
-behind-nil None = refl
-behind-nil (Some p) = refl
+behind-nil o = grind arith
 
 behind-behind : (a b : List ℕ) (o : Option (List ℕ × List ℕ)) → behind a (behind b o) ≡ behind (a ++ b) o
 behind-behind a b None = refl
 behind-behind a b (Some p) = ap (λ (t : List ℕ). Some (t, p.1)) (sym (append_assoc a b p.0))
 
 with_first-behind : (a : ℕ) (t : List ℕ) (o : Option (List ℕ × List ℕ)) → with_first a (behind t o) ≡ behind (a ∷ t) o
-with_first-behind a t None = refl
-with_first-behind a t (Some p) = refl
+with_first-behind a t o = grind arith
 
 -- the pair stands at no place before one up to which its first byte does not stand
 split_pair-passed : (x y : ℕ) (bs : List ℕ) (k : ℕ) → k ≤ length bs → Nowhere (Passes (is_byte x) bs) 0 k

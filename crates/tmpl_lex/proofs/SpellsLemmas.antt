@@ -18,7 +18,7 @@ use Rattle.tmpl_lex.specs.computed.Part.{pieces_of, ends_at}
 use Rattle.tmpl_lex.specs.computed.Token.{front_token}
 use Rattle.tmpl_lex.specs.computed.Trim.{End, right_delimiter}
 use Rattle.tmpl_lex.proofs.ActionLemmas.{drop-sub_one, inside-closed, inside-token, front_token-some}
-use Rattle.tmpl_lex.proofs.PartLemmas.{same-pair, absent-split, split-is}
+use Rattle.tmpl_lex.proofs.PartLemmas.{absent-split, split-is}
 use Rattle.tmpl_lex.proofs.StandLemmas.{Ends, found-ends, closes-found, found, stands}
 
 -- ---- tokens and an end
@@ -115,9 +115,7 @@ AtOpened line bs (tokens ts end) = HasClosed line bs end (action line ts ∷ [])
 AtOpened line bs neither = Unit {0}
 
 slash-is : (bs : List ℕ) → opens_comment bs ≡ true → bs ≡ 47 ∷ 42 ∷ drop 2 bs
-slash-is [] h = cc
-slash-is (a ∷ []) h = cc
-slash-is (a ∷ b ∷ bs) h = same-pair 47 42 a b bs h
+slash-is bs h = grind (arith, nat_tests)
 
 comment-is : (line : ℕ) (bs : List ℕ) → IfSome (comment_end bs) (λ end. HasClosed line bs end [])
 unfolding comment_end
@@ -172,9 +170,7 @@ closed-opened (an_action {trims = trims} {ts = ts} {closing = closing} {rest = r
     record { ends = simp (append_assoc, none, found); pieces = simp (append_assoc, none, found) }
 
 pub neither-closed : (bs : List ℕ) → opened bs ≡ neither → NoneClosed bs
-neither-closed bs e line body trims rest ps h is =
-    let o = closed-opened h in
-    cc
+neither-closed bs e = grind (arith, nat_tests, closed-opened)
 
 pub closed-neither : (bs : List ℕ) → NoneClosed bs → opened bs ≡ neither
 closed-neither bs h = go (opened bs) (opened-closed 0 bs)
