@@ -1,14 +1,13 @@
 -- For `one_constant`: the escapes that are computed are those that the relation admits.
-use Rattle.std.proofs.Common.{◌≡◌, ◌∙◌, ℕ, ◌+◌, ◌<◌, ◌≤◌, Bool, true, false, ◌&&◌, nat_eq, nat_lt, List, [], ◌∷◌, ◌++◌, length, Option, Some, IfSome}
-use Rattle.std.proofs.Common.{None, option_and_then, refl, ap, sym, arith, append_assoc, if◌then◌else◌, ltb-true}
+use Rattle.std.proofs.Common.{◌≡◌, ◌∙◌, ℕ, ◌+◌, ◌<◌, ◌≤◌, Bool, true, false, ◌&&◌, nat_eq, nat_lt, List, [], ◌∷◌, ◌++◌, length, Option, Some, IfSome, None}
+use Rattle.std.proofs.Common.{option_and_then, refl, ap, sym, arith, append_assoc, if◌then◌else◌, ltb-true}
 use Rattle.std.specs.Str.Parse.{digits_value}
 use Rattle.std.proofs.lemmas.Bool.{eqb-true, and_parts, cond_both}
 use Rattle.std.proofs.lemmas.Bool.Decides.{nat_tests}
 use lib.Utf8.{scalar}
 use Rattle.tmpl_values.specs.Rune.{Rune, char, byte}
 use Rattle.tmpl_values.specs.Quote.{letters, letter_of}
-use Rattle.tmpl_grammar.specs.Constant.Quoted.{AreDigits, IsEscape, a_letter, the_quote, octal, two_digits, four_digits, eight_digits}
-use Rattle.tmpl_grammar.specs.Constant.Quoted.{SpellsRunes, an_escape}
+use Rattle.tmpl_grammar.specs.Constant.Quoted.{AreDigits, IsEscape, a_letter, the_quote, octal, two_digits, four_digits, eight_digits, SpellsRunes, an_escape}
 use Rattle.tmpl_grammar.specs.computed.Quoted.{Spelled, as_byte, as_char, code, byte_named, coded, escape_by, escape, part_at}
 use Rattle.tmpl_grammar.proofs.DigitLemmas.{code-digits, code-tells, octal-digit, hex-byte}
 use Rattle.tmpl_grammar.proofs.OptionLemmas.{chained}

@@ -61,13 +61,9 @@ Leading quote bs r rs =
     (s : List ℕ) × (rest : List ℕ) × (bs ≡ s ++ rest) × (0 < length s) × (part_at quote (s ++ rest) ≡ Some (r, length s)) × SpellsRunes quote rest rs
 
 leading : (quote : ℕ) (bs : List ℕ) (r : Rune) (rs : List Rune) → IsMark quote → SpellsRunes quote bs (r ∷ rs) → Leading quote bs r rs
-leading quote _ _ _ m (a_char {c = c} {rest = rest} s other slash more) =
-    let n = length-encode c in
-    let first = char-at quote c rest (mark-low quote m) s slash other ∙ ap (λ n. Some (char c, n)) (sym n) in
-    (encode_utf8 c, rest, refl, omega (arith, n, len_utf8_bounds c), first, more)
+leading quote _ _ _ m (a_char {c = c} {rest = rest} s other slash more) = grind (arith, nat_tests, char-at, len_utf8_bounds, length-encode, mark-low)
 leading quote _ _ _ m (a_byte {b = b} {rest = rest} none more) = (b ∷ [], rest, refl, omega arith, byte-at quote b rest (mark-low quote m) none, more)
-leading quote _ _ _ m (an_escape {spelling = s} {rest = rest} {r = p} is more) =
-    (s, rest, refl, escape-some quote s p is, escape-at quote s rest p m is, more)
+leading quote _ _ _ m (an_escape {spelling = s} {rest = rest} {r = p} is more) = grind (arith, nat_tests, escape-at, escape-some)
 
 pub parts-computed : (quote : ℕ) (bs : List ℕ) (rs : List Rune) → IsMark quote → SpellsRunes quote bs rs → parts quote bs ≡ Some rs
 parts-computed quote _ [] m at_end = parts-nil quote

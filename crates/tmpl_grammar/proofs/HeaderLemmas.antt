@@ -8,9 +8,8 @@ use Rattle.tmpl_grammar.specs.computed.Token.{is_space_kind, is_white, next}
 use Rattle.tmpl_grammar.specs.Tree.{Pipeline, Binding, unbound, declare, assign, declare_pair, Header}
 use Rattle.tmpl_grammar.specs.Pipeline.{SpellsPipeline}
 use Rattle.tmpl_grammar.specs.Header.{IsSign, IsVariable, Then, may_bind, SpellsBinding, SpellsHeader}
-use Rattle.tmpl_grammar.specs.computed.Reading.{pipeline_in, VariableFront, variable_by, variable_front_at}
-use Rattle.tmpl_grammar.specs.computed.Reading.{variable_front, plain, second_by, second_variable, front_by, front_of_variable, front_in, split_by, split}
-use Rattle.tmpl_grammar.specs.computed.Reading.{header_with, header_if, header_by, header_in}
+use Rattle.tmpl_grammar.specs.computed.Reading.{pipeline_in, VariableFront, variable_by, variable_front_at, variable_front, plain, second_by, second_variable}
+use Rattle.tmpl_grammar.specs.computed.Reading.{front_by, front_of_variable, front_in, split_by, split, header_with, header_if, header_by, header_in}
 use Rattle.tmpl_grammar.proofs.PipelineLemmas.{reads-spelled, pipeline-admitted}
 use Rattle.tmpl_grammar.proofs.OptionLemmas.{mapped}
 use Rattle.tmpl_grammar.proofs.TokenLemmas.{first-is, led-then}

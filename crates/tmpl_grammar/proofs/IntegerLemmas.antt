@@ -1,7 +1,6 @@
 -- For `integer` and what it calls: digits, read from left to right by a loop.
-use Rattle.std.proofs.Common.{◌≡◌, ◌∙◌, ℕ, ◌+◌, ◌-◌, ◌*◌, ◌^◌, ◌<◌, ◌≤◌, Bool, true, false, List, [], ◌∷◌, Option, Some, None}
-use Rattle.std.proofs.Common.{if◌then◌else◌, filter, length, take, drop, get_or, refl, sym, ap, arith}
-use Rattle.std.proofs.Common.{le_refl, le_trans, mul-le-mul_left, option_and_then}
+use Rattle.std.proofs.Common.{◌≡◌, ◌∙◌, ℕ, ◌+◌, ◌-◌, ◌*◌, ◌^◌, ◌<◌, ◌≤◌, Bool, true, false, List, [], ◌∷◌, Option, Some, None, if◌then◌else◌, filter, length}
+use Rattle.std.proofs.Common.{take, drop, get_or, refl, sym, ap, arith, le_refl, le_trans, mul-le-mul_left, option_and_then}
 use Rattle.std.specs.List.{list_all}
 use Rattle.std.specs.Char.{is_digit, digit_value}
 use Rattle.std.specs.Str.Parse.{digits_value_after}

@@ -1,6 +1,6 @@
 -- For `one_constant`: the whole constants that are computed are those that the relation admits.
-use Rattle.std.proofs.Common.{arith, ◌≡◌, ◌∙◌, ℕ, ℤ, pos, ◌^◌, ◌<◌, ◌≤◌, Bool, true, false, nat_eq}
-use Rattle.std.proofs.Common.{List, [], ◌∷◌, filter, Option, Some, None, IfSome, option_and_then, refl}
+use Rattle.std.proofs.Common.{arith, ◌≡◌, ◌∙◌, ℕ, ℤ, pos, ◌^◌, ◌<◌, ◌≤◌, Bool, true, false, nat_eq, List, [], ◌∷◌, filter, Option, Some, None, IfSome}
+use Rattle.std.proofs.Common.{option_and_then, refl}
 use Rattle.std.specs.List.{list_all}
 use Rattle.std.specs.Char.{is_digit}
 use Rattle.std.specs.Str.Parse.{digits_value}
@@ -8,8 +8,7 @@ use Rattle.std.proofs.lemmas.Bool.{eqb-true, eqb-false, and_parts, cond_both, le
 use Rattle.std.proofs.lemmas.Bool.Decides.{nat_tests}
 use Rattle.tmpl_grammar.specs.Constant.Integer.{AreParted, no_digit, digit, parted, base_named, IsMagnitude, decimal, octal, based, IsInteger, minus, plus}
 use Rattle.tmpl_grammar.specs.Constant.Integer.{unsigned}
-use Rattle.tmpl_grammar.specs.computed.Integer.{is_plain, underscores_part, parted_number, number_by, behind_zero}
-use Rattle.tmpl_grammar.specs.computed.Integer.{magnitude, signed, integer}
+use Rattle.tmpl_grammar.specs.computed.Integer.{is_plain, underscores_part, parted_number, number_by, behind_zero, magnitude, signed, integer}
 use Rattle.tmpl_grammar.proofs.OptionLemmas.{chained}
 
 -- ---- digits
@@ -27,14 +26,8 @@ module _ (base : ℕ) (low : base ≤ 16) where
   -- underscores part them, and without these they are digits
   parted-computed : {bs ds : List ℕ} → AreParted base bs ds → (underscores_part bs ≡ true) × (filter is_plain bs ≡ ds) × (are_digits base ds ≡ true)
   parted-computed no_digit = (refl, refl, refl)
-  parted-computed (digit {d = d} is rest) =
-      let (part, kept, all) = parted-computed rest in
-      let plain = digit-plain base d low is in
-      (simp (plain, part), simp (plain, kept), simp (is, all))
-  parted-computed (parted {d = d} {ds = ds} rest) =
-      let (part, kept, all) = parted-computed rest in
-      let plain = digit-plain base d low (first-digit base d ds all) in
-      (simp plain (simp plain at part), kept, all)
+  parted-computed (digit {d = d} is rest) = grind (arith, nat_tests, parted-computed rest, digit-plain)
+  parted-computed (parted {d = d} {ds = ds} rest) = grind (arith, nat_tests, parted-computed rest, digit-plain, first-digit)
 
   parted-number : {bs ds : List ℕ} → AreParted base bs ds → parted_number base bs ≡ Some (digits_value base ds)
   parted-number a = let (part, kept, all) = parted-computed a in simp (part, kept, all)

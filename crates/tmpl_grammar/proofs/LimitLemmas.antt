@@ -1,10 +1,9 @@
 -- For `pipeline` and `commands_in`, which let go of what stands in parentheses where they nest too deep: they read just
 -- the tokens that are read without a limit.
-use Rattle.std.proofs.Common.{arith, ◌≡◌, ◌∙◌, ◌<◌, ℕ, Bool, true, false, nat_le, List, [], ◌∷◌, Option, Some, None, IfSome}
-use Rattle.std.proofs.Common.{refl, ap, sym, map}
+use Rattle.std.proofs.Common.{arith, ◌≡◌, ◌∙◌, ◌<◌, ℕ, Bool, true, false, nat_le, List, [], ◌∷◌, Option, Some, None, IfSome, refl, ap, sym, map, option_map}
+use Rattle.std.proofs.Common.{option_and_then}
 use Rattle.std.proofs.lemmas.Bool.Decides.{nat_tests}
 use Rattle.std.proofs.lemmas.List.{map-append}
-use Rattle.std.specs.Option.{option_map, option_and_then}
 use Rattle.std.proofs.lemmas.Option.{IfSome_then}
 use Rattle.tmpl_lex.specs.declared.piece.TokenKind.{TokenKind}
 use Rattle.tmpl_lex.specs.Piece.{Token}
@@ -13,8 +12,7 @@ use Rattle.tmpl_grammar.specs.Tree.{Operand, Operands, Pipeline, operands_from, 
 use Rattle.tmpl_grammar.specs.Depth.{depth_of_pipeline, most_deep}
 use Rattle.tmpl_grammar.specs.computed.Depth.{limited_pipeline}
 use Rattle.tmpl_grammar.specs.computed.Limited.{deepest, emptied, pruned, pruned_step, pruned_steps, pruned_commands, limited_commands}
-use Rattle.tmpl_grammar.specs.computed.Parser.{Parser, Partial, settled, more_commands, may_stand, step, step_by}
-use Rattle.tmpl_grammar.specs.computed.Parser.{steps, finished, commands_after, start}
+use Rattle.tmpl_grammar.specs.computed.Parser.{Parser, Partial, settled, more_commands, may_stand, step, step_by, steps, finished, commands_after, start}
 use Rattle.tmpl_grammar.specs.computed.Reading.{pipeline_in}
 use Rattle.tmpl_grammar.proofs.DepthLemmas.{pipeline-depth}
 use Rattle.tmpl_grammar.proofs.PipelineLemmas.{pipeline-admitted}

@@ -1,6 +1,5 @@
 -- For the laws of this crate: options and what holds of their values, which each step of a reading gives.
-use Rattle.std.proofs.Common.{◌≡◌, Option, Some, None, IfSome, refl, subst}
-use Rattle.std.specs.Option.{option_map, option_and_then}
+use Rattle.std.proofs.Common.{◌≡◌, Option, Some, None, IfSome, refl, subst, option_map, option_and_then}
 use Rattle.tmpl_grammar.specs.Laws.{IsAdmitted}
 
 pub no-value : {A B : Type 0} (x : A) → None ≡ Some x → B

@@ -1,10 +1,8 @@
 -- For what can be printed: the constants that tokens are, are numbers within the range, and texts of bytes.
-use Rattle.std.proofs.Common.{arith, ℕ, ◌^◌, ◌<◌, ◌≤◌, not, nat_eq}
-use Rattle.std.proofs.Common.{List, [], ◌∷◌, ◌++◌, refl, pos, neg_ℤ, ⊎_elim}
+use Rattle.std.proofs.Common.{arith, ℕ, ◌^◌, ◌<◌, ◌≤◌, not, nat_eq, List, [], ◌∷◌, ◌++◌, refl, pos, neg_ℤ, ⊎_elim, flat_map}
 use lib.IntN.{ℤ}
 use lib.Signed.{mag}
 use lib.Utf8.{scalar_cases}
-use Rattle.std.specs.List.{flat_map}
 use Rattle.std.specs.Char.{encode_utf8, IsScalar}
 use Rattle.std.proofs.lemmas.Bool.{cond_both}
 use Rattle.std.proofs.lemmas.Bool.Decides.{nat_tests}
@@ -16,8 +14,7 @@ use Rattle.tmpl_grammar.specs.Tree.{Operand}
 use Rattle.tmpl_grammar.specs.Constant as constant
 use Rattle.tmpl_grammar.specs.Constant.{IsConstant}
 use Rattle.tmpl_grammar.specs.Constant.Integer.{IsInteger}
-use Rattle.tmpl_grammar.specs.Constant.Quoted.{code_of, without_returns, IsEscape}
-use Rattle.tmpl_grammar.specs.Constant.Quoted.{SpellsRunes, at_end, a_char, a_byte, an_escape}
+use Rattle.tmpl_grammar.specs.Constant.Quoted.{code_of, without_returns, IsEscape, SpellsRunes, at_end, a_char, a_byte, an_escape}
 use Rattle.tmpl_grammar.specs.Printable.{OfOperand}
 use Rattle.tmpl_grammar.proofs.DigitLemmas.{hex-byte}
 use Rattle.tmpl_grammar.proofs.PrintableTokenLemmas.{bytes-front}

@@ -8,17 +8,16 @@ use Rattle.tmpl_lex.specs.Piece.{Token}
 use Rattle.tmpl_lex.specs.declared.piece.TokenKind.TheVariants as kind
 use Rattle.tmpl_grammar.specs.Tree as tree
 use Rattle.tmpl_grammar.specs.Tree.{Operand, Operands, Pipeline, Binding, unbound, declare, assign, Header, declare_pair}
-use Rattle.tmpl_grammar.specs.Action.{Action, pipeline_action, opening, else_branch, define_action, template_action, block_action}
-use Rattle.tmpl_grammar.specs.Action.{IsQuoted, SpellsGiven, SpellsAction}
+use Rattle.tmpl_grammar.specs.Action.{Action, pipeline_action, opening, else_branch, define_action, template_action, block_action, IsQuoted, SpellsGiven}
+use Rattle.tmpl_grammar.specs.Action.{SpellsAction}
 use Rattle.tmpl_grammar.specs.Pipeline.{IsBlank, IsChain, SpellsOperand, SpellsMore, SpellsCommand, SpellsLater, SpellsPipeline}
 use Rattle.tmpl_grammar.specs.Header.{is_range, Then, IsVariable, IsSign, SpellsHeader, SpellsBinding}
 use Rattle.tmpl_grammar.specs.Constant.{IsConstant}
 use Rattle.tmpl_grammar.specs.Operand as operand
 use Rattle.tmpl_grammar.specs.Operand.{IsOperand}
 use Rattle.tmpl_grammar.specs.Constant as constant
-use Rattle.tmpl_grammar.specs.Print.{token, space, word, chain_tokens, operand_tokens, more_tokens, command_tokens}
-use Rattle.tmpl_grammar.specs.Print.{later_tokens, pipeline_tokens, header_tokens, action_tokens, binding_tokens}
-use Rattle.tmpl_grammar.specs.Print.{given_tokens}
+use Rattle.tmpl_grammar.specs.Print.{token, space, word, chain_tokens, operand_tokens, more_tokens, command_tokens, later_tokens, pipeline_tokens}
+use Rattle.tmpl_grammar.specs.Print.{header_tokens, action_tokens, binding_tokens, given_tokens}
 use Rattle.tmpl_grammar.specs.Printable.{AreFieldNames, OfOperand, OfMore, OfCommand, OfLater, OfCommands, OfPipeline, OfBinding, OfGiven, OfAction, OfHeader}
 use Rattle.tmpl_grammar.proofs.QuotePartLemmas.{inside-spelled}
 use Rattle.tmpl_grammar.proofs.PrintedNumberLemmas.{integer-spelled}

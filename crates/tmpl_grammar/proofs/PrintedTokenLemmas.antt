@@ -1,6 +1,6 @@
 -- For `printed_tokens`: the tokens of a printed pipeline or action are read from its bytes.
-use Rattle.std.proofs.Common.{arith, nat_eq, not, ◌&&◌, codes, ◌≡◌, ℕ, Bool, true, false, List, []}
-use Rattle.std.proofs.Common.{◌∷◌, ◌++◌, Option, Some, None, refl, sym, subst, append_assoc}
+use Rattle.std.proofs.Common.{arith, nat_eq, not, ◌&&◌, codes, ◌≡◌, ℕ, Bool, true, false, List, [], ◌∷◌, ◌++◌, Option, Some, None, refl, sym, subst}
+use Rattle.std.proofs.Common.{append_assoc}
 use Rattle.tmpl_values.specs.Quote.{quote}
 use Rattle.tmpl_values.specs.Printable.{printable}
 use Rattle.tmpl_funcs.specs.declared.func.Func.{Func}
@@ -21,14 +21,13 @@ use Rattle.tmpl_grammar.specs.Action.{Action, pipeline_action, opening, plain_el
 use Rattle.tmpl_grammar.specs.Action.{template_action, block_action, control_in}
 use Rattle.tmpl_grammar.specs.Keyword.{control_spelling}
 use Rattle.tmpl_values.specs.Text.{truth_text}
-use Rattle.tmpl_grammar.specs.Print.{bytes_of, Spells, IsInside, token, space, word, variable_token, chain_tokens, operand_tokens, more_tokens}
-use Rattle.tmpl_grammar.specs.Print.{command_tokens, later_tokens, pipeline_tokens, header_tokens, action_tokens}
-use Rattle.tmpl_grammar.specs.Print.{binding_tokens, given_tokens}
-use Rattle.tmpl_grammar.specs.Printable.{IsNamed, IsFieldName, AreFieldNames, OfOperand, OfMore, OfCommand, OfLater, OfCommands}
-use Rattle.tmpl_grammar.specs.Printable.{OfPipeline, OfBinding, OfGiven, OfAction}
+use Rattle.tmpl_grammar.specs.Print.{bytes_of, Spells, IsInside, token, space, word, variable_token, chain_tokens, operand_tokens, more_tokens, command_tokens}
+use Rattle.tmpl_grammar.specs.Print.{later_tokens, pipeline_tokens, header_tokens, action_tokens, binding_tokens, given_tokens}
+use Rattle.tmpl_grammar.specs.Printable.{IsNamed, IsFieldName, AreFieldNames, OfOperand, OfMore, OfCommand, OfLater, OfCommands, OfPipeline, OfBinding, OfGiven}
+use Rattle.tmpl_grammar.specs.Printable.{OfAction}
 use Rattle.tmpl_grammar.specs.declared.tree.Control.{Control}
-use Rattle.tmpl_grammar.proofs.FrontLemmas.{IsFront, Solid, solid, solid-unmarked, stops-name, word-front, field-front, variable-front}
-use Rattle.tmpl_grammar.proofs.FrontLemmas.{space-front, bytes-append, spells-append}
+use Rattle.tmpl_grammar.proofs.FrontLemmas.{IsFront, Solid, solid, solid-unmarked, stops-name, word-front, field-front, variable-front, space-front}
+use Rattle.tmpl_grammar.proofs.FrontLemmas.{bytes-append, spells-append}
 use Rattle.tmpl_grammar.proofs.QuoteTokenLemmas.{quoted-inside}
 use Rattle.tmpl_grammar.proofs.PrintedNumberLemmas.{number-stands}
 

@@ -1,7 +1,6 @@
 -- For `printed_spelling`: what stands between the quotes of a quote spells the text.
-use Rattle.std.proofs.Common.{◌≡◌, ◌∙◌, ℕ, ◌^◌, ◌<◌, Bool, true, false, nat_eq, nat_lt, ◌||◌, List, [], ◌∷◌, ◌++◌, Option, Some, None}
-use Rattle.std.proofs.Common.{refl, sym, ap, subst, arith, if◌then◌else◌}
-use Rattle.std.specs.List.{flat_map}
+use Rattle.std.proofs.Common.{◌≡◌, ◌∙◌, ℕ, ◌^◌, ◌<◌, Bool, true, false, nat_eq, nat_lt, ◌||◌, List, [], ◌∷◌, ◌++◌, Option, Some, None, refl, sym, ap, subst}
+use Rattle.std.proofs.Common.{arith, if◌then◌else◌, flat_map}
 use Rattle.std.specs.Char.{encode_utf8, IsScalar}
 use Rattle.std.proofs.lemmas.Bool.{eqb-true, eqb-false}
 use Rattle.std.proofs.lemmas.Bool.Decides.{nat_tests}
@@ -11,8 +10,7 @@ use Rattle.tmpl_values.specs.Rune.{Rune, char, byte, bytes_in, runes}
 use Rattle.tmpl_values.specs.Quote.{letters, letter_of, hexes, rune_spelling, spelling, inside}
 use Rattle.tmpl_values.specs.Bytes.{AreBytes}
 use Rattle.tmpl_values.proofs.RuneLemmas.{IsRune, AreRunes, are_runes, text-runes}
-use Rattle.tmpl_grammar.specs.Constant.Quoted.{IsEscape, a_letter, the_quote, two_digits, four_digits, eight_digits}
-use Rattle.tmpl_grammar.specs.Constant.Quoted.{SpellsRunes, at_end, a_char, an_escape}
+use Rattle.tmpl_grammar.specs.Constant.Quoted.{IsEscape, a_letter, the_quote, two_digits, four_digits, eight_digits, SpellsRunes, at_end, a_char, an_escape}
 use Rattle.tmpl_grammar.proofs.HexLemmas.{are-hexes, value-hexes}
 
 -- bytes between double quotes that spell the runes of this text

@@ -1,7 +1,7 @@
 -- For `printed_tokens`: a quote is one string token, whatever stands behind it.
-use Rattle.std.proofs.Common.{◌≡◌, ◌∙◌, ℕ, zero, suc, ◌/◌, ◌%◌, ◌<◌, Bool, true, false, nat_eq, List, [], ◌∷◌, ◌++◌, get_or}
-use Rattle.std.proofs.Common.{Option, Some, None, if◌then◌else◌, refl, sym, ap, arith, append-nil, not, ◌||◌}
-use Rattle.std.specs.List.{flat_map, list_all}
+use Rattle.std.proofs.Common.{◌≡◌, ◌∙◌, ℕ, zero, suc, ◌/◌, ◌%◌, ◌<◌, Bool, true, false, nat_eq, List, [], ◌∷◌, ◌++◌, get_or, Option, Some, None, if◌then◌else◌}
+use Rattle.std.proofs.Common.{refl, sym, ap, arith, append-nil, not, ◌||◌, flat_map}
+use Rattle.std.specs.List.{list_all}
 use Rattle.std.proofs.lemmas.Bool.{and_parts}
 use Rattle.std.proofs.lemmas.List.Elements.{All-from_get_or}
 use Rattle.std.proofs.lemmas.List.Folds.{list_all-append}
@@ -10,8 +10,7 @@ use Rattle.std.specs.Char.{encode_utf8, digit_char}
 use Rattle.std.proofs.lemmas.Bool.Decides.{nat_tests}
 use Rattle.std.proofs.lemmas.Str.{inside_one}
 use Rattle.tmpl_lex.specs.Token.{IsQuoted, no_byte, a_byte, an_escape}
-use Rattle.tmpl_values.specs.Rune.{Rune}
-use Rattle.tmpl_values.specs.Rune.{runes}
+use Rattle.tmpl_values.specs.Rune.{Rune, runes}
 use Rattle.tmpl_values.specs.Quote.{letters, letter_of, hexes, rune_spelling, spelling, inside}
 use Rattle.tmpl_grammar.proofs.QuotePartLemmas.{letter-no-newline}
 

@@ -1,7 +1,6 @@
 -- For `unquote`: the parts of a text between quotes, from the first one on.
-use Rattle.std.proofs.Common.{◌≡◌, ℕ, zero, suc, ◌<◌, ◌≤◌, List, [], ◌∷◌, ◌++◌, length, drop, Option, Some, None, refl, sym, ap}
-use Rattle.std.proofs.Common.{arith, option_map, append_assoc, append-nil}
-use Rattle.std.specs.List.{flat_map}
+use Rattle.std.proofs.Common.{◌≡◌, ℕ, zero, suc, ◌<◌, ◌≤◌, List, [], ◌∷◌, ◌++◌, length, drop, Option, Some, None, refl, sym, ap, arith, option_map}
+use Rattle.std.proofs.Common.{append_assoc, append-nil, flat_map}
 use Rattle.tmpl_values.specs.Rune.{Rune, bytes_in}
 use Rattle.tmpl_grammar.specs.computed.Quoted.{Spelled, part_at, with_part, parts_after, parts, unquoted}
 
@@ -48,3 +47,5 @@ unquoted-none quote s bs h is = simp (parts-none quote bs h is)
 pub unquoted-end : (quote : ℕ) (s bs : List ℕ) → length bs ≤ 0 → led s (unquoted quote bs) ≡ Some s
 unquoted-end quote s [] h = simp (parts-nil quote, append-nil)
 unquoted-end quote s (b ∷ bs) h = absurd (omega arith)
+
+pub ruleset ends = (unquoted-none, unquoted-end)

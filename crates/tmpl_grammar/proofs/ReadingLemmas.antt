@@ -1,13 +1,11 @@
 -- For `read_action`: of an action that tokens spell, a pipeline is left out just where it nests too deep.
-use Rattle.std.proofs.Common.{arith, ◌≡◌, false, List, Option, Some, None, IfSome, refl}
-use Rattle.std.specs.Option.{option_map}
+use Rattle.std.proofs.Common.{arith, ◌≡◌, false, List, Option, Some, None, IfSome, refl, option_map}
 use Rattle.tmpl_lex.specs.Piece.{Token}
 use Rattle.tmpl_grammar.specs.Tree.{Pipeline, Binding}
 use Rattle.tmpl_grammar.specs.Action.{Action, pipeline_action, opening, else_branch, template_action, block_action, SpellsAction}
 use Rattle.tmpl_grammar.specs.Pipeline.{SpellsPipeline}
 use Rattle.tmpl_grammar.specs.Header.{SpellsBinding}
-use Rattle.tmpl_grammar.specs.computed.Depth.{reading_of, limited_action, is_left_out, lacks_pipeline}
-use Rattle.tmpl_grammar.specs.computed.Depth.{reading_held}
+use Rattle.tmpl_grammar.specs.computed.Depth.{reading_of, limited_action, is_left_out, lacks_pipeline, reading_held}
 use Rattle.tmpl_grammar.specs.computed.Reading.{action_in}
 use Rattle.tmpl_grammar.proofs.ActionLemmas.{spells-action}
 use Rattle.tmpl_grammar.proofs.OptionLemmas.{told}

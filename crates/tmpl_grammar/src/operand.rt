@@ -23,7 +23,7 @@ fn is_white(token: &Token<'_>) -> bool
 }
 
 /// Whether there is nothing but white space.
-#[tactic(auto, using(crate::proofs::SliceLemmas::views))]
+#[tactic(auto, using(crate::proofs::ListLemmas::views))]
 pub(crate) fn is_blank(tokens: &[Token<'_>]) -> bool
     ensures { result ≡ white.is_blank (map token_of tokens.now) }
 {
@@ -38,7 +38,7 @@ fn all_white(tokens: &[Token<'_>]) -> bool
 }
 
 /// How many tokens of white space there are at the front.
-#[tactic(auto, using(crate::proofs::SliceLemmas::runs))]
+#[tactic(auto, using(crate::proofs::ListLemmas::runs))]
 fn front_len(tokens: &[Token<'_>]) -> usize
     ensures count { result ≡ prefix_len (λ t. white.is_white (token_of t)) tokens.now }
     ensures within { result ≤ length tokens.now }
