@@ -1,6 +1,6 @@
 -- For the law `one_cut`: what is computed behind a `{{` is what the relations say.
-use Rattle.std.proofs.Common.{◌≡◌, ◌∙◌, ℕ, zero, suc, ◌-◌, Bool, true, false, ◌&&◌, nat_eq, List, [], ◌∷◌, ◌++◌, Option, IfSome}
-use Rattle.std.proofs.Common.{Some, None, refl, sym, ap, length, drop, append_assoc, arith, ◌<◌}
+use Rattle.std.proofs.Common.{◌≡◌, ◌∙◌, ℕ, zero, suc, ◌-◌, Bool, true, false, ◌&&◌, nat_eq, List, [], ◌∷◌, ◌++◌, Option, IfSome, Some, None, refl, sym, ap}
+use Rattle.std.proofs.Common.{length, drop, append_assoc, arith, ◌<◌}
 use Rattle.std.proofs.Math.Seq.{drop-append_seam}
 use Rattle.std.proofs.lemmas.Bool.{eqb-true, and_parts, false_from_ne_true}
 use Rattle.std.proofs.lemmas.Bool.Decides.{nat_tests}
@@ -10,9 +10,8 @@ use Rattle.tmpl_lex.specs.Delimiter.{Closes, closes, closes_marked}
 use Rattle.tmpl_lex.specs.Laws.{IsFound, BeginsWith}
 use Rattle.tmpl_lex.specs.Piece.{Token, Piece, action}
 use Rattle.tmpl_lex.specs.Token.{bytes_of, Spells}
-use Rattle.tmpl_lex.specs.computed.Action.{Inside, inside, inside_after, inside_from, with_token, Opened, comment}
-use Rattle.tmpl_lex.specs.computed.Action.{tokens, neither, opened, opened_by, opens_comment, comment_closed}
-use Rattle.tmpl_lex.specs.computed.Action.{comment_end}
+use Rattle.tmpl_lex.specs.computed.Action.{Inside, inside, inside_after, inside_from, with_token, Opened, comment, tokens, neither, opened, opened_by}
+use Rattle.tmpl_lex.specs.computed.Action.{opens_comment, comment_closed, comment_end}
 use Rattle.tmpl_lex.specs.computed.Bytes.{split_pair}
 use Rattle.tmpl_lex.specs.computed.Part.{pieces_of, ends_at}
 use Rattle.tmpl_lex.specs.computed.Token.{front_token}

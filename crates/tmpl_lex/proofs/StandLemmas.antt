@@ -1,9 +1,8 @@
 -- For the law `one_token`: the token that is computed at the front of bytes is the one of the table, row by row.
-use Rattle.std.proofs.Common.{arith, ◌≡◌, ◌∙◌, ℕ, zero, suc, ◌-◌, Bool, true, false, ◌&&◌, not, nat_eq, List, [], ◌∷◌, ◌++◌}
-use Rattle.std.proofs.Common.{Option, Some, None, IfSome, get_or, ◌<◌, refl, sym, ap, subst, length, take, drop, length-append, append_assoc, if◌then◌else◌}
-use Rattle.std.proofs.Common.{codes}
+use Rattle.std.proofs.Common.{arith, ◌≡◌, ◌∙◌, ℕ, zero, suc, ◌-◌, Bool, true, false, ◌&&◌, not, nat_eq, List, [], ◌∷◌, ◌++◌, Option, Some, None, IfSome, get_or}
+use Rattle.std.proofs.Common.{◌<◌, refl, sym, ap, subst, length, take, drop, length-append, append_assoc, if◌then◌else◌, codes, take_while}
 use Rattle.std.specs.Char.{is_ascii_digit}
-use Rattle.std.specs.List.{prefix_len, list_all, take_while}
+use Rattle.std.specs.List.{prefix_len, list_all}
 use Rattle.std.proofs.lemmas.Bool.{eqb-true, eq-eqb, and_parts, both_ways, false_from_ne_true}
 use Rattle.std.proofs.lemmas.Bool.Decides.{nat_tests}
 use Rattle.std.proofs.Math.Bool.{and-false, and-true}
@@ -21,8 +20,7 @@ use Rattle.tmpl_lex.specs.Piece.{Token}
 use Rattle.tmpl_lex.specs.Token as table
 use Rattle.tmpl_lex.specs.Token.{IsToken, IsQuoted, no_byte, a_byte, an_escape, IsSign, no_sign, plus, minus, EndsSpace, at_byte, at_marker}
 use Rattle.tmpl_lex.specs.computed.Quoted.{up_to, unless, through, quoted}
-use Rattle.tmpl_lex.specs.computed.Token.{Begun, marked, begun, token_from, signed, dotted}
-use Rattle.tmpl_lex.specs.computed.Token.{assigned, of_kind, space_run, unmarked, name_run}
+use Rattle.tmpl_lex.specs.computed.Token.{Begun, marked, begun, token_from, signed, dotted, assigned, of_kind, space_run, unmarked, name_run}
 use Rattle.tmpl_lex.specs.computed.Trim.{End, ended_by, has_right_delimiter, has_dashed_delimiter, right_marked, right_delimiter}
 use Rattle.tmpl_lex.proofs.PartLemmas.{run-length, run-taken, taken-run, taken-rest}
 

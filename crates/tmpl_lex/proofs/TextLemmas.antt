@@ -1,7 +1,6 @@
 -- For the law `one_cut`: what trim markers leave of a text, as it is computed and as the relation says.
-use Rattle.std.proofs.Common.{arith, ◌≡◌, ◌∙◌, ℕ, ◌-◌, Bool, true, false, List, [], ◌∷◌}
-use Rattle.std.proofs.Common.{◌++◌, refl, sym, ap, subst, length, take, drop, append_assoc, length-append, length-drop}
-use Rattle.std.proofs.Common.{reverse}
+use Rattle.std.proofs.Common.{arith, ◌≡◌, ◌∙◌, ℕ, ◌-◌, Bool, true, false, List, [], ◌∷◌, ◌++◌, refl, sym, ap, subst, length, take, drop, append_assoc}
+use Rattle.std.proofs.Common.{length-append, length-drop, reverse}
 use Rattle.std.specs.List.{suffix_len, list_all}
 use Rattle.std.proofs.lemmas.Bool.{and_parts}
 use Rattle.std.proofs.lemmas.List.{take_all, take-append-drop, reverse-append, reverse-reverse, length-reverse}
