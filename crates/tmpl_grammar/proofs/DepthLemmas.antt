@@ -1,15 +1,11 @@
 -- For `is_shallow` and `pipeline`: a pipeline is as deep as the parentheses of its tokens are open at most.
-use Rattle.std.proofs.Common.{arith, ◌≡◌, ◌∙◌, ◌≤◌, ℕ, suc, ◌+◌, ◌-◌, ◌<◌, max, nat_le, false, List, [], ◌∷◌, ◌++◌}
-use Rattle.std.proofs.Common.{refl, ap, subst, append_assoc, append-nil}
+use Rattle.std.proofs.Common.{arith, ◌≡◌, ◌∙◌, ◌≤◌, ℕ, suc, ◌+◌, ◌-◌, ◌<◌, max, nat_le, false, List, [], ◌∷◌, ◌++◌, refl, ap, subst, append_assoc, append-nil}
 use Rattle.std.proofs.lemmas.Bool.Decides.{nat_tests}
 use Rattle.tmpl_lex.specs.declared.piece.TokenKind.{TokenKind}
 use Rattle.tmpl_lex.specs.declared.piece.TokenKind.TheVariants as kind
 use Rattle.tmpl_lex.specs.Piece.{Token}
 use Rattle.tmpl_grammar.specs.Tree as tree
 use Rattle.tmpl_grammar.specs.Tree.{Operand, Operands, Pipeline}
-use Rattle.tmpl_grammar.specs.Constant as constant
-use Rattle.tmpl_grammar.specs.Constant.{IsConstant}
-use Rattle.tmpl_grammar.specs.Operand as operand
 use Rattle.tmpl_grammar.specs.Operand.{IsOperand}
 use Rattle.tmpl_grammar.specs.Pipeline.{IsBlank, IsChain, IsChained, SpellsOperand, SpellsMore, SpellsCommand, SpellsLater, SpellsPipeline}
 use Rattle.tmpl_grammar.specs.Depth.{depth_of_operand, depth_of_operands, depth_of_pipeline}
@@ -37,10 +33,7 @@ none-nests n us = let low = least n us in omega (arith, low)
 
 -- a token that is no parenthesis, and tokens behind it
 one-nests : (t : Token) (ts : List Token) (d : ℕ) → ((n : ℕ) → depth_behind t.kind n ≡ n) → Nests d ts → Nests d (t ∷ ts)
-one-nests t ts d same h n us =
-    let here = ap (λ m. deepest m (ts ++ us)) (same n) in
-    let more = h n us in
-    omega (arith, here, more)
+one-nests t ts d same h = grind arith
 
 of-kind : (t : Token) (ts : List Token) (d : ℕ) (k : TokenKind) → t.kind ≡ k → ((n : ℕ) → depth_behind k n ≡ n) → Nests d ts → Nests d (t ∷ ts)
 of-kind t ts d k is same = one-nests t ts d (λ n. ap (λ k. depth_behind k n) is ∙ same n)
@@ -62,15 +55,8 @@ chain-nests [] ts c = rw c none-nests
 chain-nests (n ∷ names) ts (t, us, is, field, begins, name, rest) =
     rw is (of-kind t us 0 kind.Field field (λ n. refl) (chain-nests names us rest))
 
-constant-apart : (t : Token) (o : Operand) → IsConstant t o → (n : ℕ) → depth_behind t.kind n ≡ n
-constant-apart _ _ (constant.number is) n = refl
-constant-apart _ _ _ n = refl
-
 operand-apart : (t : Token) (o : Operand) → IsOperand t o → (n : ℕ) → depth_behind t.kind n ≡ n
-operand-apart t o (operand.field is begins) n = ap (λ k. depth_behind k n) is
-operand-apart t o (operand.variable is) n = ap (λ k. depth_behind k n) is
-operand-apart t o (operand.a_constant is) n = constant-apart t o is n
-operand-apart _ _ _ n = refl
+operand-apart t o is n = grind arith
 
 chained-nests : (o : Operand) (names : List (List ℕ)) (ts : List Token) → IsChained o names ts → Nests 0 ts
 chained-nests o names ts (t, us, is, at, chain) = rw is (one-nests t us 0 (operand-apart t o at) (chain-nests names us chain))

@@ -1,12 +1,12 @@
 -- For `one_constant`: digits at the front, and the number that they write, as escapes have them.
-use Rattle.std.proofs.Common.{◌≡◌, ◌∙◌, ℕ, ◌+◌, ◌*◌, ◌<◌, ◌≤◌, true, List, [], ◌∷◌, ◌++◌, length, take, drop}
-use Rattle.std.proofs.Common.{Some, nat_le, refl, sym, ap, arith, length-append}
+use Rattle.std.proofs.Common.{◌≡◌, ℕ, ◌+◌, ◌*◌, ◌<◌, ◌≤◌, true, List, [], ◌∷◌, ◌++◌, length, take, drop, IfSome, Some}
+use Rattle.std.proofs.Common.{nat_le, refl, sym, arith, length-append, length-take, leb-true, lt-ltb, ltb-true}
 use Rattle.std.specs.List.{list_all}
 use Rattle.std.specs.Char.{digit_value, is_digit}
 use Rattle.std.specs.Str.Parse.{AllDigits, digits_value}
 use Rattle.std.proofs.Math.Seq.{take-append_seam}
-use Rattle.std.proofs.lemmas.List.{take-append-drop, length-take}
-use Rattle.std.proofs.lemmas.Bool.{and_parts, lt-ltb, ltb-true}
+use Rattle.std.proofs.lemmas.List.{take-append-drop}
+use Rattle.std.proofs.lemmas.Bool.{and_parts, cond_both}
 use Rattle.std.proofs.lemmas.Bool.Decides.{nat_tests}
 use Rattle.tmpl_grammar.specs.Constant.Quoted.{AreDigits}
 use Rattle.tmpl_grammar.specs.computed.Quoted.{code}
@@ -23,30 +23,15 @@ digits-all base (d ∷ ds) h =
 
 -- so many digits at the front are read
 pub code-digits : (base count : ℕ) (ds rest : List ℕ) → AreDigits base count ds → code base count (ds ++ rest) ≡ Some (digits_value base ds)
-code-digits base count ds rest are =
-    let long : nat_le count (length (ds ++ rest)) ≡ true = grind (arith, nat_tests, length-append ds rest, are.0) in
-    let front : take count (ds ++ rest) ≡ ds = ap (λ n. take n (ds ++ rest)) (sym are.0) ∙ take-append_seam ds rest in
-    simp (long, front, all-digits base ds are.1)
+code-digits base count ds rest h = grind (arith, nat_tests, all-digits, length-append, take-append_seam)
 
--- so many digits at the front, and the number that they write
-pub record FrontDigits (base count : ℕ) (bs : List ℕ) (n : ℕ) : Type 0 where
-  pub ds : List ℕ
-  pub rest : List ℕ
-  pub is : bs ≡ ds ++ rest
-  pub are : AreDigits base count ds
-  pub value : digits_value base ds ≡ n
-
-pub code-tells : (base count : ℕ) (bs : List ℕ) (n : ℕ) → code base count bs ≡ Some n → FrontDigits base count bs n
-code-tells base count bs n e =
-    let fits : count ≤ length bs = grind (arith, nat_tests) in
-    let all : list_all (λ d. is_digit d base) (take count bs) ≡ true = grind (arith, nat_tests) in
-    record {
-      ds = take count bs;
-      rest = drop count bs;
-      is = sym (take-append-drop count bs);
-      are = (omega (arith, length-take count bs), digits-all base (take count bs) all);
-      value = grind (arith, nat_tests);
-    }
+-- .. and no other number is
+pub code-tells : (base count : ℕ) (bs : List ℕ) (P : ℕ → Type 0) → ((ds rest : List ℕ) → bs ≡ ds ++ rest → AreDigits base count ds → P (digits_value base ds))
+    → IfSome (code base count bs) P
+code-tells base count bs P f =
+    cond_both _ _ _ (λ o. IfSome o P) (λ (fits : nat_le count (length bs) ≡ true). cond_both _ _ _ (λ o. IfSome o P) (λ all.
+    f (take count bs) (drop count bs) (sym (take-append-drop count bs))
+    (omega (arith, length-take count bs, leb-true count (length bs) fits), digits-all base (take count bs) all)) (λ e. tt)) (λ e. tt)
 
 -- an octal digit is from `0` to `7`
 pub octal-digit : (d : ℕ) → digit_value d < 8 → (48 ≤ d) × (d < 56)

@@ -1,14 +1,13 @@
 -- For `printed_tokens`: the tokens that are printed stand at the front of what is printed.
-use Rattle.std.proofs.Common.{arith, ◌≡◌, ◌∙◌, ℕ, true, false, nat_eq, List, [], ◌∷◌, ◌++◌, refl, sym, ap, subst, append_assoc, get_or, codes}
+use Rattle.std.proofs.Common.{arith, ◌≡◌, ◌∙◌, ℕ, true, false, nat_eq, List, [], ◌∷◌, ◌++◌, refl, sym, ap, subst, append_assoc, codes}
 use Rattle.std.specs.Char.{is_ascii_digit}
 use Rattle.std.specs.List.{list_all}
 use Rattle.std.specs.Str.Parse.{AllDigits}
 use Rattle.std.proofs.lemmas.List.Concat.{flat_map-append}
-use Rattle.std.proofs.lemmas.Bool.{or_parts, both_ways}
 use Rattle.std.proofs.lemmas.Bool.Decides.{nat_tests}
 use Rattle.tmpl_lex.specs.declared.piece.TokenKind.TheVariants as kind
 use Rattle.tmpl_lex.specs.Bytes.{is_space, is_name_byte, is_number_byte, BeginsNone, Stops}
-use Rattle.tmpl_lex.specs.Delimiter.{IsLeftMarker, left_marker}
+use Rattle.tmpl_lex.specs.Delimiter.{IsLeftMarker}
 use Rattle.tmpl_lex.specs.Piece.{Token}
 use Rattle.tmpl_lex.specs.Token as row
 use Rattle.tmpl_lex.specs.Token.{IsToken, IsQuoted, no_sign, at_byte}
@@ -20,8 +19,7 @@ IsFront t rest = IsToken t.kind t.bytes rest
 
 -- what ends a number ends a name
 pub stops-name : (rest : List ℕ) → Stops is_number_byte rest → Stops is_name_byte rest
-stops-name [] e = tt
-stops-name (b ∷ rest) e = (or_parts (is_name_byte b) (nat_eq b 46) e).0
+stops-name rest stop = grind (arith, nat_tests)
 
 -- ---- words, fields and variables
 
@@ -60,26 +58,13 @@ pub data Solid : List ℕ → Type 0 where
   minus : {d : ℕ} {bs : List ℕ} → is_ascii_digit d ≡ true → Solid (45 ∷ d ∷ bs)
 
 solid-stops : {bs : List ℕ} → Solid bs → Stops is_space bs
-solid-stops (solid w m) = w
-solid-stops (minus n) = refl
+solid-stops s = grind (arith, nat_tests)
 
 solid-undashed : {bs : List ℕ} → Solid bs → BeginsNone (λ xs. xs ≡ codes "-}}") bs
-solid-undashed (solid {b = b} {bs = bs} w m) xs ys e f = both_ways (nat_eq b 45) m (ap (λ l. nat_eq (get_or l 0 0) 45) (f ∙ ap (λ l. l ++ ys) e))
-solid-undashed (minus {d = d} {bs = bs} n) xs ys e f =
-    let other : nat_eq d 125 ≡ false = grind (arith, nat_tests) in
-    both_ways (nat_eq d 125) other (ap (λ l. nat_eq (get_or l 1 0) 125) (f ∙ ap (λ l. l ++ ys) e))
-
-marker-dash : {marker : List ℕ} (ys : List ℕ) → IsLeftMarker marker → nat_eq (get_or (marker ++ ys) 0 0) 45 ≡ true
-marker-dash ys (left_marker e) = refl
-
-marker-space : {marker : List ℕ} (ys : List ℕ) → IsLeftMarker marker → is_space (get_or (marker ++ ys) 1 0) ≡ true
-marker-space ys (left_marker e) = e
+solid-undashed s = grind (arith, nat_tests)
 
 pub solid-unmarked : {bs : List ℕ} → Solid bs → BeginsNone IsLeftMarker bs
-solid-unmarked (solid {b = b} {bs = bs} w m) xs ys h f = both_ways (nat_eq b 45) m (ap (λ l. nat_eq (get_or l 0 0) 45) f ∙ marker-dash ys h)
-solid-unmarked (minus {d = d} {bs = bs} n) xs ys h f =
-    let white : is_space d ≡ false = grind (arith, nat_tests) in
-    both_ways (is_space d) white (ap (λ l. is_space (get_or l 1 0)) f ∙ marker-space ys h)
+solid-unmarked s = grind (arith, nat_tests)
 
 pub space-front : (rest : List ℕ) → Solid rest → IsFront space rest
 space-front rest s = row.space refl (at_byte (solid-stops s) (solid-undashed s))

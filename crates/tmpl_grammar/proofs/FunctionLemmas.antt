@@ -1,16 +1,14 @@
 -- For `function_named`: the function of a name is found by its name among all.
-use Rattle.std.proofs.Common.{◌≡◌, ◌≢◌, ◌∙◌, ℕ, List, [], ◌∷◌, Option, Some, None, refl, ap, sym, find, bytes_eq, IfSome, IfNone}
+use Rattle.std.proofs.Common.{arith, ◌≡◌, ◌≢◌, ◌∙◌, ℕ, List, [], ◌∷◌, Option, Some, None, refl, ap, sym, find, bytes_eq, IfSome, IfNone}
 use Rattle.std.proofs.lemmas.Bool.{false_from_ne_true}
 use lib.Pointwise.{bytes_decides}
 use Rattle.tmpl_funcs.specs.Func.{name_of}
 use Rattle.tmpl_funcs.specs.declared.func.Func.{Func}
-use Rattle.tmpl_funcs.specs.declared.func.Func.TheVariants.{And}
 use Rattle.tmpl_grammar.specs.computed.Operand.{func_named, funcs}
 
 named-itself : (f : Func) → Some f ≡ func_named (name_of f)
 unfolding func_named
-named-itself And = refl
-named-itself _ = refl
+named-itself f = grind arith
 
 find-none : (name : List ℕ) (fs : List Func) → ((f : Func) → name_of f ≢ name) → find (λ f. bytes_eq (name_of f) name) fs ≡ None
 find-none name [] h = refl

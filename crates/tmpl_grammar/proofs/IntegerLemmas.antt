@@ -1,7 +1,6 @@
 -- For `integer` and what it calls: digits, read from left to right by a loop.
-use Rattle.std.proofs.Common.{◌≡◌, ◌∙◌, ℕ, ◌+◌, ◌-◌, ◌*◌, ◌^◌, ◌<◌, ◌≤◌, Bool, true, false, List, [], ◌∷◌, Option, Some, None}
-use Rattle.std.proofs.Common.{if◌then◌else◌, filter, length, take, drop, get_or, refl, sym, ap, arith}
-use Rattle.std.proofs.Common.{le_refl, le_trans, mul-le-mul_left, option_and_then}
+use Rattle.std.proofs.Common.{◌≡◌, ◌∙◌, ℕ, ◌+◌, ◌-◌, ◌*◌, ◌^◌, ◌<◌, ◌≤◌, Bool, true, false, List, [], ◌∷◌, Option, Some, None, if◌then◌else◌, filter, length}
+use Rattle.std.proofs.Common.{take, drop, get_or, refl, sym, ap, arith, le_refl, le_trans, mul-le-mul_left, option_and_then}
 use Rattle.std.specs.List.{list_all}
 use Rattle.std.specs.Char.{is_digit, digit_value}
 use Rattle.std.specs.Str.Parse.{digits_value_after}
@@ -50,9 +49,7 @@ digits-plain base (d ∷ ds) h all =
 
 -- no number past 2^63 in magnitude fits
 pub signed-within : (negative : Bool) (o : Option ℕ) → option_and_then (signed negative) (within o) ≡ option_and_then (signed negative) o
-signed-within negative None = refl
-signed-within true (Some n) = grind (arith, nat_tests)
-signed-within false (Some n) = grind (arith, nat_tests)
+signed-within negative o = grind (arith, nat_tests)
 
 -- the byte of a sign
 abbrev pub sign_byte : Bool → ℕ
@@ -61,8 +58,7 @@ sign_byte false = 43
 
 behind-sign : (negative : Bool) (bs : List ℕ) → integer (sign_byte negative ∷ bs) ≡ option_and_then (signed negative) (magnitude bs)
 unfolding integer
-behind-sign true bs = refl
-behind-sign false bs = refl
+behind-sign negative bs = grind (arith, nat_tests)
 
 pub integer-signed : (negative : Bool) (bs : List ℕ) → 1 ≤ length bs → get_or bs 0 0 ≡ sign_byte negative
     → option_and_then (signed negative) (within (magnitude (take (length bs - 1) (drop 1 bs)))) ≡ integer bs
@@ -71,4 +67,6 @@ integer-signed negative (b ∷ bs) h is =
     ap (λ t. option_and_then (signed negative) (within (magnitude t))) (take-rest (b ∷ bs) 1 (length (b ∷ bs) - 1) (omega arith) refl)
     ∙ signed-within negative (magnitude bs) ∙ sym (ap (λ x. integer (x ∷ bs)) is ∙ behind-sign negative bs)
 
-pub ruleset signs = (signed-within)
+pub ruleset signs = (signed-within, integer-signed)
+
+pub ruleset plain = (digits-plain)

@@ -1,10 +1,8 @@
 -- For `one_constant`: the constants that are computed are those that the relation admits.
-use Rattle.std.proofs.Common.{◌≡◌, ◌∙◌, ℕ, suc, pos, ◌-◌, ◌≤◌, List, [], ◌∷◌, ◌++◌, length}
-use Rattle.std.proofs.Common.{take, drop, get_or, Option, Some, None, IfSome, sym, ap, subst, arith, length-append}
-use Rattle.std.specs.Option.{option_map, option_and_then}
-use Rattle.std.specs.List.{flat_map}
-use Rattle.std.proofs.Math.Seq.{take-suc, take-append_seam, get_or-append_seam}
-use Rattle.std.proofs.lemmas.List.{take_all}
+use Rattle.std.proofs.Common.{◌≡◌, ◌∙◌, ℕ, suc, pos, ◌+◌, ◌-◌, ◌≤◌, List, [], ◌∷◌, ◌++◌, length, take, drop, get_or, Option, Some, IfSome, option_and_then, sym}
+use Rattle.std.proofs.Common.{ap, subst, arith, length-append, drop-drop, drop-cons, flat_map}
+use Rattle.std.proofs.Math.Seq.{take-append_seam, get_or-append_seam}
+use Rattle.std.proofs.lemmas.List.{drop_all, take-append-drop}
 use Rattle.std.proofs.lemmas.Bool.Decides.{nat_tests}
 use Rattle.tmpl_lex.specs.declared.piece.TokenKind.{TokenKind}
 use Rattle.tmpl_lex.specs.declared.piece.TokenKind.TheVariants as kind
@@ -14,16 +12,14 @@ use Rattle.tmpl_grammar.specs.Tree.{Operand, number_constant, text_constant}
 use Rattle.tmpl_grammar.specs.Constant as constant
 use Rattle.tmpl_grammar.specs.Constant.{IsConstant}
 use Rattle.tmpl_grammar.specs.computed.Integer.{integer}
-use Rattle.tmpl_grammar.specs.Constant.Integer.{IsInteger}
-use Rattle.tmpl_grammar.specs.Constant.Quoted.{SpellsRunes}
-use Rattle.tmpl_grammar.specs.Laws.{IsComputed}
+use Rattle.tmpl_grammar.specs.Laws.{IsAdmitted, IsComputed}
 use Rattle.tmpl_lex.specs.Piece.{Token}
 use Rattle.tmpl_grammar.specs.computed.Constant.{constant_of, constant_by, string_in, raw_string_in, character_in}
 use Rattle.tmpl_grammar.specs.computed.Quoted.{between, parts, unquoted, rune_code}
 use Rattle.tmpl_grammar.proofs.EscapeLemmas.{double, single}
 use Rattle.tmpl_grammar.proofs.HasPartsLemmas.{parts-computed, parts-admitted, rune-computed, rune-admitted}
 use Rattle.tmpl_grammar.proofs.IsIntegerLemmas.{integer-computed, integer-admitted}
-use Rattle.tmpl_grammar.proofs.OptionLemmas.{told, mapped, chained}
+use Rattle.tmpl_grammar.proofs.OptionLemmas.{admitted, told, mapped}
 
 -- ---- the quotes
 
@@ -36,24 +32,17 @@ between-quotes quote xs =
     let inside : take (length bs - 2) (xs ++ quote ∷ []) ≡ xs = rw m (take-append_seam xs (quote ∷ [])) in
     grind (arith, nat_tests, length-append xs (quote ∷ []))
 
-last-split : (n : ℕ) (bs : List ℕ) → length bs ≡ suc n → take n bs ++ get_or bs n 0 ∷ [] ≡ bs
-last-split n bs h = sym (take-suc bs n 0 (omega (arith, h))) ∙ take_all (suc n) bs (omega (arith, h))
-
 between-is : (quote : ℕ) (bs xs : List ℕ) → between quote bs ≡ Some xs → quote ∷ (xs ++ quote ∷ []) ≡ bs
 between-is quote bs xs e =
     let long : 2 ≤ length bs = grind (arith, nat_tests) in
     let first : get_or bs 0 0 ≡ quote = grind (arith, nat_tests) in
     let last : get_or bs (length bs - 1) 0 ≡ quote = grind (arith, nat_tests) in
     let inside : take (length bs - 2) (drop 1 bs) ≡ xs = grind (arith, nat_tests) in
-    rw (sym inside) (go bs (length bs - 2) (omega (arith, long)) first last)
-  where
-    go : (bs : List ℕ) (m : ℕ) → length bs ≡ suc (suc m) → get_or bs 0 0 ≡ quote → get_or bs (length bs - 1) 0 ≡ quote
-        → quote ∷ (take m (drop 1 bs) ++ quote ∷ []) ≡ bs
-    go [] m n first last = absurd (omega arith)
-    go (b ∷ bs) m n first last =
-        let back : length (b ∷ bs) - 1 ≡ suc m = omega arith in
-        let at_last : get_or bs m 0 ≡ quote = sym (ap (λ k. get_or (b ∷ bs) k 0) back) ∙ last in
-        ap (λ x. x ∷ (take m bs ++ quote ∷ [])) (sym first) ∙ ap (λ l. b ∷ l) (rw (sym at_last) (last-split m bs (omega arith)))
+    let n : 1 + (length bs - 2) ≡ length bs - 1 = omega arith in
+    let none : drop (suc (length bs - 1)) bs ≡ [] = drop_all (suc (length bs - 1)) bs (omega arith) in
+    let back : drop (length bs - 2) (drop 1 bs) ≡ quote ∷ [] =
+    drop-drop (length bs - 2) 1 bs ∙ ap (λ k. drop k bs) n ∙ drop-cons bs (length bs - 1) 0 (omega arith) ∙ simp (last, none) in
+    sym (drop-cons bs 0 0 (omega arith) ∙ simp first (ap (λ l. quote ∷ l) (sym (take-append-drop (length bs - 2) (drop 1 bs)) ∙ simp (inside, back))))
 
 -- ---- what the relation admits is computed
 
@@ -69,29 +58,30 @@ computes-constant _ _ (constant.character {bs = bs} {r = p} has) = simp (between
 -- what stands between two quotes
 quoted : (k : TokenKind) (q : ℕ) (bs : List ℕ) (f : List ℕ → Option Operand)
     → ((xs : List ℕ) → IfSome (f xs) (IsConstant (token k (q ∷ (xs ++ q ∷ []))))) → IfSome (option_and_then f (between q bs)) (IsConstant (token k bs))
-quoted k q bs f h =
-    chained f (λ xs. q ∷ (xs ++ q ∷ []) ≡ bs) (IsConstant (token k bs)) (between q bs)
-    (told _ (between q bs) (between-is q bs)) (λ xs is. subst (λ ys. IfSome (f xs) (IsConstant (token k ys))) is (h xs))
+quoted k q bs f h = grind (arith, nat_tests, between-is)
 
 is-constant : (k : TokenKind) (bs : List ℕ) → IfSome (constant_by k bs) (IsConstant (token k bs))
 is-constant kind.Number bs =
-    mapped number_constant (IsInteger bs) (IsConstant (token kind.Number bs)) (integer bs) (integer-admitted bs) (λ n is. constant.number is)
+    mapped number_constant (IsConstant (token kind.Number bs)) (integer bs) (integer-admitted bs) (λ n is. constant.number is)
 is-constant kind.String bs = quoted kind.String 34 bs string_in (λ xs.
     let Is = IsConstant (token kind.String (34 ∷ (xs ++ 34 ∷ []))) in
-    mapped text_constant (λ t. Is (text_constant t)) Is (unquoted 34 xs)
-    (mapped (flat_map bytes_in) (SpellsRunes 34 xs) (λ t. Is (text_constant t)) (parts 34 xs) (parts-admitted 34 xs double) (λ rs has. constant.string has))
+    mapped text_constant Is (unquoted 34 xs)
+    (mapped (flat_map bytes_in) (λ t. Is (text_constant t)) (parts 34 xs) (parts-admitted 34 xs double) (λ rs has. constant.string has))
     (λ t is. is))
-is-constant kind.RawString bs = by (between 96 bs) (told _ (between 96 bs) (between-is 96 bs))
-  where
-    by : (o : Option (List ℕ)) → IfSome o (λ xs. 96 ∷ (xs ++ 96 ∷ []) ≡ bs) → IfSome (option_map raw_string_in o) (IsConstant (token kind.RawString bs))
-    by None is = tt
-    by (Some xs) is = subst (λ ys. IsConstant (token kind.RawString ys) (raw_string_in xs)) is (constant.raw_string xs)
+is-constant kind.RawString bs =
+    mapped raw_string_in (IsConstant (token kind.RawString bs)) (between 96 bs) (told (λ xs. 96 ∷ (xs ++ 96 ∷ []) ≡ bs) (between 96 bs) (between-is 96 bs))
+    (λ xs is. subst (λ ys. IsConstant (token kind.RawString ys) (raw_string_in xs)) is (constant.raw_string xs))
 is-constant kind.Character bs = quoted kind.Character 39 bs character_in (λ xs.
     let Is = IsConstant (token kind.Character (39 ∷ (xs ++ 39 ∷ []))) in
-    mapped (λ n. number_constant (pos n)) (λ n. Is (number_constant (pos n))) Is (rune_code 39 xs)
+    mapped (λ n. number_constant (pos n)) Is (rune_code 39 xs)
     (rune-admitted 39 xs (λ n. Is (number_constant (pos n))) single (λ r has. constant.character has)) (λ n is. is))
 is-constant _ bs = tt
 
 pub constant-admitted : (t : Token) → IfSome (constant_of t) (IsConstant t)
 unfolding constant_of
 constant-admitted t = is-constant t.kind t.bytes
+
+pub admits-constant : IsAdmitted IsConstant constant_of
+admits-constant = admitted IsConstant constant_of constant-admitted
+
+pub ruleset constants = (computes-constant, admits-constant)

@@ -1,16 +1,15 @@
 -- For `one_constant`: the whole constants that are computed are those that the relation admits.
-use Rattle.std.proofs.Common.{arith, ◌≡◌, ◌∙◌, ℕ, ℤ, pos, neg_ℤ, ◌^◌, ◌<◌, ◌≤◌, Bool, true, false, nat_eq}
-use Rattle.std.proofs.Common.{List, [], ◌∷◌, filter, Option, Some, None, IfSome, option_and_then, refl, subst, if◌then◌else◌}
+use Rattle.std.proofs.Common.{arith, ◌≡◌, ◌∙◌, ℕ, ℤ, pos, ◌^◌, ◌<◌, ◌≤◌, Bool, true, false, nat_eq, List, [], ◌∷◌, filter, Option, Some, None, IfSome}
+use Rattle.std.proofs.Common.{option_and_then, refl}
 use Rattle.std.specs.List.{list_all}
 use Rattle.std.specs.Char.{is_digit}
 use Rattle.std.specs.Str.Parse.{digits_value}
-use Rattle.std.proofs.lemmas.Bool.{eqb-true, and_parts}
+use Rattle.std.proofs.lemmas.Bool.{eqb-true, eqb-false, and_parts, cond_both, le-leb, leb-true, lt-ltb, ltb-true}
 use Rattle.std.proofs.lemmas.Bool.Decides.{nat_tests}
 use Rattle.tmpl_grammar.specs.Constant.Integer.{AreParted, no_digit, digit, parted, base_named, IsMagnitude, decimal, octal, based, IsInteger, minus, plus}
 use Rattle.tmpl_grammar.specs.Constant.Integer.{unsigned}
-use Rattle.tmpl_grammar.specs.computed.Integer.{is_plain, underscores_part, parted_number, number_by, behind_zero}
-use Rattle.tmpl_grammar.specs.computed.Integer.{magnitude, signed, integer}
-use Rattle.tmpl_grammar.proofs.OptionLemmas.{told, chained}
+use Rattle.tmpl_grammar.specs.computed.Integer.{is_plain, underscores_part, parted_number, number_by, behind_zero, magnitude, signed, integer}
+use Rattle.tmpl_grammar.proofs.OptionLemmas.{chained}
 
 -- ---- digits
 
@@ -20,29 +19,18 @@ digit-plain base d low is = grind (arith, nat_tests)
 abbrev are_digits : ℕ → List ℕ → Bool
 are_digits base ds = list_all (λ d. is_digit d base) ds
 
-record Computed (base : ℕ) (bs ds : List ℕ) : Type 0 where
-  part : underscores_part bs ≡ true
-  kept : filter is_plain bs ≡ ds
-  all : are_digits base ds ≡ true
-
 first-digit : (base d : ℕ) (ds : List ℕ) → are_digits base (d ∷ ds) ≡ true → is_digit d base ≡ true
 first-digit base d ds h = grind (arith, nat_tests)
 
-parted-computed : (base : ℕ) → base ≤ 16 → {bs ds : List ℕ} → AreParted base bs ds → Computed base bs ds
-parted-computed base low no_digit = record { part = refl; kept = refl; all = refl }
-parted-computed base low (digit {d = d} is rest) =
-    let c = parted-computed base low rest in
-    let plain = digit-plain base d low is in
-    record { part = simp (plain, c.part); kept = simp (plain, c.kept); all = simp (is, c.all) }
-parted-computed base low (parted {d = d} {ds = ds} rest) =
-    let c = parted-computed base low rest in
-    let plain = digit-plain base d low (first-digit base d ds c.all) in
-    record { part = simp plain (simp plain at c.part); kept = c.kept; all = c.all }
+module _ (base : ℕ) (low : base ≤ 16) where
+  -- underscores part them, and without these they are digits
+  parted-computed : {bs ds : List ℕ} → AreParted base bs ds → (underscores_part bs ≡ true) × (filter is_plain bs ≡ ds) × (are_digits base ds ≡ true)
+  parted-computed no_digit = (refl, refl, refl)
+  parted-computed (digit {d = d} is rest) = grind (arith, nat_tests, parted-computed rest, digit-plain)
+  parted-computed (parted {d = d} {ds = ds} rest) = grind (arith, nat_tests, parted-computed rest, digit-plain, first-digit)
 
-parted-number : (base : ℕ) → base ≤ 16 → {bs ds : List ℕ} → AreParted base bs ds → parted_number base bs ≡ Some (digits_value base ds)
-parted-number base low {bs} {ds} a =
-    let c = parted-computed base low a in
-    simp (c.part, c.kept, c.all)
+  parted-number : {bs ds : List ℕ} → AreParted base bs ds → parted_number base bs ≡ Some (digits_value base ds)
+  parted-number a = let (part, kept, all) = parted-computed a in simp (part, kept, all)
 
 parted-admitted : (base : ℕ) (bs : List ℕ) → underscores_part bs ≡ true → are_digits base (filter is_plain bs) ≡ true → AreParted base bs (filter is_plain bs)
 parted-admitted base [] part all = no_digit
@@ -62,13 +50,7 @@ parted-admitted base (b ∷ bs) part all = by (nat_eq b 95) refl bs (parted-admi
 
 number-parted : (base : ℕ) (bs : List ℕ) (P : ℕ → Type 0) → ((ds : List ℕ) → AreParted base bs ds → P (digits_value base ds))
     → IfSome (parted_number base bs) P
-number-parted base bs P f = go (underscores_part bs) refl (are_digits base (filter is_plain bs)) refl
-  where
-    go : (t : Bool) → underscores_part bs ≡ t → (u : Bool) → are_digits base (filter is_plain bs) ≡ u
-        → IfSome (if t then (if u then Some (digits_value base (filter is_plain bs)) else None) else None) P
-    go true p true a = f (filter is_plain bs) (parted-admitted base bs p a)
-    go true p false a = tt
-    go false p u a = tt
+number-parted base bs P h = grind (arith, nat_tests, parted-admitted)
 
 -- ---- magnitudes
 
@@ -81,15 +63,15 @@ digit-unnamed d is = grind (arith, nat_tests)
 
 octal-computed : {bs ds : List ℕ} → AreParted 8 bs ds → behind_zero bs ≡ Some (digits_value 8 ds)
 octal-computed no_digit = refl
-octal-computed (digit {d = d} {bs = bs} is rest) = simp (digit-unnamed d is) (parted-number 8 (omega arith) (digit is rest))
+octal-computed (digit {d = d} is rest) = simp (digit-unnamed d is) (parted-number 8 (omega arith) (digit is rest))
 octal-computed (parted rest) = parted-number 8 (omega arith) (parted rest)
 
-decimal-computed : (d : ℕ) (bs : List ℕ) → is_digit d 10 ≡ true → (d ≡ 48 → ⊥) → magnitude (d ∷ bs) ≡ parted_number 10 (d ∷ bs)
-decimal-computed d bs is other = grind (arith, nat_tests)
+-- the first byte of a decimal number is no sign, and begins no number of another base
+decimal-computed : (d : ℕ) (bs ds : List ℕ) → AreParted 10 (d ∷ bs) (d ∷ ds) → (d ≡ 48 → ⊥) → magnitude (d ∷ bs) ≡ parted_number 10 (d ∷ bs)
+decimal-computed d bs ds a other = let is = first-digit 10 d ds (let (part, kept, all) = parted-computed 10 (omega arith) a in all) in grind (arith, nat_tests)
 
 magnitude-computed : {bs : List ℕ} {n : ℕ} → IsMagnitude bs n → magnitude bs ≡ Some n
-magnitude-computed (decimal {d = d} {bs = bs} {ds = ds} other a) =
-    decimal-computed d bs (first-digit 10 d ds (let c = parted-computed 10 (omega arith) a in c.all)) other ∙ parted-number 10 (omega arith) a
+magnitude-computed (decimal {d = d} {bs = bs} {ds = ds} other a) = decimal-computed d bs ds a other ∙ parted-number 10 (omega arith) a
 magnitude-computed (octal a) = octal-computed a
 magnitude-computed (based {base = base} {b = b} e a) = simp (e, parted-number base (named-low b base e) a)
 
@@ -108,16 +90,10 @@ zero-admitted (b ∷ bs) = go (base_named b) refl bs
 
 magnitude-admitted : (bs : List ℕ) → IfSome (magnitude bs) (IsMagnitude bs)
 magnitude-admitted [] = tt
-magnitude-admitted (b ∷ bs) = go (nat_eq b 48) refl (nat_eq b 95) refl
-  where
-    go : (z : Bool) → nat_eq b 48 ≡ z → (u : Bool) → nat_eq b 95 ≡ u
-        → IfSome (if z then behind_zero bs else (if u then None else parted_number 10 (b ∷ bs))) (IsMagnitude (b ∷ bs))
-    go true h u k = rw (eqb-true b 48 h) (zero-admitted bs)
-    go false h true k = tt
-    go false h false k =
-        let other : b ≡ 48 → ⊥ = λ is. grind (arith, nat_tests) in
-        let line : b ≡ 95 → ⊥ = λ is. grind (arith, nat_tests) in
-        number-parted 10 (b ∷ bs) (IsMagnitude (b ∷ bs)) (λ ds a. decimal-admitted b bs ds a other line)
+magnitude-admitted (b ∷ bs) =
+    let Is : Option ℕ → Type 0 = λ o. IfSome o (IsMagnitude (b ∷ bs)) in
+    cond_both _ _ _ Is (λ h. rw (eqb-true b 48 h) (zero-admitted bs)) (λ h. cond_both _ _ _ Is (λ k. tt) (λ k.
+    number-parted 10 (b ∷ bs) (IsMagnitude (b ∷ bs)) (λ ds a. decimal-admitted b bs ds a (eqb-false b 48 h) (eqb-false b 95 k))))
 
 -- ---- signs
 
@@ -129,45 +105,29 @@ digit-unsigned d bs is = grind (arith, nat_tests)
 unsigned-computed : {bs : List ℕ} {n : ℕ} → IsMagnitude bs n → integer bs ≡ option_and_then (signed false) (magnitude bs)
 unfolding integer
 unsigned-computed (decimal {d = d} {bs = bs} {ds = ds} other a) =
-    digit-unsigned d bs (first-digit 10 d ds (let c = parted-computed 10 (omega arith) a in c.all))
+    digit-unsigned d bs (first-digit 10 d ds (let (part, kept, all) = parted-computed 10 (omega arith) a in all))
 unsigned-computed (octal a) = refl
 unsigned-computed (based e a) = refl
 
-positive : (n : ℕ) → n < 2 ^ 63 → signed false n ≡ Some (pos n)
-positive n h = grind (arith, nat_tests)
-
-negative : (n : ℕ) → n ≤ 2 ^ 63 → signed true n ≡ Some (neg_ℤ (pos n))
-negative n h = grind (arith, nat_tests)
-
 pub integer-computed : {bs : List ℕ} {n : ℤ} → IsInteger bs n → integer bs ≡ Some n
 unfolding integer
-integer-computed (minus {n = n} m le) = simp (magnitude-computed m) (negative n le)
-integer-computed (plus {n = n} m lt) = simp (magnitude-computed m) (positive n lt)
-integer-computed (unsigned {n = n} m lt) = unsigned-computed m ∙ simp (magnitude-computed m) (positive n lt)
-
-is-positive : (m : ℕ) (n : ℤ) → signed false m ≡ Some n → (m < 2 ^ 63) × (pos m ≡ n)
-is-positive m n e = (grind (arith, nat_tests), grind (arith, nat_tests))
-
-is-negative : (m : ℕ) (n : ℤ) → signed true m ≡ Some n → (m ≤ 2 ^ 63) × (neg_ℤ (pos m) ≡ n)
-is-negative m n e = (grind (arith, nat_tests), grind (arith, nat_tests))
+integer-computed (minus {n = n} m le) = simp (magnitude-computed m, le-leb n (2 ^ 63) le)
+integer-computed (plus {n = n} m lt) = simp (magnitude-computed m, lt-ltb n (2 ^ 63) lt)
+integer-computed (unsigned {n = n} m lt) = unsigned-computed m ∙ simp (magnitude-computed m, lt-ltb n (2 ^ 63) lt)
 
 -- a number without a minus
 positive-admitted : (bs cs : List ℕ) → ((n : ℕ) → IsMagnitude cs n → n < 2 ^ 63 → IsInteger bs (pos n))
     → IfSome (option_and_then (signed false) (magnitude cs)) (IsInteger bs)
-positive-admitted bs cs f =
-    chained (signed false) (IsMagnitude cs) (IsInteger bs) (magnitude cs) (magnitude-admitted cs) (λ n m.
-    told (IsInteger bs) (signed false n) (λ i e. let is = is-positive n i e in subst (IsInteger bs) is.1 (f n m is.0)))
+positive-admitted bs cs f = chained (signed false) (IsInteger bs) (magnitude cs) (magnitude-admitted cs) (λ n m.
+    cond_both _ _ _ (λ o. IfSome o (IsInteger bs)) (λ e. f n m (ltb-true n (2 ^ 63) e)) (λ e. tt))
 
 pub integer-admitted : (bs : List ℕ) → IfSome (integer bs) (IsInteger bs)
 unfolding integer
 integer-admitted [] = tt
-integer-admitted (b ∷ bs) = go (nat_eq b 45) refl (nat_eq b 43) refl
-  where
-    go : (s : Bool) → nat_eq b 45 ≡ s → (p : Bool) → nat_eq b 43 ≡ p
-        → IfSome (if s then option_and_then (signed true) (magnitude bs) else (if p then option_and_then (signed false) (magnitude bs)
-        else option_and_then (signed false) (magnitude (b ∷ bs)))) (IsInteger (b ∷ bs))
-    go true h p k =
-        rw (eqb-true b 45 h) (chained (signed true) (IsMagnitude bs) (IsInteger (45 ∷ bs)) (magnitude bs) (magnitude-admitted bs) (λ n m.
-        told (IsInteger (45 ∷ bs)) (signed true n) (λ i e. let is = is-negative n i e in subst (IsInteger (45 ∷ bs)) is.1 (minus m is.0))))
-    go false h true k = rw (eqb-true b 43 k) (positive-admitted (43 ∷ bs) bs (λ n m. plus m))
-    go false h false k = positive-admitted (b ∷ bs) (b ∷ bs) (λ n m. unsigned m)
+integer-admitted (b ∷ bs) =
+    let Is : Option ℤ → Type 0 = λ o. IfSome o (IsInteger (b ∷ bs)) in
+    cond_both _ _ _ Is
+    (λ h. rw (eqb-true b 45 h) (chained (signed true) (IsInteger (45 ∷ bs)) (magnitude bs) (magnitude-admitted bs) (λ n m.
+    cond_both _ _ _ (λ o. IfSome o (IsInteger (45 ∷ bs))) (λ e. minus m (leb-true n (2 ^ 63) e)) (λ e. tt))))
+    (λ h. cond_both _ _ _ Is (λ k. rw (eqb-true b 43 k) (positive-admitted (43 ∷ bs) bs (λ n m. plus m)))
+    (λ k. positive-admitted (b ∷ bs) (b ∷ bs) (λ n m. unsigned m)))

@@ -1,47 +1,38 @@
 -- For `one_operand`: the operands of one token that are computed are those that the relation admits.
-use Rattle.std.proofs.Common.{◌≡◌, ◌∙◌, ℕ, Bool, true, false, cond, List, [], ◌∷◌, Option, Some, IfSome, refl, subst, bytes_eq, codes, find}
-use Rattle.std.proofs.Common.{drop}
-use Rattle.std.proofs.lemmas.Slice.Eq.{bytes_eq-Decides}
+use Rattle.std.proofs.Common.{arith, ◌≡◌, ℕ, Bool, true, false, cond, List, [], ◌∷◌, Option, Some, IfSome, refl, subst, bytes_eq, codes, find, drop}
+use lib.Pointwise.{bytes_decides}
+use Rattle.std.proofs.lemmas.Bool.{cond_both}
 use Rattle.std.proofs.lemmas.Option.{IfSome_then}
 use Rattle.tmpl_funcs.specs.Func.{name_of}
 use Rattle.tmpl_funcs.specs.declared.func.Func.{Func}
-use Rattle.tmpl_funcs.specs.declared.func.Func.TheVariants.{And}
 use Rattle.tmpl_lex.specs.Piece.{Token}
 use Rattle.tmpl_lex.specs.declared.piece.TokenKind.{TokenKind}
 use Rattle.tmpl_lex.specs.declared.piece.TokenKind.TheVariants as kind
 use Rattle.tmpl_grammar.specs.Token.{token, begins_name}
 use Rattle.tmpl_grammar.specs.Tree as tree
 use Rattle.tmpl_grammar.specs.Tree.{Operand}
-use Rattle.tmpl_grammar.specs.Constant as constant
 use Rattle.tmpl_grammar.specs.Constant.{IsConstant}
 use Rattle.tmpl_grammar.specs.Operand as operand
 use Rattle.tmpl_grammar.specs.Operand.{IsOperand}
-use Rattle.tmpl_grammar.specs.Laws.{IsComputed}
+use Rattle.tmpl_grammar.specs.Laws.{IsAdmitted, IsComputed}
 use Rattle.tmpl_grammar.specs.computed.Constant.{constant_of}
 use Rattle.tmpl_grammar.specs.computed.Operand.{funcs, func_named, word_operand, field_operand, operand_by, operand_at}
 use Rattle.tmpl_grammar.proofs.IsConstantLemmas.{computes-constant, constant-admitted}
-use Rattle.tmpl_grammar.proofs.OptionLemmas.{mapped}
+use Rattle.tmpl_grammar.proofs.OptionLemmas.{admitted, mapped}
 
 -- ---- what the relation admits is computed
 
 function-read : (f : Func) → word_operand (name_of f) ≡ Some (tree.function f)
 unfolding word_operand func_named
-function-read And = refl
-function-read _ = refl
+function-read f = grind arith
 
 constant-kind : (t : Token) (o : Operand) → IsConstant t o → operand_at t ≡ constant_of t
 unfolding operand_at
-constant-kind _ _ (constant.number is) = refl
-constant-kind _ _ _ = refl
+constant-kind t o h = grind arith
 
 pub computes-operand : IsComputed IsOperand operand_at
 unfolding operand_at word_operand
-computes-operand t _ (operand.field is begins) = simp (is, begins)
-computes-operand t _ (operand.variable is) = simp is
-computes-operand _ _ (operand.a_function f) = function-read f
-computes-operand t o (operand.a_constant is) = constant-kind t o is ∙ computes-constant t o is
-computes-operand _ _ (operand.truth true) = refl
-computes-operand _ _ _ = refl
+computes-operand = grind (arith, computes-constant, constant-kind, function-read)
 
 -- ---- what is computed the relation admits
 
@@ -54,28 +45,19 @@ is-constant t = IfSome_then (constant_of t) (constant-admitted t) (λ o is. oper
 
 find-named : (fs : List Func) (name : List ℕ) → IfSome (find (λ f. bytes_eq (name_of f) name) fs) (λ f. name_of f ≡ name)
 find-named [] name = tt
-find-named (g ∷ fs) name = go (bytes_eq (name_of g) name) refl (find-named fs name)
-  where
-    go : (b : Bool) → bytes_eq (name_of g) name ≡ b → IfSome (find (λ f. bytes_eq (name_of f) name) fs) (λ f. name_of f ≡ name)
-        → IfSome (cond b (Some g) (find (λ f. bytes_eq (name_of f) name) fs)) (λ f. name_of f ≡ name)
-    go true h more = (bytes_eq-Decides (name_of g) name).0 h
-    go false h more = more
+find-named (g ∷ fs) name = cond_both _ _ _ (λ o. IfSome o (λ f. name_of f ≡ name)) (bytes_decides (name_of g) name).0 (λ e. find-named fs name)
 
 is-named : (name : List ℕ) → IfSome (word_operand name) (IsOperand (token kind.Word name))
 unfolding word_operand func_named
 is-named name =
     at (codes "true") (tree.bool_constant true) (operand.truth true) _ (at (codes "false") (tree.bool_constant false) (operand.truth false) _
     (at (codes "nil") tree.nil operand.nil_word _
-    (mapped tree.function (λ f. name_of f ≡ name) (IsOperand (token kind.Word name)) (func_named name) (find-named funcs name)
+    (mapped tree.function (IsOperand (token kind.Word name)) (func_named name) (find-named funcs name)
     (λ f is. subst (λ bs. IsOperand (token kind.Word bs) (tree.function f)) is (operand.a_function f)))))
   where
     at : (word : List ℕ) (o : Operand) → IsOperand (token kind.Word word) o → (q : Option Operand) → IfSome q (IsOperand (token kind.Word name))
         → IfSome (cond (bytes_eq name word) (Some o) q) (IsOperand (token kind.Word name))
-    at word o is q more = go (bytes_eq name word) refl
-      where
-        go : (b : Bool) → bytes_eq name word ≡ b → IfSome (cond b (Some o) q) (IsOperand (token kind.Word name))
-        go true h = rw ((bytes_eq-Decides name word).0 h) is
-        go false h = more
+    at word o is q more = cond_both _ _ _ (λ p. IfSome p (IsOperand (token kind.Word name))) (λ e. rw ((bytes_decides name word).0 e) is) (λ e. more)
 
 is-operand : (k : TokenKind) (bs : List ℕ) → IfSome (operand_by k (token k bs)) (IsOperand (token k bs))
 is-operand kind.Dot bs = operand.dot
@@ -91,3 +73,8 @@ is-operand _ bs = tt
 pub operand-admitted : (t : Token) → IfSome (operand_at t) (IsOperand t)
 unfolding operand_at
 operand-admitted t = is-operand t.kind t.bytes
+
+pub admits-operand : IsAdmitted IsOperand operand_at
+admits-operand = admitted IsOperand operand_at operand-admitted
+
+pub ruleset operands = (computes-operand, admits-operand)

@@ -16,7 +16,6 @@ pub mod ListLemmas
 pub mod NeedLemmas
 pub mod OptionLemmas
 pub mod PipelineLemmas
-pub mod PrintLemmas
 pub mod PrintableActionLemmas
 pub mod PrintableConstantLemmas
 pub mod PrintableTokenLemmas
@@ -28,7 +27,6 @@ pub mod QuoteTokenLemmas
 pub mod QuotedLemmas
 pub mod ReadLemmas
 pub mod ReadingLemmas
-pub mod SliceLemmas
 pub mod SpelledLemmas
 pub mod StrayLemmas
 pub mod TokenLemmas

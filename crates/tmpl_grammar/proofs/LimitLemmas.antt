@@ -1,24 +1,18 @@
 -- For `pipeline` and `commands_in`, which let go of what stands in parentheses where they nest too deep: they read just
 -- the tokens that are read without a limit.
-use Rattle.std.proofs.Common.{arith, ◌≡◌, ◌∙◌, ◌<◌, ℕ, Bool, true, false, nat_le, List, [], ◌∷◌, Option, Some, None, IfSome}
-use Rattle.std.proofs.Common.{refl, ap, sym, map, ⊎_elim}
-use Rattle.std.proofs.lemmas.Bool.Decides.{leb_tells}
+use Rattle.std.proofs.Common.{arith, ◌≡◌, ◌∙◌, ◌<◌, ℕ, Bool, true, false, nat_le, List, [], ◌∷◌, Option, Some, None, IfSome, refl, ap, sym, map, option_map}
+use Rattle.std.proofs.Common.{option_and_then}
+use Rattle.std.proofs.lemmas.Bool.Decides.{nat_tests}
 use Rattle.std.proofs.lemmas.List.{map-append}
-use Rattle.std.specs.Option.{option_map, option_and_then}
 use Rattle.std.proofs.lemmas.Option.{IfSome_then}
 use Rattle.tmpl_lex.specs.declared.piece.TokenKind.{TokenKind}
-use Rattle.tmpl_lex.specs.declared.piece.TokenKind.TheVariants as kind
 use Rattle.tmpl_lex.specs.Piece.{Token}
-use Rattle.tmpl_grammar.specs.Token.{begins_name, name_in}
 use Rattle.tmpl_grammar.specs.Tree as tree
 use Rattle.tmpl_grammar.specs.Tree.{Operand, Operands, Pipeline, operands_from, commands_from}
 use Rattle.tmpl_grammar.specs.Depth.{depth_of_pipeline, most_deep}
 use Rattle.tmpl_grammar.specs.computed.Depth.{limited_pipeline}
 use Rattle.tmpl_grammar.specs.computed.Limited.{deepest, emptied, pruned, pruned_step, pruned_steps, pruned_commands, limited_commands}
-use Rattle.tmpl_grammar.specs.computed.Operand.{operand_at}
-use Rattle.tmpl_grammar.specs.computed.Parser as parser
-use Rattle.tmpl_grammar.specs.computed.Parser.{Parser, Partial, settled, more_commands, closed, may_stand, kept_if, linked_by, step, step_by}
-use Rattle.tmpl_grammar.specs.computed.Parser.{steps, finished, finished_with, commands_after, start}
+use Rattle.tmpl_grammar.specs.computed.Parser.{Parser, Partial, settled, more_commands, may_stand, step, step_by, steps, finished, commands_after, start}
 use Rattle.tmpl_grammar.specs.computed.Reading.{pipeline_in}
 use Rattle.tmpl_grammar.proofs.DepthLemmas.{pipeline-depth}
 use Rattle.tmpl_grammar.proofs.PipelineLemmas.{pipeline-admitted}
@@ -35,15 +29,15 @@ emptied_commands cs = map emptied_operands cs
 abbrev emptied_partial : Partial → Partial
 emptied_partial l = record { commands = emptied_commands l.commands; operands = map emptied l.operands }
 
-abbrev emptied_parser : Parser → Parser
-emptied_parser h =
-    record { outer = map emptied_partial h.outer; inner = emptied_partial h.inner; last = option_map emptied h.last }
+-- .. or with it
+abbrev seen : Bool → Parser → Parser
+seen true h = h
+seen false h = record { outer = map emptied_partial h.outer; inner = emptied_partial h.inner; last = option_map emptied h.last }
 
 -- ---- one token
 
 settled-emptied : (last : Option Operand) (os : List Operand) → settled (option_map emptied last) (map emptied os) ≡ map emptied (settled last os)
-settled-emptied None os = refl
-settled-emptied (Some o) os = sym (map-append emptied os (o ∷ []))
+settled-emptied last os = grind (arith, map-append)
 
 from-emptied : (os : List Operand) → operands_from (map emptied os) ≡ emptied_operands (operands_from os)
 from-emptied [] = refl
@@ -54,88 +48,22 @@ more-emptied : (cs : List Operands) (os : List Operand)
 more-emptied cs [] = refl
 more-emptied cs (o ∷ os) = simp (from-emptied os, map-append)
 
-closed-emptied : (h : Parser) → closed (emptied_parser h) ≡ option_map emptied_commands (closed h)
-closed-emptied h = simp (settled-emptied h.last h.inner.operands, more-emptied h.inner.commands (settled h.last h.inner.operands))
-
 stands-emptied : (cs : List Operands) (os : List Operand) (o : Operand) → may_stand (emptied_commands cs) (map emptied os) o ≡ may_stand cs os o
-stands-emptied [] os o = refl
-stands-emptied (c ∷ cs) [] o = refl
-stands-emptied (c ∷ cs) (p ∷ os) o = refl
+stands-emptied cs os o = grind arith
 
-module _ (h : Parser) where
-  -- the same by the parser with nothing in parentheses, and with it
-  abbrev Prunes : Option Parser → Option Parser → Type 0
-  Prunes o p = option_map (pruned false) o ≡ option_map emptied_parser p
-
-  barred-pruned : (o : Option (List Operands))
-      → Prunes (option_map (parser.barred (emptied_parser h)) (option_map emptied_commands o)) (option_map (parser.barred h) o)
-  barred-pruned None = refl
-  barred-pruned (Some cs) = refl
-
-  opened-pruned : (last : Option Operand) → Prunes (parser.opened (option_map emptied last) (emptied_parser h)) (parser.opened last h)
-  opened-pruned None = refl
-  opened-pruned (Some o) = refl
-
-  left-pruned : (ls : List Partial) (o : Option (List Operands))
-      → Prunes (parser.left_with (map emptied_partial ls) (option_map emptied_commands o)) (parser.left_with ls o)
-  left-pruned [] o = refl
-  left-pruned (l ∷ ls) None = refl
-  left-pruned (l ∷ ls) (Some cs) = refl
-
-  kept-pruned : (b : Bool) (o : Operand) → Prunes (kept_if b (parser.ending_with (emptied_parser h) o)) (kept_if b (parser.ending_with h o))
-  kept-pruned true o = refl
-  kept-pruned false o = refl
-
-  placed-pruned : (last o : Option Operand) → Prunes (parser.placed (option_map emptied last) o (emptied_parser h)) (parser.placed last o h)
-  placed-pruned None None = refl
-  placed-pruned None (Some o) =
-      rw (stands-emptied h.inner.commands h.inner.operands o) (kept-pruned (may_stand h.inner.commands h.inner.operands o) o)
-  placed-pruned (Some p) o = refl
-
-  linked-pruned : (b : Bool) (o : Operand) (name : List ℕ)
-      → Prunes (option_map (parser.ending_with (emptied_parser h)) (linked_by b (emptied o) name)) (option_map (parser.ending_with h) (linked_by b o name))
-  linked-pruned false o name = refl
-  linked-pruned true (tree.fields names) name = refl
-  linked-pruned true _ name = refl
-
-  fielded-pruned : (last : Option Operand) (t : Token) → Prunes (parser.fielded (option_map emptied last) t (emptied_parser h)) (parser.fielded last t h)
-  fielded-pruned None t = placed-pruned None (operand_at t)
-  fielded-pruned (Some o) t = linked-pruned (begins_name (name_in t)) o (name_in t)
-
-  step-pruned : (k : TokenKind) (t : Token) → Prunes (step_by k t (emptied_parser h)) (step_by k t h)
-  step-pruned kind.Space t = simp (settled-emptied h.last h.inner.operands)
-  step-pruned kind.Pipe t = rw (closed-emptied h) (barred-pruned (closed h))
-  step-pruned kind.LeftParenthesis t = opened-pruned h.last
-  step-pruned kind.RightParenthesis t = rw (closed-emptied h) (left-pruned h.outer (closed h))
-  step-pruned kind.Field t = fielded-pruned h.last t
-  step-pruned _ t = placed-pruned h.last (operand_at t)
+step-seen : (keeps : Bool) (h : Parser) (k : TokenKind) (t : Token)
+    → option_map (pruned keeps) (step_by k t (seen keeps h)) ≡ option_map (seen keeps) (step_by k t h)
+step-seen true h k t = refl
+step-seen false h k t = grind (arith, settled-emptied, more-emptied, stands-emptied)
 
 -- ---- all of them
 
-steps-pruned : (o : Option Parser) (ts : List Token) → pruned_steps false (option_map emptied_parser o) ts ≡ option_map emptied_parser (steps o ts)
+steps-seen : (keeps : Bool) (o : Option Parser) (ts : List Token)
+    → pruned_steps keeps (option_map (seen keeps) o) ts ≡ option_map (seen keeps) (steps o ts)
 unfolding step pruned_step
-steps-pruned o [] = refl
-steps-pruned None (t ∷ ts) = steps-pruned None ts
-steps-pruned (Some h) (t ∷ ts) = ap (λ o. pruned_steps false o ts) (step-pruned h t.kind t) ∙ steps-pruned (step t h) ts
-
-finished-pruned : (o : Option Parser) → option_and_then finished (option_map emptied_parser o) ≡ option_map emptied_commands (option_and_then finished o)
-unfolding finished
-finished-pruned None = refl
-finished-pruned (Some h) = by h.outer
-  where
-    by : (ls : List Partial) → finished_with (map emptied_partial ls) (closed (emptied_parser h)) ≡ option_map emptied_commands (finished_with ls (closed h))
-    by [] = closed-emptied h
-    by (l ∷ ls) = refl
-
-whole-map : (o : Option Parser) → option_map (pruned true) o ≡ o
-whole-map None = refl
-whole-map (Some h) = refl
-
-steps-whole : (o : Option Parser) (ts : List Token) → pruned_steps true o ts ≡ steps o ts
-unfolding pruned_step
-steps-whole o [] = refl
-steps-whole None (t ∷ ts) = steps-whole None ts
-steps-whole (Some h) (t ∷ ts) = ap (λ o. pruned_steps true o ts) (whole-map (step t h)) ∙ steps-whole (step t h) ts
+steps-seen keeps o [] = refl
+steps-seen keeps None (t ∷ ts) = steps-seen keeps None ts
+steps-seen keeps (Some h) (t ∷ ts) = ap (λ o. pruned_steps keeps o ts) (step-seen keeps h t.kind t) ∙ steps-seen keeps (step t h) ts
 
 none-steps : (keeps : Bool) (ts : List Token) → pruned_steps keeps None ts ≡ None
 none-steps keeps [] = refl
@@ -149,16 +77,20 @@ none-read keeps h ts t us is e = simp (is, e, none-steps keeps us)
 -- ---- the limit
 
 pub nat_le-false : (m n : ℕ) → n < m → nat_le m n ≡ false
-nat_le-false m n h = ⊎_elim (λ y. absurd (let a = y.1 in omega (arith, a, h))) (λ e. e.0) (leb_tells m n)
+nat_le-false m n h = grind (arith, nat_tests)
 
-emptied-limited : (o : Option (List Operands)) → limited_commands false (option_map emptied_commands o) ≡ limited_commands false o
-emptied-limited None = refl
-emptied-limited (Some cs) = refl
+limited-seen : (keeps : Bool) (o : Option Parser)
+    → limited_commands keeps (option_and_then finished (option_map (seen keeps) o)) ≡ limited_commands keeps (option_and_then finished o)
+unfolding finished
+limited-seen keeps o = grind (arith, settled-emptied, more-emptied)
+
+start-seen : (keeps : Bool) → seen keeps start ≡ start
+start-seen keeps = grind arith
 
 pruned-limited : (keeps : Bool) (ts : List Token) → limited_commands keeps (pruned_commands keeps start ts) ≡ limited_commands keeps (commands_after start ts)
-pruned-limited true ts = simp (steps-whole (Some start) ts)
-pruned-limited false ts =
-    rw (steps-pruned (Some start) ts, finished-pruned (steps (Some start) ts)) (emptied-limited (commands_after start ts))
+pruned-limited keeps ts =
+    ap (λ h. limited_commands keeps (pruned_commands keeps h ts)) (sym (start-seen keeps))
+    ∙ ap (λ o. limited_commands keeps (option_and_then finished o)) (steps-seen keeps (Some start) ts) ∙ limited-seen keeps (steps (Some start) ts)
 
 pub limited-read : (ts : List Token)
     → limited_commands (nat_le (deepest 0 ts) most_deep) (pruned_commands (nat_le (deepest 0 ts) most_deep) start ts)
@@ -172,3 +104,5 @@ limited-read ts =
         → limited_commands (nat_le (deepest 0 ts) most_deep) o ≡ option_map limited_pipeline (option_map commands_from o)
     by None deep = refl
     by (Some cs) deep = simp deep
+
+pub ruleset limits = (limited-read)

@@ -1,5 +1,5 @@
 -- For the bound on what a template needs: an action needs no more than two and one for each of its tokens.
-use Rattle.std.proofs.Common.{arith, ◌≡◌, ◌∙◌, ◌≤◌, ℕ, suc, ◌+◌, max, Bool, false, List, [], ◌∷◌, ◌++◌, Option, Some, None, ap, length, length-append}
+use Rattle.std.proofs.Common.{arith, ◌≡◌, ◌∙◌, ◌≤◌, ℕ, suc, ◌+◌, max, Bool, false, List, [], ◌∷◌, ◌++◌, Option, ap, length, length-append}
 use Rattle.tmpl_lex.specs.Piece.{Token}
 use Rattle.tmpl_grammar.specs.Tree as tree
 use Rattle.tmpl_grammar.specs.Tree.{Operand, Operands, Pipeline, Binding, unbound, declare_pair, Header}
@@ -12,8 +12,7 @@ use Rattle.tmpl_grammar.specs.Need.{need_of_pipeline, need_of_given, declared_co
 -- ---- each value has a cell
 
 by-first : (P : ℕ → Type 0) (o : Operand) (call alone : ℕ) → P call → P alone → P (called_or_alone o call alone)
-by-first P (tree.function f) call alone c a = c
-by-first P _ call alone c a = a
+by-first P o call alone h k = grind arith
 
 commands-least : (piped : ℕ) (cs : Pipeline) → 1 ≤ need_of_commands piped cs
 commands-least piped tree.no_command = omega arith
@@ -30,9 +29,7 @@ command-least piped (tree.operand o os) = by-first (λ n. 1 ≤ n) o (max 1 (nee
 -- ---- each value has a token
 
 one-token : (o : Operand) (names : List (List ℕ)) (ts : List Token) → IsChained o names ts → 1 ≤ length ts
-one-token o names ts s =
-    let n : length ts ≡ suc (length s.1) = ap length s.2 in
-    omega (arith, n)
+one-token o names ts h = grind arith
 
 joined : (ts us vs : List Token) → ts ≡ us ++ vs → length ts ≡ length us + length vs
 joined ts us vs e = ap length e ∙ length-append us vs
@@ -42,40 +39,29 @@ mutual
   operand-within (tree.fields (n ∷ ns)) ts s = one-token (tree.fields (n ∷ [])) ns ts s
   operand-within (tree.variable name names) ts s = one-token (tree.variable name []) names ts s
   operand-within (tree.group commands names) ts s =
-      let inner = pipeline-within commands s.1 s.7 in
-      omega (arith, inner, joined ts (s.0 ∷ s.1) (s.2 ∷ s.3) s.4)
+      omega (arith, pipeline-within commands s.1 s.7, joined ts (s.0 ∷ s.1) (s.2 ∷ s.3) s.4)
   operand-within o ts s = one-token o [] ts s
 
   arguments-within : (held : ℕ) (os : Operands) (ts : List Token) → SpellsMore os ts → need_of_arguments held os ≤ held + length ts
   arguments-within held tree.no_operand ts s = omega arith
   arguments-within held (tree.operand o os) ts s =
       let here = operand-within o s.2 s.6 in
-      let more = arguments-within (suc held) os s.3 s.7 in
-      omega (arith, here, more, joined ts (s.0 ∷ s.1) (s.2 ++ s.3) s.4, length-append s.2 s.3)
+      omega (arith, here, arguments-within (suc held) os s.3 s.7, joined ts (s.0 ∷ s.1) (s.2 ++ s.3) s.4, length-append s.2 s.3)
 
   command-within : (piped : ℕ) (os : Operands) (ts : List Token) → SpellsCommand os ts → need_of_command piped os ≤ piped + length ts
   command-within piped tree.no_operand ts s = absurd s
   command-within piped (tree.operand o os) ts s =
-      let here = operand-within o s.1 s.5 in
-      let more = arguments-within piped os s.2 s.6 in
-      let n = joined ts s.0 (s.1 ++ s.2) s.3 in
-      let m = length-append s.1 s.2 in
-      by-first (λ n. n ≤ piped + length ts) o (max 1 (need_of_arguments piped os)) (need_of_operand o)
-      (omega (arith, operand-least o, here, more, n, m)) (omega (arith, here, n, m))
+      grind (arith, operand-least o, operand-within o s.1 s.5, arguments-within piped os s.2 s.6, joined ts s.0 (s.1 ++ s.2) s.3, length-append s.1 s.2)
 
   later-within : (cs : Pipeline) (ts : List Token) → SpellsLater cs ts → need_of_commands 1 cs ≤ 1 + length ts
   later-within tree.no_command ts s = omega arith
   later-within (tree.command os cs) ts s =
-      let here = command-within 1 os s.1 s.6 in
-      let more = later-within cs s.2 s.7 in
-      omega (arith, here, more, joined ts (s.0 ∷ s.1) s.2 s.3)
+      omega (arith, command-within 1 os s.1 s.6, later-within cs s.2 s.7, joined ts (s.0 ∷ s.1) s.2 s.3)
 
   pipeline-within : (cs : Pipeline) (ts : List Token) → SpellsPipeline cs ts → need_of_commands 0 cs ≤ length ts
   pipeline-within tree.no_command ts s = absurd s
   pipeline-within (tree.command os cs) ts s =
-      let here = command-within 0 os s.0 s.3 in
-      let more = later-within cs s.1 s.4 in
-      omega (arith, command-least 0 os, here, more, joined ts s.0 s.1 s.2)
+      omega (arith, command-least 0 os, command-within 0 os s.0 s.3, later-within cs s.1 s.4, joined ts s.0 s.1 s.2)
 
 -- ---- and so has each variable
 
@@ -109,8 +95,7 @@ header-within : (in_range : Bool) (h : Header) (ts : List Token) → SpellsHeade
 header-within in_range h ts spelled = bound-within h.binding h.pipeline ts spelled.1
 
 given-within : (given : Option Pipeline) (ts : List Token) → SpellsGiven given ts → need_of_given given ≤ 1 + length ts
-given-within None ts s = omega arith
-given-within (Some p) ts s = let n = pipeline-within p ts s in omega (arith, n)
+given-within given ts h = grind (arith, pipeline-within)
 
 pub action-within : (a : Action) (ts : List Token) → SpellsAction a ts → cells_of a ≤ 2 + length ts
 action-within (pipeline_action h) ts s = let n = header-within false h ts s in omega (arith, n)

@@ -1,5 +1,5 @@
 -- For the law that what a file defines can be printed: what holds of the actions that its tokens spell.
-use Rattle.std.proofs.Common.{◌∙◌, ℕ, ◌≤◌, Bool, false, List, [], ◌∷◌, ◌++◌, Some, None, sym, ap, subst}
+use Rattle.std.proofs.Common.{arith, ◌∙◌, ℕ, ◌≤◌, Bool, false, List, [], ◌∷◌, ◌++◌, Some, None, sym, ap, subst}
 use Rattle.tmpl_values.specs.Bytes.{AreBytes}
 use Rattle.tmpl_lex.proofs.NameLemmas.{IsNamed, OfKind}
 use Rattle.tmpl_lex.specs.Piece.{Token}
@@ -100,9 +100,7 @@ of-bound _ p ts d r s =
 
 of-header : (in_range : Bool) (h : Header) (ts : List Token) → depth_of_pipeline h.pipeline ≤ most_deep → AreRead ts
     → SpellsHeader in_range h ts → OfHeader in_range h
-of-header in_range h ts d r spelled =
-    let of = of-bound h.binding h.pipeline ts d r spelled.1 in
-    (spelled.0, of.0, of.1)
+of-header in_range h ts d r spelled = grind (arith, of-bound)
 
 of-named : {Rest : List Token → Type 0} {ts : List Token} (name : List ℕ) → (s : Then (IsQuoted name) Rest ts) → AreRead ts → AreBytes name × AreRead s.2
 of-named name s r = let h = behind s r in (of-constant s.1 (tree.text_constant name) (let t = h.0 in t.bytes) s.5, h.1)

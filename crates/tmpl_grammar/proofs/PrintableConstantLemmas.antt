@@ -1,21 +1,20 @@
 -- For what can be printed: the constants that tokens are, are numbers within the range, and texts of bytes.
-use Rattle.std.proofs.Common.{arith, ◌≡◌, ℕ, zero, suc, ◌+◌, ◌/◌, ◌^◌, ◌<◌, ◌≤◌, Bool, true, false, not, nat_eq, nat_lt, cond}
-use Rattle.std.proofs.Common.{List, [], ◌∷◌, ◌++◌, refl, pos, neg_ℤ, ⊎_elim}
+use Rattle.std.proofs.Common.{arith, ℕ, ◌^◌, ◌<◌, ◌≤◌, not, nat_eq, List, [], ◌∷◌, ◌++◌, refl, pos, neg_ℤ, ⊎_elim, flat_map}
 use lib.IntN.{ℤ}
 use lib.Signed.{mag}
-use lib.Utf8.{next, scalar_cases}
-use Rattle.std.specs.List.{flat_map}
+use lib.Utf8.{scalar_cases}
 use Rattle.std.specs.Char.{encode_utf8, IsScalar}
+use Rattle.std.proofs.lemmas.Bool.{cond_both}
 use Rattle.std.proofs.lemmas.Bool.Decides.{nat_tests}
-use Rattle.tmpl_values.specs.Rune.{Rune, char, byte, bytes_in}
+use Rattle.tmpl_values.specs.Rune.{Rune, bytes_in}
 use Rattle.tmpl_values.specs.Bytes.{AreBytes}
+use Rattle.tmpl_values.proofs.RuneLemmas.{IsRune, AreRunes}
 use Rattle.tmpl_lex.specs.Piece.{Token}
 use Rattle.tmpl_grammar.specs.Tree.{Operand}
 use Rattle.tmpl_grammar.specs.Constant as constant
 use Rattle.tmpl_grammar.specs.Constant.{IsConstant}
-use Rattle.tmpl_grammar.specs.Constant.Integer.{IsInteger, minus, plus, unsigned}
-use Rattle.tmpl_grammar.specs.Constant.Quoted.{code_of, without_returns, IsEscape, a_letter, the_quote, octal, two_digits, four_digits, eight_digits}
-use Rattle.tmpl_grammar.specs.Constant.Quoted.{SpellsRunes, at_end, a_char, a_byte, an_escape}
+use Rattle.tmpl_grammar.specs.Constant.Integer.{IsInteger}
+use Rattle.tmpl_grammar.specs.Constant.Quoted.{code_of, without_returns, IsEscape, SpellsRunes, at_end, a_char, a_byte, an_escape}
 use Rattle.tmpl_grammar.specs.Printable.{OfOperand}
 use Rattle.tmpl_grammar.proofs.DigitLemmas.{hex-byte}
 use Rattle.tmpl_grammar.proofs.PrintableTokenLemmas.{bytes-front}
@@ -24,33 +23,17 @@ use Rattle.tmpl_grammar.proofs.QuotePartLemmas.{letter-ascii}
 -- ---- numbers
 
 neg-range : (n : ℕ) → n ≤ 2 ^ 63 → mag (neg_ℤ (pos n)) < 2 ^ 63
-neg-range zero h = omega arith
-neg-range (suc n) h = omega arith
+neg-range n h = grind (arith, nat_tests)
 
 integer-range : {bs : List ℕ} {n : ℤ} → IsInteger bs n → mag n < 2 ^ 63
-integer-range (minus {n = n} m h) = neg-range n h
-integer-range (plus m h) = h
-integer-range (unsigned m h) = h
+integer-range h = grind (arith, neg-range)
 
 -- ---- the runes of a text
 
-abbrev OfRune : Rune → Type 0
-OfRune (byte b) = b < 256
-OfRune (char c) = IsScalar c
+escape-rune : {quote : ℕ} {s : List ℕ} {r : Rune} → quote < 256 → IsEscape quote s r → IsRune r
+escape-rune h is = grind (arith, hex-byte, letter-ascii)
 
-escape-rune : {quote : ℕ} {s : List ℕ} {r : Rune} → quote < 256 → IsEscape quote s r → OfRune r
-escape-rune h (a_letter {c = c} {letter = e} is other) = let low = letter-ascii c e is in omega (arith, low)
-escape-rune h the_quote = h
-escape-rune h (octal are low) = low
-escape-rune h (two_digits {ds = ds} are) = hex-byte ds are
-escape-rune h (four_digits are s) = s
-escape-rune h (eight_digits are s) = s
-
-abbrev AreOf : List Rune → Type 0
-AreOf [] = Unit {0}
-AreOf (r ∷ rs) = OfRune r × AreOf rs
-
-runes-spelled : {quote : ℕ} {bs : List ℕ} {rs : List Rune} → quote < 256 → SpellsRunes quote bs rs → AreOf rs
+runes-spelled : {quote : ℕ} {bs : List ℕ} {rs : List Rune} → quote < 256 → SpellsRunes quote bs rs → AreRunes rs
 runes-spelled h at_end = tt
 runes-spelled h (a_char s other slash more) = (s, runes-spelled h more)
 runes-spelled h (a_byte none more) = (refl, runes-spelled h more)
@@ -62,39 +45,27 @@ bytes-append : (xs ys : List ℕ) → AreBytes xs → AreBytes ys → AreBytes (
 bytes-append [] ys h k = k
 bytes-append (x ∷ xs) ys h k = (h.0, bytes-append xs ys h.1 k)
 
-encode-by : (a b d : Bool) (c : ℕ) → c < 1114112 → nat_lt c 128 ≡ a → nat_lt c 2048 ≡ b → nat_lt c 65536 ≡ d
-    → AreBytes (cond a (c ∷ []) (cond b ((192 + c / 64) ∷ next c ∷ []) (cond d ((224 + c / 4096) ∷ next (c / 64) ∷ next c ∷ [])
-    ((240 + c / 262144) ∷ next (c / 4096) ∷ next (c / 64) ∷ next c ∷ []))))
-encode-by true b d c h p q r = (grind (arith, nat_tests), tt)
-encode-by false true d c h p q r = (grind (arith, nat_tests), (omega arith, tt))
-encode-by false false true c h p q r = (grind (arith, nat_tests), (omega arith, (omega arith, tt)))
-encode-by false false false c h p q r = (grind (arith, nat_tests), (omega arith, (omega arith, (omega arith, tt))))
-
 below : (c : ℕ) → IsScalar c → c < 1114112
 below c s = ⊎_elim (λ h. omega arith) (λ h. h.1) (scalar_cases c s)
 
-rune-bytes : (r : Rune) → OfRune r → AreBytes (bytes_in r)
+rune-bytes : (r : Rune) → IsRune r → AreBytes (bytes_in r)
 unfolding encode_utf8
-rune-bytes (byte b) h = (h, tt)
-rune-bytes (char c) h = encode-by _ _ _ c (below c h) refl refl refl
+rune-bytes r h = grind (arith, nat_tests, below)
 
-text-bytes : (rs : List Rune) → AreOf rs → AreBytes (flat_map bytes_in rs)
+text-bytes : (rs : List Rune) → AreRunes rs → AreBytes (flat_map bytes_in rs)
 text-bytes [] h = tt
 text-bytes (r ∷ rs) h = bytes-append (bytes_in r) (flat_map bytes_in rs) (rune-bytes r h.0) (text-bytes rs h.1)
 
 raw-bytes : (bs : List ℕ) → AreBytes bs → AreBytes (without_returns bs)
 raw-bytes [] h = tt
-raw-bytes (b ∷ bs) h = go (not (nat_eq b 13)) (raw-bytes bs h.1)
-  where
-    go : (k : Bool) → AreBytes (without_returns bs) → AreBytes (cond k (b ∷ without_returns bs) (without_returns bs))
-    go true ih = (h.0, ih)
-    go false ih = ih
+raw-bytes (b ∷ bs) h =
+    let more = raw-bytes bs h.1 in
+    cond_both (not (nat_eq b 13)) (b ∷ without_returns bs) (without_returns bs) AreBytes (λ e. (h.0, more)) (λ e. more)
 
 -- ---- constants
 
-code-range : (r : Rune) → OfRune r → code_of r < 2 ^ 63
-code-range (byte b) h = omega arith
-code-range (char c) h = let low = below c h in omega arith
+code-range : (r : Rune) → IsRune r → code_of r < 2 ^ 63
+code-range r h = grind (arith, below)
 
 pub of-constant : (t : Token) (o : Operand) → AreBytes t.bytes → IsConstant t o → OfOperand o
 of-constant _ _ h (constant.number is) = integer-range is

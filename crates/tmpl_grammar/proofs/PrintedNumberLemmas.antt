@@ -1,6 +1,5 @@
 -- For `printed_tokens` and `printed_spelling`: a whole number in decimal is one token, and is read as it.
-use Rattle.std.proofs.Common.{arith, ◌≡◌, ℕ, zero, suc, ◌^◌, ◌<◌, true, List}
-use Rattle.std.proofs.Common.{[], ◌∷◌, ◌++◌, get_or, sym, subst, pos, negsuc}
+use Rattle.std.proofs.Common.{arith, ◌≡◌, ℕ, zero, suc, ◌^◌, ◌<◌, true, List, [], ◌∷◌, ◌++◌, get_or, sym, subst, pos, negsuc}
 use lib.IntN.{ℤ}
 use lib.Signed.{mag}
 use Rattle.std.specs.Char.{is_ascii_digit, is_digit}

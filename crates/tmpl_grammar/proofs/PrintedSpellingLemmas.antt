@@ -1,5 +1,5 @@
 -- For `printed_spelling`: the tokens of a printed pipeline or action spell it.
-use Rattle.std.proofs.Common.{◌≡◌, ◌∙◌, ◌<◌, ℕ, Bool, false, List, [], ◌∷◌, ◌++◌, length, Option, Some, None, refl, sym, ap, subst, append_assoc}
+use Rattle.std.proofs.Common.{arith, ◌≡◌, ◌∙◌, ◌<◌, ℕ, Bool, false, List, [], ◌∷◌, ◌++◌, length, Option, refl, sym, ap, subst, append_assoc}
 use Rattle.tmpl_values.specs.Quote.{quote}
 use Rattle.tmpl_values.specs.Printable.{printable}
 use Rattle.tmpl_values.specs.Bytes.{AreBytes}
@@ -8,18 +8,16 @@ use Rattle.tmpl_lex.specs.Piece.{Token}
 use Rattle.tmpl_lex.specs.declared.piece.TokenKind.TheVariants as kind
 use Rattle.tmpl_grammar.specs.Tree as tree
 use Rattle.tmpl_grammar.specs.Tree.{Operand, Operands, Pipeline, Binding, unbound, declare, assign, Header, declare_pair}
-use Rattle.tmpl_grammar.specs.Action.{Action, pipeline_action, opening, else_branch, define_action, template_action, block_action}
-use Rattle.tmpl_grammar.specs.Action.{control_in, IsQuoted, SpellsGiven, SpellsAction}
+use Rattle.tmpl_grammar.specs.Action.{Action, pipeline_action, opening, else_branch, define_action, template_action, block_action, IsQuoted, SpellsGiven}
+use Rattle.tmpl_grammar.specs.Action.{SpellsAction}
 use Rattle.tmpl_grammar.specs.Pipeline.{IsBlank, IsChain, SpellsOperand, SpellsMore, SpellsCommand, SpellsLater, SpellsPipeline}
 use Rattle.tmpl_grammar.specs.Header.{is_range, Then, IsVariable, IsSign, SpellsHeader, SpellsBinding}
 use Rattle.tmpl_grammar.specs.Constant.{IsConstant}
-use Rattle.tmpl_grammar.specs.Keyword.{control_spelling, IsWord}
 use Rattle.tmpl_grammar.specs.Operand as operand
 use Rattle.tmpl_grammar.specs.Operand.{IsOperand}
 use Rattle.tmpl_grammar.specs.Constant as constant
-use Rattle.tmpl_grammar.specs.Print.{token, space, word, chain_tokens, operand_tokens, more_tokens, command_tokens}
-use Rattle.tmpl_grammar.specs.Print.{later_tokens, pipeline_tokens, header_tokens, action_tokens, binding_tokens}
-use Rattle.tmpl_grammar.specs.Print.{given_tokens}
+use Rattle.tmpl_grammar.specs.Print.{token, space, word, chain_tokens, operand_tokens, more_tokens, command_tokens, later_tokens, pipeline_tokens}
+use Rattle.tmpl_grammar.specs.Print.{header_tokens, action_tokens, binding_tokens, given_tokens}
 use Rattle.tmpl_grammar.specs.Printable.{AreFieldNames, OfOperand, OfMore, OfCommand, OfLater, OfCommands, OfPipeline, OfBinding, OfGiven, OfAction, OfHeader}
 use Rattle.tmpl_grammar.proofs.QuotePartLemmas.{inside-spelled}
 use Rattle.tmpl_grammar.proofs.PrintedNumberLemmas.{integer-spelled}
@@ -39,17 +37,21 @@ quoted-constant bs h =
 -- ---- pipelines
 
 -- what stands behind a command: perhaps white space, and bars and commands
-record Follows (cs : Pipeline) : Type 0 where
-  white : List Token
-  others : List Token
-  tokens_are : later_tokens cs ≡ white ++ others
-  blank : IsBlank white
-  spells : SpellsLater cs others
+abbrev Follows : Pipeline → Type 0
+Follows cs = (ws : List Token) × (us : List Token) × (later_tokens cs ≡ ws ++ us) × IsBlank ws × SpellsLater cs us
 
--- a command behind one more space
-spaced : (os : Operands) (ts : List Token) → SpellsCommand os ts → SpellsCommand os (space ∷ ts)
-spaced tree.no_operand ts s = s
-spaced (tree.operand o os) ts s = (space ∷ s.0, s.1, s.2, ap (λ us. space ∷ us) s.3, (refl, s.4), s.5, s.6)
+-- commands, where white space may stand behind the first
+joined : (os : Operands) (cs : Pipeline) → ((ws : List Token) → IsBlank ws → SpellsCommand os (command_tokens os ++ ws)) → Follows cs
+    → SpellsPipeline (tree.command os cs) (command_tokens os ++ later_tokens cs)
+joined os cs spells (ws, us, is, blank, later) =
+    (command_tokens os ++ ws, us, ap (λ us. command_tokens os ++ us) is ∙ sym (append_assoc (command_tokens os) ws us), spells ws blank, later)
+
+-- a pipeline behind one more space
+spaced : (cs : Pipeline) (ts : List Token) → SpellsPipeline cs ts → SpellsPipeline cs (space ∷ ts)
+spaced tree.no_command ts s = s
+spaced (tree.command tree.no_operand cs) ts s = absurd s.3
+spaced (tree.command (tree.operand o os) cs) ts (a, b, is, (ws, c, d, at, blank, first, more), later) =
+    (space ∷ a, b, ap (λ ts. space ∷ ts) is, (space ∷ ws, c, d, ap (λ us. space ∷ us) at, (refl, blank), first, more), later)
 
 mutual
   spells-operand : (o : Operand) → OfOperand o → SpellsOperand o (operand_tokens o)
@@ -62,31 +64,15 @@ mutual
   spells-operand (tree.text_constant bytes) h = (token kind.String (quote bytes), [], refl, operand.a_constant (quoted-constant bytes h), refl)
   spells-operand tree.nil h = (word _, [], refl, operand.nil_word, refl)
   spells-operand (tree.function f) h = (word (name_of f), [], refl, operand.a_function f, refl)
-  spells-operand (tree.group commands names) h = (
-    token kind.LeftParenthesis (40 ∷ []),
-    pipeline_tokens commands,
-    token kind.RightParenthesis (41 ∷ []),
-    chain_tokens names,
-    refl,
-    refl,
-    refl,
-    spells-commands commands h.0,
-    spells-chain names h.1,
-  )
+  spells-operand (tree.group commands names) h =
+      (_, pipeline_tokens commands, _, chain_tokens names, refl, refl, refl, spells-commands commands h.0, spells-chain names h.1)
 
   -- with white space behind it
   spells-more : (os : Operands) (ws : List Token) → OfMore os → IsBlank ws → SpellsMore os (more_tokens os ++ ws)
   spells-more tree.no_operand ws h w = w
-  spells-more (tree.operand o os) ws h w = (
-    space,
-    [],
-    operand_tokens o,
-    more_tokens os ++ ws,
-    ap (λ ts. space ∷ ts) (append_assoc (operand_tokens o) (more_tokens os) ws),
-    (refl, tt),
-    spells-operand o h.0,
-    spells-more os ws h.1 w,
-  )
+  spells-more (tree.operand o os) ws h w =
+      let whole = ap (λ ts. space ∷ ts) (append_assoc (operand_tokens o) (more_tokens os) ws) in
+      (space, [], operand_tokens o, more_tokens os ++ ws, whole, (refl, tt), spells-operand o h.0, spells-more os ws h.1 w)
 
   spells-command : (os : Operands) (ws : List Token) → OfCommand os → IsBlank ws → SpellsCommand os (command_tokens os ++ ws)
   spells-command tree.no_operand ws h w = h
@@ -95,76 +81,32 @@ mutual
 
   -- a command behind white space
   follows : (cs : Pipeline) → OfLater cs → Follows cs
-  follows tree.no_command h = record { white = []; others = []; tokens_are = refl; blank = tt; spells = refl }
+  follows tree.no_command h = ([], [], refl, tt, refl)
   follows (tree.command os cs) h =
-      let f = follows cs h.2 in
-      let behind = spells-command os f.white h.1 f.blank in
-      record {
-        white = space ∷ [];
-        others = token kind.Pipe (124 ∷ []) ∷ space ∷ (command_tokens os ++ later_tokens cs);
-        tokens_are = refl;
-        blank = (refl, tt);
-        spells = (
-          token kind.Pipe (124 ∷ []),
-          space ∷ (command_tokens os ++ f.white),
-          f.others,
-          ap (λ ts. token kind.Pipe (124 ∷ []) ∷ space ∷ ts) (ap (λ us. command_tokens os ++ us) f.tokens_are
-              ∙ sym (append_assoc (command_tokens os) f.white f.others)),
-          refl,
-          h.0,
-          spaced os (command_tokens os ++ f.white) behind,
-          f.spells,
-        );
-      }
+      let bar = token kind.Pipe (124 ∷ []) in
+      let s = spaced (tree.command os cs) _ (joined os cs (λ ws w. spells-command os ws h.1 w) (follows cs h.2)) in
+      (space ∷ [], bar ∷ space ∷ pipeline_tokens (tree.command os cs), refl, (refl, tt), (bar, s.0, s.1, ap (λ ts. bar ∷ ts) s.2, refl, h.0, s.3, s.4))
 
   spells-commands : (cs : Pipeline) → OfCommands cs → SpellsPipeline cs (pipeline_tokens cs)
   spells-commands tree.no_command h = h
-  spells-commands (tree.command os cs) h =
-      let f = follows cs h.1 in (
-        command_tokens os ++ f.white,
-        f.others,
-        ap (λ us. command_tokens os ++ us) f.tokens_are
-            ∙ sym (append_assoc (command_tokens os) f.white f.others),
-        spells-command os f.white h.0 f.blank,
-        f.spells,
-      )
+  spells-commands (tree.command os cs) h = joined os cs (λ ws w. spells-command os ws h.0 w) (follows cs h.1)
 
 -- ---- actions
 
+-- perhaps white space, such a token, and such tokens
+led : {Is : Token → Type 0} {Rest : List Token → Type 0} (ws : List Token) (t : Token) (us : List Token) → IsBlank ws → Is t → Rest us
+    → Then Is Rest (ws ++ t ∷ us)
+led ws t us blank is rest = (ws, t, us, refl, blank, is, rest)
+
 -- a pipeline behind white space
 spaced-pipeline : (cs : Pipeline) → OfPipeline cs → SpellsPipeline cs (space ∷ pipeline_tokens cs)
-spaced-pipeline tree.no_command h = h.0
-spaced-pipeline (tree.command os cs) h =
-    let s = spells-commands (tree.command os cs) h.0 in
-    (space ∷ s.0, s.1, ap (λ ts. space ∷ ts) s.2, spaced os s.0 s.3, s.4)
+spaced-pipeline cs h = spaced cs (pipeline_tokens cs) (spells-commands cs h.0)
 
 -- a variable, and a sign and a pipeline behind it
 signed : (name : List ℕ) (p : Pipeline) (sign : Token) → 0 < length name → OfPipeline p
     → (ws : List Token) → IsBlank ws → Then (IsVariable name) (Then (IsSign sign.kind) (SpellsPipeline p))
     (ws ++ token kind.Variable (36 ∷ name) ∷ space ∷ sign ∷ space ∷ pipeline_tokens p)
-signed name p sign h k ws w = (
-  ws,
-  token kind.Variable (36 ∷ name),
-  space ∷ sign ∷ space ∷ pipeline_tokens p,
-  refl,
-  w,
-  (refl, refl, h),
-  (space ∷ [], sign, space ∷ pipeline_tokens p, refl, (refl, tt), refl, spaced-pipeline p k),
-)
-
--- two variables, and a pipeline behind them
-paired : (key name : List ℕ) (p : Pipeline) → 0 < length key → 0 < length name → OfPipeline p
-    → (ws : List Token) → IsBlank ws → SpellsBinding (declare_pair key name) (SpellsPipeline p)
-    (ws ++ (binding_tokens (declare_pair key name) ++ pipeline_tokens p))
-paired key name p h i k ws w = (
-  ws,
-  token kind.Variable (36 ∷ key),
-  token kind.Comma (44 ∷ []) ∷ space ∷ token kind.Variable (36 ∷ name) ∷ space ∷ token kind.Declare (58 ∷ 61 ∷ []) ∷ space ∷ pipeline_tokens p,
-  refl,
-  w,
-  (refl, refl, h),
-  ([], token kind.Comma (44 ∷ []), _, refl, tt, refl, signed name p (token kind.Declare (58 ∷ 61 ∷ [])) i k (space ∷ []) (refl, tt)),
-)
+signed name p sign h k ws w = led ws _ _ w (refl, refl, h) (led (space ∷ []) _ _ (refl, tt) refl (spaced-pipeline p k))
 
 -- a header behind white space
 spells-bound : (b : Binding) (p : Pipeline) → OfBinding b → OfPipeline p → (ws : List Token) → IsBlank ws → SpellsPipeline p (ws ++ pipeline_tokens p)
@@ -172,33 +114,27 @@ spells-bound : (b : Binding) (p : Pipeline) → OfBinding b → OfPipeline p →
 spells-bound unbound p h k ws w s = s
 spells-bound (declare name) p h k ws w s = signed name p (token kind.Declare (58 ∷ 61 ∷ [])) h.0 k ws w
 spells-bound (assign name) p h k ws w s = signed name p (token kind.Assign (61 ∷ [])) h.0 k ws w
-spells-bound (declare_pair key name) p h k ws w s = paired key name p h.0.0 h.1.0 k ws w
+spells-bound (declare_pair key name) p h k ws w s =
+    led ws _ _ w (refl, refl, h.0.0) (led [] _ _ tt refl (signed name p (token kind.Declare (58 ∷ 61 ∷ [])) h.1.0 k (space ∷ []) (refl, tt)))
 
 spells-header : (in_range : Bool) (h : Header) → OfHeader in_range h → SpellsHeader in_range h (space ∷ header_tokens h)
 spells-header in_range h of = (of.0, spells-bound h.binding h.pipeline of.1 of.2 (space ∷ []) (refl, tt) (spaced-pipeline h.pipeline of.2))
 
 spells-given : (given : Option Pipeline) → OfGiven given → SpellsGiven given (given_tokens given)
-spells-given None h = tt
-spells-given (Some p) h = spaced-pipeline p h
+spells-given given h = grind (arith, spaced-pipeline)
 
--- a keyword, and a name in quotes, before what stands behind it
-keyed : (ws : List Token) (spelling : List ℕ) (Rest : List Token → Type 0) (ts : List Token) → IsBlank ws → Rest ts
-    → Then (IsWord spelling) Rest (ws ++ word spelling ∷ ts)
-keyed ws spelling Rest ts w r = (ws, word spelling, ts, refl, w, (refl, refl), r)
-
-named : (name : List ℕ) (Rest : List Token → Type 0) (ts : List Token) → AreBytes name → Rest ts
+-- a name in quotes, before what stands behind it
+named : {name : List ℕ} {Rest : List Token → Type 0} {ts : List Token} → AreBytes name → Rest ts
     → Then (IsQuoted name) Rest (space ∷ token kind.String (quote name) ∷ ts)
-named name Rest ts h r = (space ∷ [], token kind.String (quote name), ts, refl, (refl, tt), quoted-constant name h, r)
+named h r = led (space ∷ []) _ _ (refl, tt) (quoted-constant _ h) r
 
 pub spells-tokens : (a : Action) → OfAction a → SpellsAction a (action_tokens a)
 spells-tokens (pipeline_action h) of = (of.0, spells-bound h.binding h.pipeline of.1 of.2 [] tt (spells-commands h.pipeline (let o = of.2 in o.0)))
-spells-tokens (opening c h) of = keyed [] _ (SpellsHeader (is_range c) h) _ tt (spells-header (is_range c) h of)
-spells-tokens (else_branch br h) of =
-    keyed [] _ (Then (IsWord (control_spelling (control_in br))) (SpellsHeader false h)) _ tt
-    (keyed (space ∷ []) _ (SpellsHeader false h) _ (refl, tt) (spells-header false h of))
-spells-tokens (define_action name) of = keyed [] _ (Then (IsQuoted name) IsBlank) _ tt (named name IsBlank [] of tt)
-spells-tokens (template_action name given) of =
-    keyed [] _ (Then (IsQuoted name) (SpellsGiven given)) _ tt (named name (SpellsGiven given) (given_tokens given) of.0 (spells-given given of.1))
-spells-tokens (block_action name p) of =
-    keyed [] _ (Then (IsQuoted name) (SpellsPipeline p)) _ tt (named name (SpellsPipeline p) (given_tokens (Some p)) of.0 (spaced-pipeline p of.1))
-spells-tokens _ of = keyed [] _ IsBlank [] tt tt
+spells-tokens (opening c h) of = led [] _ _ tt (refl, refl) (spells-header (is_range c) h of)
+spells-tokens (else_branch br h) of = led [] _ _ tt (refl, refl) (led (space ∷ []) _ _ (refl, tt) (refl, refl) (spells-header false h of))
+spells-tokens (define_action name) of = led [] _ _ tt (refl, refl) (named of tt)
+spells-tokens (template_action name given) of = led [] _ _ tt (refl, refl) (named of.0 (spells-given given of.1))
+spells-tokens (block_action name p) of = led [] _ _ tt (refl, refl) (named of.0 (spaced-pipeline p of.1))
+spells-tokens _ of = led [] _ _ tt (refl, refl) tt
+
+pub ruleset spellings = (spells-tokens)

@@ -1,9 +1,8 @@
 -- For `printed_spelling`: what stands between the quotes of a quote spells the text.
-use Rattle.std.proofs.Common.{◌≡◌, ◌∙◌, ℕ, ◌^◌, ◌<◌, Bool, true, false, nat_eq, nat_lt, ◌||◌, List, [], ◌∷◌, ◌++◌, Option, Some, None}
-use Rattle.std.proofs.Common.{refl, sym, ap, subst, arith, drop, if◌then◌else◌}
-use Rattle.std.specs.List.{flat_map}
+use Rattle.std.proofs.Common.{◌≡◌, ◌∙◌, ℕ, ◌^◌, ◌<◌, Bool, true, false, nat_eq, nat_lt, ◌||◌, List, [], ◌∷◌, ◌++◌, Option, Some, None, refl, sym, ap, subst}
+use Rattle.std.proofs.Common.{arith, if◌then◌else◌, flat_map}
 use Rattle.std.specs.Char.{encode_utf8, IsScalar}
-use Rattle.std.proofs.lemmas.Bool.{eqb-true}
+use Rattle.std.proofs.lemmas.Bool.{eqb-true, eqb-false}
 use Rattle.std.proofs.lemmas.Bool.Decides.{nat_tests}
 use Rattle.std.proofs.lemmas.Str.{encode_ascii}
 use lib.Utf8.{scalar, scalar_fits}
@@ -11,8 +10,7 @@ use Rattle.tmpl_values.specs.Rune.{Rune, char, byte, bytes_in, runes}
 use Rattle.tmpl_values.specs.Quote.{letters, letter_of, hexes, rune_spelling, spelling, inside}
 use Rattle.tmpl_values.specs.Bytes.{AreBytes}
 use Rattle.tmpl_values.proofs.RuneLemmas.{IsRune, AreRunes, are_runes, text-runes}
-use Rattle.tmpl_grammar.specs.Constant.Quoted.{IsEscape, a_letter, the_quote, two_digits, four_digits, eight_digits}
-use Rattle.tmpl_grammar.specs.Constant.Quoted.{SpellsRunes, at_end, a_char, an_escape}
+use Rattle.tmpl_grammar.specs.Constant.Quoted.{IsEscape, a_letter, the_quote, two_digits, four_digits, eight_digits, SpellsRunes, at_end, a_char, an_escape}
 use Rattle.tmpl_grammar.proofs.HexLemmas.{are-hexes, value-hexes}
 
 -- bytes between double quotes that spell the runes of this text
@@ -38,14 +36,14 @@ unlettered c k e there none same = let n : Some e ≡ None = sym there ∙ sym (
 -- ---- escapes
 
 letter-escape : (c e : ℕ) → letter_of c letters ≡ Some e → IsEscape 34 (92 ∷ e ∷ []) (byte c)
-letter-escape c e is = by (nat_eq c 34) refl is
+letter-escape c e is = by (nat_eq c 34) refl
   where
-    by : (b : Bool) → nat_eq c 34 ≡ b → (if b then Some 34 else letter_of c (drop 1 letters)) ≡ Some e → IsEscape 34 (92 ∷ e ∷ []) (byte c)
-    by true h k =
-        let same : 34 ≡ c = sym (eqb-true c 34 h) in
-        let letter : 34 ≡ e = cc in
-        rw (sym letter, sym same) the_quote
-    by false h k = a_letter is (λ same. grind (arith, nat_tests))
+    by : (b : Bool) → nat_eq c 34 ≡ b → IsEscape 34 (92 ∷ e ∷ []) (byte c)
+    by true h =
+        let same : c ≡ 34 = eqb-true c 34 h in
+        let letter : e ≡ 34 = grind (arith, nat_tests) in
+        rw (letter, same) the_quote
+    by false h = a_letter is (eqb-false c 34 h)
 
 x-escape : (b : ℕ) → b < 256 → IsEscape 34 (92 ∷ 120 ∷ hexes 2 b) (byte b)
 x-escape b h = subst (λ n. IsEscape 34 (92 ∷ 120 ∷ hexes 2 b) (byte n)) (value-hexes 2 b h) (two_digits (are-hexes 2 b))

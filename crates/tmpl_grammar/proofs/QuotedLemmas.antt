@@ -1,7 +1,6 @@
 -- For `unquote`: the parts of a text between quotes, from the first one on.
-use Rattle.std.proofs.Common.{◌≡◌, ℕ, zero, suc, ◌-◌, ◌<◌, ◌≤◌, List, [], ◌∷◌, ◌++◌, length, drop, Option, Some, None, refl, sym, ap}
-use Rattle.std.proofs.Common.{arith, option_map, append_assoc, append-nil}
-use Rattle.std.specs.List.{flat_map}
+use Rattle.std.proofs.Common.{◌≡◌, ℕ, zero, suc, ◌<◌, ◌≤◌, List, [], ◌∷◌, ◌++◌, length, drop, Option, Some, None, refl, sym, ap, arith, option_map}
+use Rattle.std.proofs.Common.{append_assoc, append-nil, flat_map}
 use Rattle.tmpl_values.specs.Rune.{Rune, bytes_in}
 use Rattle.tmpl_grammar.specs.computed.Quoted.{Spelled, part_at, with_part, parts_after, parts, unquoted}
 
@@ -18,10 +17,7 @@ parts-nil quote = refl
 pub parts-first : (quote : ℕ) (bs : List ℕ) (p : Spelled) → 0 < length bs → part_at quote bs ≡ Some p → 0 < p.1 → p.1 ≤ length bs
     → parts quote bs ≡ with_part p.0 (parts quote (drop p.1 bs))
 unfolding parts
-parts-first quote [] p h is low high = absurd (omega arith)
-parts-first quote (b ∷ bs) p h is low high =
-    let n : p.1 ≡ suc (p.1 - 1) = omega arith in
-    simp (is, skip-to quote (p.1 - 1) bs (omega arith)) (ap (λ k. with_part p.0 (parts_after quote 0 (drop k (b ∷ bs)))) (sym n))
+parts-first quote bs p h k l e = grind (arith, skip-to)
 
 pub parts-none : (quote : ℕ) (bs : List ℕ) → 0 < length bs → part_at quote bs ≡ None → parts quote bs ≡ None
 unfolding parts
@@ -39,8 +35,7 @@ led-led s t None = refl
 led-led s t (Some u) = ap Some (sym (append_assoc s t u))
 
 text-with : (p : Rune) (ps : Option (List Rune)) → option_map (flat_map bytes_in) (with_part p ps) ≡ led (bytes_in p) (option_map (flat_map bytes_in) ps)
-text-with p None = refl
-text-with p (Some ps) = refl
+text-with p ps = grind arith
 
 pub unquoted-first : (quote : ℕ) (s bs : List ℕ) (p : Spelled) → 0 < length bs → part_at quote bs ≡ Some p → 0 < p.1 → p.1 ≤ length bs
     → led s (unquoted quote bs) ≡ led (s ++ bytes_in p.0) (unquoted quote (drop p.1 bs))
@@ -52,3 +47,5 @@ unquoted-none quote s bs h is = simp (parts-none quote bs h is)
 pub unquoted-end : (quote : ℕ) (s bs : List ℕ) → length bs ≤ 0 → led s (unquoted quote bs) ≡ Some s
 unquoted-end quote s [] h = simp (parts-nil quote, append-nil)
 unquoted-end quote s (b ∷ bs) h = absurd (omega arith)
+
+pub ruleset ends = (unquoted-none, unquoted-end)

@@ -1,8 +1,9 @@
 -- For `one_reading`: what is read is what the grammar spells, by induction on the tokens.
-use Rattle.std.proofs.Common.{◌≡◌, ◌∙◌, ℕ, true, false, Bool, List, [], ◌∷◌, ◌++◌, Option, Some, None, IfSome, refl, ap, sym, append_assoc}
+use Rattle.std.proofs.Common.{arith, ◌≡◌, ◌∙◌, ℕ, true, List, [], ◌∷◌, ◌++◌, Option, Some, None, IfSome, refl, ap, sym, append_assoc}
 use Rattle.std.proofs.lemmas.List.{append-nil}
 use Rattle.std.specs.Option.{option_map, option_and_then}
 use Rattle.std.proofs.lemmas.Option.{IfSome_then}
+use Rattle.std.proofs.lemmas.Bool.{cond_both}
 use Rattle.tmpl_lex.specs.declared.piece.TokenKind.{TokenKind}
 use Rattle.tmpl_lex.specs.declared.piece.TokenKind.TheVariants as kind
 use Rattle.tmpl_lex.specs.Piece.{Token}
@@ -23,25 +24,21 @@ use Rattle.tmpl_grammar.proofs.SpelledLemmas.{parser_at, operand_list, command_l
 
 -- ---- what is read so far
 
--- the first operand of a command, where it may begin it
-abbrev MayBegin : List Operands → Operands → Type 0
-MayBegin cs tree.no_operand = ⊥
-MayBegin cs (tree.operand o os) = may_stand cs [] o ≡ true
-
 -- perhaps white space, and perhaps more operands
 abbrev SpellsApart : Operands → List Token → Type 0
 SpellsApart tree.no_operand ts = IsBlank ts
 SpellsApart (tree.operand o os) ts = SpellsCommand (tree.operand o os) ts
 
--- these operands may stand behind those of the command
-abbrev Behind : List Operands → List Operand → Operands → List Token → Type 0
-Behind cs [] ms ts = SpellsCommand ms ts × MayBegin cs ms
-Behind cs (o ∷ os) ms ts = SpellsApart ms ts
+-- these operands may stand behind those of the command, of which there is one at least then
+abbrev MayFollow : List Operands → List Operand → Operands → Type 0
+MayFollow cs os (tree.operand o ms) = may_stand cs os o ≡ true
+MayFollow cs [] tree.no_operand = ⊥
+MayFollow cs (o ∷ os) tree.no_operand = Unit {0}
 
 -- with any such operands and any later commands behind them, the tokens are a pipeline
 abbrev Begins : List Operands → List Operand → List Token → Type 0
 Begins cs os ts =
-    (ms : Operands) (later : Pipeline) (us vs : List Token) → Behind cs os ms us → SpellsLater later vs
+    (ms : Operands) (later : Pipeline) (us vs : List Token) → SpellsApart ms us → MayFollow cs os ms → SpellsLater later vs
     → SpellsPipeline (commands_from (cs ++ operands_from (os ++ operand_list ms) ∷ command_list later)) (ts ++ (us ++ vs))
 
 -- so they are, and perhaps an operand that has nothing behind it
@@ -54,48 +51,34 @@ Reads cs os (Some o) ts =
 abbrev Ends : List Operands → List Token → Type 0
 Ends cs ts = (later : Pipeline) (vs : List Token) → SpellsLater later vs → SpellsPipeline (commands_from (cs ++ command_list later)) (ts ++ vs)
 
-begins-start : Begins [] [] []
-begins-start ms later us vs s l = rw (operands-back ms, commands-back later) (us, vs, refl, s.0, l)
+whole-command : (cs : List Operands) (ms : Operands) (us : List Token) → SpellsApart ms us → MayFollow cs [] ms → SpellsCommand ms us
+whole-command cs ms us h k = grind arith
 
--- an operand, and such tokens behind it
-operand-behind : (cs : List Operands) (os : List Operand) (o : Operand) (ms : Operands) (ts b us : List Token) → ts ≡ b ++ us → SpellsOperand o b
-    → may_stand cs os o ≡ true → SpellsMore ms us → Behind cs os (tree.operand o ms) ts
-operand-behind cs [] o ms ts b us is spells may more = (([], b, us, is, tt, spells, more), may)
-operand-behind cs (p ∷ os) o ms ts b us is spells may more = ([], b, us, is, tt, spells, more)
+begins-start : Begins [] [] []
+begins-start ms later us vs s may l = rw (operands-back ms, commands-back later) (us, vs, refl, whole-command [] ms us s may, l)
 
 -- white space
 module _ (t : Token) (is : t.kind ≡ kind.Space) (cs : List Operands) (os : List Operand) where
   begins-spaced : (ts : List Token) → Begins cs os ts → Begins cs os (ts ++ t ∷ [])
-  begins-spaced ts f ms later us vs s l =
-      rw (append_assoc ts (t ∷ []) (us ++ vs)) (f ms later (t ∷ us) vs (by os ms s) l)
+  begins-spaced ts f ms later us vs s may l = rw (append_assoc ts (t ∷ []) (us ++ vs)) (f ms later (t ∷ us) vs (spaced ms s) may l)
     where
-      spaced : (ms : Operands) → SpellsCommand ms us → SpellsCommand ms (t ∷ us)
-      spaced tree.no_operand s = absurd s
+      spaced : (ms : Operands) → SpellsApart ms us → SpellsApart ms (t ∷ us)
+      spaced tree.no_operand s = (is, s)
       spaced (tree.operand p ps) (ws, a, b, at, blank, spells, rest) = (t ∷ ws, a, b, ap (λ us. t ∷ us) at, (is, blank), spells, rest)
-
-      by : (os : List Operand) (ms : Operands) → Behind cs os ms us → Behind cs os ms (t ∷ us)
-      by [] ms s = (spaced ms s.0, s.1)
-      by (o ∷ os) tree.no_operand s = (is, s)
-      by (o ∷ os) (tree.operand p ps) s = spaced (tree.operand p ps) s
 
   begins-operand : (o : Operand) (a b : List Token) → Begins cs os a → SpellsOperand o b → may_stand cs os o ≡ true
       → Begins cs (os ++ o ∷ []) ((a ++ b) ++ t ∷ [])
-  begins-operand o a b f spells may ms later us vs s l =
-      simp append_assoc (simp append_assoc at
-      (f (tree.operand o ms) later (b ++ t ∷ us) vs (operand-behind cs os o ms _ b (t ∷ us) refl spells may (by os s)) l))
+  begins-operand o a b f spells stands ms later us vs s may l =
+      simp append_assoc (simp append_assoc at (f (tree.operand o ms) later (b ++ t ∷ us) vs ([], b, t ∷ us, refl, tt, spells, apart ms s) stands l))
     where
       apart : (ms : Operands) → SpellsApart ms us → SpellsMore ms (t ∷ us)
       apart tree.no_operand s = (is, s)
       apart (tree.operand p ps) (ws, a, b, at, blank, spells, rest) = (t, ws, a, b, ap (λ us. t ∷ us) at, (is, blank), spells, rest)
 
-      by : (os : List Operand) → Behind cs (os ++ o ∷ []) ms us → SpellsMore ms (t ∷ us)
-      by [] s = apart ms s
-      by (q ∷ os) s = apart ms s
-
 -- ---- ends of commands
 
 -- behind a whole command stands a later one
-begins-later : (cs : List Operands) (c ms : Operands) → MayBegin (cs ++ c ∷ []) ms → MayBeLater ms
+begins-later : (cs : List Operands) (c ms : Operands) → MayFollow (cs ++ c ∷ []) [] ms → MayBeLater ms
 begins-later cs c tree.no_operand may = absurd may
 begins-later [] c (tree.operand p ps) may = may
 begins-later (d ∷ cs) c (tree.operand p ps) may = may
@@ -103,29 +86,30 @@ begins-later (d ∷ cs) c (tree.operand p ps) may = may
 -- these are the whole commands, with the one that ends
 record Completes (cs : List Operands) (os : List Operand) (last : Option Operand) (done : List Operands) : Type 0 where
   ends : (ts : List Token) → Reads cs os last ts → Ends done ts
-  later : (ms : Operands) → MayBegin done ms → MayBeLater ms
+  later : (ms : Operands) → MayFollow done [] ms → MayBeLater ms
 
 completes : (cs : List Operands) (os : List Operand) (last : Option Operand) → IfSome (more_commands cs (settled last os)) (Completes cs os last)
 completes cs [] None = tt
 completes cs (o ∷ os) None = record {
   ends = λ ts f later vs l.
-      rw (append_assoc cs (operands_from (o ∷ os) ∷ []) (command_list later)) (rw (append-nil os) at (f tree.no_operand later [] vs tt l));
+      rw (append_assoc cs (operands_from (o ∷ os) ∷ []) (command_list later)) (rw (append-nil os) at (f tree.no_operand later [] vs tt tt l));
   later = begins-later cs (operands_from (o ∷ os));
 }
 completes cs os (Some o) = rw (more-whole cs os o) (record {
   ends = λ ts r later vs l.
       rw (r.2, append_assoc r.0 r.1 vs, append_assoc cs (operands_from (os ++ o ∷ []) ∷ []) (command_list later))
-      (r.3 (tree.operand o tree.no_operand) later r.1 vs (operand-behind cs os o tree.no_operand r.1 r.1 [] (sym (append-nil r.1)) r.4 r.5 tt) l);
+      (r.3 (tree.operand o tree.no_operand) later r.1 vs ([], r.1, [], sym (append-nil r.1), tt, r.4, tt) r.5 l);
   later = begins-later cs (operands_from (os ++ o ∷ []));
 })
 
 ends-whole : (cs : List Operands) (ts : List Token) → Ends cs ts → SpellsPipeline (commands_from cs) ts
 ends-whole cs ts f = simp append-nil at (f tree.no_command [] refl)
 
-begins-barred : (t : Token) (cs : List Operands) (ts : List Token) → t.kind ≡ kind.Pipe → ((ms : Operands) → MayBegin cs ms → MayBeLater ms)
+begins-barred : (t : Token) (cs : List Operands) (ts : List Token) → t.kind ≡ kind.Pipe → ((ms : Operands) → MayFollow cs [] ms → MayBeLater ms)
     → Ends cs ts → Begins cs [] (ts ++ t ∷ [])
-begins-barred t cs ts is may f ms later us vs s l =
-    rw (operands-back ms, append_assoc ts (t ∷ []) (us ++ vs)) (f (tree.command ms later) (t ∷ us ++ vs) (t, us, vs, refl, is, may ms s.1, s.0, l))
+begins-barred t cs ts is later_may f ms later us vs s may l =
+    rw (operands-back ms, append_assoc ts (t ∷ []) (us ++ vs))
+    (f (tree.command ms later) (t ∷ us ++ vs) (t, us, vs, refl, is, later_may ms may, whole-command cs ms us s may, l))
 
 -- ---- operands
 
@@ -134,13 +118,8 @@ abbrev IsOne : Operand → Type 0
 IsOne (tree.fields []) = ⊥
 IsOne _ = Unit {0}
 
-constant-one : (t : Token) (o : Operand) → IsConstant t o → IsOne o × ((ts : List Token) → IsChained o [] ts → SpellsOperand o ts)
-constant-one _ _ (constant.number is) = (tt, λ ts c. c)
-constant-one _ _ _ = (tt, λ ts c. c)
-
 is-one : (t : Token) (o : Operand) → IsOperand t o → IsOne o × ((ts : List Token) → IsChained o [] ts → SpellsOperand o ts)
-is-one t _ (operand.field is begins) = (tt, λ ts c. c)
-is-one t o (operand.a_constant is) = constant-one t o is
+is-one _ _ (operand.a_constant (constant.number is)) = (tt, λ ts c. c)
 is-one _ _ _ = (tt, λ ts c. c)
 
 module _ (t : Token) (is : t.kind ≡ kind.Field) (begins : begins_name (name_in t) ≡ true) where
@@ -202,35 +181,28 @@ module _ (t : Token) (ls : List Partial) (cs : List Operands) (os : List Operand
   open-read None is r = (ts, t, [], refl, is, r, begins-start)
   open-read (Some o) is r = tt
 
-  kept-read : (o : Operand) → IsOperand t o → (b : Bool) → may_stand cs os o ≡ b → HasRead ls cs os None ts
-      → Read (kept_if b (parser_at ls cs os (Some o))) (ts ++ t ∷ [])
-  kept-read o is true may r =
-      within ls cs cs os os None (Some o) (t ∷ []) (λ us f. (us, t ∷ [], refl, f, (is-one t o is).1 (t ∷ []) (t, [], refl, is, refl), may)) ts r
-  kept-read o is false may r = tt
-
   placed-read : (last o : Option Operand) → IfSome o (IsOperand t) → HasRead ls cs os last ts
       → Read (parser.placed last o (parser_at ls cs os last)) (ts ++ t ∷ [])
   placed-read None None is r = tt
-  placed-read None (Some o) is r = kept-read o is (may_stand cs os o) refl r
+  placed-read None (Some o) is r = cond_both _ _ _ (λ h. Read h (ts ++ t ∷ [])) (λ may.
+      within ls cs cs os os None (Some o) (t ∷ []) (λ us f. (us, t ∷ [], refl, f, (is-one t o is).1 (t ∷ []) (t, [], refl, is, refl), may)) ts r) (λ may. tt)
   placed-read (Some p) o is r = tt
 
-  link-read : (o : Operand) → t.kind ≡ kind.Field → (b : Bool) → begins_name (name_in t) ≡ b → HasRead ls cs os (Some o) ts
-      → Read (option_map (parser.ending_with (parser_at ls cs os (Some o))) (linked_by b o (name_in t))) (ts ++ t ∷ [])
-  link-read o is false begins r = tt
-  link-read o is true begins r = by (linked o (name_in t)) (linked-spells t is begins o)
-    where
-      by : (p : Option Operand) → ((us : List Token) → SpellsOperand o us → IfSome p (λ p. SpellsOperand p (us ++ t ∷ []) × (begins_later p ≡ true)))
-          → Read (option_map (parser.ending_with (parser_at ls cs os (Some o))) p) (ts ++ t ∷ [])
-      by None linked = tt
-      by (Some p) linked = within ls cs cs os os (Some o) (Some p) (t ∷ []) (λ us r.
-          let l = linked r.1 r.4 in
-          let whole = ap (λ xs. xs ++ t ∷ []) r.2 ∙ append_assoc r.0 r.1 (t ∷ []) in
-          (r.0, r.1 ++ t ∷ [], whole, r.3, l.0, stands-anywhere cs os p l.1)) ts r
+  link-read : (o : Operand) → HasRead ls cs os (Some o) ts
+      → (p : Option Operand) → ((us : List Token) → SpellsOperand o us → IfSome p (λ p. SpellsOperand p (us ++ t ∷ []) × (begins_later p ≡ true)))
+      → Read (option_map (parser.ending_with (parser_at ls cs os (Some o))) p) (ts ++ t ∷ [])
+  link-read o r None linked = tt
+  link-read o r (Some p) linked = within ls cs cs os os (Some o) (Some p) (t ∷ []) (λ us r.
+      let l = linked r.1 r.4 in
+      let whole = ap (λ xs. xs ++ t ∷ []) r.2 ∙ append_assoc r.0 r.1 (t ∷ []) in
+      (r.0, r.1 ++ t ∷ [], whole, r.3, l.0, stands-anywhere cs os p l.1)) ts r
 
   field-read : (last : Option Operand) → t.kind ≡ kind.Field → HasRead ls cs os last ts
       → Read (parser.fielded last t (parser_at ls cs os last)) (ts ++ t ∷ [])
   field-read None is r = placed-read None (operand_at t) (operand-admitted t) r
-  field-read (Some o) is r = link-read o is (begins_name (name_in t)) refl r
+  field-read (Some o) is r =
+      cond_both _ _ _ (λ p. Read (option_map (parser.ending_with (parser_at ls cs os (Some o))) p) (ts ++ t ∷ []))
+      (λ begins. link-read o r (linked o (name_in t)) (linked-spells t is begins o)) (λ begins. tt)
 
 close-read : (t : Token) (ls : List Partial) (cs : List Operands) (os : List Operand) (ts : List Token) (last : Option Operand)
     → t.kind ≡ kind.RightParenthesis → (done : Option (List Operands)) → IfSome done (Completes cs os last) → HasRead ls cs os last ts

@@ -1,16 +1,12 @@
 -- For `one_reading`: what the grammar spells is read, by induction on the tree.
-use Rattle.std.proofs.Common.{◌≡◌, ◌∙◌, ℕ, true, List, [], ◌∷◌, ◌++◌, Option, Some, None, refl, ap, sym, append_assoc}
+use Rattle.std.proofs.Common.{arith, ◌≡◌, ◌∙◌, ℕ, true, List, [], ◌∷◌, ◌++◌, Option, Some, None, refl, ap, sym, subst, append_assoc, option_and_then}
 use Rattle.std.proofs.lemmas.List.{append-nil}
-use Rattle.std.specs.Option.{option_and_then}
 use Rattle.tmpl_lex.specs.declared.piece.TokenKind.{TokenKind}
 use Rattle.tmpl_lex.specs.declared.piece.TokenKind.TheVariants as kind
 use Rattle.tmpl_lex.specs.Piece.{Token}
 use Rattle.tmpl_grammar.specs.Token.{begins_name, name_in}
 use Rattle.tmpl_grammar.specs.Tree as tree
 use Rattle.tmpl_grammar.specs.Tree.{Operand, Operands, Pipeline, operands_from, commands_from}
-use Rattle.tmpl_grammar.specs.Constant as constant
-use Rattle.tmpl_grammar.specs.Constant.{IsConstant}
-use Rattle.tmpl_grammar.specs.Operand as operand
 use Rattle.tmpl_grammar.specs.Operand.{IsOperand, begins_later}
 use Rattle.tmpl_grammar.specs.computed.Operand.{operand_at}
 use Rattle.tmpl_grammar.specs.computed.Parser as parser
@@ -59,18 +55,10 @@ white-steps : (ls : List Partial) (cs : List Operands) (os : List Operand) (o : 
 white-steps ls cs os o t ts b = simp (step-at kind.Space t (parser_at ls cs os (Some o)) b.0, blank-steps ls cs (os ++ o ∷ []) ts b.1)
 
 -- a token that is an operand of its own, of whatever kind it is
-constant-step : (t : Token) (o : Operand) → IsConstant t o → (h : Parser) → step t h ≡ parser.placed h.last (operand_at t) h
-unfolding step
-constant-step _ _ (constant.number is) h = refl
-constant-step _ _ _ h = refl
-
 operand-step : (t : Token) (o : Operand) → IsOperand t o → (ls : List Partial) (cs : List Operands) (os : List Operand)
     → step t (parser_at ls cs os None) ≡ parser.placed None (operand_at t) (parser_at ls cs os None)
 unfolding step
-operand-step t _ (operand.field is begins) ls cs os = simp is
-operand-step t _ (operand.variable is) ls cs os = simp is
-operand-step t o (operand.a_constant is) ls cs os = constant-step t o is (parser_at ls cs os None)
-operand-step _ _ _ ls cs os = refl
+operand-step t o is ls cs os = grind arith
 
 placed-step : (t : Token) (o : Operand) (ls : List Partial) (cs : List Operands) (os : List Operand) → IsOperand t o
     → may_stand cs os o ≡ true → step t (parser_at ls cs os None) ≡ Some (parser_at ls cs os (Some o))
@@ -104,29 +92,12 @@ chained-steps f can ns names ls cs os ts (t, us, is, at, rest) may =
     simp (is, placed-step t (f ns) ls cs os at may, chain-steps f can ls cs os names ns us rest)
 
 stands-behind : (cs : List Operands) (os : List Operand) (p o : Operand) → may_stand cs (os ++ p ∷ []) o ≡ true
-stands-behind [] os p o = refl
-stands-behind (c ∷ cs) [] p o = refl
-stands-behind (c ∷ cs) (q ∷ os) p o = refl
-
--- the first operand of a command may stand
-abbrev StandsFirst : List Operands → Operands → Type 0
-StandsFirst cs tree.no_operand = Unit {0}
-StandsFirst cs (tree.operand o os) = may_stand cs [] o ≡ true
-
-first-of-all : (os : Operands) → StandsFirst [] os
-first-of-all tree.no_operand = tt
-first-of-all (tree.operand o os) = refl
-
-first-later : (cs : List Operands) (os : Operands) → MayBeLater os → StandsFirst cs os
-first-later cs tree.no_operand may = tt
-first-later [] (tree.operand o os) may = refl
-first-later (c ∷ cs) (tree.operand o os) may = may
+stands-behind cs [] p o = grind arith
+stands-behind cs (q ∷ os) p o = grind arith
 
 -- an operand that may begin a later command may stand anywhere
 pub stands-anywhere : (cs : List Operands) (os : List Operand) (o : Operand) → begins_later o ≡ true → may_stand cs os o ≡ true
-stands-anywhere [] os o e = refl
-stands-anywhere (c ∷ cs) [] o e = e
-stands-anywhere (c ∷ cs) (q ∷ os) o e = refl
+stands-anywhere cs os o e = grind arith
 
 -- ---- what is reached
 
@@ -137,10 +108,9 @@ pub record Ended (h : Parser) (ts : List Token) (ls : List Partial) (cs : List O
   pub outer_is : end.outer ≡ ls
   pub closed_is : closed end ≡ Some cs
 
-ended-along : (h n : Parser) (us vs : List Token) (ls : List Partial) (cs : List Operands) → steps (Some h) us ≡ Some n → Ended n vs ls cs
-    → Ended h (us ++ vs) ls cs
-ended-along h n us vs ls cs to e =
-    record { end = e.end; to = simp (steps-append (Some h) us vs, to, e.to); outer_is = e.outer_is; closed_is = e.closed_is }
+ended-along : {h n : Parser} (us : List Token) {vs : List Token} {ls : List Partial} {cs : List Operands} → steps (Some h) us ≡ Some n
+    → Ended n vs ls cs → Ended h (us ++ vs) ls cs
+ended-along us to e = record { end = e.end; to = simp (steps-append, to, e.to); outer_is = e.outer_is; closed_is = e.closed_is }
 
 pub more-whole : (cs : List Operands) (os : List Operand) (o : Operand) → more_commands cs (os ++ o ∷ []) ≡ Some (cs ++ operands_from (os ++ o ∷ []) ∷ [])
 more-whole cs [] o = refl
@@ -163,17 +133,10 @@ close-step h l ls cs t is outer whole = simp (step-at kind.RightParenthesis t h 
 mutual
   operand-read : (o : Operand) (ts : List Token) → SpellsOperand o ts → (ls : List Partial) (cs : List Operands) (os : List Operand)
       → may_stand cs os o ≡ true → steps (Some (parser_at ls cs os None)) ts ≡ Some (parser_at ls cs os (Some o))
-  operand-read tree.dot ts s ls cs os may = one-steps tree.dot ls cs os ts s may
-  operand-read (tree.fields []) ts s ls cs os may = one-steps (tree.fields []) ls cs os ts s may
   operand-read (tree.fields (n ∷ ns)) ts s ls cs os may =
       chained-steps tree.fields (λ ns n. refl) (n ∷ []) ns ls cs os ts s (stands-anywhere cs os (tree.fields (n ∷ [])) refl)
   operand-read (tree.variable x names) ts s ls cs os may =
       chained-steps (tree.variable x) (λ ns n. refl) [] names ls cs os ts s (stands-anywhere cs os (tree.variable x []) refl)
-  operand-read (tree.bool_constant b) ts s ls cs os may = one-steps (tree.bool_constant b) ls cs os ts s may
-  operand-read (tree.number_constant n) ts s ls cs os may = one-steps (tree.number_constant n) ls cs os ts s may
-  operand-read (tree.text_constant bytes) ts s ls cs os may = one-steps (tree.text_constant bytes) ls cs os ts s may
-  operand-read tree.nil ts s ls cs os may = one-steps tree.nil ls cs os ts s may
-  operand-read (tree.function f) ts s ls cs os may = one-steps (tree.function f) ls cs os ts s may
   operand-read (tree.group commands names) ts (l, inner, r, us, is, left, right, p, chain) ls cs os may =
       let partial : Partial = record { commands = cs; operands = os } in
       let e = pipeline-read commands inner p (partial ∷ ls) in
@@ -186,37 +149,36 @@ mutual
         close-step e.end partial ls (command_list commands) r right e.outer_is e.closed_is,
         chain-steps (tree.group commands) (λ ns n. refl) ls cs os names [] us chain,
       )
+  operand-read o ts s ls cs os may = one-steps o ls cs os ts s may
 
   more-read : (ms : Operands) (ts : List Token) → SpellsMore ms ts
       → (ls : List Partial) (cs : List Operands) (os : List Operand) (o : Operand)
       → Ended (parser_at ls cs os (Some o)) ts ls (cs ++ operands_from (os ++ o ∷ operand_list ms) ∷ [])
   more-read tree.no_operand ts s ls cs os o = blank-ended ls cs os o ts s
   more-read (tree.operand p ps) ts (w, ws, a, b, is, blank, spells, rest) ls cs os o =
-      rw (is, sym (append_assoc os (o ∷ []) (p ∷ operand_list ps)))
-      (ended-along _ (parser_at ls cs (os ++ o ∷ []) None) (w ∷ ws) (a ++ b) ls _ (white-steps ls cs os o w ws blank)
-      (ended-along _ (parser_at ls cs (os ++ o ∷ []) (Some p)) a b ls _ (operand-read p a spells ls cs (os ++ o ∷ []) (stands-behind cs os o p))
-      (more-read ps b rest ls cs (os ++ o ∷ []) p)))
+      rw (is, sym (append_assoc os (o ∷ []) (p ∷ operand_list ps))) (ended-along (w ∷ ws) (white-steps ls cs os o w ws blank)
+      (ended-along a (operand-read p a spells ls cs (os ++ o ∷ []) (stands-behind cs os o p)) (more-read ps b rest ls cs (os ++ o ∷ []) p)))
 
-  command-read : (os : Operands) (ts : List Token) → SpellsCommand os ts → (ls : List Partial) (cs : List Operands) → StandsFirst cs os
-      → Ended (parser_at ls cs [] None) ts ls (cs ++ os ∷ [])
+  -- .. where its first operand may stand
+  command-read : (os : Operands) (ts : List Token) → SpellsCommand os ts → (ls : List Partial) (cs : List Operands)
+      → ((o : Operand) (ms : Operands) → os ≡ tree.operand o ms → may_stand cs [] o ≡ true) → Ended (parser_at ls cs [] None) ts ls (cs ++ os ∷ [])
   command-read tree.no_operand ts s ls cs may = absurd s
   command-read (tree.operand o ms) ts (ws, a, b, is, blank, spells, rest) ls cs may =
-      let r = ended-along _ (parser_at ls cs [] None) ws (a ++ b) ls _ (blank-steps ls cs [] ws blank)
-      (ended-along _ (parser_at ls cs [] (Some o)) a b ls _ (operand-read o a spells ls cs [] may) (more-read ms b rest ls cs [] o)) in
-      rw is (rw (operands-back ms) at r)
+      let first = may o ms refl in
+      rw (is, sym (operands-back ms)) (ended-along ws (blank-steps ls cs [] ws blank)
+      (ended-along a (operand-read o a spells ls cs [] first) (more-read ms b rest ls cs [] o)))
 
   later-read : (later : Pipeline) (ts : List Token) → SpellsLater later ts → (h : Parser) (ls : List Partial) (cs : List Operands)
       → h.outer ≡ ls → closed h ≡ Some cs → Ended h ts ls (cs ++ command_list later)
   later-read tree.no_command ts s h ls cs outer whole =
       rw (s, append-nil cs) (record { end = h; to = refl; outer_is = outer; closed_is = whole })
   later-read (tree.command os later) ts (bar, a, b, is, bars, may, spells, rest) h ls cs outer whole =
-      let r = command-read os a spells ls cs (first-later cs os may) in
-      rw (is, sym (append_assoc cs (os ∷ []) (command_list later)))
-      (ended-along h (parser_at ls cs [] None) (bar ∷ []) (a ++ b) ls _ (bar-step h ls cs bar bars outer whole)
-      (ended-along _ r.end a b ls _ r.to (later-read later b rest r.end ls _ r.outer_is r.closed_is)))
+      let r = command-read os a spells ls cs (λ o ms e. stands-anywhere cs [] o (subst MayBeLater e may)) in
+      rw (is, sym (append_assoc cs (os ∷ []) (command_list later))) (ended-along (bar ∷ []) (bar-step h ls cs bar bars outer whole)
+      (ended-along a r.to (later-read later b rest r.end ls _ r.outer_is r.closed_is)))
 
   pub pipeline-read : (cs : Pipeline) (ts : List Token) → SpellsPipeline cs ts → (ls : List Partial) → Ended (parser_at ls [] [] None) ts ls (command_list cs)
   pipeline-read tree.no_command ts s ls = absurd s
   pipeline-read (tree.command os later) ts (a, b, is, spells, rest) ls =
-      let r = command-read os a spells ls [] (first-of-all os) in
-      rw is (ended-along _ r.end a b ls _ r.to (later-read later b rest r.end ls _ r.outer_is r.closed_is))
+      let r = command-read os a spells ls [] (λ o ms e. refl) in
+      rw is (ended-along a r.to (later-read later b rest r.end ls _ r.outer_is r.closed_is))

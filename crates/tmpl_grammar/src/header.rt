@@ -1,6 +1,7 @@
 //! The reading of headers: a pipeline's tokens, perhaps behind variables.
 ghost use Rattle.std.specs.Prelude.{◌≡◌, IfOk, map, option_map};
 ghost use Rattle.tmpl_lex.specs.View.{token_of};
+ghost use Rattle.tmpl_lex.specs.declared.piece.TokenKind.TheVariants as kind;
 ghost use Rattle.tmpl_grammar.specs.Header.{may_bind};
 ghost use Rattle.tmpl_grammar.specs.View.{binding_of, header_of};
 ghost use Rattle.tmpl_grammar.specs.computed.Depth.{limited_header};
@@ -48,7 +49,7 @@ fn first_variable<'t, 'b>(tokens: &'t [Token<'b>]) -> Option<VariableFront<'t, '
 
 /// A name of at least one byte, and what stands behind it.
 fn variable_named<'t, 'b>(name: &'b [u8], rest: &'t [Token<'b>]) -> Option<VariableFront<'t, 'b>>
-    ensures { option_map variable_front_of result ≡ spec.variable_front_by name.now (map token_of rest.now) }
+    ensures { option_map variable_front_of result ≡ spec.variable_by kind.Variable name.now (spec.next (map token_of rest.now)) }
 {
     match name {
         [] => None,

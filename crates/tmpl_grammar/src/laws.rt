@@ -8,6 +8,7 @@ ghost use Rattle.tmpl_grammar.specs.computed.Operand.{operand_at};
 ghost use Rattle.tmpl_grammar.specs.computed.Reading.{action_in, pipeline_in};
 
 /// The law that a token is one constant at most, and that just this one is computed.
+#[tactic(auto, using(crate::proofs::IsConstantLemmas::constants))]
 pub fn one_constant()
     ensures computed { IsComputed IsConstant constant_of }
     ensures admitted { IsAdmitted IsConstant constant_of }
@@ -15,6 +16,7 @@ pub fn one_constant()
 {}
 
 /// The law that a token is one operand at most, and that just this one is computed.
+#[tactic(auto, using(crate::proofs::IsOperandLemmas::operands))]
 pub fn one_operand()
     ensures computed { IsComputed IsOperand operand_at }
     ensures admitted { IsAdmitted IsOperand operand_at }
@@ -22,6 +24,7 @@ pub fn one_operand()
 {}
 
 /// The law that a list of tokens spells one pipeline at most, and that just this one is read.
+#[tactic(auto, using(crate::proofs::PipelineLemmas::pipelines))]
 pub fn one_reading()
     ensures read { IsComputed IsPipeline pipeline_in }
     ensures spelled { IsAdmitted IsPipeline pipeline_in }
@@ -29,6 +32,7 @@ pub fn one_reading()
 {}
 
 /// The law that a list of tokens spells one action at most, and that just this one is read.
+#[tactic(auto, using(crate::proofs::ActionLemmas::actions))]
 pub fn one_action()
     ensures read { IsComputed IsAction action_in }
     ensures spelled { IsAdmitted IsAction action_in }
@@ -36,11 +40,13 @@ pub fn one_action()
 {}
 
 /// The law that the tokens of a printed action are read from its bytes.
+#[tactic(auto, using(crate::proofs::PrintedTokenLemmas::tokens))]
 pub fn printed_tokens()
     ensures { PrintsTokens }
 {}
 
 /// The law that the tokens of a printed action spell it.
+#[tactic(auto, using(crate::proofs::PrintedSpellingLemmas::spellings))]
 pub fn printed_spelling()
     ensures { SpellsTokens }
 {}

@@ -23,7 +23,7 @@ fn is_white(token: &Token<'_>) -> bool
 }
 
 /// Whether there is nothing but white space.
-#[tactic(auto, using(crate::proofs::SliceLemmas::views))]
+#[tactic(auto, using(crate::proofs::ListLemmas::views))]
 pub(crate) fn is_blank(tokens: &[Token<'_>]) -> bool
     ensures { result ≡ white.is_blank (map token_of tokens.now) }
 {
@@ -38,7 +38,7 @@ fn all_white(tokens: &[Token<'_>]) -> bool
 }
 
 /// How many tokens of white space there are at the front.
-#[tactic(auto, using(crate::proofs::SliceLemmas::runs))]
+#[tactic(auto, using(crate::proofs::ListLemmas::runs))]
 fn front_len(tokens: &[Token<'_>]) -> usize
     ensures count { result ≡ prefix_len (λ t. white.is_white (token_of t)) tokens.now }
     ensures within { result ≤ length tokens.now }
@@ -47,6 +47,7 @@ fn front_len(tokens: &[Token<'_>]) -> usize
 }
 
 /// The tokens without the white space at their front.
+#[tactic(auto, using(crate::proofs::ListLemmas::fronts))]
 fn without_front<'t, 'b>(tokens: &'t [Token<'b>]) -> &'t [Token<'b>]
     ensures { map token_of result.now ≡ white.without_front (map token_of tokens.now) }
 {

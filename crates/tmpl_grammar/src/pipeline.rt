@@ -21,6 +21,7 @@ const MOST_DEEP: usize = 100;
 /// The pipeline that these tokens spell, left out where its parentheses nest too deep. Then all that is left to tell is
 /// whether the tokens are a pipeline, and what stands in parentheses is let go of once they close, so that no tree is
 /// deep. No call is recursive.
+#[tactic(auto, using(crate::proofs::LimitLemmas::limits))]
 pub(crate) fn pipeline(alloc: Global, tokens: &[Token<'_>]) -> Result<Option<Pipeline>, AllocError>
     ensures { IfOk result (λ o. option_map pipeline_of o
         ≡ option_map limited_pipeline (spec.pipeline_in (map token_of tokens.now))) }

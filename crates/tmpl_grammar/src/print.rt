@@ -162,6 +162,7 @@ fn print_unless(first: bool, separator: &[u8], bytes: &mut Vec<u8>) -> Result<()
 
 /// Adds one operand.
 #[cycle(print)]
+#[tactic(auto, using(crate::proofs::ViewLemmas::groups))]
 fn print_operand(operand: &Operand, bytes: &mut Vec<u8>) -> Result<(), AllocError>
     ensures { OnOk result (bytes.new.items
         ≡ bytes.old.items ++ bytes_of (operand_tokens (operand_of operand.now))) }

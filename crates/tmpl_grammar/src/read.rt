@@ -18,6 +18,7 @@ use tmpl_lex::Token;
 use tmpl_values::Bytes;
 
 /// What an action's tokens are read as. Want of memory is the only error.
+#[tactic(auto, using(crate::proofs::ReadingLemmas::readings))]
 pub fn read_action(alloc: Global, tokens: &[Token<'_>]) -> Result<Reading, AllocError>
     ensures { IfOk result (λ a. action_reading a ≡ spec.reading_in (map token_of tokens.now)) }
 {

@@ -6,7 +6,7 @@ use Rattle.tmpl_lex.specs.declared.piece.Token as declared
 use Rattle.tmpl_lex.specs.Piece.{Token}
 use Rattle.tmpl_lex.specs.View.{token_of}
 use Rattle.tmpl_lex.specs.computed.Trim.{End, right_delimiter}
-use Rattle.tmpl_lex.specs.computed.Token.{Begun, begun, front_token, token_from}
+use Rattle.tmpl_lex.specs.computed.Token.{Begun, front_token, token_from}
 use Rattle.tmpl_lex.specs.computed.Action.{Inside, inside, inside_after, with_token}
 
 -- more tokens before what is inside further on
@@ -21,35 +21,28 @@ inside_after-drop (suc n) (b ∷ bs) = inside_after-drop n bs
 
 -- a token has at least one byte
 token_from-some : (b : ℕ) (o : Option Begun) (t : Token) → Some t ≡ token_from b o → 0 < length t.bytes
-token_from-some b None t e = cc
-token_from-some b (Some p) t e = let same : t ≡ record { kind = p.0; bytes = b ∷ p.1 } = cc in omega (arith, ap (λ (u : Token). length u.bytes) same)
+token_from-some b o t e = grind arith
 
 pub front_token-some : (bs : List ℕ) (t : Token) → Some t ≡ front_token bs → 0 < length t.bytes
-front_token-some [] t e = cc
-front_token-some (b ∷ bs) t e = token_from-some b (begun b bs) t e
+front_token-some bs t e = grind (arith, token_from-some)
 
 -- ---- where it ends
 
 pub inside-closed : (bs : List ℕ) (e : End) → Some e ≡ right_delimiter bs → inside bs ≡ Some ([], e)
 unfolding inside
-inside-closed [] e h = cc
-inside-closed (b ∷ bs) e h = simp (sym h)
+inside-closed bs e h = grind arith
 
 pub inside-none : (bs : List ℕ) → None ≡ right_delimiter bs → None ≡ front_token bs → inside bs ≡ None
 unfolding inside
-inside-none [] e f = refl
-inside-none (b ∷ bs) e f = simp (sym e, sym f)
+inside-none bs e f = grind arith
 
 pub drop-sub_one : (n b : ℕ) (bs : List ℕ) → 0 < n → drop (n - 1) bs ≡ drop n (b ∷ bs)
-drop-sub_one zero b bs h = absurd (omega arith)
-drop-sub_one (suc n) b bs h = ap (λ k. drop k bs) (omega arith)
+drop-sub_one n b bs h = grind arith
 
 pub inside-token : (bs : List ℕ) (t : Token) → None ≡ right_delimiter bs → Some t ≡ front_token bs
     → inside bs ≡ with_token t (inside (drop (length t.bytes) bs))
 unfolding inside
-inside-token [] t e f = cc
-inside-token (b ∷ bs) t e f =
-    simp (sym e, sym f, inside_after-drop (length t.bytes - 1) bs, drop-sub_one (length t.bytes) b bs (front_token-some (b ∷ bs) t f))
+inside-token bs t e f = grind (arith, drop-sub_one, front_token-some, inside_after-drop)
 
 -- ---- token by token
 
@@ -58,8 +51,7 @@ pub record IsReadTo (all : List ℕ) (ts : List Token) (bs : List ℕ) : Type 0 
   pub same : inside all ≡ behind ts (inside bs)
 
 behind-nil : (o : Option Inside) → behind [] o ≡ o
-behind-nil None = refl
-behind-nil (Some i) = refl
+behind-nil o = grind arith
 
 pub IsReadTo-start : (bs : List ℕ) (ts : List declared.Token) → ts ≡ [] → IsReadTo bs (map token_of ts) bs
 IsReadTo-start bs ts e = record { same = simp (e, behind-nil) }
@@ -78,8 +70,7 @@ IsReadTo-more all bs rest old new t so_far on here grown left = record {
 
 -- the action is closed
 pub inside-read : (all bs : List ℕ) (ts : List Token) (e : End) → IsReadTo all ts bs → Some e ≡ right_delimiter bs → Some (ts, e) ≡ inside all
-inside-read all bs ts e so_far h =
-    sym (so_far.same ∙ simp (inside-closed bs e h, append-nil))
+inside-read all bs ts e so_far h = grind (arith, append-nil, inside-closed)
 
 -- no token begins
 pub inside-unread : (all bs : List ℕ) (ts : List Token) → IsReadTo all ts bs → None ≡ right_delimiter bs → None ≡ front_token bs → None ≡ inside all

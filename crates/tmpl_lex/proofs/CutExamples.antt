@@ -5,8 +5,7 @@ use Rattle.tmpl_lex.specs.declared.piece.TokenKind.{TokenKind}
 use Rattle.tmpl_lex.specs.declared.piece.TokenKind.TheVariants as kind
 use Rattle.tmpl_lex.specs.Piece.{Token, Piece, text, action, unreadable}
 use Rattle.tmpl_lex.specs.computed.Cut.{cut_of, cut_within}
-use Rattle.tmpl_lex.specs.computed.Action.{opened, inside}
-use Rattle.tmpl_lex.specs.computed.Action.{comment_end}
+use Rattle.tmpl_lex.specs.computed.Action.{opened, inside, comment_end}
 
 abbrev token : TokenKind → String → Token
 token k spelling = record { kind = k; bytes = codes spelling }

@@ -4,7 +4,6 @@ use Rattle.std.proofs.Common.{length, take, append-nil, append_assoc, length-app
 use Rattle.std.proofs.lemmas.List.{take_all}
 use Rattle.std.proofs.lemmas.List.Sums.{count_by-le-length, sum_by-append, sum_by-cons}
 use Rattle.tmpl_lex.specs.declared.action.Opened as held_opened
-use Rattle.tmpl_lex.specs.declared.action.Opened.TheVariants as variant
 use Rattle.tmpl_lex.specs.declared.part.Rest as held
 use Rattle.tmpl_lex.specs.declared.piece.Token as held_token
 use Rattle.tmpl_lex.specs.Cut.{Cuts, last}
@@ -45,9 +44,7 @@ last-cuts right line count bs taken kept none t k n =
 
 -- where something ends does not depend on its tokens
 pub ends-same : (ts us : List held_token.Token) (o : held_opened.Opened) → ends_at (opened_of ts o) ≡ ends_at (opened_of us o)
-ends-same ts us (variant.Comment e) = refl
-ends-same ts us (variant.Action e) = refl
-ends-same ts us variant.Neither = refl
+ends-same ts us o = grind arith
 
 -- the bytes end with what stands behind the end, if there is one
 at-ends : (after : List ℕ) → IfSome (ends_at (opened (past_left after))) (λ e. EndsWith after e.rest)

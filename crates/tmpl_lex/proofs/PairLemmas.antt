@@ -1,13 +1,11 @@
 -- For `split_pair`, which skips by `memchr`: where two bytes first follow one another.
-use Rattle.std.proofs.Common.{arith, ◌≡◌, ◌∙◌, ℕ, zero, suc, ◌+◌, ◌≤◌, List, [], ◌∷◌, ◌++◌, Option}
-use Rattle.std.proofs.Common.{Some, None, refl, sym, ap, length, take, drop, nat_eq, ◌&&◌, length-append, length-drop, append_assoc}
-use Rattle.std.proofs.Common.{get_or, ◌<◌}
+use Rattle.std.proofs.Common.{arith, ◌≡◌, ◌∙◌, ℕ, zero, suc, ◌+◌, ◌≤◌, List, [], ◌∷◌, ◌++◌, Option, Some, None, refl, sym, ap, length, take, drop, nat_eq, ◌&&◌}
+use Rattle.std.proofs.Common.{length-append, length-drop, append_assoc, get_or, ◌<◌}
 use Rattle.std.proofs.lemmas.Bool.{eqb-true, and_parts, false_from_ne_true}
 use Rattle.std.proofs.Math.Seq.{take-add}
 use lib.Seq.{drop-drop}
 use Rattle.memchr.specs.Find.{Nowhere, Passes, is_byte}
-use Rattle.tmpl_lex.specs.computed.Bytes.{split_pair, with_first}
-use Rattle.tmpl_lex.specs.computed.Bytes.{behind, split_from}
+use Rattle.tmpl_lex.specs.computed.Bytes.{split_pair, with_first, behind, split_from}
 use Rattle.tmpl_lex.proofs.PartLemmas.{split-is}
 
 pub split_pair-short : (x y : ℕ) (bs : List ℕ) (i : ℕ) → length bs ≤ i + 1 → split_pair x y (drop i bs) ≡ None
@@ -27,16 +25,14 @@ split_pair-lengths x y bs before after e =
 -- ---- from one place of the first byte to the next
 
 behind-nil : (o : Option (List ℕ × List ℕ)) → behind [] o ≡ o
-behind-nil None = refl
-behind-nil (Some p) = refl
+behind-nil o = grind arith
 
 behind-behind : (a b : List ℕ) (o : Option (List ℕ × List ℕ)) → behind a (behind b o) ≡ behind (a ++ b) o
 behind-behind a b None = refl
 behind-behind a b (Some p) = ap (λ (t : List ℕ). Some (t, p.1)) (sym (append_assoc a b p.0))
 
 with_first-behind : (a : ℕ) (t : List ℕ) (o : Option (List ℕ × List ℕ)) → with_first a (behind t o) ≡ behind (a ∷ t) o
-with_first-behind a t None = refl
-with_first-behind a t (Some p) = refl
+with_first-behind a t o = grind arith
 
 -- the pair stands at no place before one up to which its first byte does not stand
 split_pair-passed : (x y : ℕ) (bs : List ℕ) (k : ℕ) → k ≤ length bs → Nowhere (Passes (is_byte x) bs) 0 k
@@ -76,4 +72,6 @@ split_from-next x y bs i h differ =
     let one : i + 1 ≡ suc i = omega arith in
     rw one (split_from-suc x y bs i (omega arith) (rw one at differ))
 
-pub ruleset pairs = (split_pair-short, split_pair-lengths)
+pub ruleset pairs = (split_pair-short, split_pair-lengths, split_from-next)
+
+pub ruleset passes = (split_from-passed)

@@ -1,9 +1,8 @@
 -- For the laws `one_cut` and `one_token`: what is computed of a list, told by the parts that it is put together from.
-use Rattle.std.proofs.Common.{arith, ◌≡◌, ◌∙◌, ℕ, suc, ◌+◌, Bool, true, false, ◌&&◌, nat_eq, cond, List, [], ◌∷◌, ◌++◌}
-use Rattle.std.proofs.Common.{Option, Some, None, IfSome, refl, sym, ap, subst, length, take, drop, get_or, append_assoc}
-use Rattle.std.proofs.Common.{length-append}
-use Rattle.std.specs.List.{prefix_len, list_all, take_while}
-use Rattle.std.proofs.lemmas.Bool.{eqb-true, eq-eqb, and_parts, false_from_ne_true}
+use Rattle.std.proofs.Common.{arith, ◌≡◌, ◌∙◌, ℕ, suc, ◌+◌, Bool, true, false, ◌&&◌, nat_eq, cond, List, [], ◌∷◌, ◌++◌, Option, Some, None, IfSome, refl, sym}
+use Rattle.std.proofs.Common.{ap, subst, length, take, drop, get_or, append_assoc, length-append, take_while}
+use Rattle.std.specs.List.{prefix_len, list_all}
+use Rattle.std.proofs.lemmas.Bool.{eq-eqb, and_parts, false_from_ne_true}
 use Rattle.std.proofs.lemmas.List.{take-append-drop}
 use Rattle.std.proofs.Math.Seq.{take-append_seam}
 use Rattle.tmpl_lex.specs.Bytes.{Absent, IsRun}
@@ -15,20 +14,14 @@ pub absent-rest : (b : ℕ) (row bs : List ℕ) → Absent row (b ∷ bs) → Ab
 absent-rest b row bs h xs ys e = h (b ∷ xs) ys (ap (λ l. b ∷ l) e)
 
 pub same-pair : (x y a b : ℕ) (bs : List ℕ) → (nat_eq a x && nat_eq b y) ≡ true → a ∷ b ∷ bs ≡ x ∷ y ∷ bs
-same-pair x y a b bs e =
-    let both = and_parts (nat_eq a x) (nat_eq b y) e in
-    let first = eqb-true a x both.0 in
-    let second = eqb-true b y both.1 in
-    cc
+same-pair x y a b bs e = grind arith
 
 pub absent-here : (x y a b : ℕ) (bs : List ℕ) → Absent (x ∷ y ∷ []) (a ∷ b ∷ bs) → (nat_eq a x && nat_eq b y) ≡ false
 absent-here x y a b bs h = false_from_ne_true (nat_eq a x && nat_eq b y) (λ e. h [] bs (same-pair x y a b bs e))
 
 -- nothing in the bytes, and nothing from one further on
 pub cleared : (t : Bool) (a : ℕ) (bs : List ℕ) (o : Option (List ℕ × List ℕ)) → split_here t a bs o ≡ None → (t ≡ false) × (o ≡ None)
-cleared true a bs o e = cc
-cleared false a bs None e = (refl, refl)
-cleared false a bs (Some p) e = cc
+cleared t a bs o e = grind arith
 
 pub absent-none : (x y : ℕ) (bs : List ℕ) → Absent (x ∷ y ∷ []) bs → split_pair x y bs ≡ None
 absent-none x y [] h = refl

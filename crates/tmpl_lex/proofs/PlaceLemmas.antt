@@ -1,6 +1,5 @@
 -- For `cut`: where the texts of a file stand in it.
-use Rattle.std.proofs.Common.{arith, ◌≡◌, ◌∙◌, ℕ, ◌+◌, ◌-◌, Bool, List, ◌++◌, sym, ap, length, take, drop}
-use Rattle.std.proofs.Common.{append_assoc, length-append}
+use Rattle.std.proofs.Common.{arith, ◌≡◌, ◌∙◌, ℕ, ◌+◌, ◌-◌, Bool, List, ◌++◌, sym, ap, length, take, drop, append_assoc, length-append}
 use Rattle.std.proofs.lemmas.List.{take-append-drop}
 use Rattle.tmpl_lex.specs.Place.{EndsWith, StandsAt}
 use Rattle.tmpl_lex.specs.computed.Text.{leading, without_leading, trailing, without_trailing}

@@ -1,6 +1,5 @@
 -- For `quoted_len` and `through_len`: what stands up to a closing quote.
-use Rattle.std.proofs.Common.{arith, ◌≡◌, ℕ, zero, suc, ◌+◌, ◌<◌, Bool, false, List, [], ◌∷◌, ◌++◌, Option, Some}
-use Rattle.std.proofs.Common.{None, refl, length, take, drop, nat_eq}
+use Rattle.std.proofs.Common.{arith, ◌≡◌, ℕ, zero, suc, ◌+◌, ◌<◌, Bool, false, List, [], ◌∷◌, ◌++◌, Option, Some, None, refl, length, take, drop, nat_eq}
 use Rattle.std.proofs.lemmas.Bool.{false_from_ne_true}
 use Rattle.memchr.specs.Find.{Nowhere, Passes, is_byte}
 use Rattle.tmpl_lex.specs.computed.Quoted.{through, quoted}
@@ -37,3 +36,5 @@ behind front (Some bs) = Some (front ++ bs)
 -- the first bytes hold no end, and behind them one is escaped or not
 pub record IsOpen (q : ℕ) (bs : List ℕ) (i : ℕ) (escaped : Bool) : Type 0 where
   pub same : quoted q false bs ≡ behind (take i bs) (quoted q escaped (drop i bs))
+
+pub ruleset finds = (through-none, through-some)

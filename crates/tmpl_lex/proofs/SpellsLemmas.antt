@@ -1,6 +1,6 @@
 -- For the law `one_cut`: what is computed behind a `{{` is what the relations say.
-use Rattle.std.proofs.Common.{◌≡◌, ◌∙◌, ℕ, zero, suc, ◌-◌, Bool, true, false, ◌&&◌, nat_eq, List, [], ◌∷◌, ◌++◌, Option, IfSome}
-use Rattle.std.proofs.Common.{Some, None, refl, sym, ap, length, drop, append_assoc, arith, ◌<◌}
+use Rattle.std.proofs.Common.{◌≡◌, ◌∙◌, ℕ, zero, suc, ◌-◌, Bool, true, false, ◌&&◌, nat_eq, List, [], ◌∷◌, ◌++◌, Option, IfSome, Some, None, refl, sym, ap}
+use Rattle.std.proofs.Common.{length, drop, append_assoc, arith, ◌<◌}
 use Rattle.std.proofs.Math.Seq.{drop-append_seam}
 use Rattle.std.proofs.lemmas.Bool.{eqb-true, and_parts, false_from_ne_true}
 use Rattle.std.proofs.lemmas.Bool.Decides.{nat_tests}
@@ -10,15 +10,14 @@ use Rattle.tmpl_lex.specs.Delimiter.{Closes, closes, closes_marked}
 use Rattle.tmpl_lex.specs.Laws.{IsFound, BeginsWith}
 use Rattle.tmpl_lex.specs.Piece.{Token, Piece, action}
 use Rattle.tmpl_lex.specs.Token.{bytes_of, Spells}
-use Rattle.tmpl_lex.specs.computed.Action.{Inside, inside, inside_after, inside_from, with_token, Opened, comment}
-use Rattle.tmpl_lex.specs.computed.Action.{tokens, neither, opened, opened_by, opens_comment, comment_closed}
-use Rattle.tmpl_lex.specs.computed.Action.{comment_end}
+use Rattle.tmpl_lex.specs.computed.Action.{Inside, inside, inside_after, inside_from, with_token, Opened, comment, tokens, neither, opened, opened_by}
+use Rattle.tmpl_lex.specs.computed.Action.{opens_comment, comment_closed, comment_end}
 use Rattle.tmpl_lex.specs.computed.Bytes.{split_pair}
 use Rattle.tmpl_lex.specs.computed.Part.{pieces_of, ends_at}
 use Rattle.tmpl_lex.specs.computed.Token.{front_token}
 use Rattle.tmpl_lex.specs.computed.Trim.{End, right_delimiter}
 use Rattle.tmpl_lex.proofs.ActionLemmas.{drop-sub_one, inside-closed, inside-token, front_token-some}
-use Rattle.tmpl_lex.proofs.PartLemmas.{same-pair, absent-split, split-is}
+use Rattle.tmpl_lex.proofs.PartLemmas.{absent-split, split-is}
 use Rattle.tmpl_lex.proofs.StandLemmas.{Ends, found-ends, closes-found, found, stands}
 
 -- ---- tokens and an end
@@ -115,9 +114,7 @@ AtOpened line bs (tokens ts end) = HasClosed line bs end (action line ts ∷ [])
 AtOpened line bs neither = Unit {0}
 
 slash-is : (bs : List ℕ) → opens_comment bs ≡ true → bs ≡ 47 ∷ 42 ∷ drop 2 bs
-slash-is [] h = cc
-slash-is (a ∷ []) h = cc
-slash-is (a ∷ b ∷ bs) h = same-pair 47 42 a b bs h
+slash-is bs h = grind (arith, nat_tests)
 
 comment-is : (line : ℕ) (bs : List ℕ) → IfSome (comment_end bs) (λ end. HasClosed line bs end [])
 unfolding comment_end
@@ -172,9 +169,7 @@ closed-opened (an_action {trims = trims} {ts = ts} {closing = closing} {rest = r
     record { ends = simp (append_assoc, none, found); pieces = simp (append_assoc, none, found) }
 
 pub neither-closed : (bs : List ℕ) → opened bs ≡ neither → NoneClosed bs
-neither-closed bs e line body trims rest ps h is =
-    let o = closed-opened h in
-    cc
+neither-closed bs e = grind (arith, nat_tests, closed-opened)
 
 pub closed-neither : (bs : List ℕ) → NoneClosed bs → opened bs ≡ neither
 closed-neither bs h = go (opened bs) (opened-closed 0 bs)

@@ -1,9 +1,8 @@
 -- For the law `one_token`: the token that is computed at the front of bytes is the one of the table, row by row.
-use Rattle.std.proofs.Common.{arith, ◌≡◌, ◌∙◌, ℕ, zero, suc, ◌-◌, Bool, true, false, ◌&&◌, not, nat_eq, List, [], ◌∷◌, ◌++◌}
-use Rattle.std.proofs.Common.{Option, Some, None, IfSome, get_or, ◌<◌, refl, sym, ap, subst, length, take, drop, length-append, append_assoc, if◌then◌else◌}
-use Rattle.std.proofs.Common.{codes}
+use Rattle.std.proofs.Common.{arith, ◌≡◌, ◌∙◌, ℕ, zero, suc, ◌-◌, Bool, true, false, ◌&&◌, not, nat_eq, List, [], ◌∷◌, ◌++◌, Option, Some, None, IfSome, get_or}
+use Rattle.std.proofs.Common.{◌<◌, refl, sym, ap, subst, length, take, drop, length-append, append_assoc, if◌then◌else◌, codes, take_while}
 use Rattle.std.specs.Char.{is_ascii_digit}
-use Rattle.std.specs.List.{prefix_len, list_all, take_while}
+use Rattle.std.specs.List.{prefix_len, list_all}
 use Rattle.std.proofs.lemmas.Bool.{eqb-true, eq-eqb, and_parts, both_ways, false_from_ne_true}
 use Rattle.std.proofs.lemmas.Bool.Decides.{nat_tests}
 use Rattle.std.proofs.Math.Bool.{and-false, and-true}
@@ -21,10 +20,9 @@ use Rattle.tmpl_lex.specs.Piece.{Token}
 use Rattle.tmpl_lex.specs.Token as table
 use Rattle.tmpl_lex.specs.Token.{IsToken, IsQuoted, no_byte, a_byte, an_escape, IsSign, no_sign, plus, minus, EndsSpace, at_byte, at_marker}
 use Rattle.tmpl_lex.specs.computed.Quoted.{up_to, unless, through, quoted}
-use Rattle.tmpl_lex.specs.computed.Token.{Begun, marked, begun, token_from, signed, dotted}
-use Rattle.tmpl_lex.specs.computed.Token.{assigned, of_kind, space_run, unmarked, name_run}
+use Rattle.tmpl_lex.specs.computed.Token.{Begun, marked, begun, token_from, signed, dotted, assigned, of_kind, space_run, unmarked, name_run}
 use Rattle.tmpl_lex.specs.computed.Trim.{End, ended_by, has_right_delimiter, has_dashed_delimiter, right_marked, right_delimiter}
-use Rattle.tmpl_lex.proofs.PartLemmas.{same-pair, run-length, run-taken, taken-run, taken-rest}
+use Rattle.tmpl_lex.proofs.PartLemmas.{run-length, run-taken, taken-run, taken-rest}
 
 -- ---- where an action ends
 
@@ -42,17 +40,10 @@ pub record Ends (bs : List ℕ) (e : End) : Type 0 where
   pub is : bs ≡ closing ++ e.rest
 
 braces-is : (bs : List ℕ) → has_right_delimiter bs ≡ true → bs ≡ 125 ∷ 125 ∷ drop 2 bs
-braces-is [] h = cc
-braces-is (a ∷ []) h = cc
-braces-is (a ∷ b ∷ bs) h = same-pair 125 125 a b bs h
+braces-is bs h = grind (arith, nat_tests)
 
 dashed-is : (bs : List ℕ) → has_dashed_delimiter bs ≡ true → bs ≡ 45 ∷ 125 ∷ 125 ∷ drop 3 bs
-dashed-is [] h = cc
-dashed-is (a ∷ bs) h =
-    let both = and_parts (nat_eq a 45) (has_right_delimiter bs) h in
-    let first = eqb-true a 45 both.0 in
-    let more = braces-is bs both.1 in
-    cc
+dashed-is bs h = grind (arith, nat_tests)
 
 marked-is : (bs : List ℕ) → right_marked bs ≡ true → (w : ℕ) × ((is_space w ≡ true) × (bs ≡ w ∷ 45 ∷ 125 ∷ 125 ∷ drop 4 bs))
 marked-is [] h = cc
@@ -64,15 +55,14 @@ pub found-ends : (bs : List ℕ) → IfSome (right_delimiter bs) (Ends bs)
 found-ends bs = go (has_right_delimiter bs) refl (right_marked bs) refl
   where
     go : (c : Bool) → has_right_delimiter bs ≡ c → (m : Bool) → right_marked bs ≡ m → IfSome (ended_by c m bs) (Ends bs)
-    go true c m d = record { closing = 125 ∷ 125 ∷ []; closes = closes; is = braces-is bs c }
+    go true c m d = record { closing = codes "}}"; closes = closes; is = braces-is bs c }
     go false c true d =
         let marked = marked-is bs d in
         record { closing = marked.0 ∷ 45 ∷ 125 ∷ 125 ∷ []; closes = closes_marked marked.1.0; is = marked.1.1 }
     go false c false d = tt
 
 no-closes : (b : ℕ) (bs : List ℕ) → nat_eq b 125 ≡ false → has_right_delimiter (b ∷ bs) ≡ false
-no-closes b [] e = refl
-no-closes b (c ∷ bs) e = simp e
+no-closes b bs e = grind (arith, nat_tests)
 
 pub no-end : (b : ℕ) (bs : List ℕ) → nat_eq b 125 ≡ false → is_space b ≡ false → right_delimiter (b ∷ bs) ≡ None
 no-end b bs e s = simp (no-closes b bs e, s)
@@ -120,12 +110,7 @@ record Spaces (bs : List ℕ) : Type 0 where
   ends : EndsSpace rest
 
 spaces-of : (bs : List ℕ) (n : ℕ) → space_run bs ≡ take n bs → list_all is_space (take n bs) ≡ true → EndsSpace (drop n bs) → Spaces bs
-spaces-of bs n run white ends = record {
-  rest = drop n bs;
-  is = sym (simp (run, take-append-drop));
-  white = simp (run, white);
-  ends = ends;
-}
+spaces-of bs n run white ends = grind (arith, nat_tests, take-append-drop)
 
 undashed-begins : (bs : List ℕ) → has_dashed_delimiter bs ≡ false → BeginsNone (λ xs. xs ≡ codes "-}}") bs
 undashed-begins bs h xs ys e f = both_ways (has_dashed_delimiter bs) h (ap has_dashed_delimiter (f ∙ ap (λ l. l ++ ys) e))
@@ -227,29 +212,14 @@ by-first : (k : TokenKind) (b : ℕ) (bs rest : List ℕ) → nat_eq b 125 ≡ f
 by-first k b bs rest e s h = record { no_end = no-end b (bs ++ rest) e s; front = ap (token_from b) h }
 
 space-found : (b : ℕ) (bs rest : List ℕ) → list_all is_space (b ∷ bs) ≡ true → EndsSpace rest → IsFound (b ∷ bs ++ rest) (token kind.Space (b ∷ bs))
-space-found b bs rest h e =
-    let both = and_parts (is_space b) (list_all is_space bs) h in
-    let white : is_space b ≡ true = both.0 in
-    let brace : nat_eq b 125 ≡ false = grind (arith, nat_tests) in record {
-      no_end = simp (no-closes b (bs ++ rest) brace, white, spaces-undashed bs rest both.1 e);
-      front = simp (white, spaces-run bs rest both.1 e);
-    }
+space-found b bs rest h e = grind (arith, nat_tests, and_parts, nat_eq, no-closes, spaces-run, spaces-undashed)
 
 word-found : (b : ℕ) (bs rest : List ℕ) → is_ascii_digit b ≡ false → IsRun is_name_byte (b ∷ bs) rest → IsFound (b ∷ bs ++ rest) (token kind.Word (b ∷ bs))
-word-found b bs rest d run =
-    let both = and_parts (is_name_byte b) (list_all is_name_byte bs) run.passes in
-    let name : is_name_byte b ≡ true = both.0 in
-    let brace : nat_eq b 125 ≡ false = grind (arith, nat_tests) in
-    let white : is_space b ≡ false = grind (arith, nat_tests) in
-    by-first kind.Word b bs rest brace white
-    (simp (white, name, run-taken is_name_byte bs rest (record { passes = both.1; longest = run.longest })) (simp d))
+word-found b bs rest d run = grind (arith, nat_tests, and_parts, by-first, nat_eq, run-taken)
 
 number-found : {sign : List ℕ} (b : ℕ) (bs rest : List ℕ) → IsSign sign → is_ascii_digit b ≡ true → IsRun is_number_byte bs rest
     → IsFound (sign ++ b ∷ bs ++ rest) (token kind.Number (sign ++ b ∷ bs))
-number-found b bs rest no_sign d run =
-    let brace : nat_eq b 125 ≡ false = grind (arith, nat_tests) in
-    let white : is_space b ≡ false = grind (arith, nat_tests) in
-    by-first kind.Number b bs rest brace white (simp (white, d, run-taken is_number_byte bs rest run))
+number-found b bs rest no_sign d run = grind (arith, nat_tests, run-taken)
 number-found b bs rest plus d run = by-first kind.Number 43 (b ∷ bs) rest refl refl (simp (d, run-taken is_number_byte bs rest run))
 number-found b bs rest minus d run = by-first kind.Number 45 (b ∷ bs) rest refl refl (simp (d, run-taken is_number_byte bs rest run))
 
@@ -282,8 +252,7 @@ record StandsAt (b : ℕ) (bs : List ℕ) (p : Begun) : Type 0 where
 -- either of two, by a test
 by-test : (t : Bool) (b : ℕ) (bs : List ℕ) (o p : Option Begun) → (t ≡ true → IfSome o (StandsAt b bs))
     → (t ≡ false → IfSome p (StandsAt b bs)) → IfSome (if t then o else p) (StandsAt b bs)
-by-test true b bs o p this that = this refl
-by-test false b bs o p this that = that refl
+by-test t b bs o p this that = grind (arith, nat_tests)
 
 number-stands : (c : ℕ) → IsSign (c ∷ []) → (bs : List ℕ) → IfSome (signed bs) (StandsAt c bs)
 number-stands c s [] = tt
@@ -299,9 +268,7 @@ dotted-stands (c ∷ name) rest bs run is = record { rest = rest; stands = table
 
 quote-stands : (k : TokenKind) (q : ℕ) (Form : List ℕ → Type 0) → ((xs rest : List ℕ) → Form xs → IsToken k (q ∷ (xs ++ q ∷ [])) rest)
     → (bs : List ℕ) (o : Option (List ℕ)) → IfSome o (IsUpTo Form q bs) → IfSome (of_kind k o) (StandsAt q bs)
-quote-stands k q Form row bs None at = tt
-quote-stands k q Form row _ (Some _) (at_quote inside rest form) =
-    record { rest = rest; stands = row inside rest form; is = refl }
+quote-stands k q Form row bs o at = grind (arith, nat_tests)
 
 declare-stands : (bs : List ℕ) → IfSome (assigned bs) (StandsAt 58 bs)
 declare-stands [] = tt
@@ -323,8 +290,7 @@ alone-stands k b bs h = record { rest = bs; stands = h; is = refl }
 -- either of two, by whether the first byte is this one
 by-byte : (b c : ℕ) (bs : List ℕ) (o p : Option Begun) → IfSome o (StandsAt c bs) → IfSome p (StandsAt b bs)
     → IfSome (if nat_eq b c then o else p) (StandsAt b bs)
-by-byte b c bs o p this that =
-    by-test (nat_eq b c) b bs o p (λ e. rw (eqb-true b c e) this) (λ e. that)
+by-byte b c bs o p this that = grind (arith, nat_tests)
 
 marked-stands : (b : ℕ) (bs : List ℕ) → IfSome (marked b bs) (StandsAt b bs)
 marked-stands b bs =
@@ -353,9 +319,7 @@ begun-stands b bs m =
     (λ n. marked-stands b bs)))
 
 no-marker : (c m : Bool) (bs : List ℕ) → ended_by c m bs ≡ None → m ≡ false
-no-marker true m bs h = cc
-no-marker false true bs h = cc
-no-marker false false bs h = refl
+no-marker c m bs h = grind (arith, nat_tests)
 
 pub stands : (bs : List ℕ) (t : Token) → IsFound bs t → BeginsWith bs t
 stands [] t h = cc

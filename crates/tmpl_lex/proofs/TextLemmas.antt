@@ -1,8 +1,7 @@
 -- For the law `one_cut`: what trim markers leave of a text, as it is computed and as the relation says.
-use Rattle.std.proofs.Common.{arith, ◌≡◌, ◌∙◌, ℕ, ◌-◌, Bool, true, false, List, [], ◌∷◌}
-use Rattle.std.proofs.Common.{◌++◌, refl, sym, ap, subst, length, take, drop, append_assoc, length-append, length-drop}
-use Rattle.std.proofs.Common.{reverse}
-use Rattle.std.specs.List.{prefix_len, suffix_len, list_all}
+use Rattle.std.proofs.Common.{arith, ◌≡◌, ◌∙◌, ℕ, ◌-◌, Bool, true, false, List, [], ◌∷◌, ◌++◌, refl, sym, ap, subst, length, take, drop, append_assoc}
+use Rattle.std.proofs.Common.{length-append, length-drop, reverse}
+use Rattle.std.specs.List.{suffix_len, list_all}
 use Rattle.std.proofs.lemmas.Bool.{and_parts}
 use Rattle.std.proofs.lemmas.List.{take_all, take-append-drop, reverse-append, reverse-reverse, length-reverse}
 use Rattle.std.proofs.lemmas.List.Folds.{list_all-append}
@@ -69,11 +68,7 @@ front-len keeps_front = refl
 front-len (trims_front {taken = taken} {kept = kept} run) = run-length is_space taken kept run
 
 end-len : {left : Bool} {kept end : List ℕ} → TrimsEnd left kept end → length (kept ++ end) - trailing left (kept ++ end) ≡ length kept
-end-len (keeps_end {kept = kept}) = omega (arith, length-append kept [])
-end-len (trims_end {kept = kept} {taken = taken} white stops) =
-    let run = run-length is_space (reverse taken) (reverse kept) (record { passes = all-reverse is_space taken white; longest = stops }) in
-    let same : suffix_len is_space (kept ++ taken) ≡ length (reverse taken) = ap (prefix_len is_space) (reverse-append kept taken) ∙ run in
-    omega (arith, same, length-reverse taken, length-append kept taken)
+end-len h = grind (arith, all-reverse, length-append, length-reverse, reverse-append, run-length)
 
 pub texts-only : {right left : Bool} {line : ℕ} {bs : List ℕ} {ps : List Piece} → Texts right left line bs ps → ps ≡ texts right left line bs
 texts-only (trimmed {right = right} {left = left} {line = line} {front = front} {kept = kept} {end = end} f e) =

@@ -1,7 +1,5 @@
 -- For `front_token`: the token at the front is made of the first bytes.
-use Rattle.std.proofs.Common.{arith, ◌≡◌, ℕ, suc, ◌+◌, ◌-◌, ◌≤◌, List}
-use Rattle.std.proofs.Common.{[], ◌∷◌, Some, ap, length, take, drop, get_or}
-use Rattle.std.proofs.Common.{length-drop}
+use Rattle.std.proofs.Common.{arith, ◌≡◌, ℕ, suc, ◌+◌, ◌-◌, ◌≤◌, List, [], ◌∷◌, Some, ap, length, take, drop, get_or, length-drop}
 use Rattle.std.proofs.lemmas.List.{take_all}
 use Rattle.tmpl_lex.specs.declared.piece.TokenKind.{TokenKind}
 use Rattle.tmpl_lex.specs.computed.Token.{front_token, begun, token_from}

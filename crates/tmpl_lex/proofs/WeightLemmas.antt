@@ -1,10 +1,10 @@
 -- For the bound of what a file needs (tmpl_syntax): at least two bytes an action, and one a token.
-use Rattle.std.proofs.Common.{arith, ◌≡◌, ◌≤◌, ℕ, ◌+◌, Bool, List, [], ◌∷◌, ◌++◌, refl, ap, length, append-nil, length-append}
-use Rattle.tmpl_lex.specs.Cut.{Closed, a_comment, an_action, Cuts, last, closed, unclosed}
-use Rattle.tmpl_lex.specs.Delimiter.{Opens, opens, opens_marked}
+use Rattle.std.proofs.Common.{arith, ◌≡◌, ◌≤◌, ℕ, ◌+◌, Bool, List, [], ◌∷◌, ◌++◌, ap, length, append-nil, length-append}
+use Rattle.tmpl_lex.specs.Cut.{Closed, Cuts, last, closed, unclosed}
+use Rattle.tmpl_lex.specs.Delimiter.{Opens}
 use Rattle.tmpl_lex.specs.Piece.{Token, Piece, text, action, unreadable}
 use Rattle.tmpl_lex.specs.Text.{newlines, text_piece, Texts, trimmed}
-use Rattle.tmpl_lex.specs.Token.{IsToken, number, bytes_of, Spells}
+use Rattle.tmpl_lex.specs.Token.{IsToken, bytes_of, Spells}
 use Rattle.tmpl_lex.specs.declared.piece.TokenKind.{TokenKind}
 
 -- two and one for each token
@@ -18,8 +18,7 @@ weight [] = 0
 weight (p ∷ ps) = weight_of p + weight ps
 
 text-weight : (line : ℕ) (bytes : List ℕ) (ps : List Piece) → weight (text_piece line bytes ++ ps) ≡ weight ps
-text-weight line [] ps = refl
-text-weight line (b ∷ bs) ps = omega arith
+text-weight line bytes ps = grind arith
 
 texts-weight : {right left : Bool} {line : ℕ} {bytes : List ℕ} {texts : List Piece} → Texts right left line bytes texts → (ps : List Piece)
     → weight (texts ++ ps) ≡ weight ps
@@ -30,21 +29,17 @@ weight-append [] qs = omega arith
 weight-append (p ∷ ps) qs = omega (arith, weight-append ps qs)
 
 token-some : {k : TokenKind} {bytes rest : List ℕ} → IsToken k bytes rest → 1 ≤ length bytes
-token-some (number {sign = sign} {bs = bs} b s first run) = omega (arith, length-append sign (b ∷ bs))
-token-some _ = omega arith
+token-some h = grind arith
 
 tokens-within : (ts : List Token) (rest : List ℕ) → Spells ts rest → length ts ≤ length (bytes_of ts)
 tokens-within [] rest s = omega arith
 tokens-within (t ∷ ts) rest s = omega (arith, token-some s.0, tokens-within ts rest s.1, length-append t.bytes (bytes_of ts))
 
 opening-within : {left : Bool} {opening rest : List ℕ} → Opens left opening rest → 2 ≤ length opening
-opening-within (opens none) = omega arith
-opening-within (opens_marked {marker = marker} m) = omega arith
+opening-within h = grind arith
 
 closed-within : {line : ℕ} {body : List ℕ} {trims : Bool} {rest : List ℕ} {here : List Piece} → Closed line body trims rest here → weight here ≤ 2 + length body
-closed-within (a_comment inside absent end) = omega arith
-closed-within (an_action {ts = ts} {closing = closing} {rest = rest} s end) =
-    omega (arith, tokens-within ts (closing ++ rest) s, length-append (bytes_of ts) closing)
+closed-within h = grind (arith, length-append, tokens-within)
 
 pub weight-within : {right : Bool} {line : ℕ} {bs : List ℕ} {ps : List Piece} → Cuts right line bs ps → weight ps ≤ length bs
 weight-within (last {texts = texts} absent t) = omega (arith, texts-weight t [], ap weight (append-nil texts))

@@ -79,6 +79,7 @@ pub(crate) fn split_pair(bytes: &[u8], first: u8, second: u8) -> Option<(&[u8], 
 
 /// The next place of the first of these two bytes from this one on, or the end where there is none:
 /// the pair does not stand before it.
+#[tactic(auto, using(crate::proofs::PairLemmas::passes))]
 fn find_from(bytes: &[u8], first: u8, second: u8, from: usize) -> usize
     requires { from ≤ length bytes.now }
     ensures further { from ≤ result }

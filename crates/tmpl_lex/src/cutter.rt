@@ -21,6 +21,7 @@ use std::alloc::{AllocError, Global};
 /// # Errors
 ///
 /// Where memory ran out.
+#[tactic(auto, using(crate::proofs::CutLemmas::laws))]
 pub fn cut(alloc: Global, bytes: &[u8]) -> Result<Vec<Piece<'_>>, AllocError>
     ensures cuts { IfOk result (λ v. spec.Cuts false 1 bytes.now (map piece_of v.items)) }
     ensures value { IfOk result (λ v. map piece_of v.items ≡ computed.cut_of bytes.now) }

@@ -6,6 +6,7 @@ ghost use Rattle.tmpl_lex.specs.computed.View.{taken_of};
 use memchr::memchr;
 
 /// How many bytes there are up to and with the next such byte.
+#[tactic(auto, using(crate::proofs::QuotedLemmas::finds))]
 pub(crate) fn through_len(byte: u8, bytes: &[u8]) -> Option<usize>
     ensures value { taken_of bytes.now result ≡ spec.through byte bytes.now }
     ensures within { IfSome result (λ n. n ≤ length bytes.now) }

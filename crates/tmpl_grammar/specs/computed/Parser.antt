@@ -1,6 +1,6 @@
 -- A parser of pipelines: the pipelines that are read in part, and what each further token makes of them.
-use Rattle.std.specs.Prelude.{ℕ, Bool, true, false, List, [], ◌∷◌, ◌++◌}
-use Rattle.std.specs.Prelude.{Option, Some, None, option_map, option_and_then}
+use Rattle.std.specs.Prelude.{ℕ, Bool, true, List, [], ◌∷◌, ◌++◌}
+use Rattle.std.specs.Prelude.{Option, Some, None, option_map, option_and_then, if◌then◌else◌}
 use Rattle.tmpl_lex.specs.declared.piece.TokenKind.{TokenKind}
 use Rattle.tmpl_lex.specs.declared.piece.TokenKind.TheVariants as kind
 use Rattle.tmpl_lex.specs.Piece.{Token}
@@ -83,8 +83,7 @@ ending_with h o = record { outer = h.outer; inner = h.inner; last = Some o }
 
 -- a value where this is so, else none
 abbrev pub kept_if : {A : Type 0} → Bool → A → Option A
-kept_if true x = Some x
-kept_if false x = None
+kept_if b x = if b then Some x else None
 
 -- behind a token that is an operand, where one may stand
 abbrev pub placed : Option Operand → Option Operand → Parser → Option Parser
@@ -93,8 +92,7 @@ placed None (Some o) h = kept_if (may_stand h.inner.commands h.inner.operands o)
 placed (Some p) o h = None
 
 abbrev pub linked_by : Bool → Operand → List ℕ → Option Operand
-linked_by true o name = linked o name
-linked_by false o name = None
+linked_by b o name = if b then linked o name else None
 
 -- behind a field: in a chain, or an operand of its own
 abbrev pub fielded : Option Operand → Token → Parser → Option Parser

@@ -1,7 +1,7 @@
 -- The reading of one action's tokens ("Actions", "Arguments", "Pipelines" and "Variables" in the documentation of Go's
 -- text/template), computed. `Pipeline`, `Header` and `Action` say by productions which tokens spell what, and laws that
 -- just that is read.
-use Rattle.std.specs.Prelude.{ℕ, Bool, true, false, List, [], ◌∷◌, Option, Some, None, option_map, codes, if◌then◌else◌}
+use Rattle.std.specs.Prelude.{ℕ, Bool, true, false, List, ◌∷◌, Option, Some, None, option_map, codes, if◌then◌else◌}
 use Rattle.std.specs.Str.{bytes_eq}
 use Rattle.tmpl_lex.specs.declared.piece.TokenKind.{TokenKind}
 use Rattle.tmpl_lex.specs.declared.piece.TokenKind.TheVariants as kind
@@ -39,22 +39,14 @@ pub record VariableFront : Type 0 where
   pub next_kind : TokenKind
   pub rest : List Token
 
-abbrev pub variable_before : List ℕ → Option (Token × List Token) → Option VariableFront
-variable_before name None = None
-variable_before name (Some p) = Some (record { name = name; next_kind = p.0.kind; rest = p.1 })
-
--- a name of a variable has at least one byte
-abbrev pub variable_front_by : List ℕ → List Token → Option VariableFront
-variable_front_by [] ts = None
-variable_front_by (b ∷ bs) ts = variable_before (b ∷ bs) (next ts)
-
-abbrev pub variable_front_kind : TokenKind → Token → List Token → Option VariableFront
-variable_front_kind kind.Variable t ts = variable_front_by (name_in t) ts
-variable_front_kind k t ts = None
+-- by the kind of the first token and the name in it, which has at least one byte, and what comes next behind it
+abbrev pub variable_by : TokenKind → List ℕ → Option (Token × List Token) → Option VariableFront
+variable_by kind.Variable (b ∷ bs) (Some p) = Some (record { name = b ∷ bs; next_kind = p.0.kind; rest = p.1 })
+variable_by k name o = None
 
 abbrev pub variable_front_at : Option (Token × List Token) → Option VariableFront
 variable_front_at None = None
-variable_front_at (Some p) = variable_front_kind p.0.kind p.0 p.1
+variable_front_at (Some p) = variable_by p.0.kind (name_in p.0) (next p.1)
 
 -- where a variable comes first
 abbrev pub variable_front : List Token → Option VariableFront

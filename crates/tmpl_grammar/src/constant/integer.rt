@@ -157,6 +157,7 @@ fn number_without(base: u32, bytes: &[u8]) -> Option<u64>
 }
 
 /// The number that these digits write in a base.
+#[tactic(auto, using(crate::proofs::IntegerLemmas::plain))]
 pub(crate) fn number_in(base: u32, digits: &[u8]) -> Option<u64>
     requires low { 2 ≤ base }
     requires high { base ≤ 16 }

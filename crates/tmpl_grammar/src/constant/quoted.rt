@@ -41,6 +41,7 @@ pub(crate) fn between(quote: u8, bytes: &[u8]) -> Option<&[u8]>
 }
 
 /// The text that stands between such quotes, if it consists of parts.
+#[tactic(auto, using(crate::proofs::QuotedLemmas::ends))]
 pub(crate) fn unquote(alloc: Global, quote: u8, bytes: &[u8]) -> Result<Option<Vec<u8>>, AllocError>
     ensures { IfOk result (λ o. option_map (λ v. v.items) o ≡ spec.unquoted quote bytes.now) }
 {

@@ -1,12 +1,11 @@
-use Rattle.std.proofs.Common.{ap, arith, length, length-drop, map}
+use Rattle.std.proofs.Common.{ap, arith, length, length-drop}
+use Rattle.std.proofs.lemmas.Grind.{common_steps}
 use Rattle.tmpl_lex.specs.View.{token_of}
-use Rattle.tmpl_lex.specs.computed.View.{end_of}
 use Rattle.tmpl_lex.proofs.ActionLemmas.{front_token-some, inside-read}
 use Rattle.tmpl_lex.proofs.action.read_inside.Goals as goal
 
 pub returns-in-Some : goal.returns-in-Some
-returns-in-Some c =
-    inside-read c.args.bytes.now c.loop-end.rest.now (map token_of c.loop-end.tokens.items) (end_of c.in-Some.end) c.loop-end.invariant c.in-Some.ensures
+returns-in-Some c = grind (arith, common_steps, inside-read)
 
 pub loop-end-smaller : goal.loop-end-smaller
 loop-end-smaller c =

@@ -1,14 +1,8 @@
-use Rattle.std.proofs.Common.{◌≡◌, ◌∙◌, ◌+◌, ℕ, List, Some, None, length, drop, ap, subst, arith, length-drop}
+use Rattle.std.proofs.Common.{◌≡◌, ◌∙◌, ◌+◌, ℕ, List, None, length, drop, ap, subst, arith, length-drop}
 use Rattle.memchr.specs.Find.{IsFirstByte, is_byte}
 use Rattle.tmpl_lex.specs.computed.Bytes.{split_from}
 use Rattle.tmpl_lex.proofs.PairLemmas.{split_from-passed}
 use Rattle.tmpl_lex.proofs.bytes.find_from.Goals as goal
-
-pub returns-in-Some-clause-same : goal.returns-in-Some-clause-same
-returns-in-Some-clause-same c =
-    let bs = c.args.bytes.now in
-    let found = subst (λ (rest : List ℕ). IsFirstByte (is_byte c.args.first) rest (Some c.in-Some.skipped)) c.skip.ensures c.in-Some.ensures in
-    split_from-passed c.args.first c.args.second bs c.args.from c.in-Some.skipped (omega (arith, found.0.high)) found.0.before
 
 pub returns-in-None-clause-same : goal.returns-in-None-clause-same
 returns-in-None-clause-same c =

@@ -1,6 +1,5 @@
 use Rattle.std.proofs.Common.{◌≡◌, ◌≤◌, ◌-◌, length}
-use Rattle.tmpl_lex.specs.computed.Bytes.{split_pair}
-use Rattle.tmpl_lex.specs.computed.Bytes.{split_from}
+use Rattle.tmpl_lex.specs.computed.Bytes.{split_pair, split_from}
 use Rattle.tmpl_lex.proofs.bytes.split_pair.Given as goal
 
 abbrev pub invariant-loop-i : goal.invariant-loop-i

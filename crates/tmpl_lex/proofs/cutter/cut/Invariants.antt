@@ -1,5 +1,4 @@
-use Rattle.std.proofs.Common.{map, length}
-use Rattle.std.specs.List.{All}
+use Rattle.std.proofs.Common.{map, length, All}
 use Rattle.tmpl_lex.specs.Part.{IsLeft}
 use Rattle.tmpl_lex.specs.Place.{IsPlaced}
 use Rattle.tmpl_lex.specs.View.{piece_of}

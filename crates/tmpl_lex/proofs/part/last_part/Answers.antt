@@ -1,12 +1,11 @@
-use Rattle.std.proofs.Common.{false, refl, sym, [], append-nil}
+use Rattle.std.proofs.Common.{arith, false, refl, sym, [], append-nil}
+use Rattle.std.proofs.lemmas.Grind.{common_steps}
 use Rattle.tmpl_lex.proofs.FirstPartLemmas.{last-cuts, without_trailing-unmarked}
 use Rattle.tmpl_lex.proofs.PlaceLemmas.{StandsAt-trimmed}
 use Rattle.tmpl_lex.proofs.part.last_part.Goals as goal
 
 pub returns-clause-cuts : goal.returns-clause-cuts
-returns-clause-cuts c = λ tokens.
-    last-cuts c.args.rest.trims c.args.rest.line c.newlines.result c.args.rest.bytes.now c.split_leading.result.0.now c.split_leading.result.1.now
-    c.requires.last c.split_leading.ensures.taken c.split_leading.ensures.kept c.newlines.ensures.value
+returns-clause-cuts c = grind (arith, common_steps, last-cuts)
 
 pub returns-clause-placed : goal.returns-clause-placed
 returns-clause-placed c =

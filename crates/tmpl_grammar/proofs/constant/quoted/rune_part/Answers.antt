@@ -1,4 +1,4 @@
-use Rattle.std.proofs.Common.{arith, ◌≡◌, ◌∙◌, ℕ, ◌<◌, List, [], ◌∷◌, ◌++◌, ap, sym, length, get_or}
+use Rattle.std.proofs.Common.{arith, ◌≡◌, ℕ, ◌<◌, List, [], ◌∷◌, length, get_or}
 use Rattle.std.specs.Char.{IsScalar}
 use Rattle.std.proofs.lemmas.Str.{encode_ascii, len_utf8_ascii}
 use lib.Utf8.{low_scalar}
@@ -11,10 +11,7 @@ use Rattle.tmpl_grammar.proofs.constant.quoted.rune_part.Goals as goal
 ascii-first : (bs : List ℕ) (c : ℕ) → 0 < length bs → c ≡ get_or bs 0 0 → c < 128 → IsScalar c
     → ◌≡◌ {A = Spelled} (char c, 1) (rune_part (first_rune bs))
 ascii-first [] c some is low s = absurd (omega (arith, some))
-ascii-first (b ∷ bs) c some is low s =
-    let first : first_rune (b ∷ bs) ≡ char c =
-    ap (λ (x : ℕ). first_rune (x ∷ bs)) (sym is) ∙ ap (λ (t : List ℕ). first_rune (t ++ bs)) (sym (encode_ascii c low)) ∙ first_rune-encode c bs s in
-    sym (ap rune_part first ∙ ap (λ (n : ℕ). (char c, n)) (len_utf8_ascii c low))
+ascii-first (b ∷ bs) c some is low s = grind (arith, encode_ascii c low, first_rune-encode c bs s, len_utf8_ascii c low)
 
 pub returns-then-first-lt128-clause-value : goal.returns-then-first-lt128-clause-value
 returns-then-first-lt128-clause-value c =

@@ -2,13 +2,8 @@ use Rattle.std.proofs.Common.{◌∙◌, ap, sym, arith, drop, refl}
 use Rattle.tmpl_grammar.specs.computed.Quoted.{unquoted}
 use Rattle.tmpl_grammar.specs.computed.View.{rune_of}
 use Rattle.tmpl_grammar.proofs.ListLemmas.{take-rest}
-use Rattle.tmpl_grammar.proofs.QuotedLemmas.{led, unquoted-first, unquoted-none, unquoted-end}
+use Rattle.tmpl_grammar.proofs.QuotedLemmas.{led, unquoted-first}
 use Rattle.tmpl_grammar.proofs.constant.quoted.unquote.Goals as goal
-
-pub returns-in_default : goal.returns-in_default
-returns-in_default c =
-    sym (c.loop-rest.invariant
-    ∙ unquoted-none c.args.quote c.loop-rest.text.items c.loop-rest.rest.now (omega arith) (sym c.in_default.ensures.value))
 
 pub loop-rest-preserved : goal.loop-rest-preserved
 loop-rest-preserved c =
@@ -18,6 +13,3 @@ loop-rest-preserved c =
     ∙ unquoted-first c.args.quote c.loop-rest.text.items rest (rune_of c.in-Some.part, c.in-Some.len) (omega arith) (sym c.in-Some.ensures.value) fits.0 fits.1
     ∙ ap (λ s. led s (unquoted c.args.quote (drop c.in-Some.len rest))) (sym c.in_ok-add_to.ensures)
     ∙ ap (λ t. led c.add_to.new.text.items (unquoted c.args.quote t)) (sym (take-rest rest c.in-Some.len _ fits.1 refl))
-
-pub returns : goal.returns
-returns c = sym (c.loop-rest.invariant ∙ unquoted-end c.args.quote c.loop-rest.text.items c.loop-rest.rest.now (omega arith))
