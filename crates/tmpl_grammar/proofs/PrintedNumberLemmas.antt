@@ -2,7 +2,7 @@
 use Rattle.std.proofs.Common.{arith, ◌≡◌, ℕ, zero, suc, ◌^◌, ◌<◌, true, List, [], ◌∷◌, ◌++◌, get_or, sym, subst, pos, negsuc}
 use lib.IntN.{ℤ}
 use lib.Signed.{mag}
-use Rattle.std.specs.Char.{is_ascii_digit, is_digit}
+use Rattle.std.specs.Char.{is_ascii_digit}
 use Rattle.std.specs.Fmt.{decimal, signed_decimal}
 use Rattle.std.specs.Str.Parse.{IsNumeral, AllDigits, digits_value}
 use Rattle.std.proofs.lemmas.Fmt.{decimal_is_IsNumeral, decimal_digit, first_decimal}
@@ -49,8 +49,7 @@ digits-parted : (ds : List ℕ) → AllDigits 10 ds → AreParted 10 ds ds
 digits-parted [] h = no_digit
 digits-parted (d ∷ ds) h =
     let low = h.0 in
-    let here : is_digit d 10 ≡ true = grind (arith, nat_tests) in
-    digit here (digits-parted ds h.1)
+    digit (grind (arith, nat_tests)) (digits-parted ds h.1)
 
 numeral-spelled : (ds : List ℕ) → IsNumeral 10 ds → 48 < get_or ds 0 0 → IsMagnitude ds (digits_value 10 ds)
 numeral-spelled [] h low = absurd (omega arith)
