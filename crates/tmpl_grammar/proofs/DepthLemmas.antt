@@ -23,10 +23,7 @@ least n (t ∷ ts) = omega arith
 pub too-deep : (most n m : ℕ) (ts : List Token) (t : Token) (us : List Token) → ts ≡ t ∷ us → m ≡ depth_behind t.kind n → most < m
     → nat_le (deepest n ts) most ≡ false
 too-deep most n m ts t us is e h =
-    let whole = ap (deepest n) is in
-    let same = ap (λ k. deepest k us) e in
-    let low = least m us in
-    grind (arith, nat_tests, whole, same, low)
+    grind (arith, nat_tests, least m us)
 
 none-nests : Nests 0 []
 none-nests n us = let low = least n us in omega (arith, low)
@@ -40,11 +37,7 @@ of-kind t ts d k is same = one-nests t ts d (λ n. ap (λ k. depth_behind k n) i
 
 -- one list behind another
 both-nest : (ts us : List Token) (d e : ℕ) → Nests d ts → Nests e us → Nests (max d e) (ts ++ us)
-both-nest ts us d e h k n vs =
-    let whole = ap (deepest n) (append_assoc ts us vs) in
-    let front = h n (us ++ vs) in
-    let back = k n vs in
-    omega (arith, whole, front, back)
+both-nest ts us d e h k n vs = grind (arith, append_assoc ts us vs, h n (us ++ vs), k n vs)
 
 blank-nests : (ws ts : List Token) (d : ℕ) → IsBlank ws → Nests d ts → Nests d (ws ++ ts)
 blank-nests [] ts d b h = h
@@ -68,10 +61,7 @@ group-nests l r ts us d left right h k n vs =
     let whole = ap (deepest (suc n)) (append_assoc ts (r ∷ us) vs) in
     let at_left = ap (λ k. deepest (depth_behind k n) ((ts ++ r ∷ us) ++ vs)) left in
     let at_right = ap (λ k. deepest (depth_behind k (suc n)) (us ++ vs)) right ∙ ap (λ m. deepest m (us ++ vs)) (let e : suc n - 1 ≡ n = omega arith in e) in
-    let inner = h (suc n) (r ∷ (us ++ vs)) in
-    let behind = k n vs in
-    let low = least n vs in
-    omega (arith, whole, at_left, at_right, inner, behind, low)
+    omega (arith, whole, at_left, at_right, h (suc n) (r ∷ (us ++ vs)), k n vs, least n vs)
 
 mutual
   operand-nests : (o : Operand) (ts : List Token) → SpellsOperand o ts → Nests (depth_of_operand o) ts
@@ -102,7 +92,4 @@ mutual
       rw is (both-nest a b _ _ (command-nests os a spells) (later-nests cs b rest))
 
 pub pipeline-depth : (cs : Pipeline) (ts : List Token) → SpellsPipeline cs ts → depth_of_pipeline cs ≡ deepest 0 ts
-pipeline-depth cs ts s =
-    let whole = ap (deepest 0) (append-nil ts) in
-    let deep = pipeline-nests cs ts s 0 [] in
-    omega (arith, whole, deep)
+pipeline-depth cs ts s = grind (arith, append-nil ts, pipeline-nests cs ts s 0 [])

@@ -2,7 +2,6 @@
 use Rattle.std.proofs.Common.{arith, ◌≡◌, ◌∙◌, ℕ, true, false, nat_eq, List, [], ◌∷◌, ◌++◌, refl, sym, ap, subst, append_assoc, codes}
 use Rattle.std.specs.Char.{is_ascii_digit}
 use Rattle.std.specs.List.{list_all}
-use Rattle.std.specs.Str.Parse.{AllDigits}
 use Rattle.std.proofs.lemmas.List.Concat.{flat_map-append}
 use Rattle.std.proofs.lemmas.Bool.Decides.{nat_tests}
 use Rattle.tmpl_lex.specs.declared.piece.TokenKind.TheVariants as kind
@@ -32,23 +31,6 @@ field-front b bs rest all stop = row.field (record { passes = all; longest = sto
 
 pub variable-front : (name rest : List ℕ) → list_all is_name_byte name ≡ true → Stops is_name_byte rest → IsFront (token kind.Variable (36 ∷ name)) rest
 variable-front name rest all stop = row.variable (record { passes = all; longest = stop })
-
--- ---- numbers
-
-digits-pass : (bs : List ℕ) → AllDigits 10 bs → list_all is_number_byte bs ≡ true
-digits-pass [] h = refl
-digits-pass (b ∷ bs) h =
-    let low = h.0 in
-    let here : is_number_byte b ≡ true = grind (arith, nat_tests) in
-    simp (here, digits-pass bs h.1)
-
-pub digit-front : (b : ℕ) (bs rest : List ℕ) → is_ascii_digit b ≡ true → AllDigits 10 bs → Stops is_number_byte rest
-    → IsFront (token kind.Number (b ∷ bs)) rest
-digit-front b bs rest d all stop = row.number b no_sign d (record { passes = digits-pass bs all; longest = stop })
-
-pub minus-front : (b : ℕ) (bs rest : List ℕ) → is_ascii_digit b ≡ true → AllDigits 10 bs → Stops is_number_byte rest
-    → IsFront (token kind.Number (45 ∷ b ∷ bs)) rest
-minus-front b bs rest d all stop = row.number b row.minus d (record { passes = digits-pass bs all; longest = stop })
 
 -- ---- a space
 

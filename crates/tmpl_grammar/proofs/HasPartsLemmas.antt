@@ -1,6 +1,6 @@
 -- For `one_constant`: the runes between quotes that are computed are those that the relation admits.
-use Rattle.std.proofs.Common.{◌≡◌, ◌∙◌, ℕ, zero, suc, ◌<◌, ◌≤◌, true, false, nat_eq, List, [], ◌∷◌, ◌++◌, length, drop}
-use Rattle.std.proofs.Common.{Option, Some, None, IfSome, option_and_then, refl, sym, ap, arith, length-append}
+use Rattle.std.proofs.Common.{◌≡◌, ◌∙◌, ℕ, zero, suc, ◌<◌, ◌≤◌, false, nat_eq, List, [], ◌∷◌, ◌++◌, length, drop}
+use Rattle.std.proofs.Common.{Option, Some, None, IfSome, refl, sym, ap, arith, length-append}
 use Rattle.std.specs.Char.{encode_utf8, len_utf8, IsScalar}
 use Rattle.std.proofs.Math.Seq.{drop-append_seam}
 use Rattle.std.proofs.lemmas.List.{take-append-drop}
@@ -51,9 +51,7 @@ byte-at quote b rest low none =
 -- a part comes off the front
 parts-seam : (quote : ℕ) (s rest : List ℕ) (p : Rune) → 0 < length s → part_at quote (s ++ rest) ≡ Some (p, length s)
     → parts quote (s ++ rest) ≡ with_part p (parts quote rest)
-parts-seam quote s rest p low is =
-    parts-first quote (s ++ rest) (p, length s) (omega (arith, length-append s rest)) is low (omega (arith, length-append s rest))
-    ∙ ap (λ bs. with_part p (parts quote bs)) (drop-append_seam s rest)
+parts-seam quote s rest p low is = grind (arith, parts-first quote (s ++ rest) (p, length s), length-append s rest, drop-append_seam s rest)
 
 -- the bytes that spell the first rune, which is read, and those behind them
 abbrev Leading : ℕ → List ℕ → Rune → List Rune → Type 0
@@ -77,9 +75,7 @@ none-spelled quote _ at_end = refl
 pub rune-computed : (quote : ℕ) (bs : List ℕ) (r : Rune) → IsMark quote → SpellsRunes quote bs (r ∷ []) → rune_code quote bs ≡ Some (code_of r)
 rune-computed quote bs r m has =
     let (s, rest, is, some, first, more) = leading quote bs r [] m has in
-    let same : nat_eq (length s) (length bs) ≡ true =
-    grind (arith, nat_tests, ap length is, length-append s rest, ap length (none-spelled quote rest more)) in
-    ap (option_and_then (whole_code (length bs))) (ap (part_at quote) is ∙ first) ∙ simp same
+    grind (arith, nat_tests, is, first, length-append s rest, none-spelled quote rest more)
 
 -- ---- what is computed the relation admits
 
@@ -121,8 +117,8 @@ parts-in (suc n) quote (b ∷ bs) h low =
     go behind None is f = rw (parts-none quote (b ∷ bs) (omega arith) is) tt
     go behind (Some p) is f =
         let n : length f.spelling ≡ p.1 = f.count in
-        let first = sym (ap (part_at quote) f.is) ∙ is ∙ ap (λ k. Some (p.0, k)) (sym n) in
         let some : 0 < length f.spelling = omega (arith, n, f.some) in
+        let first : part_at quote (f.spelling ++ f.rest) ≡ Some (p.0, length f.spelling) = grind (arith, n, f.is) in
         rw (ap (parts quote) f.is ∙ parts-seam quote f.spelling f.rest p.0 some first)
         (mapped (λ (qs : List Rune). p.0 ∷ qs) (SpellsRunes quote (b ∷ bs)) (parts quote f.rest)
         (behind f.rest (omega (arith, ap length f.is, length-append f.spelling f.rest, some))) (λ qs more. rw f.is (f.leads qs more)))

@@ -1,6 +1,6 @@
 -- For `integer` and what it calls: digits, read from left to right by a loop.
-use Rattle.std.proofs.Common.{◌≡◌, ◌∙◌, ℕ, ◌+◌, ◌-◌, ◌*◌, ◌^◌, ◌<◌, ◌≤◌, Bool, true, false, List, [], ◌∷◌, Option, Some, None, if◌then◌else◌, filter, length}
-use Rattle.std.proofs.Common.{take, drop, get_or, refl, sym, ap, arith, le_refl, le_trans, mul-le-mul_left, option_and_then}
+use Rattle.std.proofs.Common.{◌≡◌, ℕ, ◌+◌, ◌-◌, ◌*◌, ◌^◌, ◌<◌, ◌≤◌, Bool, true, false, List, [], ◌∷◌, Option, Some, None, if◌then◌else◌, filter, length}
+use Rattle.std.proofs.Common.{take, drop, get_or, refl, arith, le_refl, mul-le-mul_left, option_and_then}
 use Rattle.std.specs.List.{list_all}
 use Rattle.std.specs.Char.{is_digit, digit_value}
 use Rattle.std.specs.Str.Parse.{digits_value_after}
@@ -27,8 +27,7 @@ left-digit base n b bs p d = grind (arith, nat_tests)
 grown : (base n : ℕ) (ds : List ℕ) → 1 ≤ base → n ≤ digits_value_after base n ds
 grown base n [] h = le_refl n
 grown base n (d ∷ ds) h =
-    let step : n ≤ n * base + digit_value d = omega (arith, mul-le-mul_left n h) in
-    le_trans step (grown base (n * base + digit_value d) ds h)
+    omega (arith, mul-le-mul_left n h, grown base (n * base + digit_value d) ds h)
 
 too-large : (b : Bool) (n : ℕ) → 2 ^ 63 < n → within (number_if b n) ≡ None
 too-large b n h = grind (arith, nat_tests)
@@ -43,9 +42,7 @@ first-digit base d ds h all = (grind (arith, nat_tests), grind (arith, nat_tests
 -- digits have no underscores among them
 pub digits-plain : (base : ℕ) (ds : List ℕ) → base ≤ 16 → list_all (λ d. is_digit d base) ds ≡ true → filter is_plain ds ≡ ds
 digits-plain base [] h all = refl
-digits-plain base (d ∷ ds) h all =
-    let f = first-digit base d ds h all in
-    f.1 ∙ ap (λ t. d ∷ t) (digits-plain base ds h f.0)
+digits-plain base (d ∷ ds) h all = let f = first-digit base d ds h all in grind (arith, digits-plain base ds h f.0)
 
 -- no number past 2^63 in magnitude fits
 pub signed-within : (negative : Bool) (o : Option ℕ) → option_and_then (signed negative) (within o) ≡ option_and_then (signed negative) o
@@ -64,8 +61,7 @@ pub integer-signed : (negative : Bool) (bs : List ℕ) → 1 ≤ length bs → g
     → option_and_then (signed negative) (within (magnitude (take (length bs - 1) (drop 1 bs)))) ≡ integer bs
 integer-signed negative [] h is = absurd (omega arith)
 integer-signed negative (b ∷ bs) h is =
-    ap (λ t. option_and_then (signed negative) (within (magnitude t))) (take-rest (b ∷ bs) 1 (length (b ∷ bs) - 1) (omega arith) refl)
-    ∙ signed-within negative (magnitude bs) ∙ sym (ap (λ x. integer (x ∷ bs)) is ∙ behind-sign negative bs)
+    grind (arith, take-rest (b ∷ bs) 1 (length (b ∷ bs) - 1), signed-within negative (magnitude bs), behind-sign negative bs)
 
 pub ruleset signs = (signed-within, integer-signed)
 

@@ -1,6 +1,6 @@
 -- For `one_constant`: the constants that are computed are those that the relation admits.
-use Rattle.std.proofs.Common.{◌≡◌, ◌∙◌, ℕ, suc, pos, ◌+◌, ◌-◌, ◌≤◌, List, [], ◌∷◌, ◌++◌, length, take, drop, get_or, Option, Some, IfSome, option_and_then, sym}
-use Rattle.std.proofs.Common.{ap, subst, arith, length-append, drop-drop, drop-cons, flat_map}
+use Rattle.std.proofs.Common.{◌≡◌, ℕ, suc, pos, ◌-◌, List, [], ◌∷◌, ◌++◌, length, drop, Option, Some, IfSome, option_and_then}
+use Rattle.std.proofs.Common.{subst, arith, length-append, drop-drop, drop-cons, flat_map}
 use Rattle.std.proofs.Math.Seq.{take-append_seam, get_or-append_seam}
 use Rattle.std.proofs.lemmas.List.{drop_all, take-append-drop}
 use Rattle.std.proofs.lemmas.Bool.Decides.{nat_tests}
@@ -26,23 +26,12 @@ use Rattle.tmpl_grammar.proofs.OptionLemmas.{admitted, told, mapped}
 between-quotes : (quote : ℕ) (xs : List ℕ) → between quote (quote ∷ (xs ++ quote ∷ [])) ≡ Some xs
 between-quotes quote xs =
     let bs : List ℕ = quote ∷ (xs ++ quote ∷ []) in
-    let n : length bs - 1 ≡ suc (length xs) = omega (arith, length-append xs (quote ∷ [])) in
-    let m : length bs - 2 ≡ length xs = omega arith in
-    let at_last : get_or bs (length bs - 1) 0 ≡ quote = rw n (get_or-append_seam xs quote [] 0) in
-    let inside : take (length bs - 2) (xs ++ quote ∷ []) ≡ xs = rw m (take-append_seam xs (quote ∷ [])) in
-    grind (arith, nat_tests, length-append xs (quote ∷ []))
+    grind (arith, nat_tests, length-append xs (quote ∷ []), get_or-append_seam xs quote [] 0, take-append_seam xs (quote ∷ []))
 
 between-is : (quote : ℕ) (bs xs : List ℕ) → between quote bs ≡ Some xs → quote ∷ (xs ++ quote ∷ []) ≡ bs
 between-is quote bs xs e =
-    let long : 2 ≤ length bs = grind (arith, nat_tests) in
-    let first : get_or bs 0 0 ≡ quote = grind (arith, nat_tests) in
-    let last : get_or bs (length bs - 1) 0 ≡ quote = grind (arith, nat_tests) in
-    let inside : take (length bs - 2) (drop 1 bs) ≡ xs = grind (arith, nat_tests) in
-    let n : 1 + (length bs - 2) ≡ length bs - 1 = omega arith in
-    let none : drop (suc (length bs - 1)) bs ≡ [] = drop_all (suc (length bs - 1)) bs (omega arith) in
-    let back : drop (length bs - 2) (drop 1 bs) ≡ quote ∷ [] =
-    drop-drop (length bs - 2) 1 bs ∙ ap (λ k. drop k bs) n ∙ drop-cons bs (length bs - 1) 0 (omega arith) ∙ simp (last, none) in
-    sym (drop-cons bs 0 0 (omega arith) ∙ simp first (ap (λ l. quote ∷ l) (sym (take-append-drop (length bs - 2) (drop 1 bs)) ∙ simp (inside, back))))
+    let end : drop (suc (length bs - 1)) bs ≡ [] = drop_all (suc (length bs - 1)) bs (omega arith) in
+    grind (arith, nat_tests, drop-cons bs 0 0, drop-cons bs (length bs - 1) 0, take-append-drop (length bs - 2) (drop 1 bs), drop-drop (length bs - 2) 1 bs)
 
 -- ---- what the relation admits is computed
 

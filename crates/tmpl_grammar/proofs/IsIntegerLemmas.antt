@@ -57,18 +57,19 @@ number-parted base bs P h = grind (arith, nat_tests, parted-admitted)
 named-low : (b base : ℕ) → base_named b ≡ Some base → base ≤ 16
 named-low b base e = grind (arith, nat_tests)
 
--- an octal digit names no base
-digit-unnamed : (d : ℕ) → is_digit d 8 ≡ true → base_named d ≡ None
-digit-unnamed d is = grind (arith, nat_tests)
-
 octal-computed : {bs ds : List ℕ} → AreParted 8 bs ds → behind_zero bs ≡ Some (digits_value 8 ds)
 octal-computed no_digit = refl
-octal-computed (digit {d = d} is rest) = simp (digit-unnamed d is) (parted-number 8 (omega arith) (digit is rest))
+octal-computed (digit {d = d} is rest) =
+    -- an octal digit names no base
+    let unnamed : base_named d ≡ None = grind (arith, nat_tests) in
+    simp unnamed (parted-number 8 (omega arith) (digit is rest))
 octal-computed (parted rest) = parted-number 8 (omega arith) (parted rest)
 
--- the first byte of a decimal number is no sign, and begins no number of another base
+decimal-first : (d : ℕ) (bs ds : List ℕ) → AreParted 10 (d ∷ bs) (d ∷ ds) → is_digit d 10 ≡ true
+decimal-first d bs ds a = let (part, kept, all) = parted-computed 10 (omega arith) a in first-digit 10 d ds all
+
 decimal-computed : (d : ℕ) (bs ds : List ℕ) → AreParted 10 (d ∷ bs) (d ∷ ds) → (d ≡ 48 → ⊥) → magnitude (d ∷ bs) ≡ parted_number 10 (d ∷ bs)
-decimal-computed d bs ds a other = let is = first-digit 10 d ds (let (part, kept, all) = parted-computed 10 (omega arith) a in all) in grind (arith, nat_tests)
+decimal-computed d bs ds a other = grind (arith, nat_tests, decimal-first d bs ds a)
 
 magnitude-computed : {bs : List ℕ} {n : ℕ} → IsMagnitude bs n → magnitude bs ≡ Some n
 magnitude-computed (decimal {d = d} {bs = bs} {ds = ds} other a) = decimal-computed d bs ds a other ∙ parted-number 10 (omega arith) a
@@ -98,14 +99,9 @@ magnitude-admitted (b ∷ bs) =
 -- ---- signs
 
 -- the bytes of a magnitude have no sign
-digit-unsigned : (d : ℕ) (bs : List ℕ) → is_digit d 10 ≡ true → integer (d ∷ bs) ≡ option_and_then (signed false) (magnitude (d ∷ bs))
-unfolding integer
-digit-unsigned d bs is = grind (arith, nat_tests)
-
 unsigned-computed : {bs : List ℕ} {n : ℕ} → IsMagnitude bs n → integer bs ≡ option_and_then (signed false) (magnitude bs)
 unfolding integer
-unsigned-computed (decimal {d = d} {bs = bs} {ds = ds} other a) =
-    digit-unsigned d bs (first-digit 10 d ds (let (part, kept, all) = parted-computed 10 (omega arith) a in all))
+unsigned-computed (decimal {d = d} {bs = bs} {ds = ds} other a) = grind (arith, nat_tests, decimal-first d bs ds a)
 unsigned-computed (octal a) = refl
 unsigned-computed (based e a) = refl
 

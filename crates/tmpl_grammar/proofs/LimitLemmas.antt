@@ -102,7 +102,6 @@ limited-read ts =
   where
     by : (o : Option (List Operands)) → IfSome (option_map commands_from o) (λ cs. depth_of_pipeline cs ≡ deepest 0 ts)
         → limited_commands (nat_le (deepest 0 ts) most_deep) o ≡ option_map limited_pipeline (option_map commands_from o)
-    by None deep = refl
-    by (Some cs) deep = simp deep
+    by o deep = grind arith
 
 pub ruleset limits = (limited-read)
