@@ -1,7 +1,6 @@
 use Rattle.std.proofs.Common.{◌≡◌, ◌∙◌, Bool, true, false, not, refl, subst, sym}
 use Rattle.tmpl_syntax.specs.View.{set_view}
-use Rattle.tmpl_code.specs.computed.Weights.{set_calls}
-use Rattle.tmpl_code.specs.computed.Weights.{IsBound}
+use Rattle.tmpl_code.specs.computed.Weights.{set_calls, IsBound}
 use Rattle.tmpl_code.proofs.BoundLemmas.{held-is-bound, most-is-bound, none-is-bound}
 use Rattle.tmpl_code.proofs.bound.bound_of.Goals as goal
 

@@ -1,4 +1,4 @@
-use Rattle.std.proofs.Common.{◌≡◌, ◌∙◌, ◌+◌, ◌-◌, ℕ, suc, ◌||◌, List, [], ◌∷◌, max, drop, length, map, reverse, ap, sym, subst, arith, Vec, Global}
+use Rattle.std.proofs.Common.{◌≡◌, ◌∙◌, ◌+◌, ◌-◌, ℕ, ◌||◌, List, [], ◌∷◌, max, drop, length, map, reverse, ap, sym, subst, arith, Vec, Global}
 use Rattle.std.specs.Vec.{with_items}
 use Rattle.std.proofs.lemmas.List.{reverse-append, with_items_is}
 use Rattle.tmpl_syntax.specs.Need.{need, need_of_nodes}
@@ -12,7 +12,8 @@ use Rattle.tmpl_code.specs.Room.{largest_need}
 use Rattle.tmpl_code.specs.View.{instructions_of}
 use Rattle.tmpl_code.specs.computed.Held.{LastStarts, code_of, places}
 use Rattle.tmpl_code.proofs.BackwardLemmas.{at-first}
-use Rattle.tmpl_code.proofs.ProgramLemmas.{from-number, starts as starts_of, starts_more}
+use Rattle.tmpl_code.proofs.ProgramLemmas.{starts as starts_of, starts_more}
+use Rattle.tmpl_syntax.proofs.SecondLemmas.{drop-next}
 use Rattle.tmpl_code.proofs.compiler.compile.Goals as goal
 
 pub loop-i-preserved : goal.loop-i-preserved
@@ -20,21 +21,21 @@ loop-i-preserved c =
     let l = c.loop-i in
     let ts = set_view c.args.set.now in
     let i = l.i - 1 in
-    let next : l.i ≡ suc i = omega arith in
+    let next : l.i ≡ i + 1 = omega arith in
     let t : Template = (c.template.result.0.now, tree_of c.template.result.1.now) in
     let old = code_of l.compiler.code in
     let new = code_of c.put_tree.new.self.code in
     let nodes : nodes_in c.as_slice-nodes.result.now ≡ t.1.nodes = ap nodes_in c.as_slice-nodes.ensures.value in
-    let here : t ∷ drop (suc i) ts ≡ drop i ts = sym (from-number ts i t c.template.ensures.value) in
+    let here : t ∷ drop (i + 1) ts ≡ drop i ts = sym (drop-next ts i t c.template.ensures.value) in
     let starts = subst (λ n. LastStarts ts (drop n ts) (reverse l.lengths.items) old) next l.invariant.starts in
     let lies = subst (λ (ns : Nodes). TreeAt ts ns new old) nodes c.in_ok-own.ensures.code in
     let found = c.in_ok-own in
     let needs : found.own.need ≡ need t.1 = found.ensures.need ∙ ap (λ (ns : Nodes). 3 + need_of_nodes ns) nodes in
     let makes : found.own.makes_text ≡ nodes_make_text t.1.nodes = found.ensures.text ∙ ap nodes_make_text nodes in
     let calling : found.own.calls ≡ nodes_call t.1.nodes = found.ensures.calls ∙ ap nodes_call nodes in
-    let most : l.survey.need ≡ largest_need (drop (suc i) ts) = l.invariant.most ∙ ap (λ n. largest_need (drop n ts)) next in
-    let made : l.survey.makes_text ≡ set_makes_text (drop (suc i) ts) = l.invariant.makes ∙ ap (λ n. set_makes_text (drop n ts)) next in
-    let called : l.survey.calls ≡ set_calls (drop (suc i) ts) = l.invariant.calling ∙ ap (λ n. set_calls (drop n ts)) next in
+    let most : l.survey.need ≡ largest_need (drop (i + 1) ts) = l.invariant.most ∙ ap (λ n. largest_need (drop n ts)) next in
+    let made : l.survey.makes_text ≡ set_makes_text (drop (i + 1) ts) = l.invariant.makes ∙ ap (λ n. set_makes_text (drop n ts)) next in
+    let called : l.survey.calls ≡ set_calls (drop (i + 1) ts) = l.invariant.calling ∙ ap (λ n. set_calls (drop n ts)) next in
     let within : length ts ≡ length ts = λ j. length ts in
     let bound = c.template.ensures.kept.need in
     let joined = c.with-survey.ensures in
