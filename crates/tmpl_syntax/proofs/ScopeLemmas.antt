@@ -9,7 +9,7 @@ use Rattle.tmpl_syntax.specs.Place.Open.{IsOpen, NothingOpen, IsLast, IsElseOf, 
 use Rattle.tmpl_syntax.specs.Place.Scope.{Declares, at_the_top, inside, in_header, in_else_branch, IsInScope}
 use Rattle.tmpl_syntax.specs.computed.Frames.{is_known, with_names}
 use Rattle.tmpl_syntax.proofs.NameLemmas.{with-Decides}
-use Rattle.tmpl_syntax.proofs.OpenLemmas.{same-piece, cut, Even, Same, opened-keeps, opened_new, same-opening, one-last}
+use Rattle.tmpl_syntax.proofs.PlaceLemmas.{same-piece, cut, Even, Same, opened-keeps, opened_new, same-opening, one-last}
 use Rattle.tmpl_syntax.proofs.PlaceLemmas.{Alike, alike-here, alike-even, alike-back, alike-opened, one-moves, template-moves, no-else}
 use Rattle.tmpl_syntax.specs.Place.Opening.{Opening}
 use Rattle.tmpl_syntax.specs.Place.Opening as opened
