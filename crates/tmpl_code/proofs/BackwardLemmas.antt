@@ -1,5 +1,5 @@
 -- For `put_operands` and `put_commands`, which go from the last to the first: what the relation says of one more in front.
-use Rattle.std.proofs.Common.{◌≡◌, ◌∙◌, ◌+◌, ◌-◌, ◌<◌, ℕ, Bool, true, false, List, ◌∷◌, length, drop, get_or, refl, ap, sym, subst}
+use Rattle.std.proofs.Common.{arith, ◌≤◌, ◌≡◌, ◌∙◌, ◌+◌, ◌-◌, ◌<◌, ℕ, Bool, true, false, List, ◌∷◌, length, drop, get_or, refl, ap, sym, subst}
 use Rattle.std.proofs.lemmas.List.{at_drop_more}
 use Rattle.tmpl_grammar.specs.Tree.{Operands, no_operand, operand}
 use Rattle.tmpl_grammar.specs.View.{operand_of, operands_in, commands_in}
@@ -13,6 +13,9 @@ use Rattle.tmpl_code.proofs.TailLemmas.{passes}
 -- a loop to the first that ended there says of all what it kept
 pub at-first : {A B : Type 0} (f : List A → B) (xs : List A) {i : ℕ} {v : B} → v ≡ f (drop i xs) → i ≡ 0 → v ≡ f xs
 at-first f xs kept first = kept ∙ ap (λ k. f (drop k xs)) first
+
+pub from_none : {A : Type 0} (xs : List A) (i : ℕ) → i ≤ 0 → drop i xs ≡ xs
+from_none xs i le = let none : i ≡ 0 = omega arith in ap (λ k. drop k xs) none
 
 pub commands_from : (cs : List held_command.Command) (i : ℕ) (c : held_command.Command) → i < length cs → c ≡ get_or cs i c
     → commands_in (drop i cs) ≡ commands_in (c ∷ drop (i + 1) cs)

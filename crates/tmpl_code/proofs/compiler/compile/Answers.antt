@@ -65,19 +65,6 @@ linked-so ts i size lengths turned counts starts code is none last many same pla
     subst (λ (is : Code). Starts ts ts (with_items turned starts).items is) (sym put)
     (subst (λ (ns : List ℕ). Starts ts ts ns code) at (starts_of ts ts (reverse lengths) code last))
 
-pub bound_of-requires-clause-needs : goal.bound_of-requires-clause-needs
-bound_of-requires-clause-needs c =
-    c.as_slice.ensures.value ∙ c.reverse-2.ensures.items
-    ∙ at-first (map (λ (t : Template). need t.1)) (set_view c.args.set.now) c.loop-i.invariant.needs (omega arith)
-
-pub bound_of-requires-clause-most : goal.bound_of-requires-clause-most
-bound_of-requires-clause-most c =
-    at-first largest_need (set_view c.args.set.now) c.loop-i.invariant.most (omega arith)
-
-pub bound_of-requires-clause-calls : goal.bound_of-requires-clause-calls
-bound_of-requires-clause-calls c =
-    at-first set_calls (set_view c.args.set.now) c.loop-i.invariant.calling (omega arith)
-
 pub invariant_of-result : goal.invariant_of-result
 invariant_of-result c =
     let l = c.loop-i in
