@@ -28,12 +28,7 @@ pub starts_more : (all : List Template) (i : ℕ) (t : Template) (ns more : List
 starts_more all i t ns more n old new at put len lies on s =
     let first : reverse more ≡ n ∷ reverse ns = ap reverse put ∙ reverse-append ns (n ∷ []) in
     let begins : last_of n new ≡ new = ap (λ k. last_of k new) len ∙ whole new in
-    subst (λ (ts : List Template). LastStarts all ts (reverse more) new) (sym (drop-next all i t at))
-    (subst (λ (ks : List ℕ). LastStarts all (t ∷ drop (i + 1) all) ks new) (sym first) (
-      omega (arith, len),
-      (old, subst (λ (c : Code). TreeAt all t.1.nodes c old) (sym begins) lies),
-      starts_on all (drop (i + 1) all) (reverse ns) old new on s,
-    ))
+    rw (drop-next all i t at, first) (omega (arith, len), (old, rw begins lies), starts_on all (drop (i + 1) all) (reverse ns) old new on s)
 
 -- so much code is left from its place on
 pub starts : (all ts : List Template) (ns : List ℕ) (code : Code) → LastStarts all ts ns code → Starts all ts (places (length code) ns) code

@@ -58,12 +58,8 @@ linked-so : (ts : List Template) (i size : ℕ) (lengths : List ℕ) (turned : V
     → LastStarts ts (drop i ts) (reverse lengths) code → length starts ≡ length counts → counts ≡ turned.items
     → starts ≡ places size counts → size ≡ length code → turned.items ≡ reverse lengths → is ≡ code → Starts ts ts (with_items turned starts).items is
 linked-so ts i size lengths turned counts starts code is none last many same placed sized reversed put =
-    let last = subst (λ n. LastStarts ts (drop n ts) (reverse lengths) code) none last in
     let kept = with_items_is turned starts (omega (arith, many, ap length same)) in
-    let at : places (length code) (reverse lengths) ≡ (with_items turned starts).items =
-    sym (kept ∙ placed ∙ (λ j. places (sized j) ((same ∙ reversed) j))) in
-    subst (λ (is : Code). Starts ts ts (with_items turned starts).items is) (sym put)
-    (subst (λ (ns : List ℕ). Starts ts ts ns code) at (starts_of ts ts (reverse lengths) code last))
+    rw (put, kept, placed, sized, same, reversed) (starts_of ts ts (reverse lengths) code (rw none at last))
 
 pub invariant_of-result : goal.invariant_of-result
 invariant_of-result c =
