@@ -314,17 +314,13 @@ levels-opened xs i n c p at r = go c at
         (λ k lt. level-moves xs k i (i + 1) (λ q le. opened-keeps xs (act_role (opener c p)) i q at refl))
         (λ k lt. level-moves xs k (i + 1) i (λ q le. cut xs q i (i + 1) (omega arith) (omega arith))) r
 
-    yes : (d : Opening) → slice_get xs i ≡ Some (act_role (opener d p)) → is_level d ≡ true → Levels xs (i + 1) (i + 1) (n + 1)
-    yes d od nt = levels-yes xs (i + 1) i n below (of_opening (opened_new xs i d p od) nt)
-
-    no : (d : Opening) → slice_get xs i ≡ Some (act_role (opener d p)) → is_level d ≡ false → IsLevel xs i (i + 1) → ⊥
-    no d od nt (of_opening h is) = let t : true ≡ false = sym is ∙ ap is_level (same-opening xs i h.opened d h.at od) ∙ nt in cc
-    no d od nt (of_else_branch {b = b} {j = q} t h is) = no-else xs (act_role (opener c p)) i at (λ d g. cc) (Some b) q t
+    none : slice_get xs i ≡ Some (act_role (opener opened.define p)) → IsLevel xs i (i + 1) → ⊥
+    none od (of_opening h is) = let t : true ≡ false = sym is ∙ ap is_level (same-opening xs i h.opened opened.define h.at od) in cc
+    none od (of_else_branch {b = b} {j = q} t h is) = no-else xs (act_role (opener c p)) i at (λ d g. cc) (Some b) q t
 
     go : (d : Opening) → slice_get xs i ≡ Some (act_role (opener d p)) → Levels xs (i + 1) (i + 1) (n + level_of d)
-    go (opened.control d) od = yes (opened.control d) od refl
-    go opened.define od = subst (λ k. Levels xs (i + 1) (i + 1) k) (sym (add-zero n)) (levels-no xs (i + 1) i n below (no opened.define od refl))
-    go opened.block od = yes opened.block od refl
+    go opened.define od = rw add-zero (levels-no xs (i + 1) i n below (none od))
+    go d od = levels-yes xs (i + 1) i n below (of_opening (opened_new xs i d p od) refl)
 
 -- loops
 
