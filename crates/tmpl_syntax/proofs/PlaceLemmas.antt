@@ -205,9 +205,6 @@ one-moves xs k a b e h = (h.0, h.1, template-moves xs a b e h.0 h.2)
 pub alike-back : (xs : List Role) (a b : ℕ) → Alike xs a b → Alike xs b a
 alike-back xs a b e = record { to = e.back; back = e.to }
 
-pub alike-here : (xs : List Role) (a : ℕ) → Alike xs a a
-alike-here xs a = record { to = λ k h. h; back = λ k h. h }
-
 pub alike-even : (xs : List Role) (a b : ℕ) → Even xs a b → Alike xs a b
 alike-even xs a b e = record { to = λ k h. move-body xs k a b h (e.keeps k h.is_open); back = λ k h. move-body xs k b a h (e.only k h.is_open) }
 
@@ -216,18 +213,13 @@ pub alike-last : (xs : List Role) (j i : ℕ) → (l : IsLast xs j i) → is_tem
 alike-last xs j i l nt = record {
   to = λ k h. move-body xs k j i h (through xs k j i h.is_open l.is_open);
   back = λ k h. ⊎_elim
-      (λ e. absurd (own k e h))
+      (λ e. let c = same-opening xs k h.is_open.opened l.is_open.opened {q = l.is_open.names} h.is_open.at (rw e l.is_open.at) in
+      let t : true ≡ false = sym h.own ∙ ap is_template c ∙ nt in cc)
       (λ o. ⊎_elim
       (λ lt. move-body xs k i j h (cut xs k j i lt (let b = l.is_open.before in omega arith) h.is_open))
       (λ gt. absurd (l.last k gt h.is_open)) o)
       (cases_order k j);
 }
-  where
-    own : (k : ℕ) → k ≡ j → IsBody xs k i → ⊥
-    own k e h =
-        let b : IsBody xs j i = subst (λ n. IsBody xs n i) e h in
-        let c : b.is_open.opened ≡ l.is_open.opened = same-opening xs j b.is_open.opened l.is_open.opened b.is_open.at l.is_open.at in
-        let t : true ≡ false = sym b.own ∙ ap is_template c ∙ nt in cc
 
 pub alike-opened : (xs : List Role) (i : ℕ) (c : Opening) (p : Names) → slice_get xs i ≡ Some (act_role (opener c p)) → is_template c ≡ false
     → Alike xs i (i + 1)
