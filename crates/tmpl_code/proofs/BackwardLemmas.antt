@@ -1,5 +1,5 @@
 -- For `put_operands` and `put_commands`, which go from the last to the first: what the relation says of one more in front.
-use Rattle.std.proofs.Common.{◌≡◌, ◌∙◌, ◌+◌, ◌-◌, ◌<◌, ℕ, Bool, true, false, List, ◌∷◌, length, drop, get_or, refl, ap, sym, subst}
+use Rattle.std.proofs.Common.{arith, ◌≤◌, ◌≡◌, ◌∙◌, ◌+◌, ◌-◌, ◌<◌, ℕ, Bool, true, false, List, ◌∷◌, length, drop, get_or, refl, ap, sym}
 use Rattle.std.proofs.lemmas.List.{at_drop_more}
 use Rattle.tmpl_grammar.specs.Tree.{Operands, no_operand, operand}
 use Rattle.tmpl_grammar.specs.View.{operand_of, operands_in, commands_in}
@@ -13,6 +13,9 @@ use Rattle.tmpl_code.proofs.TailLemmas.{passes}
 -- a loop to the first that ended there says of all what it kept
 pub at-first : {A B : Type 0} (f : List A → B) (xs : List A) {i : ℕ} {v : B} → v ≡ f (drop i xs) → i ≡ 0 → v ≡ f xs
 at-first f xs kept first = kept ∙ ap (λ k. f (drop k xs)) first
+
+pub from_none : {A : Type 0} (xs : List A) (i : ℕ) → i ≤ 0 → drop i xs ≡ xs
+from_none xs i le = let none : i ≡ 0 = omega arith in ap (λ k. drop k xs) none
 
 pub commands_from : (cs : List held_command.Command) (i : ℕ) (c : held_command.Command) → i < length cs → c ≡ get_or cs i c
     → commands_in (drop i cs) ≡ commands_in (c ∷ drop (i + 1) cs)
@@ -28,22 +31,16 @@ pub junction_more : (lay : Layout) (above : ℕ) (is_or piped : Bool) (os : List
     → OperandAt (operand_of o) above lay new mid → JunctionAt is_or (operands_in (drop (i + 1) os)) piped above lay more old
     → Ends old more → JunctionAt is_or (operands_in (drop i os)) piped above lay new old
 junction_more lay above is_or piped os i o last new mid more old h is e put at others on =
-    subst (λ (x : Operands). JunctionAt is_or x piped above lay new old) (sym (operands_from os i o h is)) (mid, at, decides)
+    let rest : Operands = operands_in (drop (i + 1) os) in
+    let decided_here : mid ≡ decided (is_last rest piped) is_or piped (length old) more = rw (← e) put in
+    rw (operands_from os i o h is) (mid, at, decides rest (is_last rest piped) decided_here others (λ t. none rest piped t others))
   where
-    go : (os : Operands) (piped b last : Bool) → last ≡ b → mid ≡ decided last is_or piped (length old) more → JunctionAt is_or os piped above lay more old
-        → (b ≡ true → more ≡ old)
-        → DecideAt b is_or piped (JunctionAt is_or os piped above lay) mid old
-    go os piped true true e put others none = put ∙ none refl
-    go os piped true false e put others none = cc
-    go os piped false true e put others none = cc
-    go os piped false false e put others none =
-        (length more - length old, more, put, others, passes on refl)
+    decides : (rest : Operands) (b : Bool) → mid ≡ decided b is_or piped (length old) more → JunctionAt is_or rest piped above lay more old
+        → (b ≡ true → more ≡ old) → DecideAt b is_or piped (JunctionAt is_or rest piped above lay) mid old
+    decides rest true put others none = put ∙ none refl
+    decides rest false put others none = (length more - length old, more, put, others, passes on refl)
 
     none : (os : Operands) (piped : Bool) → is_last os piped ≡ true → JunctionAt is_or os piped above lay more old → more ≡ old
     none no_operand false e l = l
     none no_operand true e l = l
     none (operand o os) piped e l = cc
-
-    decides : DecideAt (is_last (operands_in (drop (i + 1) os)) piped) is_or piped (JunctionAt is_or (operands_in (drop (i + 1) os)) piped above lay) mid old
-    decides = go (operands_in (drop (i + 1) os)) piped (is_last (operands_in (drop (i + 1) os)) piped) last e put others
-        (λ t. none (operands_in (drop (i + 1) os)) piped t others)

@@ -116,3 +116,5 @@ module _ (ts : List Template) (weights : List ℕ) where
             let most = (hold first t e).most in
             let more : suc (length rest) * each ≤ depth * each = mul-le-mul_right each (omega arith) in
             omega arith
+
+pub ruleset bounds = (none-is-bound, most-is-bound)

@@ -1,5 +1,5 @@
 -- For `put_nodes` and what it calls: layouts and weights of nodes one level at a time, by which the recursion ends and its scope fits.
-use Rattle.std.proofs.Common.{arith, ◌≡◌, ◌∙◌, ◌+◌, ◌<◌, ◌≤◌, ℕ, zero, suc, List, [], ◌∷◌, length, take, drop, get_or, refl, ap, sym, subst}
+use Rattle.std.proofs.Common.{arith, ◌≡◌, ◌∙◌, ◌+◌, ◌<◌, ◌≤◌, ℕ, zero, suc, List, [], ◌∷◌, length, take, drop, get_or, refl, ap, sym}
 use Rattle.std.proofs.lemmas.List.{at_drop_more}
 use Rattle.tmpl_grammar.specs.Tree.{Binding, unbound}
 use Rattle.tmpl_syntax.specs.Tree as tree
@@ -21,14 +21,10 @@ abbrev mutual
   nodes_weight tree.none = 0
   nodes_weight (tree.then line n ns) = suc (node_weight n + nodes_weight ns)
 
-pub weight-at : (ns : List held.Node) (i : ℕ) (d : held.Node) → i < length ns → node_weight (node_of (get_or ns i d)).what < nodes_weight (nodes_in ns)
-weight-at [] i d h = absurd (omega arith)
-weight-at (n ∷ ns) zero d h = omega arith
-weight-at (n ∷ ns) (suc i) d h = let below : node_weight (node_of (get_or ns i d)).what < nodes_weight (nodes_in ns) = weight-at ns i d (omega arith) in
-    omega (arith, below)
-
 pub item-weight : (ns : List held.Node) (i : ℕ) (n : held.Node) → i < length ns → n ≡ get_or ns i n → node_weight (node_of n).what < nodes_weight (nodes_in ns)
-item-weight ns i n h is = subst (λ (m : held.Node). node_weight (node_of m).what < nodes_weight (nodes_in ns)) (sym is) (weight-at ns i n h)
+item-weight [] i n h is = absurd (omega arith)
+item-weight (m ∷ ns) zero n h is = rw is (omega arith)
+item-weight (m ∷ ns) (suc i) n h is = omega (arith, item-weight ns i n (omega arith) is)
 
 pub ruleset lighter = (item-weight)
 
@@ -82,5 +78,4 @@ pub nodes_more : (ts : List Template) (ns : List held.Node) (i j : ℕ) (n : hel
     → NodeAt ts (node_of n).line (node_of n).what before x start mid → NodesAt ts (nodes_in (drop i ns)) after x mid old
     → NodesAt ts (nodes_in (drop j ns)) before x new old
 nodes_more ts ns i j n x before after new start mid old h next is grew step one rest =
-    subst (λ (y : Nodes). NodesAt ts y before x new old) (nodes_from ns i j n h next is)
-    (start, mid, step, one, subst (λ (l : Layout). NodesAt ts (nodes_in (drop i ns)) l x mid old) grew rest)
+    rw (← nodes_from ns i j n h next is) (start, mid, step, one, rw (← grew) rest)

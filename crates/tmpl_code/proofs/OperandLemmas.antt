@@ -1,9 +1,9 @@
 -- For `put_operand`, `cost_of_operand` and what they call: the weight of operands one level at a time, by which their
 -- recursion ends, and how many there are.
-use Rattle.std.proofs.Common.{arith, ◌≡◌, ◌+◌, ◌<◌, ◌≤◌, ℕ, zero, suc, Bool, true, false, not, List, [], ◌∷◌, length, get_or, refl, ap, sym, subst}
+use Rattle.std.proofs.Common.{arith, ◌≡◌, ◌+◌, ◌<◌, ◌≤◌, ℕ, zero, suc, Bool, true, false, not, List, [], ◌∷◌, length, get_or, refl, ap}
 use Rattle.tmpl_grammar.specs.Need.{need_of_arguments}
 use Rattle.tmpl_grammar.specs.Tree.{Operand, group, Operands, no_operand, operand, Pipeline, no_command, command}
-use Rattle.tmpl_grammar.specs.View.{operand_of, operands_in, command_of, commands_in}
+use Rattle.tmpl_grammar.specs.View.{operand_of, operands_in, commands_in}
 use Rattle.tmpl_grammar.specs.declared.tree.Operand as held
 use Rattle.tmpl_grammar.specs.declared.tree.Command as held_command
 use Rattle.tmpl_code.specs.Code.{is_last, operand_count}
@@ -36,26 +36,17 @@ abbrev mutual
   all_weight no_command = 0
   all_weight (command os cs) = suc (weights os + all_weight cs)
 
-pub weight-at : (os : List held.Operand) (i : ℕ) (d : held.Operand) → i < length os → weight (operand_of (get_or os i d)) < weights (operands_in os)
-weight-at [] i d h = absurd (omega arith)
-weight-at (o ∷ os) zero d h = omega arith
-weight-at (o ∷ os) (suc i) d h = let below : weight (operand_of (get_or os i d)) < weights (operands_in os) = weight-at os i d (omega arith) in
-    omega (arith, below)
-
-pub weights-at : (cs : List held_command.Command) (i : ℕ) (d : held_command.Command) → i < length cs
-    → weights (command_of (get_or cs i d)) < all_weight (commands_in cs)
-weights-at [] i d h = absurd (omega arith)
-weights-at (c ∷ cs) zero d h = omega arith
-weights-at (c ∷ cs) (suc i) d h = let below : weights (command_of (get_or cs i d)) < all_weight (commands_in cs) = weights-at cs i d (omega arith) in
-    omega (arith, below)
-
 pub item-weight : (os : List held.Operand) (i : ℕ) (o : held.Operand) → i < length os → o ≡ get_or os i o → weight (operand_of o) < weights (operands_in os)
-item-weight os i o h is = subst (λ (p : held.Operand). weight (operand_of p) < weights (operands_in os)) (sym is) (weight-at os i o h)
+item-weight [] i o h is = absurd (omega arith)
+item-weight (p ∷ os) zero o h is = rw is (omega arith)
+item-weight (p ∷ os) (suc i) o h is = omega (arith, item-weight os i o (omega arith) is)
 
 -- the operands of a command, as a slice has them
 pub slice-weights : (cs : List held_command.Command) (i : ℕ) (c : held_command.Command) (os : List held.Operand) → i < length cs
     → os ≡ (get_or cs i c).operands.items → weights (operands_in os) < all_weight (commands_in cs)
-slice-weights cs i c os h is = subst (λ (ps : List held.Operand). weights (operands_in ps) < all_weight (commands_in cs)) (sym is) (weights-at cs i c h)
+slice-weights [] i c os h is = absurd (omega arith)
+slice-weights (d ∷ cs) zero c os h is = rw is (omega arith)
+slice-weights (d ∷ cs) (suc i) c os h is = omega (arith, slice-weights cs i c os (omega arith) is)
 
 pub ruleset lighter = (item-weight, slice-weights)
 

@@ -1,7 +1,8 @@
 -- For `compile`, which puts the last template first: what the relation says of one template more in front.
-use Rattle.std.proofs.Common.{arith, ◌≡◌, ◌∙◌, ◌-◌, ℕ, zero, suc, List, [], ◌∷◌, ◌++◌, length, drop, reverse, Some, slice_get, ap, sym, subst}
+use Rattle.std.proofs.Common.{arith, ◌≡◌, ◌∙◌, ◌+◌, ◌-◌, ℕ, List, [], ◌∷◌, ◌++◌, length, drop, reverse, Some, slice_get, ap, sym, subst}
 use Rattle.std.proofs.lemmas.List.{reverse-append}
 use Rattle.tmpl_syntax.specs.Set.{Template}
+use Rattle.tmpl_syntax.proofs.SecondLemmas.{drop-next}
 use Rattle.tmpl_code.specs.Code.{Code, TreeAt, Starts}
 use Rattle.tmpl_code.specs.computed.Held.{Ends, last_of, places, LastStarts}
 use Rattle.tmpl_code.proofs.TailLemmas.{longer, last-on}
@@ -20,25 +21,14 @@ starts_on all (t ∷ ts) (n ∷ ns) old new e s =
 whole : (code : Code) → last_of (length code) code ≡ code
 whole code = let none : length code - length code ≡ 0 = omega arith in ap (λ n. drop n code) none
 
--- the templates from a number on
-pub from-number : (ts : List Template) (i : ℕ) (t : Template) → slice_get ts i ≡ Some t → drop i ts ≡ t ∷ drop (suc i) ts
-from-number [] i t at = cc
-from-number (u ∷ us) zero t at = let same : u ≡ t = cc in ap (λ (x : Template). x ∷ us) same
-from-number (u ∷ us) (suc i) t at = from-number us i t at
-
 pub starts_more : (all : List Template) (i : ℕ) (t : Template) (ns more : List ℕ) (n : ℕ) (old new : Code) → slice_get all i ≡ Some t
     → more ≡ ns ++ n ∷ [] → n ≡ length new → TreeAt all t.1.nodes new old → Ends old new
-    → LastStarts all (drop (suc i) all) (reverse ns) old
+    → LastStarts all (drop (i + 1) all) (reverse ns) old
     → LastStarts all (drop i all) (reverse more) new
 starts_more all i t ns more n old new at put len lies on s =
     let first : reverse more ≡ n ∷ reverse ns = ap reverse put ∙ reverse-append ns (n ∷ []) in
     let begins : last_of n new ≡ new = ap (λ k. last_of k new) len ∙ whole new in
-    subst (λ (ts : List Template). LastStarts all ts (reverse more) new) (sym (from-number all i t at))
-    (subst (λ (ks : List ℕ). LastStarts all (t ∷ drop (suc i) all) ks new) (sym first) (
-      omega (arith, len),
-      (old, subst (λ (c : Code). TreeAt all t.1.nodes c old) (sym begins) lies),
-      starts_on all (drop (suc i) all) (reverse ns) old new on s,
-    ))
+    rw (drop-next all i t at, first) (omega (arith, len), (old, rw begins lies), starts_on all (drop (i + 1) all) (reverse ns) old new on s)
 
 -- so much code is left from its place on
 pub starts : (all ts : List Template) (ns : List ℕ) (code : Code) → LastStarts all ts ns code → Starts all ts (places (length code) ns) code

@@ -68,10 +68,7 @@ slot-of-place q (c ∷ cells) = go (is_named q c) (slot-of-place q cells)
     go true e = let first : 0 ≡ suc (length cells) - 1 - length cells = omega arith in ap (λ n. Some n) first
     go false e = deeper (place_named q cells) (slot_named q cells) (below-top q cells) e
 
--- .. by the place that is found
-pub slot-at : (q : List ℕ) (cells : Layout) (found : Option ℕ) → place_named q cells ≡ found
-    → option_map (λ p. length cells - 1 - p) found ≡ slot_named q cells
-slot-at q cells found e = sym (slot-of-place q cells ∙ ap (option_map (λ p. length cells - 1 - p)) e)
+pub ruleset slots = (layout_length, below-top, slot-of-place)
 
 -- a variable less
 pub placed-less : (name q : List ℕ) (cells : Layout) (hidden old : Option ℕ) → hidden ≡ place_named name cells → old ≡ place_named q (Some name ∷ cells)

@@ -3,10 +3,8 @@
 use Rattle.std.proofs.Common.{arith, ◌≡◌, ◌∙◌, ◌+◌, ◌-◌, ◌≤◌, ℕ, Bool, List, [], ◌∷◌, ◌++◌, length, drop, refl, ap, sym, Option, Some, None}
 use Rattle.std.proofs.Common.{append_assoc, length-append, ◌<◌, zero, take, get_or, subst}
 use Rattle.std.proofs.Math.Seq.{drop-append-add}
-use Rattle.std.proofs.lemmas.List.{take-append-drop}
 use Rattle.std.proofs.lemmas.List.Prefix.{end_rest}
-use Rattle.tmpl_grammar.specs.Tree.{Binding}
-use Rattle.tmpl_grammar.specs.Tree.{Header}
+use Rattle.tmpl_grammar.specs.Tree.{Binding, Header}
 use Rattle.tmpl_grammar.specs.Need.{declared_count}
 use Rattle.tmpl_grammar.specs.declared.tree.Control.TheVariants as control
 use Rattle.tmpl_syntax.specs.Tree.{control_node, Nodes}
@@ -15,11 +13,9 @@ use Rattle.tmpl_syntax.specs.View.{node_of, nodes_in}
 use Rattle.tmpl_syntax.specs.declared.tree.Node as held_node
 use Rattle.tmpl_code.specs.Instruction.{Instruction, unless, enter_with, end_with, cut, enter, next}
 use Rattle.tmpl_code.specs.Layout.{Layout, declares, declares_key, declared_in}
-use Rattle.tmpl_code.specs.Code.{Code}
-use Rattle.tmpl_code.specs.Code.{NodesPart, PipelineAt}
-use Rattle.tmpl_code.specs.Code.{HeaderAt, EndAt, NodeAt}
-use Rattle.tmpl_code.specs.Code.{NodesAt, step_of}
-use Rattle.tmpl_code.specs.computed.Held.{Ends, BoundPart, DottedPart, EndedPart, IsOpen, Put, TurnsPart, all_grown, code_of, exit_seen, last_of, layout_of, shrunk}
+use Rattle.tmpl_code.specs.Code.{Code, NodesPart, Exit, PipelineAt, HeaderAt, EndAt, NodeAt, NodesAt, step_of}
+use Rattle.tmpl_code.specs.computed.Held.{Ends, BoundPart, DottedPart, EndedPart, IsOpen, Put, TurnsPart, all_grown, code_of, exit_seen, last_of, layout_of}
+use Rattle.tmpl_code.specs.computed.Held.{shrunk}
 use Rattle.tmpl_code.specs.declared.node.Around as held_around
 use Rattle.tmpl_code.specs.declared.node.Compiler as held_compiler
 use Rattle.tmpl_code.proofs.NodeLemmas.{all_grown-longer, grows, nodes_more, shrinks}
@@ -39,13 +35,7 @@ ends_both {code} {mid} {rest} a b = record {
   is = a.is ∙ ap (λ c. a.front ++ c) b.is ∙ sym (append_assoc a.front b.front rest);
 }
 
-pub ends_under : {i : Instruction} {code rest : Code} → Ends (i ∷ rest) code → Ends rest code
-ends_under t = ends_both t (ends_one refl)
-
 pub ruleset ends = (ends_same, ends_on, ends_both)
-
-ends_drop : {rest : Code} (n : ℕ) (code : Code) → drop n code ≡ rest → Ends rest code
-ends_drop n code e = record { front = take n code; is = sym (take-append-drop n code) ∙ ap (λ c. take n code ++ c) e }
 
 -- what lies between is passed over
 pub passes : {n : ℕ} {rest code : Code} → Ends rest code → n ≡ length code - length rest → drop n code ≡ rest
@@ -82,16 +72,16 @@ open_on (Some a) lay more t g h = let l = longer t in let after = h.0 in let bel
 abbrev Compiler : Type 0
 Compiler = held_compiler.Compiler
 
-pub still_open : {P : NodesPart} {e : Option held_around.Around} {old mid : Compiler} → Put P e old mid → Ends (code_of old.code) (code_of mid.code)
+pub still_open : (e : Option held_around.Around) (old mid : Compiler) → layout_of mid.scope ≡ layout_of old.scope → Ends (code_of old.code) (code_of mid.code)
     → IsOpen e (code_of old.code) (layout_of old.scope) → IsOpen e (code_of mid.code) (layout_of mid.scope)
-still_open {e = e} {old = old} {mid = mid} p on h = open_on e (layout_of old.scope) (layout_of mid.scope) on (omega (arith, ap length p.scope)) h
+still_open e old mid same on h = open_on e (layout_of old.scope) (layout_of mid.scope) on (omega (arith, ap length same)) h
 
 -- a part that is put behind code which ends with the old one
 put_on : {P : NodesPart} {e : Option held_around.Around} (old : Compiler) {mid new : Compiler} → IsOpen e (code_of old.code) (layout_of old.scope)
     → Ends (code_of old.code) (code_of mid.code)
     → layout_of mid.scope ≡ layout_of old.scope → Put P e mid new
     → P (layout_of old.scope) (exit_seen e (code_of old.code)) (code_of new.code) (code_of mid.code)
-put_on {P} {e} old {mid} {new} h t same p = let out = exit_on e (layout_of old.scope) h t in rw (same, out) at p.code
+put_on {P} {e} old {mid} {new} h t same p = rw (← same, ← exit_on e (layout_of old.scope) h t) p.code
 
 -- ---- a part with its end, and controls
 
@@ -100,14 +90,8 @@ module _ (ts : List Template) {e : Option held_around.Around} {old : Compiler} (
       → n ≡ declared_count b + declared_in ns
       → EndAt n skip (code_of mid.code) (code_of old.code) → Ends (code_of old.code) (code_of mid.code) → Put (BoundPart ts b ns) e mid new
       → Put (EndedPart ts b ns skip) e old new
-  put_ended b ns skip n {mid} {new} same count end on p = record {
-    code = (
-      code_of mid.code,
-      put_on {P = BoundPart ts b ns} old h on same p,
-      rw count at end,
-    );
-    scope = p.scope ∙ same;
-  }
+  put_ended b ns skip n {mid} {new} same count end on p =
+      record { code = (code_of mid.code, put_on {P = BoundPart ts b ns} old h on same p, rw (← count) end); scope = p.scope ∙ same }
 
   module _ (head : Header) (body others : Nodes) where
     pub put_if : {second first new : Compiler} {start : Code} (to skip : ℕ) (kept : Bool) → Put (EndedPart ts head.binding others 0) e old second
@@ -119,28 +103,16 @@ module _ (ts : List Template) {e : Option held_around.Around} {old : Compiler} (
         → Put (NodeAt ts 0 (control_node control.If head body others)) e old new
     put_if {second} {first} {new} {start} to skip kept p past q on tos skipped keeps is same headed =
         let scope = q.scope ∙ p.scope in
+        let begins : start ≡ unless (declares head.binding) skip ∷ code_of first.code = rw (← keeps) is in
         let part = put_on {P = EndedPart ts head.binding body to} old h past p.scope q in
         record {
-          code = (
-            start,
-            rw scope at headed,
-            (
-              code_of first.code,
-              code_of second.code,
-              skip,
-              to,
-              is ∙ ap (λ k. unless k skip ∷ code_of first.code) keeps,
-              part,
-              p.code,
-              passes on skipped,
-              passes past tos,
-            ),
-          );
+          code = (start, rw (← scope) headed, (code_of first.code, code_of second.code, skip, to, begins, part, p.code, passes on skipped, passes past tos));
           scope = same ∙ scope;
         }
 
     pub put_with : {second mid first new : Compiler} {start : Code} (to skip n v : ℕ) (kept : Bool) → Put (EndedPart ts head.binding others 0) e old second
-        → Ends (code_of old.code) (code_of second.code) → layout_of mid.scope ≡ layout_of second.scope → code_of mid.code ≡ end_with n v to ∷ code_of second.code
+        → Ends (code_of old.code) (code_of second.code) → layout_of mid.scope ≡ layout_of second.scope
+        → code_of mid.code ≡ end_with n v to ∷ code_of second.code
         → Put (DottedPart ts head.binding body) e mid first → Ends (code_of mid.code) (code_of first.code)
         → n ≡ declared_in body → v ≡ declared_count head.binding → to ≡ length (code_of second.code) - length (code_of old.code)
         → skip ≡ length (code_of first.code) - length (code_of second.code)
@@ -150,22 +122,23 @@ module _ (ts : List Template) {e : Option held_around.Around} {old : Compiler} (
     put_with {second} {mid} {first} {new} {start} to skip n v kept p past saved goes q on ns vs tos skipped keeps is same headed =
         let scope = q.scope ∙ saved ∙ p.scope in
         let one = ends_one goes in
-        let behind = ends_both on one in
-        let before = ends_both one past in
-        let part = put_on {P = DottedPart ts head.binding body} old h before (saved ∙ p.scope) q in
+        let begins : start ≡ enter_with (declares head.binding) skip ∷ code_of first.code = rw (← keeps) is in
+        let part = put_on {P = DottedPart ts head.binding body} old h (ends_both one past) (saved ∙ p.scope) q in
+        let body_put : DottedPart ts head.binding body (layout_of old.scope) (exit_seen e (code_of old.code)) (code_of first.code)
+        (end_with (declared_in body) (declared_count head.binding) to ∷ code_of second.code) = rw (← ns, ← vs, ← goes) part in
         record {
           code = (
             start,
-            rw scope at headed,
+            rw (← scope) headed,
             (
               code_of first.code,
               code_of second.code,
               skip,
               to,
-              is ∙ ap (λ k. enter_with k skip ∷ code_of first.code) keeps,
-              rw (goes, ns, vs) at part,
+              begins,
+              body_put,
               p.code,
-              passes behind skipped,
+              passes (ends_both on one) skipped,
               passes past tos,
             ),
           );
@@ -184,37 +157,35 @@ module _ (ts : List Template) {e : Option held_around.Around} {old : Compiler} (
         → key ≡ declares_key head.binding → start ≡ enter key skip ∷ code_of first.code → layout_of new.scope ≡ layout_of first.scope
         → PipelineAt head.pipeline (layout_of first.scope) (code_of new.code) start
         → Put (NodeAt ts line (control_node control.Range head body others)) e old new
-    put_range {end} {second} {mid} {first} {new} {start} line to skip n m key a ended ms close closed p past saved goes after lines below q on ns tos skipped keys
-        is same piped =
-        let scope = q.scope ∙ saved ∙ p.scope ∙ ended in
-        let before = ends_both past closed in
-        let one = ends_one goes in
-        let all = ends_both one before in
-        let behind = ends_both on one in
-        let out : last_of a.after (code_of mid.code) ≡ code_of old.code = passes all (ap (λ n. length (code_of mid.code) - n) after) in
+    put_range {end} {second} {mid} {first} {new} {start} line to skip n m key a ended ms close closed p past saved goes after lines below q on ns tos skipped
+        keys is same piped =
         let lay = saved ∙ p.scope ∙ ended in
-        let around : exit_seen (Some a) (code_of mid.code) ≡ Some (record { out = code_of old.code; line = line; below = length (layout_of old.scope) }) =
-        (λ j. Some (record { out = out j; line = lines j; below = (below ∙ ap (λ (l : Layout). length l) lay) j })) in
-        let turns = rw (lay, around) at q.code in
+        let one = ends_one goes in
+        let before = ends_both past closed in
+        let out : last_of a.after (code_of mid.code) ≡ code_of old.code = passes (ends_both one before) (ap (λ n. length (code_of mid.code) - n) after) in
+        let inner : Exit = Some (record { out = code_of old.code; line = line; below = length (layout_of old.scope) }) in
+        let around : exit_seen (Some a) (code_of mid.code) ≡ inner = rw (out, lines, below, lay) refl in
+        let turns : TurnsPart ts head.binding body (layout_of old.scope) inner (code_of first.code) (code_of mid.code) = rw (← around, ← lay) q.code in
+        let begins : start ≡ enter (declares_key head.binding) skip ∷ code_of first.code = rw (← keys) is in
         record {
           code = (
             start,
-            rw scope at piped,
+            rw (← (q.scope ∙ lay)) piped,
             (
               code_of first.code,
               turns.0,
               code_of second.code,
               skip,
               to,
-              is ∙ ap (λ k. enter k skip ∷ code_of first.code) keys,
+              begins,
               turns.1,
-              rw (goes, ns) at turns.2,
-              (code_of end.code, put_on {P = NodesAt ts others} old h closed ended p, rw ms at close),
-              passes behind skipped,
+              rw (← ns, ← goes) turns.2,
+              (code_of end.code, put_on {P = NodesAt ts others} old h closed ended p, rw (← ms) close),
+              passes (ends_both on one) skipped,
               passes before tos,
             ),
           );
-          scope = same ∙ scope;
+          scope = same ∙ q.scope ∙ lay;
         }
 
 -- ---- nodes, from the last to the first
@@ -229,7 +200,8 @@ pub record Putting (ts : List Template) (e : Option held_around.Around) (ns : Li
 pub put_all : {ts : List Template} {e : Option held_around.Around} {ns : List held_node.Node} {i : ℕ} {old now : Compiler} → i ≡ 0 → Putting ts e ns i old now
     → Put (NodesAt ts (nodes_in ns)) e old now
 put_all {ts} {e} {ns} {i} {old} {now} none l =
-    let scope : layout_of now.scope ≡ layout_of old.scope = rw none at l.layout in record { code = rw (none, scope) at l.put; scope = scope }
+    let scope : layout_of now.scope ≡ layout_of old.scope = l.layout ∙ ap (λ k. all_grown (nodes_in (take k ns)) (layout_of old.scope)) none in
+    record { code = rw (← scope) (rw none at l.put); scope = scope }
 
 -- a node more, whose variables went out of scope
 module _ {ts : List Template} {e : Option held_around.Around} {ns : List held_node.Node} {i : ℕ} {old now : Compiler} (start : Compiler)
@@ -256,14 +228,14 @@ module _ {ts : List Template} {e : Option held_around.Around} {ns : List held_no
       let what = (node_of n).what in
       let x = exit_seen e (code_of old.code) in
       let before = all_grown (nodes_in (take j ns)) (layout_of old.scope) in
-      let out = exit_on e (layout_of old.scope) h behind in
-      let one = rw (out, same, layout) at p.code in
+      let one : NodeAt ts line what before x (code_of mid.code) (code_of now.code) =
+      rw (← layout, ← same, ← exit_on e (layout_of old.scope) h behind) p.code in
       let put = nodes_more ts ns i j n x before (layout_of now.scope) (code_of new.code) (code_of mid.code) (code_of now.code) (code_of old.code) here next is
       (grows ns i j n (layout_of old.scope) (layout_of now.scope) here next is l.layout) step one l.put in
       let scope = kept ∙ p.scope ∙ layout in
       record {
         within = omega arith;
         layout = scope;
-        put = subst (λ (y : Layout). NodesAt ts (nodes_in (drop j ns)) y x (code_of new.code) (code_of old.code)) (sym scope) put;
+        put = rw scope put;
         ends = ends_on step (ends_both on behind);
       }

@@ -23,6 +23,7 @@ pub(crate) struct Bound {
 
 /// A bound for the templates of a set, by what each of them needs, and all of them need and do. What is guessed of the
 /// calls is taken where it holds, and else each template may need as much as the one that needs most.
+#[tactic(auto, using(crate::proofs::BoundLemmas::bounds))]
 pub(crate) fn bound_of(
     alloc: Global,
     parts: &Parts<'_>,

@@ -22,6 +22,7 @@ use tmpl_syntax::{Node, Set};
 
 /// The code of the templates of a set. An error is want of memory; code that counts beyond 32 bits, which would take
 /// 64 GiB, is answered so too.
+#[tactic(auto, using(crate::proofs::BackwardLemmas::from_none))]
 pub fn compile<'s>(alloc: Global, set: &'s Set) -> Result<Program<'s>, AllocError>
     ensures linked { IfOk result (λ p. IsLinked p) }
     ensures set { IfOk result (λ p. set_view p.set.now ≡ set_view set.now) }
@@ -87,7 +88,7 @@ impl<'s> Compiler<'s> {
 
     /// Puts the nodes of a template, and tells what they need and do. Each is surveyed as soon as it is put, while its
     /// part of the tree is at hand.
-    #[tactic(auto, using(crate::proofs::TailLemmas::ends))]
+    #[tactic(auto, using(crate::proofs::TailLemmas::ends, crate::proofs::BackwardLemmas::from_none))]
     fn put_surveyed(&mut self, site: Site<'_>, nodes: &'s [Node]) -> Result<Survey, AllocError>
         requires { IsOpen site.exit (code_of self.old.code) (layout_of self.old.scope) }
         ensures code { OnOk result (Put (spec.NodesAt (set_view site.entry.set.now) (nodes_in nodes.now))

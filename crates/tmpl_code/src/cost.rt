@@ -82,7 +82,7 @@ fn cost_of_commands(commands: &[Command]) -> Result<Cost, AllocError>
 
 /// What commands cost to each of which a value is piped.
 #[cycle(pipes)]
-#[tactic(auto, using(crate::proofs::OperandLemmas::lighter))]
+#[tactic(auto, using(crate::proofs::OperandLemmas::lighter, crate::proofs::BackwardLemmas::from_none))]
 fn cost_of_piped(commands: &[Command]) -> Result<Cost, AllocError>
     ensures need { IfOk result (λ c. c.need ≡ needs.need_of_commands 1 (commands_in commands.now)) }
     ensures text { IfOk result (λ c. c.makes_text ≡ texts.commands_make_text (commands_in commands.now)) }
@@ -122,7 +122,7 @@ fn cost_of_command(piped: usize, operands: &[Operand]) -> Result<Cost, AllocErro
 
 /// What the arguments of a call cost, above so many values.
 #[cycle(pipes)]
-#[tactic(auto, using(crate::proofs::OperandLemmas::no_argument, crate::proofs::OperandLemmas::lighter))]
+#[tactic(auto, using(crate::proofs::OperandLemmas::no_argument, crate::proofs::OperandLemmas::lighter, crate::proofs::BackwardLemmas::from_none))]
 fn cost_of_arguments(held: usize, operands: &[Operand]) -> Result<Cost, AllocError>
     ensures need { IfOk result (λ c. c.need ≡ needs.need_of_arguments held (operands_in operands.now)) }
     ensures text { IfOk result (λ c. c.makes_text ≡ texts.operands_make_text (operands_in operands.now)) }

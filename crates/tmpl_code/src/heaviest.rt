@@ -11,7 +11,7 @@ use tmpl_syntax::{Node, NodeKind, Set};
 /// The weight of the heaviest template that is called, by the weights of all templates in the order of the set; 0 where
 /// none is called that is there.
 #[cycle(heaviest)]
-#[tactic(auto, using(crate::proofs::NodeLemmas::lighter))]
+#[tactic(auto, using(crate::proofs::NodeLemmas::lighter, crate::proofs::BackwardLemmas::from_none))]
 pub(crate) fn heaviest_of_nodes(set: &Set, weights: &[usize], nodes: &[Node]) -> usize
     ensures { result ≡ spec.heaviest_of_nodes (set_view set.now) weights.now (nodes_in nodes.now) }
 {

@@ -312,6 +312,7 @@ impl<'s> Compiler<'s> {
 
     /// Puts an `if`.
     #[cycle(nodes)]
+    #[tactic(auto, using(crate::proofs::TailLemmas::ends, crate::proofs::TailLemmas::longer))]
     fn put_if(&mut self, site: Site<'_>, parts: Parts<'s>) -> Result<(), AllocError>
         requires { IsOpen site.exit (code_of self.old.code) (layout_of self.old.scope) }
         ensures part { OnOk result (Put (PartsAt (set_view site.entry.set.now) 0 control.If parts.entry)
@@ -331,6 +332,7 @@ impl<'s> Compiler<'s> {
 
     /// Puts a `with`.
     #[cycle(nodes)]
+    #[tactic(auto, using(crate::proofs::TailLemmas::ends, crate::proofs::TailLemmas::longer, crate::proofs::TailLemmas::open_on))]
     fn put_with(&mut self, site: Site<'_>, parts: Parts<'s>) -> Result<(), AllocError>
         requires { IsOpen site.exit (code_of self.old.code) (layout_of self.old.scope) }
         ensures part { OnOk result (Put (PartsAt (set_view site.entry.set.now) 0 control.With parts.entry)
@@ -355,6 +357,7 @@ impl<'s> Compiler<'s> {
 
     /// Puts a range.
     #[cycle(nodes)]
+    #[tactic(auto, using(crate::proofs::TailLemmas::ends, crate::proofs::TailLemmas::longer))]
     fn put_range(&mut self, site: Site<'_>, line: u32, parts: Parts<'s>) -> Result<(), AllocError>
         requires { IsOpen site.exit (code_of self.old.code) (layout_of self.old.scope) }
         ensures part { OnOk result (Put (PartsAt (set_view site.entry.set.now) line control.Range parts.entry)
@@ -384,6 +387,7 @@ impl<'s> Compiler<'s> {
     /// Puts a part behind a header, and what ends it: it forgets the part's variables and passes over so many
     /// instructions.
     #[cycle(nodes)]
+    #[tactic(auto, using(crate::proofs::TailLemmas::ends, crate::proofs::TailLemmas::open_on))]
     fn put_ended(
         &mut self,
         site: Site<'_>,

@@ -224,7 +224,7 @@ fn put_operands<'s>(
 
 /// Puts the operands of an `or`, or else of an `and`.
 #[cycle(pipeline)]
-#[tactic(auto, using(crate::proofs::OperandLemmas::lighter, crate::proofs::TailLemmas::ends))]
+#[tactic(auto, using(crate::proofs::OperandLemmas::lighter, crate::proofs::TailLemmas::ends, crate::proofs::TailLemmas::longer))]
 fn put_junction<'s>(
     code: &mut Code<'s>,
     scope: &Scope<'s>,

@@ -79,7 +79,7 @@ impl Survey {
 
 /// The survey of nodes, each above the variables that those before it leave.
 #[cycle(nodes)]
-#[tactic(auto, using(crate::proofs::NodeLemmas::lighter))]
+#[tactic(auto, using(crate::proofs::NodeLemmas::lighter, crate::proofs::BackwardLemmas::from_none))]
 fn survey_nodes(nodes: &[Node]) -> Result<Survey, AllocError>
     ensures need { IfOk result (λ s. s.need ≡ needs.need_of_nodes (nodes_in nodes.now)) }
     ensures text { IfOk result (λ s. s.makes_text ≡ texts.nodes_make_text (nodes_in nodes.now)) }

@@ -10,19 +10,17 @@ use Rattle.tmpl_grammar.specs.declared.action.Branch.{Branch}
 use Rattle.tmpl_grammar.specs.declared.action.Branch.TheVariants as branch
 use Rattle.tmpl_grammar.specs.declared.tree.Control.{Control}
 use Rattle.tmpl_grammar.specs.declared.tree.Control.TheVariants.{If}
-use Rattle.tmpl_syntax.specs.computed.Frames.{Frame}
+use Rattle.tmpl_syntax.specs.computed.Frames.{Frame, top, loops, in_loop, levels, takes_else, is_known, knows, entered, parted, Known, with_inner, with_names}
 use Rattle.tmpl_syntax.specs.Place.Opening.{Opening}
 use Rattle.tmpl_syntax.specs.Place.Opening as opened
 use Rattle.tmpl_grammar.specs.Tree.{Header}
 use Rattle.tmpl_syntax.specs.Tree.{NodeKind, text, action, control_node, break_node, continue_node, template_node, Nodes, none, then, Definition}
-use Rattle.tmpl_grammar.specs.Action.{end_action}
-use Rattle.tmpl_grammar.specs.Action.{control_in}
+use Rattle.tmpl_grammar.specs.Action.{end_action, control_in}
 use Rattle.tmpl_syntax.specs.Item.{Item}
 use Rattle.tmpl_syntax.specs.Place.Role.{Name, no_names, names_of, names_given, opener, act_of, Role, text_role, act_role, roles_of}
 use Rattle.tmpl_syntax.specs.Place.Open.{is_template}
 use Rattle.tmpl_syntax.specs.Place.Body.{joins, most_levels, fine, Judged}
-use Rattle.tmpl_syntax.specs.computed.Frames.{top, loops, in_loop, levels, takes_else, is_known, knows, entered, parted}
-use Rattle.tmpl_syntax.specs.computed.Frames.{Known, with_inner, with_names, opened_names, closed_if, none_known, verdict_of}
+use Rattle.tmpl_syntax.specs.computed.Frames.{opened_names, closed_if, none_known, verdict_of}
 use Rattle.tmpl_syntax.specs.Spelling.{a_text, an_action, a_break, a_continue, a_template, Leads, nothing, a_node, a_control, a_define, a_block}
 use Rattle.tmpl_syntax.specs.Spelling.{Closes, an_end, an_else, an_else_branch}
 use Rattle.tmpl_syntax.specs.Print.Printed.{Said, said_text, said, else_said, node_said, nodes_said}
@@ -201,8 +199,8 @@ mutual
       let rest : List Said = ends ++ said end_action ∷ ss in
       let p = control-formed c h body other scope (in_loop (top fs)) n e in
       let in_rest = else-passes c other (nodes-passes other) f.around f.levels f.start f.part fs (with_inner known (seen_behind inside.inner body))
-      (else_scope c h.binding scope) ss (alike-part c h names scope body a) (part-low c names ds) (part-long inside.inner body _ (part-high c names ds)) p.in_other
-      (subst (λ ns. passes fs (with_inner known ns) (roles_said ss) ≡ true) (sym (control-names names ds body)) more) in
+      (else_scope c h.binding scope) ss (alike-part c h names scope body a) (part-low c names ds) (part-long inside.inner body _ (part-high c names ds))
+      p.in_other (subst (λ ns. passes fs (with_inner known ns) (roles_said ss) ≡ true) (sym (control-names names ds body)) more) in
       let in_body = nodes-passes body (f ∷ fs) inside (declared_to h.binding scope) rest (alike-declared h.binding names scope a)
       (subst (λ l. are_formed body (declared_to h.binding scope) l (n + 1) ≡ true) (sym (looped c (in_loop (top fs)))) p.in_body) in_rest in
       let joined : (nodes_said body ++ (ends ++ said end_action ∷ [])) ++ ss ≡ nodes_said body ++ rest = simp append_assoc in

@@ -5,7 +5,7 @@ use Rattle.std.specs.Prelude.{slice_get}
 use Rattle.std.specs.Option.{option_map}
 use Rattle.std.proofs.lemmas.List.{drop_all, length-map, length-reverse}
 use Rattle.std.proofs.lemmas.Option.{slice_get_read, slice_get-map}
-use Rattle.tmpl_syntax.specs.computed.Frames.{Frame}
+use Rattle.tmpl_syntax.specs.computed.Frames.{Frame, top, seen_at, fault_at, frames_past, at_end, Known, with_inner, known_past, none_known, unless_fault}
 use Rattle.tmpl_syntax.specs.declared.item.Item as held
 use Rattle.tmpl_syntax.specs.declared.place.frame.Frame as held_frame
 use Rattle.tmpl_syntax.specs.Fault.{Reason, open_at_end}
@@ -13,8 +13,7 @@ use Rattle.tmpl_syntax.specs.Item.{Item}
 use Rattle.tmpl_syntax.specs.computed.View.{item_of, frame_of, frames_in}
 use Rattle.tmpl_syntax.specs.Place.Role.{Name, Role, role_of, roles_of}
 use Rattle.tmpl_syntax.specs.Place.Body.{fine, refused, left_open}
-use Rattle.tmpl_syntax.specs.computed.Frames.{top, seen_at, fault_at, frames_past, at_end, Known, with_inner, known_past, none_known}
-use Rattle.tmpl_syntax.specs.computed.Frames.{unless_fault, verdict_from, verdict_of}
+use Rattle.tmpl_syntax.specs.computed.Frames.{verdict_from, verdict_of}
 use Rattle.tmpl_syntax.specs.computed.Parse.{IsRefusal, line_in, by_verdict, checked}
 use Rattle.tmpl_syntax.specs.Parse.{last_line}
 use Rattle.tmpl_syntax.proofs.SecondLemmas.{drop-next}
@@ -79,4 +78,4 @@ module _ (bytes : List ℕ) (items : List held.Item) (i : ℕ) (known : Known) (
   pub checked-open : length stack ≢ 0 → checked bytes (map item_of items) ≡ Err (last_line bytes, open_at_end)
   checked-open n = ended ∙ ap (by_verdict (last_line bytes) (map item_of items)) (open-at (frames_in stack) (λ e. n (sym count ∙ e)))
 
-pub ruleset checks = (checking-refused, item-at, role-here, checked-refused, checked-fine, checked-open)
+pub ruleset checks = (checking-start, checking-refused, item-at, role-here, checked-refused, checked-fine, checked-open)

@@ -4,8 +4,7 @@ use Rattle.std.proofs.lemmas.Bool.{lt-ltb, le-ltb}
 use Rattle.tmpl_syntax.specs.Fault.{Reason, too_long}
 use Rattle.tmpl_syntax.specs.Tree.{Definition}
 use Rattle.tmpl_syntax.specs.Set.{Template, defined_each}
-use Rattle.tmpl_syntax.specs.computed.Parse.{Refusal, IsRefusal, checked, second_in, IsSecondAt, definitions_or, bodies_of}
-use Rattle.tmpl_syntax.specs.computed.Parse.{all_from, items_of, placed, parsed}
+use Rattle.tmpl_syntax.specs.computed.Parse.{Refusal, IsRefusal, checked, second_in, IsSecondAt, definitions_or, bodies_of, all_from, items_of, placed, parsed}
 use Rattle.tmpl_syntax.specs.Parse.{base_name, most_bytes, template_in}
 
 module _ (set : List Template) (file bytes : List ℕ) where

@@ -88,11 +88,6 @@ module _ (branches : Branches) where
   piece-item (action line ts) = action-item line ts
   piece-item (unreadable line) = an_unreadable
 
-  -- tokens that spell an action of the language
-  spelled-read : (ts : List Token) (a : Action) → SpellsAction a ts → has_action branches a ≡ true
-      → reading_of (kept branches (action_in ts)) ≡ reading_of (Some a)
-  spelled-read ts a s t = ap (λ o. reading_of (kept branches o)) (reads-action ts a s) ∙ ap (λ b. reading_of (if_there b a)) t
-
   unread-only : (line : ℕ) (ts : List Token) → ((a : Action) → SpellsAction a ts → has_action branches a ≡ true → ⊥) → (o : Option Action)
       → action_in ts ≡ o → item line (read_item unread_within) ≡ item line (read_item (reading_of (kept branches o)))
   unread-only line ts none None e = refl
@@ -104,10 +99,8 @@ module _ (branches : Branches) where
 
   only-item : {p : Piece} {x : Item} → IsItem branches p x → x ≡ item_for branches p
   only-item (unread {line = line} {ts = ts} none) = unread-only line ts none (action_in ts) refl
-  only-item (too_deep {line = line} {ts = ts} a spells t lt) =
-      ap (λ r. item line (read_item r)) (sym (deep-read a lt)) ∙ ap (λ r. item line (read_item r)) (sym (spelled-read ts a spells t))
-  only-item (read {line = line} {ts = ts} {a = a} spells t le) =
-      ap (λ r. item line (read_item r)) (sym (within-read a le)) ∙ ap (λ r. item line (read_item r)) (sym (spelled-read ts a spells t))
+  only-item (too_deep {ts = ts} a spells t lt) = rw (reads-action ts a spells) (rw t (rw (deep-read a lt) refl))
+  only-item (read {ts = ts} {a = a} spells t le) = rw (reads-action ts a spells) (rw t (rw (within-read a le) refl))
   only-item _ = refl
 
   -- ---- the items of a file

@@ -6,17 +6,13 @@ use Rattle.std.specs.Bool.{Decides}
 use Rattle.std.proofs.lemmas.Bool.{and_parts, le-leb, leb-true}
 use Rattle.std.proofs.lemmas.Bool.Decides.{Decides-and, Decides-like, Decides-not, Decides-or, not_from_Decides}
 use Rattle.tmpl_grammar.specs.declared.action.Branch.{Branch}
-use Rattle.tmpl_syntax.specs.computed.Frames.{Frame}
+use Rattle.tmpl_syntax.specs.computed.Frames.{Frame, top, in_loop, levels, takes_else, is_placed, is_nested, is_known, knows, is_too_deep, names_at, Known}
 use Rattle.tmpl_syntax.specs.Place.Open.{IsOpen, IsLast, IsElseOf, HasElse}
 use Rattle.tmpl_syntax.specs.Place.Scope.{IsInScope}
-use Rattle.tmpl_syntax.specs.Place.Body.{joins, TakesElse, IsLoop}
-use Rattle.tmpl_syntax.specs.Place.Body.{IsMisplaced, names_in, opens_level, most_levels, IsTooDeep, in_levels, in_parentheses}
+use Rattle.tmpl_syntax.specs.Place.Body.{joins, TakesElse, IsLoop, IsMisplaced, names_in, opens_level, most_levels, IsTooDeep, in_levels, in_parentheses}
 use Rattle.tmpl_syntax.specs.Place.Body.{IsUndeclared}
-use Rattle.tmpl_syntax.specs.computed.Frames.{top, in_loop, levels, takes_else, is_placed, is_nested, is_known, knows}
-use Rattle.tmpl_syntax.specs.computed.Frames.{is_too_deep, names_at, Known}
-use Rattle.tmpl_syntax.proofs.FaultLemmas.{Clears, clears, in-nothing, knows-clears}
-use Rattle.tmpl_syntax.proofs.OpenLemmas.{same-opening, one-last, even-here}
-use Rattle.tmpl_syntax.proofs.PlaceLemmas.{levels-unique, no-else, InLoop}
+use Rattle.tmpl_syntax.proofs.NameLemmas.{Clears, clears, in-nothing, knows-clears}
+use Rattle.tmpl_syntax.proofs.PlaceLemmas.{same-opening, one-last, even-here, levels-unique, no-else, InLoop}
 use Rattle.tmpl_syntax.proofs.ScopeLemmas.{to-scope, from-scope, at-place, at-place-back, else-sees, else-seen}
 use Rattle.tmpl_syntax.proofs.StandLemmas.{Here, Stands, here-of, looped}
 use Rattle.tmpl_syntax.proofs.StepLemmas.{joins-own, joins-no-range}

@@ -1,6 +1,5 @@
 pub mod AcceptedLemmas
 pub mod CheckLemmas
-pub mod FaultLemmas
 pub mod FileLemmas
 pub mod FormedExamples
 pub mod FormedLemmas
@@ -13,13 +12,11 @@ pub mod LargerLemmas
 pub mod NameLemmas
 pub mod NamedLemmas
 pub mod NeedLemmas
-pub mod OpenLemmas
 pub mod PageLemmas
 pub mod PlaceLemmas
 pub mod PrintableNodeLemmas
 pub mod PrintablePieceLemmas
-pub mod PrintedItemLemmas
-pub mod PrintedNodeLemmas
+pub mod PrintedLemmas
 pub mod ReadingLemmas
 pub mod ScopeLemmas
 pub mod SecondLemmas

@@ -1,8 +1,8 @@
 -- For `print_set` and `print_tree`: what is said first and what is said next are one page.
 use Rattle.std.proofs.Common.{◌≡◌, ◌∙◌, ℕ, true, false, List, [], ◌∷◌, ◌++◌, refl, sym, ap, append_assoc, append-nil, Option, Some}
-use Rattle.std.proofs.Common.{None, codes, nat_eq, length, drop, arith, ◌-◌, ◌==◌}
+use Rattle.std.proofs.Common.{◌+◌, ◌<◌, ◌≤◌, get_or, None, codes, nat_eq, length, drop, arith, ◌-◌, ◌==◌}
 use Rattle.std.proofs.lemmas.Bool.Decides.{nat_tests}
-use Rattle.std.proofs.lemmas.List.{map-append}
+use Rattle.std.proofs.lemmas.List.{map-append, at_drop_all, at_drop_more}
 use Rattle.std.proofs.Math.Bool.{and-true}
 use Rattle.std.proofs.lemmas.Bool.{eqb-true}
 use Rattle.std.specs.List.{ends_with}
@@ -10,10 +10,10 @@ use Rattle.std.specs.Cmp.Lexicographic.{pointwise}
 use Rattle.tmpl_grammar.specs.Print.{action_tokens, bytes_of}
 use Rattle.tmpl_syntax.specs.Print.Join.{Part, a_text, an_action, ends_brace, file_of, opening, parting}
 use Rattle.tmpl_grammar.specs.Action.{Action, plain_else}
-use Rattle.tmpl_syntax.specs.View.{nodes_in}
+use Rattle.tmpl_syntax.specs.View.{node_of, nodes_in}
 use Rattle.tmpl_syntax.specs.declared.tree.Node as held
 use Rattle.tmpl_syntax.proofs.ViewLemmas.{control_of-fields}
-use Rattle.tmpl_syntax.specs.Print.Printed.{Said, said, said_text, else_said, nodes_said}
+use Rattle.tmpl_syntax.specs.Print.Printed.{Said, said, said_text, else_said, node_said, nodes_said}
 use Rattle.tmpl_syntax.specs.computed.Print.{Page, last_text, page_with}
 
 joined-append : (before : Option (List ℕ)) (ps qs : List Part) → file_of before (ps ++ qs) ≡ file_of before ps ++ file_of (last_text before ps) qs
@@ -65,5 +65,19 @@ no_else p (n ∷ ns) e = let none = eqb-true (length (n ∷ ns)) 0 (sym e) in ab
 pub some_else : (ns : List held.Node) (ss : List Said) → false ≡ (length ns == 0) → else_said (nodes_in ns) ss ≡ said plain_else ∷ ss
 some_else [] ss e = absurd (cc)
 some_else (n ∷ ns) ss e = refl
+
+-- nodes one by one
+module _ (p : Page) (ns : List held.Node) (i : ℕ) where
+  pub page-next : (n : held.Node) → i < length ns → n ≡ get_or ns i n
+      → page_with (page_with p (node_said (node_of n).what)) (nodes_said (nodes_in (drop (i + 1) ns))) ≡ page_with p (nodes_said (nodes_in (drop i ns)))
+  page-next n lt is =
+      let rest = nodes_said (nodes_in (drop (i + 1) ns)) in
+      page_append p (node_said (node_of n).what) rest ∙ ap (λ m. page_with p (node_said (node_of m).what ++ rest)) is
+      ∙ sym (at_drop_more (λ ms. page_with p (nodes_said (nodes_in ms))) ns i n lt)
+
+  pub page-done : length ns ≤ i → page_with p (nodes_said (nodes_in (drop i ns))) ≡ p
+  page-done le = at_drop_all (λ ms. page_with p (nodes_said (nodes_in ms))) ns i le ∙ page_nothing p
+
+pub ruleset nodes = (page-next, page-done)
 
 pub ruleset pages = (action-put, text-put, page_append, page_nothing, no_else, some_else, control_of-fields)

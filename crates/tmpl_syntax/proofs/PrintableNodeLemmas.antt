@@ -8,8 +8,7 @@ use Rattle.tmpl_syntax.specs.Tree.{Nodes, none, then, control_node, Definition}
 use Rattle.tmpl_syntax.specs.Language.{Branches}
 use Rattle.tmpl_syntax.specs.Item.{Item, item, text_item, action_item, IsItem, a_text as text_read, read}
 use Rattle.std.specs.List.{AllZip}
-use Rattle.tmpl_syntax.specs.Spelling.{a_text, Leads, nothing, a_node, a_control, a_define, a_block}
-use Rattle.tmpl_syntax.specs.Spelling.{Closes, an_end, an_else, an_else_branch}
+use Rattle.tmpl_syntax.specs.Spelling.{a_text, Leads, nothing, a_node, a_control, a_define, a_block, Closes, an_end, an_else, an_else_branch}
 use Rattle.tmpl_grammar.specs.declared.action.Branch.{Branch}
 use Rattle.tmpl_grammar.specs.declared.action.Branch.TheVariants as branch
 use Rattle.tmpl_syntax.specs.Print.Join.{IsText}

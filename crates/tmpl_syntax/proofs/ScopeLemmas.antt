@@ -9,8 +9,8 @@ use Rattle.tmpl_syntax.specs.Place.Open.{IsOpen, NothingOpen, IsLast, IsElseOf, 
 use Rattle.tmpl_syntax.specs.Place.Scope.{Declares, at_the_top, inside, in_header, in_else_branch, IsInScope}
 use Rattle.tmpl_syntax.specs.computed.Frames.{is_known, with_names}
 use Rattle.tmpl_syntax.proofs.NameLemmas.{with-Decides}
-use Rattle.tmpl_syntax.proofs.OpenLemmas.{same-piece, cut, Even, Same, opened-keeps, opened_new, same-opening, one-last}
-use Rattle.tmpl_syntax.proofs.PlaceLemmas.{Alike, alike-here, alike-even, alike-back, alike-opened, one-moves, template-moves, no-else}
+use Rattle.tmpl_syntax.proofs.PlaceLemmas.{same-piece, cut, Even, Same, opened-keeps, opened_new, same-opening, one-last}
+use Rattle.tmpl_syntax.proofs.PlaceLemmas.{Alike, even-here, alike-even, alike-back, alike-opened, one-moves, template-moves, no-else}
 use Rattle.tmpl_syntax.specs.Place.Opening.{Opening}
 use Rattle.tmpl_syntax.specs.Place.Opening as opened
 use Rattle.tmpl_grammar.specs.declared.tree.Control.TheVariants.{Range}
@@ -136,13 +136,13 @@ module _ (xs : List Role) (u : Option ℕ) (j m : ℕ) (s : Same xs j m) where
 
 -- at an action that is no else, the definition is what was brought before it
 pub at-place : (xs : List Role) (i : ℕ) (n : Name) → ((d : Option (Branch × Names)) (j : ℕ) → IsElseOf xs d j i → ⊥) → Brought xs None i i n → IsInScope xs i n
-at-place xs i n ne b = to-scope xs i n (brought-moves i i i (i + 1) n (alike-here xs i) b b.before (λ q le o. o)
+at-place xs i n ne b = to-scope xs i n (brought-moves i i i (i + 1) n (alike-even xs i i (even-here xs i)) b b.before (λ q le o. o)
     (λ q lt o. cut-moves (λ t. inl t) (λ m d ge to from t. let s : m ≡ i = omega arith in absurd (ne d q (subst (IsElseOf xs d q) s t)))) (λ o is t. t))
 
 pub at-place-back : (xs : List Role) (i : ℕ) (n : Name) → IsInScope xs i n → Brought xs None i i n
 at-place-back xs i n s =
     let b = from-scope xs i n s in
-    brought-moves i (i + 1) i i n (alike-here xs i) b b.before (λ q le o. o)
+    brought-moves i (i + 1) i i n (alike-even xs i i (even-here xs i)) b b.before (λ q le o. o)
     (λ q lt o. cut-moves (λ t. inl t) (λ m d ge to from t. absurd (omega arith))) (λ o is t. t)
 
 -- after an opening that is no define or block, where an else of it may be thought of

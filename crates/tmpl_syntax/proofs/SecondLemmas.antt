@@ -7,7 +7,7 @@ use Rattle.std.specs.List.{HoldsAt}
 use Rattle.std.specs.Option.{option_map, option_or}
 use Rattle.std.proofs.lemmas.Bool.{not-true}
 use Rattle.std.proofs.lemmas.Bool.Decides.{Decides-and, Decides-by_or}
-use Rattle.std.proofs.lemmas.List.{drop_more}
+use Rattle.std.proofs.lemmas.List.{drop_more, length-map}
 use Rattle.std.proofs.lemmas.List.Elements.{Contains-get_or, at_from_Contains}
 use Rattle.std.proofs.lemmas.Option.{slice_get_read, slice_get_within, slice_get-map, get_or_from_slice_get}
 use Rattle.std.proofs.lemmas.Slice.Eq.{bytes_eq-Decides}
@@ -167,4 +167,4 @@ few-second (d ∷ []) lt = by (is_blank d.nodes)
     by false = refl
 few-second (d ∷ e ∷ ds) lt = absurd (omega (arith, lt))
 
-pub ruleset seconds = (next-blank, next-known, next-new)
+pub ruleset seconds = (next-blank, next-known, next-new, few-second, length-map)

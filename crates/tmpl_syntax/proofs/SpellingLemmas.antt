@@ -1,28 +1,26 @@
 -- For `one_spelling` and `parts_before`: the items of an accepted file spell what is built from them, and nothing else.
 use Rattle.std.proofs.Common.{◌≡◌, ℕ, Bool, true, false, not, ◌||◌, List, [], ◌∷◌, ◌++◌, refl, sym, ap, ◌∙◌, Option, Some, None}
+use Rattle.std.proofs.lemmas.List.{map-append}
 use Rattle.std.proofs.lemmas.Bool.{and_parts, not-true, or_right}
 use Rattle.tmpl_syntax.specs.Fault.{Reason}
-use Rattle.tmpl_syntax.specs.computed.Frames.{Frame}
+use Rattle.tmpl_syntax.specs.computed.Frames.{Frame, Known, none_known, top, takes_else, seen_at, fault_at, frames_past, unless_fault, verdict_from, verdict_of}
 use Rattle.tmpl_syntax.specs.Tree.{NodeKind, template_node, Nodes, none, Definition}
 use Rattle.tmpl_grammar.specs.Action.{pipeline_action, opening, plain_else, else_branch, end_action, break_action, continue_action}
 use Rattle.tmpl_grammar.specs.Action.{define_action, template_action, block_action}
 use Rattle.tmpl_syntax.specs.Item.{ItemKind, Item, item, text_item, unreadable_item, unread_item, deep_item, action_item}
 use Rattle.tmpl_syntax.specs.Place.Role.{Name, role_of, roles_of}
 use Rattle.tmpl_syntax.specs.Place.Open.{is_template}
-use Rattle.tmpl_syntax.specs.Place.Body.{Verdict, fine}
-use Rattle.tmpl_syntax.specs.computed.Frames.{Known, none_known, top, takes_else, seen_at, fault_at, frames_past}
-use Rattle.tmpl_syntax.specs.Place.Body.{joins}
+use Rattle.tmpl_syntax.specs.Place.Body.{Verdict, fine, joins}
 use Rattle.tmpl_syntax.proofs.StepLemmas.{joins-own}
 use Rattle.tmpl_syntax.proofs.VerdictLemmas.{one-verdict, judged-all}
 use Rattle.tmpl_grammar.specs.declared.action.Branch.{Branch}
-use Rattle.tmpl_syntax.specs.computed.Frames.{unless_fault, verdict_from, verdict_of}
 use Rattle.tmpl_syntax.specs.Spelling.{IsNode, a_text, an_action, a_break, a_continue, a_template, Leads, nothing, a_node, a_control, a_define, a_block}
 use Rattle.tmpl_syntax.specs.Spelling.{Closes, an_end, an_else, an_else_branch, Spells}
 use Rattle.tmpl_syntax.specs.computed.Build as build
 use Rattle.tmpl_syntax.specs.computed.Build.{no_parts, first_of, rest_of, with_node_before, put_before, control_before, definition_before, else_before}
 use Rattle.tmpl_syntax.specs.computed.Build.{branch_before, end_before, parts_with, parts_before, nodes_from, definitions_from}
 use Rattle.tmpl_syntax.specs.Laws.{SpellsWhereFine, SpellsAtMostOne}
-use Rattle.tmpl_syntax.proofs.FaultLemmas.{faultless}
+use Rattle.tmpl_syntax.proofs.NameLemmas.{faultless}
 
 -- a part behind which an else may stand
 open-end : (b : Option Branch) (f : Frame) → takes_else b (Some f) ≡ true → (is_template f.opening || f.has_else) ≡ false
@@ -175,3 +173,5 @@ pub ruleset spellings = (spells-where-fine, one-spelling)
 pub before-last : (xs : List Item) (x : Item) (p : build.Parts) → parts_before (xs ++ x ∷ []) p ≡ parts_before xs (parts_with x p)
 before-last [] x p = refl
 before-last (y ∷ xs) x p = ap (parts_with y) (before-last xs x p)
+
+pub ruleset lasts = (before-last, map-append)

@@ -8,11 +8,9 @@ use Rattle.std.proofs.lemmas.Bool.Decides.{Decides-like, Decides-not, Decides-or
 use Rattle.tmpl_syntax.specs.Place.Open.{IsOpen, NothingOpen, IsLast, HasElse, is_template, IsTemplate, OfOneTemplate}
 use Rattle.tmpl_syntax.specs.Place.Body.{IsLoop, Levels}
 use Rattle.tmpl_syntax.specs.computed.Frames.{Frame, top, loops, in_loop, levels, is_known, entered, Known, with_inner, closed_if, closed_names, with_names}
-use Rattle.tmpl_syntax.proofs.FaultLemmas.{IsWithin}
-use Rattle.tmpl_syntax.proofs.NameLemmas.{with-longer, take-with, with-Decides}
-use Rattle.tmpl_syntax.proofs.OpenLemmas.{ups, downs, same-opening, cut, Same}
-use Rattle.tmpl_syntax.proofs.PlaceLemmas.{Alike, alike-last, loop-in, loop-out, alike-back, alike-even, alike-opened, template-moves, template-opened, template-apart}
-use Rattle.tmpl_syntax.proofs.PlaceLemmas.{levels-same, levels-opened, InLoop, else_before, else-same}
+use Rattle.tmpl_syntax.proofs.NameLemmas.{IsWithin, with-longer, take-with, with-Decides}
+use Rattle.tmpl_syntax.proofs.PlaceLemmas.{ups, downs, same-opening, cut, Same, Alike, alike-last, loop-in, loop-out, alike-back, alike-even, alike-opened}
+use Rattle.tmpl_syntax.proofs.PlaceLemmas.{template-moves, template-opened, template-apart, levels-same, levels-opened, InLoop, else_before, else-same}
 use Rattle.tmpl_syntax.proofs.ScopeLemmas.{Brought, Sees, brought-same, brought-same-back, brought-late, sees-opened}
 use Rattle.tmpl_syntax.specs.Place.Opening.{Opening}
 use Rattle.tmpl_syntax.specs.Place.Opening as opened

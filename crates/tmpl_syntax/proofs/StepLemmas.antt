@@ -9,12 +9,9 @@ use Rattle.tmpl_grammar.specs.Action.{control_in}
 use Rattle.tmpl_syntax.specs.computed.Frames.{Frame, top, is_known, entered, Known, with_inner, with_names, opened_names, else_came}
 use Rattle.tmpl_syntax.specs.computed.Frames.{parted, is_placed, closed_if}
 use Rattle.tmpl_syntax.specs.Place.Open.{opens, ends, IsOpen, NothingOpen, IsLast, is_template, IsElseOf, HasElse}
-use Rattle.tmpl_syntax.proofs.FaultLemmas.{IsWithin, in-nothing}
-use Rattle.tmpl_syntax.proofs.NameLemmas.{take-before, with-Decides, part-low, part-high, else_names, take-part, with-longer, take-with}
-use Rattle.tmpl_syntax.proofs.OpenLemmas.{cut, Same, shut-at, same-ended, same-still, last_new, same-opening}
-use Rattle.tmpl_syntax.proofs.OpenLemmas.{Even, even-step}
-use Rattle.tmpl_syntax.proofs.PlaceLemmas.{alike-even, template-moves, levels-else, else_before}
-use Rattle.tmpl_syntax.proofs.PlaceLemmas.{has-before}
+use Rattle.tmpl_syntax.proofs.NameLemmas.{IsWithin, in-nothing, take-before, with-Decides, part-low, part-high, else_names, take-part, with-longer, take-with}
+use Rattle.tmpl_syntax.proofs.PlaceLemmas.{cut, Same, shut-at, same-ended, same-still, last_new, same-opening, Even, even-step}
+use Rattle.tmpl_syntax.proofs.PlaceLemmas.{alike-even, template-moves, levels-else, else_before, has-before}
 use Rattle.tmpl_syntax.proofs.ScopeLemmas.{Reaches, from_top, from_inside, from_else_branch, Brought, Sees, declared_at, brings, brought-late, sees-opened}
 use Rattle.tmpl_syntax.proofs.ScopeLemmas.{sees-ranged, else-sees, else-seen}
 use Rattle.tmpl_syntax.proofs.StandLemmas.{looped, Here, Stood, closed_at, Stands, here-of, one-here, stands-moves, here-control, here-template}

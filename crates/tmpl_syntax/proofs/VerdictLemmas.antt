@@ -1,7 +1,7 @@
 -- For `one_verdict`, `check` and `more_branches`: each list has one verdict, the one that is found in one pass: up to each
 -- place nothing is refused, and the stack is what is open.
-use Rattle.std.proofs.Common.{arith, ◌≡◌, ℕ, ◌<◌, List, length, refl, subst, ⊎_elim, ◌+◌, true, false, [], ◌∷◌, sym, Some, None, suc, ap, ◌∙◌, drop, get_or}
-use Rattle.std.proofs.Common.{length-drop, get_or-drop, Option, Bool}
+use Rattle.std.proofs.Common.{arith, ◌≡◌, ℕ, ◌<◌, List, length, refl, subst, ⊎_elim, ◌+◌, true, false, [], ◌∷◌, Some, None, zero, suc, drop, get_or}
+use Rattle.std.proofs.Common.{Option, Bool}
 use Rattle.std.proofs.lemmas.Bool.{cases_order, cases_lt}
 use Rattle.std.proofs.lemmas.Option.{slice_get_within, slice_get-get_or}
 use Rattle.tmpl_syntax.specs.Fault.{Reason, rank}
@@ -12,14 +12,14 @@ use Rattle.std.specs.Prelude.{slice_get}
 use Rattle.tmpl_syntax.specs.Fault as reason
 use Rattle.tmpl_syntax.specs.computed.Frames.{Frame, top, is_placed, is_too_deep, names_at, seen_at, frames_after, frames_past, at_end, Known, with_inner}
 use Rattle.tmpl_syntax.specs.computed.Frames.{known_after, known_past, none_known, fault_at, first_fault, knows, unless_fault, verdict_from, verdict_of}
-use Rattle.tmpl_syntax.proofs.FaultLemmas.{Clears, faultless}
-use Rattle.tmpl_syntax.proofs.OpenLemmas.{same-piece}
+use Rattle.tmpl_syntax.proofs.NameLemmas.{Clears, faultless}
+use Rattle.tmpl_syntax.proofs.PlaceLemmas.{same-piece}
 use Rattle.std.specs.Bool.{Decides}
 use Rattle.std.proofs.lemmas.Bool.Decides.{not_from_Decides}
 use Rattle.tmpl_syntax.proofs.StandLemmas.{Stands, here-of}
 use Rattle.tmpl_syntax.proofs.StepLemmas.{stands-opened, stands-ended, stands-passed, stands-parted}
 use Rattle.tmpl_syntax.proofs.JudgeLemmas.{placed, deep, declared}
-use Rattle.std.proofs.lemmas.List.{drop-drop}
+use Rattle.std.proofs.lemmas.List.{drop_all, drop_more}
 
 -- a reason says this of an item
 abbrev Says : List Role → ℕ → Role → Reason → Type 0
@@ -158,38 +158,31 @@ sound-end xs i known [] e s = let all : Sound xs (length xs) known [] = subst (�
 sound-end xs i known (f ∷ fs) e s =
     let all : Sound xs (length xs) known (f ∷ fs) = subst (λ n. Sound xs n known (f ∷ fs)) e s in (all.none_refused, all.stands.1, all.stands.2.last.is_open)
 
--- the element at a place, and those after it
-at-drop : (xs : List Role) (i : ℕ) (x : Role) (ys : List Role) → drop i xs ≡ x ∷ ys → (slice_get xs i ≡ Some x) × (drop (i + 1) xs ≡ ys)
-at-drop xs i x ys e =
-    let within : i < length xs = let n : length (drop i xs) ≡ suc (length ys) = ap length e in omega (arith, length-drop i xs) in
-    let same : get_or xs i x ≡ x = ap (λ k. get_or xs k x) (omega arith) ∙ sym (get_or-drop i xs 0 x) ∙ ap (λ zs. get_or zs 0 x) e in (
-      slice_get-get_or xs i x within ∙ ap (λ z. Some z) same,
-      sym (drop-drop 1 i xs) ∙ ap (drop 1) e,
-    )
-
 module _ (xs : List Role) where
-  judged-from : (ys : List Role) (i : ℕ) (known : Known) (fs : List Frame) → drop i xs ≡ ys → i + length ys ≡ length xs
-      → Sound xs i known fs → Judged xs (verdict_from i fs known ys)
-  judged-from [] i known fs e n s = sound-end xs i known fs (omega arith) s
-  judged-from (x ∷ ys) i known fs e n s =
-      let at = at-drop xs i x ys e in
-      let seen = seen_at x (top fs) known.inner in
-      let next = known_past x (top fs) (with_inner known seen) in
-      go (fault_at x (top fs) seen) (tells xs i known fs s.stands x at.0) (verdict_from (i + 1) (frames_past x fs seen) next ys) refl
-      (λ e t. judged-from ys (i + 1) next (frames_past x fs seen) at.1 (omega arith)
-      (record { stands = past xs i known fs x at.0 e s.stands; none_refused = more t }))
+  -- an item is refused, or what stands behind it decides
+  judged-item : (i : ℕ) (known : Known) (fs : List Frame) (x : Role) → slice_get xs i ≡ Some x → Sound xs i known fs → (v : Verdict)
+      → let seen = seen_at x (top fs) known.inner in
+      (Sound xs (i + 1) (known_past x (top fs) (with_inner known seen)) (frames_past x fs seen) → Judged xs v)
+      → Judged xs (unless_fault (fault_at x (top fs) seen) i v)
+  judged-item i known fs x at s v further = go (fault_at x (top fs) (seen_at x (top fs) known.inner)) refl (tells xs i known fs s.stands x at)
     where
-      more : Tells xs i None → NoneRefused xs (i + 1)
-      more clear k f lt a =
-          ⊎_elim (λ low. s.none_refused k f low a) (λ ge. let g : k ≡ i = omega arith in clear f (subst (λ n. Applies xs n f) g a)) (cases_lt k i)
+      go : (o : Option Reason) → fault_at x (top fs) (seen_at x (top fs) known.inner) ≡ o → Tells xs i o → Judged xs (unless_fault o i v)
+      go None e clear = further (record {
+        stands = past xs i known fs x at e s.stands;
+        none_refused = λ k f lt a. ⊎_elim
+            (λ low. s.none_refused k f low a)
+            (λ ge. let g : k ≡ i = omega arith in clear f (subst (λ n. Applies xs n f) g a))
+            (cases_lt k i);
+      })
+      go (Some f) e t = (t.0, t.1, s.none_refused)
 
-      go : (o : Option Reason) → Tells xs i o → (v : Verdict) → fault_at x (top fs) (seen_at x (top fs) known.inner) ≡ o
-          → (fault_at x (top fs) (seen_at x (top fs) known.inner) ≡ None → Tells xs i None → Judged xs v) → Judged xs (unless_fault o i v)
-      go None t v e further = further e t
-      go (Some f) t v e further = (t.0, t.1, s.none_refused)
+  judged-from : (n i : ℕ) (known : Known) (fs : List Frame) → i + n ≡ length xs → Sound xs i known fs → Judged xs (verdict_from i fs known (drop i xs))
+  judged-from zero i known fs e s = rw (drop_all i xs (omega arith)) (sound-end xs i known fs (omega arith) s)
+  judged-from (suc n) i known fs e s = rw (drop_more xs i text_role (omega arith)) (judged-item i known fs (get_or xs i text_role)
+      (slice_get-get_or xs i text_role (omega arith)) s _ (judged-from n (i + 1) _ _ (omega arith)))
 
   pub judged-all : Judged xs (verdict_of xs)
   unfolding verdict_of
-  judged-all = judged-from xs 0 none_known [] refl (omega arith) (sound-start xs)
+  judged-all = judged-from (length xs) 0 none_known [] (omega arith) (sound-start xs)
 
 pub ruleset verdicts = (judged-all, one-verdict)

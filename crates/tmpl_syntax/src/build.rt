@@ -62,7 +62,7 @@ pub(crate) fn build(
 }
 
 /// The parts from the first of these items on.
-#[tactic(auto, using(crate::proofs::ViewLemmas::nodes), unfolding(crate::specs::computed::View::parts_of))]
+#[tactic(auto, using(crate::proofs::ViewLemmas::nodes, crate::proofs::SpellingLemmas::lasts), unfolding(crate::specs::computed::View::parts_of))]
 fn parts_before(alloc: Global, items: Vec<Item>) -> Result<Parts, AllocError>
     ensures { IfOk result (λ p. parts_of p ≡ spec.parts_before (map item_of items.items) spec.no_parts) }
 {

@@ -67,7 +67,7 @@ pub fn cut_back()
 {}
 
 /// The law that printed nodes are read as the same nodes, apart from lines.
-#[tactic(auto, using(crate::proofs::PrintedItemLemmas::reads_same))]
+#[tactic(auto, using(crate::proofs::PrintedLemmas::reads_same))]
 pub fn printed_back()
     ensures { ReadsSame }
 {}
@@ -83,7 +83,7 @@ pub fn accepted_back()
 {}
 
 /// The law that a printed set is read as the same definitions, apart from lines.
-#[tactic(auto, using(crate::proofs::PrintedItemLemmas::set_reads_same))]
+#[tactic(auto, using(crate::proofs::PrintedLemmas::set_reads_same))]
 pub fn set_back()
     ensures { SetReadsSame }
 {}

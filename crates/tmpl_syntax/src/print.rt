@@ -74,7 +74,7 @@ impl<'t> Page<'t> {
 
     /// Adds nodes.
     #[cycle(print)]
-    #[tactic(auto, using(crate::proofs::PageLemmas::pages))]
+    #[tactic(auto, using(crate::proofs::PageLemmas::nodes))]
     fn nodes(&mut self, nodes: &'t [Node]) -> Result<(), AllocError>
         ensures { OnOk result (page_of self.new ≡ page_with (page_of self.old) (nodes_said (nodes_in nodes.now))) }
     {

@@ -65,7 +65,7 @@ impl<'s> Scope<'s> {
     }
 
     /// The slot of the newest variable of a name.
-    #[tactic(auto, using(crate::proofs::ScopeLemmas::layout_length), unfolding(crate::specs::computed::Held::layout_of))]
+    #[tactic(auto, using(crate::proofs::ScopeLemmas::slots), unfolding(crate::specs::computed::Held::layout_of))]
     pub(crate) fn slot(&self, name: &[u8]) -> Option<usize>
         ensures { result ≡ slot_named name.now (layout_of self.now) }
     {

@@ -1,4 +1,4 @@
-use Rattle.std.proofs.Common.{◌≡◌, ◌∙◌, ◌+◌, ◌-◌, ℕ, suc, ◌||◌, List, [], ◌∷◌, max, drop, length, map, reverse, ap, sym, subst, arith, Vec, Global}
+use Rattle.std.proofs.Common.{◌≡◌, ◌∙◌, ◌+◌, ◌-◌, ℕ, ◌||◌, List, [], ◌∷◌, max, drop, length, map, reverse, ap, sym, subst, arith, Vec, Global}
 use Rattle.std.specs.Vec.{with_items}
 use Rattle.std.proofs.lemmas.List.{reverse-append, with_items_is}
 use Rattle.tmpl_syntax.specs.Need.{need, need_of_nodes}
@@ -12,7 +12,8 @@ use Rattle.tmpl_code.specs.Room.{largest_need}
 use Rattle.tmpl_code.specs.View.{instructions_of}
 use Rattle.tmpl_code.specs.computed.Held.{LastStarts, code_of, places}
 use Rattle.tmpl_code.proofs.BackwardLemmas.{at-first}
-use Rattle.tmpl_code.proofs.ProgramLemmas.{from-number, starts as starts_of, starts_more}
+use Rattle.tmpl_code.proofs.ProgramLemmas.{starts as starts_of, starts_more}
+use Rattle.tmpl_syntax.proofs.SecondLemmas.{drop-next}
 use Rattle.tmpl_code.proofs.compiler.compile.Goals as goal
 
 pub loop-i-preserved : goal.loop-i-preserved
@@ -20,21 +21,21 @@ loop-i-preserved c =
     let l = c.loop-i in
     let ts = set_view c.args.set.now in
     let i = l.i - 1 in
-    let next : l.i ≡ suc i = omega arith in
+    let next : l.i ≡ i + 1 = omega arith in
     let t : Template = (c.template.result.0.now, tree_of c.template.result.1.now) in
     let old = code_of l.compiler.code in
     let new = code_of c.put_tree.new.self.code in
     let nodes : nodes_in c.as_slice-nodes.result.now ≡ t.1.nodes = ap nodes_in c.as_slice-nodes.ensures.value in
-    let here : t ∷ drop (suc i) ts ≡ drop i ts = sym (from-number ts i t c.template.ensures.value) in
+    let here : t ∷ drop (i + 1) ts ≡ drop i ts = sym (drop-next ts i t c.template.ensures.value) in
     let starts = subst (λ n. LastStarts ts (drop n ts) (reverse l.lengths.items) old) next l.invariant.starts in
     let lies = subst (λ (ns : Nodes). TreeAt ts ns new old) nodes c.in_ok-own.ensures.code in
     let found = c.in_ok-own in
     let needs : found.own.need ≡ need t.1 = found.ensures.need ∙ ap (λ (ns : Nodes). 3 + need_of_nodes ns) nodes in
     let makes : found.own.makes_text ≡ nodes_make_text t.1.nodes = found.ensures.text ∙ ap nodes_make_text nodes in
     let calling : found.own.calls ≡ nodes_call t.1.nodes = found.ensures.calls ∙ ap nodes_call nodes in
-    let most : l.survey.need ≡ largest_need (drop (suc i) ts) = l.invariant.most ∙ ap (λ n. largest_need (drop n ts)) next in
-    let made : l.survey.makes_text ≡ set_makes_text (drop (suc i) ts) = l.invariant.makes ∙ ap (λ n. set_makes_text (drop n ts)) next in
-    let called : l.survey.calls ≡ set_calls (drop (suc i) ts) = l.invariant.calling ∙ ap (λ n. set_calls (drop n ts)) next in
+    let most : l.survey.need ≡ largest_need (drop (i + 1) ts) = l.invariant.most ∙ ap (λ n. largest_need (drop n ts)) next in
+    let made : l.survey.makes_text ≡ set_makes_text (drop (i + 1) ts) = l.invariant.makes ∙ ap (λ n. set_makes_text (drop n ts)) next in
+    let called : l.survey.calls ≡ set_calls (drop (i + 1) ts) = l.invariant.calling ∙ ap (λ n. set_calls (drop n ts)) next in
     let within : length ts ≡ length ts = λ j. length ts in
     let bound = c.template.ensures.kept.need in
     let joined = c.with-survey.ensures in
@@ -57,25 +58,8 @@ linked-so : (ts : List Template) (i size : ℕ) (lengths : List ℕ) (turned : V
     → LastStarts ts (drop i ts) (reverse lengths) code → length starts ≡ length counts → counts ≡ turned.items
     → starts ≡ places size counts → size ≡ length code → turned.items ≡ reverse lengths → is ≡ code → Starts ts ts (with_items turned starts).items is
 linked-so ts i size lengths turned counts starts code is none last many same placed sized reversed put =
-    let last = subst (λ n. LastStarts ts (drop n ts) (reverse lengths) code) none last in
     let kept = with_items_is turned starts (omega (arith, many, ap length same)) in
-    let at : places (length code) (reverse lengths) ≡ (with_items turned starts).items =
-    sym (kept ∙ placed ∙ (λ j. places (sized j) ((same ∙ reversed) j))) in
-    subst (λ (is : Code). Starts ts ts (with_items turned starts).items is) (sym put)
-    (subst (λ (ns : List ℕ). Starts ts ts ns code) at (starts_of ts ts (reverse lengths) code last))
-
-pub bound_of-requires-clause-needs : goal.bound_of-requires-clause-needs
-bound_of-requires-clause-needs c =
-    c.as_slice.ensures.value ∙ c.reverse-2.ensures.items
-    ∙ at-first (map (λ (t : Template). need t.1)) (set_view c.args.set.now) c.loop-i.invariant.needs (omega arith)
-
-pub bound_of-requires-clause-most : goal.bound_of-requires-clause-most
-bound_of-requires-clause-most c =
-    at-first largest_need (set_view c.args.set.now) c.loop-i.invariant.most (omega arith)
-
-pub bound_of-requires-clause-calls : goal.bound_of-requires-clause-calls
-bound_of-requires-clause-calls c =
-    at-first set_calls (set_view c.args.set.now) c.loop-i.invariant.calling (omega arith)
+    rw (put, kept, placed, sized, same, reversed) (starts_of ts ts (reverse lengths) code (rw none at last))
 
 pub invariant_of-result : goal.invariant_of-result
 invariant_of-result c =

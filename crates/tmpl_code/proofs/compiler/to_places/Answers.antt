@@ -1,17 +1,7 @@
-use Rattle.std.proofs.Common.{◌≡◌, ◌∙◌, ◌++◌, ◌-◌, ◌≤◌, ℕ, zero, suc, List, [], ◌∷◌, drop, get_or, length, map, take, set, arith, ap, refl}
+use Rattle.std.proofs.Common.{◌∙◌, ◌-◌, ℕ, get_or, set, arith, ap, refl, append-nil}
+use Rattle.std.proofs.lemmas.List.{get_or_default, take_all, drop_all}
 use Rattle.std.proofs.lemmas.List.Edits.{map_over_more}
 use Rattle.tmpl_code.proofs.compiler.to_places.Goals as goal
-
-any-default : (xs : List ℕ) (i d : ℕ) → get_or xs i d ≡ get_or xs i (get_or xs i d)
-any-default [] i d = refl
-any-default (x ∷ xs) zero d = refl
-any-default (x ∷ xs) (suc i) d = any-default xs i d
-
-all-done : (f : ℕ → ℕ) (xs : List ℕ) (i : ℕ) → length xs ≤ i → map f (take i xs) ++ drop i xs ≡ map f xs
-all-done f [] zero h = refl
-all-done f [] (suc i) h = refl
-all-done f (x ∷ xs) zero h = absurd (omega arith)
-all-done f (x ∷ xs) (suc i) h = ap (λ ys. f x ∷ ys) (all-done f xs i (omega arith))
 
 pub loop-count-preserved : goal.loop-count-preserved
 loop-count-preserved c =
@@ -19,7 +9,10 @@ loop-count-preserved c =
     let f : ℕ → ℕ = λ n. c.args.size - n in
     ap (λ n. set l.counts l.count-index n) c.saturating_sub.ensures
     ∙ map_over_more f c.args.counts.now l.counts l.count-index (get_or l.counts l.count-index 0) (omega arith) l.invariant
-    (any-default l.counts l.count-index 0)
+    (get_or_default l.counts l.count-index 0 (get_or l.counts l.count-index 0) (omega arith))
 
 pub returns : goal.returns
-returns c = c.loop-count.invariant ∙ all-done (λ n. c.args.size - n) c.args.counts.now c.loop-count.count-index (omega arith)
+returns c =
+    let l = c.loop-count in
+    let done = c.args.counts.now in
+    l.invariant ∙ rw (take_all l.count-index done (omega arith), drop_all l.count-index done (omega arith), append-nil) refl

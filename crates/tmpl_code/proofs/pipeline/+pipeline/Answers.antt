@@ -4,15 +4,9 @@ use Rattle.tmpl_grammar.specs.View.{operands_in}
 use Rattle.tmpl_code.specs.computed.Held.{code_of, decided, layout_of}
 use Rattle.tmpl_code.specs.Code.{Code, is_last, JunctionAt}
 use Rattle.tmpl_code.proofs.BackwardLemmas.{junction_more, operands_from}
-use Rattle.tmpl_code.proofs.TailLemmas.{ends_both, ends_on, ends_one, longer}
+use Rattle.tmpl_code.proofs.TailLemmas.{ends_both, ends_on, ends_one}
 use Rattle.std.proofs.lemmas.Result.{on_ok_weaker}
 use Rattle.tmpl_code.proofs.pipeline.+pipeline.Goals as goal
-
-pub put_junction-put_decide-requires : goal.put_junction-put_decide-requires
-put_junction-put_decide-requires t c =
-    let a = c.args in
-    let more = longer c.loop-i.invariant.ends in
-    omega (arith, more)
 
 pub put_junction-loop-i-preserved : goal.put_junction-loop-i-preserved
 put_junction-loop-i-preserved t c =

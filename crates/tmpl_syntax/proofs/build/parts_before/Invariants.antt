@@ -1,7 +1,6 @@
 use Rattle.std.proofs.Common.{◌≡◌, map, length}
-use Rattle.tmpl_syntax.specs.computed.View.{item_of}
+use Rattle.tmpl_syntax.specs.computed.View.{item_of, parts_of}
 use Rattle.tmpl_syntax.specs.computed.Build.{parts_before, no_parts}
-use Rattle.tmpl_syntax.specs.computed.View.{parts_of}
 use Rattle.tmpl_syntax.proofs.build.parts_before.Given as goal
 
 abbrev pub invariant-loop-item : goal.invariant-loop-item

@@ -2,7 +2,7 @@ use Rattle.std.proofs.Common.{◌∙◌, ◌-◌, ◌∷◌, length, refl, ap, a
 use Rattle.std.proofs.lemmas.Result.{on_ok_weaker}
 use Rattle.tmpl_grammar.specs.View.{binding_of, header_of}
 use Rattle.tmpl_syntax.specs.View.{nodes_in, set_view}
-use Rattle.tmpl_code.specs.computed.Held.{code_of, layout_of}
+use Rattle.tmpl_code.specs.computed.Held.{code_of}
 use Rattle.tmpl_code.proofs.NodeLemmas.{item-weight}
 use Rattle.tmpl_code.proofs.TailLemmas as tail
 use Rattle.tmpl_code.proofs.TailLemmas.{open_on, ends_both, ends_on, ends_one, longer}
@@ -29,30 +29,11 @@ put_nodes-loop-i-preserved t c =
 pub put_nodes-returns-clause-part : goal.put_nodes-returns-clause-part
 put_nodes-returns-clause-part t c = tail.put_all (omega arith) c.loop-i.invariant
 
-pub put_ended-put_part-requires : goal.put_ended-put_part-requires
-put_ended-put_part-requires t c =
-    let a = c.args in
-    let lay = layout_of a.self.now.scope in
-    (omega arith, open_on a.site.exit lay lay c.in_ok-put_end.ensures.ends (omega arith) c.requires)
-
 pub put_ended-returns-clause-part : goal.put_ended-returns-clause-part
 put_ended-returns-clause-part t c =
     let a = c.args in
     on_ok_weaker _ (λ p. tail.put_ended (set_view a.site.set.now) c.requires (binding_of a.binding.now) (nodes_in a.nodes.now) a.skip _ refl
     c.in_ok-declared_by.ensures c.in_ok-put_end.ensures.code c.in_ok-put_end.ensures.ends p) c.put_part.ensures.part
-
-pub put_if-since-requires : goal.put_if-since-requires
-put_if-since-requires t c =
-    let more = longer c.in_ok-put_ended.ensures.ends in
-    omega (arith, more, c.len-end.ensures)
-
-pub put_if-put_ended-requires-2 : goal.put_if-put_ended-requires-2
-put_if-put_ended-requires-2 t c = (omega arith, tail.still_open c.in_ok-put_ended.ensures.part c.in_ok-put_ended.ensures.ends c.requires)
-
-pub put_if-since-requires-2 : goal.put_if-since-requires-2
-put_if-since-requires-2 t c =
-    let more = longer c.in_ok-put_ended-2.ensures.ends in
-    omega (arith, more, c.len-second.ensures)
 
 pub put_if-returns-clause-part : goal.put_if-returns-clause-part
 put_if-returns-clause-part t c =
@@ -69,24 +50,6 @@ pub put_if-returns-clause-ends : goal.put_if-returns-clause-ends
 put_if-returns-clause-ends t c =
     let parts = ends_both c.in_ok-put_ended-2.ensures.ends c.in_ok-put_ended.ensures.ends in
     on_ok_weaker _ (λ on. ends_both on (ends_on c.in_ok-push.ensures parts)) c.put_header.ensures.ends
-
-pub put_with-since-requires : goal.put_with-since-requires
-put_with-since-requires t c =
-    let more = longer c.in_ok-put_ended.ensures.ends in
-    omega (arith, more, c.len-end.ensures)
-
-pub put_with-put_dotted_part-requires : goal.put_with-put_dotted_part-requires
-put_with-put_dotted_part-requires t c =
-    let a = c.args in
-    let still = tail.still_open c.in_ok-put_ended.ensures.part c.in_ok-put_ended.ensures.ends c.requires in
-    let lay = layout_of c.put_ended.new.self.scope in
-    (omega arith, open_on a.site.exit lay lay (ends_one c.in_ok-push.ensures) (omega arith) still)
-
-pub put_with-since-requires-2 : goal.put_with-since-requires-2
-put_with-since-requires-2 t c =
-    let more = longer c.in_ok-put_dotted_part.ensures.ends in
-    let one = longer (ends_one c.in_ok-push.ensures) in
-    omega (arith, more, one, c.len-second.ensures)
 
 pub put_with-returns-clause-part : goal.put_with-returns-clause-part
 put_with-returns-clause-part t c =
@@ -105,25 +68,6 @@ pub put_with-returns-clause-ends : goal.put_with-returns-clause-ends
 put_with-returns-clause-ends t c =
     let parts = ends_both c.in_ok-put_dotted_part.ensures.ends (ends_on c.in_ok-push.ensures c.in_ok-put_ended.ensures.ends) in
     on_ok_weaker _ (λ on. ends_both on (ends_on c.in_ok-push-2.ensures parts)) c.put_header.ensures.ends
-
-pub put_range-since-requires : goal.put_range-since-requires
-put_range-since-requires t c =
-    let more = longer c.in_ok-put_nodes.ensures.ends in
-    let end = longer c.in_ok-put_end.ensures.ends in
-    omega (arith, more, end, c.len-after.ensures)
-
-pub put_range-put_turns-requires : goal.put_range-put_turns-requires
-put_range-put_turns-requires t c =
-    let more = longer c.in_ok-put_nodes.ensures.ends in
-    let end = longer c.in_ok-put_end.ensures.ends in
-    let one = longer (ends_one c.in_ok-push.ensures) in
-    (omega arith, (omega (arith, more, end, one, c.len-after.ensures), c.len-below.ensures))
-
-pub put_range-since-requires-2 : goal.put_range-since-requires-2
-put_range-since-requires-2 t c =
-    let more = longer c.in_ok-put_turns.ensures.ends in
-    let one = longer (ends_one c.in_ok-push.ensures) in
-    omega (arith, more, one, c.len-second.ensures)
 
 pub put_range-returns-clause-part : goal.put_range-returns-clause-part
 put_range-returns-clause-part t c =

@@ -1,10 +1,8 @@
 use Rattle.std.proofs.Common.{◌∙◌, ◌+◌, ◌-◌, ◌∷◌, ◌||◌, max, refl, ap, arith}
 use Rattle.tmpl_syntax.specs.Need.{need_of_nodes}
-use Rattle.tmpl_syntax.specs.View.{nodes_in}
 use Rattle.tmpl_code.specs.computed.Weights.{nodes_call}
 use Rattle.tmpl_code.specs.MakesText.{nodes_make_text}
 use Rattle.tmpl_code.specs.computed.Held.{code_of}
-use Rattle.tmpl_code.proofs.BackwardLemmas.{at-first}
 use Rattle.tmpl_code.proofs.NodeLemmas.{nodes_from}
 use Rattle.tmpl_code.proofs.TailLemmas as tail
 use Rattle.tmpl_code.proofs.node.Compiler.put_surveyed.Goals as goal
@@ -38,11 +36,3 @@ loop-i-preserved c =
 -- the loop ends at the first node
 pub returns-clause-code : goal.returns-clause-code
 returns-clause-code c = tail.put_all (omega arith) c.loop-i.invariant.nodes
-
-pub returns-clause-text : goal.returns-clause-text
-returns-clause-text c =
-    at-first (λ ns. nodes_make_text (nodes_in ns)) c.args.nodes.now c.loop-i.invariant.text (omega arith)
-
-pub returns-clause-calls : goal.returns-clause-calls
-returns-clause-calls c =
-    at-first (λ ns. nodes_call (nodes_in ns)) c.args.nodes.now c.loop-i.invariant.calls (omega arith)

@@ -1,12 +1,9 @@
-use Rattle.std.proofs.Common.{map, sym, ap}
+use Rattle.std.proofs.Common.{map, sym}
 use Rattle.std.specs.Option.{option_map}
 use Rattle.tmpl_syntax.specs.computed.View.{item_of, frame_of, frames_in, known_names, scopes_of}
 use Rattle.tmpl_syntax.specs.Place.Role.{role_of, roles_of}
-use Rattle.tmpl_syntax.proofs.CheckLemmas.{checking-start, checking-past, role-here}
+use Rattle.tmpl_syntax.proofs.CheckLemmas.{checking-past, role-here}
 use Rattle.tmpl_syntax.proofs.place.check.check.Goals as goal
-
-pub loop-item-init : goal.loop-item-init
-loop-item-init c = checking-start (roles_of (map item_of c.args.items.now)) _ _ c.new-scopes.ensures (ap frames_in c.new-stack.ensures.items)
 
 pub loop-item-preserved : goal.loop-item-preserved
 unfolding scopes_of
