@@ -1,6 +1,6 @@
 -- For `pipeline` and `commands_in`, which let go of what stands in parentheses where they nest too deep: they read just
 -- the tokens that are read without a limit.
-use Rattle.std.proofs.Common.{arith, ◌≡◌, ◌∙◌, ◌<◌, ℕ, Bool, true, false, nat_le, List, [], ◌∷◌, Option, Some, None, IfSome, refl, ap, sym, map, option_map}
+use Rattle.std.proofs.Common.{arith, ◌≡◌, ◌∙◌, ◌<◌, ℕ, Bool, true, false, nat_le, List, [], ◌∷◌, Option, Some, None, IfSome, refl, ap, map, option_map}
 use Rattle.std.proofs.Common.{option_and_then}
 use Rattle.std.proofs.lemmas.Bool.Decides.{nat_tests}
 use Rattle.std.proofs.lemmas.List.{map-append}
@@ -88,9 +88,7 @@ start-seen : (keeps : Bool) → seen keeps start ≡ start
 start-seen keeps = grind arith
 
 pruned-limited : (keeps : Bool) (ts : List Token) → limited_commands keeps (pruned_commands keeps start ts) ≡ limited_commands keeps (commands_after start ts)
-pruned-limited keeps ts =
-    ap (λ h. limited_commands keeps (pruned_commands keeps h ts)) (sym (start-seen keeps))
-    ∙ ap (λ o. limited_commands keeps (option_and_then finished o)) (steps-seen keeps (Some start) ts) ∙ limited-seen keeps (steps (Some start) ts)
+pruned-limited keeps ts = grind (arith, start-seen keeps, steps-seen keeps (Some start) ts, limited-seen keeps (steps (Some start) ts))
 
 pub limited-read : (ts : List Token)
     → limited_commands (nat_le (deepest 0 ts) most_deep) (pruned_commands (nat_le (deepest 0 ts) most_deep) start ts)

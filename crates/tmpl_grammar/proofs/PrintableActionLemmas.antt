@@ -1,9 +1,7 @@
 -- For the law that what a file defines can be printed: what holds of the actions that its tokens spell.
-use Rattle.std.proofs.Common.{arith, ◌∙◌, ℕ, ◌≤◌, Bool, false, List, [], ◌∷◌, ◌++◌, Some, None, sym, ap, subst}
+use Rattle.std.proofs.Common.{arith, ℕ, ◌≤◌, Bool, false, List, [], ◌∷◌, ◌++◌, Some, None, subst}
 use Rattle.tmpl_values.specs.Bytes.{AreBytes}
-use Rattle.tmpl_lex.proofs.NameLemmas.{IsNamed, OfKind}
 use Rattle.tmpl_lex.specs.Piece.{Token}
-use Rattle.tmpl_grammar.specs.Token.{begins_name, name_in}
 use Rattle.tmpl_grammar.specs.Tree as tree
 use Rattle.tmpl_grammar.specs.Tree.{Operand, Operands, Pipeline, Binding, unbound, declare, assign, Header, declare_pair}
 use Rattle.tmpl_grammar.specs.Action.{Action, pipeline_action, opening, else_branch, define_action, template_action, block_action, IsQuoted, SpellsAction}
@@ -31,10 +29,7 @@ read-parts (t ∷ ts) us h = let more = read-parts ts us h.1 in ((h.0, more.0), 
 
 of-chain : (ns : List (List ℕ)) (ts : List Token) → AreRead ts → IsChain ns ts → AreFieldNames ns
 of-chain [] ts r s = tt
-of-chain (n ∷ ns) ts r s =
-    let h = subst AreRead s.2 r in
-    let named = subst (λ k. OfKind k (name_in s.0)) s.3 (let x = h.0 in x.names) in
-    ((ap begins_name (sym s.5) ∙ s.4, subst IsNamed s.5 named), of-chain ns s.1 h.1 s.6)
+of-chain (n ∷ ns) ts r s = let h = subst AreRead s.2 r in grind (arith, h.0, of-chain ns s.1 h.1 s.6)
 
 mutual
   of-operand : (o : Operand) (ts : List Token) → AreRead ts → SpellsOperand o ts → OfOperand o
@@ -84,7 +79,7 @@ behind : {Is : Token → Type 0} {Rest : List Token → Type 0} {ts : List Token
 behind s r = (read-parts s.0 (s.1 ∷ s.2) (rw s.3 at r)).1
 
 of-variable : (name : List ℕ) (t : Token) → IsRead t → IsVariable name t → OfVariable name
-of-variable name t r v = (v.2, subst IsNamed v.1 (subst (λ k. OfKind k (name_in t)) v.0 r.names))
+of-variable name t r v = grind arith
 
 of-bound : (b : Binding) (p : Pipeline) (ts : List Token) → depth_of_pipeline p ≤ most_deep → AreRead ts
     → SpellsBinding b (SpellsPipeline p) ts → OfBinding b × OfPipeline p

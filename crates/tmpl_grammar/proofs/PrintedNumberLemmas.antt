@@ -47,7 +47,8 @@ signed-stands {sign} (d ∷ ds) rest s firm h stop =
 
 pub number-stands : (n : ℤ) (rest : List ℕ) → mag n < 2 ^ 63 → Stops is_number_byte rest → Stands (signed_decimal n) rest
 number-stands (pos n) rest h stop =
-    signed-stands (decimal n) rest row.no_sign (λ d bs h. solid (grind (arith, nat_tests)) (grind (arith, nat_tests))) (decimal_is_IsNumeral n (omega arith)).0 stop
+    signed-stands (decimal n) rest row.no_sign (λ d bs h. solid (grind (arith, nat_tests)) (grind (arith, nat_tests)))
+    (decimal_is_IsNumeral n (omega arith)).0 stop
 number-stands (negsuc n) rest h stop = signed-stands (decimal (suc n)) rest row.minus (λ d bs h. minus h) (decimal_is_IsNumeral (suc n) (omega arith)).0 stop
 
 -- ---- its value

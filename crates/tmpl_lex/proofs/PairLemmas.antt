@@ -1,7 +1,7 @@
 -- For `split_pair`, which skips by `memchr`: where two bytes first follow one another.
-use Rattle.std.proofs.Common.{arith, ◌≡◌, ◌∙◌, ℕ, zero, suc, ◌+◌, ◌≤◌, List, [], ◌∷◌, ◌++◌, Option, Some, None, refl, sym, ap, length, take, drop, nat_eq, ◌&&◌}
+use Rattle.std.proofs.Common.{arith, ◌≡◌, ℕ, zero, suc, ◌+◌, ◌≤◌, List, [], ◌∷◌, ◌++◌, Option, Some, None, refl, sym, ap, length, take, drop, nat_eq}
 use Rattle.std.proofs.Common.{length-append, length-drop, append_assoc, get_or, ◌<◌}
-use Rattle.std.proofs.lemmas.Bool.{eqb-true, and_parts, false_from_ne_true}
+use Rattle.std.proofs.lemmas.Bool.{and_parts, false_from_ne_true}
 use Rattle.std.proofs.Math.Seq.{take-add}
 use lib.Seq.{drop-drop}
 use Rattle.memchr.specs.Find.{Nowhere, Passes, is_byte}
@@ -58,13 +58,8 @@ split_from-suc : (x y : ℕ) (bs : List ℕ) (i : ℕ) → suc i < length bs →
     → split_from x y i bs ≡ split_from x y (suc i) bs
 split_from-suc x y [] i h differ = absurd (omega arith)
 split_from-suc x y (a ∷ []) i h differ = absurd (omega arith)
-split_from-suc x y (a ∷ b ∷ bs) zero h differ =
-    let other = false_from_ne_true (nat_eq a x && nat_eq b y)
-    (λ e. let both = and_parts (nat_eq a x) (nat_eq b y) e in differ (eqb-true a x both.0) (eqb-true b y both.1)) in
-    simp (behind-nil, other) (simp behind-nil at (with_first-behind a [] (split_pair x y (b ∷ bs))))
-split_from-suc x y (a ∷ b ∷ bs) (suc i) h differ =
-    sym (with_first-behind a (take i (b ∷ bs)) (split_pair x y (drop i (b ∷ bs))))
-    ∙ simp (split_from-suc x y (b ∷ bs) i (omega arith) differ, with_first-behind)
+split_from-suc x y (a ∷ b ∷ bs) zero h differ = grind (arith, and_parts, behind-nil, with_first-behind)
+split_from-suc x y (a ∷ b ∷ bs) (suc i) h differ = grind (arith, split_from-suc x y (b ∷ bs) i (omega arith) differ, with_first-behind)
 
 pub split_from-next : (x y : ℕ) (bs : List ℕ) (i : ℕ) → i + 1 < length bs → (get_or bs i 0 ≡ x → get_or bs (i + 1) 0 ≡ y → ⊥)
     → split_from x y i bs ≡ split_from x y (i + 1) bs

@@ -29,8 +29,7 @@ absent-none x y (a ∷ []) h = refl
 absent-none x y (a ∷ b ∷ bs) h = simp (absent-here x y a b bs h, absent-none x y (b ∷ bs) (absent-rest a (x ∷ y ∷ []) (b ∷ bs) h))
 
 none-found : (x y : ℕ) (xs ys : List ℕ) → split_pair x y (xs ++ x ∷ y ∷ ys) ≡ None → ⊥
-none-found x y [] ys e =
-    let none = simp (eq-eqb x x refl, eq-eqb y y refl) at e in cc
+none-found x y [] ys e = grind arith
 none-found x y (a ∷ []) ys e = none-found x y [] ys (cleared (nat_eq a x && nat_eq x y) a (x ∷ y ∷ ys) (split_pair x y (x ∷ y ∷ ys)) e).1
 none-found x y (a ∷ b ∷ xs) ys e =
     none-found x y (b ∷ xs) ys (cleared (nat_eq a x && nat_eq b y) a (b ∷ (xs ++ x ∷ y ∷ ys)) (split_pair x y (b ∷ (xs ++ x ∷ y ∷ ys))) e).1
@@ -64,11 +63,7 @@ pub absent-one : (x y : ℕ) → Absent (x ∷ y ∷ []) (x ∷ [])
 absent-one x y xs ys e = omega (arith, ap length e, length-append (xs ++ x ∷ y ∷ []) ys, length-append xs (x ∷ y ∷ []))
 
 pub absent-cons : (x y a : ℕ) (bs : List ℕ) → ((nat_eq a x && nat_eq (get_or bs 0 0) y) ≡ false) → Absent (x ∷ y ∷ []) bs → Absent (x ∷ y ∷ []) (a ∷ bs)
-absent-cons x y a bs here h [] ys e =
-    let first : a ≡ x = cc in
-    let second : bs ≡ y ∷ ys = cc in
-    let none = simp (first, second, eq-eqb x x refl, eq-eqb y y refl) at here in
-    cc
+absent-cons x y a bs here h [] ys e = grind arith
 absent-cons x y a bs here h (z ∷ xs) ys e = h xs ys (let rest : bs ≡ xs ++ x ∷ y ∷ [] ++ ys = cc in rest)
 
 split-first : (x y b : ℕ) (bs before after : List ℕ) → b ∷ bs ≡ before ++ x ∷ y ∷ after → get_or (before ++ x ∷ []) 0 0 ≡ b

@@ -1,8 +1,8 @@
 -- For the law `one_cut`: what is computed behind a `{{` is what the relations say.
-use Rattle.std.proofs.Common.{◌≡◌, ◌∙◌, ℕ, zero, suc, ◌-◌, Bool, true, false, ◌&&◌, nat_eq, List, [], ◌∷◌, ◌++◌, Option, IfSome, Some, None, refl, sym, ap}
+use Rattle.std.proofs.Common.{◌≡◌, ◌∙◌, ℕ, zero, suc, ◌-◌, Bool, true, false, List, [], ◌∷◌, ◌++◌, Option, IfSome, Some, None, refl, sym, ap}
 use Rattle.std.proofs.Common.{length, drop, append_assoc, arith, ◌<◌}
 use Rattle.std.proofs.Math.Seq.{drop-append_seam}
-use Rattle.std.proofs.lemmas.Bool.{eqb-true, and_parts, false_from_ne_true}
+use Rattle.std.proofs.lemmas.Bool.{and_parts}
 use Rattle.std.proofs.lemmas.Bool.Decides.{nat_tests}
 use Rattle.tmpl_lex.specs.Bytes.{Absent}
 use Rattle.tmpl_lex.specs.Cut.{Closed, a_comment, an_action, NoneClosed}
@@ -31,13 +31,7 @@ pub record Reads (bs : List ℕ) (i : Inside) : Type 0 where
 
 -- a token before others
 reads-token : (bs : List ℕ) (t : Token) (i : Inside) → BeginsWith bs t → Reads (drop (length t.bytes) bs) i → Reads bs (t ∷ i.0, i.1)
-reads-token bs t i here more =
-    let left = sym (ap (drop (length t.bytes)) here.is ∙ drop-append_seam t.bytes here.rest) ∙ more.is in record {
-      closing = more.closing;
-      spells = (simp (left, append_assoc) at here.stands, more.spells);
-      closes = more.closes;
-      is = here.is ∙ simp (left, append_assoc);
-    }
+reads-token bs t i here more = grind (arith, nat_tests, append_assoc, drop-append_seam)
 
 inside_after-reads : (n : ℕ) (bs : List ℕ) → IfSome (inside_after n bs) (Reads (drop n bs))
 inside_after-reads n [] = tt
@@ -75,17 +69,12 @@ spells-inside (t ∷ ts) trims closing rest h c =
 
 end-uncommented : {trims : Bool} {closing : List ℕ} (rest : List ℕ) → Closes trims closing → opens_comment (closing ++ rest) ≡ false
 end-uncommented rest closes = refl
-end-uncommented rest (closes_marked {w = w} h) =
-    let other : nat_eq w 47 ≡ false = grind (arith, nat_tests) in
-    simp other
+end-uncommented rest (closes_marked {w = w} h) = grind (arith, nat_tests)
 
 token-uncommented : (bs : List ℕ) (t : Token) → front_token bs ≡ Some t → opens_comment bs ≡ false
 token-uncommented [] t e = refl
 token-uncommented (a ∷ []) t e = refl
-token-uncommented (a ∷ b ∷ bs) t e = false_from_ne_true (nat_eq a 47 && nat_eq b 42) (λ h.
-    let slash : a ≡ 47 = eqb-true a 47 (and_parts (nat_eq a 47) (nat_eq b 42) h).0 in
-    let none = simp slash at e in
-    cc)
+token-uncommented (a ∷ b ∷ bs) t e = grind (arith, nat_tests, and_parts)
 
 spells-uncommented : (ts : List Token) (trims : Bool) (closing rest : List ℕ) → Spells ts (closing ++ rest) → Closes trims closing
     → opens_comment (bytes_of ts ++ (closing ++ rest)) ≡ false
@@ -160,9 +149,7 @@ pub record IsOpened (line : ℕ) (bs : List ℕ) (end : End) (ps : List Piece) :
 pub closed-opened : {line : ℕ} {body : List ℕ} {trims : Bool} {rest : List ℕ} {ps : List Piece} → Closed line body trims rest ps
     → IsOpened line (body ++ rest) (record { trims = trims; rest = rest }) ps
 unfolding opened
-closed-opened (a_comment {trims = trims} inside_is {closing = closing} {rest = rest} h c) =
-    let found = comment-end inside_is closing rest trims h c in
-    record { ends = simp (append_assoc, found); pieces = simp (append_assoc, found) }
+closed-opened (a_comment {trims = trims} inside_is {closing = closing} {rest = rest} h c) = grind (arith, nat_tests, append_assoc, comment-end)
 closed-opened (an_action {trims = trims} {ts = ts} {closing = closing} {rest = rest} h c) =
     let none = uncommented (bytes_of ts ++ (closing ++ rest)) (spells-uncommented ts trims closing rest h c) in
     let found = spells-inside ts trims closing rest h c in

@@ -29,9 +29,7 @@ use Rattle.tmpl_lex.proofs.PartLemmas.{run-length, run-taken, taken-run, taken-r
 pub closes-found : {trims : Bool} {closing : List ℕ} (rest : List ℕ) → Closes trims closing
     → right_delimiter (closing ++ rest) ≡ Some (record { trims = trims; rest = rest })
 closes-found rest closes = refl
-closes-found rest (closes_marked {w = w} h) =
-    let other : nat_eq w 125 ≡ false = grind (arith, nat_tests) in
-    simp (other, h)
+closes-found rest (closes_marked {w = w} h) = grind (arith, nat_tests)
 
 -- a delimiter stands at the front
 pub record Ends (bs : List ℕ) (e : End) : Type 0 where
@@ -47,9 +45,7 @@ dashed-is bs h = grind (arith, nat_tests)
 
 marked-is : (bs : List ℕ) → right_marked bs ≡ true → (w : ℕ) × ((is_space w ≡ true) × (bs ≡ w ∷ 45 ∷ 125 ∷ 125 ∷ drop 4 bs))
 marked-is [] h = cc
-marked-is (a ∷ bs) h =
-    let both = and_parts (is_space a) (has_dashed_delimiter bs) h in
-    (a, (both.0, ap (λ l. a ∷ l) (dashed-is bs both.1)))
+marked-is (a ∷ bs) h = grind (arith, nat_tests, and_parts, dashed-is)
 
 pub found-ends : (bs : List ℕ) → IfSome (right_delimiter bs) (Ends bs)
 found-ends bs = go (has_right_delimiter bs) refl (right_marked bs) refl
@@ -79,10 +75,7 @@ ends-undashed (at_marker rest c) = marker-undashed c
 
 spaces-undashed : (bs rest : List ℕ) → list_all is_space bs ≡ true → EndsSpace rest → has_dashed_delimiter (bs ++ rest) ≡ false
 spaces-undashed [] rest h e = ends-undashed e
-spaces-undashed (b ∷ bs) rest h e =
-    let white : is_space b ≡ true = (and_parts (is_space b) (list_all is_space bs) h).0 in
-    let other : nat_eq b 45 ≡ false = grind (arith, nat_tests) in
-    simp other
+spaces-undashed (b ∷ bs) rest h e = grind (arith, nat_tests, and_parts)
 
 -- the white space at the front, before this rest
 run-space : (bs rest : List ℕ) → IsRun is_space bs rest
@@ -212,10 +205,10 @@ by-first : (k : TokenKind) (b : ℕ) (bs rest : List ℕ) → nat_eq b 125 ≡ f
 by-first k b bs rest e s h = record { no_end = no-end b (bs ++ rest) e s; front = ap (token_from b) h }
 
 space-found : (b : ℕ) (bs rest : List ℕ) → list_all is_space (b ∷ bs) ≡ true → EndsSpace rest → IsFound (b ∷ bs ++ rest) (token kind.Space (b ∷ bs))
-space-found b bs rest h e = grind (arith, nat_tests, and_parts, nat_eq, no-closes, spaces-run, spaces-undashed)
+space-found b bs rest h e = grind (arith, nat_tests, and_parts, no-closes, spaces-run, spaces-undashed)
 
 word-found : (b : ℕ) (bs rest : List ℕ) → is_ascii_digit b ≡ false → IsRun is_name_byte (b ∷ bs) rest → IsFound (b ∷ bs ++ rest) (token kind.Word (b ∷ bs))
-word-found b bs rest d run = grind (arith, nat_tests, and_parts, by-first, nat_eq, run-taken)
+word-found b bs rest d run = grind (arith, nat_tests, and_parts, by-first, run-taken)
 
 number-found : {sign : List ℕ} (b : ℕ) (bs rest : List ℕ) → IsSign sign → is_ascii_digit b ≡ true → IsRun is_number_byte bs rest
     → IsFound (sign ++ b ∷ bs ++ rest) (token kind.Number (sign ++ b ∷ bs))
@@ -229,8 +222,7 @@ found (table.word {b = b} {bs = bs} {rest = rest} d run) = word-found b bs rest 
 found (table.number {bs = bs} {rest = rest} b s d run) = number-found b bs rest s d run
 found (table.field {b = b} {bs = bs} {rest = rest} run) =
     by-first kind.Field 46 (b ∷ bs) rest refl refl (ap (λ xs. Some (dotted xs)) (run-taken is_name_byte (b ∷ bs) rest run))
-found (table.dot {rest = rest} s) =
-    by-first kind.Dot 46 [] rest refl refl (ap (λ xs. Some (dotted xs)) (run-taken is_name_byte [] rest (record { passes = refl; longest = s })))
+found (table.dot {rest = rest} s) = grind (arith, nat_tests, by-first, run-taken)
 found (table.variable {name = name} {rest = rest} run) = by-first kind.Variable 36 name rest refl refl (simp (run-taken is_name_byte name rest run))
 found (table.string {bs = bs} {rest = rest} h) = by-first kind.String 34 (bs ++ 34 ∷ []) rest refl refl (simp (quoted-found 34 bs rest refl refl h))
 found (table.raw_string {rest = rest} bs h) = by-first kind.RawString 96 (bs ++ 96 ∷ []) rest refl refl (simp (raw-found 96 bs rest h))

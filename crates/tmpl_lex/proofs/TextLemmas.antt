@@ -72,4 +72,4 @@ end-len h = grind (arith, all-reverse, length-append, length-reverse, reverse-ap
 
 pub texts-only : {right left : Bool} {line : ℕ} {bs : List ℕ} {ps : List Piece} → Texts right left line bs ps → ps ≡ texts right left line bs
 texts-only (trimmed {right = right} {left = left} {line = line} {front = front} {kept = kept} {end = end} f e) =
-    sym (simp (append_assoc, front-len f, end-len e, take-append_seam, drop-append_seam))
+    grind (arith, append_assoc, drop-append_seam, end-len, front-len, take-append_seam)
