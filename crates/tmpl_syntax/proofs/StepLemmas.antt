@@ -102,15 +102,12 @@ stands-passed xs i known x fs at o e nt s = stands-moves xs i (i + 1) same known
     same : Same xs i (i + 1)
     same = same-still xs x i at o e nt
 
-    h : Here xs i (top fs) known.inner
-    h = here-of xs i known fs s
-
     new : (y : Role) → slice_get xs i ≡ Some y → opens y ≡ false → ((b : Option (Branch × Names)) → y ≢ act_role (else_part b))
         → (n : Name) → Contains (declared_at y) n → Brought xs None (i + 1) (i + 1) n
     new (act_role (plain p)) at o nt n c = record {
       by = i;
       before = omega arith;
-      template = one-here xs i (i + 1) (top fs) known.inner h (alike-even xs i (i + 1) same.even);
+      template = one-here xs i (i + 1) (top fs) known.inner (here-of xs i known fs s) (alike-even xs i (i + 1) same.even);
       reaches = ⊎_elim
           (λ z. from_top at c z)
           (λ l. from_inside at c l.1 (same.even.keeps l.0 l.1.is_open) (⊎_elim (λ e. cc) (λ t. let from = t.2 in let to = t.3 in omega arith)))
@@ -229,9 +226,8 @@ module _ (xs : List Role) (i : ℕ) (known : Known) (f : Frame) (fs : List Frame
     part = λ o. subst (Sees xs (Some s.1) (i + 1)) (sym (take-length seen)) (sees-parted (Some s.1) (λ q e. cc));
   }
 
-  below : take f.start seen ≡ take f.start names
-  below =
-      take-with f.start (take f.part names) ds (let a = s.2.within.started in omega (arith, front)) ∙ take-take f.start f.part names s.2.within.started
-
   pub stands-parted : Stands xs (i + 1) (with_inner known seen) (parted (is_some b) (length seen) f ∷ fs)
-  stands-parted = (here-parted, s.1, stood-parted, subst (λ l. Stands xs s.1 (closed_if (is_template f.opening) (with_inner known l)) fs) (sym below) s.3)
+  stands-parted =
+      let below : take f.start seen ≡ take f.start names = take-with f.start (take f.part names) ds (let a = s.2.within.started in omega (arith, front))
+      ∙ take-take f.start f.part names s.2.within.started in
+      (here-parted, s.1, stood-parted, subst (λ l. Stands xs s.1 (closed_if (is_template f.opening) (with_inner known l)) fs) (sym below) s.3)
