@@ -1,6 +1,6 @@
 -- For `deepen`, `invoke` and `return_from`: what these instructions do, by what is found on the stack.
 use Rattle.std.proofs.lemmas.Bool.Decides.{nat_tests}
-use Rattle.std.proofs.Common.{arith, ◌≡◌, ◌≢◌, ◌∙◌, ◌+◌, ◌-◌, ◌<◌, ◌≤◌, nat_eq, nat_lt, ℕ, suc, Bool, true, false, List, [], ◌∷◌, length, drop, refl, ap, Some}
+use Rattle.std.proofs.Common.{arith, ◌≡◌, ◌≢◌, ◌∙◌, ◌+◌, ◌-◌, ◌<◌, ◌≤◌, nat_eq, nat_lt, ℕ, suc, Bool, true, false, List, ◌∷◌, length, drop, refl, ap, Some}
 use Rattle.std.proofs.Common.{None}
 use Rattle.std.proofs.lemmas.List.{length-drop}
 use Rattle.std.specs.Prelude.{slice_get}

@@ -1,6 +1,6 @@
 -- For the functions that carry out a step of a pipeline: what the step does, by what is found on the stack.
-use Rattle.std.proofs.Common.{arith, ◌≡◌, ◌∙◌, ◌+◌, ◌<◌, ◌≤◌, ◌||◌, ◌++◌, ◌^◌, ℕ, Bool, true, false, List, [], ◌∷◌, length, drop, take, reverse, refl, ap, sym}
-use Rattle.std.proofs.Common.{Result, Ok, Err, add-zero, append-nil, subst}
+use Rattle.std.proofs.Common.{arith, ◌≡◌, ◌∙◌, ◌+◌, ◌≤◌, ◌||◌, ◌++◌, ℕ, Bool, true, false, List, [], ◌∷◌, length, drop, take, reverse, refl, ap, sym}
+use Rattle.std.proofs.Common.{Result, Ok, Err, add-zero, append-nil}
 use Rattle.std.proofs.lemmas.List.{length-drop, map-append}
 use Rattle.std.proofs.Math.Seq.{drop-drop}
 use Rattle.tmpl_values.specs.Value.{Value}
@@ -17,7 +17,6 @@ use Rattle.tmpl_run.specs.Cell.{Cell, fresh, slot, values_in}
 use Rattle.tmpl_run.specs.State.{Plan, State}
 use Rattle.tmpl_run.specs.Step.{Went, called_on, decided_by, made_by, newest, on, pushed, step}
 use Rattle.tmpl_run.specs.Machine.{done, failed, goes, piped}
-use Rattle.tmpl_run.specs.computed.Turned.{Lands}
 
 -- a call over the cells that it takes
 called-is : (f : Func) (n : ℕ) (p : Bool) (cs : List Cell) → n + piped_count p ≤ length cs
@@ -106,16 +105,6 @@ module _ (plan : Plan) (t : Template) (s : State) where
 
     pub slot-first : slot 0 s.cells ≡ c.val
     slot-first = ap (slot 0) is
-
-  -- where it decides, the place of the next state tells how far it may pass over
-  pub decides-over : (is_or p : Bool) (skip : ℕ) → 1 ≤ length s.cells
-      → Lands (done plan t (act (decide is_or p skip)) s)
-      → decides is_or (slot 0 s.cells) ≡ true → s.place + 1 + skip < 2 ^ 64
-  decides-over is_or p skip some lands e = by s.cells refl
-    where
-      by : (l : List Cell) → s.cells ≡ l → s.place + 1 + skip < 2 ^ 64
-      by [] is = let none : length s.cells ≡ 0 = ap length is in absurd (omega arith)
-      by (c ∷ cs) is = subst Lands (decide-stays c cs is is_or p skip (ap (decides is_or) (sym (ap (slot 0) is)) ∙ e)) lands
 
 pub ruleset calls = (call-gives, call-fails)
 

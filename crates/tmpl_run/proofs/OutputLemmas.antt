@@ -15,11 +15,12 @@ use Rattle.tmpl_run.specs.declared.piece.Piece.{Piece}
 pub grows-same : (a : Told) → Grows a a
 grows-same a = ([], appended-nil a.bytes)
 
-pub grows-on : (a b c : Told) → Grows a b → Grows b c → Grows a c
-grows-on a b c first second = (
-  first.0 ++ second.0,
-  second.1 ∙ ap (λ t. appended t second.0) first.1 ∙ appended-append a.bytes first.0 second.0,
-)
+-- .. of what two sinks took
+abbrev Extends : Option (List ℕ) → Option (List ℕ) → Type 0
+Extends a b = (more : List ℕ) × (b ≡ appended a more)
+
+pub grows-on : (a b c : Option (List ℕ)) → Extends a b → Extends b c → Extends a c
+grows-on a b c first second = (first.0 ++ second.0, second.1 ∙ ap (λ t. appended t second.0) first.1 ∙ appended-append a first.0 second.0)
 
 -- a put, whatever it comes to
 pub grows-put : {F : Type 0} (r : Result (Unit {0}) F) (a b : Told) (text : List ℕ) → IsPut r (as_puts a) (as_puts b) text → Grows a b

@@ -25,7 +25,7 @@ use Rattle.tmpl_code.specs.MakesText.{commands_make_text, node_makes_text, nodes
 use Rattle.tmpl_code.specs.MakesText.{set_makes_text}
 use Rattle.tmpl_run.specs.Laws.{TextIsNamed}
 use Rattle.tmpl_run.specs.Run.{IsRun}
-use Rattle.tmpl_run.specs.computed.Came.{no_template}
+use Rattle.tmpl_run.specs.computed.Machines.{no_template}
 use Rattle.tmpl_run.specs.declared.fault.RunError.{RunError}
 use Rattle.tmpl_run.specs.declared.fault.RunError.TheVariants as error
 

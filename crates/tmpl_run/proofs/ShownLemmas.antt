@@ -1,5 +1,5 @@
 -- For `turns`: what three instructions come to that are carried out at once, of which the first puts a value and the others settle and show it.
-use Rattle.std.proofs.Common.{arith, ◌≡◌, ◌∙◌, ◌+◌, ◌<◌, ◌++◌, ℕ, true, false, [], ◌∷◌, length, refl, ap, sym, subst, Option, Some, Ok}
+use Rattle.std.proofs.Common.{arith, ◌≡◌, ◌∙◌, ◌+◌, ◌<◌, ◌++◌, ℕ, Bool, true, false, List, [], ◌∷◌, length, refl, ap, sym, subst, Option, Some, Ok}
 use Rattle.std.specs.Prelude.{slice_get}
 use Rattle.std.proofs.lemmas.Bool.{and_parts}
 use Rattle.std.proofs.lemmas.Option.{slice_get_within}
@@ -16,7 +16,7 @@ use Rattle.tmpl_run.specs.Machine.{done, goes}
 use Rattle.tmpl_run.specs.State.{Plan, State}
 use Rattle.tmpl_run.specs.Step.{on}
 use Rattle.tmpl_run.specs.computed.Turned.{added, at_once, is_shown, mark_behind, settles, shows, value_by}
-use Rattle.tmpl_run.proofs.DoneLemmas.{goes-on}
+use Rattle.tmpl_run.proofs.DoneLemmas.{goes-on, with_told}
 use Rattle.tmpl_run.proofs.OperationLemmas as operation
 
 -- ---- the code behind a place
@@ -31,28 +31,30 @@ shows-is o e = cc
 
 -- ---- an instruction that is carried out so
 
-pub record Once (plan : Plan) (t : Template) (i : Instruction) (s : State) : Type 0 where
+pub record Once (plan : Plan) (i : Instruction) (s : State) : Type 0 where
   pub shown : is_shown plan.code s.place ≡ true
   pub mark : mark_behind i false ≡ false
   pub quiet : added i s ≡ []
-  pub puts : (v : Value) → value_by plan i s ≡ Ok v → done plan t i s ≡ goes (record s { cells = fresh v ∷ s.cells; place = s.place + 1 })
+  pub puts : (t : Template) (x : List ℕ) (m : Bool) (v : Value) → value_by plan i s ≡ Ok v
+      → done plan t i (with_told x m s) ≡ goes (with_told x m (record s { cells = fresh v ∷ s.cells; place = s.place + 1 }))
 
-pub once-is : (plan : Plan) (t : Template) (i : Instruction) (s : State) → at_once plan.code s.place i ≡ true → Once plan t i s
-once-is plan t (act code.push_dot) s e = record {
+pub once-is : (plan : Plan) (i : Instruction) (s : State) → at_once plan.code s.place i ≡ true → Once plan i s
+once-is plan (act code.push_dot) s e = record {
   shown = e;
   mark = refl;
   quiet = refl;
-  puts = λ v is. (let same : s.dot ≡ v = cc in operation.puts plan t s code.push_dot v s.cells (ap (λ w. on 0 (fresh w ∷ s.cells)) same));
+  puts = λ t x m v is. (let same : s.dot ≡ v = cc in operation.puts plan t (with_told x m s) code.push_dot v s.cells (ap (λ w. on 0 (fresh w ∷ s.cells)) same));
 }
-once-is plan t (act (code.push_fields names)) s e =
-    record { shown = e; mark = refl; quiet = refl; puts = λ v is. operation.fields-give plan t s names v (sym is) }
-once-is plan t (act (code.push_slot k)) s e = record {
+once-is plan (act (code.push_fields names)) s e =
+    record { shown = e; mark = refl; quiet = refl; puts = λ t x m v is. operation.fields-give plan t (with_told x m s) names v (sym is) }
+once-is plan (act (code.push_slot k)) s e = record {
   shown = e;
   mark = refl;
   quiet = refl;
-  puts = λ v is. (let same : slot k s.cells ≡ v = cc in operation.puts plan t s (code.push_slot k) v s.cells (ap (λ w. on 0 (fresh w ∷ s.cells)) same));
+  puts = λ t x m v is. (let same : slot k s.cells ≡ v = cc in
+      operation.puts plan t (with_told x m s) (code.push_slot k) v s.cells (ap (λ w. on 0 (fresh w ∷ s.cells)) same));
 }
-once-is plan t i s e = cc
+once-is plan i s e = cc
 
 -- null and nothing have one text
 text-settled : (v : Value) → text_of (without_null v) ≡ text_of v

@@ -15,6 +15,5 @@ returns-then-bytes-room-clause-given g c =
 
 pub returns-then-bytes-room-clause-taken : goal.returns-then-bytes-room-clause-taken
 returns-then-bytes-room-clause-taken g c =
-    let flushed = g.S.Sink.so_far c.flush.new.sink in
-    let last = g.S.Sink.so_far c.put_all.new.sink in
-    grows-on (g.S.Sink.so_far c.args.sink.now) flushed last c.in_ok-flush.ensures.taken (grows-put _ flushed last c.args.bytes.now c.put_all.ensures)
+    grows-on _ _ _ c.in_ok-flush.ensures.taken
+    (grows-put c.put_all.result (g.S.Sink.so_far c.flush.new.sink) (g.S.Sink.so_far c.put_all.new.sink) _ c.put_all.ensures)
