@@ -21,11 +21,13 @@ use Rattle.tmpl_run.specs.State.{State}
 pub record Slots (n : ℕ) (lay : Layout) (cs : List Cell) (env : Environment) : Type 0 where
   pub found : (x : List ℕ) (k : ℕ) → slot_named x lay ≡ Some k → slot (n + k) cs ≡ lookup x env
   pub none : (x : List ℕ) → slot_named x lay ≡ None → lookup x env ≡ nothing
+  pub deep : n + length lay ≤ length cs
 
-pub slots-more : (n : ℕ) (lay : Layout) (v : Value) (cs : List Cell) (env : Environment) → Slots n lay cs env → Slots (suc n) lay (fresh v ∷ cs) env
-slots-more n lay v cs env h = record {
+pub slots-more : {n : ℕ} {lay : Layout} {cs : List Cell} {env : Environment} (v : Value) → Slots n lay cs env → Slots (suc n) lay (fresh v ∷ cs) env
+slots-more {n} {cs = cs} v h = record {
   found = λ x k e. (let one : suc n + k ≡ suc (n + k) = omega arith in ap (λ m. slot m (fresh v ∷ cs)) one ∙ h.found x k e);
   none = h.none;
+  deep = (let deep = h.deep in omega arith);
 }
 
 -- the variables that the cells hold
@@ -111,6 +113,7 @@ pub slots-are : (lay : Layout) (cs : List Cell) → length lay ≤ length cs →
 slots-are lay cs h = record {
   found = λ x k e. (let same : 0 + k ≡ k = omega arith in ap (λ n. slot n cs) same ∙ sym (is x (Some k) e));
   none = λ x e. is x None e;
+  deep = omega arith;
 }
   where
     is : (x : List ℕ) (o : Option ℕ) → slot_named x lay ≡ o → lookup x (env_of lay cs) ≡ by_slot o nothing (λ k. slot k cs)
