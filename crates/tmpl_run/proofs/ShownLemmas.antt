@@ -1,5 +1,5 @@
 -- For `turns`: what three instructions come to that are carried out at once, of which the first puts a value and the others settle and show it.
-use Rattle.std.proofs.Common.{arith, ◌≡◌, ◌∙◌, ◌+◌, ◌<◌, ◌++◌, ℕ, Bool, true, false, List, [], ◌∷◌, length, refl, ap, sym, subst, Option, Some, Ok}
+use Rattle.std.proofs.Common.{add-zero, arith, ◌≡◌, ◌∙◌, ◌+◌, ◌<◌, ◌++◌, ℕ, Bool, true, false, List, [], ◌∷◌, length, refl, ap, subst, Option, Some, Ok}
 use Rattle.std.specs.Prelude.{slice_get}
 use Rattle.std.proofs.lemmas.Bool.{and_parts}
 use Rattle.std.proofs.lemmas.Option.{slice_get_within}
@@ -10,14 +10,13 @@ use Rattle.tmpl_meaning.specs.Meaning.{Ran}
 use Rattle.tmpl_meaning.specs.Pipeline.{without_null}
 use Rattle.tmpl_code.specs.Instruction as code
 use Rattle.tmpl_code.specs.Instruction.{Instruction, act}
-use Rattle.tmpl_run.specs.Cell.{fresh, slot}
+use Rattle.tmpl_run.specs.Cell.{fresh}
 use Rattle.tmpl_run.specs.Ends.{Ends}
-use Rattle.tmpl_run.specs.Machine.{done, goes}
+use Rattle.tmpl_run.specs.Machine.{done, goes, piped}
 use Rattle.tmpl_run.specs.State.{Plan, State}
-use Rattle.tmpl_run.specs.Step.{on}
+use Rattle.tmpl_run.specs.Step.{pushed}
 use Rattle.tmpl_run.specs.computed.Turned.{added, at_once, is_shown, mark_behind, settles, shows, value_by}
 use Rattle.tmpl_run.proofs.DoneLemmas.{goes-on, with_told}
-use Rattle.tmpl_run.proofs.OperationLemmas as operation
 
 -- ---- the code behind a place
 
@@ -38,21 +37,29 @@ pub record Once (plan : Plan) (i : Instruction) (s : State) : Type 0 where
   pub puts : (t : Template) (x : List ℕ) (m : Bool) (v : Value) → value_by plan i s ≡ Ok v
       → done plan t i (with_told x m s) ≡ goes (with_told x m (record s { cells = fresh v ∷ s.cells; place = s.place + 1 }))
 
+-- no instruction is passed over
+goes-one : (x : List ℕ) (m : Bool) (s : State) (v : Value) → goes (with_told x m (record s { cells = fresh v ∷ s.cells; place = s.place + 1 + 0 }))
+    ≡ goes (with_told x m (record s { cells = fresh v ∷ s.cells; place = s.place + 1 }))
+goes-one x m s v = ap (λ k. goes (with_told x m (record s { cells = fresh v ∷ s.cells; place = k }))) (add-zero (s.place + 1))
+
 pub once-is : (plan : Plan) (i : Instruction) (s : State) → at_once plan.code s.place i ≡ true → Once plan i s
 once-is plan (act code.push_dot) s e = record {
   shown = e;
   mark = refl;
   quiet = refl;
-  puts = λ t x m v is. (let same : s.dot ≡ v = cc in operation.puts plan t (with_told x m s) code.push_dot v s.cells (ap (λ w. on 0 (fresh w ∷ s.cells)) same));
+  puts = λ t x m v is. ap (λ r. piped t code.push_dot (pushed r s.cells) (with_told x m s)) is ∙ goes-one x m s v;
 }
-once-is plan (act (code.push_fields names)) s e =
-    record { shown = e; mark = refl; quiet = refl; puts = λ t x m v is. operation.fields-give plan t (with_told x m s) names v (sym is) }
+once-is plan (act (code.push_fields names)) s e = record {
+  shown = e;
+  mark = refl;
+  quiet = refl;
+  puts = λ t x m v is. ap (λ r. piped t (code.push_fields names) (pushed r s.cells) (with_told x m s)) is ∙ goes-one x m s v;
+}
 once-is plan (act (code.push_slot k)) s e = record {
   shown = e;
   mark = refl;
   quiet = refl;
-  puts = λ t x m v is. (let same : slot k s.cells ≡ v = cc in
-      operation.puts plan t (with_told x m s) (code.push_slot k) v s.cells (ap (λ w. on 0 (fresh w ∷ s.cells)) same));
+  puts = λ t x m v is. ap (λ r. piped t (code.push_slot k) (pushed r s.cells) (with_told x m s)) is ∙ goes-one x m s v;
 }
 once-is plan i s e = cc
 
@@ -78,7 +85,7 @@ module _ (plan : Plan) (room : ℕ) (f : Ran) (i : Instruction) (t : Template) (
   ends-shown v e h = subst (λ (u : State). Ends plan room u f) same
       (goes-on plan room f code.show t settled (ap (slice_get plan.code) next ∙ last) runs
       (goes-on plan room f (act code.settle) t put (settles-is _ two.0) runs (goes-on plan room f i t s here runs h put e) settled
-      (operation.settles plan t put (fresh v) s.cells refl)) behind refl)
+      (ap (λ k. goes (record settled { place = k })) (add-zero (s.place + 1 + 1)))) behind refl)
     where
       put : State
       put = record s { cells = fresh v ∷ s.cells; place = s.place + 1 }

@@ -25,7 +25,6 @@ use Rattle.tmpl_run.specs.Cell.{Cell, cell, fresh}
 use Rattle.tmpl_run.specs.State.{Plan, State, starting}
 use Rattle.tmpl_run.specs.Machine.{deepened, frame, goes, invoked, paid_if, returned_if}
 use Rattle.tmpl_run.specs.Ends.{Comes, Ends}
-use Rattle.tmpl_run.proofs.CallingLemmas.{entered}
 use Rattle.tmpl_run.proofs.NodeLemmas.{run_at, value-leads, valued, with_left, action-leads, if-leads, inside-grown, spent, with-leads}
 use Rattle.tmpl_run.proofs.DepthLemmas.{absent}
 use Rattle.tmpl_run.proofs.NodeLemmas as nodes
@@ -77,6 +76,16 @@ framed : (ds : List Cell) (back saved : Cell) (cs : List Cell) → frame_of firs
     → (c : Cell) × (ds ≡ c ∷ back ∷ saved ∷ cs)
 framed [] back saved cs e = cc
 framed (c ∷ ds) back saved cs e = (c, ap (λ l. c ∷ l) (below-same ds (back ∷ saved ∷ cs) (sym (saved-below ds) ∙ ap (drop 1) e)))
+
+-- a state in the template of this number, which starts here, over a value; these cells are below
+abbrev entered : ℕ → ℕ → Value → List Cell → State → State
+entered number start v cs s = record s {
+  cells = fresh v ∷ cell nothing (s.place + 1) ∷ cell s.dot s.template ∷ cs;
+  dot = v;
+  template = number;
+  depth = suc s.depth;
+  place = start;
+}
 
 -- a template from its start, inside which so many calls may still be made
 abbrev pub TemplateLeads : Plan → ℕ → Ran → ℕ → Type 0

@@ -1,72 +1,20 @@
 -- For the functions that carry out an instruction: what it does, by what is found on the stack.
 use Rattle.std.proofs.lemmas.Bool.Decides.{nat_tests}
-use Rattle.std.proofs.Common.{arith, ◌≡◌, ◌≢◌, ◌∙◌, ◌+◌, ◌-◌, ◌≤◌, ◌<◌, nat_eq, ℕ, suc, Bool, true, false, List, [], ◌∷◌, length, drop, refl, ap, sym}
+use Rattle.std.proofs.Common.{arith, ◌≡◌, ◌≢◌, ◌∙◌, ◌+◌, ◌-◌, ◌≤◌, ◌<◌, nat_eq, ℕ, suc, true, false, List, [], ◌∷◌, length, drop, refl, ap, sym}
 use Rattle.std.proofs.Common.{Option, Some, None, drop-cons, drop-drop, get_or}
 use Rattle.std.proofs.lemmas.List.{drop_all}
 use Rattle.std.proofs.lemmas.Option.{get_or_from_slice_get, slice_get_within}
-use Rattle.std.specs.Prelude.{option_map, slice_get, slice_set}
+use Rattle.std.specs.Prelude.{slice_get, slice_set}
 use Rattle.tmpl_values.specs.Value.{nothing}
 use Rattle.tmpl_values.specs.Elements.{Element, element_at, elements, item_at}
 use Rattle.tmpl_syntax.specs.Set.{Template}
-use Rattle.tmpl_meaning.specs.Fault.{not_a_range, steps_spent}
+use Rattle.tmpl_meaning.specs.Fault.{steps_spent}
 use Rattle.tmpl_code.specs.Instruction as code
-use Rattle.tmpl_run.specs.Cell.{Cell, cell, fresh, slot, slot_cell}
+use Rattle.tmpl_run.specs.Cell.{Cell, cell, slot, slot_cell}
 use Rattle.tmpl_run.specs.State.{Plan, State}
-use Rattle.tmpl_run.specs.Machine.{again, done, elements_for, elements_in, failed, goes, left_in, onto, opened, paid_if, top, turned, variables_on}
+use Rattle.tmpl_run.specs.Machine.{again, done, elements_in, failed, goes, left_in, onto, paid_if, turned, variables_on}
 use Rattle.tmpl_run.specs.computed.Held.{has_more}
 use Rattle.tmpl_run.proofs.StackLemmas.{ring-is}
-
--- ---- ranges
-
-no-elements : (o : Option (List Element)) → None ≡ option_map length o → o ≡ None
-no-elements None e = refl
-no-elements (Some es) e = cc
-
-none-element : (o : Option (List Element)) → Some 0 ≡ option_map length o → o ≡ Some []
-none-element None e = cc
-none-element (Some []) e = refl
-none-element (Some (x ∷ xs)) e = let same : 0 ≡ suc (length xs) = cc in absurd (omega arith)
-
-some-elements : (o : Option (List Element)) (n : ℕ) → Some n ≡ option_map length o → n ≢ 0 → (x : Element) × (xs : List Element) × (o ≡ Some (x ∷ xs))
-some-elements None n e some = cc
-some-elements (Some []) n e some = let same : n ≡ 0 = cc in absurd (some same)
-some-elements (Some (x ∷ xs)) n e some = (x, xs, refl)
-
-module _ (plan : Plan) (t : Template) (key : Bool) (skip : ℕ) (s : State) (c : Cell) (cs : List Cell) (is : s.cells ≡ c ∷ cs) where
-  enter-by : (o : Option (List Element)) → elements_for key c.val ≡ o → done plan t (code.enter key skip) s ≡ opened plan t skip c cs o s
-  enter-by o e =
-      ap (λ l. top l (λ c cs. opened plan t skip c cs (elements_for key c.val) s)) is ∙ ap (λ o. opened plan t skip c cs o s) e
-
-  -- .. and takes a step, if it can
-  enter-paid : (n : ℕ) (b : Bool) → Some n ≡ option_map length (elements_for key c.val) → n ≢ 0 → nat_eq s.left 0 ≡ b
-      → done plan t (code.enter key skip) s
-      ≡ paid_if b plan t s.line s (λ s. goes (record s { cells = cell s.dot (s.place + 1) ∷ fresh c.val ∷ cs; dot = nothing; place = s.place + 1 }))
-  enter-paid n b e some left =
-      let more = some-elements (elements_for key c.val) n e some in
-      enter-by (Some (more.0 ∷ more.1)) more.2
-      ∙ ap (λ b. paid_if b plan t s.line s
-      (λ s. goes (record s { cells = cell s.dot (s.place + 1) ∷ fresh c.val ∷ cs; dot = nothing; place = s.place + 1 }))) left
-
-  pub enter-not : None ≡ option_map length (elements_for key c.val) → done plan t (code.enter key skip) s ≡ failed t s.line not_a_range s
-  enter-not e = enter-by None (no-elements (elements_for key c.val) e)
-
-  pub enter-none : Some 0 ≡ option_map length (elements_for key c.val) → done plan t (code.enter key skip) s ≡ onto cs (s.place + 1 + skip) s
-  enter-none e = enter-by (Some []) (none-element (elements_for key c.val) e)
-
-  -- .. so there is none
-  pub enter-other : Some 0 ≡ option_map length (elements_for key c.val) → elements_for key (slot 0 s.cells) ≡ Some []
-  enter-other e = ap (λ l. elements_for key (slot 0 l)) is ∙ none-element (elements_for key c.val) e
-
-  pub enter-spent : (n : ℕ) → Some n ≡ option_map length (elements_for key c.val) → n ≢ 0 → s.left ≡ 0
-      → done plan t (code.enter key skip) s ≡ failed t s.line (steps_spent plan.rules.step_limit) s
-  enter-spent n e some left = enter-paid n true e some (grind (arith, nat_tests))
-
-  pub enter-some : (n : ℕ) → Some n ≡ option_map length (elements_for key c.val) → n ≢ 0 → s.left ≢ 0
-      → done plan t (code.enter key skip) s
-      ≡ goes (record s { cells = cell s.dot (s.place + 1) ∷ fresh c.val ∷ cs; dot = nothing; left = s.left - 1; place = s.place + 1 })
-  enter-some n e some left = enter-paid n false e some (grind (arith, nat_tests))
-
-pub ruleset opens = (enter-not, enter-none, enter-other, enter-spent, enter-some)
 
 -- the elements from a place on
 got : (es : List Element) (i : ℕ) (e : Element) → slice_get es i ≡ Some e → drop i es ≡ e ∷ drop (suc i) es
@@ -84,8 +32,6 @@ module _ (plan : Plan) (t : Template) (n : ℕ) (s : State) (e : Element) (some 
     (is : Some e ≡ item_at (slot_cell 1 s.cells).num (slot_cell 1 s.cells).val) where
   pub turn-is : done plan t (code.turn n) s ≡ goes (record s { cells = variables_on n e s.cells; dot = e.1; place = s.place + 1 })
   turn-is = ring-is s.cells (λ d v cs. turned n (left_in v) s) some ∙ ap (λ l. turned n l s) (left-at (slot_cell 1 s.cells) e is)
-
-pub ruleset turns = turn-is
 
 -- behind a turn
 more-left : (v : Cell) → has_more v ≡ true → (e : Element) × (es : List Element) × (drop 1 (left_in v) ≡ e ∷ es)

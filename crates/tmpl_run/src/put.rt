@@ -38,7 +38,7 @@ impl<'m, 'a> Machine<'m, 'a> {
     }
 
     /// Takes the newest value, and puts out its text.
-    #[tactic(auto, using(crate::proofs::StackLemmas::tops))]
+    #[tactic(auto)]
     pub(crate) fn show<S: Sink>(
         &mut self,
         piece: &mut Piece<'_>,

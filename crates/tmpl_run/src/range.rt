@@ -35,7 +35,7 @@ fn visited_count(key: bool, value: &Val<'_>) -> Option<u64>
 
 impl<'m, 'a> Machine<'m, 'a> {
     /// Opens a range over the newest value and takes a step, or goes on with its other part where it has no element.
-    #[tactic(auto, using(crate::proofs::TurnLemmas::opens))]
+    #[tactic(auto)]
     pub(crate) fn open_range(
         &mut self,
         options: &Options,
@@ -74,7 +74,7 @@ impl<'m, 'a> Machine<'m, 'a> {
     }
 
     /// The element that the range visits becomes dot, and the values of so many variables.
-    #[tactic(auto, using(crate::proofs::TurnLemmas::turns))]
+    #[tactic(auto)]
     pub(crate) fn turn(&mut self, count: usize) -> Result<Flow, AllocError>
         requires found { 2 ≤ length (cells_of self.old.stack) }
         requires element { item_at (slot_cell 1 (cells_of self.old.stack)).num
@@ -154,7 +154,7 @@ impl<'m, 'a> Machine<'m, 'a> {
     }
 
     /// Ends the range: forgets so many cells and its own, and takes dot back.
-    #[tactic(auto, using(crate::proofs::StackLemmas::tops))]
+    #[tactic(auto)]
     pub(crate) fn leave(&mut self, count: usize, skip: usize) -> Flow
         requires found { count + 2 ≤ length (cells_of self.old.stack) }
         requires place { self.old.place + 1 + skip < 2 ^ 64 }
