@@ -1,23 +1,25 @@
--- For `Stack::call`: the cells that a call takes are the values of its arguments, and those below stay.
+-- For `Stack::call` and `Machine::call`: the cells that a call takes are the values of its arguments, and those below stay.
 use Rattle.std.proofs.Common.{arith, ◌≡◌, ◌∙◌, ◌+◌, ◌≤◌, ◌++◌, ℕ, Bool, true, false, List, [], ◌∷◌, length, drop, take, map, reverse, refl, ap, sym}
-use Rattle.std.proofs.Common.{subst, Result}
+use Rattle.std.proofs.Common.{add-zero, append-nil, subst, Result}
 use Rattle.std.proofs.lemmas.List.{drop_at, length-drop, length-map, length-reverse, length-take-le, map-append, reverse-append, reverse-reverse, take-map}
 use Rattle.std.proofs.lemmas.List.{take_at}
 use Rattle.std.proofs.lemmas.List.{drop-take}
 use Rattle.std.proofs.lemmas.List.Elements.{All-append, All-drop, All-from_recursion, All-take, recursion_from_All}
 use Rattle.std.proofs.lemmas.Simd.{map-map}
 use Rattle.std.specs.List.{All, drop-map}
-use Rattle.std.proofs.Math.Seq.{take-add}
+use Rattle.std.proofs.Math.Seq.{drop-drop, take-add}
 use Rattle.tmpl_values.specs.View.{is_made}
 use Rattle.tmpl_values.specs.declared.value.Cell as held
 use Rattle.tmpl_values.specs.declared.value.Val.{Val}
 use Rattle.tmpl_funcs.specs.Answer.{AreBorrowed}
-use Rattle.tmpl_funcs.specs.Dispatch.{IsCall}
+use Rattle.tmpl_funcs.specs.Dispatch.{IsCall, called}
 use Rattle.tmpl_funcs.specs.View.{values_of}
 use Rattle.tmpl_funcs.specs.declared.func.Func.{Func}
 use Rattle.tmpl_funcs.specs.declared.fault.CallError.{CallError}
+use Rattle.tmpl_meaning.specs.Pipeline.{or_call_failed}
 use Rattle.tmpl_code.specs.Code.{piped_count}
 use Rattle.tmpl_run.specs.Cell.{Cell, values_in}
+use Rattle.tmpl_run.specs.Step.{called_on, pushed}
 use Rattle.tmpl_run.specs.computed.Held.{cell_of, cells_in}
 
 module _ {A B : Type 0} (f : A → B) where
@@ -95,3 +97,23 @@ borrowed-turned from n top below l e h =
     (All-take Plain below (take n (drop from l)) part))
 
 pub ruleset arguments = (table-is, borrowed-turned)
+
+-- ---- the step of a call
+
+-- a call over the cells that it takes
+pub called-is : (f : Func) (n : ℕ) (p : Bool) (cs : List Cell) → n + piped_count p ≤ length cs
+    → called_on f (values_in (reverse (take n cs))) p (drop n cs)
+    ≡ pushed (or_call_failed f (called f (values_in (reverse (take n cs) ++ take (piped_count p) (drop n cs))))) (drop (n + piped_count p) cs)
+called-is f n false cs h =
+    ap (λ l. pushed (or_call_failed f (called f (values_in l))) (drop n cs)) (sym (append-nil (reverse (take n cs))))
+    ∙ ap (λ k. pushed (or_call_failed f (called f (values_in (reverse (take n cs) ++ [])))) (drop k cs)) (sym (add-zero n))
+called-is f n true cs h = by (drop n cs) refl
+  where
+    by : (ds : List Cell) → drop n cs ≡ ds → called_on f (values_in (reverse (take n cs))) true ds
+        ≡ pushed (or_call_failed f (called f (values_in (reverse (take n cs) ++ take 1 ds)))) (drop (n + 1) cs)
+    by [] e = let long = length-drop n cs in let none : length (drop n cs) ≡ 0 = ap length e in absurd (omega arith)
+    by (d ∷ ds) e =
+        ap (λ l. pushed (or_call_failed f (called f l)) ds) (sym (map-append (λ (c : Cell). c.val) (reverse (take n cs)) (d ∷ [])))
+        ∙ ap (λ l. pushed (or_call_failed f (called f (values_in (reverse (take n cs) ++ d ∷ [])))) l) (ap (drop 1) (sym e) ∙ drop-drop 1 n cs)
+
+pub ruleset calls = called-is

@@ -8,7 +8,7 @@ use Rattle.tmpl_values.specs.Put.{Puts, Took, appended}
 use Rattle.tmpl_values.specs.Text.{text_of}
 use Rattle.tmpl_values.specs.Value.{Value, string}
 use Rattle.tmpl_meaning.specs.Sink.{IsPut, Told, as_puts, with_bytes}
-use Rattle.tmpl_values.proofs.PutLemmas.{appended-append, appended-nil}
+use Rattle.tmpl_values.proofs.PutLemmas.{IsPut-append, appended-append, appended-nil}
 use Rattle.tmpl_run.specs.computed.Output.{Grew, Grows, both, given_of, told_since}
 use Rattle.tmpl_run.specs.declared.piece.Piece.{Piece}
 
@@ -88,3 +88,5 @@ pub put-back : {F : Type 0} (r : Result (Unit {0}) F) (old now told : Told) (p q
 put-back r old now told p q kept m n text told-is kept-is h =
     subst (λ (t : Told). IsPut r (given_of old p) (given_of t kept) text) (sym told-is)
     (subst (λ (w : Piece). IsPut r (given_of old p) (given_of now w) text) (sym kept-is) (record { count = h.count; bytes = h.bytes; through = refl }))
+
+pub ruleset putting = (put-behind-none, IsPut-append)

@@ -3,7 +3,7 @@
 use Rattle.std.proofs.Common.{◌≡◌, ◌≢◌, ◌∙◌, ◌||◌, ◌<◌, IfSome, length, ℕ, zero, suc, Bool, true, false, List, [], ◌∷◌, Option, Some, None, Result, Ok, Err}
 use Rattle.std.proofs.Common.{ap, refl, subst, sym}
 use Rattle.std.specs.Prelude.{◌-◌, get_or, slice_get}
-use Rattle.std.proofs.lemmas.Bool.{or_parts}
+use Rattle.std.proofs.lemmas.Bool.{or_from, or_parts}
 use Rattle.std.proofs.lemmas.Option.{slice_get-get_or}
 use Rattle.tmpl_values.specs.Value.{Value, nothing}
 use Rattle.tmpl_funcs.specs.Func.{makes_text, takes}
@@ -29,9 +29,6 @@ use Rattle.tmpl_run.specs.computed.Machines.{no_template}
 use Rattle.tmpl_run.specs.declared.fault.RunError.{RunError}
 use Rattle.tmpl_run.specs.declared.fault.RunError.TheVariants as error
 
-both : (a b : Bool) → a ≡ false → b ≡ false → (a || b) ≡ false
-both a b e f = ap (λ c. c || b) e ∙ f
-
 -- ---- pipelines
 
 then-quiet : {T U : Type 0} (g : Given T) (next : T → Given U) → g.made_text ≡ false → ((t : T) → (next t).made_text ≡ false)
@@ -39,7 +36,7 @@ then-quiet : {T U : Type 0} (g : Given T) (next : T → Given U) → g.made_text
 then-quiet {T} g next e quiet = by g.result
   where
     by : (r : Result T Cause) → (go_on r g.made_text next).made_text ≡ false
-    by (Ok t) = both g.made_text (next t).made_text e (quiet t)
+    by (Ok t) = or_from g.made_text (next t).made_text e (quiet t)
     by (Err cause) = e
 
 counted-quiet : (b : Bool) (f : Func) (g : Given Value) → g.made_text ≡ false → (meaning.by_count f b g).made_text ≡ false
@@ -121,7 +118,7 @@ quiet = record {
   binds = λ r env e. e;
   spends = λ r left e. e;
   puts = λ r bytes e. e;
-  pipes = λ p s none r e. both r.made_text (pipeline_value s p).made_text e (commands-quiet p s None none);
+  pipes = λ p s none r e. or_from r.made_text (pipeline_value s p).made_text e (commands-quiet p s None none);
 }
 
 mutual

@@ -136,7 +136,7 @@ impl<'m, 'a> Machine<'m, 'a> {
     }
 
     /// Calls a function over the newest so many values, and a piped one, if it lies below them.
-    #[tactic(auto)]
+    #[tactic(auto, using(crate::proofs::ArgumentLemmas::calls))]
     pub(crate) fn call(&mut self, func: Func, count: usize, piped: bool) -> Result<Flow, Halt<'a>>
         requires called { is_called func ≡ true }
         requires found { count + piped_count piped ≤ length (cells_of self.old.stack) }

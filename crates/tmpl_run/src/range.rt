@@ -74,7 +74,7 @@ impl<'m, 'a> Machine<'m, 'a> {
     }
 
     /// The element that the range visits becomes dot, and the values of so many variables.
-    #[tactic(auto)]
+    #[tactic(auto, using(crate::proofs::TurnLemmas::lefts))]
     pub(crate) fn turn(&mut self, count: usize) -> Result<Flow, AllocError>
         requires found { 2 ≤ length (cells_of self.old.stack) }
         requires element { item_at (slot_cell 1 (cells_of self.old.stack)).num
