@@ -1,12 +1,12 @@
 -- For `Stack`: lent cells as the list of those that are live, the newest first.
 use Rattle.std.proofs.Common.{arith, ◌≡◌, ◌∙◌, ◌+◌, ◌-◌, ◌<◌, ◌≤◌, ℕ, zero, suc, List, [], ◌∷◌, length, drop, take, set, get_or, map, reverse, refl, ap, sym}
-use Rattle.std.proofs.lemmas.List.{length-map, length-reverse, get_or-set_other, length-set, length-take-le, reverse-append, length-drop}
+use Rattle.std.proofs.lemmas.List.{length-map, length-reverse, get_or-set_other, length-set, length-take-le, reverse-append}
 use Rattle.std.proofs.Math.Seq.{take-suc, take-suc-set}
 use Rattle.std.proofs.Math.Numerals.{add-one}
 use Rattle.tmpl_values.specs.declared.value.Cell as held
 use Rattle.tmpl_values.specs.View.{val_of}
 use Rattle.tmpl_run.specs.Cell.{Cell, slot_cell}
-use Rattle.tmpl_run.specs.Machine.{Turn, ring, top}
+use Rattle.tmpl_run.specs.Machine.{top}
 use Rattle.tmpl_run.specs.computed.Held.{cell_at, cell_of, cells_in}
 use Rattle.tmpl_run.specs.computed.View.{cells_of, size_of}
 use Rattle.tmpl_run.specs.declared.stack.Stack.{Stack}
@@ -115,18 +115,3 @@ val_at-is cs i d h = ap (λ (c : Cell). c.val) (sym (cell_at-is cs i d h))
 pub ruleset cells = (num_at-is, val_at-is)
 
 pub ruleset reads = (live-length, slot-at, num_at-is, val_at-is)
-
--- the newest cell is there
-pub top-is : (cs : List Cell) (go : Cell → List Cell → Turn) → 1 ≤ length cs → top cs go ≡ go (slot_cell 0 cs) (drop 1 cs)
-top-is [] go h = absurd (omega arith)
-top-is (c ∷ cs) go h = refl
-
--- .. and two of them
-pub ring-is : (cs : List Cell) (go : Cell → Cell → List Cell → Turn) → 2 ≤ length cs → ring cs go ≡ go (slot_cell 0 cs) (slot_cell 1 cs) (drop 2 cs)
-ring-is (c ∷ d ∷ cs) go h = refl
-ring-is _ go h = absurd (omega arith)
-
-pub length-drop-cells : (n : ℕ) (cs : List Cell) → length (drop n cs) ≡ length cs - n
-length-drop-cells n cs = length-drop n cs
-
-pub ruleset tops = (top-is, ring-is, length-drop-cells)

@@ -1,19 +1,15 @@
 -- For the functions that carry out an instruction: what it does, by what is found on the stack.
 use Rattle.std.proofs.lemmas.Bool.Decides.{nat_tests}
-use Rattle.std.proofs.Common.{arith, ◌≡◌, ◌∙◌, ◌+◌, ◌-◌, ◌≤◌, ◌<◌, ℕ, suc, true, false, List, [], ◌∷◌, length, drop, ap, sym}
+use Rattle.std.proofs.Common.{arith, ◌≡◌, ◌∙◌, ◌+◌, ◌-◌, ◌≤◌, ◌<◌, ℕ, zero, suc, true, false, List, [], ◌∷◌, length, drop, refl, ap, sym}
 use Rattle.std.proofs.Common.{Option, Some, None, drop-cons, drop-drop, get_or}
 use Rattle.std.proofs.lemmas.List.{drop_all}
 use Rattle.std.proofs.lemmas.Option.{get_or_from_slice_get, slice_get_within}
 use Rattle.std.specs.Prelude.{slice_get}
 use Rattle.tmpl_values.specs.Value.{nothing}
 use Rattle.tmpl_values.specs.Elements.{Element, element_at, elements, item_at}
-use Rattle.tmpl_syntax.specs.Set.{Template}
-use Rattle.tmpl_code.specs.Instruction as code
-use Rattle.tmpl_run.specs.Cell.{Cell, slot_cell}
-use Rattle.tmpl_run.specs.State.{Plan, State}
-use Rattle.tmpl_run.specs.Machine.{done, elements_in, goes, left_in, turned, variables_on}
+use Rattle.tmpl_run.specs.Cell.{Cell}
+use Rattle.tmpl_run.specs.Machine.{elements_in, left_in}
 use Rattle.tmpl_run.specs.computed.Held.{has_more}
-use Rattle.tmpl_run.proofs.StackLemmas.{ring-is}
 
 -- the elements from a place on
 got : (es : List Element) (i : ℕ) (e : Element) → slice_get es i ≡ Some e → drop i es ≡ e ∷ drop (suc i) es
@@ -25,12 +21,6 @@ left-at v e h = by (elements v.val) h
     by : (o : Option (List Element)) → Some e ≡ element_at v.num o → drop v.num (elements_in o) ≡ e ∷ drop (suc v.num) (elements_in o)
     by None h = cc
     by (Some es) h = got es v.num e (sym h)
-
--- a turn over the cells of a range
-module _ (plan : Plan) (t : Template) (n : ℕ) (s : State) (e : Element) (some : 2 ≤ length s.cells)
-    (is : Some e ≡ item_at (slot_cell 1 s.cells).num (slot_cell 1 s.cells).val) where
-  pub turn-is : done plan t (code.turn n) s ≡ goes (record s { cells = variables_on n e s.cells; dot = e.1; place = s.place + 1 })
-  turn-is = ring-is s.cells (λ d v cs. turned n (left_in v) s) some ∙ ap (λ l. turned n l s) (left-at (slot_cell 1 s.cells) e is)
 
 -- behind a turn
 pub more-left : (v : Cell) → has_more v ≡ true
@@ -49,3 +39,17 @@ none-left v h =
 pub ruleset nexts = (more-left, none-left)
 
 pub ruleset lefts = (left-at)
+
+-- ---- past the end
+
+none-here : (es : List Element) (i : ℕ) → slice_get es i ≡ None → drop i es ≡ []
+none-here [] zero h = refl
+none-here [] (suc i) h = refl
+none-here (x ∷ es) zero h = cc
+none-here (x ∷ es) (suc i) h = none-here es i h
+
+pub none-at : (o : Option (List Element)) (i : ℕ) → element_at i o ≡ None → drop i (elements_in o) ≡ []
+none-at None i h = none-here [] i refl
+none-at (Some es) i h = none-here es i h
+
+pub ruleset lands = (none-at, none-left)

@@ -23,6 +23,7 @@ use tmpl_values::Val;
 impl<'m, 'a> Machine<'m, 'a> {
     /// Carries out an instruction, at once with the two behind it where they show the value that it puts. It is inlined
     /// into the loop of a run, so that its answer is not written to memory and read back for each instruction.
+    #[tactic(auto, using(crate::proofs::TurnLemmas::lands))]
     #[inline(always)]
     pub(crate) fn execute<S: Sink>(
         &mut self,

@@ -1,7 +1,6 @@
 -- What a turn of a machine in memory is.
 use Rattle.std.specs.Prelude.{◌≡◌, ◌&&◌, Bool, true, false, List, ℕ, [], ◌+◌, Option, None, Some, Result, Ok, Err}
-use Rattle.std.specs.Prelude.{◌<◌, ◌≤◌, ◌^◌, drop, length, slice_get}
-use Rattle.tmpl_values.specs.Elements.{item_at}
+use Rattle.std.specs.Prelude.{◌<◌, ◌≤◌, ◌^◌, length, slice_get}
 use Rattle.tmpl_values.specs.Text.{text_of}
 use Rattle.tmpl_values.specs.Value.{Value, nothing}
 use Rattle.tmpl_values.specs.View.{val_of}
@@ -9,20 +8,19 @@ use Rattle.tmpl_values.specs.declared.value.Val.{Val}
 use Rattle.tmpl_syntax.specs.Set.{Template}
 use Rattle.tmpl_meaning.specs.Fault.{Cause}
 use Rattle.tmpl_meaning.specs.Meaning.{Rules}
-use Rattle.tmpl_meaning.specs.Pipeline.{chain, decides}
+use Rattle.tmpl_meaning.specs.Pipeline.{chain}
 use Rattle.tmpl_meaning.specs.declared.missing_key.MissingKey.{MissingKey}
 use Rattle.tmpl_meaning.specs.declared.sink.SinkFault.{SinkFault}
 use Rattle.tmpl_meaning.specs.View.{cause_of}
 use Rattle.tmpl_code.specs.Code.{Code}
 use Rattle.tmpl_code.specs.Instruction as code
 use Rattle.tmpl_code.specs.Instruction.{Instruction, Operation}
-use Rattle.tmpl_run.specs.Cell.{slot, slot_cell}
+use Rattle.tmpl_run.specs.Cell.{slot}
 use Rattle.tmpl_run.specs.State.{Plan, State}
 use Rattle.tmpl_run.specs.Step.{made_by}
 use Rattle.tmpl_run.specs.Machine.{Turn, done, ended, failed, goes, ran_so, stuck}
 use Rattle.tmpl_run.specs.declared.flow.Flow.{Flow}
 use Rattle.tmpl_run.specs.declared.flow.Flow.TheVariants as flow
-use Rattle.tmpl_run.specs.computed.Held.{has_more}
 use Rattle.tmpl_run.specs.computed.Machines.{no_template, state_of}
 use Rattle.tmpl_run.specs.declared.machine.Machine.{Machine}
 use Rattle.tmpl_run.specs.declared.halt.Halt.{Halt}
@@ -34,16 +32,11 @@ Lands (goes t) = t.place < 2 ^ 64
 Lands (ended r) = Unit {0}
 Lands stuck = ⊥
 
--- .. and finds the cells that it looks at: what is asked of a state beside what the instruction needs
+-- .. and so finds the cells below those that it forgets, and the template that it calls
 abbrev pub IsAble : Plan → Instruction → State → Type 0
-IsAble plan (code.act (code.decide is_or piped skip)) s =
-    decides is_or (slot 0 s.cells) ≡ true → s.place + 1 + skip < 2 ^ 64
-IsAble plan (code.turn n) s =
-    (2 ≤ length s.cells) × (item_at (slot_cell 1 s.cells).num (slot_cell 1 s.cells).val ≡ None → ⊥)
-IsAble plan (code.next n skip line) s =
-    (n + 2 ≤ length s.cells) × (has_more (slot_cell 1 (drop n s.cells)) ≡ false → s.place + 1 + skip < 2 ^ 64)
-IsAble plan (code.leave n skip) s = (n + 2 ≤ length s.cells) × (s.place + 1 + skip < 2 ^ 64)
-IsAble plan (code.invoke number) s = (1 ≤ length s.cells) × (number < length plan.starts)
+IsAble plan (code.next n skip line) s = n + 2 ≤ length s.cells
+IsAble plan (code.leave n skip) s = n + 2 ≤ length s.cells
+IsAble plan (code.invoke number) s = number < length plan.starts
 IsAble plan (code.return_from n) s = 1 < s.depth → n + 3 ≤ length s.cells
 IsAble plan i s = Unit {0}
 
