@@ -64,8 +64,7 @@ module _ {A B : Type 0} (f : A → B) where
       ∙ ap (λ l. l ++ take below (under ++ above)) (drop_at under above below long) ∙ ap (λ l. above ++ l) (take_at under above below long)
 
 one-piped : (p : Bool) → piped_count p ≤ 1
-one-piped true = omega arith
-one-piped false = omega arith
+one-piped p = grind arith
 
 -- the values of a call, by where they are held
 pub table-is : (f : Func) (r : Result Val CallError) (count top : ℕ) (p : Bool) (below n from : ℕ) (cs : List held.Cell)

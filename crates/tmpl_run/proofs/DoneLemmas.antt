@@ -109,8 +109,7 @@ module _ (plan : Plan) (room : ℕ) (f : Ran) where
   TellsMore text made = Begins text f.text × (made ≡ true → f.made_text ≡ true)
 
   marked : (o : Option Instruction) (m : Bool) → m ≡ true → mark_at o m ≡ true
-  marked None m e = e
-  marked (Some i) m e = ap (λ b. b || mark_behind i false) e
+  marked o m e = grind arith
 
   pub tells-more : (s : State) → Ends plan room s f → TellsMore s.text (mark_next plan s)
   tells-more = ends-by (λ s. TellsMore s.text (mark_next plan s)) (λ s ready comes later. by s (next_of plan s) refl comes later)

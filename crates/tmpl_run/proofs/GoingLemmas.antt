@@ -1,5 +1,5 @@
 -- For `turns`: what the loop of a run keeps from turn to turn, said of a machine and of what was put out, and what it comes to where it ends.
-use Rattle.std.proofs.Common.{arith, inl, inr, ◌≡◌, ◌∙◌, ◌+◌, ◌||◌, ◌++◌, ◌-◌, ◌^◌, ◌<◌, ◌≤◌, ℕ, Bool, true, false, List, [], length, get_or, refl}
+use Rattle.std.proofs.Common.{arith, ◌≡◌, ◌∙◌, ◌+◌, ◌||◌, ◌++◌, ◌-◌, ◌^◌, ◌<◌, ◌≤◌, ℕ, Bool, true, false, List, [], length, get_or, refl}
 use Rattle.std.proofs.Common.{ap, sym, subst, append-nil, Option, Some, None, Result, Ok, Err}
 use Rattle.std.specs.Prelude.{option_map, slice_get}
 use Rattle.std.proofs.Math.Bool.{or-false}
@@ -20,7 +20,7 @@ use Rattle.tmpl_code.specs.Instruction.{Instruction}
 use Rattle.tmpl_code.specs.View.{instruction_of, instructions_of}
 use Rattle.tmpl_code.specs.declared.instruction.Instruction as held
 use Rattle.tmpl_run.specs.Ends.{Ends}
-use Rattle.tmpl_run.specs.Laws.{Begins, Lessens}
+use Rattle.tmpl_run.specs.Laws.{Begins}
 use Rattle.tmpl_run.specs.Machine.{Turn, done, ended, fault_in, goes, next_of, ran_so, stuck}
 use Rattle.tmpl_run.specs.Ready.{Has}
 use Rattle.tmpl_run.specs.State.{Plan, State}
@@ -119,7 +119,7 @@ module _ {plan : Plan} {end : Ran} {m : Machine} {before now : Puts} (inv : Stan
       behind : (n : Machine) (b : Bool) → once ≡ b → TurnedBy b plan i m n (Ok flow.On) → Behind n (put_out b plan i m (Ok flow.On))
       behind n false o step = record {
         ends = next-ends u step;
-        depth = by (each-lessens plan past (told (added i s) u) next);
+        depth = (let less = each-lessens plan past (told (added i s) u) next in let deep = next-depth plan past (told (added i s) u) next in grind arith);
         less = falls plan room end i runs.0 past here runs.1 inv.ends (told (added i s) u) (shifted (goes u) step);
       }
         where
@@ -128,11 +128,6 @@ module _ {plan : Plan} {end : Ran} {m : Machine} {before now : Puts} (inv : Stan
 
           next : next_of plan past ≡ goes (told (added i s) u)
           next = is-next plan room end i runs.0 past here runs.1 inv.ends ∙ shifted (goes u) step
-
-          by : Lessens past (told (added i s) u) → n.depth + n.left ≤ m.depth + m.left
-          by (inl less) = let deep = next-depth plan past (told (added i s) u) next in omega arith
-          by (inr (left, inl less)) = omega arith
-          by (inr (left, inr (depth, place))) = omega arith
       behind n true o step = by (value_by plan i s) refl step.0
         where
           by : (r : Result Value Cause) → value_by plan i s ≡ r → IsThere r → Behind n (text_in r)

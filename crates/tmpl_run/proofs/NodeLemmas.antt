@@ -122,15 +122,11 @@ kept-env : {way : Way} {lay : Layout} {fr : Frame} {rest : Code} {s : State} {cs
     → Bound way b v lay fr rest s cs place
     → record { env = env_of (bound_on b lay) (kept_on (declares b) (fresh v) (under b cs)); text = s.text; left = s.left; made_text = m }
     ≡ with_bound b (without_key v) (run_at lay m s)
-kept-env {lay = lay} {s = s} (declare x) v m bound = ap (λ (w : Environment). record (run_at lay m s) { env = (x, v) ∷ w }) bound.env
-kept-env {lay = lay} {s = s} (declare_pair k x) v m bound = ap (λ (w : Environment). record (run_at lay m s) { env = (x, v) ∷ (k, nothing) ∷ w }) bound.env
-kept-env {lay = lay} {s = s} _ v m bound = ap (λ (w : Environment). record (run_at lay m s) { env = w }) bound.env
+kept-env b v m bound = grind (arith, bound.env)
 
 kept-cells : {lay : Layout} {fr : Frame} {cs : List Cell} (b : Binding) (v : Value) → Cells lay fr cs
     → Cells (bound_on b lay) (bound_in b fr) (kept_on (declares b) (fresh v) (under b cs))
-kept-cells (declare x) v c = record { frame = ap (λ l. None ∷ l) c.frame; deep = (let deep = c.deep in omega arith) }
-kept-cells (declare_pair k x) v c = record { frame = ap (λ l. None ∷ None ∷ l) c.frame; deep = (let deep = c.deep in omega arith) }
-kept-cells _ v c = c
+kept-cells b v c = record { frame = grind (arith, c.frame); deep = grind (arith, c.deep) }
 
 -- a cell more above those of the range around
 inside-more : (home : Frame) (g : Option Ring) (lay : Layout) (fr : Frame) (p : Option (List ℕ)) (c : Option Cell) → Inside home g lay fr

@@ -6,7 +6,7 @@ use Rattle.std.proofs.lemmas.Nat.{mul-le}
 use Rattle.tmpl_values.specs.Item.{bytes_of}
 use Rattle.tmpl_values.specs.Put.{Puts, Took, appended}
 use Rattle.tmpl_values.specs.Text.{text_of}
-use Rattle.tmpl_values.specs.Value.{Value, string}
+use Rattle.tmpl_values.specs.Value.{Value}
 use Rattle.tmpl_meaning.specs.Sink.{IsPut, Told, as_puts, with_bytes}
 use Rattle.tmpl_values.proofs.PutLemmas.{IsPut-append, appended-append, appended-nil}
 use Rattle.tmpl_run.specs.computed.Output.{Grew, Grows, both, given_of, told_since}
@@ -61,8 +61,7 @@ put-behind-none r a b text waiting name e h = subst (λ l. IsPut r (behind a l n
 
 -- the text of a value that has bytes
 pub text_of_bytes : (v : Value) (bytes : List ℕ) → Some bytes ≡ bytes_of v → text_of v ≡ bytes
-text_of_bytes (string s) bytes h = let same : bytes ≡ s = cc in sym same
-text_of_bytes _ bytes h = cc
+text_of_bytes v bytes h = grind arith
 
 -- ---- a piece and a sink as one that takes bytes
 

@@ -17,7 +17,7 @@ use Rattle.tmpl_meaning.specs.Pipeline as meaning
 use Rattle.tmpl_meaning.specs.Pipeline.{Environment, Given, Place, chain, command_value, commands_value, decided, decides, given, given_then, go_on, junction}
 use Rattle.tmpl_meaning.specs.Pipeline.{lookup, operand_value, operand_values, or_call_failed, piped_after, pipeline_value, without_null}
 use Rattle.tmpl_code.specs.Instruction.{Operation, Refusal, act, call_with, decide, refuse, settle}
-use Rattle.tmpl_code.specs.Layout.{Layout, found_at, is_named, slot_named}
+use Rattle.tmpl_code.specs.Layout.{Layout, slot_named}
 use Rattle.tmpl_code.specs.Code.{BareAt, CallBy, Code, CommandAt, CommandsAt, CountedAt, DecideAt, FirstAt, JunctionAt, OperandAt, OperandsAt, Part, PipelineAt}
 use Rattle.tmpl_code.specs.Code.{VariableAt, chain_before, is_last, operand_count, piped_count}
 use Rattle.tmpl_run.specs.Cell.{Cell, fresh, values_in}
@@ -33,18 +33,11 @@ use Rattle.tmpl_run.proofs.WayLemmas as ways
 -- the slot of a variable is one of the layout's
 pub found-within : (x : List ℕ) (lay : Layout) (k : ℕ) → slot_named x lay ≡ Some k → k < length lay
 found-within x [] k e = cc
-found-within x (cell ∷ lay) k e = by (is_named x cell) (slot_named x lay) (found-within x lay) e
-  where
-    by : (b : Bool) (o : Option ℕ) → ((j : ℕ) → o ≡ Some j → j < length lay) → found_at b o ≡ Some k → k < suc (length lay)
-    by true o h e = let same : 0 ≡ k = cc in omega arith
-    by false None h e = cc
-    by false (Some j) h e = let same : suc j ≡ k = cc in let below = h j refl in omega arith
+found-within x (cell ∷ lay) k e = grind (arith, found-within x lay)
 
 -- what takes no argument is no `and` and no `or`
 bare-called : (f : Func) → takes f 0 ≡ true → is_called f ≡ true
-bare-called And e = cc
-bare-called Or e = cc
-bare-called _ e = refl
+bare-called f e = grind arith
 
 -- a function that does not go without arguments is called with one at least
 some-both : (f g : Func) (n : ℕ) → (takes g 0 ≡ true → ⊥) → f ≡ g → takes f n ≡ true → 1 ≤ n
@@ -59,8 +52,7 @@ with None cs = cs
 with (Some p) cs = fresh p ∷ cs
 
 length-with : (piped : Option Value) (cs : List Cell) → length (with piped cs) ≡ length cs + piped_count (is_some piped)
-length-with None cs = omega arith
-length-with (Some p) cs = omega arith
+length-with piped cs = grind arith
 
 slots-with : {n : ℕ} {lay : Layout} {cs : List Cell} {env : Environment} (piped : Option Value) → Slots n lay cs env
     → Slots (n + piped_count (is_some piped)) lay (with piped cs) env
@@ -105,8 +97,7 @@ count-same no_operand = refl
 count-same (operand o os) = ap suc (count-same os)
 
 arguments-same : (os : Operands) (piped : Option Value) → meaning.argument_count os piped ≡ operand_count os + piped_count (is_some piped)
-arguments-same os None = ap (λ n. n + 0) (sym (count-same os))
-arguments-same os (Some v) = ap (λ n. n + 1) (sym (count-same os))
+arguments-same os piped = grind (arith, count-same)
 
 -- ---- what follows what is given
 

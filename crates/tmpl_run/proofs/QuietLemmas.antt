@@ -1,6 +1,6 @@
 -- For the law `text_is_named` and the clause `spared` of `run`: a template of a set that names no function which makes a text
 -- calls none, so the mark of its run stays as it is.
-use Rattle.std.proofs.Common.{◌≡◌, ◌≢◌, ◌∙◌, ◌||◌, ◌<◌, IfSome, length, ℕ, zero, suc, Bool, true, false, List, [], ◌∷◌, Option, Some, None, Result, Ok, Err}
+use Rattle.std.proofs.Common.{arith, ◌≡◌, ◌≢◌, ◌∙◌, ◌||◌, ◌<◌, IfSome, length, ℕ, zero, suc, Bool, true, false, List, [], ◌∷◌, Option, Some, None, Result, Ok, Err}
 use Rattle.std.proofs.Common.{ap, refl, subst, sym}
 use Rattle.std.specs.Prelude.{◌-◌, get_or, slice_get}
 use Rattle.std.proofs.lemmas.Bool.{or_from, or_parts}
@@ -8,13 +8,11 @@ use Rattle.std.proofs.lemmas.Option.{slice_get-get_or}
 use Rattle.tmpl_values.specs.Value.{Value, nothing}
 use Rattle.tmpl_funcs.specs.Func.{makes_text, takes}
 use Rattle.tmpl_funcs.specs.declared.func.Func.{Func}
-use Rattle.tmpl_funcs.specs.declared.func.Func.TheVariants.{And, Or}
-use Rattle.tmpl_grammar.specs.Tree.{Operand, nil, function, group, Operands, no_operand, operand, Pipeline, no_command, command}
+use Rattle.tmpl_grammar.specs.Tree.{Operand, function, group, Operands, no_operand, operand, Pipeline, no_command, command}
 use Rattle.tmpl_syntax.specs.Tree as tree
 use Rattle.tmpl_syntax.specs.Tree.{NodeKind, Nodes, Tree, action, control_node, template_node}
 use Rattle.tmpl_syntax.specs.Set.{Template, number_of, tree_named}
 use Rattle.tmpl_syntax.proofs.NamedLemmas.{Named, numbered, unnumbered}
-use Rattle.tmpl_meaning.specs.Fault.{Cause}
 use Rattle.tmpl_meaning.specs.Pipeline as meaning
 use Rattle.tmpl_meaning.specs.Pipeline.{Given, Place, command_value, commands_value, decided, decides, given, given_then, go_on, junction, operand_value}
 use Rattle.tmpl_meaning.specs.Pipeline.{operand_values, pipeline_value}
@@ -33,30 +31,20 @@ use Rattle.tmpl_run.specs.declared.fault.RunError.TheVariants as error
 
 then-quiet : {T U : Type 0} (g : Given T) (next : T → Given U) → g.made_text ≡ false → ((t : T) → (next t).made_text ≡ false)
     → (given_then g next).made_text ≡ false
-then-quiet {T} g next e quiet = by g.result
-  where
-    by : (r : Result T Cause) → (go_on r g.made_text next).made_text ≡ false
-    by (Ok t) = or_from g.made_text (next t).made_text e (quiet t)
-    by (Err cause) = e
+then-quiet g next e quiet = grind arith
 
 counted-quiet : (b : Bool) (f : Func) (g : Given Value) → g.made_text ≡ false → (meaning.by_count f b g).made_text ≡ false
-counted-quiet true f g e = e
-counted-quiet false f g e = refl
+counted-quiet b f g e = grind arith
 
 decided-quiet : (b : Bool) (v : Value) (g : Given Value) → g.made_text ≡ false → (decided b v g).made_text ≡ false
-decided-quiet true v g e = refl
-decided-quiet false v g e = e
+decided-quiet b v g e = grind arith
 
 alone-quiet : (b : Bool) (o : Operand) (g : Given Value) → g.made_text ≡ false → (meaning.operand_alone b o g).made_text ≡ false
-alone-quiet false o g e = refl
-alone-quiet true nil g e = refl
-alone-quiet true _ g e = e
+alone-quiet b o g e = grind arith
 
 function-quiet : (f : Func) (all some either : Given Value) → all.made_text ≡ false → some.made_text ≡ false → either.made_text ≡ false
     → (meaning.by_function f all some either).made_text ≡ false
-function-quiet And all some either a b c = b
-function-quiet Or all some either a b c = c
-function-quiet _ all some either a b c = a
+function-quiet f all some either a b c = grind arith
 
 mutual
   operand-quiet : (o : Operand) (s : Place) → operand_makes_text o ≡ false → (operand_value s o).made_text ≡ false
@@ -74,8 +62,7 @@ mutual
 
   junction-quiet : (os : Operands) (stop : Bool) (s : Place) (last : Value) (piped : Option Value) → operands_make_text os ≡ false
       → (junction stop s last os piped).made_text ≡ false
-  junction-quiet no_operand stop s last None e = refl
-  junction-quiet no_operand stop s last (Some v) e = refl
+  junction-quiet no_operand stop s last piped e = grind arith
   junction-quiet (operand o os) stop s last piped e =
       let n = or_parts (operand_makes_text o) (operands_make_text os) e in
       then-quiet (operand_value s o) (λ v. decided (decides stop v) v (junction stop s v os piped)) (operand-quiet o s n.0)
@@ -95,8 +82,7 @@ mutual
       alone-quiet (meaning.stands_alone os piped) o (operand_value s o) (operand-quiet o s (or_parts (operand_makes_text o) (operands_make_text os) e).0)
 
   commands-quiet : (cs : Pipeline) (s : Place) (piped : Option Value) → commands_make_text cs ≡ false → (commands_value s cs piped).made_text ≡ false
-  commands-quiet no_command s None e = refl
-  commands-quiet no_command s (Some v) e = refl
+  commands-quiet no_command s piped e = grind arith
   commands-quiet (command os cs) s piped e =
       let n = or_parts (operands_make_text os) (commands_make_text cs) e in
       then-quiet (command_value s os piped) (λ v. commands_value s cs (Some (meaning.without_null v))) (command-quiet os s piped n.0)
@@ -161,11 +147,8 @@ run-quiet rules ts none number t input is =
     t.1.nodes (starting_dot input) (nodes-none t.1.nodes (at-none ts number t is none)) (started rules.step_limit (starting_dot input)) refl
 
 pub text_is_named : TextIsNamed
-text_is_named rules ts number t input is made = by (set_makes_text ts) refl
-  where
-    by : (b : Bool) → set_makes_text ts ≡ b → set_makes_text ts ≡ true
-    by true e = e
-    by false e = let quiet = run-quiet rules ts e number t input is in cc
+text_is_named rules ts number t input is made =
+    let quiet : set_makes_text ts ≡ false → (ran rules ts t.0 t.1 input).made_text ≡ false = λ none. run-quiet rules ts none number t input is in grind arith
 
 -- what a run comes to is no want of memory, where no text is made
 pub spared : (rules : Rules) (ts : List Template) (number : ℕ) (input : Option Value) (s : Sunk) (r : Result (Unit {0}) RunError) → number < length ts

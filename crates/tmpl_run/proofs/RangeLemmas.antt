@@ -2,7 +2,7 @@
 use Rattle.std.proofs.Common.{arith, ◌≡◌, ◌∙◌, ◌+◌, ◌-◌, ◌≤◌, nat_eq, ℕ, suc, Bool, true, false, List, [], ◌∷◌, length, drop, refl, add-one, ap, sym, subst}
 use Rattle.std.proofs.Common.{Option, Some, None, drop-drop}
 use Rattle.std.specs.Prelude.{slice_set}
-use Rattle.tmpl_values.specs.Value.{Value, nothing, boolean, number, string}
+use Rattle.tmpl_values.specs.Value.{Value, nothing}
 use Rattle.tmpl_values.specs.Elements.{Element, elements}
 use Rattle.tmpl_grammar.specs.Tree.{Binding, unbound, declare, assign, declare_pair, Header}
 use Rattle.tmpl_grammar.specs.Need.{declared_count}
@@ -39,15 +39,11 @@ one-less : (es : List Element) (k : ℕ) (e : Element) (more : List Element) →
 one-less es k e more h = sym (drop-one es k) ∙ ap (drop 1) h
 
 visited-is : (b : Binding) (v : Value) → visited b v ≡ elements_for (declares_key b) v
-visited-is unbound v = refl
-visited-is _ v = refl
+visited-is b v = grind arith
 
 -- with an index or key a range visits no others
 elements-are : (key : Bool) (v : Value) (es : List Element) → elements_for key v ≡ Some es → elements_in (elements v) ≡ es
-elements-are true (boolean b) es e = cc
-elements-are true (number n) es e = cc
-elements-are true (string s) es e = cc
-elements-are _ _ es e = ap elements_in e
+elements-are key v es e = grind arith
 
 module _ (way : Way) (calls : Calls) (spare : ℕ) where
   abbrev NodesLead : Nodes → Type 0

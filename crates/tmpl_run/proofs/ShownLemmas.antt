@@ -2,9 +2,10 @@
 use Rattle.std.proofs.Common.{add-zero, arith, ◌≡◌, ◌∙◌, ◌+◌, ◌<◌, ◌++◌, ℕ, Bool, true, false, List, [], ◌∷◌, length, refl, ap, subst, Option, Some, Ok}
 use Rattle.std.specs.Prelude.{slice_get}
 use Rattle.std.proofs.lemmas.Bool.{and_parts}
+use Rattle.std.proofs.lemmas.Grind.{common_steps}
 use Rattle.std.proofs.lemmas.Option.{slice_get_within}
 use Rattle.tmpl_values.specs.Text.{text_of}
-use Rattle.tmpl_values.specs.Value.{Value, null}
+use Rattle.tmpl_values.specs.Value.{Value}
 use Rattle.tmpl_syntax.specs.Set.{Template}
 use Rattle.tmpl_meaning.specs.Meaning.{Ran}
 use Rattle.tmpl_meaning.specs.Pipeline.{without_null}
@@ -12,21 +13,18 @@ use Rattle.tmpl_code.specs.Instruction as code
 use Rattle.tmpl_code.specs.Instruction.{Instruction, act}
 use Rattle.tmpl_run.specs.Cell.{fresh}
 use Rattle.tmpl_run.specs.Ends.{Ends}
-use Rattle.tmpl_run.specs.Machine.{done, goes, piped}
+use Rattle.tmpl_run.specs.Machine.{done, goes}
 use Rattle.tmpl_run.specs.State.{Plan, State}
-use Rattle.tmpl_run.specs.Step.{pushed}
 use Rattle.tmpl_run.specs.computed.Turned.{added, at_once, is_shown, mark_behind, settles, shows, value_by}
 use Rattle.tmpl_run.proofs.DoneLemmas.{goes-on, with_told}
 
 -- ---- the code behind a place
 
 settles-is : (o : Option Instruction) → settles o ≡ true → o ≡ Some (act code.settle)
-settles-is (Some (act code.settle)) e = refl
-settles-is o e = cc
+settles-is o e = grind arith
 
 shows-is : (o : Option Instruction) → shows o ≡ true → o ≡ Some code.show
-shows-is (Some code.show) e = refl
-shows-is o e = cc
+shows-is o e = grind arith
 
 -- ---- an instruction that is carried out so
 
@@ -37,36 +35,17 @@ pub record Once (plan : Plan) (i : Instruction) (s : State) : Type 0 where
   pub puts : (t : Template) (x : List ℕ) (m : Bool) (v : Value) → value_by plan i s ≡ Ok v
       → done plan t i (with_told x m s) ≡ goes (with_told x m (record s { cells = fresh v ∷ s.cells; place = s.place + 1 }))
 
--- no instruction is passed over
-goes-one : (x : List ℕ) (m : Bool) (s : State) (v : Value) → goes (with_told x m (record s { cells = fresh v ∷ s.cells; place = s.place + 1 + 0 }))
-    ≡ goes (with_told x m (record s { cells = fresh v ∷ s.cells; place = s.place + 1 }))
-goes-one x m s v = ap (λ k. goes (with_told x m (record s { cells = fresh v ∷ s.cells; place = k }))) (add-zero (s.place + 1))
-
 pub once-is : (plan : Plan) (i : Instruction) (s : State) → at_once plan.code s.place i ≡ true → Once plan i s
-once-is plan (act code.push_dot) s e = record {
-  shown = e;
-  mark = refl;
-  quiet = refl;
-  puts = λ t x m v is. ap (λ r. piped t code.push_dot (pushed r s.cells) (with_told x m s)) is ∙ goes-one x m s v;
+once-is plan i s e = record {
+  shown = grind arith;
+  mark = grind arith;
+  quiet = grind arith;
+  puts = λ t x m v is. grind (arith, common_steps);
 }
-once-is plan (act (code.push_fields names)) s e = record {
-  shown = e;
-  mark = refl;
-  quiet = refl;
-  puts = λ t x m v is. ap (λ r. piped t (code.push_fields names) (pushed r s.cells) (with_told x m s)) is ∙ goes-one x m s v;
-}
-once-is plan (act (code.push_slot k)) s e = record {
-  shown = e;
-  mark = refl;
-  quiet = refl;
-  puts = λ t x m v is. ap (λ r. piped t (code.push_slot k) (pushed r s.cells) (with_told x m s)) is ∙ goes-one x m s v;
-}
-once-is plan i s e = cc
 
 -- null and nothing have one text
 text-settled : (v : Value) → text_of (without_null v) ≡ text_of v
-text-settled null = refl
-text-settled _ = refl
+text-settled v = grind arith
 
 -- the three, one after the other
 module _ (plan : Plan) (room : ℕ) (f : Ran) (i : Instruction) (t : Template) (s : State) (here : slice_get plan.code s.place ≡ Some i)

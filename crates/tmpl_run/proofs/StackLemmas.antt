@@ -35,10 +35,7 @@ live-same top new old e = ap (λ l. map cell_of (reverse l)) e
 -- the newest one is taken
 pub live-taken : (top : ℕ) (old new : List held.Cell) (c : held.Cell) → 1 ≤ top → top ≤ length old → c ≡ get_or old (top - 1) c
     → take (top - 1) new ≡ take (top - 1) old → cells_in top old ≡ cell_of c ∷ cells_in (top - 1) new
-live-taken top old new c some within is left =
-    let one : top ≡ top - 1 + 1 = omega arith in
-    ap (λ n. cells_in n old) one ∙ live-more (top - 1) old c (omega arith) ∙ ap (λ (d : held.Cell). cell_of d ∷ cells_in (top - 1) old) (sym is)
-    ∙ ap (λ l. cell_of c ∷ l) (sym (live-same (top - 1) new old left))
+live-taken top old new c some within is left = let one : top ≡ top - 1 + 1 = omega arith in grind (arith, live-more, live-same)
 
 -- the oldest so many are those that are left when the others are forgotten
 live-drop : (count top : ℕ) (cs : List held.Cell) → count ≤ top → top ≤ length cs → cells_in (top - count) cs ≡ drop count (cells_in top cs)

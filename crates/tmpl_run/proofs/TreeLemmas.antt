@@ -68,9 +68,7 @@ abbrev called_frame : Cell → Cell → List Cell → Frame
 called_frame back saved cs = None ∷ Some back ∷ Some saved ∷ below cs
 
 saved-below : (ds : List Cell) → frame_of (None ∷ None ∷ []) ds ≡ below ds
-saved-below [] = refl
-saved-below (b ∷ []) = refl
-saved-below (b ∷ d ∷ ds) = refl
+saved-below ds = grind arith
 
 framed : (ds : List Cell) (back saved : Cell) (cs : List Cell) → frame_of first_layout ds ≡ called_frame back saved cs
     → (c : Cell) × (ds ≡ c ∷ back ∷ saved ∷ cs)

@@ -1,6 +1,6 @@
 -- For the functions that carry out an instruction: what it does, by what is found on the stack.
 use Rattle.std.proofs.lemmas.Bool.Decides.{nat_tests}
-use Rattle.std.proofs.Common.{arith, ◌≡◌, ◌∙◌, ◌+◌, ◌-◌, ◌≤◌, ◌<◌, ℕ, zero, suc, true, false, List, [], ◌∷◌, length, drop, refl, ap, sym}
+use Rattle.std.proofs.Common.{arith, ◌≡◌, ◌∙◌, ◌+◌, ◌-◌, ◌≤◌, ◌<◌, ℕ, zero, suc, true, false, List, [], ◌∷◌, length, drop, refl, ap}
 use Rattle.std.proofs.Common.{Option, Some, None, drop-cons, drop-drop, get_or}
 use Rattle.std.proofs.lemmas.List.{drop_all}
 use Rattle.std.proofs.lemmas.Option.{get_or_from_slice_get, slice_get_within}
@@ -16,11 +16,7 @@ got : (es : List Element) (i : ℕ) (e : Element) → slice_get es i ≡ Some e 
 got es i e h = drop-cons es i e (slice_get_within es i e h) ∙ ap (λ x. x ∷ drop (suc i) es) (get_or_from_slice_get es i e e h)
 
 pub left-at : (v : Cell) (e : Element) → Some e ≡ item_at v.num v.val → left_in v ≡ e ∷ drop (suc v.num) (elements_in (elements v.val))
-left-at v e h = by (elements v.val) h
-  where
-    by : (o : Option (List Element)) → Some e ≡ element_at v.num o → drop v.num (elements_in o) ≡ e ∷ drop (suc v.num) (elements_in o)
-    by None h = cc
-    by (Some es) h = got es v.num e (sym h)
+left-at v e h = grind (arith, got)
 
 -- behind a turn
 pub more-left : (v : Cell) → has_more v ≡ true
@@ -49,7 +45,6 @@ none-here (x ∷ es) zero h = cc
 none-here (x ∷ es) (suc i) h = none-here es i h
 
 pub none-at : (o : Option (List Element)) (i : ℕ) → element_at i o ≡ None → drop i (elements_in o) ≡ []
-none-at None i h = none-here [] i refl
-none-at (Some es) i h = none-here es i h
+none-at o i h = grind (arith, none-here)
 
 pub ruleset lands = (none-at, none-left)
