@@ -1,6 +1,6 @@
 -- For `Stack::call` and `Machine::call`: the cells that a call takes are the values of its arguments, and those below stay.
-use Rattle.std.proofs.Common.{arith, ◌≡◌, ◌∙◌, ◌+◌, ◌≤◌, ◌++◌, ℕ, Bool, true, false, List, [], ◌∷◌, length, drop, take, map, reverse, refl, ap, sym}
-use Rattle.std.proofs.Common.{add-zero, append-nil, subst, Result}
+use Rattle.std.proofs.Common.{arith, ◌≡◌, ◌∙◌, ◌+◌, ◌≤◌, ◌++◌, ℕ, Bool, false, List, [], ◌∷◌, length, drop, take, map, reverse, refl, ap, sym}
+use Rattle.std.proofs.Common.{append-nil, subst, Result}
 use Rattle.std.proofs.lemmas.List.{drop_at, length-drop, length-map, length-reverse, length-take-le, map-append, reverse-append, reverse-reverse, take-map}
 use Rattle.std.proofs.lemmas.List.{take_at}
 use Rattle.std.proofs.lemmas.List.{drop-take}
@@ -25,9 +25,7 @@ use Rattle.tmpl_run.specs.computed.Held.{cell_of, cells_in}
 module _ {A B : Type 0} (f : A → B) where
   map-reverse : (l : List A) → map f (reverse l) ≡ reverse (map f l)
   map-reverse [] = refl
-  map-reverse (x ∷ l) =
-      ap (map f) (reverse-append (x ∷ []) l) ∙ map-append f (reverse l) (x ∷ [])
-      ∙ ap (λ m. m ++ f x ∷ []) (map-reverse l) ∙ sym (reverse-append (f x ∷ []) (map f l))
+  map-reverse (x ∷ l) = grind (arith, map-reverse l, reverse-append (x ∷ []) l, reverse-append (f x ∷ []) (map f l), map-append f (reverse l) (x ∷ []))
 
   -- a part of what is held, from the oldest on, in its order
   part-is : (k top from : ℕ) (cs : List A) → from + k ≡ top → top ≤ length cs
@@ -103,16 +101,7 @@ pub ruleset arguments = (table-is, borrowed-turned)
 pub called-is : (f : Func) (n : ℕ) (p : Bool) (cs : List Cell) → n + piped_count p ≤ length cs
     → called_on f (values_in (reverse (take n cs))) p (drop n cs)
     ≡ pushed (or_call_failed f (called f (values_in (reverse (take n cs) ++ take (piped_count p) (drop n cs))))) (drop (n + piped_count p) cs)
-called-is f n false cs h =
-    ap (λ l. pushed (or_call_failed f (called f (values_in l))) (drop n cs)) (sym (append-nil (reverse (take n cs))))
-    ∙ ap (λ k. pushed (or_call_failed f (called f (values_in (reverse (take n cs) ++ [])))) (drop k cs)) (sym (add-zero n))
-called-is f n true cs h = by (drop n cs) refl
-  where
-    by : (ds : List Cell) → drop n cs ≡ ds → called_on f (values_in (reverse (take n cs))) true ds
-        ≡ pushed (or_call_failed f (called f (values_in (reverse (take n cs) ++ take 1 ds)))) (drop (n + 1) cs)
-    by [] e = let long = length-drop n cs in let none : length (drop n cs) ≡ 0 = ap length e in absurd (omega arith)
-    by (d ∷ ds) e =
-        ap (λ l. pushed (or_call_failed f (called f l)) ds) (sym (map-append (λ (c : Cell). c.val) (reverse (take n cs)) (d ∷ [])))
-        ∙ ap (λ l. pushed (or_call_failed f (called f (values_in (reverse (take n cs) ++ d ∷ [])))) l) (ap (drop 1) (sym e) ∙ drop-drop 1 n cs)
+called-is f n p cs h =
+    grind (arith, append-nil, map-append (λ (c : Cell). c.val) (reverse (take n cs)) (take (piped_count p) (drop n cs)), drop-drop 1 n cs, length-drop n cs)
 
 pub ruleset calls = called-is

@@ -1,5 +1,5 @@
 -- For all that put to a piece: what a sink took and what waits, put together, and the texts of values in parts.
-use Rattle.std.proofs.Common.{arith, lt_of_not-le, ◌≡◌, ◌∙◌, ◌+◌, ◌*◌, ◌≤◌, ◌<◌, ℕ, List, [], ◌++◌, take, drop, add-zero, Option, Some, None, Result, Ok, Err}
+use Rattle.std.proofs.Common.{arith, lt_of_not-le, ◌≡◌, ◌∙◌, ◌+◌, ◌*◌, ◌≤◌, ◌<◌, ℕ, List, [], ◌++◌, take, drop, add-zero, Option, Some, Result, Ok, Err}
 use Rattle.std.proofs.Common.{refl, sym, subst, ap, append_assoc, append-nil}
 use Rattle.std.proofs.lemmas.List.{take-append-drop}
 use Rattle.std.proofs.lemmas.Nat.{mul-le}
@@ -33,9 +33,7 @@ behind t waiting name = record { bytes = appended t.bytes waiting; failures = t.
 
 part-given : (known : Option (List ℕ)) (rest : List ℕ) (count : ℕ)
     → appended (appended known (take count rest)) (drop count rest) ≡ appended (appended known rest) []
-part-given None rest count = refl
-part-given (Some t) rest count =
-    ap Some (append_assoc t (take count rest) (drop count rest) ∙ ap (λ l. t ++ l) (take-append-drop count rest) ∙ sym (append-nil (t ++ rest)))
+part-given known rest count = grind (arith, append_assoc, take-append-drop {A = ℕ}, append-nil)
 
 -- the sink takes some of what waits, and the others wait
 pub given-on : {F : Type 0} (a b : Told) (rest shown next : List ℕ) (count name : ℕ) → b ≡ with_bytes (take count shown) a → shown ≡ rest
@@ -43,9 +41,7 @@ pub given-on : {F : Type 0} (a b : Told) (rest shown next : List ℕ) (count nam
     → IsPut {F = F} (Ok tt) (behind a rest name) (behind b next name) []
 given-on a b rest shown next count name e same left = record {
   count = ap (λ (t : Told). t.failures) e ∙ sym (add-zero a.failures);
-  bytes =
-      ap (λ (t : Told). appended t.bytes next) e ∙ ap (λ l. appended (appended a.bytes (take count l)) next) same
-      ∙ ap (λ l. appended (appended a.bytes (take count rest)) l) left ∙ part-given a.bytes rest count;
+  bytes = grind (arith, part-given a.bytes rest count);
   through = refl;
 }
 

@@ -70,9 +70,12 @@ length-stacked (w ∷ ws) cs = let more = length-stacked ws (fresh w ∷ cs) in 
 
 stacked-is : (ws : List Value) (cs : List Cell) → stacked ws cs ≡ reverse (map fresh ws) ++ cs
 stacked-is [] cs = refl
-stacked-is (w ∷ ws) cs =
-    stacked-is ws (fresh w ∷ cs) ∙ sym (append_assoc (reverse (map fresh ws)) (fresh w ∷ []) cs)
-    ∙ ap (λ l. l ++ cs) (sym (reverse-append (fresh w ∷ []) (map fresh ws)))
+stacked-is (w ∷ ws) cs = grind (
+  arith,
+  stacked-is ws (fresh w ∷ cs),
+  append_assoc (reverse (map fresh ws)) (fresh w ∷ []) cs,
+  reverse-append (fresh w ∷ []) (map fresh ws),
+)
 
 values-fresh : (ws : List Value) → values_in (map fresh ws) ≡ ws
 values-fresh [] = refl
@@ -82,13 +85,10 @@ as-long : (ws : List Value) → length ws ≡ length (reverse (map fresh ws))
 as-long ws = sym (length-map ws fresh) ∙ sym (length-reverse (map fresh ws))
 
 taken : (ws : List Value) (cs : List Cell) (n : ℕ) → n ≡ length ws → values_in (reverse (take n (stacked ws cs))) ≡ ws
-taken ws cs n e =
-    ap (λ l. values_in (reverse (take n l))) (stacked-is ws cs) ∙ ap (λ k. values_in (reverse (take k (reverse (map fresh ws) ++ cs)))) (e ∙ as-long ws)
-    ∙ ap (λ l. values_in (reverse l)) (take-append_seam (reverse (map fresh ws)) cs) ∙ ap values_in (reverse-reverse (map fresh ws)) ∙ values-fresh ws
+taken ws cs n e = rw (stacked-is, e, as-long, take-append_seam, reverse-reverse, values-fresh) refl
 
 dropped : (ws : List Value) (cs : List Cell) (n : ℕ) → n ≡ length ws → drop n (stacked ws cs) ≡ cs
-dropped ws cs n e =
-    ap (λ l. drop n l) (stacked-is ws cs) ∙ ap (λ k. drop k (reverse (map fresh ws) ++ cs)) (e ∙ as-long ws) ∙ drop-append_seam (reverse (map fresh ws)) cs
+dropped ws cs n e = rw (stacked-is, e, as-long, drop-append_seam) refl
 
 -- ---- arguments
 

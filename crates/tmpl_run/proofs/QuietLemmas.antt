@@ -1,7 +1,7 @@
 -- For the law `text_is_named` and the clause `spared` of `run`: a template of a set that names no function which makes a text
 -- calls none, so the mark of its run stays as it is.
-use Rattle.std.proofs.Common.{arith, ◌≡◌, ◌≢◌, ◌∙◌, ◌||◌, ◌<◌, IfSome, length, ℕ, zero, suc, Bool, true, false, List, [], ◌∷◌, Option, Some, None, Result, Ok, Err}
-use Rattle.std.proofs.Common.{ap, refl, subst, sym}
+use Rattle.std.proofs.Common.{arith, ◌≡◌, ◌≢◌, ◌||◌, ◌<◌, IfSome, length, ℕ, zero, suc, Bool, true, false, List, [], ◌∷◌, Option, Some, None, Result, Ok, Err}
+use Rattle.std.proofs.Common.{refl, subst}
 use Rattle.std.specs.Prelude.{◌-◌, get_or, slice_get}
 use Rattle.std.proofs.lemmas.Bool.{or_from, or_parts}
 use Rattle.std.proofs.lemmas.Option.{slice_get-get_or}
@@ -124,8 +124,7 @@ mutual
 
 at-none : (ts : List Template) (number : ℕ) (t : Template) → slice_get ts number ≡ Some t → set_makes_text ts ≡ false → nodes_make_text t.1.nodes ≡ false
 at-none [] number t is none = cc
-at-none (x ∷ ts) zero t is none =
-    let same : x ≡ t = cc in ap (λ u. nodes_make_text u.1.nodes) (sym same) ∙ (or_parts (nodes_make_text x.1.nodes) (set_makes_text ts) none).0
+at-none (x ∷ ts) zero t is none = grind arith
 at-none (x ∷ ts) (suc n) t is none = at-none ts n t is (or_parts (nodes_make_text x.1.nodes) (set_makes_text ts) none).1
 
 named-none : (name : List ℕ) (ts : List Template) (t : Tree) → tree_named name ts ≡ Some t → set_makes_text ts ≡ false → nodes_make_text t.nodes ≡ false
@@ -135,9 +134,7 @@ named-none name ts t is none = by (number_of name ts) refl
     by None e = let absent = unnumbered name ts e in cc
     by (Some m) e =
         let found : Named name ts m = numbered name ts m e in
-        let both : Some found.t.1 ≡ Some t = sym found.tree ∙ is in
-        let same : found.t.1 ≡ t = cc in
-        ap (λ u. nodes_make_text u.nodes) (sym same) ∙ at-none ts m found.t found.at none
+        grind (arith, found.tree, at-none ts m found.t found.at none)
 
 pub run-quiet : (rules : Rules) (ts : List Template) → set_makes_text ts ≡ false → (number : ℕ) (t : Template) (input : Option Value)
     → slice_get ts number ≡ Some t → (ran rules ts t.0 t.1 input).made_text ≡ false

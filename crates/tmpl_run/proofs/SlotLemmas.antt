@@ -99,13 +99,10 @@ slotted x (p ∷ ps) (c ∷ cs) v h =
 
 pub slots-are : (lay : Layout) (cs : List Cell) → length lay ≤ length cs → Slots 0 lay cs (env_of lay cs)
 slots-are lay cs h = record {
-  found = λ x k e. (let same : 0 + k ≡ k = omega arith in ap (λ n. slot n cs) same ∙ sym (is x (Some k) e));
-  none = λ x e. is x None e;
+  found = λ x k e. (let f = slotted x lay cs nothing h in grind (arith, f.found));
+  none = λ x e. (let f = slotted x lay cs nothing h in grind (arith, f.found));
   deep = omega arith;
 }
-  where
-    is : (x : List ℕ) (o : Option ℕ) → slot_named x lay ≡ o → lookup x (env_of lay cs) ≡ by_slot o nothing (λ k. slot k cs)
-    is x o e = (slotted x lay cs nothing h).found ∙ ap (λ o. by_slot o nothing (λ k. slot k cs)) e
 
 module _ (x : List ℕ) (lay : Layout) (cs : List Cell) where
   -- an assignment to a variable is a write to its slot
