@@ -56,10 +56,15 @@ module _ {A B : Type 0} (f : A → B) where
       let long : length under ≡ below = length-take-le below (drop count live) (omega (arith, length-drop count live)) in
       let order : map f part ≡ under ++ above = part-is (count + below) top from cs e h ∙ ap reverse (take-add count below live)
       ∙ reverse-append (take count live) under ∙ ap (λ l. l ++ above) (one-turned under (omega arith)) in
-      map-append f (drop below part) (take below part)
-      ∙ ap (λ l. l ++ map f (take below part)) (sym (drop-map f below part)) ∙ ap (λ l. drop below (map f part) ++ l) (sym (take-map f below part))
-      ∙ ap (λ l. drop below l ++ take below l) order
-      ∙ ap (λ l. l ++ take below (under ++ above)) (drop_at under above below long) ∙ ap (λ l. above ++ l) (take_at under above below long)
+      grind (
+        arith,
+        order,
+        map-append f (drop below part) (take below part),
+        drop-map f below part,
+        take-map f below part,
+        drop_at under above below long,
+        take_at under above below long,
+      )
 
 one-piped : (p : Bool) → piped_count p ≤ 1
 one-piped p = grind arith
@@ -74,10 +79,12 @@ table-is f r count top p below n from cs is e m h call =
     let whole : from + (count + below) ≡ top = omega arith in
     let values : values_of (drop below (take n (drop from cs)) ++ take below (take n (drop from cs)))
     ≡ values_in (reverse (take count (cells_in top cs)) ++ take (piped_count p) (drop count (cells_in top cs)))
-    = ap (λ k. values_of (drop below (take k (drop from cs)) ++ take below (take k (drop from cs)))) m
-    ∙ sym (map-map (λ (c : Cell). c.val) cell_of (drop below (take (count + below) (drop from cs)) ++ take below (take (count + below) (drop from cs))))
-    ∙ ap values_in (turned-is cell_of count below top from cs whole h (omega arith))
-    ∙ ap (λ k. values_in (reverse (take count (cells_in top cs)) ++ take k (drop count (cells_in top cs)))) is in
+    = grind (
+      arith,
+      map-map (λ (c : Cell). c.val) cell_of (drop below (take (count + below) (drop from cs)) ++ take below (take (count + below)
+          (drop from cs))),
+      turned-is cell_of count below top from cs whole h (omega arith),
+    ) in
     subst (λ vs. IsCall f vs r) values call
 
 -- ---- made texts

@@ -56,8 +56,7 @@ module _ (s : Setting) (depth : ℕ) (calls : Calls) where
       pipeline-same line h.pipeline d (λ v r. one_of (truth v) (body v) els (with_bound h.binding (without_key v) r)) r
 
   handing-same : (line : ℕ) (given : Option Pipeline) (d : Value) (go : Value → Next) (r : Run) → handing other line given d go r ≡ handing s line given d go r
-  handing-same line None d go r = refl
-  handing-same line (Some p) d go r = pipeline-same line p d go r
+  handing-same line given d go r = grind (arith, pipeline-same)
 
   -- these names call the same
   abbrev Agree : (List ℕ → Type 0) → Type 0

@@ -90,8 +90,8 @@ module _ (way : Way) (calls : Calls) where
       ways.does way same (at ∙ l) (omega arith) (more s.cells (place + 1) (record { at = ways.next way place (at ∙ l); cells = cells; env = refl }))
 
   -- a pipeline, behind whose value the meaning goes on
-  pub value-leads : {lay : Layout} {fr : Frame} {start mid : Code} {s : State} (A : Run → Type 0) (g : Option Ring) (left : ℕ) (p : Pipeline) (go : Value
-      → Next)
+  pub value-leads : {lay : Layout} {fr : Frame} {start mid : Code} {s : State} (A : Run → Type 0) (g : Option Ring) (left : ℕ) (p : Pipeline)
+      (go : Value → Next)
       → PipelineAt p lay start mid → Stands way.plan way.who start lay fr s → length fr + need_of_pipeline p ≤ way.room
       → ways.After way A g (with_pipeline set s.line p s.dot go (with_left left (run_of lay s)))
       → ((v : Value) (m : Bool) (place : ℕ) → drop place way.plan.code ≡ mid → ways.After way A g (go v (with_left left (run_at lay m s)))

@@ -6,8 +6,7 @@ use Rattle.std.specs.Prelude.{◌-◌, get_or, slice_get}
 use Rattle.std.proofs.lemmas.Bool.{or_from, or_parts}
 use Rattle.std.proofs.lemmas.Option.{slice_get-get_or}
 use Rattle.tmpl_values.specs.Value.{Value, nothing}
-use Rattle.tmpl_funcs.specs.Func.{makes_text, takes}
-use Rattle.tmpl_funcs.specs.declared.func.Func.{Func}
+use Rattle.tmpl_funcs.specs.Func.{makes_text}
 use Rattle.tmpl_grammar.specs.Tree.{Operand, function, group, Operands, no_operand, operand, Pipeline, no_command, command}
 use Rattle.tmpl_syntax.specs.Tree as tree
 use Rattle.tmpl_syntax.specs.Tree.{NodeKind, Nodes, Tree, action, control_node, template_node}
@@ -33,24 +32,10 @@ then-quiet : {T U : Type 0} (g : Given T) (next : T → Given U) → g.made_text
     → (given_then g next).made_text ≡ false
 then-quiet g next e quiet = grind arith
 
-counted-quiet : (b : Bool) (f : Func) (g : Given Value) → g.made_text ≡ false → (meaning.by_count f b g).made_text ≡ false
-counted-quiet b f g e = grind arith
-
-decided-quiet : (b : Bool) (v : Value) (g : Given Value) → g.made_text ≡ false → (decided b v g).made_text ≡ false
-decided-quiet b v g e = grind arith
-
-alone-quiet : (b : Bool) (o : Operand) (g : Given Value) → g.made_text ≡ false → (meaning.operand_alone b o g).made_text ≡ false
-alone-quiet b o g e = grind arith
-
-function-quiet : (f : Func) (all some either : Given Value) → all.made_text ≡ false → some.made_text ≡ false → either.made_text ≡ false
-    → (meaning.by_function f all some either).made_text ≡ false
-function-quiet f all some either a b c = grind arith
-
 mutual
   operand-quiet : (o : Operand) (s : Place) → operand_makes_text o ≡ false → (operand_value s o).made_text ≡ false
-  operand-quiet (function f) s e = counted-quiet (takes f 0) f (meaning.applied f []) e
-  operand-quiet (group cs names) s e =
-      then-quiet (commands_value s cs None) (λ v. given (meaning.chain s.missing_key names v)) (commands-quiet cs s None e) (λ v. refl)
+  operand-quiet (function f) s e = grind arith
+  operand-quiet (group cs names) s e = grind (arith, commands-quiet cs s None e)
   operand-quiet _ s e = refl
 
   operands-quiet : (os : Operands) (s : Place) → operands_make_text os ≡ false → (operand_values s os).made_text ≡ false
@@ -66,20 +51,16 @@ mutual
   junction-quiet (operand o os) stop s last piped e =
       let n = or_parts (operand_makes_text o) (operands_make_text os) e in
       then-quiet (operand_value s o) (λ v. decided (decides stop v) v (junction stop s v os piped)) (operand-quiet o s n.0)
-      (λ v. decided-quiet (decides stop v) v (junction stop s v os piped) (junction-quiet os stop s v piped n.1))
+      (λ v. grind (arith, junction-quiet os stop s v piped n.1))
 
   command-quiet : (os : Operands) (s : Place) (piped : Option Value) → operands_make_text os ≡ false → (command_value s os piped).made_text ≡ false
   command-quiet no_operand s piped e = refl
   command-quiet (operand (function f) os) s piped e =
       let n = or_parts (makes_text f) (operands_make_text os) e in
-      let all : Given Value = given_then (operand_values s os) (λ vs. meaning.applied f (meaning.piped_after vs piped)) in
-      counted-quiet (takes f (meaning.argument_count os piped)) f (meaning.by_function f all (junction false s nothing os piped)
-      (junction true s nothing os piped))
-      (function-quiet f all (junction false s nothing os piped) (junction true s nothing os piped)
-      (then-quiet (operand_values s os) (λ vs. meaning.applied f (meaning.piped_after vs piped)) (operands-quiet os s n.1) (λ vs. n.0))
-      (junction-quiet os false s nothing piped n.1) (junction-quiet os true s nothing piped n.1))
+      let all = then-quiet (operand_values s os) (λ vs. meaning.applied f (meaning.piped_after vs piped)) (operands-quiet os s n.1) (λ vs. n.0) in
+      grind (arith, all, junction-quiet os false s nothing piped n.1, junction-quiet os true s nothing piped n.1)
   command-quiet (operand o os) s piped e =
-      alone-quiet (meaning.stands_alone os piped) o (operand_value s o) (operand-quiet o s (or_parts (operand_makes_text o) (operands_make_text os) e).0)
+      let n = or_parts (operand_makes_text o) (operands_make_text os) e in grind (arith, operand-quiet o s n.0)
 
   commands-quiet : (cs : Pipeline) (s : Place) (piped : Option Value) → commands_make_text cs ≡ false → (commands_value s cs piped).made_text ≡ false
   commands-quiet no_command s piped e = grind arith

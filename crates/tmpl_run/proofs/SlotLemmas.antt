@@ -237,6 +237,5 @@ first-saved lay (d ∷ cs) c fr h =
 -- the cells of a frame of no variables are known
 pub below-same : (cs ds : List Cell) → below cs ≡ below ds → cs ≡ ds
 below-same [] [] e = refl
-below-same [] (d ∷ ds) e = cc
-below-same (c ∷ cs) [] e = cc
-below-same (c ∷ cs) (d ∷ ds) e = let same : c ≡ d = cc in ap (λ x. x ∷ cs) same ∙ ap (λ l. d ∷ l) (below-same cs ds (ap (drop 1) e))
+below-same (c ∷ cs) (d ∷ ds) e = grind (arith, below-same cs ds)
+below-same _ _ e = cc
