@@ -1,31 +1,31 @@
--- For `Stack::call`: the cells that a call takes are the values of its arguments, and those below stay.
-use Rattle.std.proofs.Common.{arith, ◌≡◌, ◌∙◌, ◌+◌, ◌≤◌, ◌++◌, ℕ, Bool, true, false, List, [], ◌∷◌, length, drop, take, map, reverse, refl, ap, sym}
-use Rattle.std.proofs.Common.{subst, Result}
+-- For `Stack::call` and `Machine::call`: the cells that a call takes are the values of its arguments, and those below stay.
+use Rattle.std.proofs.Common.{arith, ◌≡◌, ◌∙◌, ◌+◌, ◌≤◌, ◌++◌, ℕ, Bool, false, List, [], ◌∷◌, length, drop, take, map, reverse, refl, ap, sym}
+use Rattle.std.proofs.Common.{append-nil, subst, Result}
 use Rattle.std.proofs.lemmas.List.{drop_at, length-drop, length-map, length-reverse, length-take-le, map-append, reverse-append, reverse-reverse, take-map}
 use Rattle.std.proofs.lemmas.List.{take_at}
 use Rattle.std.proofs.lemmas.List.{drop-take}
 use Rattle.std.proofs.lemmas.List.Elements.{All-append, All-drop, All-from_recursion, All-take, recursion_from_All}
 use Rattle.std.proofs.lemmas.Simd.{map-map}
 use Rattle.std.specs.List.{All, drop-map}
-use Rattle.std.proofs.Math.Seq.{take-add}
+use Rattle.std.proofs.Math.Seq.{drop-drop, take-add}
 use Rattle.tmpl_values.specs.View.{is_made}
 use Rattle.tmpl_values.specs.declared.value.Cell as held
 use Rattle.tmpl_values.specs.declared.value.Val.{Val}
 use Rattle.tmpl_funcs.specs.Answer.{AreBorrowed}
-use Rattle.tmpl_funcs.specs.Dispatch.{IsCall}
+use Rattle.tmpl_funcs.specs.Dispatch.{IsCall, called}
 use Rattle.tmpl_funcs.specs.View.{values_of}
 use Rattle.tmpl_funcs.specs.declared.func.Func.{Func}
 use Rattle.tmpl_funcs.specs.declared.fault.CallError.{CallError}
+use Rattle.tmpl_meaning.specs.Pipeline.{or_call_failed}
 use Rattle.tmpl_code.specs.Code.{piped_count}
 use Rattle.tmpl_run.specs.Cell.{Cell, values_in}
+use Rattle.tmpl_run.specs.Step.{called_on, pushed}
 use Rattle.tmpl_run.specs.computed.Held.{cell_of, cells_in}
 
 module _ {A B : Type 0} (f : A → B) where
   map-reverse : (l : List A) → map f (reverse l) ≡ reverse (map f l)
   map-reverse [] = refl
-  map-reverse (x ∷ l) =
-      ap (map f) (reverse-append (x ∷ []) l) ∙ map-append f (reverse l) (x ∷ [])
-      ∙ ap (λ m. m ++ f x ∷ []) (map-reverse l) ∙ sym (reverse-append (f x ∷ []) (map f l))
+  map-reverse (x ∷ l) = grind (arith, map-reverse l, reverse-append (x ∷ []) l, reverse-append (f x ∷ []) (map f l), map-append f (reverse l) (x ∷ []))
 
   -- a part of what is held, from the oldest on, in its order
   part-is : (k top from : ℕ) (cs : List A) → from + k ≡ top → top ≤ length cs
@@ -56,14 +56,18 @@ module _ {A B : Type 0} (f : A → B) where
       let long : length under ≡ below = length-take-le below (drop count live) (omega (arith, length-drop count live)) in
       let order : map f part ≡ under ++ above = part-is (count + below) top from cs e h ∙ ap reverse (take-add count below live)
       ∙ reverse-append (take count live) under ∙ ap (λ l. l ++ above) (one-turned under (omega arith)) in
-      map-append f (drop below part) (take below part)
-      ∙ ap (λ l. l ++ map f (take below part)) (sym (drop-map f below part)) ∙ ap (λ l. drop below (map f part) ++ l) (sym (take-map f below part))
-      ∙ ap (λ l. drop below l ++ take below l) order
-      ∙ ap (λ l. l ++ take below (under ++ above)) (drop_at under above below long) ∙ ap (λ l. above ++ l) (take_at under above below long)
+      grind (
+        arith,
+        order,
+        map-append f (drop below part) (take below part),
+        drop-map f below part,
+        take-map f below part,
+        drop_at under above below long,
+        take_at under above below long,
+      )
 
 one-piped : (p : Bool) → piped_count p ≤ 1
-one-piped true = omega arith
-one-piped false = omega arith
+one-piped p = grind arith
 
 -- the values of a call, by where they are held
 pub table-is : (f : Func) (r : Result Val CallError) (count top : ℕ) (p : Bool) (below n from : ℕ) (cs : List held.Cell)
@@ -75,10 +79,12 @@ table-is f r count top p below n from cs is e m h call =
     let whole : from + (count + below) ≡ top = omega arith in
     let values : values_of (drop below (take n (drop from cs)) ++ take below (take n (drop from cs)))
     ≡ values_in (reverse (take count (cells_in top cs)) ++ take (piped_count p) (drop count (cells_in top cs)))
-    = ap (λ k. values_of (drop below (take k (drop from cs)) ++ take below (take k (drop from cs)))) m
-    ∙ sym (map-map (λ (c : Cell). c.val) cell_of (drop below (take (count + below) (drop from cs)) ++ take below (take (count + below) (drop from cs))))
-    ∙ ap values_in (turned-is cell_of count below top from cs whole h (omega arith))
-    ∙ ap (λ k. values_in (reverse (take count (cells_in top cs)) ++ take k (drop count (cells_in top cs)))) is in
+    = grind (
+      arith,
+      map-map (λ (c : Cell). c.val) cell_of (drop below (take (count + below) (drop from cs)) ++ take below (take (count + below)
+          (drop from cs))),
+      turned-is cell_of count below top from cs whole h (omega arith),
+    ) in
     subst (λ vs. IsCall f vs r) values call
 
 -- ---- made texts
@@ -95,3 +101,14 @@ borrowed-turned from n top below l e h =
     (All-take Plain below (take n (drop from l)) part))
 
 pub ruleset arguments = (table-is, borrowed-turned)
+
+-- ---- the step of a call
+
+-- a call over the cells that it takes
+pub called-is : (f : Func) (n : ℕ) (p : Bool) (cs : List Cell) → n + piped_count p ≤ length cs
+    → called_on f (values_in (reverse (take n cs))) p (drop n cs)
+    ≡ pushed (or_call_failed f (called f (values_in (reverse (take n cs) ++ take (piped_count p) (drop n cs))))) (drop (n + piped_count p) cs)
+called-is f n p cs h =
+    grind (arith, append-nil, map-append (λ (c : Cell). c.val) (reverse (take n cs)) (take (piped_count p) (drop n cs)), drop-drop 1 n cs, length-drop n cs)
+
+pub ruleset calls = called-is

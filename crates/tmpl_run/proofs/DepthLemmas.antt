@@ -1,5 +1,5 @@
 -- For the law `depth_by_chains`: a template means the same where those that it calls do.
-use Rattle.std.proofs.Common.{◌≡◌, ◌∙◌, ◌||◌, ◌-◌, ◌≤◌, arith, inl, inr, sym, ℕ, zero, suc, Bool, true, false, nat_eq, List, [], ◌∷◌, length, refl, ap, Option}
+use Rattle.std.proofs.Common.{◌≡◌, ◌∙◌, ◌||◌, ◌-◌, ◌≤◌, arith, inl, inr, sym, ℕ, zero, suc, Bool, nat_eq, List, [], ◌∷◌, length, refl, ap, Option}
 use Rattle.std.proofs.Common.{Some, None, Result, Ok, Err}
 use Rattle.std.specs.Prelude.{slice_get}
 use Rattle.tmpl_values.specs.Value.{Value}
@@ -26,12 +26,10 @@ module _ (s : Setting) (depth : ℕ) (calls : Calls) where
   other = record s { rules = record s.rules { depth_limit = depth }; calls = calls }
 
   spend-same : (b : Bool) (line : ℕ) (go : Next) (r : Run) → spend_if b other line go r ≡ spend_if b s line go r
-  spend-same true line go r = refl
-  spend-same false line go r = refl
+  spend-same b line go r = grind arith
 
   value-same : {T : Type 0} (v : Result T Cause) (line : ℕ) (go : T → Next) (r : Run) → with_value other line v go r ≡ with_value s line v go r
-  value-same (Ok v) line go r = refl
-  value-same (Err cause) line go r = refl
+  value-same v line go r = grind arith
 
   pipeline-same : (line : ℕ) (p : Pipeline) (d : Value) (go : Value → Next) (r : Run) → with_pipeline other line p d go r ≡ with_pipeline s line p d go r
   pipeline-same line p d go r =
@@ -45,8 +43,7 @@ module _ (s : Setting) (depth : ℕ) (calls : Calls) where
 
   over-same : (line : ℕ) (b : Binding) (body : Value → Next) (els : Next) (o : Option (List Element)) (r : Run)
       → over other line b body els o r ≡ over s line b body els o r
-  over-same line b body els (Some (e ∷ es)) r = turns-same line b body (e ∷ es) r
-  over-same line b body els _ r = refl
+  over-same line b body els o r = grind (arith, turns-same)
 
   controlled-same : (line : ℕ) (c : Control) (h : Header) (d : Value) (body : Value → Next) (els : Next) (r : Run)
       → controlled other line c h d body els r ≡ controlled s line c h d body els r
@@ -59,8 +56,7 @@ module _ (s : Setting) (depth : ℕ) (calls : Calls) where
       pipeline-same line h.pipeline d (λ v r. one_of (truth v) (body v) els (with_bound h.binding (without_key v) r)) r
 
   handing-same : (line : ℕ) (given : Option Pipeline) (d : Value) (go : Value → Next) (r : Run) → handing other line given d go r ≡ handing s line given d go r
-  handing-same line None d go r = refl
-  handing-same line (Some p) d go r = pipeline-same line p d go r
+  handing-same line given d go r = grind (arith, pipeline-same)
 
   -- these names call the same
   abbrev Agree : (List ℕ → Type 0) → Type 0

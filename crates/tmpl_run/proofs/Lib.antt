@@ -10,8 +10,6 @@ pub mod DoneLemmas
 pub mod StackLemmas
 pub mod TurnLemmas
 pub mod ReadyLemmas
-pub mod OperationLemmas
-pub mod CallingLemmas
 pub mod ArgumentLemmas
 pub mod PieceLemmas
 pub mod OutputLemmas

@@ -14,7 +14,7 @@ use Rattle.tmpl_syntax.specs.Tree.{NodeKind, Nodes}
 use Rattle.tmpl_syntax.specs.Need.{left_behind, need_of_node, need_of_nodes}
 use Rattle.tmpl_meaning.specs.Fault.{Cause}
 use Rattle.tmpl_meaning.specs.Pipeline.{Environment}
-use Rattle.tmpl_meaning.specs.Meaning.{Calls, Next, Run, without_key, assigned, with_bound, with_pipeline, with_value, End, choosing, meanings}
+use Rattle.tmpl_meaning.specs.Meaning.{Calls, Next, Run, Setting, without_key, assigned, with_bound, with_pipeline, with_value, End, choosing, meanings}
 use Rattle.tmpl_meaning.specs.Meaning.{oldest, one_of, shown, stepped, scope}
 use Rattle.tmpl_meaning.specs.Meaning as meaning
 use Rattle.tmpl_code.specs.Instruction as code
@@ -22,11 +22,11 @@ use Rattle.tmpl_code.specs.Layout.{Layout, bound_on, declares, slot_named, decla
 use Rattle.tmpl_code.specs.Code.{BindAt, Code, HeaderAt, PipelineAt, SetAt, Ended, NodeAt, NodesAt, ShownAt, step_of}
 use Rattle.tmpl_run.specs.Cell.{Cell, fresh}
 use Rattle.tmpl_run.specs.State.{State}
-use Rattle.tmpl_run.specs.Machine.{fault_in, kept_on, ran_so, branch, goes, top, with_dot}
+use Rattle.tmpl_run.specs.Machine.{kept_on, branch, goes, top, with_dot}
 use Rattle.tmpl_run.specs.Ready.{RoomIf}
 use Rattle.tmpl_run.specs.Ends.{Comes}
 use Rattle.tmpl_run.proofs.PipelineLemmas.{FollowsBy, Puts, found-within, given_in, pipeline-leads}
-use Rattle.tmpl_run.proofs.WayLemmas.{ahead-one, ahead, Ring, Stands, Way, who_of, Inside, cut_to, exit_of}
+use Rattle.tmpl_run.proofs.WayLemmas.{Ring, Stands, Way, who_of, Inside, cut_to, exit_of}
 use Rattle.tmpl_run.proofs.SlotLemmas.{Cells, First, Frame, Over, all_grown, all_grown_in, bound_in, cells-set, dropped, env-dropped, env_of, first-saved}
 use Rattle.tmpl_run.proofs.SlotLemmas.{grown_in, length-cells, length-env, named, named-less, over-binding, over-bound, over-grown, over-more}
 use Rattle.tmpl_run.proofs.SlotLemmas.{run_of, stored, stored-none}
@@ -68,77 +68,65 @@ pub record Bound (way : Way) (b : Binding) (v : Value) (lay : Layout) (fr : Fram
   pub env : env_of lay cs ≡ written b v (env_of lay s.cells)
 
 module _ (way : Way) (calls : Calls) where
-  bind-leads : (b : Binding) (lay : Layout) (fr : Frame) (v : Value) (mid rest : Code) (s : State) (m : Bool) (place : ℕ) → who_of s ≡ way.who
+  abbrev pub set : Setting
+  set = ways.setting way calls
+
+  bind-leads : {mid rest : Code} {lay : Layout} {fr : Frame} {s : State} {m : Bool} {place : ℕ} (b : Binding) (v : Value) → who_of s ≡ way.who
       → BindAt b lay mid rest → drop place way.plan.code ≡ mid → Cells lay fr s.cells → length s.cells + declared_count b ≤ way.room
       → ((cs : List Cell) (place : ℕ) → Bound way b v lay fr rest s cs place → ways.Leading way (headed b v cs m place s))
       → ways.Leading way (valued v m place s)
-  bind-leads unbound lay fr v mid rest s m place same l at cells fits more = more s.cells place (record { at = at ∙ l; cells = cells; env = refl })
-  bind-leads (declare x) lay fr v mid rest s m place same l at cells fits more =
-      ways.takes way (valued v m place s) (code.hold false) rest same (at ∙ l) tt
-      (more s.cells (place + 1) (record { at = ahead-one way.plan.code rest place (code.hold false) (at ∙ l); cells = cells; env = refl }))
-  bind-leads (assign x) lay fr v mid rest s m place same l at cells fits more = by (slot_named x lay) refl l
+  bind-leads {s = s} {place = place} unbound v same l at cells fits more = more s.cells place (record { at = at ∙ l; cells = cells; env = refl })
+  bind-leads {mid} {rest} {lay} {fr} {s} {m} {place} (assign x) v same l at cells fits more = by (slot_named x lay) refl l
     where
       by : (o : Option ℕ) → slot_named x lay ≡ o → SetAt o mid rest → ways.Leading way (valued v m place s)
       by None e l = more s.cells place (record { at = at ∙ l; cells = cells; env = sym (stored-none x lay s.cells v e cells.deep) })
       by (Some k) e l =
-          ways.takes way (valued v m place s) (code.set k) rest same (at ∙ l)
-          (let below = found-within x lay k e in let deep = cells.deep in omega arith)
-          (more (slice_set s.cells k (fresh v)) (place + 1) (record {
-            at = ahead-one way.plan.code rest place (code.set k) (at ∙ l);
-            cells = cells-set x lay s.cells k v e cells;
-            env = stored x lay s.cells k v e cells.deep;
-          }))
-  bind-leads (declare_pair k x) lay fr v mid rest s m place same l at cells fits more =
-      ways.takes way (valued v m place s) (code.hold true) rest same (at ∙ l) (omega arith)
-      (more s.cells (place + 1) (record { at = ahead-one way.plan.code rest place (code.hold true) (at ∙ l); cells = cells; env = refl }))
+          ways.does way same (at ∙ l) (let below = found-within x lay k e in let deep = cells.deep in omega arith)
+          (more (slice_set s.cells k (fresh v)) (place + 1)
+          (record { at = ways.next way place (at ∙ l); cells = cells-set x lay s.cells k v e cells; env = stored x lay s.cells k v e cells.deep }))
+  bind-leads {s = s} {place = place} (declare x) v same l at cells fits more =
+      ways.does way same (at ∙ l) tt (more s.cells (place + 1) (record { at = ways.next way place (at ∙ l); cells = cells; env = refl }))
+  bind-leads {s = s} {place = place} (declare_pair k x) v same l at cells fits more =
+      ways.does way same (at ∙ l) (omega arith) (more s.cells (place + 1) (record { at = ways.next way place (at ∙ l); cells = cells; env = refl }))
 
   -- a pipeline, behind whose value the meaning goes on
-  pub value-leads : (A : Run → Type 0) (g : Option Ring) (line left : ℕ) (p : Pipeline) (lay : Layout) (fr : Frame) (start mid : Code) (s : State)
+  pub value-leads : {lay : Layout} {fr : Frame} {start mid : Code} {s : State} (A : Run → Type 0) (g : Option Ring) (left : ℕ) (p : Pipeline)
       (go : Value → Next)
-      → PipelineAt p lay start mid → Stands way.plan way.who start lay fr s → s.line ≡ line → length fr + need_of_pipeline p ≤ way.room
-      → ways.After way A g (with_pipeline (ways.setting way calls) line p s.dot go (with_left left (run_of lay s)))
+      → PipelineAt p lay start mid → Stands way.plan way.who start lay fr s → length fr + need_of_pipeline p ≤ way.room
+      → ways.After way A g (with_pipeline set s.line p s.dot go (with_left left (run_of lay s)))
       → ((v : Value) (m : Bool) (place : ℕ) → drop place way.plan.code ≡ mid → ways.After way A g (go v (with_left left (run_at lay m s)))
       → ways.Leading way (valued v m place s))
       → ways.Leading way s
-  value-leads A g line left p lay fr start mid s go l st same-line fits k more =
-      pipeline-leads way p lay start mid s st.runs l st.at st.cells.deep (let long = length-cells st.cells in omega arith)
+  value-leads {lay} {mid = mid} {s = s} A g left p go l st fits k more =
+      pipeline-leads way p lay _ mid s st.runs l st.at st.cells.deep (let long = length-cells st.cells in omega arith)
       (by (given_in way lay s p).result (s.made_text || (given_in way lay s p).made_text) k)
     where
-      by : (r : Result Value Cause) (m : Bool)
-          → ways.After way A g (with_value (ways.setting way calls) line r go (with_left left (run_at lay m s)))
+      by : (r : Result Value Cause) (m : Bool) → ways.After way A g (with_value set s.line r go (with_left left (run_at lay m s)))
           → FollowsBy way s r m (Puts way s mid s.cells)
       by (Ok v) m k = λ place at. more v m place at k
-      by (Err cause) m k = ap (λ n. ran_so (record s { made_text = m }) (Some (fault_in way.me n cause))) same-line ∙ k
+      by (Err cause) m k = k
 
   -- a header
-  pub header-leads : (A : Run → Type 0) (g : Option Ring) (line : ℕ) (h : Header) (lay : Layout) (fr : Frame) (start mid : Code) (s : State) (go : Value → Next)
-      → HeaderAt h lay start mid → Stands way.plan way.who start lay fr s → s.line ≡ line
-      → length fr + need_of_pipeline h.pipeline ≤ way.room
-      → length fr + declared_count h.binding ≤ way.room
-      → ways.After way A g (with_pipeline (ways.setting way calls) line h.pipeline s.dot go (run_of lay s))
-      → ((v : Value) (cs : List Cell) (m : Bool) (place : ℕ) → Bound way h.binding v lay fr mid s cs place
-      → ways.After way A g (go v (run_at lay m s)) → ways.Leading way (headed h.binding v cs m place s))
+  pub header-leads : {lay : Layout} {fr : Frame} {start mid : Code} {s : State} (A : Run → Type 0) (g : Option Ring) (h : Header) (go : Value → Next)
+      → HeaderAt h lay start mid → Stands way.plan way.who start lay fr s → length fr + need_of_pipeline h.pipeline ≤ way.room
+      → length fr + declared_count h.binding ≤ way.room → ways.After way A g (with_pipeline set s.line h.pipeline s.dot go (run_of lay s))
+      → ((v : Value) (cs : List Cell) (m : Bool) (place : ℕ) → Bound way h.binding v lay fr mid s cs place → ways.After way A g (go v (run_at lay m s))
+      → ways.Leading way (headed h.binding v cs m place s))
       → ways.Leading way s
-  header-leads A g line h lay fr start mid s go l st same-line fits more-fits k more =
-      value-leads A g line s.left h.pipeline lay fr start l.0 s go l.1 st same-line fits k
-      (λ v m place at k. bind-leads h.binding lay fr v l.0 mid s m place st.runs l.2 at st.cells (let long = length-cells st.cells in omega arith)
+  header-leads {s = s} A g h go l st fits more-fits k more = value-leads A g s.left h.pipeline go l.1 st fits k
+      (λ v m place at k. bind-leads h.binding v st.runs l.2 at st.cells (let long = length-cells st.cells in omega arith)
       (λ cs place bound. more v cs m place bound k))
 
 -- what a control keeps of its header
-kept-env : {way : Way} {lay : Layout} {fr : Frame} {rest : Code} {cs : List Cell} {place : ℕ} (b : Binding) (v : Value) (s : State) (m : Bool)
+kept-env : {way : Way} {lay : Layout} {fr : Frame} {rest : Code} {s : State} {cs : List Cell} {place : ℕ} (b : Binding) (v : Value) (m : Bool)
     → Bound way b v lay fr rest s cs place
     → record { env = env_of (bound_on b lay) (kept_on (declares b) (fresh v) (under b cs)); text = s.text; left = s.left; made_text = m }
     ≡ with_bound b (without_key v) (run_at lay m s)
-kept-env {way} {lay} unbound v s m bound = ap (λ (w : Environment). record (run_at lay m s) { env = w }) bound.env
-kept-env {way} {lay} (declare x) v s m bound = ap (λ (w : Environment). record (run_at lay m s) { env = (x, v) ∷ w }) bound.env
-kept-env {way} {lay} (assign x) v s m bound = ap (λ (w : Environment). record (run_at lay m s) { env = w }) bound.env
-kept-env {way} {lay} (declare_pair k x) v s m bound = ap (λ (w : Environment). record (run_at lay m s) { env = (x, v) ∷ (k, nothing) ∷ w }) bound.env
+kept-env b v m bound = grind (arith, bound.env)
 
-kept-cells : (b : Binding) (lay : Layout) (fr : Frame) (v : Value) (cs : List Cell) → Cells lay fr cs
+kept-cells : {lay : Layout} {fr : Frame} {cs : List Cell} (b : Binding) (v : Value) → Cells lay fr cs
     → Cells (bound_on b lay) (bound_in b fr) (kept_on (declares b) (fresh v) (under b cs))
-kept-cells (declare x) lay fr v cs c = record { frame = ap (λ l. None ∷ l) c.frame; deep = (let deep = c.deep in omega arith) }
-kept-cells (declare_pair k x) lay fr v cs c = record { frame = ap (λ l. None ∷ None ∷ l) c.frame; deep = (let deep = c.deep in omega arith) }
-kept-cells _ lay fr v cs c = c
+kept-cells b v c = record { frame = grind (arith, c.frame); deep = grind (arith, c.deep) }
 
 -- a cell more above those of the range around
 inside-more : (home : Frame) (g : Option Ring) (lay : Layout) (fr : Frame) (p : Option (List ℕ)) (c : Option Cell) → Inside home g lay fr
@@ -165,197 +153,192 @@ length-under (declare_pair k x) cs room n h = omega arith
 length-under _ cs room n h = tt
 
 module _ (way : Way) (calls : Calls) (spare : ℕ) where
-  -- what is to be shown of nodes, and of a node whose step is taken; so many cells are left for calls
+  -- where nodes stand that need so many cells, while so many are left for calls
+  pub record Here (g : Option Ring) (lay : Layout) (fr : Frame) (here : Code) (need : ℕ) (s : State) : Type 0 where
+    pub stands : Stands way.plan way.who here lay fr s
+    pub inside : Inside way.home g lay fr
+    pub fits : length fr + need + spare ≤ way.room
+
+  -- what is to be shown of nodes, and of a node whose step is taken
   abbrev pub NodesLead : Nodes → Type 0
   NodesLead ns =
       (g : Option Ring) (lay : Layout) (fr : Frame) (here rest : Code) (s : State) → NodesAt way.plan.templates ns lay (exit_of g) here rest
-      → Stands way.plan way.who here lay fr s → Inside way.home g lay fr
-      → length fr + need_of_nodes ns + spare ≤ way.room
-      → ways.After way (ways.Onward way rest (all_grown ns lay) (all_grown_in ns fr) s.dot) g (meanings (ways.setting way calls) ns s.dot (run_of lay s))
+      → Here g lay fr here (need_of_nodes ns) s
+      → ways.After way (ways.Onward way rest (all_grown ns lay) (all_grown_in ns fr) s.dot) g (meanings (set way calls) ns s.dot (run_of lay s))
       → ways.Leading way s
 
-  abbrev pub NodeLeads : ℕ → NodeKind → Type 0
-  NodeLeads line n =
-      (g : Option Ring) (lay : Layout) (fr : Frame) (here rest : Code) (s : State) → NodeAt way.plan.templates line n lay (exit_of g) here rest
-      → Stands way.plan way.who here lay fr s → s.line ≡ line → Inside way.home g lay fr
-      → length fr + need_of_node n + spare ≤ way.room → length fr + left_behind n ≤ way.room
-      → ways.After way (ways.Onward way rest (grown n lay) (grown_in n fr) s.dot) g (stepped (ways.setting way calls) line n s.dot (run_of lay s))
+  abbrev pub NodeLeads : NodeKind → Type 0
+  NodeLeads n =
+      (g : Option Ring) (lay : Layout) (fr : Frame) (here rest : Code) (s : State) → NodeAt way.plan.templates s.line n lay (exit_of g) here rest
+      → Here g lay fr here (need_of_node n) s → length fr + left_behind n ≤ way.room
+      → ways.After way (ways.Onward way rest (grown n lay) (grown_in n fr) s.dot) g (stepped (set way calls) s.line n s.dot (run_of lay s))
       → ways.Leading way s
 
   -- .. and of one whose step is to be taken
   abbrev pub StepLeads : ℕ → NodeKind → Type 0
   StepLeads line n =
       (g : Option Ring) (lay : Layout) (fr : Frame) (here start rest : Code) (s : State) → here ≡ step_of way.plan.templates line n ∷ start
-      → NodeAt way.plan.templates line n lay (exit_of g) start rest → Stands way.plan way.who here lay fr s → Inside way.home g lay fr
-      → length fr + need_of_node n + spare ≤ way.room → length fr + left_behind n ≤ way.room
+      → NodeAt way.plan.templates line n lay (exit_of g) start rest → Here g lay fr here (need_of_node n) s → length fr + left_behind n ≤ way.room
       → ways.After way (ways.Onward way rest (grown n lay) (grown_in n fr) s.dot) g
-      (meaning.spend (ways.setting way calls) line (stepped (ways.setting way calls) line n s.dot) (run_of lay s)) → ways.Leading way s
+      (meaning.spend (set way calls) line (stepped (set way calls) line n s.dot) (run_of lay s)) → ways.Leading way s
 
-  pub spent : (line : ℕ) (n : NodeKind) → step_of way.plan.templates line n ≡ code.spend line → NodeLeads line n → StepLeads line n
-  spent line n e leads g lay fr here start rest s l at-node st inside fits more-fits k =
-      ways.spends way calls (ways.Onward way rest (grown n lay) (grown_in n fr) s.dot) g lay line start s (stepped (ways.setting way calls) line n s.dot)
-      st.runs (st.at ∙ l ∙ ap (λ i. i ∷ start) e) k
-      (λ at k. leads g lay fr start rest (ways.step_taken line s) at-node (record { at = at; runs = st.runs; cells = st.cells }) refl inside fits more-fits k)
+  pub spent : (line : ℕ) (n : NodeKind) → step_of way.plan.templates line n ≡ code.spend line → NodeLeads n → StepLeads line n
+  spent line n e leads g lay fr here start rest s l at-node h room k =
+      ways.spends way calls (ways.Onward way rest (grown n lay) (grown_in n fr) s.dot) g lay line start s (stepped (set way calls) line n s.dot)
+      h.stands.runs (h.stands.at ∙ l ∙ ap (λ i. i ∷ start) e) k
+      (λ at k. leads g lay fr start rest (ways.step_taken line s) at-node
+      (record { stands = record { at = at; runs = h.stands.runs; cells = h.stands.cells }; inside = h.inside; fits = h.fits }) room k)
 
   -- ---- actions
 
-  acted : (b : Binding) (g : Option Ring) (lay : Layout) (fr : Frame) (mid rest : Code) (s : State) (v : Value) (cs : List Cell) (m : Bool) (place : ℕ)
-      → ways.who_of s ≡ way.who → ShownAt b mid rest → Bound way b v lay fr mid s cs place
+  acted : {lay : Layout} {fr : Frame} {mid : Code} {s : State} {cs : List Cell} {place : ℕ} (b : Binding) (g : Option Ring) (rest : Code) (v : Value) (m : Bool)
+      → who_of s ≡ way.who → ShownAt b mid rest → Bound way b v lay fr mid s cs place
       → ways.After way (ways.Onward way rest (bound_on b lay) (bound_in b fr) s.dot) g (shown b v (run_at lay m s)) → ways.Leading way (headed b v cs m place s)
-  acted unbound g lay fr mid rest s v cs m place same l bound k =
-      ways.takes way (headed unbound v cs m place s) code.show rest same (bound.at ∙ l) tt
-      (k _ (record { at = ahead-one way.plan.code rest place code.show (bound.at ∙ l); runs = same; cells = bound.cells }) refl
+  acted {s = s} {place = place} unbound g rest v m same l bound k = ways.does way same (bound.at ∙ l) tt
+      (k _ (record { at = ways.next way place (bound.at ∙ l); runs = same; cells = bound.cells }) refl
       (ap (λ (w : Environment). let r : Run = record { env = w; text = s.text ++ text_of v; left = s.left; made_text = m } in r) bound.env))
-  acted (assign x) g lay fr mid rest s v cs m place same l bound k =
-      ways.takes way (headed (assign x) v cs m place s) (code.cut 1 0) rest same (bound.at ∙ l) (omega arith)
-      (k _ (record { at = ahead way.plan.code rest place 0 (code.cut 1 0) (bound.at ∙ l); runs = same; cells = bound.cells }) refl
-      (kept-env (assign x) v s m bound))
-  acted b g lay fr mid rest s v cs m place same l bound k =
-      k _ (record { at = bound.at ∙ l; runs = same; cells = kept-cells b lay fr v cs bound.cells }) refl (kept-env b v s m bound)
+  acted {place = place} (assign x) g rest v m same l bound k = ways.does way same (bound.at ∙ l) (omega arith)
+      (k _ (record { at = ways.jump way place 0 (bound.at ∙ l); runs = same; cells = bound.cells }) refl (kept-env (assign x) v m bound))
+  acted b g rest v m same l bound k = k _ (record { at = bound.at ∙ l; runs = same; cells = kept-cells b v bound.cells }) refl (kept-env b v m bound)
 
-  pub action-leads : (line : ℕ) (h : Header) → NodeLeads line (tree.action h)
-  action-leads line h g lay fr here rest s l st same-line inside fits more-fits k =
-      header-leads way calls (ways.Onward way rest (bound_on h.binding lay) (bound_in h.binding fr) s.dot) g line h lay fr here l.0 s (shown h.binding)
-      l.1 st same-line (omega arith) more-fits k
-      (λ v cs m place bound k. acted h.binding g lay fr l.0 rest s v cs m place st.runs l.2 bound k)
+  pub action-leads : (h : Header) → NodeLeads (tree.action h)
+  action-leads h g lay fr here rest s l w room k =
+      let st = w.stands in let fits = w.fits in
+      header-leads way calls (ways.Onward way rest (bound_on h.binding lay) (bound_in h.binding fr) s.dot) g h (shown h.binding) l.1 st (omega arith) room k
+      (λ v cs m place bound k. acted h.binding g rest v m st.runs l.2 bound k)
 
   -- ---- parts of controls
 
   -- nodes that are a part of a control, behind its header
-  pub part-leads : (ns : Nodes) → NodesLead ns
-      → (b : Binding) (g : Option Ring) (lay : Layout) (fr : Frame) (first more rest : Code) (to : ℕ) (d : Value) (r : Run) (t : State)
+  pub part-leads : {first rest : Code} {d : Value} {r : Run} {t : State} (ns : Nodes) → NodesLead ns
+      → (b : Binding) (g : Option Ring) (lay : Layout) (fr : Frame)
+      (more : Code) (to : ℕ)
       → Ended (declared_count b + declared_in ns) to (NodesAt way.plan.templates ns (bound_on b lay) (exit_of g)) first more → drop to more ≡ rest
       → Inside way.home g lay fr → length fr + (declared_count b + need_of_nodes ns) + spare ≤ way.room
       → Stands way.plan way.who first (bound_on b lay) (bound_in b fr) t → t.dot ≡ d → run_of (bound_on b lay) t ≡ r
-      → ways.After way (λ r. ways.Onward way rest lay fr d (cut_to (named lay) r)) g (meanings (ways.setting way calls) ns d r) → ways.Leading way t
-  part-leads ns ih b g lay fr first more rest to d r t l far inside fits st dot run k =
-      ih g (bound_on b lay) (bound_in b fr) first l.0 t l.1 st (inside-bound way.home g b lay fr inside) (omega (arith, (over-binding b lay fr).tall))
-      (subst (λ e. ways.After way goal g (meanings (ways.setting way calls) ns e (run_of (bound_on b lay) t))) (sym dot)
-      (subst (λ r. ways.After way goal g (meanings (ways.setting way calls) ns d r)) (sym run)
-      (ways.then-map way (λ r. ways.Onward way rest lay fr d (cut_to (named lay) r)) goal g (meanings (ways.setting way calls) ns d r).0
-      (meanings (ways.setting way calls) ns d r).1
-      (λ r k u su du ru. ways.closes way (declared_count b + declared_in ns) to more rest d r u l.2 su (over-bound b ns lay fr) far (du ∙ dot) ru k) k)))
+      → ways.After way (λ r. ways.Onward way rest lay fr d (cut_to (named lay) r)) g (meanings (set way calls) ns d r) → ways.Leading way t
+  part-leads {first} {rest} {d} {r} {t} ns ih b g lay fr more to l far inside fits st dot run k =
+      ih g (bound_on b lay) (bound_in b fr) first l.0 t l.1
+      (record { stands = st; inside = inside-bound way.home g b lay fr inside; fits = omega (arith, (over-binding b lay fr).tall) })
+      (subst (λ e. ways.After way goal g (meanings (set way calls) ns e (run_of (bound_on b lay) t))) (sym dot)
+      (subst (λ r. ways.After way goal g (meanings (set way calls) ns d r)) (sym run)
+      (ways.then-map way (λ r. ways.Onward way rest lay fr d (cut_to (named lay) r)) goal g (meanings (set way calls) ns d r).0
+      (meanings (set way calls) ns d r).1
+      (λ r k u su du ru. ways.closes way (declared_count b + declared_in ns) to more l.2 su (over-bound b ns lay fr) far (du ∙ dot) ru k) k)))
     where
       goal : Run → Type 0
       goal = ways.Onward way l.0 (all_grown ns (bound_on b lay)) (all_grown_in ns (bound_in b fr)) t.dot
 
   -- .. and with its variables made
-  bound-leads : (ns : Nodes) → NodesLead ns → (b : Binding) (g : Option Ring) (lay : Layout) (fr : Frame) (mid first more rest : Code) (to was place : ℕ)
-      (s : State) (v : Value) (cs : List Cell) (m : Bool)
+  bound-leads : {mid first rest : Code} {lay : Layout} {fr : Frame} {s : State} {v : Value} {cs : List Cell} {was : ℕ} (ns : Nodes) → NodesLead ns
+      → (b : Binding)
+      (g : Option Ring) (more : Code) (to place : ℕ) (m : Bool)
       → Ended (declared_count b + declared_in ns) to (NodesAt way.plan.templates ns (bound_on b lay) (exit_of g)) first more → drop to more ≡ rest
       → Inside way.home g lay fr → length fr + (declared_count b + need_of_nodes ns) + spare ≤ way.room
-      → ways.who_of s ≡ way.who → drop place way.plan.code ≡ first → Bound way b v lay fr mid s cs was
+      → who_of s ≡ way.who → drop place way.plan.code ≡ first → Bound way b v lay fr mid s cs was
       → ways.After way (λ r. ways.Onward way rest lay fr s.dot (cut_to (named lay) r)) g
-      (meanings (ways.setting way calls) ns s.dot (with_bound b (without_key v) (run_at lay m s)))
+      (meanings (set way calls) ns s.dot (with_bound b (without_key v) (run_at lay m s)))
       → ways.Leading way (record (headed b v cs m place s) { cells = kept_on (declares b) (fresh v) (under b cs) })
-  bound-leads ns ih b g lay fr mid first more rest to was place s v cs m l far inside fits same at bound k =
-      part-leads ns ih b g lay fr first more rest to s.dot (with_bound b (without_key v) (run_at lay m s)) _ l far inside fits
-      (record { at = at; runs = same; cells = kept-cells b lay fr v cs bound.cells }) refl (kept-env b v s m bound) k
+  bound-leads {lay = lay} {fr = fr} {v = v} ns ih b g more to place m l far inside fits same at bound k =
+      part-leads ns ih b g lay fr more to l far inside fits (record { at = at; runs = same; cells = kept-cells b v bound.cells }) refl (kept-env b v m bound) k
 
   -- a header, and in its scope one of two parts, by its value
-  choosing-leads : (line : ℕ) (h : Header) (body : Value → Next) (other : Next) (g : Option Ring) (lay : Layout) (fr : Frame) (here mid rest : Code) (s : State)
-      → HeaderAt h lay here mid → Stands way.plan way.who here lay fr s → s.line ≡ line → Inside way.home g lay fr
-      → length fr + need_of_pipeline h.pipeline ≤ way.room → length fr + declared_count h.binding ≤ way.room
-      → ways.After way (ways.Onward way rest lay fr s.dot) g (scope (choosing (ways.setting way calls) line h s.dot body other) (run_of lay s))
+  choosing-leads : {lay : Layout} {fr : Frame} {here mid : Code} {need : ℕ} {s : State} (h : Header) (body : Value → Next) (other : Next) (g : Option Ring)
+      (rest : Code) → HeaderAt h lay here mid → Here g lay fr here need s → length fr + need_of_pipeline h.pipeline ≤ way.room
+      → length fr + declared_count h.binding ≤ way.room
+      → ways.After way (ways.Onward way rest lay fr s.dot) g (scope (choosing (set way calls) s.line h s.dot body other) (run_of lay s))
       → ((v : Value) (cs : List Cell) (m : Bool) (place : ℕ) → Bound way h.binding v lay fr mid s cs place
       → ways.After way (λ r. ways.Onward way rest lay fr s.dot (cut_to (named lay) r)) g
       (one_of (truth v) (body v) other (with_bound h.binding (without_key v) (run_at lay m s)))
       → ways.Leading way (headed h.binding v cs m place s))
       → ways.Leading way s
-  choosing-leads line h body other g lay fr here mid rest s l st same-line inside fits more-fits k more =
-      header-leads way calls (λ r. ways.Onward way rest lay fr s.dot (cut_to (named lay) r)) g line h lay fr here mid s
-      (λ v r. one_of (truth v) (body v) other (with_bound h.binding (without_key v) r)) l st same-line fits more-fits
+  choosing-leads {lay} {fr} {s = s} h body other g rest l w fits room k more =
+      header-leads way calls (λ r. ways.Onward way rest lay fr s.dot (cut_to (named lay) r)) g h
+      (λ v r. one_of (truth v) (body v) other (with_bound h.binding (without_key v) r)) l w.stands fits room
       (ways.unscope way (ways.Onward way rest lay fr s.dot) g lay fr (length (env_of lay s.cells))
-      (choosing (ways.setting way calls) line h s.dot body other (run_of lay s)) (length-env lay s.cells st.cells.deep) inside k) more
+      (choosing (set way calls) s.line h s.dot body other (run_of lay s)) (length-env lay s.cells w.stands.cells.deep) w.inside k) more
 
   -- ---- `if`
 
-  pub if-leads : (line : ℕ) (h : Header) (body other : Nodes) → NodesLead body → NodesLead other → NodeLeads line (tree.control_node control.If h body other)
-  if-leads line h body other ih-body ih-other g lay fr here rest s l st same-line inside fits more-fits k =
-      choosing-leads line h (λ v. meanings (ways.setting way calls) body s.dot) (meanings (ways.setting way calls) other s.dot) g lay fr here l.0 rest s
-      l.1 st same-line inside (omega arith) (omega arith) k
-      (λ v cs m place bound k. ways.takes way (headed h.binding v cs m place s) (code.unless (declares h.binding) l.2.2) l.2.0 st.runs (bound.at ∙ l.2.4) tt
-      (by v cs m place bound (truth v) k))
+  pub if-leads : (h : Header) (body other : Nodes) → NodesLead body → NodesLead other → NodeLeads (tree.control_node control.If h body other)
+  if-leads h body other ih-body ih-other g lay fr here rest s l w room k =
+      let fits = w.fits in
+      choosing-leads h (λ v. meanings (set way calls) body s.dot) (meanings (set way calls) other s.dot) g rest l.1 w (omega arith) (omega arith) k
+      (λ v cs m place bound k. ways.does way w.stands.runs (bound.at ∙ l.2.4) tt (by v cs m place bound (truth v) k))
     where
       by : (v : Value) (cs : List Cell) (m : Bool) (place : ℕ) → Bound way h.binding v lay fr l.0 s cs place
           → (c : Bool) → ways.After way (λ r. ways.Onward way rest lay fr s.dot (cut_to (named lay) r)) g
-          (one_of c (meanings (ways.setting way calls) body s.dot) (meanings (ways.setting way calls) other s.dot)
-          (with_bound h.binding (without_key v) (run_at lay m s)))
+          (one_of c (meanings (set way calls) body s.dot) (meanings (set way calls) other s.dot) (with_bound h.binding (without_key v) (run_at lay m s)))
           → Comes (ways.Leading way) (branch c (declares h.binding) l.2.2 (fresh v) (under h.binding cs) (headed h.binding v cs m place s)) way.end
       by v cs m place bound true k =
-          bound-leads body ih-body h.binding g lay fr l.0 l.2.0 l.2.1 rest l.2.3 place (place + 1) s v cs m l.2.5 l.2.8 inside (omega arith) st.runs
-          (ahead-one way.plan.code l.2.0 place (code.unless (declares h.binding) l.2.2) (bound.at ∙ l.2.4)) bound k
+          bound-leads body ih-body h.binding g l.2.1 l.2.3 (place + 1) m l.2.5 l.2.8 w.inside (let fits = w.fits in omega arith) w.stands.runs
+          (ways.next way place (bound.at ∙ l.2.4)) bound k
       by v cs m place bound false k =
-          bound-leads other ih-other h.binding g lay fr l.0 l.2.1 rest rest 0 place (place + 1 + l.2.2) s v cs m l.2.6 refl inside (omega arith) st.runs
-          (ahead way.plan.code l.2.0 place l.2.2 (code.unless (declares h.binding) l.2.2) (bound.at ∙ l.2.4) ∙ l.2.7) bound k
+          bound-leads other ih-other h.binding g rest 0 (place + 1 + l.2.2) m l.2.6 refl w.inside (let fits = w.fits in omega arith) w.stands.runs
+          (ways.jump way place l.2.2 (bound.at ∙ l.2.4) ∙ l.2.7) bound k
 
   -- ---- `with`
 
   -- the end of its body
-  with-closes : {big : Layout} {high : Frame} (b : Binding) (n to : ℕ) (more rest : Code) (lay : Layout) (fr : Frame) (d : Value) (r : Run) (u : State)
+  with-closes : {big lay : Layout} {high fr : Frame} {rest : Code} {d : Value} {r : Run} {u : State} (b : Binding) (n to : ℕ) (more : Code)
       → Stands way.plan way.who (code.end_with n (declared_count b) to ∷ more) big high u
       → Over n big (None ∷ bound_on b lay) high (Some (fresh d) ∷ bound_in b fr) → drop to more ≡ rest → run_of big u ≡ r
       → ways.Onward way rest lay fr d (cut_to (named lay) r) → ways.Leading way u
-  with-closes {big} b n to more rest lay fr d r u st over far is k =
-      ways.takes way u (code.end_with n (declared_count b) to) more st.runs st.at
-      (let size = over.size in let deep = st.cells.deep in let less = below.size in omega arith)
+  with-closes {big} {lay} {high} {fr} {rest} {d} {u = u} b n to more st over far is k =
+      ways.does way st.runs st.at (let size = over.size in let deep = st.cells.deep in let less = below.size in omega arith)
       (subst (λ cs. Comes (ways.Leading way) (top cs (λ c cs. goes (record u { cells = drop (declared_count b) cs; dot = c.val; place = u.place + 1 + to })))
       way.end) (sym one.cells)
-      (k _ (record { at = there; runs = st.runs; cells = dropped below one.under }) refl
+      (k _ (record { at = ways.jump way u.place to st.at ∙ far; runs = st.runs; cells = dropped below one.under }) refl
       (ap (λ (v : Environment). record (run_of big u) { env = v })
       (env-dropped below one.under ∙ ap (oldest (named lay)) (sym one.env ∙ env-dropped over st.cells))
-      ∙ ways.cut-twice (named lay) (named (bound_on b lay)) (run_of big u) (named-less below)
-      ∙ ap (cut_to (named lay)) is)))
+      ∙ ways.cut-twice (named lay) (named (bound_on b lay)) (run_of big u) (named-less below) ∙ ap (cut_to (named lay)) is)))
     where
-      there : drop (u.place + 1 + to) way.plan.code ≡ rest
-      there = ahead way.plan.code more u.place to (code.end_with n (declared_count b) to) st.at ∙ far
-
       below : Over (declared_count b) (bound_on b lay) lay (bound_in b fr) fr
       below = over-binding b lay fr
 
       one : First (bound_on b lay) (drop n u.cells) (fresh d) (bound_in b fr)
       one = first-saved (bound_on b lay) (drop n u.cells) (fresh d) (bound_in b fr) (dropped over st.cells)
 
-  pub with-leads : (line : ℕ) (h : Header) (body other : Nodes) → NodesLead body → NodesLead other
-      → NodeLeads line (tree.control_node control.With h body other)
-  with-leads line h body other ih-body ih-other g lay fr here rest s l st same-line inside fits more-fits k =
-      choosing-leads line h (λ v. meanings (ways.setting way calls) body v) (meanings (ways.setting way calls) other s.dot) g lay fr here l.0 rest s
-      l.1 st same-line inside (omega arith) (omega arith) k
-      (λ v cs m place bound k. ways.takes way (headed h.binding v cs m place s) (code.enter_with (declares h.binding) l.2.2) l.2.0 st.runs (bound.at ∙ l.2.4)
-      (length-under h.binding cs way.room (need_of_nodes body) (let long = length-cells bound.cells in omega arith))
-      (by v cs m place bound (truth v) k))
+  pub with-leads : (h : Header) (body other : Nodes) → NodesLead body → NodesLead other → NodeLeads (tree.control_node control.With h body other)
+  with-leads h body other ih-body ih-other g lay fr here rest s l w room k =
+      let fits = w.fits in
+      choosing-leads h (λ v. meanings (set way calls) body v) (meanings (set way calls) other s.dot) g rest l.1 w (omega arith) (omega arith) k
+      (λ v cs m place bound k. ways.does way w.stands.runs (bound.at ∙ l.2.4)
+      (length-under h.binding cs way.room (need_of_nodes body) (let long = length-cells bound.cells in omega arith)) (by v cs m place bound (truth v) k))
     where
       B : Run → Type 0
       B = λ r. ways.Onward way rest lay fr s.dot (cut_to (named lay) r)
 
       by : (v : Value) (cs : List Cell) (m : Bool) (place : ℕ) → Bound way h.binding v lay fr l.0 s cs place
-          → (c : Bool) → ways.After way B g (one_of c (meanings (ways.setting way calls) body v) (meanings (ways.setting way calls) other s.dot)
+          → (c : Bool) → ways.After way B g (one_of c (meanings (set way calls) body v) (meanings (set way calls) other s.dot)
           (with_bound h.binding (without_key v) (run_at lay m s)))
           → Comes (ways.Leading way) (with_dot c (declares h.binding) l.2.2 (fresh v) (under h.binding cs) (headed h.binding v cs m place s)) way.end
       by v cs m place bound true k =
           ih-body g (None ∷ bound_on h.binding lay) (Some (fresh s.dot) ∷ bound_in h.binding fr) l.2.0
           (code.end_with (declared_in body) (declared_count h.binding) l.2.3 ∷ l.2.1) _ l.2.5
           (record {
-            at = ahead-one way.plan.code l.2.0 place (code.enter_with (declares h.binding) l.2.2) (bound.at ∙ l.2.4);
-            runs = st.runs;
-            cells = record { frame = ap (λ x. Some (fresh s.dot) ∷ x) kept.frame; deep = (let deep = kept.deep in omega arith) };
+            stands = record {
+              at = ways.next way place (bound.at ∙ l.2.4);
+              runs = w.stands.runs;
+              cells = record { frame = ap (λ x. Some (fresh s.dot) ∷ x) kept.frame; deep = (let deep = kept.deep in omega arith) };
+            };
+            inside = inside-more way.home g (bound_on h.binding lay) (bound_in h.binding fr) None (Some (fresh s.dot))
+                (inside-bound way.home g h.binding lay fr w.inside);
+            fits = (let fits = w.fits in omega (arith, (over-binding h.binding lay fr).tall));
           })
-          (inside-more way.home g (bound_on h.binding lay) (bound_in h.binding fr) None (Some (fresh s.dot)) (inside-bound way.home g h.binding lay fr inside))
-          (omega (arith, (over-binding h.binding lay fr).tall))
-          (subst (λ r. ways.After way goal g (meanings (ways.setting way calls) body v r)) (sym (kept-env h.binding v s m bound))
-          (ways.then-map way B goal g x.0 x.1
-          (λ r k u su du ru. with-closes h.binding (declared_in body) l.2.3 l.2.1 rest lay fr s.dot r u su
+          (subst (λ r. ways.After way goal g (meanings (set way calls) body v r)) (sym (kept-env h.binding v m bound))
+          (ways.then-map way B goal g x.0 x.1 (λ r k u su du ru. with-closes h.binding (declared_in body) l.2.3 l.2.1 su
           (over-grown body (None ∷ bound_on h.binding lay) (Some (fresh s.dot) ∷ bound_in h.binding fr)) l.2.8 ru k) k))
         where
           kept : Cells (bound_on h.binding lay) (bound_in h.binding fr) (kept_on (declares h.binding) (fresh v) (under h.binding cs))
-          kept = kept-cells h.binding lay fr v cs bound.cells
+          kept = kept-cells h.binding v bound.cells
 
           x : Run × End
-          x = meanings (ways.setting way calls) body v (with_bound h.binding (without_key v) (run_at lay m s))
+          x = meanings (set way calls) body v (with_bound h.binding (without_key v) (run_at lay m s))
 
           goal : Run → Type 0
           goal = ways.Onward way (code.end_with (declared_in body) (declared_count h.binding) l.2.3 ∷ l.2.1) (all_grown body (None ∷ bound_on h.binding lay))
               (all_grown_in body (Some (fresh s.dot) ∷ bound_in h.binding fr)) v
       by v cs m place bound false k =
-          bound-leads other ih-other h.binding g lay fr l.0 l.2.1 rest rest 0 place (place + 1 + l.2.2) s v cs m l.2.6 refl inside (omega arith) st.runs
-          (ahead way.plan.code l.2.0 place l.2.2 (code.enter_with (declares h.binding) l.2.2) (bound.at ∙ l.2.4) ∙ l.2.7) bound k
+          bound-leads other ih-other h.binding g rest 0 (place + 1 + l.2.2) m l.2.6 refl w.inside (let fits = w.fits in omega arith) w.stands.runs
+          (ways.jump way place l.2.2 (bound.at ∙ l.2.4) ∙ l.2.7) bound k

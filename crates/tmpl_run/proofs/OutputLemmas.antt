@@ -1,25 +1,26 @@
 -- For all that put to a piece: what a sink took and what waits, put together, and the texts of values in parts.
-use Rattle.std.proofs.Common.{arith, lt_of_not-le, ◌≡◌, ◌∙◌, ◌+◌, ◌*◌, ◌≤◌, ◌<◌, ℕ, List, [], ◌++◌, take, drop, add-zero, Option, Some, None, Result, Ok, Err}
+use Rattle.std.proofs.Common.{arith, lt_of_not-le, ◌≡◌, ◌∙◌, ◌+◌, ◌*◌, ◌≤◌, ◌<◌, ℕ, List, [], ◌++◌, take, drop, add-zero, Option, Some, Result, Ok, Err}
 use Rattle.std.proofs.Common.{refl, sym, subst, ap, append_assoc, append-nil}
 use Rattle.std.proofs.lemmas.List.{take-append-drop}
 use Rattle.std.proofs.lemmas.Nat.{mul-le}
 use Rattle.tmpl_values.specs.Item.{bytes_of}
 use Rattle.tmpl_values.specs.Put.{Puts, Took, appended}
 use Rattle.tmpl_values.specs.Text.{text_of}
-use Rattle.tmpl_values.specs.Value.{Value, string}
+use Rattle.tmpl_values.specs.Value.{Value}
 use Rattle.tmpl_meaning.specs.Sink.{IsPut, Told, as_puts, with_bytes}
-use Rattle.tmpl_values.proofs.PutLemmas.{appended-append, appended-nil}
+use Rattle.tmpl_values.proofs.PutLemmas.{IsPut-append, appended-append, appended-nil}
 use Rattle.tmpl_run.specs.computed.Output.{Grew, Grows, both, given_of, told_since}
 use Rattle.tmpl_run.specs.declared.piece.Piece.{Piece}
 
 pub grows-same : (a : Told) → Grows a a
 grows-same a = ([], appended-nil a.bytes)
 
-pub grows-on : (a b c : Told) → Grows a b → Grows b c → Grows a c
-grows-on a b c first second = (
-  first.0 ++ second.0,
-  second.1 ∙ ap (λ t. appended t second.0) first.1 ∙ appended-append a.bytes first.0 second.0,
-)
+-- .. of what two sinks took
+abbrev Extends : Option (List ℕ) → Option (List ℕ) → Type 0
+Extends a b = (more : List ℕ) × (b ≡ appended a more)
+
+pub grows-on : (a b c : Option (List ℕ)) → Extends a b → Extends b c → Extends a c
+grows-on a b c first second = (first.0 ++ second.0, second.1 ∙ ap (λ t. appended t second.0) first.1 ∙ appended-append a first.0 second.0)
 
 -- a put, whatever it comes to
 pub grows-put : {F : Type 0} (r : Result (Unit {0}) F) (a b : Told) (text : List ℕ) → IsPut r (as_puts a) (as_puts b) text → Grows a b
@@ -32,9 +33,7 @@ behind t waiting name = record { bytes = appended t.bytes waiting; failures = t.
 
 part-given : (known : Option (List ℕ)) (rest : List ℕ) (count : ℕ)
     → appended (appended known (take count rest)) (drop count rest) ≡ appended (appended known rest) []
-part-given None rest count = refl
-part-given (Some t) rest count =
-    ap Some (append_assoc t (take count rest) (drop count rest) ∙ ap (λ l. t ++ l) (take-append-drop count rest) ∙ sym (append-nil (t ++ rest)))
+part-given known rest count = grind (arith, append_assoc, take-append-drop {A = ℕ}, append-nil)
 
 -- the sink takes some of what waits, and the others wait
 pub given-on : {F : Type 0} (a b : Told) (rest shown next : List ℕ) (count name : ℕ) → b ≡ with_bytes (take count shown) a → shown ≡ rest
@@ -42,9 +41,7 @@ pub given-on : {F : Type 0} (a b : Told) (rest shown next : List ℕ) (count nam
     → IsPut {F = F} (Ok tt) (behind a rest name) (behind b next name) []
 given-on a b rest shown next count name e same left = record {
   count = ap (λ (t : Told). t.failures) e ∙ sym (add-zero a.failures);
-  bytes =
-      ap (λ (t : Told). appended t.bytes next) e ∙ ap (λ l. appended (appended a.bytes (take count l)) next) same
-      ∙ ap (λ l. appended (appended a.bytes (take count rest)) l) left ∙ part-given a.bytes rest count;
+  bytes = grind (arith, part-given a.bytes rest count);
   through = refl;
 }
 
@@ -60,8 +57,7 @@ put-behind-none r a b text waiting name e h = subst (λ l. IsPut r (behind a l n
 
 -- the text of a value that has bytes
 pub text_of_bytes : (v : Value) (bytes : List ℕ) → Some bytes ≡ bytes_of v → text_of v ≡ bytes
-text_of_bytes (string s) bytes h = let same : bytes ≡ s = cc in sym same
-text_of_bytes _ bytes h = cc
+text_of_bytes v bytes h = grind arith
 
 -- ---- a piece and a sink as one that takes bytes
 
@@ -87,3 +83,5 @@ pub put-back : {F : Type 0} (r : Result (Unit {0}) F) (old now told : Told) (p q
 put-back r old now told p q kept m n text told-is kept-is h =
     subst (λ (t : Told). IsPut r (given_of old p) (given_of t kept) text) (sym told-is)
     (subst (λ (w : Piece). IsPut r (given_of old p) (given_of now w) text) (sym kept-is) (record { count = h.count; bytes = h.bytes; through = refl }))
+
+pub ruleset putting = (put-behind-none, IsPut-append)

@@ -6,16 +6,14 @@ use Rattle.std.proofs.lemmas.List.{drop-append-le, drop-drop, length-append, len
 use Rattle.std.proofs.Math.Seq.{take-append-add, take-append_seam}
 
 pub passed : (bytes : List ℕ) (start count end : ℕ) → between (start + count) end bytes ≡ drop count (between start end bytes)
-passed bytes start count end =
-    between_is bytes (start + count) end ∙ sym (drop-drop count start (take end bytes)) ∙ ap (drop count) (sym (between_is bytes start end))
+passed bytes start count end = grind (arith, between_is, drop-drop count start (take end bytes))
 
 -- a text is copied to behind what waits
 pub kept-behind : (start end behind : ℕ) (old new text : List ℕ) → start ≤ end → end ≤ length old → take behind new ≡ take end old ++ text
     → between start behind new ≡ between start end old ++ text
 kept-behind start end behind old new text order within e =
     let long = length-take-le end old within in
-    between_is new start behind ∙ ap (drop start) e ∙ drop-append-le start (take end old) text (omega (arith, long))
-    ∙ ap (λ l. l ++ text) (sym (between_is old start end))
+    grind (arith, between_is, drop-append-le start (take end old) text (omega (arith, long)))
 
 -- a text stands first in what is copied there
 pub first-behind : (end count : ℕ) (old new part text rest : List ℕ) → end ≤ length old → count ≡ length text → part ≡ text ++ rest

@@ -1,20 +1,17 @@
 -- For the law `text_is_named` and the clause `spared` of `run`: a template of a set that names no function which makes a text
 -- calls none, so the mark of its run stays as it is.
-use Rattle.std.proofs.Common.{◌≡◌, ◌≢◌, ◌∙◌, ◌||◌, ◌<◌, IfSome, length, ℕ, zero, suc, Bool, true, false, List, [], ◌∷◌, Option, Some, None, Result, Ok, Err}
-use Rattle.std.proofs.Common.{ap, refl, subst, sym}
+use Rattle.std.proofs.Common.{arith, ◌≡◌, ◌≢◌, ◌||◌, ◌<◌, IfSome, length, ℕ, zero, suc, Bool, true, false, List, [], ◌∷◌, Option, Some, None, Result, Ok, Err}
+use Rattle.std.proofs.Common.{refl, subst}
 use Rattle.std.specs.Prelude.{◌-◌, get_or, slice_get}
-use Rattle.std.proofs.lemmas.Bool.{or_parts}
+use Rattle.std.proofs.lemmas.Bool.{or_from, or_parts}
 use Rattle.std.proofs.lemmas.Option.{slice_get-get_or}
 use Rattle.tmpl_values.specs.Value.{Value, nothing}
-use Rattle.tmpl_funcs.specs.Func.{makes_text, takes}
-use Rattle.tmpl_funcs.specs.declared.func.Func.{Func}
-use Rattle.tmpl_funcs.specs.declared.func.Func.TheVariants.{And, Or}
-use Rattle.tmpl_grammar.specs.Tree.{Operand, nil, function, group, Operands, no_operand, operand, Pipeline, no_command, command}
+use Rattle.tmpl_funcs.specs.Func.{makes_text}
+use Rattle.tmpl_grammar.specs.Tree.{Operand, function, group, Operands, no_operand, operand, Pipeline, no_command, command}
 use Rattle.tmpl_syntax.specs.Tree as tree
 use Rattle.tmpl_syntax.specs.Tree.{NodeKind, Nodes, Tree, action, control_node, template_node}
 use Rattle.tmpl_syntax.specs.Set.{Template, number_of, tree_named}
 use Rattle.tmpl_syntax.proofs.NamedLemmas.{Named, numbered, unnumbered}
-use Rattle.tmpl_meaning.specs.Fault.{Cause}
 use Rattle.tmpl_meaning.specs.Pipeline as meaning
 use Rattle.tmpl_meaning.specs.Pipeline.{Given, Place, command_value, commands_value, decided, decides, given, given_then, go_on, junction, operand_value}
 use Rattle.tmpl_meaning.specs.Pipeline.{operand_values, pipeline_value}
@@ -25,47 +22,20 @@ use Rattle.tmpl_code.specs.MakesText.{commands_make_text, node_makes_text, nodes
 use Rattle.tmpl_code.specs.MakesText.{set_makes_text}
 use Rattle.tmpl_run.specs.Laws.{TextIsNamed}
 use Rattle.tmpl_run.specs.Run.{IsRun}
-use Rattle.tmpl_run.specs.computed.Came.{no_template}
+use Rattle.tmpl_run.specs.computed.Machines.{no_template}
 use Rattle.tmpl_run.specs.declared.fault.RunError.{RunError}
 use Rattle.tmpl_run.specs.declared.fault.RunError.TheVariants as error
-
-both : (a b : Bool) → a ≡ false → b ≡ false → (a || b) ≡ false
-both a b e f = ap (λ c. c || b) e ∙ f
 
 -- ---- pipelines
 
 then-quiet : {T U : Type 0} (g : Given T) (next : T → Given U) → g.made_text ≡ false → ((t : T) → (next t).made_text ≡ false)
     → (given_then g next).made_text ≡ false
-then-quiet {T} g next e quiet = by g.result
-  where
-    by : (r : Result T Cause) → (go_on r g.made_text next).made_text ≡ false
-    by (Ok t) = both g.made_text (next t).made_text e (quiet t)
-    by (Err cause) = e
-
-counted-quiet : (b : Bool) (f : Func) (g : Given Value) → g.made_text ≡ false → (meaning.by_count f b g).made_text ≡ false
-counted-quiet true f g e = e
-counted-quiet false f g e = refl
-
-decided-quiet : (b : Bool) (v : Value) (g : Given Value) → g.made_text ≡ false → (decided b v g).made_text ≡ false
-decided-quiet true v g e = refl
-decided-quiet false v g e = e
-
-alone-quiet : (b : Bool) (o : Operand) (g : Given Value) → g.made_text ≡ false → (meaning.operand_alone b o g).made_text ≡ false
-alone-quiet false o g e = refl
-alone-quiet true nil g e = refl
-alone-quiet true _ g e = e
-
-function-quiet : (f : Func) (all some either : Given Value) → all.made_text ≡ false → some.made_text ≡ false → either.made_text ≡ false
-    → (meaning.by_function f all some either).made_text ≡ false
-function-quiet And all some either a b c = b
-function-quiet Or all some either a b c = c
-function-quiet _ all some either a b c = a
+then-quiet g next e quiet = grind arith
 
 mutual
   operand-quiet : (o : Operand) (s : Place) → operand_makes_text o ≡ false → (operand_value s o).made_text ≡ false
-  operand-quiet (function f) s e = counted-quiet (takes f 0) f (meaning.applied f []) e
-  operand-quiet (group cs names) s e =
-      then-quiet (commands_value s cs None) (λ v. given (meaning.chain s.missing_key names v)) (commands-quiet cs s None e) (λ v. refl)
+  operand-quiet (function f) s e = grind arith
+  operand-quiet (group cs names) s e = grind (arith, commands-quiet cs s None e)
   operand-quiet _ s e = refl
 
   operands-quiet : (os : Operands) (s : Place) → operands_make_text os ≡ false → (operand_values s os).made_text ≡ false
@@ -77,29 +47,23 @@ mutual
 
   junction-quiet : (os : Operands) (stop : Bool) (s : Place) (last : Value) (piped : Option Value) → operands_make_text os ≡ false
       → (junction stop s last os piped).made_text ≡ false
-  junction-quiet no_operand stop s last None e = refl
-  junction-quiet no_operand stop s last (Some v) e = refl
+  junction-quiet no_operand stop s last piped e = grind arith
   junction-quiet (operand o os) stop s last piped e =
       let n = or_parts (operand_makes_text o) (operands_make_text os) e in
       then-quiet (operand_value s o) (λ v. decided (decides stop v) v (junction stop s v os piped)) (operand-quiet o s n.0)
-      (λ v. decided-quiet (decides stop v) v (junction stop s v os piped) (junction-quiet os stop s v piped n.1))
+      (λ v. grind (arith, junction-quiet os stop s v piped n.1))
 
   command-quiet : (os : Operands) (s : Place) (piped : Option Value) → operands_make_text os ≡ false → (command_value s os piped).made_text ≡ false
   command-quiet no_operand s piped e = refl
   command-quiet (operand (function f) os) s piped e =
       let n = or_parts (makes_text f) (operands_make_text os) e in
-      let all : Given Value = given_then (operand_values s os) (λ vs. meaning.applied f (meaning.piped_after vs piped)) in
-      counted-quiet (takes f (meaning.argument_count os piped)) f (meaning.by_function f all (junction false s nothing os piped)
-      (junction true s nothing os piped))
-      (function-quiet f all (junction false s nothing os piped) (junction true s nothing os piped)
-      (then-quiet (operand_values s os) (λ vs. meaning.applied f (meaning.piped_after vs piped)) (operands-quiet os s n.1) (λ vs. n.0))
-      (junction-quiet os false s nothing piped n.1) (junction-quiet os true s nothing piped n.1))
+      let all = then-quiet (operand_values s os) (λ vs. meaning.applied f (meaning.piped_after vs piped)) (operands-quiet os s n.1) (λ vs. n.0) in
+      grind (arith, all, junction-quiet os false s nothing piped n.1, junction-quiet os true s nothing piped n.1)
   command-quiet (operand o os) s piped e =
-      alone-quiet (meaning.stands_alone os piped) o (operand_value s o) (operand-quiet o s (or_parts (operand_makes_text o) (operands_make_text os) e).0)
+      let n = or_parts (operand_makes_text o) (operands_make_text os) e in grind (arith, operand-quiet o s n.0)
 
   commands-quiet : (cs : Pipeline) (s : Place) (piped : Option Value) → commands_make_text cs ≡ false → (commands_value s cs piped).made_text ≡ false
-  commands-quiet no_command s None e = refl
-  commands-quiet no_command s (Some v) e = refl
+  commands-quiet no_command s piped e = grind arith
   commands-quiet (command os cs) s piped e =
       let n = or_parts (operands_make_text os) (commands_make_text cs) e in
       then-quiet (command_value s os piped) (λ v. commands_value s cs (Some (meaning.without_null v))) (command-quiet os s piped n.0)
@@ -121,7 +85,7 @@ quiet = record {
   binds = λ r env e. e;
   spends = λ r left e. e;
   puts = λ r bytes e. e;
-  pipes = λ p s none r e. both r.made_text (pipeline_value s p).made_text e (commands-quiet p s None none);
+  pipes = λ p s none r e. or_from r.made_text (pipeline_value s p).made_text e (commands-quiet p s None none);
 }
 
 mutual
@@ -141,8 +105,7 @@ mutual
 
 at-none : (ts : List Template) (number : ℕ) (t : Template) → slice_get ts number ≡ Some t → set_makes_text ts ≡ false → nodes_make_text t.1.nodes ≡ false
 at-none [] number t is none = cc
-at-none (x ∷ ts) zero t is none =
-    let same : x ≡ t = cc in ap (λ u. nodes_make_text u.1.nodes) (sym same) ∙ (or_parts (nodes_make_text x.1.nodes) (set_makes_text ts) none).0
+at-none (x ∷ ts) zero t is none = grind arith
 at-none (x ∷ ts) (suc n) t is none = at-none ts n t is (or_parts (nodes_make_text x.1.nodes) (set_makes_text ts) none).1
 
 named-none : (name : List ℕ) (ts : List Template) (t : Tree) → tree_named name ts ≡ Some t → set_makes_text ts ≡ false → nodes_make_text t.nodes ≡ false
@@ -152,9 +115,7 @@ named-none name ts t is none = by (number_of name ts) refl
     by None e = let absent = unnumbered name ts e in cc
     by (Some m) e =
         let found : Named name ts m = numbered name ts m e in
-        let both : Some found.t.1 ≡ Some t = sym found.tree ∙ is in
-        let same : found.t.1 ≡ t = cc in
-        ap (λ u. nodes_make_text u.nodes) (sym same) ∙ at-none ts m found.t found.at none
+        grind (arith, found.tree, at-none ts m found.t found.at none)
 
 pub run-quiet : (rules : Rules) (ts : List Template) → set_makes_text ts ≡ false → (number : ℕ) (t : Template) (input : Option Value)
     → slice_get ts number ≡ Some t → (ran rules ts t.0 t.1 input).made_text ≡ false
@@ -164,11 +125,8 @@ run-quiet rules ts none number t input is =
     t.1.nodes (starting_dot input) (nodes-none t.1.nodes (at-none ts number t is none)) (started rules.step_limit (starting_dot input)) refl
 
 pub text_is_named : TextIsNamed
-text_is_named rules ts number t input is made = by (set_makes_text ts) refl
-  where
-    by : (b : Bool) → set_makes_text ts ≡ b → set_makes_text ts ≡ true
-    by true e = e
-    by false e = let quiet = run-quiet rules ts e number t input is in cc
+text_is_named rules ts number t input is made =
+    let quiet : set_makes_text ts ≡ false → (ran rules ts t.0 t.1 input).made_text ≡ false = λ none. run-quiet rules ts none number t input is in grind arith
 
 -- what a run comes to is no want of memory, where no text is made
 pub spared : (rules : Rules) (ts : List Template) (number : ℕ) (input : Option Value) (s : Sunk) (r : Result (Unit {0}) RunError) → number < length ts

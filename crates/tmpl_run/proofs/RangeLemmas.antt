@@ -2,7 +2,7 @@
 use Rattle.std.proofs.Common.{arith, ◌≡◌, ◌∙◌, ◌+◌, ◌-◌, ◌≤◌, nat_eq, ℕ, suc, Bool, true, false, List, [], ◌∷◌, length, drop, refl, add-one, ap, sym, subst}
 use Rattle.std.proofs.Common.{Option, Some, None, drop-drop}
 use Rattle.std.specs.Prelude.{slice_set}
-use Rattle.tmpl_values.specs.Value.{Value, nothing, boolean, number, string}
+use Rattle.tmpl_values.specs.Value.{Value, nothing}
 use Rattle.tmpl_values.specs.Elements.{Element, elements}
 use Rattle.tmpl_grammar.specs.Tree.{Binding, unbound, declare, assign, declare_pair, Header}
 use Rattle.tmpl_grammar.specs.Need.{declared_count}
@@ -10,22 +10,21 @@ use Rattle.tmpl_grammar.specs.declared.tree.Control.TheVariants as control
 use Rattle.tmpl_syntax.specs.Tree as tree
 use Rattle.tmpl_syntax.specs.Tree.{Nodes}
 use Rattle.tmpl_syntax.specs.Need.{need_of_nodes}
-use Rattle.tmpl_meaning.specs.Fault.{not_a_range}
 use Rattle.tmpl_meaning.specs.Pipeline.{Environment}
 use Rattle.tmpl_meaning.specs.Meaning as meaning
 use Rattle.tmpl_meaning.specs.Meaning.{Calls, End, Next, Run, after_turn, bound, meanings, oldest, on_turn, over, ranging, scope}
 use Rattle.tmpl_meaning.specs.Meaning.{scoped, spend_if, turns, visited, with_bound}
 use Rattle.tmpl_code.specs.Instruction as code
 use Rattle.tmpl_code.specs.Layout.{Layout, bound_on, declared_in, declares_key, slot_named, first_layout}
-use Rattle.tmpl_code.specs.Code.{Code, Ended, NodesAt, SetDotAt, TurnAt}
+use Rattle.tmpl_code.specs.Code.{Above, Code, Ended, NodesAt, SetDotAt, TurnAt}
 use Rattle.tmpl_run.specs.Cell.{Cell, cell, fresh}
 use Rattle.tmpl_run.specs.State.{State}
-use Rattle.tmpl_run.specs.Machine.{again, elements_for, elements_in, fault_in, goes, left_in, onto, opened, paid_if, ran_so, ring, turned, variables_on}
+use Rattle.tmpl_run.specs.Machine.{again, elements_for, elements_in, goes, left_in, onto, opened, paid_if, ring, turned, variables_on}
 use Rattle.tmpl_run.specs.Ends.{Comes}
-use Rattle.tmpl_run.proofs.NodeLemmas.{run_at, value-leads, valued}
+use Rattle.tmpl_run.proofs.NodeLemmas.{run_at, set, value-leads, valued}
 use Rattle.tmpl_run.proofs.NodeLemmas as nodes
 use Rattle.tmpl_run.proofs.PipelineLemmas.{found-within}
-use Rattle.tmpl_run.proofs.WayLemmas.{Inside, ahead, ahead-one, Ring, Stands, Way, Within, cut_to, exit_of}
+use Rattle.tmpl_run.proofs.WayLemmas.{Inside, Ring, Stands, Way, Within, cut_to, exit_of}
 use Rattle.tmpl_run.proofs.SlotLemmas.{Cells, First, Frame, all_grown, all_grown_in, bound_in, cells-set, dropped, env-dropped, env_of, first-saved, frame_of}
 use Rattle.tmpl_run.proofs.SlotLemmas.{length-cells, length-env, named, over-binding, over-bound, over-none, run_of, stored, stored-none}
 use Rattle.tmpl_run.proofs.WayLemmas as ways
@@ -40,15 +39,11 @@ one-less : (es : List Element) (k : ℕ) (e : Element) (more : List Element) →
 one-less es k e more h = sym (drop-one es k) ∙ ap (drop 1) h
 
 visited-is : (b : Binding) (v : Value) → visited b v ≡ elements_for (declares_key b) v
-visited-is unbound v = refl
-visited-is _ v = refl
+visited-is b v = grind arith
 
 -- with an index or key a range visits no others
 elements-are : (key : Bool) (v : Value) (es : List Element) → elements_for key v ≡ Some es → elements_in (elements v) ≡ es
-elements-are true (boolean b) es e = cc
-elements-are true (number n) es e = cc
-elements-are true (string s) es e = cc
-elements-are _ _ es e = ap elements_in e
+elements-are key v es e = grind arith
 
 module _ (way : Way) (calls : Calls) (spare : ℕ) where
   abbrev NodesLead : Nodes → Type 0
@@ -61,8 +56,8 @@ module _ (way : Way) (calls : Calls) (spare : ℕ) where
       (es : List Cell) × (drop n s.cells ≡ cell g.dot g.place ∷ cell g.value g.index ∷ es) × Cells g.lay g.frame es
       × (run_of g.lay (record s { cells = es }) ≡ cut_to (named g.lay) (run_of lay s))
 
-  ring-first : (g : Ring) (lay : Layout) (fr : Frame) (s : State) (w : Within g lay fr) → Cells lay fr s.cells → Ringed g lay w.n s
-  ring-first g lay fr s w cells = (
+  ring-first : {lay : Layout} {fr : Frame} (g : Ring) (s : State) (w : Within g lay fr) → Cells lay fr s.cells → Ringed g lay w.n s
+  ring-first {lay} g s w cells = (
     two.rest,
     one.cells ∙ ap (λ l. cell g.dot g.place ∷ l) two.cells,
     two.under,
@@ -76,37 +71,36 @@ module _ (way : Way) (calls : Calls) (spare : ℕ) where
       two = first-saved g.lay one.rest (cell g.value g.index) g.frame one.under
 
   -- the end of the template
-  returning : (lay : Layout) (fr : Frame) (here rest : Code) (s : State) → here ≡ code.return_from (length lay - 3) ∷ rest
-      → Stands way.plan way.who here lay fr s
-      → Inside way.home None lay fr → ways.Returning way s
-  returning lay fr here rest s l st w = record {
+  returning : {lay : Layout} {fr : Frame} {here rest : Code} {s : State} → here ≡ code.return_from (length lay - 3) ∷ rest
+      → Stands way.plan way.who here lay fr s → Inside way.home None lay fr → ways.Returning way s
+  returning {lay} {rest = rest} {s = s} l st w = record {
     n = length lay - 3;
     more = rest;
     at = st.at ∙ l;
     runs = st.runs;
-    frame = ap (λ k. frame_of first_layout (drop k s.cells)) count ∙ (dropped w.1 st.cells).frame;
+    frame = ap (λ k. frame_of first_layout (drop k s.cells)) (let size = w.1.size in let count : length lay - 3 ≡ w.0 = omega arith in count)
+        ∙ (dropped w.1 st.cells).frame;
   }
-    where
-      count : length lay - 3 ≡ w.0
-      count = let size = w.1.size in omega arith
 
-  pub break-leads : (line : ℕ) → nodes.NodeLeads way calls spare line tree.break_node
-  break-leads line None lay fr here rest s l st same-line w fits more-fits k = k s (returning lay fr here rest s l st w) refl
-  break-leads line (Some g) lay fr here rest s l st same-line w fits more-fits k =
-      ways.takes way s (code.leave l.0 l.1) rest st.runs (st.at ∙ l.3) tt
+  -- so many cells lie above those of the range around
+  above : {g : Ring} {lay : Layout} {fr : Frame} (n : ℕ) → Above g.around lay n → (w : Within g lay fr) → n ≡ w.n
+  above n over w = let size = w.over.size in let depth = w.depth in omega arith
+
+  pub break-leads : nodes.NodeLeads way calls spare tree.break_node
+  break-leads None lay fr here rest s l w room k = k s (returning l w.stands w.inside) refl
+  break-leads (Some g) lay fr here rest s l w room k =
+      let st = w.stands in
+      let cells = ring-first g s w.inside st.cells in
+      ways.does way st.runs (st.at ∙ l.3) tt
       (subst (λ cs. Comes (ways.Leading way) (ring cs (λ d v cs. goes (record s { cells = cs; dot = d.val; place = s.place + 1 + l.1 }))) way.end)
-      (sym (ap (λ n. drop n s.cells) count ∙ cells.1))
-      (k _ (record { at = ahead way.plan.code rest s.place l.1 (code.leave l.0 l.1) (st.at ∙ l.3) ∙ l.4; runs = st.runs; cells = cells.2 }) refl cells.3))
-    where
-      cells : Ringed g lay w.n s
-      cells = ring-first g lay fr s w st.cells
+      (sym (ap (λ n. drop n s.cells) (above l.0 l.2 w.inside) ∙ cells.1))
+      (k _ (record { at = ways.jump way s.place l.1 (st.at ∙ l.3) ∙ l.4; runs = st.runs; cells = cells.2 }) refl cells.3))
 
-      count : l.0 ≡ w.n
-      count = let size = w.over.size in let depth = w.depth in let above = l.2 in omega arith
-
-  pub continue-leads : (line : ℕ) → nodes.NodeLeads way calls spare line tree.continue_node
-  continue-leads line None lay fr here rest s l st same-line w fits more-fits k = k s (returning lay fr here rest s l st w) refl
-  continue-leads line (Some g) lay fr here rest s l st same-line w fits more-fits k =
+  pub continue-leads : nodes.NodeLeads way calls spare tree.continue_node
+  continue-leads None lay fr here rest s l w room k = k s (returning l w.stands w.inside) refl
+  continue-leads (Some g) lay fr here rest s l w room k =
+      let st = w.stands in
+      let cells = ring-first g s w.inside st.cells in
       k s (record {
         n = l.0;
         skip = l.1;
@@ -115,16 +109,10 @@ module _ (way : Way) (calls : Calls) (spare : ℕ) where
         at = st.at ∙ l.3;
         runs = st.runs;
         far = l.4;
-        cells = ap (λ n. drop n s.cells) count ∙ cells.1;
+        cells = ap (λ n. drop n s.cells) (above l.0 l.2 w.inside) ∙ cells.1;
         under = cells.2;
         run = cells.3;
       })
-    where
-      cells : Ringed g lay w.n s
-      cells = ring-first g lay fr s w st.cells
-
-      count : l.0 ≡ w.n
-      count = let size = w.over.size in let depth = w.depth in let above = l.2 in omega arith
 
   -- ---- the turns of a range over a value, whose code begins at a place
 
@@ -152,10 +140,10 @@ module _ (way : Way) (calls : Calls) (spare : ℕ) where
 
     -- the body for one element
     abbrev part : Element → Run → Run × End
-    part e r = meanings (ways.setting way calls) body e.1 (with_bound b e r)
+    part e r = meanings (set way calls) body e.1 (with_bound b e r)
 
     abbrev others : List Element → Next
-    others es = turns (ways.setting way calls) line b (λ v. meanings (ways.setting way calls) body v) es
+    others es = turns (set way calls) line b (λ v. meanings (set way calls) body v) es
 
     abbrev behind : ℕ → Run → State → Type 0
     behind k r t = ways.Turning way (turning k) r t
@@ -185,7 +173,7 @@ module _ (way : Way) (calls : Calls) (spare : ℕ) where
           over = over-bound b body (None ∷ None ∷ lay) (outer k);
           depth = refl;
         } in
-        let cells = ring-first (turning k) (all_grown body inner) (all_grown_in body (bound_in b (outer k))) t w st.cells in
+        let cells = ring-first (turning k) t w st.cells in
         h t (record {
           n = declared_count b + declared_in body;
           skip = to;
@@ -217,8 +205,8 @@ module _ (way : Way) (calls : Calls) (spare : ℕ) where
             → (drop (s.place + 1) way.plan.code ≡ is → ways.Leading way (record s { cells = variables_on n e now.cells; dot = e.1; place = s.place + 1 }))
             → ways.Leading way now
         turns-by n is l fits h =
-            ways.takes way now (code.turn n) is same (at ∙ l) fits
-            (subst (λ l. Comes (ways.Leading way) (turned n l now) way.end) (sym here) (h (ahead-one way.plan.code is s.place (code.turn n) (at ∙ l))))
+            ways.does way same (at ∙ l) fits
+            (subst (λ l. Comes (ways.Leading way) (turned n l now) way.end) (sym here) (h (ways.next way s.place (at ∙ l))))
 
         long : length cs ≡ length fr
         long = length-cells cells
@@ -239,10 +227,8 @@ module _ (way : Way) (calls : Calls) (spare : ℕ) where
             sets None is-slot l there = more now.cells (s.place + 1) (there ∙ l) outside
                 (sym (stored-none x (None ∷ None ∷ lay) now.cells e.1 is-slot outside.deep))
             sets (Some i) is-slot l there =
-                ways.takes way (record s { cells = saved ∷ cell v k ∷ cs; dot = e.1; place = s.place + 1 }) (code.set_dot i) first same (there ∙ l)
-                (let below = found-within x (None ∷ None ∷ lay) i is-slot in let deep = cells.deep in omega arith)
-                (more (slice_set now.cells i (fresh e.1)) (s.place + 1 + 1)
-                (ahead-one way.plan.code first (s.place + 1) (code.set_dot i) (there ∙ l))
+                ways.does way same (there ∙ l) (let below = found-within x (None ∷ None ∷ lay) i is-slot in let deep = cells.deep in omega arith)
+                (more (slice_set now.cells i (fresh e.1)) (s.place + 1 + 1) (ways.next way (s.place + 1) (there ∙ l))
                 (cells-set x (None ∷ None ∷ lay) now.cells i e.1 is-slot outside) (stored x (None ∷ None ∷ lay) now.cells i e.1 is-slot outside.deep))
 
     -- a turn from its first instruction on
@@ -255,13 +241,10 @@ module _ (way : Way) (calls : Calls) (spare : ℕ) where
         begins-turn e es k cs s same here at cells
         (λ ds there at-first inside-cells is-env.
         ih (Some (turning k)) inner (bound_in b (outer k)) first (code.next (declared_count b + declared_in body) to line ∷ second)
-        (record s { cells = ds; dot = e.1; place = there })
-        laid
-        (record { at = at-first; runs = same; cells = inside-cells })
-        inside
-        (let tall = inside.over.tall in omega arith)
+        (record s { cells = ds; dot = e.1; place = there }) laid
+        (record { stands = record { at = at-first; runs = same; cells = inside-cells }; inside = inside; fits = (let tall = inside.over.tall in omega arith) })
         (subst (λ (w : Environment). let r : Run = record { env = w; text = s.text; left = s.left; made_text = s.made_text } in
-        ways.After way goal (Some (turning k)) (meanings (ways.setting way calls) body e.1 r)) (sym is-env)
+        ways.After way goal (Some (turning k)) (meanings (set way calls) body e.1 r)) (sym is-env)
         (ways.then-map way C goal (Some (turning k)) x.0 x.1 (λ r h. body-ends k e.1 r h)
         (on-turn es k x (length (env_of lay cs)) (length-env lay cs cells.deep) h next))))
       where
@@ -282,7 +265,7 @@ module _ (way : Way) (calls : Calls) (spare : ℕ) where
     nexts : (es : List Element) (k : ℕ) → drop (suc k) (elements_in (elements v)) ≡ es → (r : Run) (t : State) (tu : behind k r t)
         → Comes (ways.Leading way) (again way.plan way.me tu.skip line saved (cell v k) tu.cs es t) way.end → ways.Leading way t
     nexts es k here r t tu h =
-        ways.takes way t (code.next tu.n tu.skip line) tu.more tu.runs tu.at tt
+        ways.does way tu.runs tu.at tt
         (subst (λ cs. Comes (ways.Leading way) (ring cs (λ d v cs. again way.plan way.me tu.skip line d v cs (drop 1 (left_in v)) t)) way.end) (sym tu.cells)
         (subst (λ l. Comes (ways.Leading way) (again way.plan way.me tu.skip line saved (cell v k) tu.cs l t) way.end)
         (sym (drop-one (elements_in (elements v)) k ∙ here)) h))
@@ -293,14 +276,14 @@ module _ (way : Way) (calls : Calls) (spare : ℕ) where
     next-leads ih [] k here r h t tu =
         nexts [] k here r t tu
         (leaves r (record t { cells = tu.cs; dot = d; place = t.place + 1 + tu.skip }) h
-        (record { at = ahead way.plan.code tu.more t.place tu.skip (code.next tu.n tu.skip line) tu.at ∙ tu.far; runs = tu.runs; cells = tu.under })
+        (record { at = ways.jump way t.place tu.skip tu.at ∙ tu.far; runs = tu.runs; cells = tu.under })
         refl tu.run)
     next-leads ih (e ∷ es) k here r h t tu =
         nexts (e ∷ es) k here r t tu (on (λ r h t tu. next-leads ih es (suc k) (one-less (elements_in (elements v)) (suc k) e es here) r h t tu)
         (nat_eq t.left 0) (subst (λ r. ways.After way B g (others (e ∷ es) r)) (sym tu.run) h))
       where
         on : ((r : Run) → ways.After way B g (others es r) → (t : State) → behind (suc k) r t → ways.Leading way t)
-            → (c : Bool) → ways.After way B g (after_turn (spend_if c (ways.setting way calls) line (scope (λ r. part e r))
+            → (c : Bool) → ways.After way B g (after_turn (spend_if c (set way calls) line (scope (λ r. part e r))
             (run_of lay (record t { cells = tu.cs }))) (others es))
             → Comes (ways.Leading way) (paid_if c way.plan way.me line t (λ s. onto (saved ∷ cell v (suc k) ∷ tu.cs) place s)) way.end
         on next true h = h
@@ -309,62 +292,64 @@ module _ (way : Way) (calls : Calls) (spare : ℕ) where
 
   -- ---- ranges
 
-  pub range-leads : (line : ℕ) (h : Header) (body other : Nodes) → NodesLead body → NodesLead other
-      → nodes.NodeLeads way calls spare line (tree.control_node control.Range h body other)
-  range-leads line h body other ih-body ih-other g lay fr here rest s l st same-line inside fits more-fits k =
-      value-leads way calls B g line s.left h.pipeline lay fr here l.0 s go
-      l.1 st same-line (omega arith)
-      (ways.unscope way A g lay fr (length (env_of lay s.cells)) (ranging (ways.setting way calls) line h s.dot (λ v. meanings (ways.setting way calls) body v)
-      (meanings (ways.setting way calls) other s.dot) (run_of lay s)) (length-env lay s.cells st.cells.deep) inside k)
-      (λ v m place at k. ways.takes way (valued v m place s) (code.enter (declares_key h.binding) l.2.3) l.2.0 st.runs (at ∙ l.2.5)
-      (let long = length-cells st.cells in omega arith)
-      (by v m place (at ∙ l.2.5) (elements_for (declares_key h.binding) v) refl (subst
-      (λ o. ways.After way B g (over (ways.setting way calls) line h.binding (λ v. meanings (ways.setting way calls) body v)
-      (meanings (ways.setting way calls) other s.dot) o (run_at lay m s))) (visited-is h.binding v) k)))
+  pub range-leads : (h : Header) (body other : Nodes) → NodesLead body → NodesLead other
+      → nodes.NodeLeads way calls spare (tree.control_node control.Range h body other)
+  range-leads h body other ih-body ih-other g lay fr here rest s l w room k =
+      let fits = w.fits in
+      value-leads way calls B g s.left h.pipeline go l.1 st (omega arith)
+      (ways.unscope way A g lay fr (length (env_of lay s.cells)) (ranging (set way calls) s.line h s.dot body-of other-of (run_of lay s))
+      (length-env lay s.cells st.cells.deep) w.inside k)
+      (λ v m place at k. ways.does way st.runs (at ∙ l.2.5) (let long = length-cells st.cells in omega arith)
+      (by v m place (at ∙ l.2.5) (elements_for (declares_key h.binding) v) refl
+      (subst (λ o. ways.After way B g (over (set way calls) s.line h.binding body-of other-of o (run_at lay m s))) (visited-is h.binding v) k)))
     where
+      st : Stands way.plan way.who here lay fr s
+      st = w.stands
+
       A : Run → Type 0
       A = ways.Onward way rest lay fr s.dot
 
       B : Run → Type 0
       B = λ r. A (cut_to (named lay) r)
 
+      body-of : Value → Next
+      body-of v = meanings (set way calls) body v
+
+      other-of : Next
+      other-of = meanings (set way calls) other s.dot
+
       go : Value → Next
-      go v = over (ways.setting way calls) line h.binding (λ v. meanings (ways.setting way calls) body v) (meanings (ways.setting way calls) other s.dot)
-          (visited h.binding v)
+      go v = over (set way calls) s.line h.binding body-of other-of (visited h.binding v)
 
       by : (v : Value) (m : Bool) (place : ℕ) → drop place way.plan.code ≡ code.enter (declares_key h.binding) l.2.3 ∷ l.2.0
           → (o : Option (List Element)) → elements_for (declares_key h.binding) v ≡ o
-          → ways.After way B g (over (ways.setting way calls) line h.binding (λ v. meanings (ways.setting way calls) body v)
-          (meanings (ways.setting way calls) other s.dot) o (run_at lay m s))
+          → ways.After way B g (over (set way calls) s.line h.binding body-of other-of o (run_at lay m s))
           → Comes (ways.Leading way) (opened way.plan way.me l.2.3 (fresh v) s.cells o (valued v m place s)) way.end
-      by v m place at None e k = ap (λ n. ran_so (valued v m place s) (Some (fault_in way.me n not_a_range))) same-line ∙ k
+      by v m place at None e k = k
       by v m place at (Some []) e k =
-          nodes.part-leads way calls spare other ih-other unbound g lay fr l.2.2 rest rest 0 s.dot (run_at lay m s) _
-          (subst (λ n. Ended n 0 (NodesAt way.plan.templates other lay (exit_of g)) l.2.2 rest) zero-more l.2.8) refl inside (omega arith)
-          (record { at = ahead way.plan.code l.2.0 place l.2.3 (code.enter (declares_key h.binding) l.2.3) at ∙ l.2.9; runs = st.runs; cells = st.cells })
-          refl refl k
-        where
-          zero-more : declared_in other ≡ 0 + declared_in other
-          zero-more = omega arith
+          nodes.part-leads way calls spare other ih-other unbound g lay fr rest 0
+          (subst (λ n. Ended n 0 (NodesAt way.plan.templates other lay (exit_of g)) l.2.2 rest)
+          (let zero-more : declared_in other ≡ 0 + declared_in other = omega arith in zero-more) l.2.8) refl w.inside (let fits = w.fits in omega arith)
+          (record { at = ways.jump way place l.2.3 at ∙ l.2.9; runs = st.runs; cells = st.cells }) refl refl k
       by v m place at (Some (e ∷ es)) is k = on (nat_eq s.left 0) k
         where
           begin : drop (place + 1) way.plan.code ≡ l.2.0
-          begin = ahead-one way.plan.code l.2.0 place (code.enter (declares_key h.binding) l.2.3) at
+          begin = ways.next way place at
 
           more : length fr + (2 + declared_count h.binding + need_of_nodes body) + spare ≤ way.room
-          more = omega arith
+          more = let fits = w.fits in omega arith
 
           here-es : elements_in (elements v) ≡ e ∷ es
           here-es = elements-are (declares_key h.binding) v (e ∷ es) is
 
-          on : (c : Bool) → ways.After way B g (after_turn (spend_if c (ways.setting way calls) line
-              (scope (λ r. meanings (ways.setting way calls) body e.1 (with_bound h.binding e r))) (run_at lay m s))
-              (turns (ways.setting way calls) line h.binding (λ v. meanings (ways.setting way calls) body v) es))
+          on : (c : Bool) → ways.After way B g (after_turn (spend_if c (set way calls) s.line (scope (λ r. body-of e.1 (with_bound h.binding e r)))
+              (run_at lay m s)) (turns (set way calls) s.line h.binding body-of es))
               → Comes (ways.Leading way) (paid_if c way.plan way.me s.line (valued v m place s)
               (λ t. goes (record t { cells = cell t.dot (t.place + 1) ∷ fresh v ∷ s.cells; dot = nothing; place = t.place + 1 }))) way.end
-          on true h = ap (λ n. ran_so (valued v m place s) (Some (fault_in way.me n (meaning.steps_spent way.plan.rules.step_limit)))) same-line ∙ h
-          on false hk =
-              turn-leads h.binding line body g lay fr l.2.0 l.2.1 l.2.2 rest l.2.4 s.dot v (place + 1) l.2.10 more begin l.2.6 l.2.7 ih-body e es 0 s.cells
-              (record (valued v m place s) { dot = nothing; left = s.left - 1; place = place + 1 }) st.runs here-es begin st.cells hk
-              (λ r hr t tu. next-leads h.binding line body g lay fr l.2.0 l.2.1 l.2.2 rest l.2.4 s.dot v (place + 1) l.2.10 more begin l.2.6 l.2.7 ih-body es 0
+          on true k = k
+          on false k =
+              turn-leads h.binding s.line body g lay fr l.2.0 l.2.1 l.2.2 rest l.2.4 s.dot v (place + 1) l.2.10 more begin l.2.6 l.2.7 ih-body e es 0 s.cells
+              (record (valued v m place s) { dot = nothing; left = s.left - 1; place = place + 1 }) st.runs here-es begin st.cells k
+              (λ r hr t tu. next-leads h.binding s.line body g lay fr l.2.0 l.2.1 l.2.2 rest l.2.4 s.dot v
+              (place + 1) l.2.10 more begin l.2.6 l.2.7 ih-body es 0
               (one-less (elements_in (elements v)) 0 e es here-es) r hr t tu)

@@ -1,63 +1,51 @@
 -- For `turns`: what three instructions come to that are carried out at once, of which the first puts a value and the others settle and show it.
-use Rattle.std.proofs.Common.{arith, ◌≡◌, ◌∙◌, ◌+◌, ◌<◌, ◌++◌, ℕ, true, false, [], ◌∷◌, length, refl, ap, sym, subst, Option, Some, Ok}
+use Rattle.std.proofs.Common.{add-zero, arith, ◌≡◌, ◌∙◌, ◌+◌, ◌<◌, ◌++◌, ℕ, Bool, true, false, List, [], ◌∷◌, length, refl, ap, subst, Option, Some, Ok}
 use Rattle.std.specs.Prelude.{slice_get}
 use Rattle.std.proofs.lemmas.Bool.{and_parts}
+use Rattle.std.proofs.lemmas.Grind.{common_steps}
 use Rattle.std.proofs.lemmas.Option.{slice_get_within}
 use Rattle.tmpl_values.specs.Text.{text_of}
-use Rattle.tmpl_values.specs.Value.{Value, null}
+use Rattle.tmpl_values.specs.Value.{Value}
 use Rattle.tmpl_syntax.specs.Set.{Template}
 use Rattle.tmpl_meaning.specs.Meaning.{Ran}
 use Rattle.tmpl_meaning.specs.Pipeline.{without_null}
 use Rattle.tmpl_code.specs.Instruction as code
 use Rattle.tmpl_code.specs.Instruction.{Instruction, act}
-use Rattle.tmpl_run.specs.Cell.{fresh, slot}
+use Rattle.tmpl_run.specs.Cell.{fresh}
 use Rattle.tmpl_run.specs.Ends.{Ends}
 use Rattle.tmpl_run.specs.Machine.{done, goes}
 use Rattle.tmpl_run.specs.State.{Plan, State}
-use Rattle.tmpl_run.specs.Step.{on}
 use Rattle.tmpl_run.specs.computed.Turned.{added, at_once, is_shown, mark_behind, settles, shows, value_by}
-use Rattle.tmpl_run.proofs.DoneLemmas.{goes-on}
-use Rattle.tmpl_run.proofs.OperationLemmas as operation
+use Rattle.tmpl_run.proofs.DoneLemmas.{goes-on, with_told}
 
 -- ---- the code behind a place
 
 settles-is : (o : Option Instruction) → settles o ≡ true → o ≡ Some (act code.settle)
-settles-is (Some (act code.settle)) e = refl
-settles-is o e = cc
+settles-is o e = grind arith
 
 shows-is : (o : Option Instruction) → shows o ≡ true → o ≡ Some code.show
-shows-is (Some code.show) e = refl
-shows-is o e = cc
+shows-is o e = grind arith
 
 -- ---- an instruction that is carried out so
 
-pub record Once (plan : Plan) (t : Template) (i : Instruction) (s : State) : Type 0 where
+pub record Once (plan : Plan) (i : Instruction) (s : State) : Type 0 where
   pub shown : is_shown plan.code s.place ≡ true
   pub mark : mark_behind i false ≡ false
   pub quiet : added i s ≡ []
-  pub puts : (v : Value) → value_by plan i s ≡ Ok v → done plan t i s ≡ goes (record s { cells = fresh v ∷ s.cells; place = s.place + 1 })
+  pub puts : (t : Template) (x : List ℕ) (m : Bool) (v : Value) → value_by plan i s ≡ Ok v
+      → done plan t i (with_told x m s) ≡ goes (with_told x m (record s { cells = fresh v ∷ s.cells; place = s.place + 1 }))
 
-pub once-is : (plan : Plan) (t : Template) (i : Instruction) (s : State) → at_once plan.code s.place i ≡ true → Once plan t i s
-once-is plan t (act code.push_dot) s e = record {
-  shown = e;
-  mark = refl;
-  quiet = refl;
-  puts = λ v is. (let same : s.dot ≡ v = cc in operation.puts plan t s code.push_dot v s.cells (ap (λ w. on 0 (fresh w ∷ s.cells)) same));
+pub once-is : (plan : Plan) (i : Instruction) (s : State) → at_once plan.code s.place i ≡ true → Once plan i s
+once-is plan i s e = record {
+  shown = grind arith;
+  mark = grind arith;
+  quiet = grind arith;
+  puts = λ t x m v is. grind (arith, common_steps);
 }
-once-is plan t (act (code.push_fields names)) s e =
-    record { shown = e; mark = refl; quiet = refl; puts = λ v is. operation.fields-give plan t s names v (sym is) }
-once-is plan t (act (code.push_slot k)) s e = record {
-  shown = e;
-  mark = refl;
-  quiet = refl;
-  puts = λ v is. (let same : slot k s.cells ≡ v = cc in operation.puts plan t s (code.push_slot k) v s.cells (ap (λ w. on 0 (fresh w ∷ s.cells)) same));
-}
-once-is plan t i s e = cc
 
 -- null and nothing have one text
 text-settled : (v : Value) → text_of (without_null v) ≡ text_of v
-text-settled null = refl
-text-settled _ = refl
+text-settled v = grind arith
 
 -- the three, one after the other
 module _ (plan : Plan) (room : ℕ) (f : Ran) (i : Instruction) (t : Template) (s : State) (here : slice_get plan.code s.place ≡ Some i)
@@ -76,7 +64,7 @@ module _ (plan : Plan) (room : ℕ) (f : Ran) (i : Instruction) (t : Template) (
   ends-shown v e h = subst (λ (u : State). Ends plan room u f) same
       (goes-on plan room f code.show t settled (ap (slice_get plan.code) next ∙ last) runs
       (goes-on plan room f (act code.settle) t put (settles-is _ two.0) runs (goes-on plan room f i t s here runs h put e) settled
-      (operation.settles plan t put (fresh v) s.cells refl)) behind refl)
+      (ap (λ k. goes (record settled { place = k })) (add-zero (s.place + 1 + 1)))) behind refl)
     where
       put : State
       put = record s { cells = fresh v ∷ s.cells; place = s.place + 1 }

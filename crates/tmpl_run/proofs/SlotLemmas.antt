@@ -1,10 +1,9 @@
 -- For the law `comes_to_meaning`: the slots of a layout are the variables of the meaning, and a part leaves all other cells equal.
-use Rattle.std.proofs.Common.{arith, ◌≡◌, ◌∙◌, ◌+◌, ◌-◌, ◌≤◌, ℕ, zero, suc, Bool, true, false, List, [], ◌∷◌, length, drop, set, refl, ap, sym, Option, Some}
+use Rattle.std.proofs.Common.{arith, ◌≡◌, ◌∙◌, ◌+◌, ◌-◌, ◌≤◌, ℕ, zero, suc, List, [], ◌∷◌, length, drop, set, refl, ap, sym, Option, Some}
 use Rattle.std.proofs.Common.{None, drop-drop, length-drop}
-use Rattle.std.specs.Prelude.{if◌then◌else◌, map}
+use Rattle.std.specs.Prelude.{map}
 use Rattle.std.specs.List.{drop-map}
 use Rattle.std.proofs.lemmas.List.{length-map, length-set}
-use Rattle.std.specs.Str.{bytes_eq}
 use Rattle.tmpl_values.specs.Value.{Value, nothing}
 use Rattle.tmpl_meaning.specs.Pipeline.{Environment, lookup}
 use Rattle.tmpl_meaning.specs.Meaning.{Run, assigned, oldest}
@@ -13,7 +12,7 @@ use Rattle.tmpl_grammar.specs.Need.{declared_count}
 use Rattle.tmpl_syntax.specs.Tree as tree
 use Rattle.tmpl_syntax.specs.Tree.{NodeKind, text, action, Nodes}
 use Rattle.tmpl_syntax.specs.Need.{left_behind}
-use Rattle.tmpl_code.specs.Layout.{Layout, bound_on, declared_in, found_at, grown, slot_named}
+use Rattle.tmpl_code.specs.Layout.{Layout, bound_on, declared_in, grown, slot_named}
 use Rattle.tmpl_run.specs.Cell.{Cell, fresh, slot}
 use Rattle.tmpl_run.specs.State.{State}
 
@@ -21,11 +20,13 @@ use Rattle.tmpl_run.specs.State.{State}
 pub record Slots (n : ℕ) (lay : Layout) (cs : List Cell) (env : Environment) : Type 0 where
   pub found : (x : List ℕ) (k : ℕ) → slot_named x lay ≡ Some k → slot (n + k) cs ≡ lookup x env
   pub none : (x : List ℕ) → slot_named x lay ≡ None → lookup x env ≡ nothing
+  pub deep : n + length lay ≤ length cs
 
-pub slots-more : (n : ℕ) (lay : Layout) (v : Value) (cs : List Cell) (env : Environment) → Slots n lay cs env → Slots (suc n) lay (fresh v ∷ cs) env
-slots-more n lay v cs env h = record {
+pub slots-more : {n : ℕ} {lay : Layout} {cs : List Cell} {env : Environment} (v : Value) → Slots n lay cs env → Slots (suc n) lay (fresh v ∷ cs) env
+slots-more {n} {cs = cs} v h = record {
   found = λ x k e. (let one : suc n + k ≡ suc (n + k) = omega arith in ap (λ m. slot m (fresh v ∷ cs)) one ∙ h.found x k e);
   none = h.none;
+  deep = (let deep = h.deep in omega arith);
 }
 
 -- the variables that the cells hold
@@ -92,29 +93,16 @@ slotted : (x : List ℕ) (lay : Layout) (cs : List Cell) (v : Value) → length 
     → Slotted lay cs (slot_named x lay) v (lookup x (env_of lay cs)) (assigned x v (env_of lay cs))
 slotted x [] cs v h = record { found = refl; write = refl; others = refl }
 slotted x (p ∷ ps) [] v h = absurd (omega arith)
-slotted x (None ∷ ps) (c ∷ cs) v h = by (slot_named x ps) (slotted x ps cs v (omega arith))
-  where
-    by : (o : Option ℕ) → Slotted ps cs o v (lookup x (env_of ps cs)) (assigned x v (env_of ps cs))
-        → Slotted (None ∷ ps) (c ∷ cs) (found_at false o) v (lookup x (env_of ps cs)) (assigned x v (env_of ps cs))
-    by None f = record { found = f.found; write = f.write; others = refl }
-    by (Some j) f = record { found = f.found; write = f.write; others = ap (λ t. Some c ∷ t) f.others }
-slotted x (Some y ∷ ps) (c ∷ cs) v h = by (bytes_eq y x) (slot_named x ps) (slotted x ps cs v (omega arith))
-  where
-    by : (b : Bool) (o : Option ℕ) → Slotted ps cs o v (lookup x (env_of ps cs)) (assigned x v (env_of ps cs))
-        → Slotted (Some y ∷ ps) (c ∷ cs) (found_at b o) v (if b then c.val else lookup x (env_of ps cs))
-        (if b then (y, v) ∷ env_of ps cs else (y, c.val) ∷ assigned x v (env_of ps cs))
-    by true o f = record { found = refl; write = refl; others = refl }
-    by false None f = record { found = f.found; write = ap (λ t. (y, c.val) ∷ t) f.write; others = refl }
-    by false (Some j) f = record { found = f.found; write = ap (λ t. (y, c.val) ∷ t) f.write; others = ap (λ t. None ∷ t) f.others }
+slotted x (p ∷ ps) (c ∷ cs) v h =
+    let f = slotted x ps cs v (omega arith) in
+    record { found = grind (arith, f.found); write = grind (arith, f.write); others = grind (arith, f.others) }
 
 pub slots-are : (lay : Layout) (cs : List Cell) → length lay ≤ length cs → Slots 0 lay cs (env_of lay cs)
 slots-are lay cs h = record {
-  found = λ x k e. (let same : 0 + k ≡ k = omega arith in ap (λ n. slot n cs) same ∙ sym (is x (Some k) e));
-  none = λ x e. is x None e;
+  found = λ x k e. (let f = slotted x lay cs nothing h in grind (arith, f.found));
+  none = λ x e. (let f = slotted x lay cs nothing h in grind (arith, f.found));
+  deep = omega arith;
 }
-  where
-    is : (x : List ℕ) (o : Option ℕ) → slot_named x lay ≡ o → lookup x (env_of lay cs) ≡ by_slot o nothing (λ k. slot k cs)
-    is x o e = (slotted x lay cs nothing h).found ∙ ap (λ o. by_slot o nothing (λ k. slot k cs)) e
 
 module _ (x : List ℕ) (lay : Layout) (cs : List Cell) where
   -- an assignment to a variable is a write to its slot
@@ -127,14 +115,12 @@ module _ (x : List ℕ) (lay : Layout) (cs : List Cell) where
 pub length-frame : (lay : Layout) (cs : List Cell) → length lay ≤ length cs → length (frame_of lay cs) ≡ length cs
 length-frame [] cs h = length-map cs (λ c. Some c)
 length-frame (p ∷ ps) [] h = absurd (omega arith)
-length-frame (None ∷ ps) (c ∷ cs) h = ap suc (length-frame ps cs (omega arith))
-length-frame (Some x ∷ ps) (c ∷ cs) h = ap suc (length-frame ps cs (omega arith))
+length-frame (p ∷ ps) (c ∷ cs) h = grind (arith, length-frame ps cs)
 
 pub length-env : (lay : Layout) (cs : List Cell) → length lay ≤ length cs → length (env_of lay cs) ≡ named lay
 length-env [] cs h = refl
 length-env (p ∷ ps) [] h = absurd (omega arith)
-length-env (None ∷ ps) (c ∷ cs) h = length-env ps cs (omega arith)
-length-env (Some x ∷ ps) (c ∷ cs) h = ap suc (length-env ps cs (omega arith))
+length-env (p ∷ ps) (c ∷ cs) h = grind (arith, length-env ps cs)
 
 -- cells of a layout, which are these apart from the values of the variables
 pub record Cells (lay : Layout) (fr : Frame) (cs : List Cell) : Type 0 where
@@ -157,8 +143,7 @@ cells-set x lay cs k v e c = record {
 named-drop : (n : ℕ) (big : Layout) → named (drop n big) ≤ named big
 named-drop zero big = omega arith
 named-drop (suc n) [] = omega arith
-named-drop (suc n) (None ∷ big) = named-drop n big
-named-drop (suc n) (Some x ∷ big) = let less = named-drop n big in omega arith
+named-drop (suc n) (p ∷ big) = grind (arith, named-drop n big)
 
 env-drop : (n : ℕ) (big : Layout) (cs : List Cell) → length big ≤ length cs → oldest (named (drop n big)) (env_of big cs) ≡ env_of (drop n big) (drop n cs)
 env-drop zero big cs h =
@@ -175,8 +160,7 @@ frame-drop : (n : ℕ) (big : Layout) (cs : List Cell) → length big ≤ length
 frame-drop zero big cs h = refl
 frame-drop (suc n) [] cs h = sym (drop-map (λ c. Some c) (suc n) cs)
 frame-drop (suc n) (p ∷ big) [] h = absurd (omega arith)
-frame-drop (suc n) (None ∷ big) (c ∷ cs) h = frame-drop n big cs (omega arith)
-frame-drop (suc n) (Some x ∷ big) (c ∷ cs) h = frame-drop n big cs (omega arith)
+frame-drop (suc n) (p ∷ big) (c ∷ cs) h = grind (arith, frame-drop n big cs)
 
 -- the newest so many cells lie above those of another layout and frame
 pub record Over (n : ℕ) (big lay : Layout) (high low : Frame) : Type 0 where
@@ -253,6 +237,5 @@ first-saved lay (d ∷ cs) c fr h =
 -- the cells of a frame of no variables are known
 pub below-same : (cs ds : List Cell) → below cs ≡ below ds → cs ≡ ds
 below-same [] [] e = refl
-below-same [] (d ∷ ds) e = cc
-below-same (c ∷ cs) [] e = cc
-below-same (c ∷ cs) (d ∷ ds) e = let same : c ≡ d = cc in ap (λ x. x ∷ cs) same ∙ ap (λ l. d ∷ l) (below-same cs ds (ap (drop 1) e))
+below-same (c ∷ cs) (d ∷ ds) e = grind (arith, below-same cs ds)
+below-same _ _ e = cc

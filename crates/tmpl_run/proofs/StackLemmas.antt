@@ -1,12 +1,12 @@
 -- For `Stack`: lent cells as the list of those that are live, the newest first.
 use Rattle.std.proofs.Common.{arith, ◌≡◌, ◌∙◌, ◌+◌, ◌-◌, ◌<◌, ◌≤◌, ℕ, zero, suc, List, [], ◌∷◌, length, drop, take, set, get_or, map, reverse, refl, ap, sym}
-use Rattle.std.proofs.lemmas.List.{length-map, length-reverse, get_or-set_other, length-set, length-take-le, reverse-append, length-drop}
+use Rattle.std.proofs.lemmas.List.{length-map, length-reverse, get_or-set_other, length-set, length-take-le, reverse-append}
 use Rattle.std.proofs.Math.Seq.{take-suc, take-suc-set}
 use Rattle.std.proofs.Math.Numerals.{add-one}
 use Rattle.tmpl_values.specs.declared.value.Cell as held
 use Rattle.tmpl_values.specs.View.{val_of}
 use Rattle.tmpl_run.specs.Cell.{Cell, slot_cell}
-use Rattle.tmpl_run.specs.Machine.{Turn, ring, top}
+use Rattle.tmpl_run.specs.Machine.{top}
 use Rattle.tmpl_run.specs.computed.Held.{cell_at, cell_of, cells_in}
 use Rattle.tmpl_run.specs.computed.View.{cells_of, size_of}
 use Rattle.tmpl_run.specs.declared.stack.Stack.{Stack}
@@ -20,14 +20,10 @@ unfolding cells_of
 cells-fit s = let live = live-length s.top s.cells.now s.within in let within = s.within in omega arith
 
 live-more : (top : ℕ) (cs : List held.Cell) (d : held.Cell) → top < length cs → cells_in (top + 1) cs ≡ cell_of (get_or cs top d) ∷ cells_in top cs
-live-more top cs d h =
-    ap (λ n. cells_in n cs) (add-one top) ∙ ap (λ l. map cell_of (reverse l)) (take-suc cs top d h)
-    ∙ ap (map cell_of) (reverse-append (take top cs) (get_or cs top d ∷ []))
+live-more top cs d h = grind (arith, add-one, take-suc cs top d h, reverse-append (take top cs) (get_or cs top d ∷ []))
 
 pub live-push : (top : ℕ) (cs : List held.Cell) (c : held.Cell) → top < length cs → cells_in (top + 1) (set cs top c) ≡ cell_of c ∷ cells_in top cs
-live-push top cs c h =
-    ap (λ n. cells_in n (set cs top c)) (add-one top) ∙ ap (λ l. map cell_of (reverse l)) (take-suc-set cs top c h)
-    ∙ ap (map cell_of) (reverse-append (take top cs) (c ∷ []))
+live-push top cs c h = grind (arith, add-one, take-suc-set cs top c h, reverse-append (take top cs) (c ∷ []))
 
 pub live-same : (top : ℕ) (new old : List held.Cell) → take top new ≡ take top old → cells_in top new ≡ cells_in top old
 live-same top new old e = ap (λ l. map cell_of (reverse l)) e
@@ -35,22 +31,15 @@ live-same top new old e = ap (λ l. map cell_of (reverse l)) e
 -- the newest one is taken
 pub live-taken : (top : ℕ) (old new : List held.Cell) (c : held.Cell) → 1 ≤ top → top ≤ length old → c ≡ get_or old (top - 1) c
     → take (top - 1) new ≡ take (top - 1) old → cells_in top old ≡ cell_of c ∷ cells_in (top - 1) new
-live-taken top old new c some within is left =
-    let one : top ≡ top - 1 + 1 = omega arith in
-    ap (λ n. cells_in n old) one ∙ live-more (top - 1) old c (omega arith) ∙ ap (λ (d : held.Cell). cell_of d ∷ cells_in (top - 1) old) (sym is)
-    ∙ ap (λ l. cell_of c ∷ l) (sym (live-same (top - 1) new old left))
+live-taken top old new c some within is left = let one : top ≡ top - 1 + 1 = omega arith in grind (arith, live-more, live-same)
 
 -- the oldest so many are those that are left when the others are forgotten
 live-drop : (count top : ℕ) (cs : List held.Cell) → count ≤ top → top ≤ length cs → cells_in (top - count) cs ≡ drop count (cells_in top cs)
 live-drop zero top cs h g = let same : top - 0 ≡ top = omega arith in ap (λ n. cells_in n cs) same
 live-drop (suc k) zero cs h g = absurd (omega arith)
 live-drop (suc k) (suc top) [] h g = absurd (omega arith)
-live-drop (suc k) (suc top) (c ∷ cs) h g =
-    let less : suc top - suc k ≡ top - k = omega arith in
-    let one : suc top ≡ top + 1 = omega arith in
-    let within : top < length (c ∷ cs) = omega arith in
-    ap (λ n. cells_in n (c ∷ cs)) less ∙ live-drop k top (c ∷ cs) (omega arith) (omega arith)
-    ∙ ap (drop (suc k)) (sym (ap (λ n. cells_in n (c ∷ cs)) one ∙ live-more top (c ∷ cs) c within))
+live-drop (suc k) (suc top) (c ∷ cs) h g = let one : suc top ≡ top + 1 = omega arith in
+    grind (arith, live-more top (c ∷ cs) c (omega arith), live-drop k top (c ∷ cs) (omega arith) (omega arith))
 
 pub live-popped : (count top : ℕ) (old new : List held.Cell) → count ≤ top → top ≤ length old → take (top - count) new ≡ take (top - count) old
     → cells_in (top - count) new ≡ drop count (cells_in top old)
@@ -65,44 +54,35 @@ cell_at-is (c ∷ cs) (suc i) d h = cell_at-is cs i d (omega arith)
 pub slot-at : (top k : ℕ) (cs : List held.Cell) → k < top → top ≤ length cs → slot_cell k (cells_in top cs) ≡ cell_at cs (top - 1 - k)
 slot-at zero k cs h g = absurd (omega arith)
 slot-at (suc top) k [] h g = absurd (omega arith)
-slot-at (suc top) zero (c ∷ cs) h g =
-    let one : suc top ≡ top + 1 = omega arith in
-    let at : suc top - 1 - 0 ≡ top = omega arith in
-    ap (λ n. slot_cell 0 (cells_in n (c ∷ cs))) one ∙ ap (λ (l : List Cell). slot_cell 0 l) (live-more top (c ∷ cs) c (omega arith))
-    ∙ sym (cell_at-is (c ∷ cs) top c (omega arith)) ∙ ap (cell_at (c ∷ cs)) (sym at)
-slot-at (suc top) (suc k) (c ∷ cs) h g =
-    let one : suc top ≡ top + 1 = omega arith in
-    let at : top - 1 - k ≡ suc top - 1 - suc k = omega arith in
-    ap (λ n. slot_cell (suc k) (cells_in n (c ∷ cs))) one ∙ ap (λ (l : List Cell). slot_cell (suc k) l) (live-more top (c ∷ cs) c (omega arith))
-    ∙ slot-at top k (c ∷ cs) (omega arith) (omega arith) ∙ ap (cell_at (c ∷ cs)) at
+slot-at (suc top) zero (c ∷ cs) h g = let one : suc top ≡ top + 1 = omega arith in
+    grind (arith, live-more top (c ∷ cs) c (omega arith), cell_at-is (c ∷ cs) top c (omega arith))
+slot-at (suc top) (suc k) (c ∷ cs) h g = let one : suc top ≡ top + 1 = omega arith in
+    grind (arith, live-more top (c ∷ cs) c (omega arith), slot-at top k (c ∷ cs) (omega arith) (omega arith))
 
 -- a write to it
 pub live-set : (top k : ℕ) (cs : List held.Cell) (d : held.Cell) → k < top → top ≤ length cs
     → cells_in top (set cs (top - 1 - k) d) ≡ set (cells_in top cs) k (cell_of d)
 live-set zero k cs d h g = absurd (omega arith)
-live-set (suc top) zero cs d h g =
-    let one : suc top ≡ top + 1 = omega arith in
-    let at : suc top - 1 - 0 ≡ top = omega arith in
-    ap (λ n. cells_in n (set cs (suc top - 1 - 0) d)) one ∙ ap (λ n. cells_in (top + 1) (set cs n d)) at ∙ live-push top cs d (omega arith)
-    ∙ ap (λ (l : List Cell). set l 0 (cell_of d)) (sym (ap (λ n. cells_in n cs) one ∙ live-more top cs d (omega arith)))
+live-set (suc top) zero cs d h g = let one : suc top ≡ top + 1 = omega arith in
+    grind (arith, live-push top cs d (omega arith), live-more top cs d (omega arith))
 live-set (suc top) (suc k) cs d h g =
     let one : suc top ≡ top + 1 = omega arith in
-    let at : suc top - 1 - suc k ≡ top - 1 - k = omega arith in
     let long = length-set cs (top - 1 - k) d in
-    ap (λ n. cells_in n (set cs (suc top - 1 - suc k) d)) one ∙ ap (λ n. cells_in (top + 1) (set cs n d)) at
-    ∙ live-more top (set cs (top - 1 - k) d) d (omega (arith, long))
-    ∙ ap (λ (e : held.Cell). cell_of e ∷ cells_in top (set cs (top - 1 - k) d)) (get_or-set_other cs (top - 1 - k) top d d (λ e. absurd (omega arith)))
-    ∙ ap (λ l. cell_of (get_or cs top d) ∷ l) (live-set top k cs d (omega arith) (omega arith))
-    ∙ ap (λ (l : List Cell). set l (suc k) (cell_of d)) (sym (ap (λ n. cells_in n cs) one ∙ live-more top cs d (omega arith)))
+    let other = get_or-set_other cs (top - 1 - k) top d d (λ e. absurd (omega arith)) in
+    grind (
+      arith,
+      other,
+      live-more top (set cs (top - 1 - k) d) d (omega (arith, long)),
+      live-more top cs d (omega arith),
+      live-set top k cs d (omega arith) (omega arith),
+    )
 
 pub ruleset stacks = (live-length, live-push, live-taken, live-popped, slot-at, live-set)
 
 -- the newest one gives way to another
 pub live-exchanged : (top : ℕ) (old new : List held.Cell) (c : Cell) → 1 ≤ top → top ≤ length old → cells_in (top - 1 + 1) new ≡ c ∷ cells_in (top - 1) old
     → cells_in top new ≡ c ∷ drop 1 (cells_in top old)
-live-exchanged top old new c some within is =
-    let one : top ≡ top - 1 + 1 = omega arith in
-    ap (λ n. cells_in n new) one ∙ is ∙ ap (λ (l : List Cell). c ∷ l) (live-drop 1 top old some within)
+live-exchanged top old new c some within is = let one : top ≡ top - 1 + 1 = omega arith in grind (arith, live-drop 1 top old some within)
 
 pub ruleset exchanges = (live-exchanged)
 
@@ -115,18 +95,3 @@ val_at-is cs i d h = ap (λ (c : Cell). c.val) (sym (cell_at-is cs i d h))
 pub ruleset cells = (num_at-is, val_at-is)
 
 pub ruleset reads = (live-length, slot-at, num_at-is, val_at-is)
-
--- the newest cell is there
-pub top-is : (cs : List Cell) (go : Cell → List Cell → Turn) → 1 ≤ length cs → top cs go ≡ go (slot_cell 0 cs) (drop 1 cs)
-top-is [] go h = absurd (omega arith)
-top-is (c ∷ cs) go h = refl
-
--- .. and two of them
-pub ring-is : (cs : List Cell) (go : Cell → Cell → List Cell → Turn) → 2 ≤ length cs → ring cs go ≡ go (slot_cell 0 cs) (slot_cell 1 cs) (drop 2 cs)
-ring-is (c ∷ d ∷ cs) go h = refl
-ring-is _ go h = absurd (omega arith)
-
-pub length-drop-cells : (n : ℕ) (cs : List Cell) → length (drop n cs) ≡ length cs - n
-length-drop-cells n cs = length-drop n cs
-
-pub ruleset tops = (top-is, ring-is, length-drop-cells)

@@ -4,55 +4,66 @@ use Rattle.std.specs.Prelude.{IfSome, slice_get}
 use Rattle.std.proofs.lemmas.Option.{slice_get-get_or, slice_get_within}
 use Rattle.tmpl_values.specs.Value.{Value}
 use Rattle.tmpl_syntax.specs.Set.{Template}
+use Rattle.tmpl_syntax.specs.View.{set_view}
 use Rattle.tmpl_meaning.specs.Meaning.{Ran, ran, ran_with, starting_dot}
+use Rattle.tmpl_meaning.specs.declared.options.Options.{Options}
 use Rattle.tmpl_code.specs.Code.{Starts}
 use Rattle.tmpl_code.specs.Room.{Suffices}
-use Rattle.tmpl_run.specs.computed.Came.{ComesTo, no_template, nothing_told}
-use Rattle.tmpl_run.specs.computed.Machines.{state_of}
+use Rattle.tmpl_code.specs.View.{instructions_of}
+use Rattle.tmpl_code.specs.declared.program.Parts.{Parts}
+use Rattle.tmpl_run.specs.computed.Came.{ComesTo}
+use Rattle.tmpl_run.specs.computed.Machines.{no_template, state_of}
+use Rattle.tmpl_run.specs.computed.Plan.{plan_of}
 use Rattle.tmpl_run.specs.computed.View.{size_of}
 use Rattle.tmpl_run.specs.declared.machine.Machine.{Machine}
 use Rattle.tmpl_run.specs.Ends.{Ends}
 use Rattle.tmpl_run.specs.State.{Plan, State, starting}
-use Rattle.tmpl_run.proofs.TreeLemmas.{Started, need-is, starts-at, run-leads}
+use Rattle.tmpl_run.proofs.TreeLemmas.{need-is, run-leads, starts-at}
 
 -- the run of the template that a state runs, over its dot
 abbrev pub ran_from : Plan → State → Ran
 ran_from plan s =
     ran_with plan.rules plan.templates (get_or plan.templates s.template no_template).0 (get_or plan.templates s.template no_template).1 s.dot
 
-module _ (plan : Plan) (size number : ℕ) (linked : Starts plan.templates plan.templates plan.starts plan.code) (inside : number < length plan.templates) where
+-- what a caller of a run has to know of its plan, over a stack of so many cells, from the template of a number on
+pub record Can (plan : Plan) (size number : ℕ) : Type 0 where
+  pub linked : Starts plan.templates plan.templates plan.starts plan.code
+  pub inside : number < length plan.templates
+  pub some : 1 ≤ plan.rules.depth_limit
+  pub fits : Suffices plan.rules.depth_limit plan.templates number size
+
+pub can-run : (options : Options) (size number : ℕ) (parts told : Parts) → parts ≡ told → Starts (set_view parts.set.now) (set_view parts.set.now)
+    parts.starts.items (instructions_of parts.instructions.items) → number < length (set_view told.set.now) → 1 ≤ options.depth
+    → Suffices options.depth (set_view told.set.now) number size → Can (plan_of options parts) size number
+can-run options size number parts told same linked inside some fits = record {
+  linked = linked;
+  inside = subst (λ (p : Parts). number < length (set_view p.set.now)) (sym same) inside;
+  some = some;
+  fits = subst (λ (p : Parts). Suffices options.depth (set_view p.set.now) number size) (sym same) fits;
+}
+
+module _ {plan : Plan} {size number : ℕ} (can : Can plan size number) where
   -- the template of the number
   abbrev me : Template
   me = get_or plan.templates number no_template
 
   is-me : slice_get plan.templates number ≡ Some me
-  is-me = slice_get-get_or plan.templates number no_template inside
-
-  started : Started plan.templates me plan.starts plan.code number
-  started = starts-at plan.templates plan.templates plan.starts plan.code number me linked is-me
+  is-me = slice_get-get_or plan.templates number no_template can.inside
 
   pub has-start : number < length plan.starts
-  has-start = slice_get_within plan.starts number started.place started.at
+  has-start = let started = starts-at plan.templates plan.templates plan.starts plan.code number me can.linked is-me in
+      slice_get_within plan.starts number started.place started.at
 
-  module _ (some : 1 ≤ plan.rules.depth_limit) (fits : Suffices plan.rules.depth_limit plan.templates number size) where
-    -- `$` and the two cells below it
-    pub three : 3 ≤ size
-    three =
-        let mine = need-is plan.templates number me is-me in
-        let own = fits [] tt (omega arith) in
-        omega arith
+  -- `$` and the two cells below it
+  pub three : 3 ≤ size
+  three = let mine = need-is plan.templates number me is-me in let own = can.fits [] tt (let some = can.some in omega arith) in omega arith
 
-    pub leads : (v : Value) → Ends plan size (starting plan number (get_or plan.starts number 0) v)
-        (ran_with plan.rules plan.templates (get_or plan.templates number no_template).0 (get_or plan.templates number no_template).1 v)
-    leads v = run-leads plan size linked some number me fits is-me (get_or plan.starts number 0) (slice_get-get_or plan.starts number 0 has-start) v
-
-    -- .. of a machine that is so
-    pub comes-so : (m : Machine) (v : Value) → size_of m.stack ≡ size
-        → state_of (nothing_told plan) m ≡ starting plan number (get_or plan.starts number 0) v
-        → ComesTo plan m (ran_from plan (state_of (nothing_told plan) m))
-    comes-so m v sized state =
-        let s : State = state_of (nothing_told plan) m in
-        subst (λ n. Ends plan n s (ran_from plan s)) (sym sized) (subst (λ (t : State). Ends plan size t (ran_from plan t)) (sym state) (leads v))
+  -- a machine that is at the start comes to the meaning
+  pub comes-so : (m : Machine) (v : Value) → size_of m.stack ≡ size → state_of m ≡ starting plan number (get_or plan.starts number 0) v
+      → ComesTo plan m (ran_from plan (state_of m))
+  comes-so m v sized state = subst (λ n. Ends plan n (state_of m) (ran_from plan (state_of m))) (sym sized)
+      (subst (λ (t : State). Ends plan size t (ran_from plan t)) (sym state) (run-leads plan size can.linked can.some number me can.fits is-me
+      (get_or plan.starts number 0) (slice_get-get_or plan.starts number 0 has-start) v))
 
   -- what holds of that run holds of the meaning of the template
   pub meant-so : (Holds : Ran → Type 0) (input : Option Value) (s : State) → s ≡ starting plan number (get_or plan.starts number 0) (starting_dot input)

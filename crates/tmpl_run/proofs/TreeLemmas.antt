@@ -25,11 +25,10 @@ use Rattle.tmpl_run.specs.Cell.{Cell, cell, fresh}
 use Rattle.tmpl_run.specs.State.{Plan, State, starting}
 use Rattle.tmpl_run.specs.Machine.{deepened, frame, goes, invoked, paid_if, returned_if}
 use Rattle.tmpl_run.specs.Ends.{Comes, Ends}
-use Rattle.tmpl_run.proofs.CallingLemmas.{entered}
 use Rattle.tmpl_run.proofs.NodeLemmas.{run_at, value-leads, valued, with_left, action-leads, if-leads, inside-grown, spent, with-leads}
 use Rattle.tmpl_run.proofs.DepthLemmas.{absent}
 use Rattle.tmpl_run.proofs.NodeLemmas as nodes
-use Rattle.tmpl_run.proofs.WayLemmas.{ahead, ahead-one, Ring, Stands, Way, Who, way_of, who_of, bare, seen}
+use Rattle.tmpl_run.proofs.WayLemmas.{Ring, Stands, Way, Who, way_of, who_of, bare, seen}
 use Rattle.tmpl_run.proofs.SlotLemmas.{Frame, all_grown, all_grown_in, below, below-same, dropped, env_of, frame_of, grown_in, length-cells, length-frame}
 use Rattle.tmpl_run.proofs.SlotLemmas.{over-grown, over-node, over-none, run_of}
 use Rattle.tmpl_run.proofs.WayLemmas as ways
@@ -69,14 +68,22 @@ abbrev called_frame : Cell → Cell → List Cell → Frame
 called_frame back saved cs = None ∷ Some back ∷ Some saved ∷ below cs
 
 saved-below : (ds : List Cell) → frame_of (None ∷ None ∷ []) ds ≡ below ds
-saved-below [] = refl
-saved-below (b ∷ []) = refl
-saved-below (b ∷ d ∷ ds) = refl
+saved-below ds = grind arith
 
 framed : (ds : List Cell) (back saved : Cell) (cs : List Cell) → frame_of first_layout ds ≡ called_frame back saved cs
     → (c : Cell) × (ds ≡ c ∷ back ∷ saved ∷ cs)
 framed [] back saved cs e = cc
 framed (c ∷ ds) back saved cs e = (c, ap (λ l. c ∷ l) (below-same ds (back ∷ saved ∷ cs) (sym (saved-below ds) ∙ ap (drop 1) e)))
+
+-- a state in the template of this number, which starts here, over a value; these cells are below
+abbrev entered : ℕ → ℕ → Value → List Cell → State → State
+entered number start v cs s = record s {
+  cells = fresh v ∷ cell nothing (s.place + 1) ∷ cell s.dot s.template ∷ cs;
+  dot = v;
+  template = number;
+  depth = suc s.depth;
+  place = start;
+}
 
 -- a template from its start, inside which so many calls may still be made
 abbrev pub TemplateLeads : Plan → ℕ → Ran → ℕ → Type 0
@@ -86,7 +93,7 @@ TemplateLeads plan room f n =
     → (base : ℕ) → length home ≡ 3 + base → Left plan.templates room n who.number base
     → ways.After (way_of plan room f who me is-me home) (ways.Leaves (way_of plan room f who me is-me home)) None
     (meanings (setting_of plan.rules (calls_within plan.rules plan.templates n) me.0 me.1) me.1.nodes s.dot (run_of first_layout s))
-    → Ends plan room s f
+    → ways.Reaches plan room f s
 
 -- what is known of the templates that may be called
 abbrev pub Deeper : Plan → ℕ → Ran → ℕ → Type 0
@@ -120,7 +127,7 @@ module _ (way : Way) (first : 1 ≤ way.who.depth) (linked : Starts way.plan.tem
 
         back : ways.Onward way rest lay fr s.dot (record x.0 { env = env_of lay s.cells }) → ways.Leaves callee x.0
         back h u ret same =
-            ways.takes callee u (code.return_from ret.n) ret.more ret.runs ret.at tt
+            ways.does callee ret.runs ret.at tt
             (subst (λ b. Comes (ways.Leading way) (returned_if b (drop ret.n u.cells) u) way.end) (sym inner)
             (subst (λ cs. Comes (ways.Leading way) (frame cs (λ back saved cs. goes
             (record u { cells = cs; dot = saved.val; template = saved.num; depth = u.depth - 1; place = back.num }))) way.end) (sym cells.1)
@@ -158,7 +165,7 @@ module _ (way : Way) (first : 1 ≤ way.who.depth) (linked : Starts way.plan.tem
         (with_left (s.left - 1) (run_at lay made s)))
         → ways.Leading way (valued v made place s)
     invokes m callee depth g lay fr rest s name number named v made place some st at left k =
-        ways.takes way (valued v made place s) (code.invoke number) rest st.runs at
+        ways.does way st.runs at
         (let a = own in let b = most in omega arith)
         (subst (λ o. Comes (ways.Leading way) (invoked way.plan way.me number o (fresh v) s.cells (valued v made place s)) way.end) (sym start.at)
         (subst
@@ -193,9 +200,12 @@ module _ (way : Way) (first : 1 ≤ way.who.depth) (linked : Starts way.plan.tem
         → Left way.plan.templates way.room n way.who.number base
         → way.room ≤ base + need way.me.1 + spare → (line : ℕ) (name : List ℕ) (given : Option Pipeline) → NodesName name way.me.1.nodes
         → nodes.StepLeads way (calls_of n) spare line (tree.template_node name given)
-    call-leads n deeper depth base spare left tight line name given is-named g lay fr here start rest s l at-node st inside fits more-fits k =
+    call-leads n deeper depth base spare left tight line name given is-named g lay fr here start rest s l at-node w room k =
         by (number_of name way.plan.templates) refl l at-node
       where
+        st : Stands way.plan way.who here lay fr s
+        st = w.stands
+
         A : Run → Type 0
         A = ways.Onward way rest lay fr s.dot
 
@@ -203,11 +213,11 @@ module _ (way : Way) (first : 1 ≤ way.who.depth) (linked : Starts way.plan.tem
             → CallAt name o given lay start rest → ways.Leading way s
         by None e l at-node =
             ways.spends way (calls_of n) A g lay line start s (meaning.calling (set_of n) line name given s.dot) st.runs (st.at ∙ l) k
-            (λ at k. ways.takes way (ways.step_taken line s) (code.act (code.refuse (code.no_template name))) rest st.runs (at ∙ at-node) tt
+            (λ at k. ways.does way st.runs (at ∙ at-node) tt
             (subst (λ c. ways.After way A g (with_value (set_of n) line c (handing (set_of n) line given s.dot) (run_of lay (ways.step_taken line s))))
             (absent way.plan.rules way.plan.templates n name (unnumbered name way.plan.templates e)) k))
         by (Some number) e l at-node =
-            ways.takes way s (code.deepen line) start st.runs (st.at ∙ l) tt (pays (nat_eq s.left 0) refl k)
+            ways.does way st.runs (st.at ∙ l) tt (pays (nat_eq s.left 0) refl k)
           where
             named : Named name way.plan.templates number
             named = numbered name way.plan.templates number e
@@ -219,7 +229,7 @@ module _ (way : Way) (first : 1 ≤ way.who.depth) (linked : Starts way.plan.tem
             next = record s { line = line; place = s.place + 1 }
 
             there : drop (s.place + 1) way.plan.code ≡ start
-            there = ahead-one way.plan.code start s.place (code.deepen line) (st.at ∙ l)
+            there = ways.next way s.place (st.at ∙ l)
 
             -- a chain of calls from there is one from here, with one call more
             deeper-left : (m : ℕ) → Left way.plan.templates way.room (suc m) way.who.number base → length fr + spare ≤ way.room
@@ -257,28 +267,24 @@ module _ (way : Way) (first : 1 ≤ way.who.depth) (linked : Starts way.plan.tem
                 gets : (v : Value) (made : Bool) (place : ℕ) → drop place way.plan.code ≡ code.invoke number ∷ rest
                     → ways.After way A g (body v (with_left (s.left - 1) (run_at lay made s))) → ways.Leading way (valued v made place next)
                 gets v made place at k = invokes m deeper depth g lay fr rest next name number named v made place some
-                    (record { at = ahead-one way.plan.code rest place (code.invoke number) at; runs = st.runs; cells = st.cells }) at
+                    (record { at = ways.next way place at; runs = st.runs; cells = st.cells }) at
                     (deeper-left m left (omega arith)) k
 
                 hands : (given : Option Pipeline) → GivenAt given lay start (code.invoke number ∷ rest)
                     → length fr + need_of_given given + spare ≤ way.room
                     → ways.After way A g (handing (set_of (suc m)) line given s.dot body (with_left (s.left - 1) (run_of lay s))) → ways.Leading way next
                 hands None l fits k =
-                    ways.takes way next (code.act code.push_nothing) (code.invoke number ∷ rest) st.runs (there ∙ l)
-                    (let long = length-cells st.cells in omega arith)
-                    (gets nothing s.made_text (s.place + 1 + 1 + 0)
-                    (ahead way.plan.code (code.invoke number ∷ rest) (s.place + 1) 0 (code.act code.push_nothing)
-                    (there ∙ l)) k)
+                    ways.does way st.runs (there ∙ l) (let long = length-cells st.cells in omega arith)
+                    (gets nothing s.made_text (s.place + 1 + 1 + 0) (ways.jump way (s.place + 1) 0 (there ∙ l)) k)
                 hands (Some p) l fits k =
-                    value-leads way (calls_of (suc m)) A g line (s.left - 1) p lay fr start (code.invoke number ∷ rest) next body l
-                    (record { at = there; runs = st.runs; cells = st.cells }) refl (omega arith) k
+                    value-leads way (calls_of (suc m)) A g (s.left - 1) p body l (record { at = there; runs = st.runs; cells = st.cells }) (omega arith) k
                     (λ v made place at k. gets v made place at k)
 
             pays : (b : Bool) → nat_eq s.left 0 ≡ b → ways.After way A g (spend_if b (set_of n) line (meaning.calling (set_of n) line name given s.dot)
                 (run_of lay s))
                 → Comes (ways.Leading way) (deepened b (nat_lt s.depth way.plan.rules.depth_limit) way.plan way.me line s) way.end
             pays true is k = k
-            pays false is k = enters n deeper depth left fits is k
+            pays false is k = enters n deeper depth left w.fits is k
 
 module _ (way : Way) (first : 1 ≤ way.who.depth) (linked : Starts way.plan.templates way.plan.templates way.plan.starts way.plan.code)
     (n : ℕ) (deeper : Deeper way.plan way.room way.end n) (depth : way.who.depth + n ≡ way.plan.rules.depth_limit) (base : ℕ)
@@ -300,40 +306,41 @@ module _ (way : Way) (first : 1 ≤ way.who.depth) (linked : Starts way.plan.tem
   abbrev set : Setting
   set = setting_of way.plan.rules calls way.me.0 way.me.1
 
-  control-leads : (line : ℕ) (c : Control) (h : Header) (body other : Nodes) → nodes.NodesLead way calls spare body
-      → nodes.NodesLead way calls spare other
-      → nodes.NodeLeads way calls spare line (tree.control_node c h body other)
-  control-leads line control.If h body other ih-body ih-other = if-leads way calls spare line h body other ih-body ih-other
-  control-leads line control.With h body other ih-body ih-other = with-leads way calls spare line h body other ih-body ih-other
-  control-leads line control.Range h body other ih-body ih-other =
-      range-leads way calls spare line h body other ih-body ih-other
+  text-leads : (bytes : List ℕ) → nodes.NodeLeads way calls spare (tree.text bytes)
+  text-leads bytes g lay fr here rest s l w room k = let st = w.stands in
+      ways.does way st.runs (st.at ∙ l) tt
+      (k _ (record { at = ways.next way s.place (st.at ∙ l); runs = st.runs; cells = st.cells }) refl refl)
 
-  text-leads : (line : ℕ) (bytes : List ℕ) → nodes.NodeLeads way calls spare line (tree.text bytes)
-  text-leads line bytes g lay fr here rest s l st same-line inside fits more-fits k =
-      ways.takes way s (code.put bytes) rest st.runs (st.at ∙ l) tt
-      (k _ (record { at = ahead-one way.plan.code rest s.place (code.put bytes) (st.at ∙ l); runs = st.runs; cells = st.cells }) refl refl)
+  control-leads : (c : Control) (h : Header) (body other : Nodes) → nodes.NodesLead way calls spare body → nodes.NodesLead way calls spare other
+      → nodes.NodeLeads way calls spare (tree.control_node c h body other)
+  control-leads control.If h body other = if-leads way calls spare h body other
+  control-leads control.With h body other = with-leads way calls spare h body other
+  control-leads control.Range h body other = range-leads way calls spare h body other
 
   mutual
     step-leads : (line : ℕ) (n : NodeKind) → Mine (λ name. NodeNames name n) → nodes.StepLeads way calls spare line n
-    step-leads line (tree.text bytes) mine = spent way calls spare line (tree.text bytes) refl (text-leads line bytes)
-    step-leads line (tree.action h) mine = spent way calls spare line (tree.action h) refl (action-leads way calls spare line h)
+    step-leads line (tree.text bytes) mine = spent way calls spare line (tree.text bytes) refl (text-leads bytes)
+    step-leads line (tree.action h) mine = spent way calls spare line (tree.action h) refl (action-leads way calls spare h)
     step-leads line (tree.control_node c h body other) mine =
         spent way calls spare line (tree.control_node c h body other) refl
-        (control-leads line c h body other (λ g lay fr here rest s l st inside fits k. nodes-lead body (λ name names. mine name (inl names)) g lay fr here rest
-        s l st inside fits k)
-        (λ g lay fr here rest s l st inside fits k. nodes-lead other (λ name names. mine name (inr names)) g lay fr here rest s l st inside fits k))
-    step-leads line tree.break_node mine = spent way calls spare line tree.break_node refl (break-leads way calls spare line)
-    step-leads line tree.continue_node mine = spent way calls spare line tree.continue_node refl (continue-leads way calls spare line)
+        (control-leads c h body other (nodes-lead body (λ name names. mine name (inl names))) (nodes-lead other (λ name names. mine name (inr names))))
+    step-leads line tree.break_node mine = spent way calls spare line tree.break_node refl (break-leads way calls spare)
+    step-leads line tree.continue_node mine = spent way calls spare line tree.continue_node refl (continue-leads way calls spare)
     step-leads line (tree.template_node name given) mine =
         call-leads way first linked n deeper depth base spare left (let own = fits-here in omega arith) line name given (mine name refl)
 
     nodes-lead : (ns : Nodes) → Mine (λ name. NodesName name ns) → nodes.NodesLead way calls spare ns
-    nodes-lead tree.none mine g lay fr here rest s l st inside fits k = k s (record { at = st.at ∙ l; runs = st.runs; cells = st.cells }) refl refl
-    nodes-lead (tree.then line n ns) mine g lay fr here rest s l st inside fits k =
-        step-leads line n (λ name names. mine name (inl names)) g lay fr here l.0 l.1 s l.2 l.3 st inside (omega arith) (omega arith)
+    nodes-lead tree.none mine g lay fr here rest s l w k = let st = w.stands in k s (record { at = st.at ∙ l; runs = st.runs; cells = st.cells }) refl refl
+    nodes-lead (tree.then line n ns) mine g lay fr here rest s l w k =
+        step-leads line n (λ name names. mine name (inl names)) g lay fr here l.0 l.1 s l.2 l.3
+        (record { stands = w.stands; inside = w.inside; fits = (let fits = w.fits in omega arith) }) (let fits = w.fits in omega arith)
         (ways.then-map way (λ r. ways.After way A g (meanings set ns s.dot r)) (ways.Onward way l.1 (grown n lay) (grown_in n fr) s.dot) g x.0 x.1
-        (λ r k t stands dot run. nodes-lead ns (λ name names. mine name (inr names)) g (grown n lay) (grown_in n fr) l.1 rest t l.4 stands
-        (inside-grown way.home g n lay fr inside) (let tall = (over-node n lay fr).tall in omega arith)
+        (λ r k t stands dot run. nodes-lead ns (λ name names. mine name (inr names)) g (grown n lay) (grown_in n fr) l.1 rest t l.4
+        (record {
+          stands = stands;
+          inside = inside-grown way.home g n lay fr w.inside;
+          fits = (let fits = w.fits in let tall = (over-node n lay fr).tall in omega arith);
+        })
         (subst (λ d. ways.After way (ways.Onward way rest (all_grown ns (grown n lay)) (all_grown_in ns (grown_in n fr)) d) g
         (meanings set ns d (run_of (grown n lay) t))) (sym dot)
         (subst (λ r. ways.After way A g (meanings set ns s.dot r)) (sym run) k)))
@@ -353,8 +360,11 @@ module _ (way : Way) (first : 1 ≤ way.who.depth) (linked : Starts way.plan.tem
   template-leads s same at-start frame deep k =
       nodes-lead way.me.1.nodes (λ name names. names) None first_layout way.home (drop s.place way.plan.code) end s
       (subst (λ p. NodesAt way.plan.templates way.me.1.nodes first_layout None (drop p way.plan.code) end) place start.laid)
-      (record { at = refl; runs = same; cells = record { frame = frame; deep = deep } }) (0, over-none first_layout way.home)
-      (let own = fits-here in let high = tall in omega arith)
+      (record {
+        stands = record { at = refl; runs = same; cells = record { frame = frame; deep = deep } };
+        inside = (0, over-none first_layout way.home);
+        fits = (let own = fits-here in let high = tall in omega arith);
+      })
       (ways.then-map way (ways.Leaves way) (ways.Onward way end (all_grown way.me.1.nodes first_layout) (all_grown_in way.me.1.nodes way.home) s.dot) None x.0
       x.1
       (λ r k t st dot run. k t (record {
@@ -392,9 +402,8 @@ module _ (plan : Plan) (room : ℕ) (linked : Starts plan.templates plan.templat
       → (start : ℕ) → slice_get plan.starts number ≡ Some start → (d : Value)
       → Ends plan room (starting plan number start d) (ran_with plan.rules plan.templates t.0 t.1 d)
   run-leads number me fits is-me start at-start d =
-      templates-lead plan room f linked (plan.rules.depth_limit - 1) who me is-me (omega arith) (omega arith) home (starting plan number start d) refl at-start
-      refl (omega arith)
-      0 refl (λ rest chain short. let all = fits rest chain (omega arith) in omega arith) (by x.1 refl)
+      (templates-lead plan room f linked (plan.rules.depth_limit - 1) who me is-me (omega arith) (omega arith) home (starting plan number start d) refl
+      at-start refl (omega arith) 0 refl (λ rest chain short. let all = fits rest chain (omega arith) in omega arith) (by x.1 refl)).ends
     where
       who : Who
       who = record { number = number; depth = 1 }
@@ -411,8 +420,8 @@ module _ (plan : Plan) (room : ℕ) (linked : Starts plan.templates plan.templat
 
       leaves : seen x.0 None ≡ f → ways.Leaves (way_of plan room f who me is-me home) x.0
       leaves is t ret same =
-          ways.takes (way_of plan room f who me is-me home) t (code.return_from ret.n) ret.more ret.runs ret.at tt
-          (subst (λ n. Comes (λ t. Ends plan room t f) (returned_if (nat_lt 1 n) (drop ret.n t.cells) t) f) (sym (ap (λ (w : Who). w.depth) ret.runs))
+          ways.does (way_of plan room f who me is-me home) ret.runs ret.at tt
+          (subst (λ n. Comes (ways.Reaches plan room f) (returned_if (nat_lt 1 n) (drop ret.n t.cells) t) f) (sym (ap (λ (w : Who). w.depth) ret.runs))
           (ap (λ (r : Run). seen r None) same ∙ is))
 
       by : (e : End) → x.1 ≡ e → ways.Then (way_of plan room f who me is-me home) (ways.Leaves (way_of plan room f who me is-me home)) None x.0 e

@@ -1,99 +1,30 @@
 -- For the functions that carry out an instruction: what it does, by what is found on the stack.
 use Rattle.std.proofs.lemmas.Bool.Decides.{nat_tests}
-use Rattle.std.proofs.Common.{arith, ◌≡◌, ◌≢◌, ◌∙◌, ◌+◌, ◌-◌, ◌≤◌, ◌<◌, nat_eq, ℕ, suc, Bool, true, false, List, [], ◌∷◌, length, drop, refl, ap, sym}
+use Rattle.std.proofs.Common.{arith, ◌≡◌, ◌∙◌, ◌+◌, ◌-◌, ◌≤◌, ◌<◌, ℕ, zero, suc, true, false, List, [], ◌∷◌, length, drop, refl, ap}
 use Rattle.std.proofs.Common.{Option, Some, None, drop-cons, drop-drop, get_or}
 use Rattle.std.proofs.lemmas.List.{drop_all}
 use Rattle.std.proofs.lemmas.Option.{get_or_from_slice_get, slice_get_within}
-use Rattle.std.specs.Prelude.{option_map, slice_get, slice_set}
+use Rattle.std.specs.Prelude.{slice_get}
 use Rattle.tmpl_values.specs.Value.{nothing}
 use Rattle.tmpl_values.specs.Elements.{Element, element_at, elements, item_at}
-use Rattle.tmpl_syntax.specs.Set.{Template}
-use Rattle.tmpl_meaning.specs.Fault.{not_a_range, steps_spent}
-use Rattle.tmpl_code.specs.Instruction as code
-use Rattle.tmpl_run.specs.Cell.{Cell, cell, fresh, slot, slot_cell}
-use Rattle.tmpl_run.specs.State.{Plan, State}
-use Rattle.tmpl_run.specs.Machine.{again, done, elements_for, elements_in, failed, goes, left_in, onto, opened, paid_if, top, turned, variables_on}
+use Rattle.tmpl_run.specs.Cell.{Cell}
+use Rattle.tmpl_run.specs.Machine.{elements_in, left_in}
 use Rattle.tmpl_run.specs.computed.Held.{has_more}
-use Rattle.tmpl_run.proofs.StackLemmas.{ring-is}
-
--- ---- ranges
-
-no-elements : (o : Option (List Element)) → None ≡ option_map length o → o ≡ None
-no-elements None e = refl
-no-elements (Some es) e = cc
-
-none-element : (o : Option (List Element)) → Some 0 ≡ option_map length o → o ≡ Some []
-none-element None e = cc
-none-element (Some []) e = refl
-none-element (Some (x ∷ xs)) e = let same : 0 ≡ suc (length xs) = cc in absurd (omega arith)
-
-some-elements : (o : Option (List Element)) (n : ℕ) → Some n ≡ option_map length o → n ≢ 0 → (x : Element) × (xs : List Element) × (o ≡ Some (x ∷ xs))
-some-elements None n e some = cc
-some-elements (Some []) n e some = let same : n ≡ 0 = cc in absurd (some same)
-some-elements (Some (x ∷ xs)) n e some = (x, xs, refl)
-
-module _ (plan : Plan) (t : Template) (key : Bool) (skip : ℕ) (s : State) (c : Cell) (cs : List Cell) (is : s.cells ≡ c ∷ cs) where
-  enter-by : (o : Option (List Element)) → elements_for key c.val ≡ o → done plan t (code.enter key skip) s ≡ opened plan t skip c cs o s
-  enter-by o e =
-      ap (λ l. top l (λ c cs. opened plan t skip c cs (elements_for key c.val) s)) is ∙ ap (λ o. opened plan t skip c cs o s) e
-
-  -- .. and takes a step, if it can
-  enter-paid : (n : ℕ) (b : Bool) → Some n ≡ option_map length (elements_for key c.val) → n ≢ 0 → nat_eq s.left 0 ≡ b
-      → done plan t (code.enter key skip) s
-      ≡ paid_if b plan t s.line s (λ s. goes (record s { cells = cell s.dot (s.place + 1) ∷ fresh c.val ∷ cs; dot = nothing; place = s.place + 1 }))
-  enter-paid n b e some left =
-      let more = some-elements (elements_for key c.val) n e some in
-      enter-by (Some (more.0 ∷ more.1)) more.2
-      ∙ ap (λ b. paid_if b plan t s.line s
-      (λ s. goes (record s { cells = cell s.dot (s.place + 1) ∷ fresh c.val ∷ cs; dot = nothing; place = s.place + 1 }))) left
-
-  pub enter-not : None ≡ option_map length (elements_for key c.val) → done plan t (code.enter key skip) s ≡ failed t s.line not_a_range s
-  enter-not e = enter-by None (no-elements (elements_for key c.val) e)
-
-  pub enter-none : Some 0 ≡ option_map length (elements_for key c.val) → done plan t (code.enter key skip) s ≡ onto cs (s.place + 1 + skip) s
-  enter-none e = enter-by (Some []) (none-element (elements_for key c.val) e)
-
-  -- .. so there is none
-  pub enter-other : Some 0 ≡ option_map length (elements_for key c.val) → elements_for key (slot 0 s.cells) ≡ Some []
-  enter-other e = ap (λ l. elements_for key (slot 0 l)) is ∙ none-element (elements_for key c.val) e
-
-  pub enter-spent : (n : ℕ) → Some n ≡ option_map length (elements_for key c.val) → n ≢ 0 → s.left ≡ 0
-      → done plan t (code.enter key skip) s ≡ failed t s.line (steps_spent plan.rules.step_limit) s
-  enter-spent n e some left = enter-paid n true e some (grind (arith, nat_tests))
-
-  pub enter-some : (n : ℕ) → Some n ≡ option_map length (elements_for key c.val) → n ≢ 0 → s.left ≢ 0
-      → done plan t (code.enter key skip) s
-      ≡ goes (record s { cells = cell s.dot (s.place + 1) ∷ fresh c.val ∷ cs; dot = nothing; left = s.left - 1; place = s.place + 1 })
-  enter-some n e some left = enter-paid n false e some (grind (arith, nat_tests))
-
-pub ruleset opens = (enter-not, enter-none, enter-other, enter-spent, enter-some)
 
 -- the elements from a place on
 got : (es : List Element) (i : ℕ) (e : Element) → slice_get es i ≡ Some e → drop i es ≡ e ∷ drop (suc i) es
 got es i e h = drop-cons es i e (slice_get_within es i e h) ∙ ap (λ x. x ∷ drop (suc i) es) (get_or_from_slice_get es i e e h)
 
-left-at : (v : Cell) (e : Element) → Some e ≡ item_at v.num v.val → left_in v ≡ e ∷ drop (suc v.num) (elements_in (elements v.val))
-left-at v e h = by (elements v.val) h
-  where
-    by : (o : Option (List Element)) → Some e ≡ element_at v.num o → drop v.num (elements_in o) ≡ e ∷ drop (suc v.num) (elements_in o)
-    by None h = cc
-    by (Some es) h = got es v.num e (sym h)
-
--- a turn over the cells of a range
-module _ (plan : Plan) (t : Template) (n : ℕ) (s : State) (e : Element) (some : 2 ≤ length s.cells)
-    (is : Some e ≡ item_at (slot_cell 1 s.cells).num (slot_cell 1 s.cells).val) where
-  pub turn-is : done plan t (code.turn n) s ≡ goes (record s { cells = variables_on n e s.cells; dot = e.1; place = s.place + 1 })
-  turn-is = ring-is s.cells (λ d v cs. turned n (left_in v) s) some ∙ ap (λ l. turned n l s) (left-at (slot_cell 1 s.cells) e is)
-
-pub ruleset turns = turn-is
+pub left-at : (v : Cell) (e : Element) → Some e ≡ item_at v.num v.val → left_in v ≡ e ∷ drop (suc v.num) (elements_in (elements v.val))
+left-at v e h = grind (arith, got)
 
 -- behind a turn
-more-left : (v : Cell) → has_more v ≡ true → (e : Element) × (es : List Element) × (drop 1 (left_in v) ≡ e ∷ es)
+pub more-left : (v : Cell) → has_more v ≡ true
+    → drop 1 (left_in v) ≡ get_or (elements_in (elements v.val)) (v.num + 1) (nothing, nothing) ∷ drop (suc (v.num + 1)) (elements_in (elements v.val))
 more-left v h =
     let es = elements_in (elements v.val) in
     let inside : v.num + 1 < length es = (let less : v.num < length es - 1 = grind (arith, nat_tests) in omega arith) in
-    let none : Element = (nothing, nothing) in
-    (get_or es (v.num + 1) none, drop (suc (v.num + 1)) es, drop-drop 1 v.num es ∙ drop-cons es (v.num + 1) none inside)
+    drop-drop 1 v.num es ∙ drop-cons es (v.num + 1) (nothing, nothing) inside
 
 pub none-left : (v : Cell) → has_more v ≡ false → drop 1 (left_in v) ≡ []
 none-left v h =
@@ -101,48 +32,19 @@ none-left v h =
     let past : length es ≤ v.num + 1 = (let last : length es - 1 ≤ v.num = grind (arith, nat_tests) in omega arith) in
     drop-drop 1 v.num es ∙ drop_all (v.num + 1) es past
 
--- the second cell counts something else
-recounted : (cs : List Cell) (k : ℕ) → 2 ≤ length cs → slice_set cs 1 (cell (slot 1 cs) k) ≡ slot_cell 0 cs ∷ cell (slot_cell 1 cs).val k ∷ drop 2 cs
-recounted (c ∷ d ∷ cs) k h = refl
-recounted _ k h = absurd (omega arith)
+pub ruleset nexts = (more-left, none-left)
 
-module _ (plan : Plan) (t : Template) (n skip line : ℕ) (s : State) (some : 2 ≤ length (drop n s.cells)) where
-  abbrev v : Cell
-  v = slot_cell 1 (drop n s.cells)
+pub ruleset lefts = (left-at)
 
-  abbrev d : Cell
-  d = slot_cell 0 (drop n s.cells)
+-- ---- past the end
 
-  turn-by : (es : List Element) → drop 1 (left_in v) ≡ es → done plan t (code.next n skip line) s ≡ again plan t skip line d v (drop 2 (drop n s.cells)) es s
-  turn-by es e =
-      ring-is (drop n s.cells) (λ d v cs. again plan t skip line d v cs (drop 1 (left_in v)) s) some
-      ∙ ap (λ l. again plan t skip line d v (drop 2 (drop n s.cells)) l s) e
+none-here : (es : List Element) (i : ℕ) → slice_get es i ≡ None → drop i es ≡ []
+none-here [] zero h = refl
+none-here [] (suc i) h = refl
+none-here (x ∷ es) zero h = cc
+none-here (x ∷ es) (suc i) h = none-here es i h
 
-  pub next-over : has_more (slot_cell 1 (drop n s.cells)) ≡ false
-      → done plan t (code.next n skip line) s
-      ≡ goes (record s { cells = drop 2 (drop n s.cells); dot = (slot_cell 0 (drop n s.cells)).val; place = s.place + 1 + skip })
-  next-over h = turn-by [] (none-left v h)
+pub none-at : (o : Option (List Element)) (i : ℕ) → element_at i o ≡ None → drop i (elements_in o) ≡ []
+none-at o i h = grind (arith, none-here)
 
-  pub next-spent : has_more (slot_cell 1 (drop n s.cells)) ≡ true → s.left ≡ 0
-      → done plan t (code.next n skip line) s ≡ failed t line (steps_spent plan.rules.step_limit) s
-  next-spent h left = let more = more-left v h in
-      turn-by (more.0 ∷ more.1) more.2 ∙ ap (λ b. paid_if b plan t line s (λ u. onto (d ∷ cell v.val (suc v.num) ∷ drop 2 (drop n s.cells)) d.num u))
-      (let z : nat_eq s.left 0 ≡ true = grind (arith, nat_tests) in z)
-
-  pub next-more : has_more (slot_cell 1 (drop n s.cells)) ≡ true → s.left ≢ 0
-      → done plan t (code.next n skip line) s ≡ goes (record s {
-        cells = slice_set (drop n s.cells) 1
-            (cell (slot 1 (drop n s.cells)) ((slot_cell 1 (drop n s.cells)).num + 1));
-        left = s.left - 1;
-        line = line;
-        place =
-            (slot_cell 0 (drop n s.cells)).num;
-      })
-  next-more h left = let more = more-left v h in let one : suc v.num ≡ v.num + 1 = omega arith in
-      turn-by (more.0 ∷ more.1) more.2 ∙ ap (λ b. paid_if b plan t line s (λ u. onto (d ∷ cell v.val (suc v.num) ∷ drop 2 (drop n s.cells)) d.num u))
-      (let z : nat_eq s.left 0 ≡ false = grind (arith, nat_tests) in z)
-      ∙ ap (λ k. goes (record s { cells = d ∷ cell v.val k ∷ drop 2 (drop n s.cells); left = s.left - 1; line = line; place = d.num })) one
-      ∙ ap (λ (cs : List Cell). goes (record s { cells = cs; left = s.left - 1; line = line; place = d.num }))
-      (sym (recounted (drop n s.cells) (v.num + 1) some))
-
-pub ruleset nexts = (next-over, next-spent, next-more)
+pub ruleset lands = (none-at, none-left)

@@ -20,18 +20,11 @@ use Rattle.tmpl_run.specs.Ready.{Has}
 use Rattle.tmpl_run.specs.Ends.{Comes, Ends, IsReady, Leads}
 use Rattle.tmpl_run.proofs.SlotLemmas.{Cells, Frame, Over, dropped, env-dropped, frame_of, named, named-less, run_of}
 
-pub here : (code is : Code) (pc : ℕ) (i : Instruction) → drop pc code ≡ i ∷ is → slice_get code pc ≡ Some i
+here : (code is : Code) (pc : ℕ) (i : Instruction) → drop pc code ≡ i ∷ is → slice_get code pc ≡ Some i
 here [] is zero i e = cc
 here [] is (suc pc) i e = cc
 here (j ∷ code) is zero i e = let same : j ≡ i = cc in ap (λ x. Some x) same
 here (j ∷ code) is (suc pc) i e = here code is pc i e
-
--- behind the next instruction and so many more
-pub ahead : (code is : Code) (pc k : ℕ) (i : Instruction) → drop pc code ≡ i ∷ is → drop (pc + 1 + k) code ≡ drop k is
-ahead code is pc k i e = sym (drop-drop k (pc + 1) code) ∙ ap (drop k) (sym (drop-drop 1 pc code) ∙ ap (drop 1) e)
-
-pub ahead-one : (prog is : Code) (pc : ℕ) (i : Instruction) → drop pc prog ≡ i ∷ is → drop (pc + 1) prog ≡ is
-ahead-one prog is pc i e = sym (drop-drop 1 pc prog) ∙ ap (drop 1) e
 
 -- the run as it is seen
 abbrev pub seen : Run → Option Fault → Ran
@@ -99,22 +92,9 @@ pub run-dropped : {n : ℕ} {big lay : Layout} {high low : Frame} → Over n big
     → run_of lay (record s { cells = drop n s.cells }) ≡ cut_to (named lay) (run_of big s)
 run-dropped {n} {big} o s c = ap (λ (v : Environment). record (run_of big s) { env = v }) (env-dropped o c)
 
--- one instruction, by where it goes
-pub taken : (plan : Plan) (room : ℕ) (f : Ran) (me : Template) (s : State) (i : Instruction) → slice_get plan.templates s.template ≡ Some me
-    → slice_get plan.code s.place ≡ Some i
-    → Has i (length s.cells) room → Comes (λ t. Ends plan room t f) (done plan me i s) f → Ends plan room s f
-taken plan room f me s i is-me there ready more = by (done plan me i s) refl more
-  where
-    able : IsReady room (slice_get plan.code s.place) s
-    able = subst (λ o. IsReady room o s) (sym there) ready
-
-    next : next_of plan s ≡ done plan me i s
-    next = ap (λ o. done_in plan o (slice_get plan.code s.place) s) is-me ∙ ap (λ o. done_in plan (Some me) o s) there
-
-    by : (t : Turn) → done plan me i s ≡ t → Comes (λ t. Ends plan room t f) t f → Ends plan room s f
-    by (goes t) e h = (suc h.0, (able, subst (λ x. Comes (λ t. Leads plan room h.0 t f) x f) (sym (next ∙ e)) h.1))
-    by (ended r) e h = (1, (able, subst (λ x. Comes (λ t. Leads plan room 0 t f) x f) (sym (next ∙ e)) h))
-    by stuck e h = absurd h
+-- the run comes to its end; nominal, so that it says of which state
+pub record Reaches (plan : Plan) (room : ℕ) (end : Ran) (s : State) : Type 0 where
+  pub ends : Ends plan room s end
 
 -- a run inside a template, on its way to an end over so many cells: what it goes by, the template that runs, and the cells at its start
 pub record Way : Type 0 where
@@ -131,17 +111,39 @@ way_of plan room end who me is-me home = record { plan = plan; room = room; end 
 
 module _ (way : Way) where
   abbrev pub Leading : State → Type 0
-  Leading s = Ends way.plan way.room s way.end
+  Leading s = Reaches way.plan way.room way.end s
 
   -- what its template means, by what names call
   abbrev pub setting : Calls → Setting
   setting calls = setting_of way.plan.rules calls way.me.0 way.me.1
 
-  pub takes : (s : State) (i : Instruction) (is : Code) → who_of s ≡ way.who → drop s.place way.plan.code ≡ i ∷ is → Has i (length s.cells) way.room
-      → Comes (λ t. Leading t) (done way.plan way.me i s) way.end → Leading s
-  takes s i is same at ready more =
-      taken way.plan way.room way.end way.me s i (ap (λ (w : Who). slice_get way.plan.templates w.number) same ∙ way.is-me) (here way.plan.code is s.place i at)
-      ready more
+  -- behind an instruction, and behind so many more
+  pub next : {i : Instruction} {is : Code} (pc : ℕ) → drop pc way.plan.code ≡ i ∷ is → drop (pc + 1) way.plan.code ≡ is
+  next pc at = sym (drop-drop 1 pc way.plan.code) ∙ ap (drop 1) at
+
+  pub jump : {i : Instruction} {is : Code} (pc k : ℕ) → drop pc way.plan.code ≡ i ∷ is → drop (pc + 1 + k) way.plan.code ≡ drop k is
+  jump pc k at = sym (drop-drop k (pc + 1) way.plan.code) ∙ ap (drop k) (next pc at)
+
+  -- one instruction, by where it goes
+  pub does : {s : State} {i : Instruction} {is : Code} → who_of s ≡ way.who → drop s.place way.plan.code ≡ i ∷ is → Has i (length s.cells) way.room
+      → Comes Leading (done way.plan way.me i s) way.end → Leading s
+  does {s} {i} {is} same at ready more = by (done way.plan way.me i s) refl more
+    where
+      there : slice_get way.plan.code s.place ≡ Some i
+      there = here way.plan.code is s.place i at
+
+      able : IsReady way.room (slice_get way.plan.code s.place) s
+      able = subst (λ o. IsReady way.room o s) (sym there) ready
+
+      after : next_of way.plan s ≡ done way.plan way.me i s
+      after = ap (λ (w : Who). done_in way.plan (slice_get way.plan.templates w.number) (slice_get way.plan.code s.place) s) same
+          ∙ ap (λ o. done_in way.plan o (slice_get way.plan.code s.place) s) way.is-me ∙ ap (λ o. done_in way.plan (Some way.me) o s) there
+
+      by : (t : Turn) → done way.plan way.me i s ≡ t → Comes Leading t way.end → Leading s
+      by (goes t) e h = let leads = h.ends in
+          record { ends = (suc leads.0, (able, subst (λ x. Comes (λ t. Leads way.plan way.room leads.0 t way.end) x way.end) (sym (after ∙ e)) leads.1)) }
+      by (ended r) e h = record { ends = (1, (able, subst (λ x. Comes (λ t. Leads way.plan way.room 0 t way.end) x way.end) (sym (after ∙ e)) h)) }
+      by stuck e h = absurd h
 
   -- where a part that is done goes on
   abbrev pub Onward : Code → Layout → Frame → Value → Run → Type 0
@@ -217,30 +219,25 @@ module _ (way : Way) where
       → drop s.place way.plan.code ≡ code.spend line ∷ is
       → After A g (meaning.spend (setting calls) line go (run_of lay s))
       → (drop (s.place + 1) way.plan.code ≡ is → After A g (go (run_of lay (step_taken line s))) → Leading (step_taken line s)) → Leading s
-  spends calls A g lay line is s go same at k more = takes s (code.spend line) is same at tt (by (nat_eq s.left 0) k)
+  spends calls A g lay line is s go same at k more = does same at tt (by (nat_eq s.left 0) k)
     where
       by : (b : Bool) → After A g (spend_if b (setting calls) line go (run_of lay s))
           → Comes (λ t. Leading t) (paid_if b way.plan way.me line s (λ s. onto s.cells (s.place + 1) s)) way.end
       by true k = k
-      by false k = more (ahead-one way.plan.code is s.place (code.spend line) at) k
+      by false k = more (next s.place at) k
 
   -- so many cells are forgotten, and a part goes on at this place
-  closed : {n : ℕ} {end : Code} {big lay : Layout} {high low : Frame} (place : ℕ) (rest : Code) (d : Value) (r : Run) (s : State)
-      → drop place way.plan.code ≡ rest → Stands way.plan way.who end big high s → Over n big lay high low → s.dot ≡ d → run_of big s ≡ r
-      → Onward rest lay low d (cut_to (named lay) r) → Leading (record s { cells = drop n s.cells; place = place })
-  closed {n} {end} {big} {lay} place rest d r s at st over same is k =
+  closed : {n place : ℕ} {rest end : Code} {big lay : Layout} {high low : Frame} {d : Value} {r : Run} {s : State} → drop place way.plan.code ≡ rest
+      → Stands way.plan way.who end big high s → Over n big lay high low → s.dot ≡ d → run_of big s ≡ r → Onward rest lay low d (cut_to (named lay) r)
+      → Leading (record s { cells = drop n s.cells; place = place })
+  closed {lay = lay} {s = s} at st over same is k =
       k _ (record { at = at; runs = st.runs; cells = dropped over st.cells }) same (run-dropped over s st.cells ∙ ap (cut_to (named lay)) is)
 
-  forgets : {end : Code} {big lay : Layout} {high low : Frame} (n skip : ℕ) (more rest : Code) (d : Value) (r : Run) (s : State) → end ≡ code.cut n skip ∷ more
-      → Stands way.plan way.who end big high s → Over n big lay high low → drop skip more ≡ rest → s.dot ≡ d → run_of big s ≡ r
-      → Onward rest lay low d (cut_to (named lay) r) → Leading s
-  forgets n skip more rest d r s e st over far same is k =
-      takes s (code.cut n skip) more st.runs (st.at ∙ e) (let deep = st.cells.deep in omega (arith, over.size))
-      (closed (s.place + 1 + skip) rest d r s (ahead way.plan.code more s.place skip (code.cut n skip) (st.at ∙ e) ∙ far) st over same is k)
-
   -- the end of a part
-  pub closes : {end : Code} {big lay : Layout} {high low : Frame} (n skip : ℕ) (more rest : Code) (d : Value) (r : Run) (s : State) → EndAt n skip end more
+  pub closes : {end rest : Code} {big lay : Layout} {high low : Frame} {d : Value} {r : Run} {s : State} (n skip : ℕ) (more : Code)
+      → EndAt n skip end more
       → Stands way.plan way.who end big high s → Over n big lay high low → drop skip more ≡ rest → s.dot ≡ d → run_of big s ≡ r
       → Onward rest lay low d (cut_to (named lay) r) → Leading s
-  closes zero zero more rest d r s e st over far same is k = closed s.place rest d r s (st.at ∙ e ∙ far) st over same is k
-  closes n skip more rest d r s e st over far same is k = forgets n skip more rest d r s e st over far same is k
+  closes zero zero more e st over far same is k = closed (st.at ∙ e ∙ far) st over same is k
+  closes {s = s} n skip more e st over far same is k =
+      does st.runs (st.at ∙ e) (let deep = st.cells.deep in omega (arith, over.size)) (closed (jump s.place skip (st.at ∙ e) ∙ far) st over same is k)

@@ -4,7 +4,7 @@ ghost use Rattle.std.specs.Prelude.{◌≡◌, ◌+◌, ◌-◌, ◌<◌, ◌^�
 ghost use Rattle.tmpl_meaning.specs.Sink.{IsPut};
 ghost use Rattle.tmpl_code.specs.Instruction.{act, push_dot, push_fields, push_slot};
 ghost use Rattle.tmpl_code.specs.View.{instruction_of, instructions_of};
-ghost use Rattle.tmpl_run.specs.computed.Machines.{Told};
+ghost use Rattle.tmpl_run.specs.computed.Machines.{by_mode, untold};
 ghost use Rattle.tmpl_run.specs.computed.Output.{Grows, given_of};
 ghost use Rattle.tmpl_run.specs.computed.Plain.{IsPlain, SparedOr};
 ghost use Rattle.tmpl_run.specs.computed.Turned.{Shown, TurnedBy, is_shown, put_by, put_out, settles, shows};
@@ -60,15 +60,14 @@ impl<'m, 'a> Machine<'m, 'a> {
         piece: &mut Piece<'_>,
         sink: &mut S,
     ) -> Result<Flow, Halt<'a>>
-        ghost run: { Told }
-        requires code { run.plan.code ≡ instructions_of code.now }
         requires here { self.old.place < length code.now }
         requires room { length (cells_of self.old.stack) < size_of self.old.stack }
         requires countable { (S.so_far sink.old).failures < 2 ^ 64 - 1 }
-        ensures step { TurnedBy (is_shown run.plan.code self.old.place) run (act push_dot) self.old self.new result }
+        ensures step { TurnedBy (is_shown (instructions_of code.now) self.old.place) untold (act push_dot)
+            self.old self.new result }
         ensures given { IsPut (put_by result) (given_of (S.so_far sink.old) piece.old)
             (given_of (S.so_far sink.new) piece.new)
-            (put_out (is_shown run.plan.code self.old.place) run (act push_dot) self.old result) }
+            (put_out (is_shown (instructions_of code.now) self.old.place) untold (act push_dot) self.old result) }
         ensures taken { Grows (S.so_far sink.old) (S.so_far sink.new) }
         ensures plain { IsPlain self.old → SparedOr result (IsPlain self.new) }
         ensures size { size_of self.new.stack ≡ size_of self.old.stack }
@@ -89,17 +88,16 @@ impl<'m, 'a> Machine<'m, 'a> {
         piece: &mut Piece<'_>,
         sink: &mut S,
     ) -> Result<Flow, Halt<'a>>
-        ghost run: { Told }
-        requires mode { run.plan.rules.missing_key ≡ missing_key }
-        requires code { run.plan.code ≡ instructions_of code.now }
         requires here { self.old.place < length code.now }
         requires room { length (cells_of self.old.stack) < size_of self.old.stack }
         requires countable { (S.so_far sink.old).failures < 2 ^ 64 - 1 }
-        ensures step { TurnedBy (is_shown run.plan.code self.old.place) run (act (push_fields names.now))
+        ensures step { TurnedBy (is_shown (instructions_of code.now) self.old.place) (by_mode missing_key)
+            (act (push_fields names.now))
             self.old self.new result }
         ensures given { IsPut (put_by result) (given_of (S.so_far sink.old) piece.old)
             (given_of (S.so_far sink.new) piece.new)
-            (put_out (is_shown run.plan.code self.old.place) run (act (push_fields names.now)) self.old result) }
+            (put_out (is_shown (instructions_of code.now) self.old.place) (by_mode missing_key)
+            (act (push_fields names.now)) self.old result) }
         ensures taken { Grows (S.so_far sink.old) (S.so_far sink.new) }
         ensures plain { IsPlain self.old → SparedOr result (IsPlain self.new) }
         ensures size { size_of self.new.stack ≡ size_of self.old.stack }
@@ -119,17 +117,16 @@ impl<'m, 'a> Machine<'m, 'a> {
         piece: &mut Piece<'_>,
         sink: &mut S,
     ) -> Result<Flow, Halt<'a>>
-        ghost run: { Told }
         requires found { slot < length (cells_of self.old.stack) }
-        requires code { run.plan.code ≡ instructions_of code.now }
         requires here { self.old.place < length code.now }
         requires room { length (cells_of self.old.stack) < size_of self.old.stack }
         requires countable { (S.so_far sink.old).failures < 2 ^ 64 - 1 }
-        ensures step { TurnedBy (is_shown run.plan.code self.old.place) run (act (push_slot slot))
+        ensures step { TurnedBy (is_shown (instructions_of code.now) self.old.place) untold (act (push_slot slot))
             self.old self.new result }
         ensures given { IsPut (put_by result) (given_of (S.so_far sink.old) piece.old)
             (given_of (S.so_far sink.new) piece.new)
-            (put_out (is_shown run.plan.code self.old.place) run (act (push_slot slot)) self.old result) }
+            (put_out (is_shown (instructions_of code.now) self.old.place) untold (act (push_slot slot))
+            self.old result) }
         ensures taken { Grows (S.so_far sink.old) (S.so_far sink.new) }
         ensures plain { IsPlain self.old → SparedOr result (IsPlain self.new) }
         ensures size { size_of self.new.stack ≡ size_of self.old.stack }
@@ -143,12 +140,11 @@ impl<'m, 'a> Machine<'m, 'a> {
     /// Puts out the text of dot, for three instructions.
     #[inline(always)]
     fn show_dot<S: Sink>(&mut self, piece: &mut Piece<'_>, sink: &mut S) -> Result<Flow, Halt<'a>>
-        ghost run: { Told }
         requires place { self.old.place + 3 < 2 ^ 64 }
         requires countable { (S.so_far sink.old).failures < 2 ^ 64 - 1 }
-        ensures step { Shown run (act push_dot) self.old self.new result }
+        ensures step { Shown untold (act push_dot) self.old self.new result }
         ensures given { IsPut (put_by result) (given_of (S.so_far sink.old) piece.old)
-            (given_of (S.so_far sink.new) piece.new) (put_out true run (act push_dot) self.old result) }
+            (given_of (S.so_far sink.new) piece.new) (put_out true untold (act push_dot) self.old result) }
         ensures taken { Grows (S.so_far sink.old) (S.so_far sink.new) }
         ensures plain { IsPlain self.old → SparedOr result (IsPlain self.new) }
         ensures size { size_of self.new.stack ≡ size_of self.old.stack }
@@ -167,14 +163,12 @@ impl<'m, 'a> Machine<'m, 'a> {
         piece: &mut Piece<'_>,
         sink: &mut S,
     ) -> Result<Flow, Halt<'a>>
-        ghost run: { Told }
-        requires mode { run.plan.rules.missing_key ≡ missing_key }
         requires place { self.old.place + 3 < 2 ^ 64 }
         requires countable { (S.so_far sink.old).failures < 2 ^ 64 - 1 }
-        ensures step { Shown run (act (push_fields names.now)) self.old self.new result }
+        ensures step { Shown (by_mode missing_key) (act (push_fields names.now)) self.old self.new result }
         ensures given { IsPut (put_by result) (given_of (S.so_far sink.old) piece.old)
             (given_of (S.so_far sink.new) piece.new)
-            (put_out true run (act (push_fields names.now)) self.old result) }
+            (put_out true (by_mode missing_key) (act (push_fields names.now)) self.old result) }
         ensures taken { Grows (S.so_far sink.old) (S.so_far sink.new) }
         ensures plain { IsPlain self.old → SparedOr result (IsPlain self.new) }
         ensures size { size_of self.new.stack ≡ size_of self.old.stack }
@@ -193,13 +187,12 @@ impl<'m, 'a> Machine<'m, 'a> {
         piece: &mut Piece<'_>,
         sink: &mut S,
     ) -> Result<Flow, Halt<'a>>
-        ghost run: { Told }
         requires found { slot < length (cells_of self.old.stack) }
         requires place { self.old.place + 3 < 2 ^ 64 }
         requires countable { (S.so_far sink.old).failures < 2 ^ 64 - 1 }
-        ensures step { Shown run (act (push_slot slot)) self.old self.new result }
+        ensures step { Shown untold (act (push_slot slot)) self.old self.new result }
         ensures given { IsPut (put_by result) (given_of (S.so_far sink.old) piece.old)
-            (given_of (S.so_far sink.new) piece.new) (put_out true run (act (push_slot slot)) self.old result) }
+            (given_of (S.so_far sink.new) piece.new) (put_out true untold (act (push_slot slot)) self.old result) }
         ensures taken { Grows (S.so_far sink.old) (S.so_far sink.new) }
         ensures plain { IsPlain self.old → SparedOr result (IsPlain self.new) }
         ensures size { size_of self.new.stack ≡ size_of self.old.stack }

@@ -3,9 +3,9 @@ ghost use Rattle.std.specs.Prelude.{◌≡◌, ◌+◌, ◌<◌, ◌≤◌, ◌^
 ghost use Rattle.tmpl_values.specs.View.{is_kept};
 ghost use Rattle.tmpl_meaning.specs.View.{rules_of};
 ghost use Rattle.tmpl_code.specs.Instruction as code;
-ghost use Rattle.tmpl_run.specs.computed.Machines.{Told};
+ghost use Rattle.tmpl_run.specs.computed.Machines.{untold};
 ghost use Rattle.tmpl_run.specs.computed.Plain.{IsPlain, SparedOr};
-ghost use Rattle.tmpl_run.specs.computed.Turned.{Executed, TurnedOr};
+ghost use Rattle.tmpl_run.specs.computed.Turned.{Executed, TurnedUnder};
 ghost use Rattle.tmpl_run.specs.computed.View.{cells_of, size_of};
 
 use crate::flow::Flow;
@@ -17,12 +17,10 @@ use tmpl_values::Val;
 
 impl<'m, 'a> Machine<'m, 'a> {
     /// Looks, before a call at this line, whether a step is left and one more template may be inside the others.
-    #[tactic(auto, using(crate::proofs::CallingLemmas::deepens))]
+    #[tactic(auto)]
     pub(crate) fn deepen(&mut self, options: &Options, line: u64) -> Result<Flow, Halt<'a>>
-        ghost run: { Told }
-        requires rules { run.plan.rules ≡ rules_of options.now }
         requires place { self.old.place + 1 < 2 ^ 64 }
-        ensures step { TurnedOr run (code.deepen line) self.old self.new result }
+        ensures step { TurnedUnder (rules_of options.now) (λ _. Unit {0}) (code.deepen line) self.old self.new result }
         ensures plain { IsPlain self.old → SparedOr result (IsPlain self.new) }
         ensures size { size_of self.new.stack ≡ size_of self.old.stack }
     {
@@ -38,21 +36,19 @@ impl<'m, 'a> Machine<'m, 'a> {
     }
 
     /// Takes a step and runs the template of this number, whose code starts here, over the newest value.
-    #[tactic(auto, using(crate::proofs::CallingLemmas::invokes))]
+    #[tactic(auto)]
     pub(crate) fn invoke(
         &mut self,
         options: &Options,
         number: usize,
         start: usize,
     ) -> Result<Flow, Halt<'a>>
-        ghost run: { Told }
-        requires rules { run.plan.rules ≡ rules_of options.now }
-        requires starts { slice_get run.plan.starts number ≡ Some start }
         requires found { 1 ≤ length (cells_of self.old.stack) }
         requires room { length (cells_of self.old.stack) + 2 ≤ size_of self.old.stack }
         requires depth { self.old.depth + 1 < 2 ^ 64 }
         requires place { self.old.place + 1 < 2 ^ 64 }
-        ensures step { TurnedOr run (code.invoke number) self.old self.new result }
+        ensures step { TurnedUnder (rules_of options.now) (λ plan. slice_get plan.starts number ≡ Some start)
+            (code.invoke number) self.old self.new result }
         ensures kept { OnOk result (is_kept self.new.dot ≡ true) }
         ensures plain { IsPlain self.old → SparedOr result (IsPlain self.new) }
         ensures size { size_of self.new.stack ≡ size_of self.old.stack }
@@ -73,11 +69,10 @@ impl<'m, 'a> Machine<'m, 'a> {
 
     /// Ends a template: forgets so many cells and its own, and goes on where its caller does. The run is over where
     /// there is no caller.
-    #[tactic(auto, using(crate::proofs::CallingLemmas::returns))]
+    #[tactic(auto)]
     pub(crate) fn return_from(&mut self, count: usize) -> Flow
-        ghost run: { Told }
         requires found { 1 < self.old.depth → count + 3 ≤ length (cells_of self.old.stack) }
-        ensures step { Executed run (code.return_from count) self.old self.new (Ok result) }
+        ensures step { Executed untold (code.return_from count) self.old self.new (Ok result) }
         ensures plain { IsPlain self.old → IsPlain self.new }
         ensures size { size_of self.new.stack ≡ size_of self.old.stack }
     {

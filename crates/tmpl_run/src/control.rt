@@ -5,10 +5,10 @@ ghost use Rattle.tmpl_values.specs.View.{is_kept};
 ghost use Rattle.tmpl_meaning.specs.View.{rules_of};
 ghost use Rattle.tmpl_code.specs.Instruction as code;
 ghost use Rattle.tmpl_run.specs.Cell.{slot};
-ghost use Rattle.tmpl_run.specs.computed.Machines.{Told};
+ghost use Rattle.tmpl_run.specs.computed.Machines.{untold};
 ghost use Rattle.tmpl_run.specs.computed.Plain.{IsPlain, Spared, SparedOr};
 ghost use Rattle.tmpl_run.specs.Ready.{RoomIf};
-ghost use Rattle.tmpl_run.specs.computed.Turned.{Executed, TurnedOr};
+ghost use Rattle.tmpl_run.specs.computed.Turned.{Executed, TurnedUnder};
 ghost use Rattle.tmpl_run.specs.computed.View.{cells_of, size_of};
 
 use crate::flow::Flow;
@@ -22,10 +22,8 @@ use tmpl_values::Cell;
 impl<'m, 'a> Machine<'m, 'a> {
     /// Takes a step at this line.
     pub(crate) fn spend(&mut self, options: &Options, line: u64) -> Result<Flow, Halt<'a>>
-        ghost run: { Told }
-        requires rules { run.plan.rules ≡ rules_of options.now }
         requires place { self.old.place + 1 < 2 ^ 64 }
-        ensures step { TurnedOr run (code.spend line) self.old self.new result }
+        ensures step { TurnedUnder (rules_of options.now) (λ _. Unit {0}) (code.spend line) self.old self.new result }
         ensures plain { IsPlain self.old → SparedOr result (IsPlain self.new) }
         ensures size { size_of self.new.stack ≡ size_of self.old.stack }
     {
@@ -40,10 +38,9 @@ impl<'m, 'a> Machine<'m, 'a> {
 
     /// Forgets so many cells and goes to where a jump ends.
     pub(crate) fn forget(&mut self, count: usize, skip: usize) -> Flow
-        ghost run: { Told }
         requires place { self.old.place + 1 + skip < 2 ^ 64 }
         requires found { count ≤ length (cells_of self.old.stack) }
-        ensures step { Executed run (code.cut count skip) self.old self.new (Ok result) }
+        ensures step { Executed untold (code.cut count skip) self.old self.new (Ok result) }
         ensures plain { IsPlain self.old → IsPlain self.new }
         ensures size { size_of self.new.stack ≡ size_of self.old.stack }
     {
@@ -53,13 +50,12 @@ impl<'m, 'a> Machine<'m, 'a> {
     }
 
     /// Goes on with the body of an `if` where the newest value is not empty, and with its other part else.
-    #[tactic(auto, using(crate::proofs::StackLemmas::tops))]
+    #[tactic(auto)]
     pub(crate) fn branch(&mut self, kept: bool, skip: usize) -> Flow
-        ghost run: { Told }
         requires found { 1 ≤ length (cells_of self.old.stack) }
         requires body { self.old.place + 1 < 2 ^ 64 }
         requires other { truth (slot 0 (cells_of self.old.stack)) ≡ false → self.old.place + 1 + skip < 2 ^ 64 }
-        ensures step { Executed run (code.unless kept skip) self.old self.new (Ok result) }
+        ensures step { Executed untold (code.unless kept skip) self.old self.new (Ok result) }
         ensures plain { IsPlain self.old → IsPlain self.new }
         ensures size { size_of self.new.stack ≡ size_of self.old.stack }
     {
@@ -76,13 +72,12 @@ impl<'m, 'a> Machine<'m, 'a> {
     /// Where the newest value is not empty it becomes dot, and the dot from outside is saved; else goes on with the
     /// other part.
     pub(crate) fn open_with(&mut self, kept: bool, skip: usize) -> Result<Flow, AllocError>
-        ghost run: { Told }
         requires found { 1 ≤ length (cells_of self.old.stack) }
         requires within { length (cells_of self.old.stack) ≤ size_of self.old.stack }
         requires room { RoomIf kept (length (cells_of self.old.stack)) (size_of self.old.stack) }
         requires body { self.old.place + 1 < 2 ^ 64 }
         requires other { truth (slot 0 (cells_of self.old.stack)) ≡ false → self.old.place + 1 + skip < 2 ^ 64 }
-        ensures step { IfOk result (λ f. Executed run (code.enter_with kept skip) self.old self.new (Ok f)) }
+        ensures step { IfOk result (λ f. Executed untold (code.enter_with kept skip) self.old self.new (Ok f)) }
         ensures dot { truth (slot 0 (cells_of self.old.stack)) ≡ true
             → OnOk result (is_kept self.new.dot ≡ true) }
         ensures plain { IsPlain self.old → Spared result (IsPlain self.new) }
@@ -107,12 +102,11 @@ impl<'m, 'a> Machine<'m, 'a> {
     }
 
     /// Ends the body of a `with`: takes dot back from the cell below so many, and forgets the variables of the header.
-    #[tactic(auto, using(crate::proofs::StackLemmas::tops))]
+    #[tactic(auto)]
     pub(crate) fn close_with(&mut self, count: usize, variables: usize, skip: usize) -> Flow
-        ghost run: { Told }
         requires place { self.old.place + 1 + skip < 2 ^ 64 }
         requires found { count + 1 + variables ≤ length (cells_of self.old.stack) }
-        ensures step { Executed run (code.end_with count variables skip) self.old self.new (Ok result) }
+        ensures step { Executed untold (code.end_with count variables skip) self.old self.new (Ok result) }
         ensures plain { IsPlain self.old → IsPlain self.new }
         ensures size { size_of self.new.stack ≡ size_of self.old.stack }
     {

@@ -3,12 +3,12 @@ ghost use Rattle.std.specs.Prelude.{◌≡◌, ◌+◌, ◌-◌, ◌<◌, ◌≤
 ghost use Rattle.tmpl_meaning.specs.Sink.{IsPut};
 ghost use Rattle.tmpl_code.specs.View.{instruction_of, instructions_of};
 ghost use Rattle.tmpl_run.specs.Machine.{done};
-ghost use Rattle.tmpl_run.specs.computed.Machines.{Told, state_of};
+ghost use Rattle.tmpl_run.specs.computed.Machines.{no_template, state_of};
 ghost use Rattle.tmpl_run.specs.computed.Output.{Grows, given_of};
 ghost use Rattle.tmpl_run.specs.computed.Plain.{IsPlain, SparedOr};
 ghost use Rattle.tmpl_run.specs.Ready.{Has};
 ghost use Rattle.tmpl_run.specs.computed.Plan.{plan_of};
-ghost use Rattle.tmpl_run.specs.computed.Turned.{Lands, TurnedBy, at_once, mark_behind, put_by, put_out};
+ghost use Rattle.tmpl_run.specs.computed.Turned.{IsAble, Lands, TurnedBy, at_once, mark_behind, put_by, put_out};
 ghost use Rattle.tmpl_run.specs.computed.View.{cells_of, size_of};
 
 use crate::flow::Flow;
@@ -23,6 +23,7 @@ use tmpl_values::Val;
 impl<'m, 'a> Machine<'m, 'a> {
     /// Carries out an instruction, at once with the two behind it where they show the value that it puts. It is inlined
     /// into the loop of a run, so that its answer is not written to memory and read back for each instruction.
+    #[tactic(auto, using(crate::proofs::TurnLemmas::lands))]
     #[inline(always)]
     pub(crate) fn execute<S: Sink>(
         &mut self,
@@ -33,24 +34,25 @@ impl<'m, 'a> Machine<'m, 'a> {
         piece: &mut Piece<'_>,
         sink: &mut S,
     ) -> Result<Flow, Halt<'a>>
-        ghost run: { Told }
-        requires plan { run.plan ≡ plan_of options.now program.now }
         requires place { self.old.place + 1 < 2 ^ 64 }
         requires depth { self.old.depth + 1 < 2 ^ 64 }
         requires within { length (cells_of self.old.stack) ≤ size_of self.old.stack }
         requires ready { Has (instruction_of instruction.now) (length (cells_of self.old.stack))
             (size_of self.old.stack) }
-        requires lands { Lands (done run.plan run.template (instruction_of instruction.now) (state_of run self.old)) }
+        requires lands { Lands (done (plan_of options.now program.now) no_template (instruction_of instruction.now)
+            (state_of self.old)) }
+        requires able { IsAble (plan_of options.now program.now) (instruction_of instruction.now) (state_of self.old) }
         requires countable { (S.so_far sink.old).failures < 2 ^ 64 - 1 }
-        requires code { run.plan.code ≡ instructions_of code.now }
         requires here { self.old.place < length code.now }
         ensures step { let i = instruction_of instruction.now in
-            TurnedBy (at_once run.plan.code self.old.place i) run i self.old self.new result }
+            TurnedBy (at_once (instructions_of code.now) self.old.place i) (plan_of options.now program.now) i
+            self.old self.new result }
         ensures given { let i = instruction_of instruction.now in
             IsPut (put_by result) (given_of (S.so_far sink.old) piece.old) (given_of (S.so_far sink.new) piece.new)
-            (put_out (at_once run.plan.code self.old.place i) run i self.old result) }
+            (put_out (at_once (instructions_of code.now) self.old.place i) (plan_of options.now program.now) i
+            self.old result) }
         ensures taken { Grows (S.so_far sink.old) (S.so_far sink.new) }
-        ensures plain { mark_behind (instruction_of instruction.now) run.made_text ≡ false
+        ensures plain { mark_behind (instruction_of instruction.now) false ≡ false
             → IsPlain self.old → SparedOr result (IsPlain self.new) }
         ensures size { size_of self.new.stack ≡ size_of self.old.stack }
     {

@@ -10,7 +10,7 @@ ghost use Rattle.tmpl_code.specs.Instruction.{act, call_with, chained, decide, p
 ghost use Rattle.tmpl_code.specs.Instruction.{settle};
 ghost use Rattle.tmpl_code.specs.View.{refusal_of};
 ghost use Rattle.tmpl_run.specs.Cell.{fresh, slot};
-ghost use Rattle.tmpl_run.specs.computed.Machines.{Told, state_of};
+ghost use Rattle.tmpl_run.specs.computed.Machines.{by_mode, state_of, untold};
 ghost use Rattle.tmpl_run.specs.computed.Plain.{IsPlain, SparedOr};
 ghost use Rattle.tmpl_run.specs.Step as pipe;
 ghost use Rattle.tmpl_run.specs.computed.Turned.{Executed, IsFound, TurnedOr};
@@ -39,10 +39,9 @@ pub(crate) fn fault_for<'a>(why: Refusal) -> RunFaultKind<'a>
 impl<'m, 'a> Machine<'m, 'a> {
     /// Puts a value, and goes to the next instruction.
     pub(crate) fn give(&mut self, val: Val<'a>)
-        ghost run: { Told }
         requires room { length (cells_of self.old.stack) < size_of self.old.stack }
         requires place { self.old.place + 1 < 2 ^ 64 }
-        ensures step { state_of run self.new ≡ record (state_of run self.old) {
+        ensures step { state_of self.new ≡ record (state_of self.old) {
           cells = fresh (val_of val.entry) ∷ cells_of self.old.stack;
           place = self.old.place + 1;
         } }
@@ -55,10 +54,9 @@ impl<'m, 'a> Machine<'m, 'a> {
 
     /// Puts dot.
     pub(crate) fn push_dot(&mut self) -> Result<Flow, Halt<'a>>
-        ghost run: { Told }
         requires room { length (cells_of self.old.stack) < size_of self.old.stack }
         requires place { self.old.place + 1 < 2 ^ 64 }
-        ensures step { TurnedOr run (act push_dot) self.old self.new result }
+        ensures step { TurnedOr untold (act push_dot) self.old self.new result }
         ensures plain { IsPlain self.old → SparedOr result (IsPlain self.new) }
         ensures size { size_of self.new.stack ≡ size_of self.old.stack }
     {
@@ -68,7 +66,7 @@ impl<'m, 'a> Machine<'m, 'a> {
     }
 
     /// The field of the field of .. of dot, by these names.
-    #[tactic(auto, using(crate::proofs::OperationLemmas::fields))]
+    #[tactic(auto)]
     #[inline(always)]
     pub(crate) fn field_of_dot(
         &self,
@@ -86,17 +84,15 @@ impl<'m, 'a> Machine<'m, 'a> {
     }
 
     /// Puts the field of the field of .. of dot, by these names.
-    #[tactic(auto, using(crate::proofs::OperationLemmas::fields))]
+    #[tactic(auto)]
     pub(crate) fn push_fields(
         &mut self,
         missing_key: MissingKey,
         names: &'a [Bytes],
     ) -> Result<Flow, Halt<'a>>
-        ghost run: { Told }
-        requires mode { run.plan.rules.missing_key ≡ missing_key }
         requires room { length (cells_of self.old.stack) < size_of self.old.stack }
         requires place { self.old.place + 1 < 2 ^ 64 }
-        ensures step { TurnedOr run (act (push_fields names.now)) self.old self.new result }
+        ensures step { TurnedOr (by_mode missing_key) (act (push_fields names.now)) self.old self.new result }
         ensures plain { IsPlain self.old → SparedOr result (IsPlain self.new) }
         ensures size { size_of self.new.stack ≡ size_of self.old.stack }
     {
@@ -107,11 +103,10 @@ impl<'m, 'a> Machine<'m, 'a> {
 
     /// Puts the value of a slot once more.
     pub(crate) fn push_slot(&mut self, slot: usize) -> Result<Flow, Halt<'a>>
-        ghost run: { Told }
         requires found { slot < length (cells_of self.old.stack) }
         requires room { length (cells_of self.old.stack) < size_of self.old.stack }
         requires place { self.old.place + 1 < 2 ^ 64 }
-        ensures step { TurnedOr run (act (push_slot slot)) self.old self.new result }
+        ensures step { TurnedOr untold (act (push_slot slot)) self.old self.new result }
         ensures plain { IsPlain self.old → SparedOr result (IsPlain self.new) }
         ensures size { size_of self.new.stack ≡ size_of self.old.stack }
     {
@@ -121,18 +116,16 @@ impl<'m, 'a> Machine<'m, 'a> {
     }
 
     /// Takes the newest value for its field of a field of .., by these names.
-    #[tactic(auto, using(crate::proofs::OperationLemmas::chains))]
+    #[tactic(auto)]
     pub(crate) fn chain(
         &mut self,
         missing_key: MissingKey,
         names: &'a [Bytes],
     ) -> Result<Flow, Halt<'a>>
-        ghost run: { Told }
-        requires mode { run.plan.rules.missing_key ≡ missing_key }
         requires found { 1 ≤ length (cells_of self.old.stack) }
         requires within { length (cells_of self.old.stack) ≤ size_of self.old.stack }
         requires place { self.old.place + 1 < 2 ^ 64 }
-        ensures step { TurnedOr run (act (chained names.now)) self.old self.new result }
+        ensures step { TurnedOr (by_mode missing_key) (act (chained names.now)) self.old self.new result }
         ensures plain { IsPlain self.old → SparedOr result (IsPlain self.new) }
         ensures size { size_of self.new.stack ≡ size_of self.old.stack }
     {
@@ -143,14 +136,13 @@ impl<'m, 'a> Machine<'m, 'a> {
     }
 
     /// Calls a function over the newest so many values, and a piped one, if it lies below them.
-    #[tactic(auto, using(crate::proofs::OperationLemmas::calls))]
+    #[tactic(auto, using(crate::proofs::ArgumentLemmas::calls))]
     pub(crate) fn call(&mut self, func: Func, count: usize, piped: bool) -> Result<Flow, Halt<'a>>
-        ghost run: { Told }
         requires called { is_called func ≡ true }
         requires found { count + piped_count piped ≤ length (cells_of self.old.stack) }
         requires room { length (cells_of self.old.stack) - (count + piped_count piped) < size_of self.old.stack }
         requires place { self.old.place + 1 < 2 ^ 64 }
-        ensures step { TurnedOr run (act (call_with func count piped)) self.old self.new result }
+        ensures step { TurnedOr untold (act (call_with func count piped)) self.old self.new result }
         ensures plain { makes_text func ≡ false → IsPlain self.old → SparedOr result (IsPlain self.new) }
         ensures size { size_of self.new.stack ≡ size_of self.old.stack }
     {
@@ -167,14 +159,13 @@ impl<'m, 'a> Machine<'m, 'a> {
 
     /// A value that decides an `or`, or else an `and`, stays, and so many instructions are passed over; a piped one
     /// below it goes. Another goes.
-    #[tactic(auto, using(crate::proofs::OperationLemmas::decisions))]
+    #[tactic(auto)]
     pub(crate) fn decide(&mut self, is_or: bool, piped: bool, skip: usize) -> Flow
-        ghost run: { Told }
         requires found { 1 + piped_count piped ≤ length (cells_of self.old.stack) }
         requires within { length (cells_of self.old.stack) ≤ size_of self.old.stack }
         requires place { self.old.place + 1 < 2 ^ 64 }
         requires over { decides is_or (slot 0 (cells_of self.old.stack)) ≡ true → self.old.place + 1 + skip < 2 ^ 64 }
-        ensures step { Executed run (act (decide is_or piped skip)) self.old self.new (Ok result) }
+        ensures step { Executed untold (act (decide is_or piped skip)) self.old self.new (Ok result) }
         ensures plain { IsPlain self.old → IsPlain self.new }
         ensures size { size_of self.new.stack ≡ size_of self.old.stack }
     {
@@ -190,13 +181,12 @@ impl<'m, 'a> Machine<'m, 'a> {
     }
 
     /// A null on top becomes nothing.
-    #[tactic(auto, using(crate::proofs::OperationLemmas::settles))]
+    #[tactic(auto)]
     pub(crate) fn settle(&mut self) -> Flow
-        ghost run: { Told }
         requires found { 1 ≤ length (cells_of self.old.stack) }
         requires within { length (cells_of self.old.stack) ≤ size_of self.old.stack }
         requires place { self.old.place + 1 < 2 ^ 64 }
-        ensures step { Executed run (act settle) self.old self.new (Ok result) }
+        ensures step { Executed untold (act settle) self.old self.new (Ok result) }
         ensures plain { IsPlain self.old → IsPlain self.new }
         ensures size { size_of self.new.stack ≡ size_of self.old.stack }
     {

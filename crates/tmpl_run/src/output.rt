@@ -47,6 +47,7 @@ impl Piece<'_> {
     }
 
     /// Gives the sink what waits, and puts bytes behind it; those that do not fit at all do not wait.
+    #[tactic(auto, using(crate::proofs::OutputLemmas::putting))]
     #[inline(never)]
     fn put_behind<S: Sink>(&mut self, sink: &mut S, bytes: &[u8]) -> Result<(), SinkFault>
         requires { (S.so_far sink.old).failures < 2 ^ 64 - 1 }

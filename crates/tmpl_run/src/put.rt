@@ -4,7 +4,7 @@ ghost use Rattle.tmpl_values.specs.Text.{text_of};
 ghost use Rattle.tmpl_meaning.specs.Sink.{IsPut};
 ghost use Rattle.tmpl_code.specs.Instruction as code;
 ghost use Rattle.tmpl_run.specs.Cell.{slot};
-ghost use Rattle.tmpl_run.specs.computed.Machines.{Told};
+ghost use Rattle.tmpl_run.specs.computed.Machines.{untold};
 ghost use Rattle.tmpl_run.specs.computed.Output.{Grows, given_of};
 ghost use Rattle.tmpl_run.specs.computed.Plain.{IsPlain};
 ghost use Rattle.tmpl_run.specs.computed.Turned.{Executed};
@@ -24,10 +24,9 @@ impl<'m, 'a> Machine<'m, 'a> {
         piece: &mut Piece<'_>,
         sink: &mut S,
     ) -> Result<(), SinkFault>
-        ghost run: { Told }
         requires place { self.old.place + 1 < 2 ^ 64 }
         requires failures { (S.so_far sink.old).failures < 2 ^ 64 - 1 }
-        ensures step { Executed run (code.put text.now) self.old self.new (Ok flow.On) }
+        ensures step { Executed untold (code.put text.now) self.old self.new (Ok flow.On) }
         ensures given { IsPut result (given_of (S.so_far sink.old) piece.old)
             (given_of (S.so_far sink.new) piece.new) text.now }
         ensures taken { Grows (S.so_far sink.old) (S.so_far sink.new) }
@@ -39,17 +38,16 @@ impl<'m, 'a> Machine<'m, 'a> {
     }
 
     /// Takes the newest value, and puts out its text.
-    #[tactic(auto, using(crate::proofs::StackLemmas::tops))]
+    #[tactic(auto)]
     pub(crate) fn show<S: Sink>(
         &mut self,
         piece: &mut Piece<'_>,
         sink: &mut S,
     ) -> Result<(), SinkFault>
-        ghost run: { Told }
         requires place { self.old.place + 1 < 2 ^ 64 }
         requires found { 1 ≤ length (cells_of self.old.stack) }
         requires failures { (S.so_far sink.old).failures < 2 ^ 64 - 1 }
-        ensures step { Executed run code.show self.old self.new (Ok flow.On) }
+        ensures step { Executed untold code.show self.old self.new (Ok flow.On) }
         ensures given { IsPut result (given_of (S.so_far sink.old) piece.old) (given_of (S.so_far sink.new) piece.new)
             (text_of (slot 0 (cells_of self.old.stack))) }
         ensures taken { Grows (S.so_far sink.old) (S.so_far sink.new) }

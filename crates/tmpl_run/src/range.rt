@@ -7,9 +7,9 @@ ghost use Rattle.tmpl_meaning.specs.View.{rules_of};
 ghost use Rattle.tmpl_code.specs.Instruction as code;
 ghost use Rattle.tmpl_run.specs.Cell.{slot, slot_cell};
 ghost use Rattle.tmpl_run.specs.Machine.{elements_for, variables_on};
-ghost use Rattle.tmpl_run.specs.computed.Machines.{Told, state_of};
+ghost use Rattle.tmpl_run.specs.computed.Machines.{state_of, untold};
 ghost use Rattle.tmpl_run.specs.computed.Plain.{IsPlain, Spared, SparedOr};
-ghost use Rattle.tmpl_run.specs.computed.Turned.{Executed, TurnedOr};
+ghost use Rattle.tmpl_run.specs.computed.Turned.{Executed, TurnedUnder};
 ghost use Rattle.tmpl_run.specs.computed.View.{cells_of, size_of};
 ghost use Rattle.tmpl_run.specs.computed.Held.{has_more};
 
@@ -35,21 +35,20 @@ fn visited_count(key: bool, value: &Val<'_>) -> Option<u64>
 
 impl<'m, 'a> Machine<'m, 'a> {
     /// Opens a range over the newest value and takes a step, or goes on with its other part where it has no element.
-    #[tactic(auto, using(crate::proofs::TurnLemmas::opens))]
+    #[tactic(auto)]
     pub(crate) fn open_range(
         &mut self,
         options: &Options,
         key: bool,
         skip: usize,
     ) -> Result<Flow, Halt<'a>>
-        ghost run: { Told }
-        requires rules { run.plan.rules ≡ rules_of options.now }
         requires found { 1 ≤ length (cells_of self.old.stack) }
         requires room { length (cells_of self.old.stack) < size_of self.old.stack }
         requires body { self.old.place + 1 < 2 ^ 64 }
         requires other { elements_for key (slot 0 (cells_of self.old.stack)) ≡ Some []
             → self.old.place + 1 + skip < 2 ^ 64 }
-        ensures step { TurnedOr run (code.enter key skip) self.old self.new result }
+        ensures step { TurnedUnder (rules_of options.now) (λ _. Unit {0}) (code.enter key skip)
+            self.old self.new result }
         ensures plain { IsPlain self.old → SparedOr result (IsPlain self.new) }
         ensures size { size_of self.new.stack ≡ size_of self.old.stack }
     {
@@ -75,15 +74,14 @@ impl<'m, 'a> Machine<'m, 'a> {
     }
 
     /// The element that the range visits becomes dot, and the values of so many variables.
-    #[tactic(auto, using(crate::proofs::TurnLemmas::turns))]
+    #[tactic(auto, using(crate::proofs::TurnLemmas::lefts))]
     pub(crate) fn turn(&mut self, count: usize) -> Result<Flow, AllocError>
-        ghost run: { Told }
         requires found { 2 ≤ length (cells_of self.old.stack) }
         requires element { item_at (slot_cell 1 (cells_of self.old.stack)).num
             (slot_cell 1 (cells_of self.old.stack)).val ≡ None → ⊥ }
         requires room { length (cells_of self.old.stack) + count ≤ size_of self.old.stack }
         requires place { self.old.place + 1 < 2 ^ 64 }
-        ensures step { IfOk result (λ f. Executed run (code.turn count) self.old self.new (Ok f)) }
+        ensures step { IfOk result (λ f. Executed untold (code.turn count) self.old self.new (Ok f)) }
         ensures plain { IsPlain self.old → Spared result (IsPlain self.new) }
         ensures size { size_of self.new.stack ≡ size_of self.old.stack }
     {
@@ -98,9 +96,8 @@ impl<'m, 'a> Machine<'m, 'a> {
 
     /// Puts the values of so many variables, the element above its index or key.
     fn declare(&mut self, count: usize, key: Val<'a>, element: &Val<'a>) -> Result<(), AllocError>
-        ghost run: { Told }
         requires { length (cells_of self.old.stack) + count ≤ size_of self.old.stack }
-        ensures step { OnOk result (state_of run self.new ≡ record (state_of run self.old) {
+        ensures step { OnOk result (state_of self.new ≡ record (state_of self.old) {
           cells = variables_on count (val_of key.entry, val_of element.now) (cells_of self.old.stack);
         }) }
         ensures plain { is_made key.entry ≡ false → is_made element.now ≡ false
@@ -128,13 +125,12 @@ impl<'m, 'a> Machine<'m, 'a> {
         skip: usize,
         line: u64,
     ) -> Result<Flow, Halt<'a>>
-        ghost run: { Told }
-        requires rules { run.plan.rules ≡ rules_of options.now }
         requires found { count + 2 ≤ length (cells_of self.old.stack) }
         requires within { length (cells_of self.old.stack) ≤ size_of self.old.stack }
         requires behind { has_more (slot_cell 1 (drop count (cells_of self.old.stack))) ≡ false
             → self.old.place + 1 + skip < 2 ^ 64 }
-        ensures step { TurnedOr run (code.next count skip line) self.old self.new result }
+        ensures step { TurnedUnder (rules_of options.now) (λ _. Unit {0}) (code.next count skip line)
+            self.old self.new result }
         ensures plain { IsPlain self.old → SparedOr result (IsPlain self.new) }
         ensures size { size_of self.new.stack ≡ size_of self.old.stack }
     {
@@ -158,12 +154,11 @@ impl<'m, 'a> Machine<'m, 'a> {
     }
 
     /// Ends the range: forgets so many cells and its own, and takes dot back.
-    #[tactic(auto, using(crate::proofs::StackLemmas::tops))]
+    #[tactic(auto)]
     pub(crate) fn leave(&mut self, count: usize, skip: usize) -> Flow
-        ghost run: { Told }
         requires found { count + 2 ≤ length (cells_of self.old.stack) }
         requires place { self.old.place + 1 + skip < 2 ^ 64 }
-        ensures step { Executed run (code.leave count skip) self.old self.new (Ok result) }
+        ensures step { Executed untold (code.leave count skip) self.old self.new (Ok result) }
         ensures plain { IsPlain self.old → IsPlain self.new }
         ensures size { size_of self.new.stack ≡ size_of self.old.stack }
     {

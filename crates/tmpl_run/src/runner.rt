@@ -8,7 +8,7 @@ ghost use Rattle.tmpl_meaning.specs.Sink.{sunk};
 ghost use Rattle.tmpl_meaning.specs.View.{rules_of};
 ghost use Rattle.tmpl_code.specs.MakesText.{set_makes_text};
 ghost use Rattle.tmpl_code.specs.Room.{Suffices};
-ghost use Rattle.tmpl_run.specs.computed.Came.{Came, Closed, ComesTo, IsStopped, nothing_told};
+ghost use Rattle.tmpl_run.specs.computed.Came.{Came, Closed, ComesTo, IsStopped};
 ghost use Rattle.tmpl_run.specs.computed.Machines.{state_of};
 ghost use Rattle.tmpl_run.specs.computed.Output.{Grows, given_of, waiting};
 ghost use Rattle.tmpl_run.specs.computed.Plain.{IsPlain};
@@ -51,7 +51,7 @@ impl<'m, 'a> Machine<'m, 'a> {
     ) -> Machine<'m, 'a>
         requires entry { entry.number < length program.now.starts.items }
         requires room { 3 ≤ length cells.old }
-        ensures state { let plan = plan_of options.now program.now in state_of (nothing_told plan) result
+        ensures state { let plan = plan_of options.now program.now in state_of result
             ≡ starting plan entry.number (get_or plan.starts entry.number 0)
             (starting_dot (option_map (λ d. value_of d.now) «data».entry)) }
         ensures plain { IsPlain result }
@@ -81,12 +81,13 @@ impl<'m, 'a> Machine<'m, 'a> {
         piece: &mut Piece<'_>,
         sink: &mut S,
     ) -> Result<(), RunError<'a>>
-        requires ends { (end : Ran) × ComesTo (plan_of options.now program.now) self.old end }
+        ghost end: { Ran }
+        requires ends { ComesTo (plan_of options.now program.now) self.old end }
         requires plain { IsPlain self.old }
         requires depth { self.old.depth + self.old.left < 2 ^ 64 - 1 }
         requires countable { (S.so_far sink.old).failures < 2 ^ 64 - 1 }
-        ensures came { (end : Ran) → ComesTo (plan_of options.now program.now) self.old end
-            → Came end (given_of (S.so_far sink.old) piece.old) (given_of (S.so_far sink.new) piece.new) result }
+        ensures came { Came end (given_of (S.so_far sink.old) piece.old) (given_of (S.so_far sink.new) piece.new)
+            result }
         ensures taken { Grows (S.so_far sink.old) (S.so_far sink.new) }
     {
         let code = program.instructions.as_slice();

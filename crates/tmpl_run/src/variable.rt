@@ -1,7 +1,7 @@
 //! Variables.
 ghost use Rattle.std.specs.Prelude.{◌≡◌, ◌+◌, ◌<◌, ◌≤◌, ◌^◌, length, IfOk, Ok};
 ghost use Rattle.tmpl_code.specs.Instruction as code;
-ghost use Rattle.tmpl_run.specs.computed.Machines.{Told};
+ghost use Rattle.tmpl_run.specs.computed.Machines.{untold};
 ghost use Rattle.tmpl_run.specs.computed.Plain.{IsPlain, Spared};
 ghost use Rattle.tmpl_run.specs.Ready.{RoomIf};
 ghost use Rattle.tmpl_run.specs.computed.Turned.{Executed};
@@ -15,12 +15,11 @@ use tmpl_values::{Cell, Val};
 impl<'m, 'a> Machine<'m, 'a> {
     /// The newest value becomes a variable; where an index or key is declared too, nothing becomes one below it.
     pub(crate) fn hold(&mut self, key: bool) -> Result<Flow, AllocError>
-        ghost run: { Told }
         requires found { 1 ≤ length (cells_of self.old.stack) }
         requires within { length (cells_of self.old.stack) ≤ size_of self.old.stack }
         requires room { RoomIf key (length (cells_of self.old.stack)) (size_of self.old.stack) }
         requires place { self.old.place + 1 < 2 ^ 64 }
-        ensures step { IfOk result (λ f. Executed run (code.hold key) self.old self.new (Ok f)) }
+        ensures step { IfOk result (λ f. Executed untold (code.hold key) self.old self.new (Ok f)) }
         ensures plain { IsPlain self.old → Spared result (IsPlain self.new) }
         ensures size { size_of self.new.stack ≡ size_of self.old.stack }
     {
@@ -35,11 +34,10 @@ impl<'m, 'a> Machine<'m, 'a> {
 
     /// Copies the newest value to a slot, which counts from below it.
     pub(crate) fn set(&mut self, slot: usize) -> Result<Flow, AllocError>
-        ghost run: { Told }
         requires found { slot + 1 < length (cells_of self.old.stack) }
         requires within { length (cells_of self.old.stack) ≤ size_of self.old.stack }
         requires place { self.old.place + 1 < 2 ^ 64 }
-        ensures step { IfOk result (λ f. Executed run (code.set slot) self.old self.new (Ok f)) }
+        ensures step { IfOk result (λ f. Executed untold (code.set slot) self.old self.new (Ok f)) }
         ensures plain { IsPlain self.old → Spared result (IsPlain self.new) }
         ensures size { size_of self.new.stack ≡ size_of self.old.stack }
     {
@@ -52,10 +50,9 @@ impl<'m, 'a> Machine<'m, 'a> {
 
     /// Copies dot to a slot.
     pub(crate) fn set_dot(&mut self, slot: usize) -> Result<Flow, AllocError>
-        ghost run: { Told }
         requires found { slot < length (cells_of self.old.stack) }
         requires place { self.old.place + 1 < 2 ^ 64 }
-        ensures step { IfOk result (λ f. Executed run (code.set_dot slot) self.old self.new (Ok f)) }
+        ensures step { IfOk result (λ f. Executed untold (code.set_dot slot) self.old self.new (Ok f)) }
         ensures plain { IsPlain self.old → Spared result (IsPlain self.new) }
         ensures size { size_of self.new.stack ≡ size_of self.old.stack }
     {

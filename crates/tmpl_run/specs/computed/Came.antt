@@ -1,15 +1,14 @@
 -- What the loop of a run comes to, before what waits is put out.
-use Rattle.std.specs.Prelude.{◌≡◌, ◌⊎◌, true, false, ℕ, List, [], Option, None, Some, option_map, Result, Ok, Err}
+use Rattle.std.specs.Prelude.{◌≡◌, ◌⊎◌, true, ℕ, List, [], Option, None, Some, option_map, Result, Ok, Err}
 use Rattle.tmpl_meaning.specs.Meaning.{Ran}
 use Rattle.tmpl_meaning.specs.Sink.{IsPut, Puts}
 use Rattle.tmpl_syntax.specs.Set.{Template}
-use Rattle.tmpl_syntax.specs.Tree.{none}
 use Rattle.tmpl_meaning.specs.View.{cause_of, fault_seen}
 use Rattle.tmpl_meaning.specs.declared.sink.SinkFault.{SinkFault}
 use Rattle.tmpl_run.specs.Ends.{Ends}
 use Rattle.tmpl_run.specs.Laws.{Begins}
 use Rattle.tmpl_run.specs.Machine.{fault_in}
-use Rattle.tmpl_run.specs.computed.Machines.{Told, state_of}
+use Rattle.tmpl_run.specs.computed.Machines.{state_of}
 use Rattle.tmpl_run.specs.computed.View.{size_of}
 use Rattle.tmpl_run.specs.declared.machine.Machine.{Machine}
 use Rattle.tmpl_run.specs.State.{Plan}
@@ -18,17 +17,9 @@ use Rattle.tmpl_run.specs.declared.halt.Halt.TheVariants as stop
 use Rattle.tmpl_run.specs.declared.fault.RunError.{RunError}
 use Rattle.tmpl_run.specs.declared.fault.RunError.TheVariants as error
 
--- a template that stands for none
-abbrev pub no_template : Template
-no_template = ([], record { file = []; nodes = none })
-
--- what is told of a run by this plan that has put nothing out yet
-abbrev pub nothing_told : Plan → Told
-nothing_told plan = record { plan = plan; template = no_template; text = []; made_text = false }
-
 -- a machine that has put nothing out yet comes to this end, over its stack
 abbrev pub ComesTo : Plan → Machine → Ran → Type 0
-ComesTo plan m end = Ends plan (size_of m.stack) (state_of (nothing_told plan) m) end
+ComesTo plan m end = Ends plan (size_of m.stack) (state_of m) end
 
 -- a stop in a template at a line
 abbrev pub IsStopped : Option Template → ℕ → Halt → RunError → Type 0

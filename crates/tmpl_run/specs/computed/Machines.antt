@@ -1,28 +1,41 @@
--- What a machine stands for, with what it does not hold.
-use Rattle.std.specs.Prelude.{ℕ, Bool, List}
+-- What a machine stands for. It holds neither what was put out before nor which template runs under what name, and what
+-- an instruction does hangs on neither, so here there is none.
+use Rattle.std.specs.Prelude.{[], false}
 use Rattle.tmpl_values.specs.View.{val_of}
 use Rattle.tmpl_syntax.specs.Set.{Template}
+use Rattle.tmpl_syntax.specs.Tree.{none}
+use Rattle.tmpl_meaning.specs.declared.missing_key.MissingKey.{MissingKey}
+use Rattle.tmpl_meaning.specs.declared.missing_key.MissingKey.TheVariants.{Default}
 use Rattle.tmpl_run.specs.State.{Plan, State}
 use Rattle.tmpl_run.specs.computed.View.{cells_of}
 use Rattle.tmpl_run.specs.declared.machine.Machine.{Machine}
 
--- what the run goes by, the template that runs, what was put out so far, and whether a function that makes a text was
--- called
-pub record Told : Type 0 where
-  pub plan : Plan
-  pub template : Template
-  pub text : List ℕ
-  pub made_text : Bool
+-- a template that stands for none
+abbrev pub no_template : Template
+no_template = ([], record { file = []; nodes = none })
 
-abbrev pub state_of : Told → Machine → State
-state_of told m = record {
+abbrev pub state_of : Machine → State
+state_of m = record {
   cells = cells_of m.stack;
   dot = val_of m.dot;
-  text = told.text;
+  text = [];
   left = m.left;
-  made_text = told.made_text;
+  made_text = false;
   line = m.line;
   template = m.template;
   depth = m.depth;
   place = m.place;
 }
+
+-- a plan of which no more is told than the mode for missing keys
+abbrev pub by_mode : MissingKey → Plan
+by_mode mode = record {
+  rules = record { missing_key = mode; step_limit = 0; depth_limit = 0 };
+  templates = [];
+  starts = [];
+  code = [];
+}
+
+-- .. or nothing
+abbrev pub untold : Plan
+untold = by_mode Default

@@ -1,11 +1,13 @@
 -- What a turn of a machine in memory is.
-use Rattle.std.specs.Prelude.{◌≡◌, ◌&&◌, Bool, true, false, List, ℕ, [], ◌++◌, ◌+◌, Option, None, Some, Result, Ok, Err}
-use Rattle.std.specs.Prelude.{◌<◌, ◌^◌, slice_get}
+use Rattle.std.specs.Prelude.{◌≡◌, ◌&&◌, Bool, true, false, List, ℕ, [], ◌+◌, Option, None, Some, Result, Ok, Err}
+use Rattle.std.specs.Prelude.{◌<◌, ◌≤◌, ◌^◌, length, slice_get}
 use Rattle.tmpl_values.specs.Text.{text_of}
 use Rattle.tmpl_values.specs.Value.{Value, nothing}
 use Rattle.tmpl_values.specs.View.{val_of}
 use Rattle.tmpl_values.specs.declared.value.Val.{Val}
+use Rattle.tmpl_syntax.specs.Set.{Template}
 use Rattle.tmpl_meaning.specs.Fault.{Cause}
+use Rattle.tmpl_meaning.specs.Meaning.{Rules}
 use Rattle.tmpl_meaning.specs.Pipeline.{chain}
 use Rattle.tmpl_meaning.specs.declared.missing_key.MissingKey.{MissingKey}
 use Rattle.tmpl_meaning.specs.declared.sink.SinkFault.{SinkFault}
@@ -19,7 +21,7 @@ use Rattle.tmpl_run.specs.Step.{made_by}
 use Rattle.tmpl_run.specs.Machine.{Turn, done, ended, failed, goes, ran_so, stuck}
 use Rattle.tmpl_run.specs.declared.flow.Flow.{Flow}
 use Rattle.tmpl_run.specs.declared.flow.Flow.TheVariants as flow
-use Rattle.tmpl_run.specs.computed.Machines.{Told, state_of}
+use Rattle.tmpl_run.specs.computed.Machines.{no_template, state_of}
 use Rattle.tmpl_run.specs.declared.machine.Machine.{Machine}
 use Rattle.tmpl_run.specs.declared.halt.Halt.{Halt}
 use Rattle.tmpl_run.specs.declared.halt.Halt.TheVariants as stop
@@ -30,14 +32,18 @@ Lands (goes t) = t.place < 2 ^ 64
 Lands (ended r) = Unit {0}
 Lands stuck = ⊥
 
+-- .. and so finds the cells below those that it forgets, and the template that it calls
+abbrev pub IsAble : Plan → Instruction → State → Type 0
+IsAble plan (code.next n skip line) s = n + 2 ≤ length s.cells
+IsAble plan (code.leave n skip) s = n + 2 ≤ length s.cells
+IsAble plan (code.invoke number) s = number < length plan.starts
+IsAble plan (code.return_from n) s = 1 < s.depth → n + 3 ≤ length s.cells
+IsAble plan i s = Unit {0}
+
 -- whether a function that makes a text was called with all its arguments, behind an instruction
 abbrev pub mark_behind : Instruction → Bool → Bool
 mark_behind (code.act o) made = made_by o made
 mark_behind i made = made
-
--- what is told behind a step of a pipeline
-abbrev pub behind : Operation → Told → Told
-behind o told = record told { made_text = made_by o told.made_text }
 
 -- what it puts out in a state
 abbrev pub added : Instruction → State → List ℕ
@@ -45,33 +51,43 @@ added (code.put bytes) s = bytes
 added code.show s = text_of (slot 0 s.cells)
 added i s = []
 
--- what is told behind it
-abbrev pub told_behind : Instruction → State → Told → Told
-told_behind (code.put bytes) s told = record told { text = told.text ++ bytes }
-told_behind code.show s told = record told { text = told.text ++ text_of (slot 0 s.cells) }
-told_behind (code.act o) s told = behind o told
-told_behind i s told = told
+-- a state behind it, with what it puts out and whether it makes a text
+abbrev pub behind : Instruction → State → State → State
+behind i s t = record t { text = added i s; made_text = mark_behind i false }
 
 -- it was carried out, and the run goes on or is over, or it stops; where a put failed it was carried out up to that
-abbrev pub Executed : Told → Instruction → Machine → Machine → Result Flow Halt → Type 0
-Executed told i m n (Ok flow.On) =
-    done told.plan told.template i (state_of told m) ≡ goes (state_of (told_behind i (state_of told m) told) n)
-Executed told i m n (Ok flow.Over) =
-    done told.plan told.template i (state_of told m)
-    ≡ ended (ran_so (state_of (told_behind i (state_of told m) told) m) None)
-Executed told i m n (Err (stop.Fault kind)) =
-    done told.plan told.template i (state_of told m)
-    ≡ failed told.template n.line (cause_of kind) (state_of (told_behind i (state_of told m) told) m)
-Executed told i m n (Err stop.WriteFailed) =
-    done told.plan told.template i (state_of told m) ≡ goes (state_of (told_behind i (state_of told m) told) n)
-Executed told i m n (Err stop.OutOfMemory) = added i (state_of told m) ≡ []
+abbrev pub Executed : Plan → Instruction → Machine → Machine → Result Flow Halt → Type 0
+Executed plan i m n (Ok flow.On) =
+    done plan no_template i (state_of m) ≡ goes (behind i (state_of m) (state_of n))
+Executed plan i m n (Ok flow.Over) =
+    done plan no_template i (state_of m) ≡ ended (ran_so (behind i (state_of m) (state_of m)) None)
+Executed plan i m n (Err (stop.Fault kind)) =
+    done plan no_template i (state_of m)
+    ≡ failed no_template n.line (cause_of kind) (behind i (state_of m) (state_of m))
+Executed plan i m n (Err stop.WriteFailed) =
+    done plan no_template i (state_of m) ≡ goes (behind i (state_of m) (state_of n))
+Executed plan i m n (Err stop.OutOfMemory) = added i (state_of m) ≡ []
 
 -- .. by an instruction that puts nothing out, and may stop where memory is refused
-abbrev pub TurnedOr : Told → Instruction → Machine → Machine → Result Flow Halt → Type 0
-TurnedOr told i m n (Ok f) = Executed told i m n (Ok f)
-TurnedOr told i m n (Err (stop.Fault kind)) = Executed told i m n (Err (stop.Fault kind))
-TurnedOr told i m n (Err stop.WriteFailed) = ⊥
-TurnedOr told i m n (Err stop.OutOfMemory) = Unit {0}
+abbrev pub TurnedOr : Plan → Instruction → Machine → Machine → Result Flow Halt → Type 0
+TurnedOr plan i m n (Ok f) = Executed plan i m n (Ok f)
+TurnedOr plan i m n (Err (stop.Fault kind)) = Executed plan i m n (Err (stop.Fault kind))
+TurnedOr plan i m n (Err stop.WriteFailed) = ⊥
+TurnedOr plan i m n (Err stop.OutOfMemory) = Unit {0}
+
+-- a plan by these rules of which what else it tells may be anything
+abbrev pub HoldsOfEach : Rules → (Plan → Type 0) → Type 0
+HoldsOfEach rules Holds =
+    (templates : List Template) (starts : List ℕ) (all : Code)
+    → Holds (record { rules = rules; templates = templates; starts = starts; code = all })
+
+-- .. by each plan with these rules that is so
+abbrev pub TurnedUnder : Rules → (Plan → Type 0) → Instruction → Machine → Machine → Result Flow Halt → Type 0
+TurnedUnder rules IsSo i m n (Ok f) = HoldsOfEach rules (λ plan. IsSo plan → Executed plan i m n (Ok f))
+TurnedUnder rules IsSo i m n (Err (stop.Fault kind)) =
+    HoldsOfEach rules (λ plan. IsSo plan → Executed plan i m n (Err (stop.Fault kind)))
+TurnedUnder rules IsSo i m n (Err stop.WriteFailed) = ⊥
+TurnedUnder rules IsSo i m n (Err stop.OutOfMemory) = Unit {0}
 
 -- whether a put failed
 abbrev pub put_by : {A : Type 0} → Result A Halt → Result (Unit {0}) SinkFault
@@ -127,27 +143,25 @@ text_in (Ok v) = text_of v
 text_in (Err cause) = []
 
 -- the three were carried out, or the first of them stops; where a put failed they were carried out up to that
-abbrev pub Shown : Told → Instruction → Machine → Machine → Result Flow Halt → Type 0
-Shown told i m n (Ok flow.On) =
-    IsThere (value_by told.plan i (state_of told m))
-    × (state_of told n ≡ record (state_of told m) { place = m.place + 3 })
-Shown told i m n (Ok flow.Over) = ⊥
-Shown told i m n (Err (stop.Fault kind)) = Executed told i m n (Err (stop.Fault kind))
-Shown told i m n (Err stop.WriteFailed) =
-    IsThere (value_by told.plan i (state_of told m))
-    × (state_of told n ≡ record (state_of told m) { place = m.place + 3 })
-Shown told i m n (Err stop.OutOfMemory) = Unit {0}
+abbrev pub Shown : Plan → Instruction → Machine → Machine → Result Flow Halt → Type 0
+Shown plan i m n (Ok flow.On) =
+    IsThere (value_by plan i (state_of m)) × (state_of n ≡ record (state_of m) { place = m.place + 3 })
+Shown plan i m n (Ok flow.Over) = ⊥
+Shown plan i m n (Err (stop.Fault kind)) = Executed plan i m n (Err (stop.Fault kind))
+Shown plan i m n (Err stop.WriteFailed) =
+    IsThere (value_by plan i (state_of m)) × (state_of n ≡ record (state_of m) { place = m.place + 3 })
+Shown plan i m n (Err stop.OutOfMemory) = Unit {0}
 
 -- ---- what a turn of the loop comes to, by whether it carries out three instructions
 
-abbrev pub TurnedBy : Bool → Told → Instruction → Machine → Machine → Result Flow Halt → Type 0
-TurnedBy false told i m n r = Executed told i m n r
-TurnedBy true told i m n r = Shown told i m n r
+abbrev pub TurnedBy : Bool → Plan → Instruction → Machine → Machine → Result Flow Halt → Type 0
+TurnedBy false plan i m n r = Executed plan i m n r
+TurnedBy true plan i m n r = Shown plan i m n r
 
 -- what it puts out
-abbrev pub put_out : Bool → Told → Instruction → Machine → Result Flow Halt → List ℕ
-put_out false told i m r = added i (state_of told m)
-put_out true told i m (Ok f) = text_in (value_by told.plan i (state_of told m))
-put_out true told i m (Err (stop.Fault kind)) = []
-put_out true told i m (Err stop.WriteFailed) = text_in (value_by told.plan i (state_of told m))
-put_out true told i m (Err stop.OutOfMemory) = []
+abbrev pub put_out : Bool → Plan → Instruction → Machine → Result Flow Halt → List ℕ
+put_out false plan i m r = added i (state_of m)
+put_out true plan i m (Ok f) = text_in (value_by plan i (state_of m))
+put_out true plan i m (Err (stop.Fault kind)) = []
+put_out true plan i m (Err stop.WriteFailed) = text_in (value_by plan i (state_of m))
+put_out true plan i m (Err stop.OutOfMemory) = []

@@ -2,4 +2,4 @@ use Rattle.tmpl_run.proofs.DoneLemmas.{mark-stays}
 use Rattle.tmpl_run.proofs.laws.mark_stays.Goals as goal
 
 pub returns : goal.returns
-returns c = mark-stays
+returns c = λ plan size s end. mark-stays plan size end s

@@ -16,5 +16,5 @@ loop-sink-preserved g c =
     record {
       given = IsPut-append {a = []} c.loop-sink.invariant.given (given-on here next (waiting s) shown (waiting c.pass.new.self) count 0 took c.waiting.ensures
           c.pass.ensures);
-      taken = grows-on (g.S.Sink.so_far c.args.sink.now) here next c.loop-sink.invariant.taken (take count shown, ap (λ (t : Told). t.bytes) took);
+      taken = grows-on _ _ _ c.loop-sink.invariant.taken (take count shown, ap (λ (t : Told). t.bytes) took);
     }

@@ -1,20 +1,10 @@
-use Rattle.std.proofs.Common.{[]}
-use Rattle.tmpl_values.proofs.PutLemmas.{IsPut-append, IsPut-stop}
-use Rattle.tmpl_run.specs.computed.Output.{waiting}
-use Rattle.tmpl_run.proofs.OutputLemmas.{grows-on, grows-put, put-behind-none}
+use Rattle.tmpl_values.proofs.PutLemmas.{IsPut-stop}
+use Rattle.tmpl_run.proofs.OutputLemmas.{grows-on, grows-put}
 use Rattle.tmpl_run.proofs.piece.Piece.put_behind.Goals as goal
 
 pub returns-in_err-flush-clause-given : goal.returns-in_err-flush-clause-given
 returns-in_err-flush-clause-given g c = IsPut-stop c.args.bytes.now c.from_residual.ensures.0 c.in_err-flush.ensures.given
 
-pub returns-then-bytes-room-clause-given : goal.returns-then-bytes-room-clause-given
-returns-then-bytes-room-clause-given g c =
-    let flushed = c.flush.new.self in
-    IsPut-append {a = []} c.in_ok-flush.ensures.given (put-behind-none _ (g.S.Sink.so_far c.flush.new.sink) (g.S.Sink.so_far c.put_all.new.sink)
-    c.args.bytes.now (waiting flushed) 0 c.in_ok-flush.ensures.rest c.put_all.ensures)
-
 pub returns-then-bytes-room-clause-taken : goal.returns-then-bytes-room-clause-taken
-returns-then-bytes-room-clause-taken g c =
-    let flushed = g.S.Sink.so_far c.flush.new.sink in
-    let last = g.S.Sink.so_far c.put_all.new.sink in
-    grows-on (g.S.Sink.so_far c.args.sink.now) flushed last c.in_ok-flush.ensures.taken (grows-put _ flushed last c.args.bytes.now c.put_all.ensures)
+returns-then-bytes-room-clause-taken g c = grows-on _ _ _ c.in_ok-flush.ensures.taken
+    (grows-put c.put_all.result (g.S.Sink.so_far c.flush.new.sink) (g.S.Sink.so_far c.put_all.new.sink) _ c.put_all.ensures)

@@ -1,4 +1,0 @@
-use Rattle.tmpl_run.proofs.machine.Machine.chain.Given as goal
-
-abbrev pub ghost-give : goal.ghost-give
-ghost-give g a = g.run
