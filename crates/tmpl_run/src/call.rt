@@ -17,7 +17,6 @@ use tmpl_values::Val;
 
 impl<'m, 'a> Machine<'m, 'a> {
     /// Looks, before a call at this line, whether a step is left and one more template may be inside the others.
-    #[tactic(auto)]
     pub(crate) fn deepen(&mut self, options: &Options, line: u64) -> Result<Flow, Halt<'a>>
         requires place { self.old.place + 1 < 2 ^ 64 }
         ensures step { TurnedUnder (rules_of options.now) (λ _. Unit {0}) (code.deepen line) self.old self.new result }
@@ -36,7 +35,6 @@ impl<'m, 'a> Machine<'m, 'a> {
     }
 
     /// Takes a step and runs the template of this number, whose code starts here, over the newest value.
-    #[tactic(auto)]
     pub(crate) fn invoke(
         &mut self,
         options: &Options,
@@ -69,7 +67,6 @@ impl<'m, 'a> Machine<'m, 'a> {
 
     /// Ends a template: forgets so many cells and its own, and goes on where its caller does. The run is over where
     /// there is no caller.
-    #[tactic(auto)]
     pub(crate) fn return_from(&mut self, count: usize) -> Flow
         requires found { 1 < self.old.depth → count + 3 ≤ length (cells_of self.old.stack) }
         ensures step { Executed untold (code.return_from count) self.old self.new (Ok result) }

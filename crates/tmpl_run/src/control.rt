@@ -50,7 +50,6 @@ impl<'m, 'a> Machine<'m, 'a> {
     }
 
     /// Goes on with the body of an `if` where the newest value is not empty, and with its other part else.
-    #[tactic(auto)]
     pub(crate) fn branch(&mut self, kept: bool, skip: usize) -> Flow
         requires found { 1 ≤ length (cells_of self.old.stack) }
         requires body { self.old.place + 1 < 2 ^ 64 }
@@ -102,7 +101,6 @@ impl<'m, 'a> Machine<'m, 'a> {
     }
 
     /// Ends the body of a `with`: takes dot back from the cell below so many, and forgets the variables of the header.
-    #[tactic(auto)]
     pub(crate) fn close_with(&mut self, count: usize, variables: usize, skip: usize) -> Flow
         requires place { self.old.place + 1 + skip < 2 ^ 64 }
         requires found { count + 1 + variables ≤ length (cells_of self.old.stack) }

@@ -66,7 +66,6 @@ impl<'m, 'a> Machine<'m, 'a> {
     }
 
     /// The field of the field of .. of dot, by these names.
-    #[tactic(auto)]
     #[inline(always)]
     pub(crate) fn field_of_dot(
         &self,
@@ -84,7 +83,6 @@ impl<'m, 'a> Machine<'m, 'a> {
     }
 
     /// Puts the field of the field of .. of dot, by these names.
-    #[tactic(auto)]
     pub(crate) fn push_fields(
         &mut self,
         missing_key: MissingKey,
@@ -116,7 +114,6 @@ impl<'m, 'a> Machine<'m, 'a> {
     }
 
     /// Takes the newest value for its field of a field of .., by these names.
-    #[tactic(auto)]
     pub(crate) fn chain(
         &mut self,
         missing_key: MissingKey,
@@ -159,7 +156,6 @@ impl<'m, 'a> Machine<'m, 'a> {
 
     /// A value that decides an `or`, or else an `and`, stays, and so many instructions are passed over; a piped one
     /// below it goes. Another goes.
-    #[tactic(auto)]
     pub(crate) fn decide(&mut self, is_or: bool, piped: bool, skip: usize) -> Flow
         requires found { 1 + piped_count piped ≤ length (cells_of self.old.stack) }
         requires within { length (cells_of self.old.stack) ≤ size_of self.old.stack }
@@ -181,7 +177,6 @@ impl<'m, 'a> Machine<'m, 'a> {
     }
 
     /// A null on top becomes nothing.
-    #[tactic(auto)]
     pub(crate) fn settle(&mut self) -> Flow
         requires found { 1 ≤ length (cells_of self.old.stack) }
         requires within { length (cells_of self.old.stack) ≤ size_of self.old.stack }

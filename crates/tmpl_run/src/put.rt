@@ -38,7 +38,6 @@ impl<'m, 'a> Machine<'m, 'a> {
     }
 
     /// Takes the newest value, and puts out its text.
-    #[tactic(auto)]
     pub(crate) fn show<S: Sink>(
         &mut self,
         piece: &mut Piece<'_>,

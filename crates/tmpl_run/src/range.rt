@@ -35,7 +35,6 @@ fn visited_count(key: bool, value: &Val<'_>) -> Option<u64>
 
 impl<'m, 'a> Machine<'m, 'a> {
     /// Opens a range over the newest value and takes a step, or goes on with its other part where it has no element.
-    #[tactic(auto)]
     pub(crate) fn open_range(
         &mut self,
         options: &Options,
@@ -154,7 +153,6 @@ impl<'m, 'a> Machine<'m, 'a> {
     }
 
     /// Ends the range: forgets so many cells and its own, and takes dot back.
-    #[tactic(auto)]
     pub(crate) fn leave(&mut self, count: usize, skip: usize) -> Flow
         requires found { count + 2 ≤ length (cells_of self.old.stack) }
         requires place { self.old.place + 1 + skip < 2 ^ 64 }
