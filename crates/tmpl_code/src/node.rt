@@ -10,8 +10,8 @@ ghost use Rattle.tmpl_syntax.specs.View.{control_of, node_of, nodes_in, set_view
 ghost use Rattle.tmpl_code.specs.Code as spec;
 ghost use Rattle.tmpl_code.specs.Layout.{declared_in, grown};
 ghost use Rattle.tmpl_code.specs.View.{instruction_of};
-ghost use Rattle.tmpl_code.specs.computed.Held.{Ends, BoundPart, DottedPart, EndedPart, IsOpen, PartsAt, Put, TurnsPart};
-ghost use Rattle.tmpl_code.specs.computed.Held.{all_grown, code_of, exit_seen, layout_of, shrunk};
+ghost use Rattle.tmpl_code.specs.computed.Held.{BoundPart, DottedPart, EndedPart, IsOpen, PartsAt, Put, TurnsPart};
+ghost use Rattle.tmpl_code.specs.computed.Held.{Ends, all_grown, code_of, exit_seen, layout_of, shrunk};
 
 use crate::binding::{
     close, declared_count, declares, declares_key, open, put_header, put_shown, put_turn,
@@ -242,8 +242,8 @@ impl<'s> Compiler<'s> {
     #[cycle(nodes)]
     pub(crate) fn put_nodes(&mut self, site: Site<'_>, nodes: &'s [Node]) -> Result<(), AllocError>
         requires { IsOpen site.exit (code_of self.old.code) (layout_of self.old.scope) }
-        ensures part { OnOk result (Put (spec.NodesAt (set_view site.entry.set.now) (nodes_in nodes.now)) site.entry.exit
-            self.old self.new) }
+        ensures part { OnOk result (Put (spec.NodesAt (set_view site.entry.set.now) (nodes_in nodes.now))
+            site.entry.exit self.old self.new) }
         ensures ends { OnOk result (Ends (code_of self.old.code) (code_of self.new.code)) }
     {
         grow_all(&mut self.scope, nodes)?;

@@ -49,7 +49,8 @@ fn first_variable<'t, 'b>(tokens: &'t [Token<'b>]) -> Option<VariableFront<'t, '
 
 /// A name of at least one byte, and what stands behind it.
 fn variable_named<'t, 'b>(name: &'b [u8], rest: &'t [Token<'b>]) -> Option<VariableFront<'t, 'b>>
-    ensures { option_map variable_front_of result ≡ spec.variable_by kind.Variable name.now (spec.next (map token_of rest.now)) }
+    ensures { option_map variable_front_of result
+        ≡ spec.variable_by kind.Variable name.now (spec.next (map token_of rest.now)) }
 {
     match name {
         [] => None,

@@ -328,7 +328,8 @@ module _ (s : Setting) (calls : CallsEnd s.calls) where
     stepped-leaves line (text bytes) d ns loop levels e = λ r is. (([], refl), λ f. tt, λ older. refl, λ f. is)
     stepped-leaves line (action h) d ns loop levels e =
         let known = known-in h ns e in
-        with_pipeline-leaves loop (full ns) (Done (full (declared_to h.binding ns))) (λ f e. absurd e) s line h.pipeline d (shown h.binding) known.start known.uses
+        with_pipeline-leaves loop (full ns) (Done (full (declared_to h.binding ns))) (λ f e. absurd e) s line h.pipeline d (shown h.binding)
+        known.start known.uses
         (λ v. subst (λ left. Leaves loop (full ns) (Done left) (shown h.binding v)) (declared-full h.binding ns)
         (shown-leaves loop (full ns) h.binding v known.start known.assigns))
     stepped-leaves line (control_node c h body other) d ns loop levels e =
@@ -343,7 +344,8 @@ module _ (s : Setting) (calls : CallsEnd s.calls) where
         (rw (else-full c h.binding ns) (any loop (full in_other) (Done (full (scope_past other in_other))) (meanings s other d)
         (nodes-leave other d in_other loop (levels + 1) parts.in_other)))))
     stepped-leaves line break_node d ns loop levels e = at_once loop (full ns) (Done (full ns)) broke (λ f. absurd (false≢true (sym f ∙ e))) (λ f. absurd f)
-    stepped-leaves line continue_node d ns loop levels e = at_once loop (full ns) (Done (full ns)) continued (λ f. absurd (false≢true (sym f ∙ e))) (λ f. absurd f)
+    stepped-leaves line continue_node d ns loop levels e =
+        at_once loop (full ns) (Done (full ns)) continued (λ f. absurd (false≢true (sym f ∙ e))) (λ f. absurd f)
     stepped-leaves line (template_node name given) d ns loop levels e =
         with_value-leaves loop (full ns) (Done (full ns)) (λ f e. absurd e) s line (s.calls name) (handing s line given d)
         (handed s line given d loop (full ns) (start-full ns) (all-full ns (names_given given).uses e) (s.calls name) (calls name))
