@@ -16,9 +16,10 @@ use Rattle.serde_json.specs.Read.{of_json, of_items, of_members, max_depth, numb
 use Rattle.serde_json.proofs.Nesting.{depth-read}
 use Rattle.tmpl_values.specs.Value.{Value, number, sequence, mapping, item}
 use Rattle.tmpl_values.specs.Value.{Entries, entry, IsBelow, AreRising}
-use Rattle.tmpl_values.specs.Json.{tree_value, tree_items, tree_entries, tree_of, data_of, if_json}
+use Rattle.tmpl_values.specs.Json.{tree_value, tree_items, tree_entries, data_of}
 use Rattle.tmpl_values.specs.Laws.{nesting, items_nesting, entries_nesting, IsRising, HaveRising, HoldRising, NestsWithin, HasRisingKeys}
 use Rattle.tmpl_values.proofs.RestLemmas.{if_whole-Ok}
+use Rattle.tmpl_values.proofs.TreeLemmas.{tree_of, if_json}
 
 -- ---- what is there is built of what is there
 

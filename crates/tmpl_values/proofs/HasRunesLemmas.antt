@@ -5,7 +5,8 @@ use Rattle.std.proofs.lemmas.Str.{length-encode, len_utf8_bounds}
 use Rattle.std.proofs.Math.Seq.{drop-append_seam}
 use Rattle.std.specs.Char.{encode_utf8, len_utf8}
 use Rattle.tmpl_values.specs.Laws.{HasTheseRunes, HasNoOtherRunes, HasRunes, at_end, a_char, a_byte}
-use Rattle.tmpl_values.specs.Rune.{Rune, char, byte, BeginsNoChar, first_rune, runes, runes_after, tail_len}
+use Rattle.tmpl_values.specs.Rune.{Rune, char, byte, BeginsNoChar, first_rune, runes, runes_after}
+use Rattle.tmpl_values.specs.computed.Rune.{tail_len}
 use Rattle.tmpl_values.proofs.RuneLemmas.{Front, encoding, lone, bytes_in-Front, first_rune-encode, front, runes-first, runes-nil, text-runes}
 
 -- where no character is found none begins
@@ -39,7 +40,7 @@ byte-first b rest none _ (encoding c s e) =
 
 behind-char : (c : ℕ) (rest : List ℕ) → drop (suc (tail_len (char c))) (encode_utf8 c ++ rest) ≡ rest
 behind-char c rest =
-    let n : suc (len_utf8 c - 1) ≡ length (encode_utf8 c) = omega (arith, len_utf8_bounds c, length-encode c) in
+    let n : suc (length (encode_utf8 c) - 1) ≡ length (encode_utf8 c) = omega (arith, len_utf8_bounds c, length-encode c) in
     ap (λ k. drop k (encode_utf8 c ++ rest)) n ∙ drop-append_seam (encode_utf8 c) rest
 
 pub one-list : HasNoOtherRunes

@@ -11,5 +11,4 @@ pub mod RestLemmas
 pub mod RisingLemmas
 pub mod RuneLemmas
 pub mod TreeLemmas
-pub mod TruthLemmas
 pub mod WalkLemmas

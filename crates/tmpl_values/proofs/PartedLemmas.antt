@@ -2,11 +2,23 @@
 use Rattle.std.proofs.Common.{◌≡◌, ◌∙◌, ℕ, suc, ◌+◌, ◌<◌, ◌≤◌, List, [], ◌∷◌, ◌++◌, length, get_or, take, drop, map, refl, sym, ap, append_assoc, append-nil}
 use Rattle.std.proofs.Math.Numerals.{add-one}
 use Rattle.std.proofs.Math.Seq.{drop-cons, take-suc}
+use Rattle.std.specs.List.{flat_map, join_with_byte}
 use Rattle.std.proofs.lemmas.List.{take-append-drop, map-append, take_all}
 use Rattle.std.proofs.lemmas.List.Concat.{flat_map-append}
 use Rattle.tmpl_values.specs.declared.data.Data.{Data}
 use Rattle.tmpl_values.specs.row.View.{value_of, items_of, entries_of}
-use Rattle.tmpl_values.specs.Text.{item_texts, entry_texts, inner_text, spaced, parted}
+use Rattle.tmpl_values.specs.Text.{item_texts, entry_texts, inner_text}
+
+-- the texts, parted by one space, and each with a space before it
+abbrev pub parted : List (List ℕ) → List ℕ
+parted = join_with_byte 32
+
+abbrev pub spaced : List (List ℕ) → List ℕ
+spaced ts = flat_map (λ t. 32 ∷ t) ts
+
+pub parted-cons : (t : List ℕ) (ts : List (List ℕ)) → parted (t ∷ ts) ≡ t ++ spaced ts
+parted-cons t [] = sym (append-nil t)
+parted-cons t (u ∷ us) = ap (λ s. t ++ 32 ∷ s) (parted-cons u us)
 
 abbrev pub item_text : Data → List ℕ
 item_text d = inner_text (value_of d)
@@ -28,8 +40,10 @@ lead [] = []
 lead (t ∷ ts) = 32 ∷ []
 
 parted-split : (ps : List (List ℕ)) (t : List ℕ) (bs : List (List ℕ)) → parted (ps ++ t ∷ bs) ≡ parted ps ++ (lead ps ++ (t ++ spaced bs))
-parted-split [] t bs = refl
-parted-split (s ∷ ps) t bs = ap (λ u. s ++ u) (flat_map-append (λ t. 32 ∷ t) ps (t ∷ bs)) ∙ sym (append_assoc s (spaced ps) (32 ∷ (t ++ spaced bs)))
+parted-split [] t bs = parted-cons t bs
+parted-split (s ∷ ps) t bs =
+    parted-cons s (ps ++ t ∷ bs) ∙ ap (λ u. s ++ u) (flat_map-append (λ t. 32 ∷ t) ps (t ∷ bs))
+    ∙ sym (append_assoc s (spaced ps) (32 ∷ (t ++ spaced bs))) ∙ ap (λ u. u ++ 32 ∷ (t ++ spaced bs)) (sym (parted-cons s ps))
 
 lead-more : (ps : List (List ℕ)) (t : List ℕ) → lead (ps ++ t ∷ []) ≡ 32 ∷ []
 lead-more [] t = refl

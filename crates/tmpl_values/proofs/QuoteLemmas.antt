@@ -6,16 +6,17 @@ use Rattle.std.specs.List.{flat_map}
 use Rattle.std.specs.Char.{len_utf8, encode_utf8}
 use Rattle.std.proofs.Math.Seq.{take-add}
 use Rattle.std.proofs.lemmas.List.{drop-drop}
-use Rattle.std.proofs.lemmas.Str.{len_utf8_bounds}
+use Rattle.std.proofs.lemmas.Str.{len_utf8_bounds, length-encode}
 use Rattle.tmpl_values.specs.Rune.{char, byte}
 use Rattle.tmpl_values.specs.Rune.{first_rune}
-use Rattle.tmpl_values.specs.Quote.{inside, spelling, letters, letter_of}
+use Rattle.tmpl_values.specs.Quote.{spelling, letters, letter_of}
+use Rattle.tmpl_values.specs.computed.Quote.{inside}
 use Rattle.tmpl_values.proofs.RuneLemmas.{runes-first, runes-nil, take-first_rune}
 
 pub inside-char : (p : ℕ → Bool) (bs : List ℕ) (c : ℕ) → 0 < length bs → first_rune bs ≡ char c
     → inside p bs ≡ spelling p (char c) ++ inside p (drop (len_utf8 c) bs)
 inside-char p bs c h is =
-    let n : suc (len_utf8 c - 1) ≡ len_utf8 c = omega (arith, len_utf8_bounds c) in
+    let n : suc (length (encode_utf8 c) - 1) ≡ len_utf8 c = omega (arith, len_utf8_bounds c, length-encode c) in
     ap (flat_map (spelling p)) (runes-first bs (char c) h is) ∙ ap (λ k. spelling p (char c) ++ inside p (drop k bs)) n
 
 pub inside-byte : (p : ℕ → Bool) (bs : List ℕ) (b : ℕ) → 0 < length bs → first_rune bs ≡ byte b → inside p bs ≡ spelling p (byte b) ++ inside p (drop 1 bs)

@@ -1,11 +1,15 @@
 -- For the loops of `row_of` and `table_of`: what is converted stands before what the rest is read as.
-use Rattle.std.proofs.Common.{◌≡◌, ℕ, List, [], ◌∷◌, ◌++◌, Option, Some, None, Ok, option_map, String, Global, string_bytes, refl, ap}
+use Rattle.std.proofs.Common.{◌≡◌, ℕ, List, [], ◌∷◌, ◌++◌, Option, Some, None, Result, Ok, ok_or, option_map, String, Global, string_bytes, refl, ap}
 use Rattle.serde_json.specs.declared.value.Value as json
 use Rattle.serde_json.specs.View.{view, items_view, members_view}
 use Rattle.tmpl_values.specs.declared.data.Data.{Data}
 use Rattle.tmpl_values.specs.Value.{Items, no_item, item, Entries, no_entry, entry}
 use Rattle.tmpl_values.specs.row.View.{value_of, items_of, entries_of}
-use Rattle.tmpl_values.specs.Json.{tree_value, tree_items, tree_entries, if_whole}
+use Rattle.tmpl_values.specs.Json.{tree_value, tree_items, tree_entries, Flaw, not_whole}
+
+-- a value that is there; else some number is not whole
+abbrev pub if_whole : {A : Type 0} → Option A → Result A Flaw
+if_whole o = ok_or o not_whole
 
 abbrev pub before : List Data → Items → Items
 before [] vs = vs

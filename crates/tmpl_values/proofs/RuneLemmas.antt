@@ -1,7 +1,7 @@
 -- For `first_char` and all that goes rune by rune: which rune stands at the front, and that runes joined are the text.
 use Rattle.std.proofs.Common.{◌≡◌, ◌∙◌, ℕ, zero, suc, ◌+◌, ◌-◌, ◌<◌, Bool, true, false, List, [], ◌∷◌, ◌++◌, length}
 use Rattle.std.proofs.Common.{take, refl, sym, ap, subst, arith, append-nil, append_assoc, drop, get_or, ◌≤◌}
-use Rattle.std.proofs.Common.{if◌then◌else◌, length-append}
+use Rattle.std.proofs.Common.{if◌then◌else◌, ◌&&◌, bytes_eq, length-append}
 use Rattle.std.specs.List.{flat_map}
 use Rattle.std.proofs.lemmas.List.{take-append-drop, length-take}
 use lib.Utf8.{scalar, scalars, next, scalar_cases}
@@ -17,7 +17,12 @@ use Rattle.std.proofs.Math.Seq.{take-append_seam}
 use Rattle.std.proofs.lemmas.Str.{chars-append, chars_past_char, chars-nil, IsUtf8-encode, length-encode, len_utf8_bounds}
 use Rattle.std.proofs.lemmas.Slice.Eq.{bytes_eq-Decides}
 use Rattle.tmpl_values.specs.Bytes.{AreBytes}
-use Rattle.tmpl_values.specs.Rune.{Rune, char, byte, bytes_in, begins_with, first_rune, runes, runes_after, tail_len}
+use Rattle.tmpl_values.specs.Rune.{Rune, char, byte, bytes_in, first_rune, runes, runes_after}
+use Rattle.tmpl_values.specs.computed.Rune.{tail_len}
+
+-- the bytes begin with the encoding of this character
+abbrev begins_with : ℕ → List ℕ → Bool
+begins_with c bs = scalar c && bytes_eq (take (len_utf8 c) bs) (encode_utf8 c)
 
 chars-encode : (c : ℕ) (rest : List ℕ) → IsScalar c → chars (encode_utf8 c ++ rest) ≡ c ∷ chars rest
 chars-encode c rest s =
@@ -55,10 +60,10 @@ front bs = Front-by _ bs (get_or (chars bs) 0 0) refl
 pub bytes_in-Front : (b : ℕ) (bs : List ℕ) (r : Rune) → Front (b ∷ bs) r → (bytes_in r ++ drop (tail_len r) bs ≡ b ∷ bs) × (tail_len r ≤ length bs)
 bytes_in-Front b bs _ lone = (refl, omega arith)
 bytes_in-Front b bs _ (encoding c s e) =
-    let n : len_utf8 c ≡ suc (len_utf8 c - 1) = omega (arith, len_utf8_bounds c) in (
+    let n : len_utf8 c ≡ suc (len_utf8 c - 1) = omega (arith, len_utf8_bounds c) in rw (length-encode c) (
       ap (λ t. t ++ drop (len_utf8 c - 1) bs) (sym e) ∙ ap (λ k. take (len_utf8 c) (b ∷ bs) ++ drop k (b ∷ bs)) (sym n)
           ∙ take-append-drop (len_utf8 c) (b ∷ bs),
-      omega (arith, length-take (len_utf8 c) (b ∷ bs), ap length e, length-encode c),
+      omega (arith, length-take (len_utf8 c) (b ∷ bs), ap length e, length-encode c, len_utf8_bounds c),
     )
 
 pub bytes_in-runes : (n : ℕ) (bs : List ℕ) → n ≤ length bs → flat_map bytes_in (runes_after n bs) ≡ drop n bs

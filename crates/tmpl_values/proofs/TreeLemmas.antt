@@ -1,5 +1,5 @@
 -- For `Data::from_json`: which tree bytes are, from what the reader of `serde_json` says of them.
-use Rattle.std.proofs.Common.{◌≡◌, ℕ, List, Bool, true, false, Option, Some, None, Result, Ok, Err, refl, sym, subst, IsUtf8}
+use Rattle.std.proofs.Common.{◌≡◌, ℕ, List, Bool, true, false, Option, Some, None, Result, Ok, Err, ok_or, refl, sym, subst, IsUtf8}
 use Rattle.std.specs.Result.{IsErrAnd}
 use Rattle.std.specs.Str.{is_utf8}
 use Rattle.std.specs.Bool.{if◌then◌else◌}
@@ -14,7 +14,16 @@ use Rattle.tmpl_values.specs.declared.data.Data.{Data}
 use Rattle.tmpl_values.specs.declared.from_json.DataFault.{DataFault}
 use Rattle.tmpl_values.specs.row.View.{value_of}
 use Rattle.tmpl_values.specs.Value.{Value}
-use Rattle.tmpl_values.specs.Json.{tree_of, Flaw, not_json, IsConverted}
+use Rattle.tmpl_values.specs.Json.{tree_value, Flaw, not_json, IsConverted}
+use Rattle.tmpl_values.specs.Stage.{and_then}
+use Rattle.tmpl_values.proofs.RestLemmas.{if_whole}
+
+-- the tree that bytes are, and the value of one that is there
+abbrev pub tree_of : List ℕ → Option json.Data
+tree_of bytes = if is_utf8 bytes then read bytes else None
+
+abbrev pub if_json : Option json.Data → Result Value Flaw
+if_json o = and_then (ok_or o not_json) (λ d. if_whole (tree_value d))
 
 pub tree_of-some : (bs : List ℕ) (d : json.Data) → IsUtf8 bs → read bs ≡ Some d → tree_of bs ≡ Some d
 tree_of-some bs d u r = rw (is_utf8-from_IsUtf8 bs u) r

@@ -1,7 +1,8 @@
 -- Which values are equal, and which are below others ("Functions", at `eq` and `lt`). That nothing
 -- and null are equal and differ from all else, and that sequences and mappings can be compared with
 -- these alone, are this project's own rules.
-use Rattle.std.specs.Prelude.{◌≡◌, int_lt, bytes_eq, Bool, true, false, Option, Some, None, Result, Ok, Err}
+use Rattle.std.specs.Prelude.{◌≡◌, ◌||◌, ◌&&◌, int_lt, bytes_eq, Bool, true, false, Option, Some, None, Result, Ok, Err}
+use Rattle.std.specs.Prelude.{if◌then◌else◌}
 use Rattle.std.specs.Bool.{beq}
 use Rattle.std.specs.Ordering.{nat_cmp, int_eq, is_lt}
 use Rattle.std.specs.Cmp.Lexicographic.{slice_cmp}
@@ -14,16 +15,13 @@ is_nothing nothing = true
 is_nothing null = true
 is_nothing _ = false
 
--- whether two values are equal: none where they can't be compared
+-- whether two values are equal: truth values, numbers and strings each among themselves, nothing and null alike and to
+-- nothing else; none where they can't be compared
 abbrev pub equality : Value → Value → Option Bool
-equality nothing w = Some (is_nothing w)
-equality null w = Some (is_nothing w)
-equality v nothing = Some false
-equality v null = Some false
 equality (boolean b) (boolean c) = Some (beq b c)
 equality (number m) (number n) = Some (int_eq m n)
 equality (string s) (string t) = Some (bytes_eq s t)
-equality _ _ = None
+equality v w = if is_nothing v || is_nothing w then Some (is_nothing v && is_nothing w) else None
 
 -- whether a value is below another: numbers by size, strings byte by byte, and nothing else can be
 -- compared

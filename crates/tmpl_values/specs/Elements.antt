@@ -1,42 +1,34 @@
 -- The elements that a range visits ("Actions", at `range`), each behind its index or key: the items of a sequence in
 -- order and those of a mapping by key; and, as Go 1.24 has it, the whole numbers from 0 to before a number. That
 -- nothing and null have none, and that no other value may be ranged over, are our own rules.
-use Rattle.std.specs.Prelude.{ℕ, suc, ℤ, pos, negsuc, List, [], ◌∷◌, map, slice_get, Option, Some, None}
-use Rattle.std.specs.List.{range_with_len}
-use Rattle.tmpl_values.specs.Value.{Value, nothing, null, number, string, sequence, mapping, Items, no_item}
-use Rattle.tmpl_values.specs.Value.{item, Entries, no_entry, entry}
+use Rattle.std.specs.Prelude.{ℕ, pos, List, [], ◌∷◌, map, slice_get, Option, Some, None, if◌then◌else◌}
+use Rattle.std.specs.Int.{int_gap}
+use Rattle.std.specs.List.{enumerate_from, range_with_len}
+use Rattle.tmpl_values.specs.Value.{Value, number, string, sequence, mapping, Items, no_item, item, Entries}
+use Rattle.tmpl_values.specs.Value.{no_entry, entry}
+use Rattle.tmpl_values.specs.Compare.{is_nothing}
 
 -- an index or key, and the element
 abbrev pub Element : Type 0
 Element = Value × Value
 
--- items, of which the first has this index
-abbrev pub indexed : ℕ → Items → List Element
-indexed i no_item = []
-indexed i (item v vs) = (number (pos i), v) ∷ indexed (suc i) vs
+-- items in a row
+abbrev pub listed : Items → List Value
+listed no_item = []
+listed (item v vs) = v ∷ listed vs
 
 -- entries, each as its key and its value
 abbrev pub keyed : Entries → List Element
 keyed no_entry = []
 keyed (entry k v es) = (string k, v) ∷ keyed es
 
--- a whole number as an element, which is its own index
-abbrev pub itself : ℕ → Element
-itself i = (number (pos i), number (pos i))
-
--- the whole numbers from 0 to before this one
-abbrev pub numbers_below : ℤ → List Element
-numbers_below (pos n) = map itself (range_with_len 0 n)
-numbers_below (negsuc n) = []
-
--- the elements of a value, if it may be ranged over
+-- the elements of a value, if it may be ranged over: the whole numbers from 0 to before a number, each its own index;
+-- the items of a sequence, each behind its place; the entries of a mapping; and none of nothing and null
 abbrev pub elements : Value → Option (List Element)
-elements nothing = Some []
-elements null = Some []
-elements (number n) = Some (numbers_below n)
-elements (sequence vs) = Some (indexed 0 vs)
+elements (number n) = Some (map (λ i. (number (pos i), number (pos i))) (range_with_len 0 (int_gap (pos 0) n)))
+elements (sequence vs) = Some (map (λ p. (number (pos p.0), p.1)) (enumerate_from 0 (listed vs)))
 elements (mapping es) = Some (keyed es)
-elements _ = None
+elements v = if is_nothing v then Some [] else None
 
 -- .. if it may be ranged over with a variable for the index or key as well: a number may not
 abbrev pub pairs : Value → Option (List Element)

@@ -25,34 +25,22 @@ abbrev mutual
 
   pub tree_items : json.Items → Option Items
   tree_items json.no_items = Some no_item
-  tree_items (json.item d ds) =
-      option_and_then (λ v. option_map (item v) (tree_items ds)) (tree_value d)
+  tree_items (json.item d ds) = option_and_then (λ v. option_map (item v) (tree_items ds)) (tree_value d)
 
   pub tree_entries : json.Members → Option Entries
   tree_entries json.no_members = Some no_entry
-  tree_entries (json.member k d ms) =
-      option_and_then (λ v. option_map (entry k v) (tree_entries ms)) (tree_value d)
-
--- the tree that bytes are: UTF-8 that `serde_json`'s definition reads, nested no deeper than 127
-abbrev pub tree_of : List ℕ → Option json.Data
-tree_of bytes = if is_utf8 bytes then read bytes else None
+  tree_entries (json.member k d ms) = option_and_then (λ v. option_map (entry k v) (tree_entries ms)) (tree_value d)
 
 -- why bytes have no value
 pub data Flaw : Type 0 where
   not_json : Flaw
   not_whole : Flaw
 
--- a value that is there; else some number is not whole
-abbrev pub if_whole : {A : Type 0} → Option A → Result A Flaw
-if_whole o = ok_or o not_whole
-
--- the value of a tree that is there; else there is none
-abbrev pub if_json : Option json.Data → Result Value Flaw
-if_json o = and_then (ok_or o not_json) (λ d. if_whole (tree_value d))
-
--- the value of JSON bytes, or why they have none
+-- the value of JSON bytes, or why they have none: they are UTF-8 that `serde_json`'s definition reads, nested no deeper
+-- than 127, and each number of the tree is whole
 abbrev pub data_of : List ℕ → Result Value Flaw
-data_of bytes = if_json (tree_of bytes)
+data_of bytes =
+    and_then (ok_or (if is_utf8 bytes then read bytes else None) not_json) (λ d. ok_or (tree_value d) not_whole)
 
 -- the result stands for what was asked for, value or flaw, or memory was refused
 abbrev pub IsConverted : {A B : Type 0} → (A → B) → Result A DataFault → Result B Flaw → Type 0

@@ -10,8 +10,7 @@ use Rattle.tmpl_values.specs.Printable.{printable}
 -- the codes with a letter of their own behind a backslash: the code, and the letter
 abbrev pub letters : List (ℕ × ℕ)
 letters =
-    (34, 34) ∷ (92, 92) ∷ (7, 97) ∷ (8, 98) ∷ (9, 116) ∷ (10, 110) ∷ (11, 118) ∷ (12, 102)
-    ∷ (13, 114) ∷ []
+    (34, 34) ∷ (92, 92) ∷ (7, 97) ∷ (8, 98) ∷ (9, 116) ∷ (10, 110) ∷ (11, 118) ∷ (12, 102) ∷ (13, 114) ∷ []
 
 -- the letter of a code
 abbrev pub letter_of : ℕ → List (ℕ × ℕ) → Option ℕ
@@ -23,32 +22,20 @@ unfoldable pub hexes : ℕ → ℕ → List ℕ
 hexes zero c = []
 hexes (suc n) c = hexes n (c / 16) ++ digit_char (c % 16) ∷ []
 
--- a character with no letter of its own: itself where it prints, else its code in two, four or
--- eight digits
-abbrev pub plain_or_code : (ℕ → Bool) → ℕ → List ℕ
-plain_or_code prints c =
+-- a character by its letter, if it has one; else itself where it prints, and its code in two, four or eight digits
+-- where it does not
+abbrev pub rune_spelling : (ℕ → Bool) → ℕ → Option ℕ → List ℕ
+rune_spelling prints c (Some e) = 92 ∷ e ∷ []
+rune_spelling prints c None =
     if prints c then encode_utf8 c
     else (if nat_lt c 32 || c == 127 then 92 ∷ 120 ∷ hexes 2 c
     else (if nat_lt c 65536 then 92 ∷ 117 ∷ hexes 4 c else 92 ∷ 85 ∷ hexes 8 c))
-
--- a character by its letter, if it has one
-abbrev pub rune_spelling : (ℕ → Bool) → ℕ → Option ℕ → List ℕ
-rune_spelling prints c (Some e) = 92 ∷ e ∷ []
-rune_spelling prints c None = plain_or_code prints c
 
 -- a rune as it stands in a quote
 abbrev pub spelling : (ℕ → Bool) → Rune → List ℕ
 spelling prints (char c) = rune_spelling prints c (letter_of c letters)
 spelling prints (byte b) = 92 ∷ 120 ∷ hexes 2 b
 
--- what stands between the quotation marks
-abbrev pub inside : (ℕ → Bool) → List ℕ → List ℕ
-inside prints bs = flat_map (spelling prints) (runes bs)
-
--- the quote, by what prints
-abbrev pub quote_by : (ℕ → Bool) → List ℕ → List ℕ
-quote_by prints bs = 34 ∷ (inside prints bs ++ 34 ∷ [])
-
--- the quote
+-- the quote: the runes as they are spelled, between quotation marks
 unfoldable pub quote : List ℕ → List ℕ
-quote = quote_by printable
+quote bs = 34 ∷ (flat_map (spelling printable) (runes bs) ++ 34 ∷ [])

@@ -1,7 +1,7 @@
 //! Data from JSON: `serde_json` reads it, and its tree becomes data by value.
-ghost use Rattle.std.specs.Prelude.{◌≡◌};
+ghost use Rattle.std.specs.Prelude.{◌≡◌, ok_or};
 ghost use Rattle.serde_json.specs.View.{view, items_view, members_view};
-ghost use Rattle.tmpl_values.specs.Json.{tree_value, tree_items, tree_entries, if_whole, IsConverted, IsData};
+ghost use Rattle.tmpl_values.specs.Json.{tree_value, tree_items, tree_entries, not_whole, IsConverted, IsData};
 ghost use Rattle.tmpl_values.specs.row.View.{value_of};
 
 use crate::bytes::Bytes;
@@ -76,7 +76,7 @@ impl Data {
 #[cycle(data)]
 #[inline(always)]
 fn data_of(alloc: Global, value: Value) -> Result<Data, DataFault>
-    ensures { IsConverted value_of result (if_whole (tree_value (view value))) }
+    ensures { IsConverted value_of result (ok_or (tree_value (view value)) not_whole) }
 {
     match value {
         Value::Null => Ok(Data::Null),
@@ -95,7 +95,7 @@ fn data_of(alloc: Global, value: Value) -> Result<Data, DataFault>
 /// the array before gave back, where one of another size is cut from a larger block.
 #[cycle(data)]
 fn row_of(alloc: Global, items: Vec<Value>) -> Result<Row, DataFault>
-    ensures { IsConverted (λ row. row) result (if_whole (tree_items (items_view items.items))) }
+    ensures { IsConverted (λ row. row) result (ok_or (tree_items (items_view items.items)) not_whole) }
 {
     let mut converted = Vec::with_capacity(alloc, items.capacity())?;
     for item in items {
@@ -107,7 +107,7 @@ fn row_of(alloc: Global, items: Vec<Value>) -> Result<Row, DataFault>
 /// The map of the members of an object, which stand by rising keys there too.
 #[cycle(data)]
 fn table_of(alloc: Global, members: Map<String, Value>) -> Result<Table, DataFault>
-    ensures { IsConverted (λ table. table) result (if_whole (tree_entries (members_view members.entries))) }
+    ensures { IsConverted (λ table. table) result (ok_or (tree_entries (members_view members.entries)) not_whole) }
 {
     let mut converted = Vec::with_capacity(alloc, members.len())?;
     for (key, member) in members {

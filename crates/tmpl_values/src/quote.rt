@@ -1,10 +1,14 @@
 //! The quote of a text.
-ghost use Rattle.std.specs.Prelude.{◌≡◌, ◌-◌, ◌^◌, ◌<◌, ◌≤◌, drop, ◌++◌, length, take, IfSome};
+ghost use Rattle.std.specs.Prelude.{◌≡◌, ◌-◌, ◌^◌, ◌<◌, ◌≤◌, drop, ◌++◌, length, take, IfSome, None, [], ◌∷◌};
+ghost use Rattle.std.specs.List.{list_any};
 ghost use Rattle.std.specs.Char.{len_utf8};
+ghost use Rattle.ucd_category.specs.GeneralCategoryGroup.{in_group};
+ghost use Rattle.ucd_category.specs.declared.GeneralCategoryGroup.TheVariants.{Letter, Mark, Number, Punctuation, Symbol};
 ghost use Rattle.tmpl_values.specs.Put.{IsPut};
 ghost use Rattle.tmpl_values.specs.Rune.{char as char_rune, byte as byte_rune};
-ghost use Rattle.tmpl_values.specs.Quote.{letters, letter_of, spelling, plain_or_code, inside, quote};
-ghost use Rattle.tmpl_values.specs.Printable.{printable, of_category};
+ghost use Rattle.tmpl_values.specs.Quote.{letters, letter_of, rune_spelling, spelling, quote};
+ghost use Rattle.tmpl_values.specs.computed.Quote.{inside};
+ghost use Rattle.tmpl_values.specs.Printable.{printable};
 
 use crate::hex::digit;
 use crate::put::Put;
@@ -120,7 +124,7 @@ fn is_printable(c: char) -> bool
 
 /// Whether the characters of a category print.
 fn is_of_category(category: GeneralCategory) -> bool
-    ensures { result ≡ of_category category }
+    ensures { result ≡ list_any (λ g. in_group g category) (Letter ∷ Mark ∷ Number ∷ Punctuation ∷ Symbol ∷ []) }
 {
     GeneralCategoryGroup::Letter.contains(category)
         | (GeneralCategoryGroup::Mark.contains(category)
@@ -145,7 +149,7 @@ fn put_char<P: Put>(c: char, out: &mut P) -> Result<(), P::Fault>
 #[tactic(auto, unfolding(crate::specs::Quote::hexes))]
 fn put_unlettered<P: Put>(c: char, out: &mut P) -> Result<(), P::Fault>
     requires { (P.so_far out.old).failures < 2 ^ 64 - 1 }
-    ensures { IsPut result (P.so_far out.old) (P.so_far out.new) (plain_or_code printable c) }
+    ensures { IsPut result (P.so_far out.old) (P.so_far out.new) (rune_spelling printable c None) }
 {
     if is_printable(c) {
         let mut buffer = [0; 4];

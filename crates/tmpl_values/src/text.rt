@@ -1,10 +1,11 @@
 //! The text of a value.
 ghost use Rattle.std.specs.Prelude.{◌-◌, ◌^◌, ◌<◌, ◌∷◌, ◌++◌, codes};
+ghost use Rattle.std.specs.List.{join_with_byte};
 ghost use Rattle.std.specs.Fmt.{signed_decimal};
 ghost use Rattle.tmpl_values.specs.row.View.{value_of, items_of, entries_of};
 ghost use Rattle.tmpl_values.specs.View.{val_of};
 ghost use Rattle.tmpl_values.specs.Put.{IsPut};
-ghost use Rattle.tmpl_values.specs.Text.{text_of, inner_text, truth_text, item_texts, entry_texts, parted};
+ghost use Rattle.tmpl_values.specs.Text.{text_of, inner_text, truth_text, item_texts, entry_texts};
 
 use crate::bytes::Bytes;
 use crate::data::Data;
@@ -75,7 +76,7 @@ fn put_inner<P: Put>(item: &Data, out: &mut P) -> Result<(), P::Fault>
 fn put_items<P: Put>(items: &[Data], out: &mut P) -> Result<(), P::Fault>
     requires { (P.so_far out.old).failures < 2 ^ 64 - 1 }
     ensures { IsPut result (P.so_far out.old) (P.so_far out.new)
-        (codes "[" ++ (parted (item_texts (items_of items.now)) ++ codes "]")) }
+        (codes "[" ++ (join_with_byte 32 (item_texts (items_of items.now)) ++ codes "]")) }
 {
     out.put(b"[")?;
     put_parted_items(items, out)?;
@@ -87,7 +88,7 @@ fn put_items<P: Put>(items: &[Data], out: &mut P) -> Result<(), P::Fault>
 fn put_parted_items<P: Put>(items: &[Data], out: &mut P) -> Result<(), P::Fault>
     requires { (P.so_far out.old).failures < 2 ^ 64 - 1 }
     ensures { IsPut result (P.so_far out.old) (P.so_far out.new)
-        (parted (item_texts (items_of items.now))) }
+        (join_with_byte 32 (item_texts (items_of items.now))) }
 {
     let mut lead: &[u8] = b"";
     for item in items {
@@ -103,7 +104,7 @@ fn put_parted_items<P: Put>(items: &[Data], out: &mut P) -> Result<(), P::Fault>
 fn put_entries<P: Put>(entries: &[(Bytes, Data)], out: &mut P) -> Result<(), P::Fault>
     requires { (P.so_far out.old).failures < 2 ^ 64 - 1 }
     ensures { IsPut result (P.so_far out.old) (P.so_far out.new)
-        (codes "map[" ++ (parted (entry_texts (entries_of entries.now)) ++ codes "]")) }
+        (codes "map[" ++ (join_with_byte 32 (entry_texts (entries_of entries.now)) ++ codes "]")) }
 {
     out.put(b"map[")?;
     put_parted_entries(entries, out)?;
@@ -115,7 +116,7 @@ fn put_entries<P: Put>(entries: &[(Bytes, Data)], out: &mut P) -> Result<(), P::
 fn put_parted_entries<P: Put>(entries: &[(Bytes, Data)], out: &mut P) -> Result<(), P::Fault>
     requires { (P.so_far out.old).failures < 2 ^ 64 - 1 }
     ensures { IsPut result (P.so_far out.old) (P.so_far out.new)
-        (parted (entry_texts (entries_of entries.now))) }
+        (join_with_byte 32 (entry_texts (entries_of entries.now))) }
 {
     let mut lead: &[u8] = b"";
     for (key, value) in entries {

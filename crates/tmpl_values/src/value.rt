@@ -1,12 +1,13 @@
 //! The values of a run.
-ghost use Rattle.std.specs.Prelude.{◌≡◌, ◌-◌, ◌^◌, ◌<◌, ◌≤◌, length, true, false, IfOk, IfSome, option_map};
+ghost use Rattle.std.specs.Prelude.{◌≡◌, ◌^◌, ◌<◌, ◌≤◌, length, pos, slice_range, true, false, IfOk, IfSome, option_map};
+ghost use Rattle.std.specs.Int.{int_gap};
 ghost use Rattle.tmpl_values.specs.Value.{number, string, sequence, mapping};
 ghost use Rattle.tmpl_values.specs.View.{value_of, items_of, entries_of, val_of, is_kept, is_made, field_of};
 ghost use Rattle.tmpl_values.specs.View.{is_borrowed, element_of, IsShared};
 ghost use Rattle.tmpl_values.specs.Truth.{truth};
 ghost use Rattle.tmpl_values.specs.Field.{field_at};
-ghost use Rattle.tmpl_values.specs.Elements.{elements, item_at, numbers_below, pairs};
-ghost use Rattle.tmpl_values.specs.Item.{bytes_of, size_of, HasPart, part_of, items_from, first_items};
+ghost use Rattle.tmpl_values.specs.Elements.{elements, item_at, listed, pairs};
+ghost use Rattle.tmpl_values.specs.Item.{bytes_of, size_of, HasPart, part_of, in_sequence};
 
 use crate::bytes::Bytes;
 use crate::data::{Data, Table};
@@ -55,7 +56,7 @@ impl<'a> Val<'a> {
 
     /// Whether the value is not empty, as `if` has it: empty are false, 0, nothing, null, and a
     /// text, list or map of length zero ("Actions" in the documentation of `text/template`).
-    #[tactic(auto, using(crate::proofs::TruthLemmas::truths))]
+    #[tactic(auto, using(crate::proofs::ItemLemmas::counts))]
     pub fn truth(&self) -> bool
         ensures { result ≡ truth (val_of self.now) }
     {
@@ -225,9 +226,8 @@ impl<'a> Val<'a> {
 }
 
 /// How many whole numbers there are from 0 to before this one: none where it is below 1.
-#[tactic(auto, using(crate::proofs::ElementLemmas::numbers))]
 pub fn count_below(n: i64) -> u64
-    ensures value { result ≡ length (numbers_below n) }
+    ensures value { result ≡ int_gap (pos 0) n }
     ensures fits { result < 2 ^ 63 }
 {
     if n < 0 { 0 } else { n as u64 }
@@ -273,7 +273,7 @@ fn map_item<'a>(entries: &'a [(Bytes, Data)], i: usize) -> Option<(Val<'a>, Val<
 /// The items from place i to before place j.
 fn items_between(items: &[Data], i: usize, j: usize) -> &[Data]
     requires { (i ≤ j) × (j ≤ length items.now) }
-    ensures { items_of result.now ≡ first_items (j - i) (items_from i (items_of items.now)) }
+    ensures { items_of result.now ≡ in_sequence (slice_range (listed (items_of items.now)) i j) }
 {
     &items[i..j]
 }

@@ -1,8 +1,7 @@
 use Rattle.std.proofs.Common.{◌≡◌, ◌∙◌, ap, sym, [], ◌++◌, ◌∷◌, Ok, string_bytes, arith}
 use Rattle.std.proofs.lemmas.List.{drop_all}
 use Rattle.std.specs.Vec.Iter.{into_iter_items}
-use Rattle.tmpl_values.specs.Json.{if_whole}
-use Rattle.tmpl_values.proofs.RestLemmas.{tree_items-step, tree_items-end, tree_entries-step, tree_entries-end}
+use Rattle.tmpl_values.proofs.RestLemmas.{if_whole, tree_items-step, tree_items-end, tree_entries-step, tree_entries-end}
 use Rattle.tmpl_values.proofs.RisingLemmas.{AreRising-sorted}
 use Rattle.tmpl_values.proofs.from_json.+data.Goals as goal
 

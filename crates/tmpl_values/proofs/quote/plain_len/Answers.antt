@@ -1,7 +1,7 @@
 use Rattle.std.proofs.Common.{◌≡◌, ◌≤◌, ◌++◌, length, take, drop, subst, arith, List, ℕ}
 use Rattle.std.specs.Char.{len_utf8}
 use Rattle.std.proofs.lemmas.List.{length-drop}
-use Rattle.tmpl_values.specs.Quote.{inside}
+use Rattle.tmpl_values.specs.computed.Quote.{inside}
 use Rattle.tmpl_values.specs.Printable.{printable}
 use Rattle.tmpl_values.proofs.QuoteLemmas.{inside-plain_run}
 use Rattle.tmpl_values.proofs.quote.plain_len.Goals as goal

@@ -1,5 +1,5 @@
 use Rattle.std.proofs.Common.{◌≡◌, ◌≤◌, ◌-◌, ◌++◌, length, take, drop}
-use Rattle.tmpl_values.specs.Quote.{inside}
+use Rattle.tmpl_values.specs.computed.Quote.{inside}
 use Rattle.tmpl_values.specs.Printable.{printable}
 use Rattle.tmpl_values.proofs.quote.plain_len.Given as goal
 

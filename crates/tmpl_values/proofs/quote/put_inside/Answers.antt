@@ -1,7 +1,8 @@
 use Rattle.std.proofs.Common.{◌∙◌, ap, sym, append-nil, ◌++◌, arith, get_or, take, drop, List, ℕ}
 use Rattle.tmpl_values.specs.Rune.{char, byte}
 use Rattle.tmpl_values.specs.Printable.{printable}
-use Rattle.tmpl_values.specs.Quote.{inside, spelling}
+use Rattle.tmpl_values.specs.Quote.{spelling}
+use Rattle.tmpl_values.specs.computed.Quote.{inside}
 use Rattle.tmpl_values.proofs.PutLemmas.{IsPut-append, IsPut-stop, IsPut-along}
 use Rattle.tmpl_values.proofs.QuoteLemmas.{inside-char, inside-byte, inside-nil, append-more}
 use Rattle.tmpl_values.proofs.quote.put_inside.Goals as goal

@@ -1,6 +1,6 @@
 use Rattle.std.proofs.Common.{◌≡◌, ℕ, List, ◌++◌, length, Ok}
 use Rattle.tmpl_values.specs.Put.{IsPut}
-use Rattle.tmpl_values.specs.Quote.{inside}
+use Rattle.tmpl_values.specs.computed.Quote.{inside}
 use Rattle.tmpl_values.specs.Printable.{printable}
 use Rattle.tmpl_values.proofs.quote.put_inside.Given as goal
 

@@ -1,8 +1,8 @@
 use Rattle.std.proofs.Common.{◌∙◌, ◌∷◌, ◌++◌, sym, ap, rules, arith}
 use Rattle.tmpl_values.specs.row.View.{value_of}
-use Rattle.tmpl_values.specs.Text.{parted, inner_text}
+use Rattle.tmpl_values.specs.Text.{inner_text}
 use Rattle.tmpl_values.proofs.PutLemmas.{IsPut-append, IsPut-stop, IsPut-along}
-use Rattle.tmpl_values.proofs.PartedLemmas.{item_text, entry_text, item_texts-map, entry_texts-map, parted-at}
+use Rattle.tmpl_values.proofs.PartedLemmas.{parted, item_text, entry_text, item_texts-map, entry_texts-map, parted-at}
 use Rattle.tmpl_values.proofs.PartedLemmas.{parted-next, lead-next, parted-all}
 use Rattle.tmpl_values.specs.computed.Weight.{items_weight, entries_weight}
 use Rattle.tmpl_values.proofs.WalkLemmas.{size-row, size-table}

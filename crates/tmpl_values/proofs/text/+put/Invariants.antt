@@ -1,7 +1,6 @@
 use Rattle.std.proofs.Common.{◌≡◌, take, map, Ok}
 use Rattle.tmpl_values.specs.Put.{IsPut}
-use Rattle.tmpl_values.specs.Text.{parted}
-use Rattle.tmpl_values.proofs.PartedLemmas.{lead, item_text, entry_text}
+use Rattle.tmpl_values.proofs.PartedLemmas.{parted, lead, item_text, entry_text}
 use Rattle.tmpl_values.proofs.text.+put.Given as goal
 
 abbrev pub invariant-put_parted_items-loop-item : goal.invariant-put_parted_items-loop-item

@@ -1,7 +1,7 @@
 use Rattle.std.proofs.Common.{ap, sym, subst}
 use Rattle.tmpl_values.specs.row.View.{value_of}
-use Rattle.tmpl_values.specs.Json.{data_of, if_json, IsConverted}
-use Rattle.tmpl_values.proofs.TreeLemmas.{tree_of-some, tree_of-none, refused-as}
+use Rattle.tmpl_values.specs.Json.{data_of, IsConverted}
+use Rattle.tmpl_values.proofs.TreeLemmas.{tree_of-some, tree_of-none, if_json, refused-as}
 use Rattle.tmpl_values.proofs.data.Data.from_json.Goals as goal
 
 pub returns-in_err-value : goal.returns-in_err-value
