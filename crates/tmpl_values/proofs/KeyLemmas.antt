@@ -1,5 +1,5 @@
 -- For `Table::get`: a search by halves finds a key, since the keys rise.
-use Rattle.std.proofs.Common.{◌≡◌, ◌∙◌, ℕ, zero, suc, ◌<◌, ◌≤◌, false, List, [], ◌∷◌, length, get_or, Err, refl, sym, ap, subst, arith, ◌⊎◌, inl, inr}
+use Rattle.std.proofs.Common.{◌≡◌, ◌∙◌, ℕ, zero, suc, ◌<◌, ◌≤◌, false, List, [], ◌∷◌, length, get_or, Some, None, Err, refl, sym, ap, subst, arith, ◌⊎◌, inl, inr}
 use Rattle.std.specs.declared.cmp.Ordering.{Ordering}
 use Rattle.std.specs.Ordering.{nat_cmp, is_eq, ordering_index, ordering_reverse}
 use Rattle.std.specs.Cmp.Lexicographic.{slice_cmp}
@@ -12,7 +12,7 @@ use Rattle.std.proofs.lemmas.Map.Text.{is_eq-slice_cmp}
 use Rattle.tmpl_values.specs.declared.data.Data.{Data}
 use Rattle.tmpl_values.specs.Value.{IsBelow, AreRising}
 use Rattle.tmpl_values.specs.row.View.{value_of, entries_of}
-use Rattle.tmpl_values.specs.Field.{found, missing, entry_at}
+use Rattle.tmpl_values.specs.Field.{entry_at}
 
 abbrev Entry : Type 0
 Entry = List ℕ × Data
@@ -36,7 +36,7 @@ AreRising-places (e ∷ es) (suc i) (suc j) d r l h = AreRising-places es i j d 
 
 -- the value of a key that is there
 pub entry_at-there : (key : List ℕ) (es : List Entry) (i : ℕ) (d : Entry) → AreRising (entries_of es) → i < length es → order (get_or es i d).0 key ≡ Equal
-    → entry_at key (entries_of es) ≡ found (value_of (get_or es i d).1)
+    → entry_at key (entries_of es) ≡ Some (value_of (get_or es i d).1)
 entry_at-there key [] i d r h same = absurd (omega arith)
 entry_at-there key (e ∷ es) zero d r h same = cond-true _ _ _ (sym (is_eq-slice_cmp e.0 key) ∙ ap is_eq same)
 entry_at-there key (e ∷ es) (suc i) d r h same =
@@ -50,7 +50,7 @@ is_eq-differs Greater h = refl
 
 -- a key that is nowhere
 pub entry_at-nowhere : (key : List ℕ) (es : List Entry) → ((i : ℕ) (d : Entry) → i < length es → order (get_or es i d).0 key ≡ Equal → ⊥)
-    → entry_at key (entries_of es) ≡ missing
+    → entry_at key (entries_of es) ≡ None
 entry_at-nowhere key [] h = refl
 entry_at-nowhere key (e ∷ es) h =
     cond-false _ _ _ (sym (is_eq-slice_cmp e.0 key) ∙ is_eq-differs _ (h 0 e (omega arith))) ∙
@@ -86,7 +86,7 @@ below_or_not (suc i) (suc j) = elim (below_or_not i j) [ inl l ↦ inl (omega ar
 
 -- a key that the search does not find
 pub entry_at-not_found : (key : List ℕ) (es : List Entry) (p : ℕ) → AreRising (entries_of es) → IsBinarySearchResult (λ e. order e.0 key) es (Err p)
-    → entry_at key (entries_of es) ≡ missing
+    → entry_at key (entries_of es) ≡ None
 entry_at-not_found key es p r search_found =
     let parts = search_found (IsNonDecreasingBy-order key es r) in
     entry_at-nowhere key es (λ i d h. Ordering-apart _ i p (λ l. parts.0 i d (omega arith) l) (λ l. parts.1 i d l h) (below_or_not i p))

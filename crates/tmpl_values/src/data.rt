@@ -1,6 +1,6 @@
 //! Data: what a JSON file holds.
-ghost use Rattle.std.specs.Prelude.{◌≡◌, MatchOption};
-ghost use Rattle.tmpl_values.specs.Field.{found, missing, entry_at};
+ghost use Rattle.std.specs.Prelude.{◌≡◌, MatchOption, None, Some};
+ghost use Rattle.tmpl_values.specs.Field.{entry_at};
 ghost use Rattle.tmpl_values.specs.row.View.{value_of, entries_of};
 
 use crate::bytes::Bytes;
@@ -119,8 +119,8 @@ impl Table {
     /// The value of this key, found by a look at each of few entries, and by halves in more.
     pub fn get(&self, key: &[u8]) -> Option<&Data>
         ensures { MatchOption result
-            (entry_at key.now self.now ≡ missing)
-            (λ d. entry_at key.now self.now ≡ found (value_of d.now)) }
+            (entry_at key.now self.now ≡ None)
+            (λ d. entry_at key.now self.now ≡ Some (value_of d.now)) }
     {
         let entries = self.as_slice();
         if entries.len() <= FEW {
@@ -136,8 +136,8 @@ impl Table {
 /// The value of the first entry of this key.
 fn first_of<'d>(entries: &'d [(Bytes, Data)], key: &[u8]) -> Option<&'d Data>
     ensures { MatchOption result
-        (entry_at key.now (entries_of entries.now) ≡ missing)
-        (λ d. entry_at key.now (entries_of entries.now) ≡ found (value_of d.now)) }
+        (entry_at key.now (entries_of entries.now) ≡ None)
+        (λ d. entry_at key.now (entries_of entries.now) ≡ Some (value_of d.now)) }
 {
     for (name, value) in entries {
         if name.as_slice() == key {
