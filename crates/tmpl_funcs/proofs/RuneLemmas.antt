@@ -2,18 +2,19 @@
 use Rattle.std.proofs.Common.{◌≡◌, ◌∙◌, ℕ, zero, suc, ◌-◌, ◌<◌, ◌≤◌, List, [], ◌∷◌, ◌++◌, length, take, drop, refl, sym}
 use Rattle.std.proofs.Common.{ap, append_assoc, append-nil, arith, length-append}
 use Rattle.std.specs.List.{flat_map}
-use Rattle.std.specs.Char.{len_utf8}
+use Rattle.std.specs.Char.{len_utf8, encode_utf8}
 use Rattle.std.proofs.Math.Seq.{take-append_seam}
 use Rattle.std.proofs.lemmas.List.{take-append-drop}
-use Rattle.std.proofs.lemmas.Str.{len_utf8_bounds}
+use Rattle.std.proofs.lemmas.Str.{len_utf8_bounds, length-encode}
 use Rattle.tmpl_values.specs.Rune.{Rune, bytes_in}
-use Rattle.tmpl_values.specs.Rune.{first_rune, runes, tail_len}
+use Rattle.tmpl_values.specs.Rune.{first_rune, runes}
+use Rattle.tmpl_values.specs.computed.Rune.{tail_len}
 use Rattle.tmpl_values.proofs.RuneLemmas.{Front, encoding, lone, front, runes-first, runes-nil}
 
 bytes_in-Front : (b : ℕ) (bs : List ℕ) (r : Rune) → Front (b ∷ bs) r → bytes_in r ≡ take (suc (tail_len r)) (b ∷ bs)
 bytes_in-Front b bs _ lone = refl
 bytes_in-Front b bs _ (encoding c s e) =
-    let n : suc (len_utf8 c - 1) ≡ len_utf8 c = omega (arith, len_utf8_bounds c) in
+    let n : suc (length (encode_utf8 c) - 1) ≡ len_utf8 c = omega (arith, len_utf8_bounds c, length-encode c) in
     sym (ap (λ k. take k (b ∷ bs)) n ∙ e)
 
 -- the first rune's bytes are those at the front
@@ -35,7 +36,9 @@ first_bytes n bs = flat_map bytes_in (take n (runes bs))
 
 first_bytes-more : (n k : ℕ) (bs rest : List ℕ) → n ≡ suc k → 0 < length bs → rest ≡ drop (suc (tail_len (first_rune bs))) bs
     → first_bytes n bs ≡ take (suc (tail_len (first_rune bs))) bs ++ first_bytes k rest
-first_bytes-more n k bs rest one h is = rw (one, is, runes-first bs (first_rune bs) h refl, bytes_in-front bs h) refl
+first_bytes-more n k bs rest one h is =
+    rw (one, is, runes-first bs (first_rune bs) h refl)
+    (ap (λ t. t ++ first_bytes k (drop (suc (tail_len (first_rune bs))) bs)) (bytes_in-front bs h))
 
 -- a text of which some runes are cut off: what is taken, and how many are still to be taken of the rest
 pub record IsCutting (text : List ℕ) (count : ℕ) (rest : List ℕ) (left : ℕ) : Type 0 where

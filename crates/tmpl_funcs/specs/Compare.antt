@@ -1,6 +1,6 @@
 -- The comparisons ("Functions", at `eq` to `ge`).
-use Rattle.std.specs.Prelude.{Bool, true, false, not, List, [], ◌∷◌, Option, Some, None, option_map, Result, Err}
-use Rattle.std.specs.Prelude.{ok_or}
+use Rattle.std.specs.Prelude.{Bool, true, false, List, [], ◌∷◌, Option, Some, option_map, option_and_then, Result}
+use Rattle.std.specs.Prelude.{Err, ok_or, if◌then◌else◌}
 use Rattle.tmpl_values.specs.Value.{Value, boolean}
 use Rattle.tmpl_values.specs.Compare.{equality, order}
 use Rattle.tmpl_funcs.specs.declared.fault.CallFault.{CallFault}
@@ -12,9 +12,7 @@ compared answer = ok_or (option_map boolean answer) NotComparable
 
 -- the second comparison, where the first one is there and does not hold
 abbrev pub or_else : Option Bool → Option Bool → Option Bool
-or_else None b = None
-or_else (Some true) b = Some true
-or_else (Some false) b = b
+or_else a b = option_and_then (λ holds. if holds then Some true else b) a
 
 -- whether the first value equals one of the others, compared in order up to the first equal one
 abbrev pub equal_to_one : Value → List Value → Option Bool
@@ -34,15 +32,3 @@ eq_of _ = Err WrongCount
 abbrev pub of_two : (Value → Value → Option Bool) → List Value → Result Value CallFault
 of_two f (v ∷ w ∷ []) = compared (f v w)
 of_two f _ = Err WrongCount
-
--- not equal
-abbrev pub unequal : Value → Value → Option Bool
-unequal v w = option_map not (equality v w)
-
--- above: not below or equal
-abbrev pub above : Value → Value → Option Bool
-above v w = option_map not (at_most v w)
-
--- at least: not below
-abbrev pub at_least : Value → Value → Option Bool
-at_least v w = option_map not (order v w)

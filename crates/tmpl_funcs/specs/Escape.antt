@@ -1,11 +1,7 @@
 -- Escapes ("Functions", at `html` and `urlquery`).
-use Rattle.std.specs.Prelude.{ℕ, Bool, ◌||◌, ◌==◌, List, [], ◌∷◌, map, codes, Result, Ok, if◌then◌else◌}
-use Rattle.std.specs.List.{flat_map}
+use Rattle.std.specs.Prelude.{ℕ, Bool, ◌||◌, ◌==◌, List, [], ◌∷◌, codes, if◌then◌else◌}
 use Rattle.std.specs.Char.{is_ascii_alphanumeric}
 use Rattle.percent_encoding.specs.Percent.{percent_encode_byte}
-use Rattle.tmpl_values.specs.Value.{Value, string}
-use Rattle.tmpl_funcs.specs.Join.{joined, as_text}
-use Rattle.tmpl_funcs.specs.declared.fault.CallFault.{CallFault}
 
 -- a byte in HTML, as `HTMLEscapeString` has it: NUL is U+FFFD
 abbrev pub html_byte : ℕ → List ℕ
@@ -25,13 +21,4 @@ is_unreserved b = is_ascii_alphanumeric b || (b == 45 || (b == 95 || (b == 46 ||
 -- a byte in a query, as `url.QueryEscape` has it: a space is `+`, and every other byte that does
 -- not stand for itself is `%` and two digits in upper case
 abbrev pub query_byte : ℕ → List ℕ
-query_byte b =
-    if is_unreserved b then b ∷ [] else (if b == 32 then codes "+" else percent_encode_byte b)
-
--- the operands joined, where nothing counts as a string, and escaped for HTML
-abbrev pub html_of : List Value → Result Value CallFault
-html_of vs = Ok (string (flat_map html_byte (joined (map as_text vs))))
-
--- the same escaped for a query
-abbrev pub urlquery_of : List Value → Result Value CallFault
-urlquery_of vs = Ok (string (flat_map query_byte (joined (map as_text vs))))
+query_byte b = if is_unreserved b then b ∷ [] else (if b == 32 then codes "+" else percent_encode_byte b)

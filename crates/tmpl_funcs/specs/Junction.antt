@@ -1,9 +1,7 @@
 -- The argument that decides ("Functions", at `and` and `or`).
-use Rattle.std.specs.Prelude.{List, [], ◌∷◌, Result, Ok, Err, if◌then◌else◌}
+use Rattle.std.specs.Prelude.{List, [], ◌∷◌, if◌then◌else◌}
 use Rattle.tmpl_values.specs.Value.{Value}
 use Rattle.tmpl_values.specs.Truth.{truth}
-use Rattle.tmpl_funcs.specs.declared.fault.CallFault.{CallFault}
-use Rattle.tmpl_funcs.specs.declared.fault.CallFault.TheVariants.{WrongCount}
 
 -- the first value that is empty, else the last
 abbrev pub first_empty : Value → List Value → Value
@@ -14,13 +12,3 @@ first_empty v (w ∷ ws) = if truth v then first_empty w ws else v
 abbrev pub first_truth : Value → List Value → Value
 first_truth v [] = v
 first_truth v (w ∷ ws) = if truth v then v else first_truth w ws
-
--- the first argument that is empty, else the last
-abbrev pub and_of : List Value → Result Value CallFault
-and_of [] = Err WrongCount
-and_of (v ∷ vs) = Ok (first_empty v vs)
-
--- the first argument that is not empty, else the last
-abbrev pub or_of : List Value → Result Value CallFault
-or_of [] = Err WrongCount
-or_of (v ∷ vs) = Ok (first_truth v vs)

@@ -1,6 +1,6 @@
 pub mod Answer
+pub mod Arguments
 pub mod Compare
-pub mod Count
 pub mod Dispatch
 pub mod Escape
 pub mod Func

@@ -5,7 +5,9 @@ ghost use Rattle.tmpl_values.specs.View.{val_of};
 ghost use Rattle.tmpl_funcs.specs.View.{values_of};
 ghost use Rattle.tmpl_funcs.specs.Answer.{IsBorrowed};
 ghost use Rattle.tmpl_funcs.specs.computed.Answer.{IsAnswer};
-ghost use Rattle.tmpl_funcs.specs.Compare.{above, at_least, at_most, eq_of, equal_to_one, of_two, unequal};
+ghost use Rattle.tmpl_funcs.specs.Dispatch.{called};
+ghost use Rattle.tmpl_funcs.specs.declared.func.Func.{Func};
+ghost use Rattle.tmpl_funcs.specs.Compare.{at_most, equal_to_one};
 
 use crate::fault::CallFault;
 use tmpl_values::{Cell, CompareFault, Val};
@@ -13,7 +15,7 @@ use tmpl_values::{Cell, CompareFault, Val};
 /// Whether the first argument equals one of the others, compared in order up to the first equal
 /// one.
 pub(crate) fn eq<'a>(arguments: &[Cell<'a>]) -> Result<Val<'a>, CallFault>
-    ensures table { IsAnswer (eq_of (values_of arguments.now)) result }
+    ensures table { IsAnswer (called Func.Eq (values_of arguments.now)) result }
     ensures borrowed { IsBorrowed result }
 {
     match arguments {
@@ -36,7 +38,7 @@ fn equals_one(first: &Val<'_>, others: &[Cell<'_>]) -> Result<bool, CompareFault
 
 /// Whether the two arguments differ.
 pub(crate) fn ne<'a>(arguments: &[Cell<'a>]) -> Result<Val<'a>, CallFault>
-    ensures table { IsAnswer (of_two unequal (values_of arguments.now)) result }
+    ensures table { IsAnswer (called Func.Ne (values_of arguments.now)) result }
     ensures borrowed { IsBorrowed result }
 {
     match arguments {
@@ -47,7 +49,7 @@ pub(crate) fn ne<'a>(arguments: &[Cell<'a>]) -> Result<Val<'a>, CallFault>
 
 /// Whether the first of two arguments is below the second.
 pub(crate) fn lt<'a>(arguments: &[Cell<'a>]) -> Result<Val<'a>, CallFault>
-    ensures table { IsAnswer (of_two order (values_of arguments.now)) result }
+    ensures table { IsAnswer (called Func.Lt (values_of arguments.now)) result }
     ensures borrowed { IsBorrowed result }
 {
     match arguments {
@@ -58,7 +60,7 @@ pub(crate) fn lt<'a>(arguments: &[Cell<'a>]) -> Result<Val<'a>, CallFault>
 
 /// Whether the first of two arguments is below the second or equal to it.
 pub(crate) fn le<'a>(arguments: &[Cell<'a>]) -> Result<Val<'a>, CallFault>
-    ensures table { IsAnswer (of_two at_most (values_of arguments.now)) result }
+    ensures table { IsAnswer (called Func.Le (values_of arguments.now)) result }
     ensures borrowed { IsBorrowed result }
 {
     match arguments {
@@ -69,7 +71,7 @@ pub(crate) fn le<'a>(arguments: &[Cell<'a>]) -> Result<Val<'a>, CallFault>
 
 /// Whether the first of two arguments is above the second.
 pub(crate) fn gt<'a>(arguments: &[Cell<'a>]) -> Result<Val<'a>, CallFault>
-    ensures table { IsAnswer (of_two above (values_of arguments.now)) result }
+    ensures table { IsAnswer (called Func.Gt (values_of arguments.now)) result }
     ensures borrowed { IsBorrowed result }
 {
     match arguments {
@@ -80,7 +82,7 @@ pub(crate) fn gt<'a>(arguments: &[Cell<'a>]) -> Result<Val<'a>, CallFault>
 
 /// Whether the first of two arguments is not below the second.
 pub(crate) fn ge<'a>(arguments: &[Cell<'a>]) -> Result<Val<'a>, CallFault>
-    ensures table { IsAnswer (of_two at_least (values_of arguments.now)) result }
+    ensures table { IsAnswer (called Func.Ge (values_of arguments.now)) result }
     ensures borrowed { IsBorrowed result }
 {
     match arguments {

@@ -5,9 +5,8 @@ ghost use Rattle.tmpl_funcs.specs.View.{values_of};
 ghost use Rattle.tmpl_funcs.specs.Answer.{AreBorrowed, IsBorrowed};
 ghost use Rattle.tmpl_funcs.specs.computed.Answer.{IsAnswer};
 ghost use Rattle.tmpl_funcs.specs.Func.{is_called, makes_text};
-ghost use Rattle.tmpl_funcs.specs.Dispatch.{IsCall};
-ghost use Rattle.tmpl_funcs.specs.Index.{index_of};
-ghost use Rattle.tmpl_funcs.specs.Slice.{slice_of};
+ghost use Rattle.tmpl_funcs.specs.Dispatch.{called, IsCall};
+ghost use Rattle.tmpl_funcs.specs.declared.func.Func.{Func};
 
 use crate::compare::{eq, ge, gt, le, lt, ne};
 use crate::count::{len, not};
@@ -62,7 +61,7 @@ pub fn call<'a>(alloc: Global, func: Func, arguments: &mut [Cell<'a>]) -> Result
 
 /// The first argument at the others.
 fn index_first<'a>(arguments: &mut [Cell<'a>]) -> Result<Val<'a>, CallFault>
-    ensures table { IsAnswer (index_of (values_of arguments.old)) result }
+    ensures table { IsAnswer (called Func.Index (values_of arguments.old)) result }
     ensures borrowed { AreBorrowed arguments.old → IsBorrowed result }
 {
     if arguments.is_empty() {
@@ -74,7 +73,7 @@ fn index_first<'a>(arguments: &mut [Cell<'a>]) -> Result<Val<'a>, CallFault>
 
 /// The first argument between the others.
 fn slice_first<'a>(arguments: &mut [Cell<'a>]) -> Result<Val<'a>, CallFault>
-    ensures table { IsAnswer (slice_of (values_of arguments.old)) result }
+    ensures table { IsAnswer (called Func.Slice (values_of arguments.old)) result }
     ensures borrowed { AreBorrowed arguments.old → IsBorrowed result }
 {
     if arguments.is_empty() {

@@ -3,8 +3,10 @@ ghost use Rattle.std.specs.Prelude.{◌≡◌, ◌++◌, ◌∷◌, IfSome, Ok, 
 ghost use Rattle.std.specs.List.{flat_map};
 ghost use Rattle.tmpl_values.specs.Value.{string};
 ghost use Rattle.tmpl_funcs.specs.View.{values_of};
+ghost use Rattle.tmpl_funcs.specs.Dispatch.{called};
+ghost use Rattle.tmpl_funcs.specs.declared.func.Func.{Func};
 ghost use Rattle.tmpl_funcs.specs.computed.Answer.{IsMade};
-ghost use Rattle.tmpl_funcs.specs.Escape.{html_byte, html_of, is_unreserved, query_byte, urlquery_of};
+ghost use Rattle.tmpl_funcs.specs.Escape.{html_byte, is_unreserved, query_byte};
 ghost use Rattle.tmpl_funcs.specs.Join.{as_text, joined};
 ghost use Rattle.tmpl_funcs.specs.computed.Escape.{escaped_byte, escaped_of, or_itself};
 
@@ -24,14 +26,14 @@ pub(crate) enum Escape {
 
 /// The operands joined and escaped for HTML.
 pub(crate) fn html<'a>(alloc: Global, operands: &[Cell<'_>]) -> Result<Val<'a>, CallError>
-    ensures { IsMade (html_of (values_of operands.now)) result }
+    ensures { IsMade (called Func.Html (values_of operands.now)) result }
 {
     escape_operands(alloc, operands, Escape::Html)
 }
 
 /// The operands joined and escaped for the query of a URL.
 pub(crate) fn urlquery<'a>(alloc: Global, operands: &[Cell<'_>]) -> Result<Val<'a>, CallError>
-    ensures { IsMade (urlquery_of (values_of operands.now)) result }
+    ensures { IsMade (called Func.Urlquery (values_of operands.now)) result }
 {
     escape_operands(alloc, operands, Escape::Query)
 }

@@ -1,6 +1,7 @@
 //! The functions: one table.
-ghost use Rattle.std.specs.Prelude.{◌≡◌, ◌≢◌, IfSome, IfNone};
-ghost use Rattle.tmpl_funcs.specs.Func.{is_within, makes_text, name_of, row_of, takes};
+ghost use Rattle.std.specs.Prelude.{◌≡◌, ◌≢◌, IfSome, IfNone, nat_le, true};
+ghost use Rattle.std.specs.Option.{option_map_or};
+ghost use Rattle.tmpl_funcs.specs.Func.{makes_text, name_of, row_of, takes};
 ghost use Rattle.tmpl_funcs.specs.declared.func.Func.{Func};
 
 /// A function that a template may call ("Functions" in the documentation of `text/template`).
@@ -140,7 +141,7 @@ impl Row {
 
 /// Whether a number is at most the greatest, if there is one.
 fn is_within(count: u64, most: Option<u64>) -> bool
-    ensures { result ≡ is_within count most }
+    ensures { result ≡ option_map_or (nat_le count) most true }
 {
     match most {
         None => true,

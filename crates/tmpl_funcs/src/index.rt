@@ -1,19 +1,23 @@
 //! `index`.
-ghost use Rattle.std.specs.Prelude.{◌≡◌, ◌∷◌, false, option_map};
+ghost use Rattle.std.specs.Prelude.{◌≡◌, false, ok_or, option_map, pos, slice_get, unwrap_or};
+ghost use Rattle.tmpl_values.specs.Elements.{listed};
+ghost use Rattle.tmpl_values.specs.Field.{entry_at};
+ghost use Rattle.tmpl_values.specs.Value.{null, number};
+ghost use Rattle.tmpl_funcs.specs.declared.fault.CallFault.TheVariants.{WrongKind};
 ghost use Rattle.tmpl_values.specs.Item.{bytes_of};
 ghost use Rattle.tmpl_values.specs.View.{is_made, items_of, val_of};
 ghost use Rattle.tmpl_funcs.specs.View.{values_of};
 ghost use Rattle.tmpl_funcs.specs.Answer.{IsBorrowed};
 ghost use Rattle.tmpl_funcs.specs.computed.Answer.{IsAnswer};
 ghost use Rattle.tmpl_funcs.specs.computed.Index.{place_among};
-ghost use Rattle.tmpl_funcs.specs.Index.{number_of, byte_at, item_of, entry_of, indexed, indexed_by, index_of};
+ghost use Rattle.tmpl_funcs.specs.Index.{number_of, found_at, indexed, indexed_by, index_of};
 
 use crate::fault::CallFault;
 use tmpl_values::{Cell, Data, Table, Val};
 
 /// An item at indexes, from left to right; with no index the item itself.
 pub(crate) fn index<'a>(item: Val<'a>, indexes: &[Cell<'_>]) -> Result<Val<'a>, CallFault>
-    ensures table { IsAnswer (index_of (val_of item.entry ∷ values_of indexes.now)) result }
+    ensures table { IsAnswer (index_of (val_of item.entry) (values_of indexes.now)) result }
     ensures borrowed { is_made item.entry ≡ false → IsBorrowed result }
 {
     match item {
@@ -69,7 +73,7 @@ pub(crate) fn number(value: &Val<'_>) -> Option<i64>
 
 /// The byte of a text at a place, counted from 0.
 fn byte_at<'a>(bytes: &[u8], place: Option<i64>) -> Result<Val<'a>, CallFault>
-    ensures table { IsAnswer (byte_at bytes.now place) result }
+    ensures table { IsAnswer (found_at (λ k. option_map (λ b. number (pos b)) (slice_get bytes.now k)) place) result }
     ensures borrowed { IsBorrowed result }
 {
     let i = place_among(place, bytes.len())?;
@@ -78,7 +82,7 @@ fn byte_at<'a>(bytes: &[u8], place: Option<i64>) -> Result<Val<'a>, CallFault>
 
 /// The item of a list at a place, counted from 0.
 fn list_item<'a>(items: &'a [Data], place: Option<i64>) -> Result<Val<'a>, CallFault>
-    ensures table { IsAnswer (item_of (items_of items.now) place) result }
+    ensures table { IsAnswer (found_at (slice_get (listed (items_of items.now))) place) result }
     ensures borrowed { IsBorrowed result }
 {
     let i = place_among(place, items.len())?;
@@ -105,7 +109,9 @@ fn place_among(place: Option<i64>, count: usize) -> Result<usize, CallFault>
 
 /// The entry of a map by its key, and null where it has none.
 fn map_entry<'a>(table: &'a Table, key: Option<&[u8]>) -> Result<Val<'a>, CallFault>
-    ensures table { IsAnswer (entry_of table.now (option_map (λ k. k.now) key.entry)) result }
+    ensures table { IsAnswer
+        (ok_or (option_map (λ k. unwrap_or (entry_at k table.now) null) (option_map (λ k. k.now) key.entry)) WrongKind)
+        result }
     ensures borrowed { IsBorrowed result }
 {
     let Some(key) = key else {

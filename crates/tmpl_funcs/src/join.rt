@@ -1,11 +1,14 @@
 //! `print` and `println`.
 ghost use Rattle.std.specs.Prelude.{◌≡◌, ◌++◌, ◌∷◌, [], map, codes, OnOk};
-ghost use Rattle.tmpl_values.specs.Text.{inner_text, parted};
+ghost use Rattle.std.specs.List.{join_with_byte};
+ghost use Rattle.tmpl_values.specs.Text.{inner_text};
 ghost use Rattle.tmpl_values.specs.View.{val_of};
 ghost use Rattle.tmpl_funcs.specs.View.{values_of};
 ghost use Rattle.tmpl_funcs.specs.computed.Answer.{IsMade};
-ghost use Rattle.tmpl_funcs.specs.Join.{is_string, joined, print_of, println_of, space_unless};
-ghost use Rattle.tmpl_funcs.specs.computed.Join.{shown};
+ghost use Rattle.tmpl_funcs.specs.Dispatch.{called};
+ghost use Rattle.tmpl_funcs.specs.declared.func.Func.{Func};
+ghost use Rattle.tmpl_funcs.specs.Join.{is_string, joined};
+ghost use Rattle.tmpl_funcs.specs.computed.Join.{shown, space_unless};
 
 use crate::capacity::{joined_capacity, reserve};
 use crate::fault::CallError;
@@ -23,7 +26,7 @@ pub(crate) enum NothingText {
 
 /// The operands joined, with a space between two neighbours of which neither is a text.
 pub(crate) fn print<'a>(alloc: Global, operands: &[Cell<'_>]) -> Result<Val<'a>, CallError>
-    ensures { IsMade (print_of (values_of operands.now)) result }
+    ensures { IsMade (called Func.Print (values_of operands.now)) result }
 {
     let mut bytes = reserve(alloc, joined_capacity(operands, None));
     add_joined(operands, NothingText::Nil, &mut bytes)?;
@@ -32,7 +35,7 @@ pub(crate) fn print<'a>(alloc: Global, operands: &[Cell<'_>]) -> Result<Val<'a>,
 
 /// The operands parted by one space, and a newline.
 pub(crate) fn println<'a>(alloc: Global, operands: &[Cell<'_>]) -> Result<Val<'a>, CallError>
-    ensures { IsMade (println_of (values_of operands.now)) result }
+    ensures { IsMade (called Func.Println (values_of operands.now)) result }
 {
     let mut bytes = reserve(alloc, joined_capacity(operands, None));
     add_parted(operands, &mut bytes)?;
@@ -62,7 +65,7 @@ pub(crate) fn add_joined(
 /// Adds the operands, parted by one space.
 fn add_parted(operands: &[Cell<'_>], bytes: &mut Vec<u8>) -> Result<(), AllocError>
     ensures { OnOk result (bytes.new.items
-        ≡ bytes.old.items ++ parted (map inner_text (values_of operands.now))) }
+        ≡ bytes.old.items ++ join_with_byte 32 (map inner_text (values_of operands.now))) }
 {
     let mut first = true;
     for operand in operands {

@@ -1,10 +1,10 @@
 //! `slice`.
-ghost use Rattle.std.specs.Prelude.{◌≡◌, ◌∷◌, false};
+ghost use Rattle.std.specs.Prelude.{◌≡◌, ◌∷◌, false, option_map, pos};
 ghost use Rattle.tmpl_values.specs.View.{is_made, val_of};
 ghost use Rattle.tmpl_funcs.specs.View.{values_of};
 ghost use Rattle.tmpl_funcs.specs.Answer.{IsBorrowed};
 ghost use Rattle.tmpl_funcs.specs.computed.Answer.{IsAnswer};
-ghost use Rattle.tmpl_funcs.specs.Slice.{extent, part_by, slice_of, default_end};
+ghost use Rattle.tmpl_funcs.specs.Slice.{extent, part, slice_of};
 
 use crate::fault::CallFault;
 use crate::index::number;
@@ -27,7 +27,7 @@ pub(crate) fn slice<'a>(value: Val<'a>, bounds: &[Cell<'_>]) -> Result<Val<'a>, 
 
 /// How many bytes a text or items a list has.
 fn extent(value: &Val<'_>) -> Option<i64>
-    ensures { result ≡ default_end (extent (val_of value.now)) }
+    ensures { result ≡ option_map pos (extent (val_of value.now)) }
 {
     match value {
         Val::Map(_) => None,
@@ -42,9 +42,9 @@ fn part<'a>(
     from: Option<i64>,
     to: Option<i64>,
 ) -> Result<Val<'a>, CallFault>
-    requires { size ≡ default_end (extent (val_of value)) }
+    requires { size ≡ option_map pos (extent (val_of value)) }
     ensures table { IsAnswer
-        (part_by (val_of value.entry) (extent (val_of value.entry)) from to) result }
+        (part (val_of value.entry) (extent (val_of value.entry)) from to) result }
     ensures borrowed { is_made value.entry ≡ false → IsBorrowed result }
 {
     let (Some(size), Some(i), Some(j)) = (size, from, to) else {

@@ -1,7 +1,9 @@
 -- The two ways in which a text is escaped.
-use Rattle.std.specs.Prelude.{ℕ, List, [], ◌∷◌, Option, Some, None, Result}
-use Rattle.tmpl_values.specs.Value.{Value}
-use Rattle.tmpl_funcs.specs.Escape.{html_byte, query_byte, html_of, urlquery_of}
+use Rattle.std.specs.Prelude.{ℕ, List, [], ◌∷◌, map, Option, Some, None, Result, Ok}
+use Rattle.std.specs.List.{flat_map}
+use Rattle.tmpl_values.specs.Value.{Value, string}
+use Rattle.tmpl_funcs.specs.Escape.{html_byte, query_byte}
+use Rattle.tmpl_funcs.specs.Join.{joined, as_text}
 use Rattle.tmpl_funcs.specs.declared.fault.CallFault.{CallFault}
 use Rattle.tmpl_funcs.specs.declared.escape.Escape.{Escape}
 use Rattle.tmpl_funcs.specs.declared.escape.Escape.TheVariants.{Html, Query}
@@ -18,5 +20,4 @@ or_itself b (Some text) = text
 
 -- the operands joined and escaped
 abbrev pub escaped_of : Escape → List Value → Result Value CallFault
-escaped_of Html vs = html_of vs
-escaped_of Query vs = urlquery_of vs
+escaped_of escape vs = Ok (string (flat_map (escaped_byte escape) (joined (map as_text vs))))

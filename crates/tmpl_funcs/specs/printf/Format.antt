@@ -1,6 +1,6 @@
 -- `printf` ("Functions", at `printf`, which is `fmt.Sprintf`). That a form takes one argument, in
 -- order, and that too few and too many arguments are refused, is this project's own rule.
-use Rattle.std.specs.Prelude.{ℕ, List, [], ◌∷◌, ◌++◌, Option, Some, None, Result, Err}
+use Rattle.std.specs.Prelude.{ℕ, List, [], ◌∷◌, ◌++◌, Option, Some, None, Result}
 use Rattle.std.specs.Prelude.{ok_or, option_and_then, option_map}
 use Rattle.tmpl_values.specs.Value.{Value, string}
 use Rattle.tmpl_values.specs.Item.{bytes_of}
@@ -10,7 +10,7 @@ use Rattle.tmpl_funcs.specs.printf.Reading.{reading}
 use Rattle.tmpl_funcs.specs.printf.Form.{form_of}
 use Rattle.tmpl_funcs.specs.printf.Directive.{printed}
 use Rattle.tmpl_funcs.specs.declared.fault.CallFault.{CallFault}
-use Rattle.tmpl_funcs.specs.declared.fault.CallFault.TheVariants.{WrongCount, WrongKind, FormatRefused}
+use Rattle.tmpl_funcs.specs.declared.fault.CallFault.TheVariants.{WrongKind, FormatRefused}
 
 -- two texts that are there, one after the other
 abbrev pub both : Option (List ℕ) → Option (List ℕ) → Option (List ℕ)
@@ -33,11 +33,7 @@ filled segments vs = option_and_then (λ ps. texts ps vs) segments
 unfoldable pub formatted : List ℕ → List Value → Option (List ℕ)
 formatted format vs = filled (reading format) vs
 
--- a text that is there; else the format is refused
-abbrev pub formatted_if : Option (List ℕ) → Result Value CallFault
-formatted_if text = ok_or (option_map string text) FormatRefused
-
 -- the first argument as a format of the others; it has to be a string
-abbrev pub printf_of : List Value → Result Value CallFault
-printf_of [] = Err WrongCount
-printf_of (v ∷ vs) = and_then (ok_or (bytes_of v) WrongKind) (λ format. formatted_if (formatted format vs))
+abbrev pub printf_of : Value → List Value → Result Value CallFault
+printf_of v vs =
+    and_then (ok_or (bytes_of v) WrongKind) (λ format. ok_or (option_map string (formatted format vs)) FormatRefused)

@@ -1,11 +1,13 @@
 //! `printf`.
-ghost use Rattle.std.specs.Prelude.{◌≡◌, ◌∷◌, ◌<◌, true, length, slice_index};
+ghost use Rattle.std.specs.Prelude.{◌≡◌, ◌∷◌, ◌<◌, true, length, ok_or, option_map, slice_index};
 ghost use Rattle.tmpl_funcs.specs.View.{values_of};
 ghost use Rattle.tmpl_funcs.specs.computed.Answer.{IsMade};
 ghost use Rattle.tmpl_funcs.specs.printf.Form.{is_plain};
 ghost use Rattle.tmpl_funcs.specs.Dispatch.{IsCall};
 ghost use Rattle.tmpl_funcs.specs.declared.func.Func.{Func};
-ghost use Rattle.tmpl_funcs.specs.printf.Format.{formatted, formatted_if};
+ghost use Rattle.tmpl_funcs.specs.printf.Format.{formatted};
+ghost use Rattle.tmpl_funcs.specs.declared.fault.CallFault.TheVariants.{FormatRefused};
+ghost use Rattle.tmpl_values.specs.Value.{string};
 ghost use Rattle.tmpl_funcs.specs.computed.Format.{IsAdded, IsSegmentAdded};
 
 use super::class::Class;
@@ -35,7 +37,8 @@ fn print_formatted<'a>(
     format: &[u8],
     operands: &[Cell<'_>],
 ) -> Result<Val<'a>, CallError>
-    ensures { IsMade (formatted_if (formatted format.now (values_of operands.now))) result }
+    ensures { IsMade
+        (ok_or (option_map string (formatted format.now (values_of operands.now))) FormatRefused) result }
 {
     let mut bytes = reserve(alloc, format_capacity(format, operands));
     add_formatted(format, operands, &mut bytes)?;
