@@ -1,17 +1,19 @@
 -- For `read_form` and what it calls: a form is read part by part.
 use Rattle.std.proofs.Common.{◌≡◌, ◌∙◌, ℕ, suc, ◌-◌, ◌≤◌, ◌==◌, Bool, true, false, List, [], ◌∷◌, ◌++◌, length, get_or}
-use Rattle.std.proofs.Common.{take, drop, find, IfSome, Option, Some, option_map, if◌then◌else◌, refl, sym, ap, subst, arith}
+use Rattle.std.proofs.Common.{take, drop, find, map, IfSome, Option, Some, option_map, if◌then◌else◌, refl, sym, ap, subst, arith}
 use Rattle.std.proofs.Common.{append_assoc, length-drop}
 use Rattle.std.specs.Borrow.{Bor}
+use Rattle.std.specs.Char.{is_ascii_digit}
 use Rattle.std.specs.List.{prefix_len}
 use Rattle.std.proofs.lemmas.List.{take_all, take-append-drop}
 use Rattle.std.proofs.lemmas.Bool.Decides.{nat_tests}
-use Rattle.tmpl_funcs.specs.printf.Form.{WrittenForm, letter, pointed, form_bytes, is_decimal, is_flag}
-use Rattle.tmpl_funcs.specs.printf.Reading.{verbs, verb_of, form_if, form_by, form_at, width_behind, precision_behind, verb_behind}
+use Rattle.tmpl_funcs.specs.printf.Form.{WrittenForm, letter, pointed, form_bytes, is_flag}
+use Rattle.tmpl_funcs.specs.printf.Reading.{verb_of, form_at, verb_behind}
 use Rattle.tmpl_funcs.specs.printf.Form.{form_of}
-use Rattle.tmpl_funcs.specs.computed.Reading.{IsRead}
+use Rattle.tmpl_funcs.specs.computed.Reading.{form_if, form_by, width_behind, precision_behind, IsRead}
 use Rattle.tmpl_funcs.specs.declared.printf.form.Form.{Form}
 use Rattle.tmpl_funcs.specs.declared.printf.form.Verb.{Verb}
+use Rattle.tmpl_funcs.specs.declared.printf.form.Verb.TheVariants as verb
 
 -- the same reading of the same bytes
 pub IsRead-along : {asked asked' : Option WrittenForm} {all all' : List ℕ} (read : Option (Form × Bor (List ℕ))) → IsRead asked all read
@@ -28,9 +30,25 @@ found-in : (b : ℕ) (ws : List Verb) → IfSome (find (λ v. b == letter v) ws)
 found-in b [] = tt
 found-in b (w ∷ ws) = found-by b (b == letter w) w ws refl (found-in b ws)
 
+-- the verbs without their letters
+abbrev all_verbs : List Verb
+all_verbs = verb.Value ∷ verb.Decimal ∷ verb.Octal ∷ verb.Binary ∷ verb.Hex ∷ verb.UpperHex ∷ verb.Text ∷ verb.Quoted ∷ verb.Char ∷ verb.Truth ∷ []
+
+abbrev letterless : ℕ × Verb → Verb
+letterless p = p.1
+
+lettered-by : (b : ℕ) (t : Bool) (w : Verb) (o : Option (ℕ × Verb)) (q : Option Verb) → option_map letterless o ≡ q
+    → option_map letterless (if t then Some (letter w, w) else o) ≡ (if t then Some w else q)
+lettered-by b true w o q more = refl
+lettered-by b false w o q more = more
+
+lettered : (b : ℕ) (ws : List Verb) → option_map letterless (find (λ (p : ℕ × Verb). b == p.0) (map (λ w. (letter w, w)) ws)) ≡ find (λ w. b == letter w) ws
+lettered b [] = refl
+lettered b (w ∷ ws) = lettered-by b (b == letter w) w _ _ (lettered b ws)
+
 -- the letter of the verb of a letter
 pub letter-verb_of : (b : ℕ) (v : Verb) → verb_of b ≡ Some v → letter v ≡ b
-letter-verb_of b v is = subst (λ o. IfSome o (λ v. letter v ≡ b)) is (found-in b verbs)
+letter-verb_of b v is = subst (λ o. IfSome o (λ v. letter v ≡ b)) (sym (lettered b all_verbs) ∙ is) (found-in b all_verbs)
 
 module _ (flags width : List ℕ) (p : Option (List ℕ)) (b : ℕ) (bs : List ℕ) (v : Verb) (form : Form) (is : letter v ≡ b) where
   form_if-made : (t : Bool) → option_map form_of (form_if t flags width p v) ≡ Some form
@@ -62,21 +80,21 @@ pub take-tail : (bs : List ℕ) (n : ℕ) → take (length bs - n) (drop n bs) �
 take-tail bs n = take_all (length bs - n) (drop n bs) (omega (arith, length-drop n bs))
 
 module _ (flags width : List ℕ) (read : Option (Form × Bor (List ℕ))) where
-  precision_behind-point : (bs rest tail : List ℕ) (n : ℕ) → rest ≡ bs → tail ≡ drop n rest → n ≡ prefix_len is_decimal rest
+  precision_behind-point : (bs rest tail : List ℕ) (n : ℕ) → rest ≡ bs → tail ≡ drop n rest → n ≡ prefix_len is_ascii_digit rest
       → IsRead (verb_behind flags width (Some (take n rest)) tail) (flags ++ (width ++ ((46 ∷ take n rest) ++ tail))) read
       → IsRead (precision_behind flags width (46 ∷ bs)) (flags ++ (width ++ 46 ∷ bs)) read
   precision_behind-point bs rest tail n same end is h =
-      let long : n ≡ prefix_len is_decimal bs = is ∙ ap (prefix_len is_decimal) same in
+      let long : n ≡ prefix_len is_ascii_digit bs = is ∙ ap (prefix_len is_ascii_digit) same in
       IsRead-along read h
       (ap (verb_behind flags width (Some (take n rest))) end ∙
       ap (λ k. verb_behind flags width (Some (take k rest)) (drop k rest)) long
-      ∙ ap (λ r. verb_behind flags width (Some (take (prefix_len is_decimal bs) r)) (drop (prefix_len is_decimal bs) r)) same)
+      ∙ ap (λ r. verb_behind flags width (Some (take (prefix_len is_ascii_digit bs) r)) (drop (prefix_len is_ascii_digit bs) r)) same)
       (ap (λ t. flags ++ (width ++ 46 ∷ (take n rest ++ t))) end ∙ ap (λ r. flags ++ (width ++ 46 ∷ r)) (take-append-drop n rest ∙ same))
 
   -- a precision that stands behind a point
   pub precision_behind-read : (bytes rest : List ℕ) (n : ℕ) → 1 ≤ length bytes → get_or bytes 0 0 ≡ 46
       → rest ≡ take (length bytes - 1) (drop 1 bytes)
-      → n ≡ prefix_len is_decimal rest
+      → n ≡ prefix_len is_ascii_digit rest
       → IsRead (verb_behind flags width (Some (take n rest)) (take (length rest - n) (drop n rest)))
       (flags ++ (width ++ ((46 ∷ take n rest) ++ take (length rest - n) (drop n rest)))) read
       → IsRead (precision_behind flags width bytes) (flags ++ (width ++ bytes)) read
@@ -94,5 +112,3 @@ form_at-read bytes n read is h =
     IsRead-along read h
     (ap (width_behind (take n bytes)) (take-tail bytes n) ∙ ap (λ k. width_behind (take k bytes) (drop k bytes)) is)
     (ap (λ t. take n bytes ++ t) (take-tail bytes n) ∙ take-append-drop n bytes)
-
-pub ruleset forms = (form_at-read)

@@ -1,6 +1,6 @@
 -- For `add_form` and the lemmas of `printf`: a format is its first segment before the rest.
 use Rattle.std.proofs.Common.{◌≡◌, ◌∙◌, ℕ, zero, suc, ◌+◌, ◌-◌, ◌<◌, ◌==◌, Bool, true, false, cond, List, [], ◌∷◌, ◌++◌}
-use Rattle.std.proofs.Common.{length, get_or, take, drop, Option, Some, None, option_map, refl, sym, ap, subst, arith, append_assoc}
+use Rattle.std.proofs.Common.{length, get_or, take, drop, Option, Some, None, option_map, option_and_then, refl, sym, ap, subst, arith, append_assoc}
 use Rattle.std.specs.List.{prefix_len, take_while}
 use Rattle.std.proofs.Math.Seq.{drop-append_seam}
 use Rattle.std.proofs.lemmas.Bool.{not-true}
@@ -8,21 +8,33 @@ use Rattle.std.proofs.lemmas.List.{length-take}
 use Rattle.std.proofs.lemmas.List.Sums.{prefix_len-le-length}
 use Rattle.tmpl_values.specs.Value.{Value}
 use Rattle.tmpl_funcs.specs.printf.Form.{WrittenForm, Segment, literal, percent, form, form_bytes, is_plain}
-use Rattle.tmpl_funcs.specs.printf.Reading.{form_at, first_segment, rest_len, with_segment, segments_after, reading}
+use Rattle.tmpl_funcs.specs.printf.Reading.{form_at, first_segment, segments_after, reading}
+use Rattle.tmpl_funcs.specs.computed.Reading.{rest_len, with_segment}
 use Rattle.tmpl_funcs.specs.printf.Form.{form_of}
 use Rattle.tmpl_funcs.specs.printf.Directive.{printed}
-use Rattle.tmpl_funcs.specs.printf.Format.{both, filled, formatted}
+use Rattle.tmpl_funcs.specs.printf.Format.{texts, formatted}
+use Rattle.tmpl_funcs.specs.computed.Format.{both}
+
+-- the texts of segments that are there
+abbrev filled : Option (List Segment) → List Value → Option (List ℕ)
+filled segments vs = option_and_then (λ ps. texts ps vs) segments
 
 pub segments-skip : (n : ℕ) (bs : List ℕ) → segments_after n bs ≡ segments_after 0 (drop n bs)
 segments-skip zero bs = refl
 segments-skip (suc n) [] = refl
 segments-skip (suc n) (b ∷ bs) = segments-skip n bs
 
+-- the first segment before those behind it, as one is read
+pub segments-before : (o : Option Segment) (bs : List ℕ)
+    → option_and_then (λ p. option_map (λ ps. p ∷ ps) (segments_after (rest_len (Some p)) bs)) o ≡ with_segment o (segments_after (rest_len o) bs)
+segments-before None bs = refl
+segments-before (Some p) bs = refl
+
 -- the first segment, and those behind it
 pub reading-first : (b : ℕ) (bs : List ℕ) (p : Option Segment) → first_segment (b ∷ bs) ≡ p → reading (b ∷ bs) ≡ with_segment p (reading (drop (rest_len p) bs))
 unfolding reading
 reading-first b bs p is =
-    ap (λ q. with_segment q (segments_after (rest_len q) bs)) is ∙ ap (with_segment p) (segments-skip (rest_len p) bs)
+    segments-before (first_segment (b ∷ bs)) bs ∙ ap (λ q. with_segment q (segments_after (rest_len q) bs)) is ∙ ap (with_segment p) (segments-skip (rest_len p) bs)
 
 formatted-first : (b : ℕ) (bs : List ℕ) (vs : List Value) (p : Option Segment) → first_segment (b ∷ bs) ≡ p
     → formatted (b ∷ bs) vs ≡ filled (with_segment p (reading (drop (rest_len p) bs))) vs
@@ -56,7 +68,7 @@ filled-form_alone f None = refl
 filled-form_alone f (Some ps) = refl
 
 pub first_segment-plain : (b : ℕ) (bs : List ℕ) → is_plain b ≡ true → first_segment (b ∷ bs) ≡ Some (literal (take_while is_plain (b ∷ bs)))
-first_segment-plain b bs h = let e : (b == 37) ≡ false = not-true (b == 37) h in rw e refl
+first_segment-plain b bs h = rw h refl
 
 pub first_segment-form : (b : ℕ) (bs : List ℕ) (f : Option WrittenForm) → is_plain b ≡ true → form_at (b ∷ bs) ≡ f
     → first_segment (37 ∷ b ∷ bs) ≡ option_map form f
@@ -92,6 +104,7 @@ formatted-percent bs vs = formatted-first 37 (37 ∷ bs) vs (Some percent) refl 
 
 -- a `%` with nothing behind it
 pub formatted-lone : (vs : List Value) → formatted (37 ∷ []) vs ≡ None
+unfolding form_at
 formatted-lone vs = formatted-first 37 [] vs None refl
 
 module _ (bs : List ℕ) (some : 0 < length bs) (plain : is_plain (get_or bs 0 0) ≡ true) where

@@ -1,6 +1,7 @@
 -- For the law `one_format_reading`: a format has one reading, and it is the one that is computed.
 use Rattle.std.proofs.Common.{◌≡◌, ◌∙◌, ℕ, zero, suc, ◌-◌, ◌==◌, Bool, true, false, ◌&&◌, not, cond, List, [], ◌∷◌}
-use Rattle.std.proofs.Common.{◌++◌, length, drop, IfSome, Option, Some, None, option_map, refl, sym, ap, subst, arith, append_assoc}
+use Rattle.std.proofs.Common.{◌++◌, length, drop, get_or, IfSome, Option, Some, None, option_map, refl, sym, ap, subst, arith, append_assoc}
+use Rattle.std.specs.Char.{is_ascii_digit}
 use Rattle.std.specs.List.{flat_map, prefix_len, take_while, list_all}
 use Rattle.std.proofs.Math.Seq.{drop-append_seam}
 use Rattle.std.proofs.lemmas.Bool.{false≢true}
@@ -9,15 +10,14 @@ use Rattle.std.proofs.lemmas.List.{length-take}
 use Rattle.std.proofs.lemmas.List.Sums.{prefix_len-le-length, take_while-cons}
 use Rattle.std.proofs.lemmas.Option.{IfSome_then}
 use Rattle.tmpl_funcs.specs.printf.Form.{WrittenForm, Segment, literal, percent, form, letter, pointed, form_bytes}
-use Rattle.tmpl_funcs.specs.printf.Form.{segment_bytes, is_plain, is_flag, is_decimal, is_short, begins_above_0}
+use Rattle.tmpl_funcs.specs.printf.Form.{segment_bytes, is_plain, is_flag, is_short, begins_above_0}
 use Rattle.tmpl_funcs.specs.printf.Form.{takes_precision, IsPrecision, IsForm, IsNoRun, AreSegments, IsReading}
-use Rattle.tmpl_funcs.specs.printf.Reading.{is_precision, verb_of, behind, form_if, form_by, verb_behind}
-use Rattle.tmpl_funcs.specs.printf.Reading.{precision_behind, form_at, segment_behind}
-use Rattle.tmpl_funcs.specs.printf.Reading.{first_segment, rest_len, with_segment, segments_after, reading}
+use Rattle.tmpl_funcs.specs.printf.Reading.{verb_of, behind, verb_behind, form_at, first_segment, segments_after, reading}
+use Rattle.tmpl_funcs.specs.computed.Reading.{is_precision, form_if, form_by, precision_behind, rest_len, with_segment}
 use Rattle.tmpl_funcs.specs.declared.printf.form.Verb.{Verb}
 use Rattle.tmpl_funcs.specs.declared.printf.form.Verb.TheVariants as verb
 use Rattle.tmpl_funcs.proofs.FormLemmas.{letter-verb_of}
-use Rattle.tmpl_funcs.proofs.FormatLemmas.{reading-first, first_segment-plain, first_segment-form}
+use Rattle.tmpl_funcs.proofs.FormatLemmas.{segments-before, reading-first, first_segment-plain, first_segment-form}
 use Rattle.tmpl_funcs.proofs.FrontLemmas.{begins, take_while-append, behind-append, list_all-take_while, begins-behind}
 use Rattle.tmpl_funcs.proofs.FrontLemmas.{take_while-behind, take_while-passing}
 use Rattle.std.proofs.lemmas.Bool.{and_parts}
@@ -31,7 +31,7 @@ verb_of-letter _ = refl
 -- a letter is neither flag nor digit nor `%` nor point
 record IsLetter (b : ℕ) : Type 0 where
   flag : is_flag b ≡ false
-  digit : is_decimal b ≡ false
+  digit : is_ascii_digit b ≡ false
   plain : is_plain b ≡ true
   point : (b == 46) ≡ false
 
@@ -40,10 +40,10 @@ letter-IsLetter verb.Value = record { flag = refl; digit = refl; plain = refl; p
 letter-IsLetter _ = record { flag = refl; digit = refl; plain = refl; point = refl }
 
 -- a digit above 0 is no flag
-is_flag-decimal : (b : ℕ) → is_decimal b ≡ true → not (b == 48) ≡ true → is_flag b ≡ false
+is_flag-decimal : (b : ℕ) → is_ascii_digit b ≡ true → not (b == 48) ≡ true → is_flag b ≡ false
 is_flag-decimal b d h = grind (arith, nat_tests)
 
-is_plain-decimal : (b : ℕ) → is_decimal b ≡ true → is_plain b ≡ true
+is_plain-decimal : (b : ℕ) → is_ascii_digit b ≡ true → is_plain b ≡ true
 is_plain-decimal b d = grind (arith, nat_tests)
 
 is_plain-flag : (b : ℕ) → is_flag b ≡ true → is_plain b ≡ true
@@ -61,16 +61,16 @@ module _ (v : Verb) (rest : List ℕ) where
   pointed-first q t None point is = is
   pointed-first q t (Some ds) point is = point
 
-  width-no_flag : (width : List ℕ) (p : Option (List ℕ)) → list_all is_decimal width ≡ true → begins_above_0 width ≡ true
+  width-no_flag : (width : List ℕ) (p : Option (List ℕ)) → list_all is_ascii_digit width ≡ true → begins_above_0 width ≡ true
       → begins is_flag ((width ++ (pointed p ++ letter v ∷ [])) ++ rest) ≡ false
   width-no_flag [] p all above = pointed-first is_flag false p refl (letter-IsLetter v).flag
-  width-no_flag (d ∷ ds) p all above = is_flag-decimal d (and_parts (is_decimal d) (list_all is_decimal ds) all).0 above
+  width-no_flag (d ∷ ds) p all above = is_flag-decimal d (and_parts (is_ascii_digit d) (list_all is_ascii_digit ds) all).0 above
 
-  flags-plain : (flags width : List ℕ) (p : Option (List ℕ)) → list_all is_flag flags ≡ true → list_all is_decimal width ≡ true
+  flags-plain : (flags width : List ℕ) (p : Option (List ℕ)) → list_all is_flag flags ≡ true → list_all is_ascii_digit width ≡ true
       → begins is_plain ((flags ++ (width ++ (pointed p ++ letter v ∷ []))) ++ rest) ≡ true
   flags-plain flags width p flags_all all =
       begins-front is_plain is_flag flags _ rest is_plain-flag flags_all
-      (begins-front is_plain is_decimal width _ rest is_plain-decimal all (pointed-first is_plain true p refl (letter-IsLetter v).plain))
+      (begins-front is_plain is_ascii_digit width _ rest is_plain-decimal all (pointed-first is_plain true p refl (letter-IsLetter v).plain))
 
   verb_behind-letter : (flags width : List ℕ) (p : Option (List ℕ)) → is_short width ≡ true → is_precision p v ≡ true
       → verb_behind flags width p (letter v ∷ rest) ≡ Some (record { flags = flags; width = width; precision = p; verb = v })
@@ -80,11 +80,11 @@ module _ (v : Verb) (rest : List ℕ) where
       → precision_behind flags width ((pointed p ++ letter v ∷ []) ++ rest) ≡ Some (record { flags = flags; width = width; precision = p; verb = v })
   precision_behind-pointed flags width None short fits = rw (letter-IsLetter v).point (verb_behind-letter flags width None short refl)
   precision_behind-pointed flags width (Some ds) short fits =
-      let stop : begins is_decimal (letter v ∷ rest) ≡ false = (letter-IsLetter v).digit in
+      let stop : begins is_ascii_digit (letter v ∷ rest) ≡ false = (letter-IsLetter v).digit in
       rw (
         append_assoc ds (letter v ∷ []) rest,
-        take_while-append is_decimal ds (letter v ∷ rest) fits.0 stop,
-        behind-append is_decimal ds (letter v ∷ rest) fits.0 stop,
+        take_while-append is_ascii_digit ds (letter v ∷ rest) fits.0 stop,
+        behind-append is_ascii_digit ds (letter v ∷ rest) fits.0 stop,
       ) (verb_behind-letter flags width (Some ds) short (rw (fits.1, fits.2) refl))
 
 -- a form is read as it is spelled
@@ -93,14 +93,14 @@ unfolding form_at
 form_at-form_bytes f rest is =
     let tail : List ℕ = pointed f.precision ++ letter f.verb ∷ [] in
     let stop = width-no_flag f.verb rest f.width f.precision is.width is.above in
-    let digits = pointed-first f.verb rest is_decimal false f.precision refl (letter-IsLetter f.verb).digit in
+    let digits = pointed-first f.verb rest is_ascii_digit false f.precision refl (letter-IsLetter f.verb).digit in
     rw (
       append_assoc f.flags (f.width ++ tail) rest,
       take_while-append is_flag f.flags ((f.width ++ tail) ++ rest) is.flags stop,
       behind-append is_flag f.flags ((f.width ++ tail) ++ rest) is.flags stop,
       append_assoc f.width tail rest,
-      take_while-append is_decimal f.width (tail ++ rest) is.width digits,
-      behind-append is_decimal f.width (tail ++ rest) is.width digits,
+      take_while-append is_ascii_digit f.width (tail ++ rest) is.width digits,
+      behind-append is_ascii_digit f.width (tail ++ rest) is.width digits,
     )
     (precision_behind-pointed f.verb rest f.flags f.width f.precision is.short is.precision)
 
@@ -152,7 +152,7 @@ record IsFound (flags width bytes : List ℕ) (f : WrittenForm) : Type 0 where
 -- a precision is spelled by digits
 abbrev AreDigits : Option (List ℕ) → Type 0
 AreDigits None = Unit {0}
-AreDigits (Some ds) = list_all is_decimal ds ≡ true
+AreDigits (Some ds) = list_all is_ascii_digit ds ≡ true
 
 IsPrecision-by : (p : Option (List ℕ)) (v : Verb) → AreDigits p → is_precision p v ≡ true → IsPrecision p v
 IsPrecision-by None v digits fits = tt
@@ -182,13 +182,13 @@ module _ (flags width : List ℕ) (p : Option (List ℕ)) (digits : AreDigits p)
 
 module _ (flags width : List ℕ) where
   precision_behind-by : (b : ℕ) (bs : List ℕ) (t : Bool) → (b == 46) ≡ t
-      → IfSome (cond t (verb_behind flags width (Some (take_while is_decimal bs)) (behind is_decimal bs)) (verb_behind flags width None (b ∷ bs)))
+      → IfSome (cond t (verb_behind flags width (Some (take_while is_ascii_digit bs)) (behind is_ascii_digit bs)) (verb_behind flags width None (b ∷ bs)))
       (IsFound flags width (flags ++ (width ++ b ∷ bs)))
   precision_behind-by b bs true is =
       let point : 46 ≡ b = grind (arith, nat_tests) in
-      subst (λ t. IfSome (verb_behind flags width (Some (take_while is_decimal bs)) (behind is_decimal bs)) (IsFound flags width (flags ++ (width ++ t))))
-      (λ i. point i ∷ take_while-behind is_decimal bs i)
-      (verb_behind-sound flags width (Some (take_while is_decimal bs)) (list_all-take_while is_decimal bs) (behind is_decimal bs))
+      subst (λ t. IfSome (verb_behind flags width (Some (take_while is_ascii_digit bs)) (behind is_ascii_digit bs)) (IsFound flags width (flags ++ (width ++ t))))
+      (λ i. point i ∷ take_while-behind is_ascii_digit bs i)
+      (verb_behind-sound flags width (Some (take_while is_ascii_digit bs)) (list_all-take_while is_ascii_digit bs) (behind is_ascii_digit bs))
   precision_behind-by b bs false is = verb_behind-sound flags width None tt (b ∷ bs)
 
   precision_behind-sound : (bs : List ℕ) → IfSome (precision_behind flags width bs) (IsFound flags width (flags ++ (width ++ bs)))
@@ -196,9 +196,9 @@ module _ (flags width : List ℕ) where
   precision_behind-sound (b ∷ bs) = precision_behind-by b bs (b == 46) refl
 
 -- digits behind what is no flag do not begin with 0
-begins_above_0-digits : (bs : List ℕ) → begins is_flag bs ≡ false → begins_above_0 (take_while is_decimal bs) ≡ true
+begins_above_0-digits : (bs : List ℕ) → begins is_flag bs ≡ false → begins_above_0 (take_while is_ascii_digit bs) ≡ true
 begins_above_0-digits [] stop = refl
-begins_above_0-digits (b ∷ bs) stop = rw (take_while-cons is_decimal b bs) (grind (arith, nat_tests))
+begins_above_0-digits (b ∷ bs) stop = rw (take_while-cons is_ascii_digit b bs) (grind (arith, nat_tests))
 
 -- a form at the front of bytes
 abbrev BeginsWith : List ℕ → WrittenForm → Type 0
@@ -209,15 +209,15 @@ unfolding form_at
 form_at-sound bs =
     let tail : List ℕ = behind is_flag bs in
     let flags : List ℕ = take_while is_flag bs in
-    let width : List ℕ = take_while is_decimal tail in
-    IfSome_then _ {Q = BeginsWith bs} (precision_behind-sound flags width (behind is_decimal tail))
-    (λ f (parts : IsFound flags width (flags ++ (width ++ behind is_decimal tail)) f).
-    let spells : bs ≡ form_bytes f ++ parts.rest = sym (ap (λ t. flags ++ t) (take_while-behind is_decimal tail) ∙ take_while-behind is_flag bs)
+    let width : List ℕ = take_while is_ascii_digit tail in
+    IfSome_then _ {Q = BeginsWith bs} (precision_behind-sound flags width (behind is_ascii_digit tail))
+    (λ f (parts : IsFound flags width (flags ++ (width ++ behind is_ascii_digit tail)) f).
+    let spells : bs ≡ form_bytes f ++ parts.rest = sym (ap (λ t. flags ++ t) (take_while-behind is_ascii_digit tail) ∙ take_while-behind is_flag bs)
     ∙ parts.spells in
     let left : drop (length (form_bytes f)) bs ≡ parts.rest = ap (drop (length (form_bytes f))) spells ∙ drop-append_seam (form_bytes f) parts.rest in (
       record {
         flags = ap (list_all is_flag) parts.flags_is ∙ list_all-take_while is_flag bs;
-        width = ap (list_all is_decimal) parts.width_is ∙ list_all-take_while is_decimal tail;
+        width = ap (list_all is_ascii_digit) parts.width_is ∙ list_all-take_while is_ascii_digit tail;
         short = ap is_short parts.width_is ∙ parts.short;
         above = ap begins_above_0 parts.width_is ∙ begins_above_0-digits tail (begins-behind is_flag bs);
         precision = parts.precision;
@@ -231,22 +231,20 @@ data FirstOf (b : ℕ) (bs : List ℕ) : Segment → Type 0 where
   a_percent : (cs : List ℕ) → b ≡ 37 → bs ≡ 37 ∷ cs → FirstOf b bs percent
   a_form : (f : WrittenForm) → b ≡ 37 → BeginsWith bs f → FirstOf b bs (form f)
 
-segment_behind-by : (b c : ℕ) (cs : List ℕ) → b ≡ 37 → (t : Bool) → (c == 37) ≡ t
-    → IfSome (cond t (Some percent) (option_map form (form_at (c ∷ cs)))) (FirstOf b (c ∷ cs))
-segment_behind-by b c cs is true e = let second : c ≡ 37 = grind (arith, nat_tests) in a_percent cs is (ap (λ d. d ∷ cs) second)
-segment_behind-by b c cs is false e = go (form_at (c ∷ cs)) (form_at-sound (c ∷ cs))
+segment_behind-by : (b : ℕ) (bs : List ℕ) → b ≡ 37 → (t : Bool) → (get_or bs 0 0 == 37) ≡ t
+    → IfSome (cond t (Some percent) (option_map form (form_at bs))) (FirstOf b bs)
+segment_behind-by b [] is true e = cc
+segment_behind-by b (c ∷ cs) is true e = let second : c ≡ 37 = grind (arith, nat_tests) in a_percent cs is (ap (λ d. d ∷ cs) second)
+segment_behind-by b bs is false e = go (form_at bs) (form_at-sound bs)
   where
-    go : (o : Option WrittenForm) → IfSome o (BeginsWith (c ∷ cs)) → IfSome (option_map form o) (FirstOf b (c ∷ cs))
+    go : (o : Option WrittenForm) → IfSome o (BeginsWith bs) → IfSome (option_map form o) (FirstOf b bs)
     go None sound = tt
     go (Some f) sound = a_form f is sound
 
-segment_behind-sound : (b : ℕ) (bs : List ℕ) → b ≡ 37 → IfSome (segment_behind bs) (FirstOf b bs)
-segment_behind-sound b [] is = tt
-segment_behind-sound b (c ∷ cs) is = segment_behind-by b c cs is (c == 37) refl
-
 first_segment-by : (b : ℕ) (bs : List ℕ) (t : Bool) → (b == 37) ≡ t
-    → IfSome (cond t (segment_behind bs) (Some (literal (take_while is_plain (b ∷ bs))))) (FirstOf b bs)
-first_segment-by b bs true e = segment_behind-sound b bs (grind (arith, nat_tests))
+    → IfSome (cond (not t) (Some (literal (take_while is_plain (b ∷ bs)))) (cond (get_or bs 0 0 == 37) (Some percent) (option_map form (form_at bs))))
+    (FirstOf b bs)
+first_segment-by b bs true e = segment_behind-by b bs (grind (arith, nat_tests)) (get_or bs 0 0 == 37) refl
 first_segment-by b bs false e =
     let plain : is_plain b ≡ true = rw e refl in rw (take_while-passing is_plain b bs plain) (a_run plain)
 
@@ -288,7 +286,8 @@ segments_after-sound [] (suc n) = record { spells = refl; segments = tt; apart =
 segments_after-sound (b ∷ bs) (suc n) = segments_after-sound bs n
 segments_after-sound (b ∷ bs) zero =
     let first = first_segment (b ∷ bs) in
-    IsSound-front b bs first (segments_after (rest_len first) bs) (first_segment-by b bs (b == 37) refl) (segments_after-sound bs (rest_len first))
+    subst (λ o. IfSome o (IsSound (b ∷ bs))) (sym (segments-before first bs))
+    (IsSound-front b bs first (segments_after (rest_len first) bs) (first_segment-by b bs (b == 37) refl) (segments_after-sound bs (rest_len first)))
 
 -- what the function reads is a reading
 pub reading-sound : (format : List ℕ) (ps : List Segment) → reading format ≡ Some ps → IsReading format ps

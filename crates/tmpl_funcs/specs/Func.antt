@@ -36,8 +36,8 @@ row n l m t g = record { name = n; least = l; most = m; makes_text = t; gives = 
 
 -- the table. `not` says whether its argument is empty; `len` is the number of bytes of a string, or of items of a
 -- sequence or a mapping; `print` joins its arguments; `println` has one space between each two, and a newline; `html`
--- and `urlquery` escape what they join, where nothing counts as a string; `ne`, `gt` and `ge` are the opposites of `eq`,
--- `le` and `lt`
+-- and `urlquery` escape what they join, where nothing counts as a string; `ne`, `gt` and `ge` are the opposites of
+-- `eq`, `le` and `lt`
 abbrev pub row_of : Func → Row
 row_of And = row (codes "and") 1 None false (of_first (λ v vs. Ok (first_empty v vs)))
 row_of Or = row (codes "or") 1 None false (of_first (λ v vs. Ok (first_truth v vs)))

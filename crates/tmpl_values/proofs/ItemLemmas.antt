@@ -1,5 +1,6 @@
 -- For `Val::part`, `Val::size`, `Val::truth` and `index` of tmpl_funcs: items and entries by place, since the code holds them in a slice.
-use Rattle.std.proofs.Common.{◌≡◌, ◌∙◌, ℕ, zero, suc, ◌-◌, ◌<◌, ◌≤◌, List, [], ◌∷◌, length, get_or, take, drop, slice_get, slice_range, Some, None, refl, ap, arith}
+use Rattle.std.proofs.Common.{◌≡◌, ◌∙◌, ℕ, zero, suc, ◌-◌, ◌<◌, ◌≤◌, List, [], ◌∷◌, length, get_or, take, drop}
+use Rattle.std.proofs.Common.{slice_get, slice_range, Some, None, refl, ap, arith}
 use Rattle.tmpl_values.specs.declared.data.Data.{Data}
 use Rattle.tmpl_values.specs.Value.{item}
 use Rattle.tmpl_values.specs.row.View.{value_of, items_of, entries_of}

@@ -3,7 +3,8 @@ ghost use Rattle.std.specs.Prelude.{◌≡◌, ◌-◌, ◌^◌, ◌<◌, ◌≤
 ghost use Rattle.std.specs.List.{list_any};
 ghost use Rattle.std.specs.Char.{len_utf8};
 ghost use Rattle.ucd_category.specs.GeneralCategoryGroup.{in_group};
-ghost use Rattle.ucd_category.specs.declared.GeneralCategoryGroup.TheVariants.{Letter, Mark, Number, Punctuation, Symbol};
+ghost use Rattle.ucd_category.specs.declared.GeneralCategoryGroup.TheVariants.{Letter, Mark, Number};
+ghost use Rattle.ucd_category.specs.declared.GeneralCategoryGroup.TheVariants.{Punctuation, Symbol};
 ghost use Rattle.tmpl_values.specs.Put.{IsPut};
 ghost use Rattle.tmpl_values.specs.Rune.{char as char_rune, byte as byte_rune};
 ghost use Rattle.tmpl_values.specs.Quote.{letters, letter_of, rune_spelling, spelling, quote};

@@ -1,5 +1,6 @@
 //! The values of a run.
-ghost use Rattle.std.specs.Prelude.{◌≡◌, ◌^◌, ◌<◌, ◌≤◌, length, pos, slice_range, true, false, IfOk, IfSome, option_map};
+ghost use Rattle.std.specs.Prelude.{◌≡◌, ◌^◌, ◌<◌, ◌≤◌, length, pos, slice_range, true, false};
+ghost use Rattle.std.specs.Prelude.{IfOk, IfSome, option_map};
 ghost use Rattle.std.specs.Int.{int_gap};
 ghost use Rattle.tmpl_values.specs.Value.{number, string, sequence, mapping};
 ghost use Rattle.tmpl_values.specs.View.{value_of, items_of, entries_of, val_of, is_kept, is_made, field_of};

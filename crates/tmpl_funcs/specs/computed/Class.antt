@@ -1,6 +1,7 @@
 -- Kinds of bytes in a format.
 use Rattle.std.specs.Prelude.{ℕ, Bool}
-use Rattle.tmpl_funcs.specs.printf.Form.{is_plain, is_flag, is_decimal}
+use Rattle.std.specs.Char.{is_ascii_digit}
+use Rattle.tmpl_funcs.specs.printf.Form.{is_plain, is_flag}
 use Rattle.tmpl_funcs.specs.declared.printf.class.Class.{Class}
 use Rattle.tmpl_funcs.specs.declared.printf.class.Class.TheVariants.{Plain, Flag, Digit}
 
@@ -8,4 +9,4 @@ use Rattle.tmpl_funcs.specs.declared.printf.class.Class.TheVariants.{Plain, Flag
 abbrev pub in_class : Class → ℕ → Bool
 in_class Plain b = is_plain b
 in_class Flag b = is_flag b
-in_class Digit b = is_decimal b
+in_class Digit b = is_ascii_digit b

@@ -1,12 +1,16 @@
 -- What the adding of a part of a format's text comes to.
 use Rattle.std.specs.Prelude.{◌≡◌, ◌<◌, ◌≤◌, ℕ, length, drop, List, ◌++◌, Option, Some, None, option_map, Result, Ok}
-use Rattle.std.specs.Prelude.{Err}
+use Rattle.std.specs.Prelude.{Err, option_and_then}
 use Rattle.std.specs.Borrow.{Bor}
 use Rattle.tmpl_values.specs.Value.{Value}
-use Rattle.tmpl_funcs.specs.printf.Format.{both, formatted}
+use Rattle.tmpl_funcs.specs.printf.Format.{formatted}
 use Rattle.tmpl_funcs.specs.declared.fault.CallError.{CallError}
 use Rattle.tmpl_funcs.specs.declared.fault.CallError.TheVariants as error
 use Rattle.tmpl_funcs.specs.declared.fault.CallFault.TheVariants.{FormatRefused}
+
+-- two texts that are there, one after the other
+abbrev pub both : Option (List ℕ) → Option (List ℕ) → Option (List ℕ)
+both front behind = option_and_then (λ s. option_map (λ t. s ++ t) behind) front
 
 -- a text that is there was added; or there is none, and the format was refused; or memory was
 abbrev pub IsAdded : Option (List ℕ) → List ℕ → List ℕ → Result (Unit {0}) CallError → Type 0

@@ -1,8 +1,51 @@
--- What the reading of a form comes to.
-use Rattle.std.specs.Prelude.{◌≡◌, List, ℕ, ◌++◌, Option, Some, None}
+-- The reading of a form part by part, and what it comes to.
+use Rattle.std.specs.Prelude.{◌≡◌, ◌&&◌, ◌-◌, ◌*◌, ◌+◌, ◌==◌, List, ℕ, Bool, true, ◌++◌, drop, fold, length, slice_index, Option, Some, None}
+use Rattle.std.specs.Prelude.{◌∷◌, option_map, option_and_then, if◌then◌else◌}
 use Rattle.std.specs.Borrow.{Bor}
-use Rattle.tmpl_funcs.specs.printf.Form.{WrittenForm, form_bytes, form_of}
+use Rattle.std.specs.Char.{is_ascii_digit}
+use Rattle.std.specs.List.{take_while}
+use Rattle.std.specs.Option.{option_map_or}
+use Rattle.tmpl_funcs.specs.printf.Form.{WrittenForm, Segment, form_bytes, segment_bytes, form_of, is_short, takes_precision}
+use Rattle.tmpl_funcs.specs.printf.Reading.{behind, verb_behind}
 use Rattle.tmpl_funcs.specs.declared.printf.form.Form.{Form}
+use Rattle.tmpl_funcs.specs.declared.printf.form.Verb.{Verb}
+
+-- the number that decimal digits write when they follow those of n
+abbrev pub number_after : ℕ → List ℕ → ℕ
+number_after = fold (λ n d. 10 * n + (d - 48))
+
+-- the precision is short, and the verb may have it
+abbrev pub is_precision : Option (List ℕ) → Verb → Bool
+is_precision precision verb = option_map_or (λ digits. is_short digits && takes_precision verb) precision true
+
+-- a form of these parts, where its digits are few enough and the verb may have the precision
+abbrev pub form_if : Bool → List ℕ → List ℕ → Option (List ℕ) → Verb → Option WrittenForm
+form_if taken flags width precision verb =
+    if taken then Some (record { flags = flags; width = width; precision = precision; verb = verb }) else None
+
+-- a form of these parts, where its verb is one
+abbrev pub form_by : List ℕ → List ℕ → Option (List ℕ) → Option Verb → Option WrittenForm
+form_by flags width precision verb =
+    option_and_then (λ v. form_if (is_short width && is_precision precision v) flags width precision v) verb
+
+-- the form whose precision, if it has one, stands next
+abbrev pub precision_behind : List ℕ → List ℕ → List ℕ → Option WrittenForm
+precision_behind flags width bs =
+    if slice_index bs 0 == 46
+    then verb_behind flags width (Some (take_while is_ascii_digit (drop 1 bs))) (behind is_ascii_digit (drop 1 bs))
+    else verb_behind flags width None bs
+
+-- the form whose width, if it has one, stands next
+abbrev pub width_behind : List ℕ → List ℕ → Option WrittenForm
+width_behind flags bs = precision_behind flags (take_while is_ascii_digit bs) (behind is_ascii_digit bs)
+
+-- how many bytes of a segment follow its first
+abbrev pub rest_len : Option Segment → ℕ
+rest_len o = option_map_or (λ p. length (segment_bytes p) - 1) o 0
+
+-- a segment before those behind it
+abbrev pub with_segment : Option Segment → Option (List Segment) → Option (List Segment)
+with_segment segment behind = option_and_then (λ p. option_map (λ ps. p ∷ ps) behind) segment
 
 -- the form asked for was read at the front of these bytes, and what stands behind it
 abbrev pub IsRead : Option WrittenForm → List ℕ → Option (Form × Bor (List ℕ)) → Type 0

@@ -2,7 +2,8 @@
 -- texts are formats, and what they consist of ("Printing" in the documentation of `fmt`: "%[flags]
 -- [width][.precision]verb"). That any other form is refused is this project's own rule.
 use Rattle.std.specs.Prelude.{◌≡◌, ℕ, ◌+◌, ◌-◌, ◌*◌, ◌||◌, ◌&&◌, ◌==◌, not, nat_le, Bool, true, false, List, [], ◌∷◌}
-use Rattle.std.specs.Prelude.{◌++◌, length, Option, Some, None, option_map}
+use Rattle.std.specs.Prelude.{◌++◌, length, fold, Option, Some, None, option_map}
+use Rattle.std.specs.Char.{is_ascii_digit}
 use Rattle.std.specs.List.{flat_map, list_all, list_any}
 use Rattle.tmpl_funcs.specs.declared.printf.form.Form.{Form}
 use Rattle.tmpl_funcs.specs.declared.printf.form.Verb.{Verb}
@@ -59,10 +60,6 @@ is_plain b = not (b == 37)
 abbrev pub is_flag : ℕ → Bool
 is_flag b = b == 45 || (b == 43 || (b == 48 || b == 32))
 
--- the byte is a decimal digit
-abbrev pub is_decimal : ℕ → Bool
-is_decimal b = nat_le 48 b && nat_le b 57
-
 -- the digits are few enough
 abbrev pub is_short : List ℕ → Bool
 is_short digits = nat_le (length digits) 4
@@ -81,12 +78,12 @@ takes_precision _ = false
 abbrev pub IsPrecision : Option (List ℕ) → Verb → Type 0
 IsPrecision None verb = Unit {0}
 IsPrecision (Some digits) verb =
-    (list_all is_decimal digits ≡ true) × (is_short digits ≡ true) × (takes_precision verb ≡ true)
+    (list_all is_ascii_digit digits ≡ true) × (is_short digits ≡ true) × (takes_precision verb ≡ true)
 
 -- a form: any flags, a width of at most four digits of which the first is not 0, and a precision
 pub record IsForm (f : WrittenForm) : Type 0 where
   pub flags : list_all is_flag f.flags ≡ true
-  pub width : list_all is_decimal f.width ≡ true
+  pub width : list_all is_ascii_digit f.width ≡ true
   pub short : is_short f.width ≡ true
   pub above : begins_above_0 f.width ≡ true
   pub precision : IsPrecision f.precision f.verb
@@ -115,27 +112,18 @@ pub record IsReading (format : List ℕ) (ps : List Segment) : Type 0 where
   pub spells : format ≡ flat_map segment_bytes ps
   pub segments : AreSegments ps
 
--- the number that decimal digits write when they follow those of n
-abbrev pub number_after : ℕ → List ℕ → ℕ
-number_after n [] = n
-number_after n (d ∷ ds) = number_after (10 * n + (d - 48)) ds
-
 -- the number that decimal digits write
 abbrev pub number_in : List ℕ → ℕ
-number_in ds = number_after 0 ds
-
--- the flag is among these
-abbrev pub has_flag : ℕ → List ℕ → Bool
-has_flag flag flags = list_any (λ b. b == flag) flags
+number_in ds = fold (λ n d. 10 * n + (d - 48)) 0 ds
 
 -- what a form asks for: a flag may stand more than once; no width is a width of 0, and a precision
 -- of no digits is 0
 abbrev pub form_of : WrittenForm → Form
 form_of f = record {
-  minus = has_flag 45 f.flags;
-  plus = has_flag 43 f.flags;
-  zero = has_flag 48 f.flags;
-  space = has_flag 32 f.flags;
+  minus = list_any (λ b. b == 45) f.flags;
+  plus = list_any (λ b. b == 43) f.flags;
+  zero = list_any (λ b. b == 48) f.flags;
+  space = list_any (λ b. b == 32) f.flags;
   width = number_in f.width;
   precision = option_map number_in f.precision;
   verb = f.verb;

@@ -12,26 +12,17 @@ use Rattle.tmpl_funcs.specs.printf.Directive.{printed}
 use Rattle.tmpl_funcs.specs.declared.fault.CallFault.{CallFault}
 use Rattle.tmpl_funcs.specs.declared.fault.CallFault.TheVariants.{WrongKind, FormatRefused}
 
--- two texts that are there, one after the other
-abbrev pub both : Option (List ℕ) → Option (List ℕ) → Option (List ℕ)
-both (Some s) (Some t) = Some (s ++ t)
-both _ _ = None
-
 -- the texts of the segments one after another, where the forms take the arguments in order, one each
 abbrev pub texts : List Segment → List Value → Option (List ℕ)
 texts [] [] = Some []
-texts (literal run ∷ ps) vs = both (Some run) (texts ps vs)
-texts (percent ∷ ps) vs = both (Some (37 ∷ [])) (texts ps vs)
-texts (form f ∷ ps) (v ∷ vs) = both (printed (form_of f) v) (texts ps vs)
+texts (literal run ∷ ps) vs = option_map (λ t. run ++ t) (texts ps vs)
+texts (percent ∷ ps) vs = option_map (λ t. 37 ∷ t) (texts ps vs)
+texts (form f ∷ ps) (v ∷ vs) = option_and_then (λ s. option_map (λ t. s ++ t) (texts ps vs)) (printed (form_of f) v)
 texts _ _ = None
-
--- the texts of segments that are there
-abbrev pub filled : Option (List Segment) → List Value → Option (List ℕ)
-filled segments vs = option_and_then (λ ps. texts ps vs) segments
 
 -- the text of a format and arguments
 unfoldable pub formatted : List ℕ → List Value → Option (List ℕ)
-formatted format vs = filled (reading format) vs
+formatted format vs = option_and_then (λ ps. texts ps vs) (reading format)
 
 -- the first argument as a format of the others; it has to be a string
 abbrev pub printf_of : Value → List Value → Result Value CallFault

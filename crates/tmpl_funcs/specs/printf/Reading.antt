@@ -1,89 +1,62 @@
 -- The reading of a format from left to right: the one that `IsReading` admits.
-use Rattle.std.specs.Prelude.{ℕ, zero, suc, ◌-◌, ◌&&◌, ◌==◌, Bool, true, List, [], ◌∷◌, length, drop}
-use Rattle.std.specs.Prelude.{Option, Some, None, find, option_map, if◌then◌else◌}
-use Rattle.std.specs.Option.{option_map_or}
+use Rattle.std.specs.Prelude.{ℕ, zero, suc, ◌-◌, ◌&&◌, ◌==◌, Bool, true, List, [], ◌∷◌, length, drop, slice_get}
+use Rattle.std.specs.Prelude.{slice_index, Option, Some, None, find, option_map, option_and_then, if◌then◌else◌}
+use Rattle.std.specs.Char.{is_ascii_digit}
 use Rattle.std.specs.List.{prefix_len, take_while}
-use Rattle.tmpl_funcs.specs.printf.Form.{WrittenForm, Segment, literal, percent, form, letter, segment_bytes, is_plain}
-use Rattle.tmpl_funcs.specs.printf.Form.{is_flag, is_decimal, is_short, takes_precision}
+use Rattle.std.specs.Option.{option_map_or}
+use Rattle.std.specs.Str.{byte}
+use Rattle.tmpl_funcs.specs.printf.Form.{WrittenForm, Segment, literal, percent, form, segment_bytes, is_plain, is_flag}
+use Rattle.tmpl_funcs.specs.printf.Form.{is_short, takes_precision}
 use Rattle.tmpl_funcs.specs.declared.printf.form.Verb.{Verb}
 use Rattle.tmpl_funcs.specs.declared.printf.form.Verb.TheVariants.{Value, Decimal, Octal, Binary, Hex, UpperHex, Text}
 use Rattle.tmpl_funcs.specs.declared.printf.form.Verb.TheVariants.{Quoted, Char, Truth}
 
--- the verbs
-abbrev pub verbs : List Verb
-verbs = Value ∷ Decimal ∷ Octal ∷ Binary ∷ Hex ∷ UpperHex ∷ Text ∷ Quoted ∷ Char ∷ Truth ∷ []
+-- the verbs, each behind its letter
+abbrev pub verbs : List (ℕ × Verb)
+verbs =
+    (byte "v", Value) ∷ (byte "d", Decimal) ∷ (byte "o", Octal) ∷ (byte "b", Binary) ∷ (byte "x", Hex)
+    ∷ (byte "X", UpperHex) ∷ (byte "s", Text) ∷ (byte "q", Quoted) ∷ (byte "c", Char) ∷ (byte "t", Truth) ∷ []
 
 -- the verb of a letter
 abbrev pub verb_of : ℕ → Option Verb
-verb_of b = find (λ verb. b == letter verb) verbs
+verb_of b = option_map (λ p. p.1) (find (λ p. b == p.0) verbs)
 
 -- what stands behind the longest front whose bytes pass a test
 abbrev pub behind : (ℕ → Bool) → List ℕ → List ℕ
 behind p bs = drop (prefix_len p bs) bs
 
--- the precision is short, and the verb may have it
-abbrev pub is_precision : Option (List ℕ) → Verb → Bool
-is_precision None verb = true
-is_precision (Some digits) verb = is_short digits && takes_precision verb
-
--- a form of these parts, where its digits are few enough and the verb may have the precision
-abbrev pub form_if : Bool → List ℕ → List ℕ → Option (List ℕ) → Verb → Option WrittenForm
-form_if taken flags width precision verb =
-    if taken then Some (record { flags = flags; width = width; precision = precision; verb = verb }) else None
-
--- a form of these parts, where its verb is one
-abbrev pub form_by : List ℕ → List ℕ → Option (List ℕ) → Option Verb → Option WrittenForm
-form_by flags width precision None = None
-form_by flags width precision (Some verb) =
-    form_if (is_short width && is_precision precision verb) flags width precision verb
-
--- the form whose verb stands next
+-- the form of these parts, where the letter of a verb stands next: width and precision are short, and the verb may have
+-- the precision
 abbrev pub verb_behind : List ℕ → List ℕ → Option (List ℕ) → List ℕ → Option WrittenForm
-verb_behind flags width precision [] = None
-verb_behind flags width precision (b ∷ bs) = form_by flags width precision (verb_of b)
+verb_behind flags width precision bs =
+    option_and_then (λ verb.
+    if is_short width && option_map_or (λ digits. is_short digits && takes_precision verb) precision true
+    then Some (record { flags = flags; width = width; precision = precision; verb = verb })
+    else None) (option_and_then verb_of (slice_get bs 0))
 
--- the form whose precision, if it has one, stands next
-abbrev pub precision_behind : List ℕ → List ℕ → List ℕ → Option WrittenForm
-precision_behind flags width [] = None
-precision_behind flags width (b ∷ bs) =
-    if b == 46
-    then verb_behind flags width (Some (take_while is_decimal bs)) (behind is_decimal bs)
-    else verb_behind flags width None (b ∷ bs)
-
--- the form whose width, if it has one, stands next
-abbrev pub width_behind : List ℕ → List ℕ → Option WrittenForm
-width_behind flags bs = precision_behind flags (take_while is_decimal bs) (behind is_decimal bs)
-
--- the form at the front of what stands behind a `%`
+-- the form at the front of what stands behind a `%`: flags, a width, and a precision if a point stands next
 unfoldable pub form_at : List ℕ → Option WrittenForm
-form_at bs = width_behind (take_while is_flag bs) (behind is_flag bs)
+form_at bs =
+    let sized = behind is_flag bs in
+    let pointed = behind is_ascii_digit sized in
+    let read = verb_behind (take_while is_flag bs) (take_while is_ascii_digit sized) in
+    let digits = drop 1 pointed in
+    if slice_index pointed 0 == 46
+    then read (Some (take_while is_ascii_digit digits)) (behind is_ascii_digit digits) else read None pointed
 
--- the segment that begins with a `%` and goes on with these bytes
-abbrev pub segment_behind : List ℕ → Option Segment
-segment_behind [] = None
-segment_behind (b ∷ bs) = if b == 37 then Some percent else option_map form (form_at (b ∷ bs))
-
--- the segment at the front
+-- the segment at the front of bytes that are not empty
 abbrev pub first_segment : List ℕ → Option Segment
-first_segment [] = None
-first_segment (b ∷ bs) =
-    if b == 37 then segment_behind bs else Some (literal (take_while is_plain (b ∷ bs)))
-
--- how many bytes of a segment follow its first
-abbrev pub rest_len : Option Segment → ℕ
-rest_len o = option_map_or (λ p. length (segment_bytes p) - 1) o 0
-
--- a segment before those behind it
-abbrev pub with_segment : Option Segment → Option (List Segment) → Option (List Segment)
-with_segment (Some p) (Some ps) = Some (p ∷ ps)
-with_segment _ _ = None
+first_segment bs =
+    if is_plain (slice_index bs 0) then Some (literal (take_while is_plain bs))
+    else (if slice_index bs 1 == 37 then Some percent else option_map form (form_at (drop 1 bs)))
 
 -- the segments after so many bytes that belong to the segment before
 abbrev pub segments_after : ℕ → List ℕ → Option (List Segment)
 segments_after n [] = Some []
 segments_after (suc n) (b ∷ bs) = segments_after n bs
 segments_after zero (b ∷ bs) =
-    with_segment (first_segment (b ∷ bs)) (segments_after (rest_len (first_segment (b ∷ bs))) bs)
+    option_and_then (λ p. option_map (λ ps. p ∷ ps) (segments_after (length (segment_bytes p) - 1) bs))
+    (first_segment (b ∷ bs))
 
 -- the segments of a format, read from left to right; none where it is no format
 unfoldable pub reading : List ℕ → Option (List Segment)

@@ -1,10 +1,8 @@
 //! The reading of a form.
 ghost use Rattle.std.specs.Prelude.{◌≡◌, ◌≤◌, ◌++◌, length, option_map, Some};
-ghost use Rattle.tmpl_funcs.specs.printf.Form.{form_of, number_in};
-ghost use Rattle.tmpl_funcs.specs.printf.Reading.{form_at, form_by, precision_behind, verb_behind, verb_of};
-ghost use Rattle.tmpl_funcs.specs.printf.Reading.{width_behind};
-ghost use Rattle.tmpl_funcs.specs.printf.Form.{pointed};
-ghost use Rattle.tmpl_funcs.specs.computed.Reading.{IsRead};
+ghost use Rattle.tmpl_funcs.specs.printf.Form.{form_of, number_in, pointed};
+ghost use Rattle.tmpl_funcs.specs.printf.Reading.{form_at, verb_behind, verb_of};
+ghost use Rattle.tmpl_funcs.specs.computed.Reading.{form_by, precision_behind, width_behind, IsRead};
 
 use super::class::Class;
 use super::form::{Form, Verb};
@@ -13,7 +11,6 @@ use super::form::{Form, Verb};
 const MOST_DIGITS: usize = 4;
 
 /// Reads the form at the front of what stands behind a `%`, and gives what stands behind it.
-#[tactic(auto, using(crate::proofs::FormLemmas::forms))]
 pub(crate) fn read_form(bytes: &[u8]) -> Option<(Form, &[u8])>
     ensures { IsRead (form_at bytes.now) bytes.now result }
 {

@@ -7,4 +7,5 @@ use Rattle.tmpl_funcs.proofs.join.add_parted.Given as goal
 
 abbrev pub invariant-loop-operand : goal.invariant-loop-operand
 invariant-loop-operand l =
-    l.bytes.items ++ parted_by l.first (values_of (drop l.operand-index l.operands)) ≡ l.initial.bytes.items ++ join_with_byte 32 (map inner_text (values_of l.operands))
+    l.bytes.items ++ parted_by l.first (values_of (drop l.operand-index l.operands)) ≡
+    l.initial.bytes.items ++ join_with_byte 32 (map inner_text (values_of l.operands))

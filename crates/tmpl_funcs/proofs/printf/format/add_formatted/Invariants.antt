@@ -1,6 +1,7 @@
 use Rattle.std.proofs.Common.{◌≡◌, ◌≤◌, ◌++◌, ℕ, List, length, drop, Some}
 use Rattle.tmpl_funcs.specs.View.{values_of}
-use Rattle.tmpl_funcs.specs.printf.Format.{formatted, both}
+use Rattle.tmpl_funcs.specs.printf.Format.{formatted}
+use Rattle.tmpl_funcs.specs.computed.Format.{both}
 use Rattle.tmpl_funcs.proofs.printf.format.add_formatted.Given as goal
 
 abbrev pub invariant-loop-rest : goal.invariant-loop-rest

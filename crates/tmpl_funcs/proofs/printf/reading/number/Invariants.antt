@@ -1,5 +1,6 @@
 use Rattle.std.proofs.Common.{◌≡◌, ◌≤◌, drop}
-use Rattle.tmpl_funcs.specs.printf.Form.{number_in, number_after}
+use Rattle.tmpl_funcs.specs.printf.Form.{number_in}
+use Rattle.tmpl_funcs.specs.computed.Reading.{number_after}
 use Rattle.tmpl_funcs.proofs.NumberLemmas.{most}
 use Rattle.tmpl_funcs.proofs.printf.reading.number.Given as goal
 
