@@ -12,7 +12,7 @@ use Rattle.tmpl_funcs.specs.View.{values_of}
 use Rattle.tmpl_funcs.specs.printf.Form.{WrittenForm, is_plain, form_bytes}
 use Rattle.tmpl_funcs.specs.printf.Reading.{form_at}
 use Rattle.tmpl_funcs.specs.printf.Form.{form_of}
-use Rattle.tmpl_funcs.specs.printf.Directive.{printed}
+use Rattle.tmpl_funcs.specs.computed.Directive.{printed}
 use Rattle.tmpl_funcs.specs.printf.Format.{formatted}
 use Rattle.tmpl_funcs.specs.computed.Format.{both, IsAdded, IsSegmentAdded}
 use Rattle.tmpl_funcs.specs.declared.printf.form.Form.{Form}

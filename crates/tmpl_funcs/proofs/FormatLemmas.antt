@@ -1,17 +1,21 @@
 -- For `add_form` and the lemmas of `printf`: a format is its first segment before the rest.
 use Rattle.std.proofs.Common.{◌≡◌, ◌∙◌, ℕ, zero, suc, ◌+◌, ◌-◌, ◌<◌, ◌==◌, Bool, true, false, cond, List, [], ◌∷◌, ◌++◌}
-use Rattle.std.proofs.Common.{length, get_or, take, drop, Option, Some, None, option_map, option_and_then, refl, sym, ap, subst, arith, append_assoc}
+use Rattle.std.proofs.Common.{length, get_or, take, drop, Option, Some, None, option_map, option_and_then, refl, sym, ap}
+use Rattle.std.proofs.Common.{subst, arith, append_assoc, length-append}
 use Rattle.std.specs.List.{prefix_len, take_while}
 use Rattle.std.proofs.Math.Seq.{drop-append_seam}
 use Rattle.std.proofs.lemmas.Bool.{not-true}
 use Rattle.std.proofs.lemmas.List.{length-take}
 use Rattle.std.proofs.lemmas.List.Sums.{prefix_len-le-length}
 use Rattle.tmpl_values.specs.Value.{Value}
-use Rattle.tmpl_funcs.specs.printf.Form.{WrittenForm, Segment, literal, percent, form, form_bytes, is_plain}
-use Rattle.tmpl_funcs.specs.printf.Reading.{form_at, first_segment, segments_after, reading}
+use Rattle.tmpl_funcs.specs.printf.Form.{WrittenForm, Segment, literal, percent, form, letter, pointed, form_bytes, segment_bytes}
+use Rattle.tmpl_funcs.specs.printf.Form.{is_plain}
+use Rattle.tmpl_funcs.specs.declared.printf.form.Verb.{Verb}
+use Rattle.std.specs.Option.{option_map_or}
+use Rattle.tmpl_funcs.specs.printf.Reading.{form_at, first_segment, segment_len, segments_after, reading}
 use Rattle.tmpl_funcs.specs.computed.Reading.{rest_len, with_segment}
 use Rattle.tmpl_funcs.specs.printf.Form.{form_of}
-use Rattle.tmpl_funcs.specs.printf.Directive.{printed}
+use Rattle.tmpl_funcs.specs.computed.Directive.{printed}
 use Rattle.tmpl_funcs.specs.printf.Format.{texts, formatted}
 use Rattle.tmpl_funcs.specs.computed.Format.{both}
 
@@ -24,17 +28,30 @@ segments-skip zero bs = refl
 segments-skip (suc n) [] = refl
 segments-skip (suc n) (b ∷ bs) = segments-skip n bs
 
+-- a segment has as many bytes as its spelling
+pointed-len : (p : Option (List ℕ)) (v : Verb) → length (pointed p ++ letter v ∷ []) ≡ 1 + option_map_or (λ digits. 1 + length digits) p 0
+pointed-len None v = refl
+pointed-len (Some ds) v = omega (arith, length-append ds (letter v ∷ []))
+
+segment_len-is : (p : Segment) → segment_len p ≡ length (segment_bytes p)
+segment_len-is (literal run) = refl
+segment_len-is percent = refl
+segment_len-is (form f) =
+    let tail : List ℕ = pointed f.precision ++ letter f.verb ∷ [] in
+    omega (arith, length-append f.flags (f.width ++ tail), length-append f.width tail, pointed-len f.precision f.verb)
+
 -- the first segment before those behind it, as one is read
 pub segments-before : (o : Option Segment) (bs : List ℕ)
-    → option_and_then (λ p. option_map (λ ps. p ∷ ps) (segments_after (rest_len (Some p)) bs)) o ≡ with_segment o (segments_after (rest_len o) bs)
+    → option_and_then (λ p. option_map (λ ps. p ∷ ps) (segments_after (segment_len p - 1) bs)) o ≡ with_segment o (segments_after (rest_len o) bs)
 segments-before None bs = refl
-segments-before (Some p) bs = refl
+segments-before (Some p) bs = ap (λ n. option_map (λ ps. p ∷ ps) (segments_after (n - 1) bs)) (segment_len-is p)
 
 -- the first segment, and those behind it
 pub reading-first : (b : ℕ) (bs : List ℕ) (p : Option Segment) → first_segment (b ∷ bs) ≡ p → reading (b ∷ bs) ≡ with_segment p (reading (drop (rest_len p) bs))
 unfolding reading
 reading-first b bs p is =
-    segments-before (first_segment (b ∷ bs)) bs ∙ ap (λ q. with_segment q (segments_after (rest_len q) bs)) is ∙ ap (with_segment p) (segments-skip (rest_len p) bs)
+    segments-before (first_segment (b ∷ bs)) bs ∙ ap (λ q. with_segment q (segments_after (rest_len q) bs)) is
+    ∙ ap (with_segment p) (segments-skip (rest_len p) bs)
 
 formatted-first : (b : ℕ) (bs : List ℕ) (vs : List Value) (p : Option Segment) → first_segment (b ∷ bs) ≡ p
     → formatted (b ∷ bs) vs ≡ filled (with_segment p (reading (drop (rest_len p) bs))) vs
@@ -60,6 +77,7 @@ filled-percent (Some ps) vs = refl
 
 filled-form : (f : WrittenForm) (ps : Option (List Segment)) (v : Value) (vs : List Value)
     → filled (with_segment (Some (form f)) ps) (v ∷ vs) ≡ both (printed (form_of f) v) (filled ps vs)
+unfolding printed
 filled-form f None v vs = sym (both-none (printed (form_of f) v))
 filled-form f (Some ps) v vs = refl
 

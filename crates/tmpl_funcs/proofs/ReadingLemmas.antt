@@ -186,7 +186,8 @@ module _ (flags width : List ℕ) where
       (IsFound flags width (flags ++ (width ++ b ∷ bs)))
   precision_behind-by b bs true is =
       let point : 46 ≡ b = grind (arith, nat_tests) in
-      subst (λ t. IfSome (verb_behind flags width (Some (take_while is_ascii_digit bs)) (behind is_ascii_digit bs)) (IsFound flags width (flags ++ (width ++ t))))
+      subst (λ t. IfSome (verb_behind flags width (Some (take_while is_ascii_digit bs)) (behind is_ascii_digit bs))
+      (IsFound flags width (flags ++ (width ++ t))))
       (λ i. point i ∷ take_while-behind is_ascii_digit bs i)
       (verb_behind-sound flags width (Some (take_while is_ascii_digit bs)) (list_all-take_while is_ascii_digit bs) (behind is_ascii_digit bs))
   precision_behind-by b bs false is = verb_behind-sound flags width None tt (b ∷ bs)

@@ -1,15 +1,15 @@
 -- For the law `count_first`: the definition of each row refuses the numbers of arguments that its row does not have.
-use Rattle.std.proofs.Common.{◌≡◌, ◌&&◌, not, nat_le, Bool, true, false, List, [], ◌∷◌, length, pos, Option, option_map, Result, Ok, Err, ok_or}
+use Rattle.std.proofs.Common.{◌≡◌, ◌&&◌, not, nat_le, Bool, true, false, List, [], ◌∷◌, length, pos, Option, option_map, Result, Ok, Err, ok_or, if◌then◌else◌}
 use Rattle.std.proofs.Common.{refl, arith}
 use Rattle.std.proofs.lemmas.Bool.Decides.{nat_tests}
 use Rattle.tmpl_values.specs.Value.{Value, boolean, number}
-use Rattle.tmpl_values.specs.Compare.{equality, order}
+use Rattle.tmpl_values.specs.Compare.{is_nothing, equality, order}
 use Rattle.tmpl_values.specs.Item.{size_of}
 use Rattle.tmpl_values.specs.Truth.{truth}
 use Rattle.tmpl_funcs.specs.Arguments.{of_one, of_first}
 use Rattle.tmpl_funcs.specs.Compare.{eq_of, of_two, at_most}
-use Rattle.tmpl_funcs.specs.Index.{index_of}
-use Rattle.tmpl_funcs.specs.Junction.{first_empty, first_truth}
+use Rattle.tmpl_funcs.specs.Index.{indexed_by}
+use Rattle.tmpl_funcs.specs.Junction.{deciding}
 use Rattle.tmpl_funcs.specs.Laws.{CountsFirst}
 use Rattle.tmpl_funcs.specs.Slice.{slice_of}
 use Rattle.tmpl_funcs.specs.printf.Format.{printf_of}
@@ -54,11 +54,11 @@ of-slice (v ∷ i ∷ j ∷ []) h = let t : true ≡ false = h in cc
 of-slice (v ∷ i ∷ j ∷ k ∷ vs) h = refl
 
 pub counts-first : CountsFirst
-counts-first And = of-first (λ v vs. Ok (first_empty v vs))
-counts-first Or = of-first (λ v vs. Ok (first_truth v vs))
+counts-first And = of-first (λ v vs. Ok (deciding false v vs))
+counts-first Or = of-first (λ v vs. Ok (deciding true v vs))
 counts-first Not = of-one (λ v. Ok (boolean (not (truth v))))
 counts-first Len = of-one (λ v. ok_or (option_map (λ n. number (pos n)) (size_of v)) WrongKind)
-counts-first Index = of-first index_of
+counts-first Index = of-first (λ v is. if is_nothing v then Err WrongKind else indexed_by v is)
 counts-first Slice = of-slice
 counts-first Print = of-any _
 counts-first Println = of-any _

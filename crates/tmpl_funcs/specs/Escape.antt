@@ -1,18 +1,18 @@
 -- Escapes ("Functions", at `html` and `urlquery`).
-use Rattle.std.specs.Prelude.{ℕ, Bool, ◌||◌, ◌==◌, List, [], ◌∷◌, codes, if◌then◌else◌}
+use Rattle.std.specs.Prelude.{ℕ, Bool, ◌||◌, ◌==◌, List, [], ◌∷◌, codes, find, if◌then◌else◌}
+use Rattle.std.specs.Option.{option_map_or}
 use Rattle.std.specs.Char.{is_ascii_alphanumeric}
 use Rattle.percent_encoding.specs.Percent.{percent_encode_byte}
 
--- a byte in HTML, as `HTMLEscapeString` has it: NUL is U+FFFD
+-- the bytes that do not stand for themselves in HTML, and what does, as `HTMLEscapeString` has it: U+FFFD for NUL
+abbrev pub html_escapes : List (ℕ × List ℕ)
+html_escapes =
+    (34, codes "&#34;") ∷ (39, codes "&#39;") ∷ (38, codes "&amp;") ∷ (60, codes "&lt;") ∷ (62, codes "&gt;")
+    ∷ (0, 239 ∷ 191 ∷ 189 ∷ []) ∷ []
+
+-- a byte in HTML
 abbrev pub html_byte : ℕ → List ℕ
-html_byte b =
-    if b == 34 then codes "&#34;"
-    else (if b == 39 then codes "&#39;"
-    else (if b == 38 then codes "&amp;"
-    else (if b == 60 then codes "&lt;"
-    else (if b == 62 then codes "&gt;"
-    else (if b == 0 then 239 ∷ 191 ∷ 189 ∷ []
-    else b ∷ [])))))
+html_byte b = option_map_or (λ p. p.1) (find (λ p. b == p.0) html_escapes) (b ∷ [])
 
 -- the byte stands for itself in a query: a letter or digit of ASCII, or one of `-_.~`
 abbrev pub is_unreserved : ℕ → Bool

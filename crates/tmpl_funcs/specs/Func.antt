@@ -1,19 +1,19 @@
 -- The functions of templates as one table ("Functions").
 use Rattle.std.specs.Prelude.{ℕ, pos, Bool, true, false, not, ◌&&◌, nat_le, List, ◌++◌, map, flat_map, codes, Option}
-use Rattle.std.specs.Prelude.{Some, None, option_map, ok_or, Result, Ok}
+use Rattle.std.specs.Prelude.{Some, None, option_map, ok_or, Result, Ok, Err, if◌then◌else◌}
 use Rattle.std.specs.List.{join_with_byte}
 use Rattle.std.specs.Option.{option_map_or}
 use Rattle.tmpl_values.specs.Value.{Value, boolean, number, string}
-use Rattle.tmpl_values.specs.Compare.{equality, order}
+use Rattle.tmpl_values.specs.Compare.{is_nothing, equality, order}
 use Rattle.tmpl_values.specs.Item.{size_of}
 use Rattle.tmpl_values.specs.Text.{inner_text}
 use Rattle.tmpl_values.specs.Truth.{truth}
 use Rattle.tmpl_funcs.specs.Arguments.{of_one, of_first}
 use Rattle.tmpl_funcs.specs.Compare.{eq_of, of_two, at_most}
 use Rattle.tmpl_funcs.specs.Escape.{html_byte, query_byte}
-use Rattle.tmpl_funcs.specs.Index.{index_of}
+use Rattle.tmpl_funcs.specs.Index.{indexed_by}
 use Rattle.tmpl_funcs.specs.Join.{joined, as_text}
-use Rattle.tmpl_funcs.specs.Junction.{first_empty, first_truth}
+use Rattle.tmpl_funcs.specs.Junction.{deciding}
 use Rattle.tmpl_funcs.specs.Slice.{slice_of}
 use Rattle.tmpl_funcs.specs.printf.Format.{printf_of}
 use Rattle.tmpl_funcs.specs.declared.fault.CallFault.{CallFault}
@@ -35,16 +35,17 @@ abbrev pub row : List ℕ → ℕ → Option ℕ → Bool → (List Value → Re
 row n l m t g = record { name = n; least = l; most = m; makes_text = t; gives = g }
 
 -- the table. `not` says whether its argument is empty; `len` is the number of bytes of a string, or of items of a
--- sequence or a mapping; `print` joins its arguments; `println` has one space between each two, and a newline; `html`
--- and `urlquery` escape what they join, where nothing counts as a string; `ne`, `gt` and `ge` are the opposites of
--- `eq`, `le` and `lt`
+-- sequence or a mapping; `index` with no index gives the value itself, of any kind but nothing; `print` joins its
+-- arguments; `println` has one space between each two, and a newline; `html` and `urlquery` escape what they join,
+-- where nothing counts as a string; `ne`, `gt` and `ge` are the opposites of `eq`, `le` and `lt`
 abbrev pub row_of : Func → Row
-row_of And = row (codes "and") 1 None false (of_first (λ v vs. Ok (first_empty v vs)))
-row_of Or = row (codes "or") 1 None false (of_first (λ v vs. Ok (first_truth v vs)))
+row_of And = row (codes "and") 1 None false (of_first (λ v vs. Ok (deciding false v vs)))
+row_of Or = row (codes "or") 1 None false (of_first (λ v vs. Ok (deciding true v vs)))
 row_of Not = row (codes "not") 1 (Some 1) false (of_one (λ v. Ok (boolean (not (truth v)))))
 row_of Len =
     row (codes "len") 1 (Some 1) false (of_one (λ v. ok_or (option_map (λ n. number (pos n)) (size_of v)) WrongKind))
-row_of Index = row (codes "index") 1 None false (of_first index_of)
+row_of Index =
+    row (codes "index") 1 None false (of_first (λ v is. if is_nothing v then Err WrongKind else indexed_by v is))
 row_of Slice = row (codes "slice") 1 (Some 3) false slice_of
 row_of Print = row (codes "print") 0 None true (λ vs. Ok (string (joined vs)))
 row_of Println =

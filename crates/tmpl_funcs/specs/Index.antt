@@ -1,9 +1,8 @@
 -- The item of a value at indexes ("Functions", at `index`: "the result of indexing its first
 -- argument by the following arguments. Thus `index x 1 2 3` is, in Go syntax, x[1][2][3]").
 use Rattle.std.specs.Prelude.{ℕ, ℤ, pos, negsuc, List, [], ◌∷◌, slice_get, option_map, Option, Some, None}
-use Rattle.std.specs.Prelude.{Result, Ok, Err, ok_or, unwrap_or, if◌then◌else◌}
+use Rattle.std.specs.Prelude.{Result, Ok, Err, ok_or, unwrap_or}
 use Rattle.tmpl_values.specs.Value.{Value, null, number, string, sequence, mapping}
-use Rattle.tmpl_values.specs.Compare.{is_nothing}
 use Rattle.tmpl_values.specs.Elements.{listed}
 use Rattle.tmpl_values.specs.Field.{entry_at}
 use Rattle.tmpl_values.specs.Item.{bytes_of}
@@ -34,7 +33,3 @@ indexed _ i = Err WrongKind
 abbrev pub indexed_by : Value → List Value → Result Value CallFault
 indexed_by v [] = Ok v
 indexed_by v (i ∷ is) = and_then (indexed v i) (λ w. indexed_by w is)
-
--- the first argument at the others; with no index the value itself, of any kind but nothing
-abbrev pub index_of : Value → List Value → Result Value CallFault
-index_of v is = if is_nothing v then Err WrongKind else indexed_by v is

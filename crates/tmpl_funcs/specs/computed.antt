@@ -1,5 +1,6 @@
 pub mod Answer
 pub mod Class
+pub mod Directive
 pub mod Escape
 pub mod Format
 pub mod Index

@@ -1,5 +1,5 @@
 //! `index`.
-ghost use Rattle.std.specs.Prelude.{◌≡◌, false, ok_or, option_map, pos, slice_get, unwrap_or};
+ghost use Rattle.std.specs.Prelude.{◌≡◌, ◌∷◌, false, ok_or, option_map, pos, slice_get, unwrap_or};
 ghost use Rattle.tmpl_values.specs.Elements.{listed};
 ghost use Rattle.tmpl_values.specs.Field.{entry_at};
 ghost use Rattle.tmpl_values.specs.Value.{null, number};
@@ -10,14 +10,16 @@ ghost use Rattle.tmpl_funcs.specs.View.{values_of};
 ghost use Rattle.tmpl_funcs.specs.Answer.{IsBorrowed};
 ghost use Rattle.tmpl_funcs.specs.computed.Answer.{IsAnswer};
 ghost use Rattle.tmpl_funcs.specs.computed.Index.{place_among};
-ghost use Rattle.tmpl_funcs.specs.Index.{number_of, found_at, indexed, indexed_by, index_of};
+ghost use Rattle.tmpl_funcs.specs.Index.{number_of, found_at, indexed, indexed_by};
+ghost use Rattle.tmpl_funcs.specs.Dispatch.{called};
+ghost use Rattle.tmpl_funcs.specs.declared.func.Func.{Func};
 
 use crate::fault::CallFault;
 use tmpl_values::{Cell, Data, Table, Val};
 
 /// An item at indexes, from left to right; with no index the item itself.
 pub(crate) fn index<'a>(item: Val<'a>, indexes: &[Cell<'_>]) -> Result<Val<'a>, CallFault>
-    ensures table { IsAnswer (index_of (val_of item.entry) (values_of indexes.now)) result }
+    ensures table { IsAnswer (called Func.Index (val_of item.entry ∷ values_of indexes.now)) result }
     ensures borrowed { is_made item.entry ≡ false → IsBorrowed result }
 {
     match item {

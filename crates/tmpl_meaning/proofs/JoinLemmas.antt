@@ -1,9 +1,10 @@
 -- For the law `joins_by_table`: `and` and `or` over operands that all have values give what the table says.
 use Rattle.std.proofs.Common.{◌≡◌, ◌∙◌, Bool, true, false, not, List, [], ◌∷◌, length, Option, Some, None, Result, Ok, Err, refl, ap, sym, if◌then◌else◌}
+use Rattle.std.specs.Bool.{beq}
 use Rattle.tmpl_values.specs.Value.{Value, nothing}
 use Rattle.tmpl_values.specs.Truth.{truth}
 use Rattle.tmpl_funcs.specs.Dispatch.{called}
-use Rattle.tmpl_funcs.specs.Junction.{first_empty, first_truth}
+use Rattle.tmpl_funcs.specs.Junction.{deciding}
 use Rattle.tmpl_funcs.specs.Func.{takes}
 use Rattle.tmpl_grammar.specs.Tree.{Operands, no_operand, operand}
 use Rattle.tmpl_meaning.specs.Fault.{Cause}
@@ -11,26 +12,17 @@ use Rattle.tmpl_meaning.specs.Laws.{JoinsByTable, joining}
 use Rattle.tmpl_meaning.specs.Pipeline.{Given, Place, decided, decides, given, given_then, go_on, junction, operand_value, operand_values}
 use Rattle.tmpl_meaning.specs.Pipeline.{or_call_failed, piped_after}
 
--- of a value and those behind it the first that decides, else the last
-abbrev deciding : Bool → Value → List Value → Value
-deciding true v vs = first_truth v vs
-deciding false v vs = first_empty v vs
-
 -- of values the first that decides, else the last, or this one where there are none
 abbrev among : Bool → Value → List Value → Value
 among stop last [] = last
 among stop last (v ∷ vs) = deciding stop v vs
 
-deciding-one : (stop : Bool) (v : Value) → v ≡ deciding stop v []
-deciding-one true v = refl
-deciding-one false v = refl
-
 module _ (v x : Value) (rest : Given Value) (is : rest.result ≡ Ok x) where
-  or_next : (test : Bool) → (decided test v rest).result ≡ Ok (if test then v else x)
+  or_next : (test : Bool) → (decided test v rest).result ≡ Ok (if beq test true then v else x)
   or_next true = refl
   or_next false = is
 
-  and_next : (test : Bool) → (decided (not test) v rest).result ≡ Ok (if test then x else v)
+  and_next : (test : Bool) → (decided (not test) v rest).result ≡ Ok (if beq test false then v else x)
   and_next true = is
   and_next false = refl
 
@@ -43,8 +35,8 @@ by_test : (stop : Bool) (v : Value) (vs : List Value) (rest : Given Value) → r
     → (decided (decides stop v) v rest).result ≡ Ok (deciding stop v vs)
 by_test true v [] rest is = last_one v rest is (truth v)
 by_test false v [] rest is = last_one v rest is (not (truth v))
-by_test true v (w ∷ vs) rest is = or_next v (first_truth w vs) rest is (truth v)
-by_test false v (w ∷ vs) rest is = and_next v (first_empty w vs) rest is (truth v)
+by_test true v (w ∷ vs) rest is = or_next v (deciding true w vs) rest is (truth v)
+by_test false v (w ∷ vs) rest is = and_next v (deciding false w vs) rest is (truth v)
 
 -- an operand with a value before others with values
 record Parted (r : Result Value Cause) (rs : Result (List Value) Cause) (vs : List Value) : Type 0 where
@@ -72,7 +64,7 @@ module _ (stop : Bool) (s : Place) (piped : Option Value) where
     where
       none : (p : Option Value) → vs ≡ [] → (junction stop s last no_operand p).result ≡ Ok (among stop last (piped_after vs p))
       none None e = ap (λ ws. Ok (among stop last ws)) (sym e)
-      none (Some v) e = ap Ok (deciding-one stop v) ∙ ap (λ ws. Ok (among stop last (piped_after ws (Some v)))) (sym e)
+      none (Some v) e = ap (λ ws. Ok (among stop last (piped_after ws (Some v)))) (sym e)
   joined (operand o os) last vs h =
       let p = parted (operand_value s o).result (operand_value s o).made_text (operand_values s os) vs h in
       ap (λ r. (go_on r (operand_value s o).made_text (λ v. decided (decides stop v) v (junction stop s v os piped))).result) p.is

@@ -1,11 +1,12 @@
 -- The reading of a form part by part, and what it comes to.
-use Rattle.std.specs.Prelude.{◌≡◌, ◌&&◌, ◌-◌, ◌*◌, ◌+◌, ◌==◌, List, ℕ, Bool, true, ◌++◌, drop, fold, length, slice_index, Option, Some, None}
-use Rattle.std.specs.Prelude.{◌∷◌, option_map, option_and_then, if◌then◌else◌}
+use Rattle.std.specs.Prelude.{◌≡◌, ◌&&◌, ◌+◌, ◌-◌, ◌*◌, ◌==◌, List, ◌∷◌, ℕ, Bool, true, ◌++◌, drop, fold, length}
+use Rattle.std.specs.Prelude.{slice_index, Option, Some, None, option_map, option_and_then, if◌then◌else◌}
 use Rattle.std.specs.Borrow.{Bor}
 use Rattle.std.specs.Char.{is_ascii_digit}
 use Rattle.std.specs.List.{take_while}
 use Rattle.std.specs.Option.{option_map_or}
-use Rattle.tmpl_funcs.specs.printf.Form.{WrittenForm, Segment, form_bytes, segment_bytes, form_of, is_short, takes_precision}
+use Rattle.tmpl_funcs.specs.printf.Form.{WrittenForm, Segment, form_bytes, segment_bytes, form_of, is_short}
+use Rattle.tmpl_funcs.specs.printf.Form.{takes_precision}
 use Rattle.tmpl_funcs.specs.printf.Reading.{behind, verb_behind}
 use Rattle.tmpl_funcs.specs.declared.printf.form.Form.{Form}
 use Rattle.tmpl_funcs.specs.declared.printf.form.Verb.{Verb}

@@ -23,16 +23,6 @@ use Rattle.tmpl_funcs.specs.declared.printf.form.Verb.TheVariants as verb
 abbrev pub text_form : Form → Option (List ℕ) → Option (List ℕ)
 text_form f text = if has_minus_alone f then option_map (padded f) text else None
 
--- the text of a sequence or a mapping, in a form with no flag and no width
-abbrev pub bare_form : Form → List ℕ → Option (List ℕ)
-bare_form f text = if is_bare f then Some text else None
-
--- `%v`: the text that an operand of `print` has
-abbrev pub value_form : Form → Value → Option (List ℕ)
-value_form f (kind.sequence vs) = bare_form f (inner_text (kind.sequence vs))
-value_form f (kind.mapping es) = bare_form f (inner_text (kind.mapping es))
-value_form f v = text_form f (Some (inner_text v))
-
 -- the sign of a number: `-`, or with the flags `+` and space what these ask for
 abbrev pub sign : Form → ℤ → List ℕ
 sign f (negsuc n) = 45 ∷ []
@@ -46,35 +36,27 @@ number_form base upper f n = laid_out f (sign f n) (digits base upper (nat_abs n
 abbrev pub hex_pair : Bool → ℕ → List ℕ
 hex_pair upper b = digit_glyph upper (b / 16) ∷ digit_glyph upper (b % 16) ∷ []
 
--- `%x` and `%X`: a number in base 16, or the bytes of a text
-abbrev pub hex_form : Bool → Form → Value → Option (List ℕ)
-hex_form upper f (kind.number n) = Some (number_form 16 upper f n)
-hex_form upper f (kind.string s) = text_form f (Some (flat_map (hex_pair upper) s))
-hex_form upper f _ = None
-
 -- the character of a code; U+FFFD where it is none
 abbrev pub char_text : ℤ → List ℕ
 char_text (pos n) = if scalar n then encode_utf8 n else encode_utf8 65533
 char_text (negsuc n) = encode_utf8 65533
 
--- the text of a truth value
-abbrev pub truth_of : Value → Option (List ℕ)
-truth_of (kind.boolean b) = Some (truth_text b)
-truth_of _ = None
-
--- what a form of this verb prints of a value
+-- what a form of this verb prints of a value; none where the verb does not take the value or a flag. `%v` prints the
+-- text that an operand of `print` has, of a sequence or a mapping with no flag and no width; `%x` and `%X` print a
+-- number in base 16, or the bytes of a text
 abbrev pub printed_by : Verb → Form → Value → Option (List ℕ)
-printed_by verb.Value f v = value_form f v
+printed_by verb.Value f (kind.sequence vs) = if is_bare f then Some (inner_text (kind.sequence vs)) else None
+printed_by verb.Value f (kind.mapping es) = if is_bare f then Some (inner_text (kind.mapping es)) else None
+printed_by verb.Value f v = text_form f (Some (inner_text v))
 printed_by verb.Decimal f v = option_map (number_form 10 false f) (number_of v)
 printed_by verb.Octal f v = option_map (number_form 8 false f) (number_of v)
 printed_by verb.Binary f v = option_map (number_form 2 false f) (number_of v)
-printed_by verb.Hex f v = hex_form false f v
-printed_by verb.UpperHex f v = hex_form true f v
+printed_by verb.Hex f (kind.string s) = text_form f (Some (flat_map (hex_pair false) s))
+printed_by verb.Hex f v = option_map (number_form 16 false f) (number_of v)
+printed_by verb.UpperHex f (kind.string s) = text_form f (Some (flat_map (hex_pair true) s))
+printed_by verb.UpperHex f v = option_map (number_form 16 true f) (number_of v)
 printed_by verb.Text f v = text_form f (option_map (truncated_to f.precision) (bytes_of v))
 printed_by verb.Quoted f v = text_form f (option_map quote (bytes_of v))
 printed_by verb.Char f v = text_form f (option_map char_text (number_of v))
-printed_by verb.Truth f v = text_form f (truth_of v)
-
--- what a form prints of a value; none where the verb does not take the value or a flag
-unfoldable pub printed : Form → Value → Option (List ℕ)
-printed f v = printed_by f.verb f v
+printed_by verb.Truth f (kind.boolean b) = text_form f (Some (truth_text b))
+printed_by verb.Truth f _ = None

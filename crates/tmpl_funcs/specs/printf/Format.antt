@@ -8,7 +8,7 @@ use Rattle.tmpl_values.specs.Stage.{and_then}
 use Rattle.tmpl_funcs.specs.printf.Form.{Segment, literal, percent, form}
 use Rattle.tmpl_funcs.specs.printf.Reading.{reading}
 use Rattle.tmpl_funcs.specs.printf.Form.{form_of}
-use Rattle.tmpl_funcs.specs.printf.Directive.{printed}
+use Rattle.tmpl_funcs.specs.printf.Directive.{printed_by}
 use Rattle.tmpl_funcs.specs.declared.fault.CallFault.{CallFault}
 use Rattle.tmpl_funcs.specs.declared.fault.CallFault.TheVariants.{WrongKind, FormatRefused}
 
@@ -17,7 +17,8 @@ abbrev pub texts : List Segment → List Value → Option (List ℕ)
 texts [] [] = Some []
 texts (literal run ∷ ps) vs = option_map (λ t. run ++ t) (texts ps vs)
 texts (percent ∷ ps) vs = option_map (λ t. 37 ∷ t) (texts ps vs)
-texts (form f ∷ ps) (v ∷ vs) = option_and_then (λ s. option_map (λ t. s ++ t) (texts ps vs)) (printed (form_of f) v)
+texts (form f ∷ ps) (v ∷ vs) =
+    option_and_then (λ s. option_map (λ t. s ++ t) (texts ps vs)) (printed_by f.verb (form_of f) v)
 texts _ _ = None
 
 -- the text of a format and arguments

@@ -1,11 +1,11 @@
 -- The reading of a format from left to right: the one that `IsReading` admits.
-use Rattle.std.specs.Prelude.{ℕ, zero, suc, ◌-◌, ◌&&◌, ◌==◌, Bool, true, List, [], ◌∷◌, length, drop, slice_get}
+use Rattle.std.specs.Prelude.{ℕ, zero, suc, ◌+◌, ◌-◌, ◌&&◌, ◌==◌, Bool, true, List, [], ◌∷◌, length, drop, slice_get}
 use Rattle.std.specs.Prelude.{slice_index, Option, Some, None, find, option_map, option_and_then, if◌then◌else◌}
 use Rattle.std.specs.Char.{is_ascii_digit}
 use Rattle.std.specs.List.{prefix_len, take_while}
 use Rattle.std.specs.Option.{option_map_or}
 use Rattle.std.specs.Str.{byte}
-use Rattle.tmpl_funcs.specs.printf.Form.{WrittenForm, Segment, literal, percent, form, segment_bytes, is_plain, is_flag}
+use Rattle.tmpl_funcs.specs.printf.Form.{WrittenForm, Segment, literal, percent, form, is_plain, is_flag}
 use Rattle.tmpl_funcs.specs.printf.Form.{is_short, takes_precision}
 use Rattle.tmpl_funcs.specs.declared.printf.form.Verb.{Verb}
 use Rattle.tmpl_funcs.specs.declared.printf.form.Verb.TheVariants.{Value, Decimal, Octal, Binary, Hex, UpperHex, Text}
@@ -50,13 +50,18 @@ first_segment bs =
     if is_plain (slice_index bs 0) then Some (literal (take_while is_plain bs))
     else (if slice_index bs 1 == 37 then Some percent else option_map form (form_at (drop 1 bs)))
 
+-- how many bytes a segment has
+abbrev pub segment_len : Segment → ℕ
+segment_len (literal run) = length run
+segment_len percent = 2
+segment_len (form f) = 2 + length f.flags + length f.width + option_map_or (λ digits. 1 + length digits) f.precision 0
+
 -- the segments after so many bytes that belong to the segment before
 abbrev pub segments_after : ℕ → List ℕ → Option (List Segment)
 segments_after n [] = Some []
 segments_after (suc n) (b ∷ bs) = segments_after n bs
 segments_after zero (b ∷ bs) =
-    option_and_then (λ p. option_map (λ ps. p ∷ ps) (segments_after (length (segment_bytes p) - 1) bs))
-    (first_segment (b ∷ bs))
+    option_and_then (λ p. option_map (λ ps. p ∷ ps) (segments_after (segment_len p - 1) bs)) (first_segment (b ∷ bs))
 
 -- the segments of a format, read from left to right; none where it is no format
 unfoldable pub reading : List ℕ → Option (List Segment)

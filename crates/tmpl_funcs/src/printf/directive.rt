@@ -5,8 +5,9 @@ ghost use Rattle.std.specs.List.{flat_map};
 ghost use Rattle.tmpl_values.specs.Quote.{quote};
 ghost use Rattle.tmpl_values.specs.Text.{inner_text};
 ghost use Rattle.tmpl_values.specs.View.{val_of};
-ghost use Rattle.tmpl_funcs.specs.printf.Directive.{char_text, hex_form, hex_pair, number_form, printed, sign};
-ghost use Rattle.tmpl_funcs.specs.printf.Directive.{text_form, truth_of, value_form};
+ghost use Rattle.tmpl_funcs.specs.printf.Directive.{char_text, hex_pair, number_form, printed_by, sign, text_form};
+ghost use Rattle.tmpl_funcs.specs.computed.Directive.{hex_form, printed};
+ghost use Rattle.tmpl_funcs.specs.declared.printf.form.Verb.TheVariants as verb;
 ghost use Rattle.tmpl_funcs.specs.printf.Rune.{truncated_to};
 ghost use Rattle.tmpl_funcs.specs.computed.Format.{IsAdded};
 
@@ -22,7 +23,7 @@ use std::alloc::AllocError;
 use tmpl_values::{Val, add_quote, digit};
 
 /// Adds what a form prints of a value.
-#[tactic(auto, unfolding(crate::specs::printf::Directive::printed))]
+#[tactic(auto, unfolding(crate::specs::computed::Directive::printed))]
 pub(crate) fn add_printed(form: Form, value: &Val<'_>, bytes: &mut Vec<u8>) -> Result<(), CallError>
     ensures { IsAdded (printed form (val_of value.now)) bytes.old.items bytes.new.items result }
 {
@@ -42,7 +43,7 @@ pub(crate) fn add_printed(form: Form, value: &Val<'_>, bytes: &mut Vec<u8>) -> R
 
 /// `%v`: lists and maps stand without flags and width.
 fn add_value(form: Form, value: &Val<'_>, bytes: &mut Vec<u8>) -> Result<(), CallError>
-    ensures { IsAdded (value_form form (val_of value.now)) bytes.old.items bytes.new.items result }
+    ensures { IsAdded (printed_by verb.Value form (val_of value.now)) bytes.old.items bytes.new.items result }
 {
     if let Some(text) = value.bytes() {
         return add_text_form(form, text, bytes);
@@ -144,7 +145,7 @@ fn char_of(code: i64) -> char
 
 /// `%t`.
 fn add_truth(form: Form, value: &Val<'_>, bytes: &mut Vec<u8>) -> Result<(), CallError>
-    ensures { IsAdded (text_form form (truth_of (val_of value.now)))
+    ensures { IsAdded (printed_by verb.Truth form (val_of value.now))
         bytes.old.items bytes.new.items result }
 {
     match value {

@@ -1,7 +1,7 @@
 use Rattle.std.proofs.Common.{◌∙◌, ◌∷◌, ap, arith}
 use Rattle.tmpl_values.specs.View.{val_of}
 use Rattle.tmpl_funcs.specs.View.{values_of}
-use Rattle.tmpl_funcs.specs.printf.Directive.{printed}
+use Rattle.tmpl_funcs.specs.computed.Directive.{printed}
 use Rattle.tmpl_funcs.specs.printf.Format.{formatted}
 use Rattle.tmpl_funcs.specs.computed.Format.{IsSegmentAdded}
 use Rattle.tmpl_funcs.proofs.FormatLemmas.{formatted-no_form, formatted-form_alone}
