@@ -6,10 +6,6 @@ use Rattle.tmpl_values.specs.Compare.{equality, order}
 use Rattle.tmpl_funcs.specs.declared.fault.CallFault.{CallFault}
 use Rattle.tmpl_funcs.specs.declared.fault.CallFault.TheVariants.{WrongCount, NotComparable}
 
--- a comparison as an answer; none is a fault
-abbrev pub compared : Option Bool → Result Value CallFault
-compared answer = ok_or (option_map boolean answer) NotComparable
-
 -- the second comparison, where the first one is there and does not hold
 abbrev pub or_else : Option Bool → Option Bool → Option Bool
 or_else a b = option_and_then (λ holds. if holds then Some true else b) a
@@ -23,12 +19,12 @@ equal_to_one v (w ∷ ws) = or_else (equality v w) (equal_to_one v ws)
 abbrev pub at_most : Value → Value → Option Bool
 at_most v w = or_else (order v w) (equality v w)
 
--- whether the first argument equals one of the others
+-- whether the first argument equals one of the others; values that can't be compared are a fault
 abbrev pub eq_of : List Value → Result Value CallFault
-eq_of (v ∷ w ∷ ws) = compared (equal_to_one v (w ∷ ws))
+eq_of (v ∷ w ∷ ws) = ok_or (option_map boolean (equal_to_one v (w ∷ ws))) NotComparable
 eq_of _ = Err WrongCount
 
 -- a comparison of two arguments
 abbrev pub of_two : (Value → Value → Option Bool) → List Value → Result Value CallFault
-of_two f (v ∷ w ∷ []) = compared (f v w)
+of_two f (v ∷ w ∷ []) = ok_or (option_map boolean (f v w)) NotComparable
 of_two f _ = Err WrongCount

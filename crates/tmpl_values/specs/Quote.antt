@@ -3,6 +3,7 @@
 use Rattle.std.specs.Prelude.{ℕ, zero, suc, ◌/◌, ◌%◌, ◌||◌, ◌==◌, nat_lt, Bool, List, [], ◌∷◌, ◌++◌, Option, Some, None}
 use Rattle.std.specs.Prelude.{if◌then◌else◌}
 use Rattle.std.specs.List.{flat_map}
+use Rattle.std.specs.Option.{option_map_or}
 use Rattle.std.specs.Char.{encode_utf8, digit_char}
 use Rattle.tmpl_values.specs.Rune.{Rune, char, byte, runes}
 use Rattle.tmpl_values.specs.Printable.{printable}
@@ -22,19 +23,14 @@ unfoldable pub hexes : ℕ → ℕ → List ℕ
 hexes zero c = []
 hexes (suc n) c = hexes n (c / 16) ++ digit_char (c % 16) ∷ []
 
--- a character by its letter, if it has one; else itself where it prints, and its code in two, four or eight digits
--- where it does not
-abbrev pub rune_spelling : (ℕ → Bool) → ℕ → Option ℕ → List ℕ
-rune_spelling prints c (Some e) = 92 ∷ e ∷ []
-rune_spelling prints c None =
-    if prints c then encode_utf8 c
-    else (if nat_lt c 32 || c == 127 then 92 ∷ 120 ∷ hexes 2 c
-    else (if nat_lt c 65536 then 92 ∷ 117 ∷ hexes 4 c else 92 ∷ 85 ∷ hexes 8 c))
-
--- a rune as it stands in a quote
+-- a rune as it stands in a quote: a byte by its code; a character by its letter, if it has one, else itself where it
+-- prints, and its code in two, four or eight digits where it does not
 abbrev pub spelling : (ℕ → Bool) → Rune → List ℕ
-spelling prints (char c) = rune_spelling prints c (letter_of c letters)
 spelling prints (byte b) = 92 ∷ 120 ∷ hexes 2 b
+spelling prints (char c) = option_map_or (λ letter. 92 ∷ letter ∷ []) (letter_of c letters)
+    (if prints c then encode_utf8 c
+    else (if nat_lt c 32 || c == 127 then 92 ∷ 120 ∷ hexes 2 c
+    else (if nat_lt c 65536 then 92 ∷ 117 ∷ hexes 4 c else 92 ∷ 85 ∷ hexes 8 c)))
 
 -- the quote: the runes as they are spelled, between quotation marks
 unfoldable pub quote : List ℕ → List ℕ

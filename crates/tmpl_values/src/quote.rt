@@ -7,8 +7,8 @@ ghost use Rattle.ucd_category.specs.declared.GeneralCategoryGroup.TheVariants.{L
 ghost use Rattle.ucd_category.specs.declared.GeneralCategoryGroup.TheVariants.{Punctuation, Symbol};
 ghost use Rattle.tmpl_values.specs.Put.{IsPut};
 ghost use Rattle.tmpl_values.specs.Rune.{char as char_rune, byte as byte_rune};
-ghost use Rattle.tmpl_values.specs.Quote.{letters, letter_of, rune_spelling, spelling, quote};
-ghost use Rattle.tmpl_values.specs.computed.Quote.{inside};
+ghost use Rattle.tmpl_values.specs.Quote.{letters, letter_of, spelling, quote};
+ghost use Rattle.tmpl_values.specs.computed.Quote.{inside, rune_spelling};
 ghost use Rattle.tmpl_values.specs.Printable.{printable};
 
 use crate::hex::digit;

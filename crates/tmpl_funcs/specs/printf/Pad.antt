@@ -8,13 +8,12 @@ use Rattle.tmpl_funcs.specs.declared.printf.form.Form.{Form}
 -- flag `-`
 abbrev pub padded : Form → List ℕ → List ℕ
 padded f text =
-    if f.minus then text ++ replicate (f.width - length (runes text)) 32
-    else replicate (f.width - length (runes text)) 32 ++ text
+    let spaces = replicate (f.width - length (runes text)) 32 in if f.minus then text ++ spaces else spaces ++ text
 
 -- a sign and digits with what they lack to the width: spaces behind them with the flag `-`, else
 -- with the flag `0` zeros between them, else spaces before them
 abbrev pub laid_out : Form → List ℕ → List ℕ → List ℕ
 laid_out f s ds =
-    if f.minus then s ++ (ds ++ replicate (f.width - (length s + length ds)) 32)
-    else (if f.zero then s ++ (replicate (f.width - (length s + length ds)) 48 ++ ds)
-    else replicate (f.width - (length s + length ds)) 32 ++ (s ++ ds))
+    let lacking = f.width - (length s + length ds) in
+    if f.minus then s ++ (ds ++ replicate lacking 32)
+    else (if f.zero then s ++ (replicate lacking 48 ++ ds) else replicate lacking 32 ++ (s ++ ds))

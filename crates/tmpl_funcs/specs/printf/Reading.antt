@@ -1,12 +1,12 @@
 -- The reading of a format from left to right: the one that `IsReading` admits.
-use Rattle.std.specs.Prelude.{ℕ, zero, suc, ◌+◌, ◌-◌, ◌&&◌, ◌==◌, Bool, true, List, [], ◌∷◌, length, drop, slice_get}
-use Rattle.std.specs.Prelude.{slice_index, Option, Some, None, find, option_map, option_and_then, if◌then◌else◌}
+use Rattle.std.specs.Prelude.{ℕ, zero, suc, ◌+◌, ◌-◌, ◌&&◌, ◌==◌, nat_le, Bool, true, List, [], ◌∷◌, length, drop}
+use Rattle.std.specs.Prelude.{slice_get, slice_index, Option, Some, None, find, option_map, option_and_then, if◌then◌else◌}
 use Rattle.std.specs.Char.{is_ascii_digit}
 use Rattle.std.specs.List.{prefix_len, take_while}
 use Rattle.std.specs.Option.{option_map_or}
 use Rattle.std.specs.Str.{byte}
 use Rattle.tmpl_funcs.specs.printf.Form.{WrittenForm, Segment, literal, percent, form, is_plain, is_flag}
-use Rattle.tmpl_funcs.specs.printf.Form.{is_short, takes_precision}
+use Rattle.tmpl_funcs.specs.printf.Form.{takes_precision}
 use Rattle.tmpl_funcs.specs.declared.printf.form.Verb.{Verb}
 use Rattle.tmpl_funcs.specs.declared.printf.form.Verb.TheVariants.{Value, Decimal, Octal, Binary, Hex, UpperHex, Text}
 use Rattle.tmpl_funcs.specs.declared.printf.form.Verb.TheVariants.{Quoted, Char, Truth}
@@ -25,12 +25,12 @@ verb_of b = option_map (λ p. p.1) (find (λ p. b == p.0) verbs)
 abbrev pub behind : (ℕ → Bool) → List ℕ → List ℕ
 behind p bs = drop (prefix_len p bs) bs
 
--- the form of these parts, where the letter of a verb stands next: width and precision are short, and the verb may have
--- the precision
+-- the form of these parts, where the letter of a verb stands next: width and precision have at most four digits, and
+-- the verb may have the precision
 abbrev pub verb_behind : List ℕ → List ℕ → Option (List ℕ) → List ℕ → Option WrittenForm
 verb_behind flags width precision bs =
     option_and_then (λ verb.
-    if is_short width && option_map_or (λ digits. is_short digits && takes_precision verb) precision true
+    if nat_le (length width) 4 && option_map_or (λ ds. nat_le (length ds) 4 && takes_precision verb) precision true
     then Some (record { flags = flags; width = width; precision = precision; verb = verb })
     else None) (option_and_then verb_of (slice_get bs 0))
 

@@ -1,8 +1,17 @@
--- A part of a quote.
-use Rattle.std.specs.Prelude.{ℕ, Bool, List}
+-- Parts of a quote.
+use Rattle.std.specs.Prelude.{ℕ, ◌||◌, ◌==◌, nat_lt, Bool, List, [], ◌∷◌, Option, if◌then◌else◌}
+use Rattle.std.specs.Char.{encode_utf8}
 use Rattle.std.specs.List.{flat_map}
-use Rattle.tmpl_values.specs.Quote.{spelling}
+use Rattle.std.specs.Option.{option_map_or}
+use Rattle.tmpl_values.specs.Quote.{hexes, spelling}
 use Rattle.tmpl_values.specs.Rune.{runes}
+
+-- a character by this letter, if it has one
+abbrev pub rune_spelling : (ℕ → Bool) → ℕ → Option ℕ → List ℕ
+rune_spelling prints c letter = option_map_or (λ e. 92 ∷ e ∷ []) letter
+    (if prints c then encode_utf8 c
+    else (if nat_lt c 32 || c == 127 then 92 ∷ 120 ∷ hexes 2 c
+    else (if nat_lt c 65536 then 92 ∷ 117 ∷ hexes 4 c else 92 ∷ 85 ∷ hexes 8 c)))
 
 -- what stands between the quotation marks
 abbrev pub inside : (ℕ → Bool) → List ℕ → List ℕ
