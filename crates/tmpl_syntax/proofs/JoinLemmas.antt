@@ -8,7 +8,7 @@ use Rattle.tmpl_lex.specs.Bytes.{is_space, Absent, BeginsNone, Stops}
 use Rattle.tmpl_lex.specs.Cut.{a_comment, an_action as tokens_closed, Leads, Cuts, last, closed}
 use Rattle.tmpl_lex.specs.Delimiter.{IsLeftMarker, left_marker, opens, opens_marked, closes}
 use Rattle.tmpl_lex.specs.Piece.{Piece, text, action}
-use Rattle.tmpl_lex.specs.Text.{newlines, text_piece, keeps_front, keeps_end, trims_end, Texts, trimmed}
+use Rattle.tmpl_lex.specs.Text.{newlines, text_piece, keeps, trims, Texts, trimmed}
 use Rattle.tmpl_lex.proofs.PartLemmas.{absent-rest, absent-here, absent-nil, absent-one, absent-cons}
 use Rattle.tmpl_syntax.specs.Print.Join.{Part, a_text, an_action, ends_brace, opening, parting, before_of, file_of, AreParts, no_piece}
 use Rattle.tmpl_syntax.specs.Print.Join.{same_text, same_action, HasParts, CutsBack}
@@ -42,12 +42,12 @@ texts-whole : (line : ℕ) (t : List ℕ) → Texts false false line t (text_pie
 texts-whole line t =
     let n : line + newlines [] ≡ line = omega arith in
     subst (λ (bs : List ℕ). Texts false false line bs (text_piece line t)) (append-nil t)
-    (subst (λ (k : ℕ). Texts false false line (t ++ []) (text_piece k t)) n (trimmed keeps_front keeps_end))
+    (subst (λ (k : ℕ). Texts false false line (t ++ []) (text_piece k t)) n (trimmed t [] keeps keeps))
 
 texts-spaced : (line : ℕ) (t : List ℕ) → ends_brace t ≡ true → Texts false true line (t ++ 32 ∷ []) (text_piece line t)
 texts-spaced line t e =
     let n : line + newlines [] ≡ line = omega arith in
-    subst (λ (k : ℕ). Texts false true line (t ++ 32 ∷ []) (text_piece k t)) n (trimmed keeps_front (trims_end refl (brace-stops t e)))
+    subst (λ (k : ℕ). Texts false true line (t ++ 32 ∷ []) (text_piece k t)) n (trimmed t (32 ∷ []) keeps (trims (record { passes = refl; longest = brace-stops t e })))
 
 abbrev opened_by : Bool → List ℕ
 opened_by k = if k then codes " {{- " else codes "{{"
