@@ -11,10 +11,11 @@ use Rattle.tmpl_syntax.specs.declared.tree.Tree as held
 use Rattle.tmpl_syntax.specs.Language.{every_branch}
 use Rattle.tmpl_syntax.specs.Item.{Item}
 use Rattle.tmpl_syntax.specs.Place.Role.{roles_of}
-use Rattle.tmpl_syntax.specs.Place.Body.{Verdict, fine, Judged}
+use Rattle.tmpl_syntax.specs.computed.Frames.{Verdict, fine, Judged}
 use Rattle.tmpl_syntax.specs.Set.{Template, has_name, tree_named, is_blank, chosen, defined, defined_each}
 use Rattle.tmpl_syntax.specs.Kept.{IsKept, AreKept}
-use Rattle.tmpl_syntax.specs.Parse.{last_line, base_name, most_bytes, all_defined, template_in}
+use Rattle.tmpl_syntax.specs.Parse.{base_name, most_bytes, all_defined, template_in}
+use Rattle.tmpl_syntax.specs.computed.Parse.{last_line}
 use Rattle.tmpl_syntax.specs.Formed.{IsFormed, AreFormed}
 use Rattle.tmpl_syntax.specs.Need.{NeedAtMost, most_need}
 use Rattle.tmpl_syntax.specs.Print.Printable.{IsPrintable, ArePrintable}

@@ -10,7 +10,8 @@ use Rattle.tmpl_grammar.specs.computed.Operand.{operand_at}
 use Rattle.tmpl_grammar.specs.computed.Parser.{step, finished}
 use Rattle.tmpl_grammar.specs.computed.Reading.{keyword_of, split, pipeline_in, action_in}
 use Rattle.tmpl_syntax.specs.Language.{Branches, go_1_22}
-use Rattle.tmpl_syntax.specs.Item.{Item, item, unread_item, action_item, IsItem}
+use Rattle.tmpl_syntax.specs.Fault as reason
+use Rattle.tmpl_syntax.specs.Item.{Item, item, flawed_item, action_item, IsItem}
 use Rattle.tmpl_syntax.proofs.ItemLemmas.{item_for, piece-item}
 
 -- a language of no else branches
@@ -35,9 +36,9 @@ an-else-if : IsItem go_1_22 (action 1 else_if) (item 1 (action_item (else_branch
 unfolding action_in keyword_of split pipeline_in operand_at step finished
 an-else-if = reads go_1_22 else_if (item 1 (action_item (else_branch if_branch of_dot))) refl
 
-an-else-if-that-is-none : IsItem without (action 1 else_if) (item 1 unread_item)
+an-else-if-that-is-none : IsItem without (action 1 else_if) (item 1 (flawed_item reason.not_an_action))
 unfolding action_in keyword_of split pipeline_in operand_at step finished
-an-else-if-that-is-none = reads without else_if (item 1 unread_item) refl
+an-else-if-that-is-none = reads without else_if (item 1 (flawed_item reason.not_an_action)) refl
 
 an-else-without-branches : IsItem without (action 1 else_alone) (item 1 (action_item plain_else))
 unfolding action_in keyword_of split pipeline_in

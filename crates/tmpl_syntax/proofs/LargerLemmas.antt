@@ -8,8 +8,8 @@ use Rattle.tmpl_syntax.specs.Fault as reason
 use Rattle.tmpl_syntax.specs.Language.{Branches, every_branch, go_1_22, has_action}
 use Rattle.tmpl_syntax.specs.Item.{Item, IsItem, a_text, an_unreadable, unread, too_deep, read}
 use Rattle.std.specs.List.{AllZip}
-use Rattle.tmpl_syntax.specs.Place.Role.{Role, unread_role, role_of, roles_of}
-use Rattle.tmpl_syntax.specs.Place.Body.{NoneRefused, unread as unread_applies}
+use Rattle.tmpl_syntax.specs.Place.Role.{Role, flawed, role_of, roles_of}
+use Rattle.tmpl_syntax.specs.Place.Body.{NoneRefused, flawed as flawed_applies}
 use Rattle.tmpl_syntax.specs.Laws.{IsLarger, AcceptsInLarger}
 use Rattle.tmpl_syntax.proofs.VerdictLemmas.{within}
 use Rattle.tmpl_syntax.proofs.ReadingLemmas.{parsed-accepted, accepted, refusal-for}
@@ -22,17 +22,17 @@ use Rattle.tmpl_syntax.specs.declared.fault.Refusal as held
 
 -- no item of these is unread
 abbrev AllRead : List Role → Type 0
-AllRead xs = (k : ℕ) → slice_get xs k ≡ Some unread_role → ⊥
+AllRead xs = (k : ℕ) → slice_get xs k ≡ Some (flawed reason.not_an_action) → ⊥
 
 all-read : (xs : List Role) → NoneRefused xs (length xs) → AllRead xs
-all-read xs none k at = none k reason.not_an_action (within xs k reason.not_an_action (unread_applies at)) (unread_applies at)
+all-read xs none k at = none k reason.not_an_action (within xs k reason.not_an_action (flawed_applies at)) (flawed_applies at)
 
 module _ (large small : Branches) (more : IsLarger large small) where
   has-more : (a : Action) → has_action small a ≡ true → has_action large a ≡ true
   has-more (else_branch b h) t = more b t
   has-more _ t = refl
 
-  same-item : {p : Piece} {x : Item} → IsItem small p x → (role_of x ≡ unread_role → ⊥) → IsItem large p x
+  same-item : {p : Piece} {x : Item} → IsItem small p x → (role_of x ≡ flawed reason.not_an_action → ⊥) → IsItem large p x
   same-item a_text h = a_text
   same-item an_unreadable h = an_unreadable
   same-item (unread none) h = absurd (h refl)

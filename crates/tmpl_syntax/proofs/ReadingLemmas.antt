@@ -1,13 +1,19 @@
 -- For `one_outcome`: a file is accepted or refused just as the function says.
-use Rattle.std.proofs.Common.{arith, ◌≡◌, ◌<◌, ◌≤◌, ℕ, zero, suc, List, [], ◌∷◌, Option, Some, None, Result, Ok, Err, refl, sym, ap, subst, ◌∙◌, length, ⊎_elim}
+use Rattle.std.proofs.Common.{arith, ◌≡◌, ◌⊎◌, inl, inr, ◌<◌, ◌≤◌, ℕ, zero, suc, List, [], ◌∷◌, Option, Some, None, Result, Ok, Err, refl, sym, ap, subst, ◌∙◌, length, ⊎_elim}
 use Rattle.std.specs.Prelude.{slice_get}
 use Rattle.std.proofs.lemmas.Bool.{cases_lt}
 use Rattle.std.proofs.lemmas.List.{length-map}
+use Rattle.tmpl_lex.specs.Piece as piece
+use Rattle.tmpl_lex.specs.computed.Cut.{cut_of}
+use Rattle.tmpl_grammar.specs.computed.Depth.{Reading, unread, too_deep, read}
+use Rattle.tmpl_grammar.specs.computed.Reading.{reading_in}
+use Rattle.tmpl_syntax.specs.computed.Item.{read_item, items_in}
 use Rattle.tmpl_syntax.specs.Language.{every_branch}
-use Rattle.tmpl_syntax.specs.Fault.{Reason, open_at_end, too_long, second_definition}
+use Rattle.tmpl_syntax.specs.Fault.{Reason, unreadable, not_an_action, open_at_end, too_long, second_definition}
 use Rattle.tmpl_syntax.specs.Item.{ItemKind, Item, item, HasItems}
-use Rattle.tmpl_syntax.specs.Place.Role.{role_of, roles_of}
-use Rattle.tmpl_syntax.specs.Place.Body.{Applies, unreadable, Verdict, fine, refused, left_open, Judged}
+use Rattle.tmpl_syntax.specs.Place.Role.{flawed, role_of, roles_of}
+use Rattle.tmpl_syntax.specs.Place.Body.{Applies, flawed as flawed_applies}
+use Rattle.tmpl_syntax.specs.computed.Frames.{Verdict, fine, refused, left_open, Judged}
 use Rattle.tmpl_syntax.specs.computed.Frames.{verdict_of}
 use Rattle.tmpl_syntax.specs.Tree.{Nodes, Definition}
 use Rattle.tmpl_syntax.specs.Spelling.{Spells}
@@ -16,7 +22,8 @@ use Rattle.tmpl_syntax.specs.Set.{Template}
 use Rattle.tmpl_syntax.specs.Laws.{HasOutcome, HasOneOutcome, AcceptsAsParsed, RefusesAsParsed}
 use Rattle.tmpl_syntax.specs.computed.Parse.{Refusal, IsRefusal, line_in, line_at, by_verdict, checked, second_in, unless_second, definitions_or}
 use Rattle.tmpl_syntax.specs.computed.Parse.{all_from, items_of, placed, parsed}
-use Rattle.tmpl_syntax.specs.Parse.{last_line, base_name, most_bytes, all_defined, IsAccepted, IsRefusedBy, Parses, ParsesUnless}
+use Rattle.tmpl_syntax.specs.Parse.{base_name, most_bytes, all_defined, IsAccepted, IsRefusedBy, Parses, ParsesUnless}
+use Rattle.tmpl_syntax.specs.computed.Parse.{last_line}
 use Rattle.tmpl_syntax.proofs.ItemLemmas.{has-items, no-others}
 use Rattle.tmpl_syntax.proofs.VerdictLemmas.{within, one-verdict, judged-all}
 use Rattle.tmpl_syntax.proofs.SecondLemmas.{none-second, has-second, second-none, second-some}
@@ -49,10 +56,30 @@ module _ (set : List Template) (file bytes : List ℕ) where
 
   -- ---- from the function
 
+  -- what is flawed in a file has no other reason than these
+  flawed-read : (ps : List piece.Piece) (i : ℕ) (why : Reason) → slice_get (roles_of (items_in ps)) i ≡ Some (flawed why)
+      → (why ≡ unreadable) ⊎ (why ≡ not_an_action)
+  flawed-read [] i why e = cc
+  flawed-read (p ∷ ps) (suc i) why e = flawed-read ps i why e
+  flawed-read (piece.text line bs ∷ ps) zero why e = cc
+  flawed-read (piece.unreadable line ∷ ps) zero why e = inl (cc)
+  flawed-read (piece.action line ts ∷ ps) zero why e = by (reading_in ts) e
+    where
+      by : (r : Reading) → Some (role_of (item line (read_item r))) ≡ Some (flawed why) → (why ≡ unreadable) ⊎ (why ≡ not_an_action)
+      by unread e = inr (cc)
+      by (too_deep b) e = cc
+      by (read a) e = grind arith
+
   -- what applies to an item is no reason that is asked for at the front or at the end of a file
   refused-as : (line : ℕ) (why : Reason) → {i : ℕ} → Applies (roles_of (items_of bytes)) i why → length bytes ≤ most_bytes
       → IsRefusedAt (items_of bytes) line why → IsRefusedBy every_branch file bytes line why
-  refused-as line _ (unreadable a) h r = (h, items_of bytes, has-items bytes, r)
+  refused-as line why {i} (flawed_applies a) h r = ⊎_elim
+      (λ e. subst Becomes (sym e) (λ r. (h, items_of bytes, has-items bytes, r)) r)
+      (λ e. subst Becomes (sym e) (λ r. (h, items_of bytes, has-items bytes, r)) r)
+      (flawed-read (cut_of bytes) i why a)
+    where
+      Becomes : Reason → Type 0
+      Becomes w = IsRefusedAt (items_of bytes) line w → IsRefusedBy every_branch file bytes line w
   refused-as line _ _ h r = (h, items_of bytes, has-items bytes, r)
 
   pub outcome : Parses set file bytes (parsed set file bytes)

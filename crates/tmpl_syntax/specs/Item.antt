@@ -7,14 +7,15 @@ use Rattle.tmpl_lex.specs.Piece.{Token, Piece, text, action, unreadable}
 use Rattle.tmpl_grammar.specs.Action.{Action, branch_in, SpellsAction}
 use Rattle.tmpl_grammar.specs.Depth.{depth_of, most_deep}
 use Rattle.tmpl_grammar.specs.declared.action.Branch.{Branch}
+use Rattle.tmpl_syntax.specs.Fault as reason
+use Rattle.tmpl_syntax.specs.Fault.{Reason}
 use Rattle.tmpl_syntax.specs.Language.{Branches, has_action}
 
--- a text, an action that is unreadable, one that has no reading, one whose parentheses nest too deep, where it is an
--- else branch of this control, or one that is read
+-- a text, an action that is unreadable or has no reading and is refused for this reason, one whose parentheses nest too
+-- deep, where it is an else branch of this control, or one that is read
 pub data ItemKind : Type 0 where
   text_item : List ℕ → ItemKind
-  unreadable_item : ItemKind
-  unread_item : ItemKind
+  flawed_item : Reason → ItemKind
   deep_item : Option Branch → ItemKind
   action_item : Action → ItemKind
 
@@ -25,11 +26,11 @@ pub data Item : Type 0 where
 -- in a language of these else branches, a piece is read as this item
 pub data IsItem (branches : Branches) : Piece → Item → Type 0 where
   a_text : {line : ℕ} {bytes : List ℕ} → IsItem branches (text line bytes) (item line (text_item bytes))
-  an_unreadable : {line : ℕ} → IsItem branches (unreadable line) (item line unreadable_item)
+  an_unreadable : {line : ℕ} → IsItem branches (unreadable line) (item line (flawed_item reason.unreadable))
   -- tokens that spell no action of the language
   unread : {line : ℕ} {ts : List Token}
       → ((a : Action) → SpellsAction a ts → has_action branches a ≡ true → ⊥)
-      → IsItem branches (action line ts) (item line unread_item)
+      → IsItem branches (action line ts) (item line (flawed_item reason.not_an_action))
   -- tokens that spell one whose parentheses nest too deep
   too_deep : {line : ℕ} {ts : List Token} (a : Action)
       → SpellsAction a ts → has_action branches a ≡ true → most_deep < depth_of a

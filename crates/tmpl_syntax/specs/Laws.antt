@@ -5,7 +5,7 @@ use Rattle.tmpl_syntax.specs.Tree.{Nodes, Definition}
 use Rattle.tmpl_syntax.specs.Language.{Branches, every_branch}
 use Rattle.tmpl_syntax.specs.Item.{Item, HasItems}
 use Rattle.tmpl_syntax.specs.Place.Role.{Role, roles_of}
-use Rattle.tmpl_syntax.specs.Place.Body.{Verdict, fine, Judged}
+use Rattle.tmpl_syntax.specs.computed.Frames.{Verdict, fine, Judged}
 use Rattle.tmpl_syntax.specs.computed.Frames.{verdict_of}
 use Rattle.tmpl_syntax.specs.Spelling.{Spells}
 use Rattle.tmpl_syntax.specs.Formed.{IsFormed, AreFormed}

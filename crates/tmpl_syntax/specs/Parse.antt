@@ -10,15 +10,11 @@ use Rattle.tmpl_syntax.specs.Tree.{Nodes, Definition}
 use Rattle.tmpl_syntax.specs.Language.{Branches, every_branch, go_1_22}
 use Rattle.tmpl_syntax.specs.Item.{ItemKind, Item, item, HasItems}
 use Rattle.tmpl_syntax.specs.Place.Role.{roles_of}
-use Rattle.tmpl_syntax.specs.Place.Body.{fine, refused, left_open, Judged}
+use Rattle.tmpl_syntax.specs.Place.Body.{IsFine, IsFirstRefused, IsLeftOpen}
 use Rattle.tmpl_syntax.specs.Spelling.{definition, Spells}
 use Rattle.tmpl_syntax.specs.Fault.{Reason, open_at_end, too_long, second_definition, reason_of}
 use Rattle.tmpl_syntax.specs.Set.{Template, is_blank, defined_each}
 use Rattle.tmpl_syntax.specs.declared.fault.ParseFault.{ParseFault}
-
--- the line of the end of a file
-abbrev pub last_line : List ℕ → ℕ
-last_line bytes = newlines bytes + 1
 
 -- the part of a path after its last `/`
 abbrev pub base_name : List ℕ → List ℕ
@@ -61,22 +57,22 @@ pub record IsAccepted (branches : Branches) (old : List Template) (file bytes : 
   pub short : length bytes ≤ most_bytes
   pub items : List Item
   pub has : HasItems branches bytes items
-  pub judged : Judged (roles_of items) fine
+  pub judged : IsFine (roles_of items)
   pub definitions : List Definition
   pub own : Nodes
   pub spells : Spells items definitions own
   pub once : NoneSecond (all_defined file definitions own)
   pub set : new ≡ defined_each old (map (template_in file) (all_defined file definitions own))
 
--- these items of a file are refused at this line, for this reason: something is open at their end, they spell a second
--- definition, or the item at a place is the first that is refused, for this reason, and this is its line
+-- these items of a file are refused at this line, for this reason: something is open at their end, on the last line; they
+-- spell a second definition; or the item at a place is the first that is refused, for this reason, and this is its line
 abbrev pub AreRefused : List ℕ → List ℕ → List Item → ℕ → Reason → Type 0
-AreRefused file bytes items line open_at_end = Judged (roles_of items) left_open × (line ≡ last_line bytes)
+AreRefused file bytes items line open_at_end = IsLeftOpen (roles_of items) × (line ≡ newlines bytes + 1)
 AreRefused file bytes items line second_definition =
-    Judged (roles_of items) fine × (ds : List Definition) × (own : Nodes) × Spells items ds own
+    IsFine (roles_of items) × (ds : List Definition) × (own : Nodes) × Spells items ds own
     × HasSecond (all_defined file ds own) line
 AreRefused file bytes items line why =
-    (i : ℕ) × (what : ItemKind) × Judged (roles_of items) (refused i why) × (slice_get items i ≡ Some (item line what))
+    (i : ℕ) × (what : ItemKind) × IsFirstRefused (roles_of items) i why × (slice_get items i ≡ Some (item line what))
 
 -- a file of this path and these bytes is refused at this line, for this reason
 abbrev pub IsRefusedBy : Branches → List ℕ → List ℕ → ℕ → Reason → Type 0

@@ -9,7 +9,7 @@ use Rattle.tmpl_syntax.specs.Language.{Branches, every_branch}
 use Rattle.tmpl_syntax.specs.Item.{Item, item, text_item, action_item, HasItems}
 use Rattle.tmpl_syntax.specs.Spelling.{Spells}
 use Rattle.tmpl_syntax.specs.Place.Role.{roles_of}
-use Rattle.tmpl_syntax.specs.Place.Body.{fine, Judged}
+use Rattle.tmpl_syntax.specs.Place.Body.{IsFine}
 use Rattle.tmpl_syntax.specs.Print.Printed.{Said, said_text, said, nodes_said, printed, printed_set, unlined}
 use Rattle.tmpl_syntax.specs.Print.Printable.{IsPrintable, ArePrintable}
 
@@ -44,8 +44,8 @@ KeepsPrintable =
 -- items that say what the nodes of an accepted list's own template say are accepted
 abbrev pub AcceptsBack : Type 0
 AcceptsBack =
-    (items : List Item) (ds : List Definition) (own : Nodes) → Judged (roles_of items) fine → Spells items ds own
-    → (read : List Item) → Says (nodes_said own) read → Judged (roles_of read) fine
+    (items : List Item) (ds : List Definition) (own : Nodes) → IsFine (roles_of items) → Spells items ds own
+    → (read : List Item) → Says (nodes_said own) read → IsFine (roles_of read)
 
 -- ---- sets
 
