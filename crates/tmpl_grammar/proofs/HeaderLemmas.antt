@@ -104,7 +104,8 @@ split-bound (declare_pair key name) p ts s =
     (s.6.6.6.2, simp (variable-is key kind.Comma refl s, variable-is name kind.Declare refl s.6.6), s.6.6.6.6)
 
 pub header-read : (in_range : Bool) (h : Header) (ts : List Token) → SpellsHeader in_range h ts → header_in in_range ts ≡ Some h
-header-read in_range h ts k = let parts = binding-parts in_range h.binding _ ts k in let may = parts.0 in let s = parts.1 in grind (arith, reads-spelled, split-bound)
+header-read in_range h ts k =
+    let parts = binding-parts in_range h.binding _ ts k in let may = parts.0 in let s = parts.1 in grind (arith, reads-spelled, split-bound)
 
 pub header-admitted : (in_range : Bool) (ts : List Token) → IfSome (header_in in_range ts) (λ h. SpellsHeader in_range h ts)
 unfolding split
@@ -116,7 +117,8 @@ header-admitted in_range ts = by (variable_front ts) (variable-tells ts)
     bound b us f = allowed (may_bind in_range b) refl
       where
         allowed : (t : Bool) → may_bind in_range b ≡ t → IfSome (header_if t b (pipeline_in us)) (λ h. SpellsHeader in_range h ts)
-        allowed true may = mapped (header_with b) (λ h. SpellsHeader in_range h ts) _ (pipeline-admitted us) (λ p s. binding-whole in_range b _ ts may (f (SpellsPipeline p) s))
+        allowed true may = mapped (header_with b) (λ h. SpellsHeader in_range h ts) _ (pipeline-admitted us)
+            (λ p s. binding-whole in_range b _ ts may (f (SpellsPipeline p) s))
         allowed false may = tt
 
     by-second : (key : List ℕ) (us : List Token) → VariableAs ts (Some (record { name = key; next_kind = kind.Comma; rest = us }))

@@ -1,5 +1,6 @@
 -- For `printed_tokens` and `printed_spelling`: a whole number in decimal is one token, and is read as it.
-use Rattle.std.proofs.Common.{arith, ◌≡◌, ◌⊎◌, inl, inr, codes, ℕ, zero, suc, ◌^◌, ◌<◌, true, List, [], ◌∷◌, ◌++◌, append_assoc, get_or, refl, sym, subst, pos, negsuc}
+use Rattle.std.proofs.Common.{arith, ◌≡◌, ◌⊎◌, inl, inr, codes, ℕ, zero, suc, ◌^◌, ◌<◌, true, List, [], ◌∷◌, ◌++◌, append_assoc, get_or, refl, sym, subst}
+use Rattle.std.proofs.Common.{pos, negsuc}
 use lib.IntN.{ℤ}
 use lib.Signed.{mag}
 use Rattle.std.specs.Char.{is_ascii_digit}

@@ -12,7 +12,8 @@ use Rattle.tmpl_grammar.specs.Tree.{Operand, number_constant, text_constant}
 use Rattle.tmpl_grammar.specs.Constant.Integer.{IsInteger}
 use Rattle.tmpl_grammar.specs.Constant.Quoted.{SpellsRunes, code_of}
 
--- a number; the text of a string, by its runes; that of a raw string, without carriage returns; a character, which is one rune, by its code
+-- a number; the text of a string, by its runes; that of a raw string, without carriage returns; a character, which is
+-- one rune, by its code
 pub data IsConstant : Token → Operand → Type 0 where
   number : {bs : List ℕ} {n : ℤ} → IsInteger bs n → IsConstant (token kind.Number bs) (number_constant n)
   string : {bs : List ℕ} {rs : List Rune} → SpellsRunes (byte "\"") bs rs

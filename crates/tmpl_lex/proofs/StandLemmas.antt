@@ -306,7 +306,8 @@ begun-stands : (b : ℕ) (bs : List ℕ) → right_marked (b ∷ bs) ≡ false �
 begun-stands b bs m =
     let name = taken-run is_name_byte bs in
     by-test (is_space b) b bs _ _ (λ h. space-stands b bs h m) (λ s.
-    by-test (is_ascii_digit b) b bs _ _ (λ h. run-stands kind.Number is_number_byte b bs (table.number {sign = []} b (inl refl) h (taken-run is_number_byte bs))) (λ d.
+    by-test (is_ascii_digit b) b bs _ _
+    (λ h. run-stands kind.Number is_number_byte b bs (table.number {sign = []} b (inl refl) h (taken-run is_number_byte bs))) (λ d.
     by-test (is_name_byte b) b bs _ _
     (λ h. run-stands kind.Word is_name_byte b bs (table.word d (record { passes = simp (h, name.passes); longest = name.longest })))
     (λ n. marked-stands b bs)))

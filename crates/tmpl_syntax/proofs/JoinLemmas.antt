@@ -63,7 +63,8 @@ texts-whole line t =
 texts-spaced : (line : ℕ) (t : List ℕ) → ends_brace t ≡ true → Texts false true line (t ++ 32 ∷ []) (text_piece line t)
 texts-spaced line t e =
     let n : line + newlines [] ≡ line = omega arith in
-    subst (λ (k : ℕ). Texts false true line (t ++ 32 ∷ []) (text_piece k t)) n (trimmed t (32 ∷ []) keeps (trims (record { passes = refl; longest = brace-stops t e })))
+    subst (λ (k : ℕ). Texts false true line (t ++ 32 ∷ []) (text_piece k t)) n
+    (trimmed t (32 ∷ []) keeps (trims (record { passes = refl; longest = brace-stops t e })))
 
 abbrev opened_by : Bool → List ℕ
 opened_by k = if k then codes " {{- " else codes "{{"

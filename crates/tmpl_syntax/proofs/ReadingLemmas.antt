@@ -1,5 +1,6 @@
 -- For `one_outcome`: a file is accepted or refused just as the function says.
-use Rattle.std.proofs.Common.{arith, ◌≡◌, ◌⊎◌, inl, inr, ◌<◌, ◌≤◌, ℕ, zero, suc, List, [], ◌∷◌, Option, Some, None, Result, Ok, Err, refl, sym, ap, subst, ◌∙◌, length, ⊎_elim}
+use Rattle.std.proofs.Common.{arith, ◌≡◌, ◌⊎◌, inl, inr, ◌<◌, ◌≤◌, ℕ, zero, suc, List, [], ◌∷◌, Option, Some, None, Result, Ok, Err, refl, sym, ap, subst, ◌∙◌}
+use Rattle.std.proofs.Common.{length, ⊎_elim}
 use Rattle.std.specs.Prelude.{slice_get}
 use Rattle.std.proofs.lemmas.Bool.{cases_lt}
 use Rattle.std.proofs.lemmas.List.{length-map}
@@ -8,7 +9,7 @@ use Rattle.tmpl_lex.specs.computed.Cut.{cut_of}
 use Rattle.tmpl_grammar.specs.computed.Depth.{Reading, unread, too_deep, read}
 use Rattle.tmpl_grammar.specs.computed.Reading.{reading_in}
 use Rattle.tmpl_syntax.specs.computed.Item.{read_item, items_in}
-use Rattle.tmpl_syntax.specs.Language.{every_branch}
+use Rattle.tmpl_syntax.specs.Language.{every_action}
 use Rattle.tmpl_syntax.specs.Fault.{Reason, unreadable, not_an_action, open_at_end, too_long, second_definition}
 use Rattle.tmpl_syntax.specs.Item.{ItemKind, Item, item, HasItems}
 use Rattle.tmpl_syntax.specs.Place.Role.{flawed, role_of, roles_of}
@@ -72,14 +73,14 @@ module _ (set : List Template) (file bytes : List ℕ) where
 
   -- what applies to an item is no reason that is asked for at the front or at the end of a file
   refused-as : (line : ℕ) (why : Reason) → {i : ℕ} → Applies (roles_of (items_of bytes)) i why → length bytes ≤ most_bytes
-      → IsRefusedAt (items_of bytes) line why → IsRefusedBy every_branch file bytes line why
+      → IsRefusedAt (items_of bytes) line why → IsRefusedBy every_action file bytes line why
   refused-as line why {i} (flawed_applies a) h r = ⊎_elim
       (λ e. subst Becomes (sym e) (λ r. (h, items_of bytes, has-items bytes, r)) r)
       (λ e. subst Becomes (sym e) (λ r. (h, items_of bytes, has-items bytes, r)) r)
       (flawed-read (cut_of bytes) i why a)
     where
       Becomes : Reason → Type 0
-      Becomes w = IsRefusedAt (items_of bytes) line w → IsRefusedBy every_branch file bytes line w
+      Becomes w = IsRefusedAt (items_of bytes) line w → IsRefusedBy every_action file bytes line w
   refused-as line _ _ h r = (h, items_of bytes, has-items bytes, r)
 
   pub outcome : Parses set file bytes (parsed set file bytes)
@@ -117,10 +118,10 @@ module _ (set : List Template) (file bytes : List ℕ) where
           refused-as (line_at (items_of bytes) i) f j.0 short (i, it.0, j, it.1)
       by short left_open v = (short, items_of bytes, has-items bytes, (judged-by left_open v, refl))
 
-  pub accepted : (new : List Template) → parsed set file bytes ≡ Ok new → IsAccepted every_branch set file bytes new
+  pub accepted : (new : List Template) → parsed set file bytes ≡ Ok new → IsAccepted every_action set file bytes new
   accepted new e = subst (Parses set file bytes) e outcome
 
-  pub refusal : (line : ℕ) (reason : Reason) → parsed set file bytes ≡ Err (line, reason) → IsRefusedBy every_branch file bytes line reason
+  pub refusal : (line : ℕ) (reason : Reason) → parsed set file bytes ≡ Err (line, reason) → IsRefusedBy every_action file bytes line reason
   refusal line reason e = subst (Parses set file bytes) e outcome
 
   -- .. where memory may run out
@@ -131,31 +132,31 @@ module _ (set : List Template) (file bytes : List ℕ) where
   -- ---- to the function
 
   -- a file of items on which this is the verdict
-  verdict-as : (items : List Item) → HasItems every_branch bytes items → (v : Verdict) → Judged (roles_of items) v
+  verdict-as : (items : List Item) → HasItems every_action bytes items → (v : Verdict) → Judged (roles_of items) v
       → length bytes ≤ most_bytes
       → parsed set file bytes ≡ placed set file (definitions_or (by_verdict (last_line bytes) items v) (all_from (base_name file) items))
   verdict-as items has v j short = rw (no-others bytes items has) (short-by v short (one-verdict _ _ v (judged-all (roles_of (items_of bytes)))
       (subst (λ xs. Judged (roles_of xs) v) (no-others bytes items has) j)))
 
   -- .. which spell these definitions
-  fine-as : (items : List Item) → HasItems every_branch bytes items → (es : List Definition) (own : Nodes) → Judged (roles_of items) fine
+  fine-as : (items : List Item) → HasItems every_action bytes items → (es : List Definition) (own : Nodes) → Judged (roles_of items) fine
       → Spells items es own → length bytes ≤ most_bytes → (o : Option ℕ) → second_in (all_defined file es own) ≡ o
       → parsed set file bytes ≡ placed set file (unless_second o (all_defined file es own))
   fine-as items has es own j s short o second =
       let same = spells-built items es own s in
       verdict-as items has fine j short ∙ rw (same.0, same.1, second) refl
 
-  pub parsed-accepted : (new : List Template) → IsAccepted every_branch set file bytes new → parsed set file bytes ≡ Ok new
+  pub parsed-accepted : (new : List Template) → IsAccepted every_action set file bytes new → parsed set file bytes ≡ Ok new
   parsed-accepted new h =
       fine-as h.items h.has h.definitions h.own h.judged h.spells h.short None (second-none (all_defined file h.definitions h.own) h.once)
       ∙ ap (λ ts. Ok ts) (sym h.set)
 
-  refused-there-as : (line : ℕ) (why : Reason) → length bytes ≤ most_bytes → (items : List Item) → HasItems every_branch bytes items
+  refused-there-as : (line : ℕ) (why : Reason) → length bytes ≤ most_bytes → (items : List Item) → HasItems every_action bytes items
       → IsRefusedAt items line why → parsed set file bytes ≡ Err (line, why)
   refused-there-as line why short items has r =
       verdict-as items has (refused r.0 why) r.2 short ∙ ap (λ o. Err (line_in o, why)) r.3
 
-  pub parsed-refused : (line : ℕ) (reason : Reason) → IsRefusedBy every_branch file bytes line reason → parsed set file bytes ≡ Err (line, reason)
+  pub parsed-refused : (line : ℕ) (reason : Reason) → IsRefusedBy every_action file bytes line reason → parsed set file bytes ≡ Err (line, reason)
   parsed-refused line too_long (long, at) = parsed-long set file bytes long ∙ ap (λ n. Err (n, too_long)) (sym at)
   parsed-refused line open_at_end (short, items, has, (j, at)) = verdict-as items has left_open j short ∙ ap (λ n. Err (n, open_at_end)) (sym at)
   parsed-refused line second_definition (short, items, has, (j, es, own, s, second)) =

@@ -3,7 +3,8 @@ use Rattle.std.proofs.Common.{◌≡◌, ℕ, Bool, true, false, not, ◌||◌, 
 use Rattle.std.proofs.lemmas.List.{map-append}
 use Rattle.std.proofs.lemmas.Bool.{and_parts, not-true, or_right}
 use Rattle.tmpl_syntax.specs.Fault.{Reason}
-use Rattle.tmpl_syntax.specs.computed.Frames.{Frame, Known, none_known, top, takes_else, names_at, fault_at, frames_after, unless_fault, verdict_from, verdict_of}
+use Rattle.tmpl_syntax.specs.computed.Frames.{Frame, Known, none_known, top, takes_else, names_at, fault_at, frames_after, unless_fault, verdict_from}
+use Rattle.tmpl_syntax.specs.computed.Frames.{verdict_of}
 use Rattle.tmpl_syntax.specs.Tree.{NodeKind, template_node, Nodes, none, Definition}
 use Rattle.tmpl_grammar.specs.Action.{pipeline_action, opening, plain_else, else_branch, end_action, break_action, continue_action}
 use Rattle.tmpl_grammar.specs.Action.{define_action, template_action, block_action}

@@ -24,9 +24,9 @@ pub record Names : Type 0 where
   pub uses : List Name
 
 -- plain is a text, or an action that puts out or binds a value or runs a template; an opener opens a control or a
--- template, an else_part is an else, which may begin with a control of its own, a closer is an `end`, and a jump a break
--- or continue; nested are actions whose parentheses nest too deep, of which an else branch alone may be out of place;
--- and what is flawed is refused for this reason wherever it stands
+-- template, an else_part is an else, which may begin with a control of its own, a closer is an `end`, and a jump a
+-- break or continue; nested are actions whose parentheses nest too deep, of which an else branch alone may be out of
+-- place; and what is flawed is refused for this reason wherever it stands
 pub data Role : Type 0 where
   plain : Names → Role
   opener : Opening → Names → Role

@@ -53,8 +53,8 @@ abbrev mutual
 
 -- ---- the bytes
 
--- what opens an action or a comment behind a text, or behind none: `{{`, or, behind a text that ends in `{`, a space and
--- a left trim marker that takes it
+-- what opens an action or a comment behind a text, or behind none: `{{`, or, behind a text that ends in `{`, a space
+-- and a left trim marker that takes it
 abbrev pub opening_behind : Option (List ℕ) → List ℕ
 opening_behind None = codes "{{"
 opening_behind (Some t) = if ends_with nat_eq t (codes "{") then codes " {{- " else codes "{{"

@@ -131,8 +131,8 @@ fn enter_template(
     requires levels { is_level (opening_of opening) ≡ true
         → levels (top (frames_in stack.old.items)) < body.most_levels }
     ensures frames { IfOk result (λ u. frames_in stack.new.items
-        ≡ entered (opening_of opening) (role.names_given None) (top (frames_in stack.old.items)) (scopes_of scopes.old).inner
-        ∷ frames_in stack.old.items) }
+        ≡ entered (opening_of opening) (role.names_given None) (top (frames_in stack.old.items))
+        (scopes_of scopes.old).inner ∷ frames_in stack.old.items) }
     ensures names { IfOk result (λ u. scopes_of scopes.new
         ≡ opened_names (opening_of opening) [] (scopes_of scopes.old)) }
 {
