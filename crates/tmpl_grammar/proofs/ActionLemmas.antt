@@ -11,7 +11,7 @@ use Rattle.tmpl_grammar.specs.Tree.{Operand, text_constant, Pipeline, Binding, u
 use Rattle.tmpl_grammar.specs.Action.{Action, pipeline_action, opening, plain_else, else_branch, end_action, break_action, continue_action}
 use Rattle.tmpl_grammar.specs.Action.{define_action, template_action, block_action, control_in, IsQuoted, SpellsGiven, SpellsAction}
 use Rattle.tmpl_grammar.specs.Pipeline.{IsBlank, SpellsPipeline}
-use Rattle.tmpl_grammar.specs.Header.{is_range, IsVariable, Then, SpellsBinding, SpellsHeader}
+use Rattle.tmpl_grammar.specs.Header.{is_range, IsVariable, Then, SpellsHeader}
 use Rattle.tmpl_grammar.specs.Keyword.{IsWord}
 use Rattle.tmpl_grammar.specs.Constant.{IsConstant}
 use Rattle.tmpl_grammar.specs.computed.Keyword.{spelling}
@@ -30,7 +30,7 @@ use Rattle.tmpl_grammar.proofs.TokenLemmas.{AtNext, at-next, no-next, blank-next
 use Rattle.tmpl_grammar.proofs.StrayLemmas.{word-stray, none-stray, none-blank}
 use Rattle.tmpl_grammar.proofs.IsConstantLemmas.{computes-constant, constant-admitted}
 use Rattle.tmpl_grammar.proofs.PipelineLemmas.{reads-spelled, pipeline-admitted}
-use Rattle.tmpl_grammar.proofs.HeaderLemmas.{variable-other, header-read, header-admitted}
+use Rattle.tmpl_grammar.proofs.HeaderLemmas.{variable-other, Bound, binding-parts, header-read, header-admitted}
 
 -- ---- keywords
 
@@ -87,7 +87,7 @@ pipeline-plain cs ts s = by (next ts) (at-next ts)
     by None b = none-blank cs ts b s
     by (Some p) b = by-keyword p.0 p.1 b.0 b.1 (keyword_of p.0) (known-word p.0)
 
-header-plain : (b : Binding) (p : Pipeline) (ts : List Token) → SpellsBinding b (SpellsPipeline p) ts → IsPlain ts
+header-plain : (b : Binding) (p : Pipeline) (ts : List Token) → Bound b (SpellsPipeline p) ts → IsPlain ts
 header-plain unbound p ts s = pipeline-plain p ts s
 header-plain (declare name) p ts s = named-plain s
 header-plain (assign name) p ts s = named-plain s
@@ -118,7 +118,7 @@ given-read name (Some cs) vs s = by (is_blank vs) refl
 
 pub reads-action : IsComputed IsAction action_in
 unfolding action_in
-reads-action ts (pipeline_action h) s = header-plain h.binding h.pipeline ts s.1 ∙ simp (header-read false h ts s)
+reads-action ts (pipeline_action h) s = header-plain h.binding h.pipeline ts (binding-parts false h.binding _ ts s).1 ∙ simp (header-read false h ts s)
 reads-action ts (opening c h) s = keyed (word.Control c) s (simp (header-read (is_range c) h s.2 s.6))
 reads-action ts plain_else s = keyed word.Else s (simp (blank-next s.2 s.6))
 reads-action ts (else_branch br h) s =

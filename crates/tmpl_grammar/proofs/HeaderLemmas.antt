@@ -7,7 +7,8 @@ use Rattle.tmpl_grammar.specs.Token.{name_in}
 use Rattle.tmpl_grammar.specs.computed.Token.{is_space_kind, is_white, next}
 use Rattle.tmpl_grammar.specs.Tree.{Pipeline, Binding, unbound, declare, assign, declare_pair, Header}
 use Rattle.tmpl_grammar.specs.Pipeline.{SpellsPipeline}
-use Rattle.tmpl_grammar.specs.Header.{IsSign, IsVariable, Then, may_bind, SpellsBinding, SpellsHeader}
+use Rattle.tmpl_grammar.specs.Header.{IsSign, IsVariable, Then, SpellsBinding, SpellsHeader}
+use Rattle.tmpl_grammar.specs.Printable.{may_bind}
 use Rattle.tmpl_grammar.specs.computed.Reading.{pipeline_in, VariableFront, variable_by, variable_front_at, variable_front, plain, second_by, second_variable}
 use Rattle.tmpl_grammar.specs.computed.Reading.{front_by, front_of_variable, front_in, split_by, split, header_with, header_if, header_by, header_in}
 use Rattle.tmpl_grammar.proofs.PipelineLemmas.{reads-spelled, pipeline-admitted}
@@ -45,6 +46,31 @@ variable-tells ts = by (next ts) refl
 
 -- ---- headers
 
+-- what binds, whether or not the header may
+abbrev pub Bound : Binding → (List Token → Type 0) → List Token → Type 0
+Bound unbound Rest ts = Rest ts
+Bound (declare name) Rest ts = Then (IsVariable name) (Then (IsSign kind.Declare) Rest) ts
+Bound (assign name) Rest ts = Then (IsVariable name) (Then (IsSign kind.Assign) Rest) ts
+Bound (declare_pair key name) Rest ts = Then (IsVariable key) (Then (IsSign kind.Comma) (Then (IsVariable name) (Then (IsSign kind.Declare) Rest))) ts
+
+pub binding-parts : (in_range : Bool) (b : Binding) (Rest : List Token → Type 0) (ts : List Token) → SpellsBinding in_range b Rest ts
+    → (may_bind in_range b ≡ true) × Bound b Rest ts
+binding-parts in_range unbound Rest ts s = (refl, s)
+binding-parts in_range (declare name) Rest ts s = (refl, s)
+binding-parts false (assign name) Rest ts s = (refl, s)
+binding-parts true (declare_pair key name) Rest ts s = (refl, s)
+binding-parts true (assign name) Rest ts s = absurd s
+binding-parts false (declare_pair key name) Rest ts s = absurd s
+
+pub binding-whole : (in_range : Bool) (b : Binding) (Rest : List Token → Type 0) (ts : List Token) → may_bind in_range b ≡ true → Bound b Rest ts
+    → SpellsBinding in_range b Rest ts
+binding-whole in_range unbound Rest ts may s = s
+binding-whole in_range (declare name) Rest ts may s = s
+binding-whole false (assign name) Rest ts may s = s
+binding-whole true (declare_pair key name) Rest ts may s = s
+binding-whole true (assign name) Rest ts may s = cc
+binding-whole false (declare_pair key name) Rest ts may s = cc
+
 -- tokens of a pipeline have nothing in front of it
 plain-front : (ts : List Token) (cs : Pipeline) → SpellsPipeline cs ts → front_in ts ≡ plain
 plain-front ts cs s = by (variable_front ts) (variable-tells ts)
@@ -68,7 +94,7 @@ plain-front ts cs s = by (variable_front ts) (variable-tells ts)
     by (Some p) v = by-kind p.name p.next_kind p.rest v
 
 -- the tokens behind a binding
-split-bound : (b : Binding) (p : Pipeline) (ts : List Token) → SpellsBinding b (SpellsPipeline p) ts
+split-bound : (b : Binding) (p : Pipeline) (ts : List Token) → Bound b (SpellsPipeline p) ts
     → (us : List Token) × (split ts ≡ (b, us)) × SpellsPipeline p us
 unfolding split
 split-bound unbound p ts s = (ts, simp (plain-front ts p s), s)
@@ -78,19 +104,21 @@ split-bound (declare_pair key name) p ts s =
     (s.6.6.6.2, simp (variable-is key kind.Comma refl s, variable-is name kind.Declare refl s.6.6), s.6.6.6.6)
 
 pub header-read : (in_range : Bool) (h : Header) (ts : List Token) → SpellsHeader in_range h ts → header_in in_range ts ≡ Some h
-header-read in_range h ts k = grind (arith, reads-spelled, split-bound)
+header-read in_range h ts k =
+    let parts = binding-parts in_range h.binding _ ts k in let may = parts.0 in let s = parts.1 in grind (arith, reads-spelled, split-bound)
 
 pub header-admitted : (in_range : Bool) (ts : List Token) → IfSome (header_in in_range ts) (λ h. SpellsHeader in_range h ts)
 unfolding split
 header-admitted in_range ts = by (variable_front ts) (variable-tells ts)
   where
     -- a binding, and a pipeline behind it
-    bound : (b : Binding) (us : List Token) → ((R : List Token → Type 0) → R us → SpellsBinding b R ts)
+    bound : (b : Binding) (us : List Token) → ((R : List Token → Type 0) → R us → Bound b R ts)
         → IfSome (header_by in_range (b, us)) (λ h. SpellsHeader in_range h ts)
     bound b us f = allowed (may_bind in_range b) refl
       where
         allowed : (t : Bool) → may_bind in_range b ≡ t → IfSome (header_if t b (pipeline_in us)) (λ h. SpellsHeader in_range h ts)
-        allowed true may = mapped (header_with b) (λ h. SpellsHeader in_range h ts) _ (pipeline-admitted us) (λ p s. (may, f (SpellsPipeline p) s))
+        allowed true may = mapped (header_with b) (λ h. SpellsHeader in_range h ts) _ (pipeline-admitted us)
+            (λ p s. binding-whole in_range b _ ts may (f (SpellsPipeline p) s))
         allowed false may = tt
 
     by-second : (key : List ℕ) (us : List Token) → VariableAs ts (Some (record { name = key; next_kind = kind.Comma; rest = us }))

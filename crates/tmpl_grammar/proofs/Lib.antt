@@ -1,3 +1,4 @@
+pub mod ActionDepthLemmas
 pub mod ActionLemmas
 pub mod DepthLemmas
 pub mod DigitLemmas

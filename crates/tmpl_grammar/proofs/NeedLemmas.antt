@@ -4,10 +4,11 @@ use Rattle.tmpl_lex.specs.Piece.{Token}
 use Rattle.tmpl_grammar.specs.Tree as tree
 use Rattle.tmpl_grammar.specs.Tree.{Operand, Operands, Pipeline, Binding, unbound, declare_pair, Header}
 use Rattle.tmpl_grammar.specs.Pipeline.{IsChained, SpellsOperand, SpellsMore, SpellsCommand, SpellsLater, SpellsPipeline}
-use Rattle.tmpl_grammar.specs.Header.{is_range, Then, SpellsBinding, SpellsHeader}
+use Rattle.tmpl_grammar.specs.Header.{is_range, Then, SpellsHeader}
 use Rattle.tmpl_grammar.specs.Action.{Action, pipeline_action, opening, else_branch, template_action, block_action, SpellsGiven, SpellsAction}
 use Rattle.tmpl_grammar.specs.Need.{called_or_alone, need_of_operand, need_of_arguments, need_of_command, need_of_commands}
 use Rattle.tmpl_grammar.specs.Need.{need_of_pipeline, need_of_given, declared_count}
+use Rattle.tmpl_grammar.proofs.HeaderLemmas.{Bound, binding-parts}
 
 -- ---- each value has a cell
 
@@ -69,7 +70,7 @@ mutual
 behind : {Is : Token → Type 0} {Rest : List Token → Type 0} {ts : List Token} → (s : Then Is Rest ts) → 1 + length s.2 ≤ length ts
 behind {ts = ts} s = omega (arith, joined ts s.0 (s.1 ∷ s.2) s.3)
 
-bound-within : (b : Binding) (p : Pipeline) (ts : List Token) → SpellsBinding b (SpellsPipeline p) ts → declared_count b + need_of_pipeline p ≤ length ts
+bound-within : (b : Binding) (p : Pipeline) (ts : List Token) → Bound b (SpellsPipeline p) ts → declared_count b + need_of_pipeline p ≤ length ts
 bound-within unbound p ts s = let n = pipeline-within p ts s in omega (arith, n)
 bound-within (declare_pair key name) p ts s =
     let sign = s.6.6.6 in
@@ -92,7 +93,7 @@ cells_of (block_action name p) = need_of_pipeline p
 cells_of _ = 0
 
 header-within : (in_range : Bool) (h : Header) (ts : List Token) → SpellsHeader in_range h ts → header_cells h ≤ length ts
-header-within in_range h ts spelled = bound-within h.binding h.pipeline ts spelled.1
+header-within in_range h ts spelled = bound-within h.binding h.pipeline ts (binding-parts in_range h.binding _ ts spelled).1
 
 given-within : (given : Option Pipeline) (ts : List Token) → SpellsGiven given ts → need_of_given given ≤ 1 + length ts
 given-within given ts h = grind (arith, pipeline-within)

@@ -5,7 +5,7 @@ use Rattle.tmpl_lex.specs.Piece.{Token}
 use Rattle.tmpl_grammar.specs.Tree as tree
 use Rattle.tmpl_grammar.specs.Tree.{Operand, Operands, Pipeline, Binding, unbound, declare, assign, Header, declare_pair}
 use Rattle.tmpl_grammar.specs.Action.{Action, pipeline_action, opening, else_branch, define_action, template_action, block_action, IsQuoted, SpellsAction}
-use Rattle.tmpl_grammar.specs.Header.{is_range, IsVariable, Then, SpellsHeader, SpellsBinding}
+use Rattle.tmpl_grammar.specs.Header.{is_range, IsVariable, Then, SpellsHeader}
 use Rattle.tmpl_grammar.specs.Depth.{depth_of, depth_of_pipeline, most_deep}
 use Rattle.tmpl_grammar.specs.Pipeline.{IsChain, SpellsOperand, SpellsMore, SpellsCommand, SpellsLater, SpellsPipeline}
 use Rattle.tmpl_grammar.specs.Operand as operand
@@ -14,6 +14,7 @@ use Rattle.tmpl_grammar.specs.Printable.{AreFieldNames, OfOperand, OfMore, OfCom
 use Rattle.tmpl_grammar.specs.Printable.{OfBinding, OfAction, OfHeader}
 use Rattle.tmpl_grammar.proofs.PrintableTokenLemmas.{IsRead, AreRead}
 use Rattle.tmpl_grammar.proofs.PrintableConstantLemmas.{of-constant}
+use Rattle.tmpl_grammar.proofs.HeaderLemmas.{Bound, binding-parts}
 
 of-token : (t : Token) (o : Operand) → IsRead t → IsOperand t o → OfOperand o
 of-token t _ r (operand.field is begins) = ((begins, rw is at r.names), tt)
@@ -82,7 +83,7 @@ of-variable : (name : List ℕ) (t : Token) → IsRead t → IsVariable name t �
 of-variable name t r v = grind arith
 
 of-bound : (b : Binding) (p : Pipeline) (ts : List Token) → depth_of_pipeline p ≤ most_deep → AreRead ts
-    → SpellsBinding b (SpellsPipeline p) ts → OfBinding b × OfPipeline p
+    → Bound b (SpellsPipeline p) ts → OfBinding b × OfPipeline p
 of-bound unbound p ts d r s = (tt, (of-commands p ts r s, d))
 of-bound (declare_pair key name) p ts d r s =
     let h = behind s r in
@@ -95,7 +96,9 @@ of-bound _ p ts d r s =
 
 of-header : (in_range : Bool) (h : Header) (ts : List Token) → depth_of_pipeline h.pipeline ≤ most_deep → AreRead ts
     → SpellsHeader in_range h ts → OfHeader in_range h
-of-header in_range h ts d r spelled = grind (arith, of-bound)
+of-header in_range h ts d r spelled =
+    let parts = binding-parts in_range h.binding _ ts spelled in
+    let bound = of-bound h.binding h.pipeline ts d r parts.1 in (parts.0, bound.0, bound.1)
 
 of-named : {Rest : List Token → Type 0} {ts : List Token} (name : List ℕ) → (s : Then (IsQuoted name) Rest ts) → AreRead ts → AreBytes name × AreRead s.2
 of-named name s r = let h = behind s r in (of-constant s.1 (tree.text_constant name) (let t = h.0 in t.bytes) s.5, h.1)

@@ -14,7 +14,8 @@ use Rattle.tmpl_grammar.specs.Tree.{Operand}
 use Rattle.tmpl_grammar.specs.Constant as constant
 use Rattle.tmpl_grammar.specs.Constant.{IsConstant}
 use Rattle.tmpl_grammar.specs.Constant.Integer.{IsInteger}
-use Rattle.tmpl_grammar.specs.Constant.Quoted.{code_of, without_returns, IsEscape, SpellsRunes, at_end, a_char, a_byte, an_escape}
+use Rattle.tmpl_grammar.specs.Constant.Quoted.{code_of, IsEscape, SpellsRunes, at_end, a_char, a_byte, an_escape}
+use Rattle.tmpl_grammar.specs.computed.Quoted.{without_returns}
 use Rattle.tmpl_grammar.specs.Printable.{OfOperand}
 use Rattle.tmpl_grammar.proofs.DigitLemmas.{hex-byte}
 use Rattle.tmpl_grammar.proofs.PrintableTokenLemmas.{bytes-front}

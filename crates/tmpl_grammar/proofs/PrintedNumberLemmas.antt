@@ -1,5 +1,6 @@
 -- For `printed_tokens` and `printed_spelling`: a whole number in decimal is one token, and is read as it.
-use Rattle.std.proofs.Common.{arith, ◌≡◌, ℕ, zero, suc, ◌^◌, ◌<◌, true, List, [], ◌∷◌, ◌++◌, append_assoc, get_or, refl, sym, subst, pos, negsuc}
+use Rattle.std.proofs.Common.{arith, ◌≡◌, ◌⊎◌, inl, inr, codes, ℕ, zero, suc, ◌^◌, ◌<◌, true, List, [], ◌∷◌, ◌++◌, append_assoc, get_or, refl, sym, subst}
+use Rattle.std.proofs.Common.{pos, negsuc}
 use lib.IntN.{ℤ}
 use lib.Signed.{mag}
 use Rattle.std.specs.Char.{is_ascii_digit}
@@ -11,7 +12,6 @@ use Rattle.std.proofs.lemmas.Bool.Decides.{nat_tests}
 use Rattle.tmpl_lex.specs.Bytes.{is_number_byte, Stops}
 use Rattle.tmpl_lex.specs.declared.piece.TokenKind.TheVariants as kind
 use Rattle.tmpl_lex.specs.Token as row
-use Rattle.tmpl_lex.specs.Token.{IsSign}
 use Rattle.tmpl_grammar.specs.Constant.Integer as numeral
 use Rattle.tmpl_grammar.specs.Constant.Integer.{AreParted, no_digit, digit, IsMagnitude, octal, IsInteger}
 use Rattle.tmpl_grammar.specs.Print.{token}
@@ -35,7 +35,8 @@ digits-pass (b ∷ bs) h =
     simp (here, digits-pass bs h.1)
 
 -- .. with a sign before its digits or none
-signed-stands : {sign : List ℕ} (ds rest : List ℕ) → IsSign sign → ((d : ℕ) (bs : List ℕ) → is_ascii_digit d ≡ true → Solid (sign ++ d ∷ bs)) → IsNumeral 10 ds
+signed-stands : {sign : List ℕ} (ds rest : List ℕ) → (sign ≡ []) ⊎ (sign ≡ codes "+") ⊎ (sign ≡ codes "-")
+    → ((d : ℕ) (bs : List ℕ) → is_ascii_digit d ≡ true → Solid (sign ++ d ∷ bs)) → IsNumeral 10 ds
     → Stops is_number_byte rest → Stands (sign ++ ds) rest
 signed-stands [] rest s firm h stop = absurd (let some = h.0 in omega (arith, some))
 signed-stands {sign} (d ∷ ds) rest s firm h stop =
@@ -47,9 +48,10 @@ signed-stands {sign} (d ∷ ds) rest s firm h stop =
 
 pub number-stands : (n : ℤ) (rest : List ℕ) → mag n < 2 ^ 63 → Stops is_number_byte rest → Stands (signed_decimal n) rest
 number-stands (pos n) rest h stop =
-    signed-stands (decimal n) rest row.no_sign (λ d bs h. solid (grind (arith, nat_tests)) (grind (arith, nat_tests)))
+    signed-stands {sign = []} (decimal n) rest (inl refl) (λ d bs h. solid (grind (arith, nat_tests)) (grind (arith, nat_tests)))
     (decimal_is_IsNumeral n (omega arith)).0 stop
-number-stands (negsuc n) rest h stop = signed-stands (decimal (suc n)) rest row.minus (λ d bs h. minus h) (decimal_is_IsNumeral (suc n) (omega arith)).0 stop
+number-stands (negsuc n) rest h stop =
+    signed-stands {sign = codes "-"} (decimal (suc n)) rest (inr (inr refl)) (λ d bs h. minus h) (decimal_is_IsNumeral (suc n) (omega arith)).0 stop
 
 -- ---- its value
 

@@ -11,7 +11,7 @@ use Rattle.tmpl_grammar.specs.Tree.{Operand, Operands, Pipeline, Binding, unboun
 use Rattle.tmpl_grammar.specs.Action.{Action, pipeline_action, opening, else_branch, define_action, template_action, block_action, IsQuoted, SpellsGiven}
 use Rattle.tmpl_grammar.specs.Action.{SpellsAction}
 use Rattle.tmpl_grammar.specs.Pipeline.{IsBlank, IsChain, SpellsOperand, SpellsMore, SpellsCommand, SpellsLater, SpellsPipeline}
-use Rattle.tmpl_grammar.specs.Header.{is_range, Then, IsVariable, IsSign, SpellsHeader, SpellsBinding}
+use Rattle.tmpl_grammar.specs.Header.{is_range, Then, IsVariable, IsSign, SpellsHeader}
 use Rattle.tmpl_grammar.specs.Constant.{IsConstant}
 use Rattle.tmpl_grammar.specs.Operand as operand
 use Rattle.tmpl_grammar.specs.Operand.{IsOperand}
@@ -21,6 +21,7 @@ use Rattle.tmpl_grammar.specs.Print.{header_tokens, action_tokens, binding_token
 use Rattle.tmpl_grammar.specs.Printable.{AreFieldNames, OfOperand, OfMore, OfCommand, OfLater, OfCommands, OfPipeline, OfBinding, OfGiven, OfAction, OfHeader}
 use Rattle.tmpl_grammar.proofs.QuotePartLemmas.{inside-spelled}
 use Rattle.tmpl_grammar.proofs.PrintedNumberLemmas.{integer-spelled}
+use Rattle.tmpl_grammar.proofs.HeaderLemmas.{Bound, binding-whole}
 
 -- ---- operands of one token
 
@@ -110,7 +111,7 @@ signed name p sign h k ws w = led ws _ _ w (refl, refl, h) (led (space ∷ []) _
 
 -- a header behind white space
 spells-bound : (b : Binding) (p : Pipeline) → OfBinding b → OfPipeline p → (ws : List Token) → IsBlank ws → SpellsPipeline p (ws ++ pipeline_tokens p)
-    → SpellsBinding b (SpellsPipeline p) (ws ++ (binding_tokens b ++ pipeline_tokens p))
+    → Bound b (SpellsPipeline p) (ws ++ (binding_tokens b ++ pipeline_tokens p))
 spells-bound unbound p h k ws w s = s
 spells-bound (declare name) p h k ws w s = signed name p (token kind.Declare (58 ∷ 61 ∷ [])) h.0 k ws w
 spells-bound (assign name) p h k ws w s = signed name p (token kind.Assign (61 ∷ [])) h.0 k ws w
@@ -118,7 +119,8 @@ spells-bound (declare_pair key name) p h k ws w s =
     led ws _ _ w (refl, refl, h.0.0) (led [] _ _ tt refl (signed name p (token kind.Declare (58 ∷ 61 ∷ [])) h.1.0 k (space ∷ []) (refl, tt)))
 
 spells-header : (in_range : Bool) (h : Header) → OfHeader in_range h → SpellsHeader in_range h (space ∷ header_tokens h)
-spells-header in_range h of = (of.0, spells-bound h.binding h.pipeline of.1 of.2 (space ∷ []) (refl, tt) (spaced-pipeline h.pipeline of.2))
+spells-header in_range h of =
+    binding-whole in_range h.binding _ _ of.0 (spells-bound h.binding h.pipeline of.1 of.2 (space ∷ []) (refl, tt) (spaced-pipeline h.pipeline of.2))
 
 spells-given : (given : Option Pipeline) → OfGiven given → SpellsGiven given (given_tokens given)
 spells-given given h = grind (arith, spaced-pipeline)
@@ -129,7 +131,8 @@ named : {name : List ℕ} {Rest : List Token → Type 0} {ts : List Token} → A
 named h r = led (space ∷ []) _ _ (refl, tt) (quoted-constant _ h) r
 
 pub spells-tokens : (a : Action) → OfAction a → SpellsAction a (action_tokens a)
-spells-tokens (pipeline_action h) of = (of.0, spells-bound h.binding h.pipeline of.1 of.2 [] tt (spells-commands h.pipeline (let o = of.2 in o.0)))
+spells-tokens (pipeline_action h) of =
+    binding-whole false h.binding _ _ of.0 (spells-bound h.binding h.pipeline of.1 of.2 [] tt (spells-commands h.pipeline (let o = of.2 in o.0)))
 spells-tokens (opening c h) of = led [] _ _ tt (refl, refl) (spells-header (is_range c) h of)
 spells-tokens (else_branch br h) of = led [] _ _ tt (refl, refl) (led (space ∷ []) _ _ (refl, tt) (refl, refl) (spells-header false h of))
 spells-tokens (define_action name) of = led [] _ _ tt (refl, refl) (named of tt)

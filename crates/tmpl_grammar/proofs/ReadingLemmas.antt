@@ -1,10 +1,10 @@
 -- For `read_action`: of an action that tokens spell, a pipeline is left out just where it nests too deep.
-use Rattle.std.proofs.Common.{arith, ◌≡◌, false, List, Option, Some, None, IfSome, refl, option_map}
+use Rattle.std.proofs.Common.{arith, ◌≡◌, Bool, false, List, Option, Some, None, IfSome, refl, option_map}
 use Rattle.tmpl_lex.specs.Piece.{Token}
-use Rattle.tmpl_grammar.specs.Tree.{Pipeline, Binding}
+use Rattle.tmpl_grammar.specs.Tree.{Pipeline, Header}
 use Rattle.tmpl_grammar.specs.Action.{Action, pipeline_action, opening, else_branch, template_action, block_action, SpellsAction}
 use Rattle.tmpl_grammar.specs.Pipeline.{SpellsPipeline}
-use Rattle.tmpl_grammar.specs.Header.{SpellsBinding}
+use Rattle.tmpl_grammar.specs.Header.{is_range, SpellsHeader}
 use Rattle.tmpl_grammar.specs.computed.Depth.{reading_of, limited_action, is_left_out, lacks_pipeline, reading_held}
 use Rattle.tmpl_grammar.specs.computed.Reading.{action_in}
 use Rattle.tmpl_grammar.proofs.ActionLemmas.{spells-action}
@@ -14,13 +14,13 @@ use Rattle.tmpl_grammar.proofs.OptionLemmas.{told}
 pipeline-there : (p : Pipeline) (ts : List Token) → SpellsPipeline p ts → is_left_out p ≡ false
 pipeline-there p ts s = grind arith
 
-bound-there : (b : Binding) (p : Pipeline) (ts : List Token) → SpellsBinding b (SpellsPipeline p) ts → is_left_out p ≡ false
-bound-there b p ts s = grind (arith, pipeline-there)
+header-there : (in_range : Bool) (h : Header) (ts : List Token) → SpellsHeader in_range h ts → is_left_out h.pipeline ≡ false
+header-there in_range h ts s = grind (arith, pipeline-there)
 
 action-there : (a : Action) (ts : List Token) → SpellsAction a ts → lacks_pipeline a ≡ false
-action-there (pipeline_action h) ts s = bound-there h.binding h.pipeline ts s.1
-action-there (opening c h) ts s = bound-there h.binding h.pipeline _ s.6.1
-action-there (else_branch br h) ts s = bound-there h.binding h.pipeline _ s.6.6.1
+action-there (pipeline_action h) ts s = header-there false h ts s
+action-there (opening c h) ts s = header-there (is_range c) h _ s.6
+action-there (else_branch br h) ts s = header-there false h _ s.6.6
 action-there (template_action name (Some p)) ts s = pipeline-there p _ s.6.6
 action-there (block_action name p) ts s = pipeline-there p _ s.6.6
 action-there _ ts s = refl

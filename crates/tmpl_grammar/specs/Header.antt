@@ -1,6 +1,6 @@
 -- The grammar of a header ("Variables" in the documentation of Go's text/template): a pipeline, perhaps behind
 -- variables. White space may stand between any two tokens, also where Go asks for it.
-use Rattle.std.specs.Prelude.{◌≡◌, ◌<◌, ℕ, Bool, true, false, not, List, ◌∷◌, ◌++◌, length}
+use Rattle.std.specs.Prelude.{◌≡◌, ◌<◌, ℕ, Bool, true, false, List, ◌∷◌, ◌++◌, length}
 use Rattle.tmpl_lex.specs.declared.piece.TokenKind.{TokenKind}
 use Rattle.tmpl_lex.specs.declared.piece.TokenKind.TheVariants as kind
 use Rattle.tmpl_lex.specs.Piece.{Token}
@@ -31,21 +31,16 @@ abbrev pub is_range : Control → Bool
 is_range control.Range = true
 is_range c = false
 
--- how a header may bind variables: the header of a range assigns to none, and it alone declares two
-abbrev pub may_bind : Bool → Binding → Bool
-may_bind in_range (assign name) = not in_range
-may_bind in_range (declare_pair key name) = in_range
-may_bind in_range b = true
-
--- nothing, `$x :=`, `$x =` or `$i, $x :=`, and then such tokens
-abbrev pub SpellsBinding : Binding → (List Token → Type 0) → List Token → Type 0
-SpellsBinding unbound Rest ts = Rest ts
-SpellsBinding (declare name) Rest ts = Then (IsVariable name) (Then (IsSign kind.Declare) Rest) ts
-SpellsBinding (assign name) Rest ts = Then (IsVariable name) (Then (IsSign kind.Assign) Rest) ts
-SpellsBinding (declare_pair key name) Rest ts =
+-- in the header of a range or of another action nothing, `$x :=`, `$x =` or `$i, $x :=`, and then such tokens: a range
+-- assigns to no variable, and it alone declares two
+abbrev pub SpellsBinding : Bool → Binding → (List Token → Type 0) → List Token → Type 0
+SpellsBinding in_range unbound Rest ts = Rest ts
+SpellsBinding in_range (declare name) Rest ts = Then (IsVariable name) (Then (IsSign kind.Declare) Rest) ts
+SpellsBinding false (assign name) Rest ts = Then (IsVariable name) (Then (IsSign kind.Assign) Rest) ts
+SpellsBinding true (declare_pair key name) Rest ts =
     Then (IsVariable key) (Then (IsSign kind.Comma) (Then (IsVariable name) (Then (IsSign kind.Declare) Rest))) ts
+SpellsBinding in_range b Rest ts = ⊥
 
 -- the header of a range, or of another action
 abbrev pub SpellsHeader : Bool → Header → List Token → Type 0
-SpellsHeader in_range h ts =
-    (may_bind in_range h.binding ≡ true) × SpellsBinding h.binding (SpellsPipeline h.pipeline) ts
+SpellsHeader in_range h ts = SpellsBinding in_range h.binding (SpellsPipeline h.pipeline) ts

@@ -1,5 +1,5 @@
 -- What holds of each action that is read from a file, and lets it be printed and read again.
-use Rattle.std.specs.Prelude.{◌≡◌, ◌<◌, ◌≤◌, ◌^◌, ℕ, Bool, false, true, List, [], ◌∷◌, length, Option, Some, None}
+use Rattle.std.specs.Prelude.{◌≡◌, ◌<◌, ◌≤◌, ◌^◌, ℕ, Bool, false, true, not, List, [], ◌∷◌, length, Option, Some, None}
 use Rattle.std.specs.List.{list_all}
 use lib.Signed.{mag}
 use Rattle.tmpl_values.specs.Bytes.{AreBytes}
@@ -11,7 +11,7 @@ use Rattle.tmpl_grammar.specs.Tree.{Binding, unbound, declare, assign, declare_p
 use Rattle.tmpl_grammar.specs.Action.{Action, pipeline_action, opening}
 use Rattle.tmpl_grammar.specs.Action.{else_branch, define_action}
 use Rattle.tmpl_grammar.specs.Action.{template_action, block_action}
-use Rattle.tmpl_grammar.specs.Header.{is_range, may_bind}
+use Rattle.tmpl_grammar.specs.Header.{is_range}
 use Rattle.tmpl_grammar.specs.Pipeline.{MayBeLater}
 use Rattle.tmpl_grammar.specs.Depth.{depth_of_pipeline, most_deep}
 
@@ -71,6 +71,12 @@ OfBinding unbound = Unit {0}
 OfBinding (declare name) = OfVariable name
 OfBinding (assign name) = OfVariable name
 OfBinding (declare_pair key name) = OfVariable key × OfVariable name
+
+-- how a header may bind variables: the header of a range assigns to none, and it alone declares two
+abbrev pub may_bind : Bool → Binding → Bool
+may_bind in_range (assign name) = not in_range
+may_bind in_range (declare_pair key name) = in_range
+may_bind in_range b = true
 
 -- of a range, or of another action
 abbrev pub OfHeader : Bool → Header → Type 0

@@ -2,7 +2,7 @@
 ghost use Rattle.std.specs.Prelude.{◌≡◌, IfOk, map, option_map};
 ghost use Rattle.tmpl_lex.specs.View.{token_of};
 ghost use Rattle.tmpl_lex.specs.declared.piece.TokenKind.TheVariants as kind;
-ghost use Rattle.tmpl_grammar.specs.Header.{may_bind};
+ghost use Rattle.tmpl_grammar.specs.Printable.{may_bind};
 ghost use Rattle.tmpl_grammar.specs.View.{binding_of, header_of};
 ghost use Rattle.tmpl_grammar.specs.computed.Depth.{limited_header};
 ghost use Rattle.tmpl_grammar.specs.computed.Reading as spec;

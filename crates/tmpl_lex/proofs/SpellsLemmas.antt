@@ -5,7 +5,7 @@ use Rattle.std.proofs.Math.Seq.{drop-append_seam}
 use Rattle.std.proofs.lemmas.Bool.{and_parts}
 use Rattle.std.proofs.lemmas.Bool.Decides.{nat_tests}
 use Rattle.tmpl_lex.specs.Bytes.{Absent}
-use Rattle.tmpl_lex.specs.Cut.{Closed, a_comment, an_action, NoneClosed}
+use Rattle.tmpl_lex.specs.Cut.{Closed, a_comment, an_action}
 use Rattle.tmpl_lex.specs.Delimiter.{Closes, closes, closes_marked}
 use Rattle.tmpl_lex.specs.Laws.{IsFound, BeginsWith}
 use Rattle.tmpl_lex.specs.Piece.{Token, Piece, action}
@@ -154,6 +154,10 @@ closed-opened (an_action {trims = trims} {ts = ts} {closing = closing} {rest = r
     let none = uncommented (bytes_of ts ++ (closing ++ rest)) (spells-uncommented ts trims closing rest h c) in
     let found = spells-inside ts trims closing rest h c in
     record { ends = simp (append_assoc, none, found); pieces = simp (append_assoc, none, found) }
+
+-- no closed comment or action begins with these bytes
+abbrev NoneClosed : List ℕ → Type 0
+NoneClosed bs = (line : ℕ) (body : List ℕ) (trims : Bool) (rest : List ℕ) (ps : List Piece) → Closed line body trims rest ps → bs ≡ body ++ rest → ⊥
 
 pub neither-closed : (bs : List ℕ) → opened bs ≡ neither → NoneClosed bs
 neither-closed bs e = grind (arith, nat_tests, closed-opened)

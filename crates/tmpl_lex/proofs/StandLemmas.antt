@@ -1,6 +1,6 @@
 -- For the law `one_token`: the token that is computed at the front of bytes is the one of the table, row by row.
 use Rattle.std.proofs.Common.{arith, ◌≡◌, ◌∙◌, ℕ, zero, suc, ◌-◌, Bool, true, false, ◌&&◌, not, nat_eq, List, [], ◌∷◌, ◌++◌, Option, Some, None, IfSome, get_or}
-use Rattle.std.proofs.Common.{◌<◌, refl, sym, ap, subst, length, take, drop, length-append, append_assoc, if◌then◌else◌, codes, take_while}
+use Rattle.std.proofs.Common.{◌<◌, ◌⊎◌, inl, inr, refl, sym, ap, subst, length, take, drop, length-append, append_assoc, if◌then◌else◌, codes, take_while}
 use Rattle.std.specs.Char.{is_ascii_digit}
 use Rattle.std.specs.List.{prefix_len, list_all}
 use Rattle.std.proofs.lemmas.Bool.{eqb-true, eq-eqb, and_parts, both_ways, false_from_ne_true}
@@ -18,7 +18,7 @@ use Rattle.tmpl_lex.specs.Delimiter.{Closes, closes, closes_marked}
 use Rattle.tmpl_lex.specs.Laws.{IsFound, BeginsWith}
 use Rattle.tmpl_lex.specs.Piece.{Token}
 use Rattle.tmpl_lex.specs.Token as table
-use Rattle.tmpl_lex.specs.Token.{IsToken, IsQuoted, no_byte, a_byte, an_escape, IsSign, no_sign, plus, minus, EndsSpace, at_byte, at_marker}
+use Rattle.tmpl_lex.specs.Token.{IsToken, IsQuoted, no_byte, a_byte, an_escape, EndsSpace, at_byte, at_marker}
 use Rattle.tmpl_lex.specs.computed.Quoted.{up_to, unless, through, quoted}
 use Rattle.tmpl_lex.specs.computed.Token.{Begun, marked, begun, token_from, signed, dotted, assigned, of_kind, space_run, unmarked, name_run}
 use Rattle.tmpl_lex.specs.computed.Trim.{End, ended_by, has_right_delimiter, has_dashed_delimiter, right_marked, right_delimiter}
@@ -210,11 +210,12 @@ space-found b bs rest h e = grind (arith, nat_tests, and_parts, no-closes, space
 word-found : (b : ℕ) (bs rest : List ℕ) → is_ascii_digit b ≡ false → IsRun is_name_byte (b ∷ bs) rest → IsFound (b ∷ bs ++ rest) (token kind.Word (b ∷ bs))
 word-found b bs rest d run = grind (arith, nat_tests, and_parts, by-first, run-taken)
 
-number-found : {sign : List ℕ} (b : ℕ) (bs rest : List ℕ) → IsSign sign → is_ascii_digit b ≡ true → IsRun is_number_byte bs rest
+number-found : {sign : List ℕ} (b : ℕ) (bs rest : List ℕ) → (sign ≡ []) ⊎ (sign ≡ codes "+") ⊎ (sign ≡ codes "-") → is_ascii_digit b ≡ true
+    → IsRun is_number_byte bs rest
     → IsFound (sign ++ b ∷ bs ++ rest) (token kind.Number (sign ++ b ∷ bs))
-number-found b bs rest no_sign d run = grind (arith, nat_tests, run-taken)
-number-found b bs rest plus d run = by-first kind.Number 43 (b ∷ bs) rest refl refl (simp (d, run-taken is_number_byte bs rest run))
-number-found b bs rest minus d run = by-first kind.Number 45 (b ∷ bs) rest refl refl (simp (d, run-taken is_number_byte bs rest run))
+number-found b bs rest (inl e) d run = rw e (grind (arith, nat_tests, run-taken))
+number-found b bs rest (inr (inl e)) d run = rw e (by-first kind.Number 43 (b ∷ bs) rest refl refl (simp (d, run-taken is_number_byte bs rest run)))
+number-found b bs rest (inr (inr e)) d run = rw e (by-first kind.Number 45 (b ∷ bs) rest refl refl (simp (d, run-taken is_number_byte bs rest run)))
 
 pub found : {k : TokenKind} {bs rest : List ℕ} → IsToken k bs rest → IsFound (bs ++ rest) (token k bs)
 found (table.space {b = b} {bs = bs} {rest = rest} h e) = space-found b bs rest h e
@@ -246,11 +247,11 @@ by-test : (t : Bool) (b : ℕ) (bs : List ℕ) (o p : Option Begun) → (t ≡ t
     → (t ≡ false → IfSome p (StandsAt b bs)) → IfSome (if t then o else p) (StandsAt b bs)
 by-test t b bs o p this that = grind (arith, nat_tests)
 
-number-stands : (c : ℕ) → IsSign (c ∷ []) → (bs : List ℕ) → IfSome (signed bs) (StandsAt c bs)
+number-stands : (c : ℕ) → (c ∷ [] ≡ []) ⊎ (c ∷ [] ≡ codes "+") ⊎ (c ∷ [] ≡ codes "-") → (bs : List ℕ) → IfSome (signed bs) (StandsAt c bs)
 number-stands c s [] = tt
 number-stands c s (d ∷ bs) = by-test (is_ascii_digit d) c (d ∷ bs) _ None (λ h. record {
   rest = drop (prefix_len is_number_byte bs) bs;
-  stands = table.number d s h (taken-run is_number_byte bs);
+  stands = table.number {sign = c ∷ []} d s h (taken-run is_number_byte bs);
   is = ap (λ l. d ∷ l) (sym (taken-rest is_number_byte bs));
 }) (λ h. tt)
 
@@ -287,8 +288,8 @@ by-byte b c bs o p this that = grind (arith, nat_tests)
 marked-stands : (b : ℕ) (bs : List ℕ) → IfSome (marked b bs) (StandsAt b bs)
 marked-stands b bs =
     let name = taken-run is_name_byte bs in
-    by-byte b 43 bs _ _ (number-stands 43 plus bs)
-    (by-byte b 45 bs _ _ (number-stands 45 minus bs)
+    by-byte b 43 bs _ _ (number-stands 43 (inr (inl refl)) bs)
+    (by-byte b 45 bs _ _ (number-stands 45 (inr (inr refl)) bs)
     (by-byte b 46 bs _ _ (dotted-stands (name_run bs) (drop (prefix_len is_name_byte bs) bs) bs name (sym (taken-rest is_name_byte bs)))
     (by-byte b 36 bs _ _ (run-stands kind.Variable is_name_byte 36 bs (table.variable name))
     (by-byte b 34 bs _ _ (quote-stands kind.String 34 (IsQuoted 34) (λ xs rest f. table.string f) bs (quoted 34 false bs) (quoted-is 34 false bs))
@@ -305,7 +306,8 @@ begun-stands : (b : ℕ) (bs : List ℕ) → right_marked (b ∷ bs) ≡ false �
 begun-stands b bs m =
     let name = taken-run is_name_byte bs in
     by-test (is_space b) b bs _ _ (λ h. space-stands b bs h m) (λ s.
-    by-test (is_ascii_digit b) b bs _ _ (λ h. run-stands kind.Number is_number_byte b bs (table.number b no_sign h (taken-run is_number_byte bs))) (λ d.
+    by-test (is_ascii_digit b) b bs _ _
+    (λ h. run-stands kind.Number is_number_byte b bs (table.number {sign = []} b (inl refl) h (taken-run is_number_byte bs))) (λ d.
     by-test (is_name_byte b) b bs _ _
     (λ h. run-stands kind.Word is_name_byte b bs (table.word d (record { passes = simp (h, name.passes); longest = name.longest })))
     (λ n. marked-stands b bs)))

@@ -1,13 +1,13 @@
 -- For the reader of the table of tokens: what its rows say of some bytes.
 use Prim.Native.String.{String}
-use Rattle.std.proofs.Common.{◌≡◌, ℕ, zero, suc, List, [], ◌∷◌, ◌++◌, refl, codes, arith, ap, length, filter}
+use Rattle.std.proofs.Common.{◌≡◌, ℕ, zero, suc, List, [], ◌∷◌, ◌++◌, refl, codes, arith, ap, length, filter, inr}
 use Rattle.std.proofs.lemmas.Option.{same_Some}
 use Rattle.tmpl_lex.specs.declared.piece.TokenKind.{TokenKind}
 use Rattle.tmpl_lex.specs.declared.piece.TokenKind.TheVariants as kind
 use Rattle.tmpl_lex.specs.Bytes.{is_space}
 use Rattle.tmpl_lex.specs.Delimiter.{closes_marked}
 use Rattle.tmpl_lex.specs.Piece.{Token}
-use Rattle.tmpl_lex.specs.Token.{IsToken, space, number, field, dot, string, at_marker, minus, no_byte, a_byte, an_escape}
+use Rattle.tmpl_lex.specs.Token.{IsToken, space, number, field, dot, string, at_marker, no_byte, a_byte, an_escape}
 use Rattle.tmpl_lex.proofs.StandLemmas.{found}
 
 abbrev token : TokenKind → String → Token
@@ -26,7 +26,7 @@ in_a_marker h = let f = (found h).no_end in cc
 
 -- a number takes each name byte and dot behind its first digit
 a_number : Row kind.Number "-1.x_" "-2"
-a_number = number 49 minus refl (record { passes = refl; longest = refl })
+a_number = number {sign = codes "-"} 49 (inr (inr refl)) refl (record { passes = refl; longest = refl })
 
 -- and is no shorter
 half_a_number : Row kind.Number "1" "2" → ⊥

@@ -22,7 +22,7 @@ text-weight line bytes ps = grind arith
 
 texts-weight : {right left : Bool} {line : ℕ} {bytes : List ℕ} {texts : List Piece} → Texts right left line bytes texts → (ps : List Piece)
     → weight (texts ++ ps) ≡ weight ps
-texts-weight (trimmed {line = line} {front = front} {kept = kept} f e) ps = text-weight (line + newlines front) kept ps
+texts-weight (trimmed {line = line} {front = front} kept end f e) ps = text-weight (line + newlines front) kept ps
 
 weight-append : (ps qs : List Piece) → weight (ps ++ qs) ≡ weight ps + weight qs
 weight-append [] qs = omega arith

@@ -18,12 +18,6 @@ pub data Closed : ℕ → List ℕ → Bool → List ℕ → List Piece → Type
       → Spells ts (closing ++ rest) → Closes trims closing
       → Closed line (bytes_of ts ++ closing) trims rest (action line ts ∷ [])
 
--- no closed comment or action begins with these bytes
-abbrev pub NoneClosed : List ℕ → Type 0
-NoneClosed bs =
-    (line : ℕ) (body : List ℕ) (trims : Bool) (rest : List ℕ) (ps : List Piece) → Closed line body trims rest ps
-    → bs ≡ body ++ rest → ⊥
-
 -- the text before the first `{{`, with what opens there and the bytes behind it: no `{{` begins in it, nor with its
 -- last byte; it is these pieces
 pub record Leads (right : Bool) (line : ℕ) (before opening rest : List ℕ) (pieces : List Piece) : Type 0 where
@@ -45,5 +39,7 @@ pub data Cuts : Bool → ℕ → List ℕ → List Piece → Type 0 where
       → Cuts right line (before ++ opening ++ body ++ rest) (texts ++ here ++ ps)
   -- a `{{` behind which no closed comment and no closed action begins
   unclosed : {right : Bool} {line : ℕ} {before opening rest : List ℕ} {texts : List Piece}
-      → Leads right line before opening rest texts → NoneClosed rest
+      → Leads right line before opening rest texts
+      → ((here : ℕ) (body : List ℕ) (trims : Bool) (behind : List ℕ) (ps : List Piece)
+      → Closed here body trims behind ps → rest ≡ body ++ behind → ⊥)
       → Cuts right line (before ++ opening ++ rest) (texts ++ unreadable (line + newlines before) ∷ [])

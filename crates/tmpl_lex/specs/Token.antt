@@ -1,6 +1,6 @@
 -- The tokens of an action ("Arguments", "Pipelines" and "Variables" in the documentation of Go's text/template; which
 -- bytes a token is spelled with is our own rule).
-use Rattle.std.specs.Prelude.{◌≡◌, ℕ, true, false, ◌==◌, List, [], ◌∷◌, ◌++◌, flat_map, codes}
+use Rattle.std.specs.Prelude.{◌≡◌, ◌⊎◌, ℕ, true, false, ◌==◌, List, [], ◌∷◌, ◌++◌, flat_map, codes}
 use Rattle.std.specs.Char.{is_ascii_digit}
 use Rattle.std.specs.List.{list_all}
 use Rattle.std.specs.Str.{byte}
@@ -14,12 +14,6 @@ use Rattle.tmpl_lex.specs.declared.piece.TokenKind.TheVariants as kind
 pub data EndsSpace : List ℕ → Type 0 where
   at_byte : {rest : List ℕ} → Stops is_space rest → BeginsNone (λ bs. bs ≡ codes "-}}") rest → EndsSpace rest
   at_marker : {marker : List ℕ} (rest : List ℕ) → Closes true marker → EndsSpace (marker ++ rest)
-
--- the sign of a number, or none
-pub data IsSign : List ℕ → Type 0 where
-  no_sign : IsSign []
-  plus : IsSign (codes "+")
-  minus : IsSign (codes "-")
 
 -- the bytes between two such quotes: none is a newline, and a quote or backslash stands only behind a backslash, which
 -- escapes the byte behind it
@@ -36,8 +30,8 @@ pub data IsToken : TokenKind → List ℕ → List ℕ → Type 0 where
       → IsToken kind.Space (b ∷ bs) rest
   word : {b : ℕ} {bs rest : List ℕ} → is_ascii_digit b ≡ false → IsRun is_name_byte (b ∷ bs) rest
       → IsToken kind.Word (b ∷ bs) rest
-  number : {sign bs rest : List ℕ} (b : ℕ) → IsSign sign → is_ascii_digit b ≡ true
-      → IsRun is_number_byte bs rest → IsToken kind.Number (sign ++ b ∷ bs) rest
+  number : {sign bs rest : List ℕ} (b : ℕ) → (sign ≡ []) ⊎ (sign ≡ codes "+") ⊎ (sign ≡ codes "-")
+      → is_ascii_digit b ≡ true → IsRun is_number_byte bs rest → IsToken kind.Number (sign ++ b ∷ bs) rest
   field : {b : ℕ} {bs rest : List ℕ} → IsRun is_name_byte (b ∷ bs) rest → IsToken kind.Field (codes "." ++ b ∷ bs) rest
   dot : {rest : List ℕ} → Stops is_name_byte rest → IsToken kind.Dot (codes ".") rest
   variable : {name rest : List ℕ} → IsRun is_name_byte name rest → IsToken kind.Variable (codes "$" ++ name) rest

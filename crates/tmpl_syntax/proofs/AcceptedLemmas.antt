@@ -1,5 +1,5 @@
 -- For `formed` and `accepted_back`: what an accepted list spells is formed, and what formed nodes say is accepted.
-use Rattle.std.proofs.Common.{arith, ◌≡◌, ◌∙◌, ℕ, ◌+◌, ◌≤◌, Bool, true, false, not, ◌&&◌, leb, nat_lt, List, [], ◌∷◌, ◌++◌, length, take, Some}
+use Rattle.std.proofs.Common.{arith, ◌≡◌, ◌∙◌, ℕ, ◌+◌, ◌≤◌, Bool, true, false, not, ◌&&◌, leb, nat_lt, List, [], ◌∷◌, ◌++◌, length, take, Some, None}
 use Rattle.std.proofs.Common.{refl, sym, ap, subst, map, append_assoc, length-take}
 use Rattle.std.proofs.Math.Seq.{take-length}
 use Rattle.std.proofs.lemmas.Bool.{and_parts}
@@ -17,9 +17,10 @@ use Rattle.tmpl_grammar.specs.Tree.{Header}
 use Rattle.tmpl_syntax.specs.Tree.{NodeKind, text, action, control_node, break_node, continue_node, template_node, Nodes, none, then, Definition}
 use Rattle.tmpl_grammar.specs.Action.{end_action, control_in}
 use Rattle.tmpl_syntax.specs.Item.{Item}
-use Rattle.tmpl_syntax.specs.Place.Role.{Name, no_names, names_of, names_given, opener, act_of, Role, text_role, act_role, roles_of}
+use Rattle.tmpl_syntax.specs.Place.Role.{Name, names_of, names_given, plain, opener, act_of, Role, roles_of}
 use Rattle.tmpl_syntax.specs.Place.Open.{is_template}
-use Rattle.tmpl_syntax.specs.Place.Body.{joins, most_levels, fine, Judged}
+use Rattle.tmpl_syntax.specs.Place.Body.{joins, most_levels}
+use Rattle.tmpl_syntax.specs.computed.Frames.{fine, Judged}
 use Rattle.tmpl_syntax.specs.computed.Frames.{opened_names, closed_if, none_known, verdict_of}
 use Rattle.tmpl_syntax.specs.Spelling.{a_text, an_action, a_break, a_continue, a_template, Leads, nothing, a_node, a_control, a_define, a_block}
 use Rattle.tmpl_syntax.specs.Spelling.{Closes, an_end, an_else, an_else_branch}
@@ -63,7 +64,7 @@ mutual
       let more = leads-formed l fs past (scope_behind n scope) (alike-past n known.inner scope a) e.1 in
       (both_true e.0 more.0, more.1, more.2)
   leads-formed (a_define {xs = xs} {body = body} b l) fs known scope a h =
-      let f : Frame = entered opened.define no_names (top fs) known.inner in
+      let f : Frame = entered opened.define (names_given None) (top fs) known.inner in
       let e = and_parts _ (passes (f ∷ fs) (opened_names opened.define [] known) (roles_of xs)) h in
       let inner = leads-formed b (f ∷ fs) (opened_names opened.define [] known) [] (λ x. refl) e.1 in
       let more = leads-formed l fs known scope a inner.1 in
@@ -148,16 +149,16 @@ spells_formed items ds own judged spells =
 -- ---- a printed list
 
 abbrev role_said : Said → Role
-role_said (said_text t) = text_role
-role_said (said a) = act_role (act_of a)
+role_said (said_text t) = plain (names_given None)
+role_said (said a) = (act_of a)
 
 abbrev roles_said : List Said → List Role
 roles_said ss = map role_said ss
 
 says-roles : {ss : List Said} {xs : List Item} → Says ss xs → roles_of xs ≡ roles_said ss
 says-roles says_nothing = refl
-says-roles (says_text s) = ap (λ rs. text_role ∷ rs) (says-roles s)
-says-roles (says {a = a} s) = ap (λ rs. act_role (act_of a) ∷ rs) (says-roles s)
+says-roles (says_text s) = ap (λ rs. plain (names_given None) ∷ rs) (says-roles s)
+says-roles (says {a = a} s) = ap (λ rs. (act_of a) ∷ rs) (says-roles s)
 
 abbrev control_frame : Control → Bool → ℕ → ℕ → ℕ → Frame
 control_frame c around n start part =
@@ -204,7 +205,7 @@ mutual
       let in_body = nodes-passes body (f ∷ fs) inside (declared_to h.binding scope) rest (alike-declared h.binding names scope a)
       (subst (λ l. are_formed body (declared_to h.binding scope) l (n + 1) ≡ true) (sym (looped c (in_loop (top fs)))) p.in_body) in_rest in
       let joined : (nodes_said body ++ (ends ++ said end_action ∷ [])) ++ ss ≡ nodes_said body ++ rest = simp append_assoc in
-      ap (λ ts. passes fs known (act_role (opener (opened.control c) (names_of h)) ∷ roles_said ts)) joined
+      ap (λ ts. passes fs known ((opener (opened.control c) (names_of h)) ∷ roles_said ts)) joined
       ∙ opened-passes fs known scope (roles_said (nodes_said body ++ rest)) a (opened.control c) (names_of h) refl
       ∙ both_true (both_true p.uses p.room) in_body
   node-passes (text bytes) fs known scope ss a e more = alone-passes fs known scope (roles_said ss) a 0 (a_text {bytes = bytes}) ∙ both_true e more

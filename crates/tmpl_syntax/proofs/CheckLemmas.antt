@@ -5,17 +5,17 @@ use Rattle.std.specs.Prelude.{slice_get}
 use Rattle.std.specs.Option.{option_map}
 use Rattle.std.proofs.lemmas.List.{drop_all, length-map, length-reverse}
 use Rattle.std.proofs.lemmas.Option.{slice_get_read, slice_get-map}
-use Rattle.tmpl_syntax.specs.computed.Frames.{Frame, top, seen_at, fault_at, frames_past, at_end, Known, with_inner, known_past, none_known, unless_fault}
+use Rattle.tmpl_syntax.specs.computed.Frames.{Frame, top, names_at, fault_at, frames_after, at_end, Known, with_inner, known_after, none_known, unless_fault}
 use Rattle.tmpl_syntax.specs.declared.item.Item as held
 use Rattle.tmpl_syntax.specs.declared.place.frame.Frame as held_frame
 use Rattle.tmpl_syntax.specs.Fault.{Reason, open_at_end}
 use Rattle.tmpl_syntax.specs.Item.{Item}
 use Rattle.tmpl_syntax.specs.computed.View.{item_of, frame_of, frames_in}
 use Rattle.tmpl_syntax.specs.Place.Role.{Name, Role, role_of, roles_of}
-use Rattle.tmpl_syntax.specs.Place.Body.{fine, refused, left_open}
+use Rattle.tmpl_syntax.specs.computed.Frames.{fine, refused, left_open}
 use Rattle.tmpl_syntax.specs.computed.Frames.{verdict_from, verdict_of}
 use Rattle.tmpl_syntax.specs.computed.Parse.{IsRefusal, line_in, by_verdict, checked}
-use Rattle.tmpl_syntax.specs.Parse.{last_line}
+use Rattle.tmpl_syntax.specs.computed.Parse.{last_line}
 use Rattle.tmpl_syntax.proofs.SecondLemmas.{drop-next}
 
 -- from the place i on, where these frames and names stand, the verdict is that of all items
@@ -27,13 +27,13 @@ unfolding verdict_of
 checking-start xs known fs e f = rw (e, f)
 
 module _ (xs : List Role) (i : ℕ) (known : Known) (fs : List Frame) (x : Role) (at : slice_get xs i ≡ Some x) (c : IsChecking xs i known fs)
-    (t : Option Frame) (ms : List Name) (same : t ≡ top fs) (sees : ms ≡ seen_at x t known.inner) where
+    (t : Option Frame) (ms : List Name) (same : t ≡ top fs) (sees : ms ≡ names_at x t known.inner) where
   -- by the fault of the item
   goes : (o : Option Reason) → fault_at x t ms ≡ o → verdict_of xs
-      ≡ unless_fault o i (verdict_from (i + 1) (frames_past x fs ms) (known_past x (top fs) (with_inner known ms)) (drop (i + 1) xs))
+      ≡ unless_fault o i (verdict_from (i + 1) (frames_after x fs ms) (known_after x (top fs) (with_inner known ms)) (drop (i + 1) xs))
   goes o e = c ∙ rw (drop-next xs i x at) (rw (← e, sees, same) refl)
 
-  pub checking-past : (k : Known) (gs : List Frame) → k ≡ known_past x (top fs) (with_inner known ms) → gs ≡ frames_past x fs ms
+  pub checking-past : (k : Known) (gs : List Frame) → k ≡ known_after x (top fs) (with_inner known ms) → gs ≡ frames_after x fs ms
       → fault_at x t ms ≡ None → IsChecking xs (i + 1) k gs
   checking-past k gs e f none = rw (e, f) (goes None none)
 

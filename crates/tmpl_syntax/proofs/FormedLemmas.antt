@@ -16,10 +16,11 @@ use Rattle.tmpl_syntax.specs.Spelling.{IsNode, a_text, an_action, a_break, a_con
 use Rattle.tmpl_syntax.specs.Formed.{are_among, declared_to, else_scope, is_looped, scope_behind, is_formed, are_formed}
 use Rattle.tmpl_syntax.specs.Place.Opening.{Opening}
 use Rattle.tmpl_syntax.specs.Place.Opening as opened
-use Rattle.tmpl_syntax.specs.Place.Role.{Name, Names, declared_by, names_of, names_given, opener, Role, act_role, role_of}
-use Rattle.tmpl_syntax.specs.Place.Body.{is_level, most_levels, Verdict, fine}
-use Rattle.tmpl_syntax.specs.computed.Frames.{Frame, top, loops, in_loop, levels, is_known, knows, first_fault, part_of, entered, seen_at, fault_at}
-use Rattle.tmpl_syntax.specs.computed.Frames.{frames_past, unless_fault, Known, with_inner, with_names, opened_names, known_past, verdict_from}
+use Rattle.tmpl_syntax.specs.Place.Role.{Name, Names, declared_by, names_of, names_given, opener, Role, role_of}
+use Rattle.tmpl_syntax.specs.Place.Body.{is_level, most_levels}
+use Rattle.tmpl_syntax.specs.computed.Frames.{Verdict, fine}
+use Rattle.tmpl_syntax.specs.computed.Frames.{Frame, top, loops, in_loop, levels, is_known, knows, first_fault, part_of, entered, names_at, fault_at}
+use Rattle.tmpl_syntax.specs.computed.Frames.{frames_after, unless_fault, Known, with_inner, with_names, opened_names, known_after, verdict_from}
 use Rattle.tmpl_syntax.proofs.NameLemmas.{one-known, with-longer, take-with, take-before, part-high, else_names, take-part}
 use Rattle.std.proofs.lemmas.Bool.Decides.{nat_tests}
 
@@ -37,9 +38,9 @@ no_frame (f ∷ fs) = false
 abbrev pub passes : List Frame → Known → List Role → Bool
 passes fs known [] = no_frame fs
 passes fs known (x ∷ xs) =
-    let seen = seen_at x (top fs) known.inner in
+    let seen = names_at x (top fs) known.inner in
     no_fault (fault_at x (top fs) seen)
-    && passes (frames_past x fs seen) (known_past x (top fs) (with_inner known seen)) xs
+    && passes (frames_after x fs seen) (known_after x (top fs) (with_inner known seen)) xs
 
 abbrev pub is_fine : Verdict → Bool
 is_fine fine = true
@@ -53,9 +54,9 @@ pub passes-fine : (xs : List Role) (i : ℕ) (fs : List Frame) (known : Known) �
 passes-fine [] i [] known = refl
 passes-fine [] i (f ∷ fs) known = refl
 passes-fine (x ∷ xs) i fs known =
-    let seen : List Name = seen_at x (top fs) known.inner in
-    let next : List Frame = frames_past x fs seen in
-    let past : Known = known_past x (top fs) (with_inner known seen) in
+    let seen : List Name = names_at x (top fs) known.inner in
+    let next : List Frame = frames_after x fs seen in
+    let past : Known = known_after x (top fs) (with_inner known seen) in
     go (fault_at x (top fs) seen) (verdict_from (i + 1) next past xs) (passes next past xs) (passes-fine xs (i + 1) next past)
   where
     go : (o : Option Reason) (v : Verdict) (b : Bool) → is_fine v ≡ b → is_fine (unless_fault o i v) ≡ (no_fault o && b)
@@ -168,7 +169,7 @@ module _ (fs : List Frame) (known : Known) (scope : List Name) (rs : List Role) 
       (first-none false (knows known.inner (names_given given).uses) ∙ alike-uses known.inner scope (names_given given).uses a)
 
   -- one that opens a level
-  pub opened-passes : (c : Opening) (p : Names) → is_level c ≡ true → passes fs known (act_role (opener c p) ∷ rs)
+  pub opened-passes : (c : Opening) (p : Names) → is_level c ≡ true → passes fs known ((opener c p) ∷ rs)
       ≡ (are_among scope p.uses && nat_lt (levels (top fs)) most_levels
       && passes (entered c p (top fs) known.inner ∷ fs) (opened_names c p.declares known) rs)
   opened-passes opened.define p level = cc

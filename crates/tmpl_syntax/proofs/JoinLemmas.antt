@@ -1,21 +1,37 @@
 -- For `cut_back`: joined parts are cut into the same parts.
 use Rattle.std.proofs.Common.{arith, ◌≡◌, ◌∙◌, ℕ, ◌+◌, ◌<◌, Bool, true, false, ◌&&◌, nat_eq, List, [], ◌∷◌, ◌++◌, refl, sym, ap, subst}
-use Rattle.std.proofs.Common.{length, append_assoc, append-nil, reverse, Some, None, if◌then◌else◌, codes}
+use Rattle.std.proofs.Common.{◌-◌, drop, length, append_assoc, append-nil, reverse, Some, None, if◌then◌else◌, codes}
+use Rattle.std.specs.List.{ends_with}
+use Rattle.std.specs.Cmp.Lexicographic.{pointwise}
 use Rattle.std.proofs.lemmas.Bool.{eqb-true}
+use Rattle.std.proofs.lemmas.Bool.Decides.{nat_tests}
 use Rattle.std.proofs.lemmas.List.{reverse-append}
 use Rattle.std.proofs.Math.Bool.{and-false, and-true}
 use Rattle.tmpl_lex.specs.Bytes.{is_space, Absent, BeginsNone, Stops}
 use Rattle.tmpl_lex.specs.Cut.{a_comment, an_action as tokens_closed, Leads, Cuts, last, closed}
 use Rattle.tmpl_lex.specs.Delimiter.{IsLeftMarker, left_marker, opens, opens_marked, closes}
 use Rattle.tmpl_lex.specs.Piece.{Piece, text, action}
-use Rattle.tmpl_lex.specs.Text.{newlines, text_piece, keeps_front, keeps_end, trims_end, Texts, trimmed}
+use Rattle.tmpl_lex.specs.Text.{newlines, text_piece, keeps, trims, Texts, trimmed}
 use Rattle.tmpl_lex.proofs.PartLemmas.{absent-rest, absent-here, absent-nil, absent-one, absent-cons}
-use Rattle.tmpl_syntax.specs.Print.Join.{Part, a_text, an_action, ends_brace, opening, parting, before_of, file_of, AreParts, no_piece}
+use Rattle.tmpl_syntax.specs.Print.Join.{Part, a_text, an_action, before_of, joined, AreParts, no_piece}
 use Rattle.tmpl_syntax.specs.Print.Join.{same_text, same_action, HasParts, CutsBack}
+use Rattle.tmpl_syntax.specs.Print.Printed.{opening_behind, parting}
+use Rattle.tmpl_syntax.specs.computed.Print.{ends_brace}
 use Rattle.tmpl_grammar.specs.Print.{bytes_of}
 use Rattle.tmpl_grammar.proofs.FrontLemmas.{solid, solid-unmarked}
 
 -- ---- a text, and what opens behind it
+
+last-at : (b : ℕ) (t : List ℕ) → pointwise nat_eq (123 ∷ []) (drop (length t) (b ∷ t)) ≡ ends_brace (b ∷ t)
+last-at b [] = and-true (nat_eq 123 b) ∙ grind (arith, nat_tests)
+last-at b (c ∷ t) = last-at c t
+
+-- the last byte of a text
+last_brace : (t : List ℕ) → ends_with nat_eq t (123 ∷ []) ≡ ends_brace t
+last_brace [] = refl
+last_brace (b ∷ t) =
+    let at : length {A = ℕ} (b ∷ t) - 1 ≡ length t = omega arith in
+    ap (λ n. pointwise nat_eq (123 ∷ []) (drop n (b ∷ t))) at ∙ last-at b t
 
 -- a byte more, which makes no `{{` with the end of the text
 clear-more : (t : List ℕ) (c : ℕ) → Absent (123 ∷ 123 ∷ []) t → (ends_brace t && nat_eq c 123) ≡ false → Absent (123 ∷ 123 ∷ []) (t ++ c ∷ [])
@@ -42,12 +58,13 @@ texts-whole : (line : ℕ) (t : List ℕ) → Texts false false line t (text_pie
 texts-whole line t =
     let n : line + newlines [] ≡ line = omega arith in
     subst (λ (bs : List ℕ). Texts false false line bs (text_piece line t)) (append-nil t)
-    (subst (λ (k : ℕ). Texts false false line (t ++ []) (text_piece k t)) n (trimmed keeps_front keeps_end))
+    (subst (λ (k : ℕ). Texts false false line (t ++ []) (text_piece k t)) n (trimmed t [] keeps keeps))
 
 texts-spaced : (line : ℕ) (t : List ℕ) → ends_brace t ≡ true → Texts false true line (t ++ 32 ∷ []) (text_piece line t)
 texts-spaced line t e =
     let n : line + newlines [] ≡ line = omega arith in
-    subst (λ (k : ℕ). Texts false true line (t ++ 32 ∷ []) (text_piece k t)) n (trimmed keeps_front (trims_end refl (brace-stops t e)))
+    subst (λ (k : ℕ). Texts false true line (t ++ 32 ∷ []) (text_piece k t)) n
+    (trimmed t (32 ∷ []) keeps (trims (record { passes = refl; longest = brace-stops t e })))
 
 abbrev opened_by : Bool → List ℕ
 opened_by k = if k then codes " {{- " else codes "{{"
@@ -55,20 +72,13 @@ opened_by k = if k then codes " {{- " else codes "{{"
 abbrev open_behind : List ℕ → List ℕ
 open_behind t = opened_by (ends_brace t)
 
-open-is : (t : List ℕ) → opening (before_of t) ≡ open_behind t
+open-is : (t : List ℕ) → opening_behind (before_of t) ≡ open_behind t
 open-is [] = refl
-open-is (b ∷ t) = refl
+open-is (b ∷ t) = ap opened_by (last_brace (b ∷ t))
 
 some-before : (t : List ℕ) → 0 < length t → Some t ≡ before_of t
 some-before [] h = absurd (omega arith)
 some-before (b ∷ t) h = refl
-
-parting-is : (t : List ℕ) (rest : List ℕ) → parting (Some t) ++ rest ≡ open_behind t ++ (codes "/**/}}" ++ rest)
-parting-is t rest = go (ends_brace t)
-  where
-    go : (k : Bool) → (if k then codes " {{- /**/}}" else codes "{{/**/}}") ++ rest ≡ opened_by k ++ (codes "/**/}}" ++ rest)
-    go true = refl
-    go false = refl
 
 -- what opens bytes behind a text
 record Opening (line : ℕ) (t a : List ℕ) : Type 0 where
@@ -112,12 +122,12 @@ cut-back [] h t clear line = record {
   same = no_piece;
 }
 cut-back (an_action ts ∷ ps) h t clear line =
-    let rest : List ℕ = file_of None ps in
+    let rest : List ℕ = joined None ps in
     let body : List ℕ = bytes_of ts ++ codes "}}" in
     let o = opens-behind line t (body ++ rest) clear (rw append_assoc (h.0.unmarked rest)) in
     let here : ℕ = line + newlines o.before in
     let more = cut-back ps h.1 [] (absent-nil 123 123) (line + newlines (o.before ++ o.delimiter ++ body)) in
-    let file : o.before ++ o.delimiter ++ body ++ rest ≡ t ++ (opening (before_of t) ++ (bytes_of ts ++ (codes "}}" ++ rest))) =
+    let file : o.before ++ o.delimiter ++ body ++ rest ≡ t ++ (opening_behind (before_of t) ++ (bytes_of ts ++ (codes "}}" ++ rest))) =
     append_assoc (o.before ++ o.delimiter) body rest ∙ append_assoc o.before o.delimiter (body ++ rest) ∙ o.is ∙ rw (open-is, append_assoc (bytes_of ts)) in
     record {
       pieces = action here ts ∷ more.pieces;
@@ -135,13 +145,14 @@ cut-back (a_text u ∷ ps) h [] clear line =
       same = same_text more.same;
     }
 cut-back (a_text u ∷ ps) h (b ∷ t) clear line =
-    let rest : List ℕ = u ++ file_of (before_of u) ps in
+    let rest : List ℕ = u ++ joined (before_of u) ps in
     let body : List ℕ = codes "/**/}}" in
     let o = opens-behind line (b ∷ t) (body ++ rest) clear (solid-unmarked (solid refl refl)) in
     let next : ℕ = line + newlines (o.before ++ o.delimiter ++ body) in
     let more = cut-back ps h.1 u h.0.clear next in
-    let file : o.before ++ o.delimiter ++ body ++ rest ≡ (b ∷ t) ++ (parting (Some (b ∷ t)) ++ (u ++ file_of (Some u) ps)) =
-    simp (append_assoc, o.is, parting-is (b ∷ t) rest, some-before u h.0.some) in
+    let is : opening_behind (Some (b ∷ t)) ≡ open_behind (b ∷ t) = open-is (b ∷ t) in
+    let file : o.before ++ o.delimiter ++ body ++ rest ≡ (b ∷ t) ++ (parting (Some (b ∷ t)) ++ (u ++ joined (Some u) ps)) =
+    simp (append_assoc, o.is, is, some-before u h.0.some) in
     record {
       pieces = text next u ∷ more.pieces;
       cuts = subst (λ (bs : List ℕ). Cuts false line bs (text line (b ∷ t) ∷ text next u ∷ more.pieces)) file

@@ -9,8 +9,7 @@ use Rattle.tmpl_grammar.specs.declared.action.Branch.{Branch}
 use Rattle.tmpl_syntax.specs.computed.Frames.{Frame, top, in_loop, levels, takes_else, is_placed, is_nested, is_known, knows, is_too_deep, names_at, Known}
 use Rattle.tmpl_syntax.specs.Place.Open.{IsOpen, IsLast, IsElseOf, HasElse}
 use Rattle.tmpl_syntax.specs.Place.Scope.{IsInScope}
-use Rattle.tmpl_syntax.specs.Place.Body.{joins, TakesElse, IsLoop, IsMisplaced, names_in, opens_level, most_levels, IsTooDeep, in_levels, in_parentheses}
-use Rattle.tmpl_syntax.specs.Place.Body.{IsUndeclared}
+use Rattle.tmpl_syntax.specs.Place.Body.{joins, TakesElse, IsLoop, IsMisplaced, names_in, Levels, opens_level, most_levels}
 use Rattle.tmpl_syntax.proofs.NameLemmas.{Clears, clears, in-nothing, knows-clears}
 use Rattle.tmpl_syntax.proofs.PlaceLemmas.{same-opening, one-last, even-here, levels-unique, no-else, InLoop}
 use Rattle.tmpl_syntax.proofs.ScopeLemmas.{to-scope, from-scope, at-place, at-place-back, else-sees, else-seen}
@@ -19,7 +18,16 @@ use Rattle.tmpl_syntax.proofs.StepLemmas.{joins-own, joins-no-range}
 use Rattle.tmpl_syntax.specs.Place.Opening.{Opening}
 use Rattle.tmpl_syntax.specs.Place.Opening as opened
 use Rattle.tmpl_grammar.specs.declared.tree.Control.TheVariants.{Range}
-use Rattle.tmpl_syntax.specs.Place.Role.{Name, Names, Act, plain, opener, else_part, closer, jump, nested, Role, act_role}
+use Rattle.tmpl_syntax.specs.Place.Role.{Name, Names, plain, opener, else_part, closer, jump, nested, Role}
+
+-- a level more where as many stand as may, or parentheses that nest too deep
+pub data IsTooDeep (xs : List Role) (i : ℕ) (x : Role) : Type 0 where
+  in_levels : {n : ℕ} → opens_level x ≡ true → Levels xs i i n → most_levels ≤ n → IsTooDeep xs i x
+  in_parentheses : {b : Option Branch} → x ≡ nested b → IsTooDeep xs i x
+
+-- a name used or assigned that is not in scope
+abbrev pub IsUndeclared : List Role → ℕ → Role → Type 0
+IsUndeclared xs i x = (name : Name) × Contains (names_in x).uses name × (IsInScope xs i name → ⊥)
 
 -- ---- places
 
@@ -41,7 +49,7 @@ takes xs i known b (f ∷ fs) s = Decides-like (takes_else b (Some f))
     (Decides-and (joins b f.opening) (not f.has_else) (λ e. e, λ e. e) (Decides-not f.has_else s.2.has))
 
 -- an action is in place, or it is misplaced
-pub placed : (xs : List Role) (i : ℕ) (known : Known) (fs : List Frame) (a : Act) → Stands xs i known fs → Clears (is_placed a (top fs)) (IsMisplaced xs i a)
+pub placed : (xs : List Role) (i : ℕ) (known : Known) (fs : List Frame) (a : Role) → Stands xs i known fs → Clears (is_placed a (top fs)) (IsMisplaced xs i a)
 placed xs i known [] (opener opened.define p) s = λ h. s.0 h.0 h.1
 placed xs i known (f ∷ fs) (opener opened.define p) s = (s.1, s.2.last.is_open)
 placed xs i known fs (else_part None) s = clears _ (takes xs i known None fs s)
@@ -58,11 +66,11 @@ placed xs i known fs _ s = λ h. h
 
 -- ---- depths
 
-nested-Decides : (a : Act) → Decides (is_nested a) ((b : Option Branch) × (a ≡ nested b))
+nested-Decides : (a : Role) → Decides (is_nested a) ((b : Option Branch) × (a ≡ nested b))
 nested-Decides (nested b) = (λ e. (b, refl), λ h. refl)
 nested-Decides _ = (λ e. cc, λ h. let e = h.1 in cc)
 
-pub deep : (xs : List Role) (i : ℕ) (a : Act) (t : Option Frame) (names : List Name) → Here xs i t names → Decides (is_too_deep a t) (IsTooDeep xs i a)
+pub deep : (xs : List Role) (i : ℕ) (a : Role) (t : Option Frame) (names : List Name) → Here xs i t names → Decides (is_too_deep a t) (IsTooDeep xs i a)
 deep xs i a t names h = Decides-like (is_too_deep a t) to back
     (Decides-or (is_nested a) (opens_level a && leb most_levels (levels t)) (nested-Decides a)
     (Decides-and (opens_level a) (leb most_levels (levels t)) (λ e. e, λ e. e) (leb-true most_levels (levels t), le-leb most_levels (levels t))))
@@ -82,14 +90,14 @@ module _ (xs : List Role) (i : ℕ) (known : Known) where
   names = known.inner
 
   -- where an action is no else, the names that are known are those in scope
-  wide : (fs : List Frame) → Stands xs i known fs → (x : Role) → slice_get xs i ≡ Some x → ((b : Option (Branch × Names)) → x ≢ act_role (else_part b))
+  wide : (fs : List Frame) → Stands xs i known fs → (x : Role) → slice_get xs i ≡ Some x → ((b : Option (Branch × Names)) → x ≢ (else_part b))
       → (n : Name) → Decides (is_known names n) (IsInScope xs i n)
   wide fs s x at ne n =
       let h = here-of xs i known fs s in
       Decides-like (is_known names n) (at-place xs i n (no-else xs x i at ne)) (at-place-back xs i n) (h.sees n)
 
   -- .. and where it is an else branch, those that its part sees
-  narrow : (f : Frame) (fs : List Frame) → Stands xs i known (f ∷ fs) → (b : Branch) (p : Names) → slice_get xs i ≡ Some (act_role (else_part (Some (b, p))))
+  narrow : (f : Frame) (fs : List Frame) → Stands xs i known (f ∷ fs) → (b : Branch) (p : Names) → slice_get xs i ≡ Some (else_part (Some (b, p)))
       → joins (Some b) f.opening ≡ true → (n : Name) → Decides (is_known (take f.part names) n) (IsInScope xs i n)
   narrow f fs s b p at joining n =
       let part : IsElseOf xs (Some (b, p)) s.1 i = record { at = at; belongs = s.2.last } in
@@ -101,14 +109,14 @@ module _ (xs : List Role) (i : ℕ) (known : Known) where
       (s.2.part (joins-own (Some b) f.opening joining) n)
 
   -- of the names that an action uses those are known that are in scope
-  scoped : (fs : List Frame) → Stands xs i known fs → (a : Act) → slice_get xs i ≡ Some (act_role a) → is_placed a (top fs) ≡ true
+  scoped : (fs : List Frame) → Stands xs i known fs → (a : Role) → slice_get xs i ≡ Some a → is_placed a (top fs) ≡ true
       → (n : Name) → Contains (names_in a).uses n → Decides (is_known (names_at a (top fs) names) n) (IsInScope xs i n)
-  scoped fs s (plain q) at e n c = wide fs s (act_role (plain q)) at (λ b g. cc) n
-  scoped fs s (opener d q) at e n c = wide fs s (act_role (opener d q)) at (λ b g. cc) n
+  scoped fs s (plain q) at e n c = wide fs s (plain q) at (λ b g. cc) n
+  scoped fs s (opener d q) at e n c = wide fs s (opener d q) at (λ b g. cc) n
   scoped [] s (else_part (Some (b, q))) at e n c = cc
   scoped (f ∷ fs) s (else_part (Some (b, q))) at e n c = narrow f fs s b q at (and_parts (joins (Some b) f.opening) (not f.has_else) e).0 n
   scoped fs s _ at e n c = in-nothing n c
 
-  pub declared : (fs : List Frame) → Stands xs i known fs → (a : Act) → slice_get xs i ≡ Some (act_role a) → is_placed a (top fs) ≡ true
+  pub declared : (fs : List Frame) → Stands xs i known fs → (a : Role) → slice_get xs i ≡ Some a → is_placed a (top fs) ≡ true
       → Clears (knows (names_at a (top fs) names) (names_in a).uses) (IsUndeclared xs i a)
   declared fs s a at e = knows-clears (names_at a (top fs) names) (names_in a).uses (IsInScope xs i) (scoped fs s a at e)

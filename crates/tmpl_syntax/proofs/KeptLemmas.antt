@@ -8,13 +8,15 @@ use Rattle.tmpl_values.specs.Bytes.{AreBytes}
 use Rattle.tmpl_syntax.specs.Tree.{Nodes, Tree, Definition}
 use Rattle.tmpl_syntax.specs.View.{tree_of}
 use Rattle.tmpl_syntax.specs.declared.tree.Tree as held
-use Rattle.tmpl_syntax.specs.Language.{every_branch}
+use Rattle.tmpl_syntax.specs.Language.{every_action}
 use Rattle.tmpl_syntax.specs.Item.{Item}
 use Rattle.tmpl_syntax.specs.Place.Role.{roles_of}
-use Rattle.tmpl_syntax.specs.Place.Body.{Verdict, fine, Judged}
-use Rattle.tmpl_syntax.specs.Set.{Template, has_name, tree_named, is_blank, chosen, defined, defined_each}
+use Rattle.tmpl_syntax.specs.computed.Frames.{Verdict, fine, Judged}
+use Rattle.tmpl_syntax.specs.Set.{Template, tree_named, is_blank, defined, defined_each}
+use Rattle.tmpl_syntax.specs.computed.Set.{has_name, chosen}
 use Rattle.tmpl_syntax.specs.Kept.{IsKept, AreKept}
-use Rattle.tmpl_syntax.specs.Parse.{last_line, base_name, most_bytes, all_defined, template_in}
+use Rattle.tmpl_syntax.specs.Parse.{base_name, most_bytes, all_defined, template_in}
+use Rattle.tmpl_syntax.specs.computed.Parse.{last_line}
 use Rattle.tmpl_syntax.specs.Formed.{IsFormed, AreFormed}
 use Rattle.tmpl_syntax.specs.Need.{NeedAtMost, most_need}
 use Rattle.tmpl_syntax.specs.Print.Printable.{IsPrintable, ArePrintable}
@@ -97,9 +99,9 @@ file-kept file bytes ts name h within passed built =
     let accepted = checked-verdict bytes items passed in
     let spelled = spells-fine items accepted in
     let formed = spells_formed items ds own (subst (Judged (roles_of items)) accepted (judged-all (roles_of items))) spelled in
-    let printable = keeps-printable every_branch bytes items ds own h (has-items bytes) spelled in
+    let printable = keeps-printable every_action bytes items ds own h (has-items bytes) spelled in
     subst AreKept (sym built) (all-kept file ds own name formed (printable.0 file) printable.1
-    (need-most every_branch file bytes items ds own within (has-items bytes) spelled))
+    (need-most every_action file bytes items ds own within (has-items bytes) spelled))
 
 -- ---- definitions one by one
 

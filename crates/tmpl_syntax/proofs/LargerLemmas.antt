@@ -1,15 +1,14 @@
 -- For `more_branches`, `parse_file` and `parse_owned`: what a language accepts, one with more else branches accepts, and what
 -- was added of a file, with its path at a refusal, is what each clause says.
-use Rattle.std.proofs.Common.{◌≡◌, ◌∙◌, ℕ, true, suc, List, [], ◌∷◌, Option, Some, None, Result, Ok, Err, refl, ap, sym, length}
+use Rattle.std.proofs.Common.{◌≡◌, ◌∙◌, ℕ, suc, List, [], ◌∷◌, Option, Some, None, Result, Ok, Err, refl, ap, sym, length}
 use Rattle.std.specs.Prelude.{slice_get}
 use Rattle.tmpl_lex.specs.Piece.{Piece}
-use Rattle.tmpl_grammar.specs.Action.{Action, else_branch}
 use Rattle.tmpl_syntax.specs.Fault as reason
-use Rattle.tmpl_syntax.specs.Language.{Branches, every_branch, go_1_22, has_action}
+use Rattle.tmpl_syntax.specs.Language.{Language, every_action, go_1_22}
 use Rattle.tmpl_syntax.specs.Item.{Item, IsItem, a_text, an_unreadable, unread, too_deep, read}
 use Rattle.std.specs.List.{AllZip}
-use Rattle.tmpl_syntax.specs.Place.Role.{Role, unread_role, role_of, roles_of}
-use Rattle.tmpl_syntax.specs.Place.Body.{NoneRefused, unread as unread_applies}
+use Rattle.tmpl_syntax.specs.Place.Role.{Role, flawed, role_of, roles_of}
+use Rattle.tmpl_syntax.specs.Place.Body.{NoneRefused, flawed as flawed_applies}
 use Rattle.tmpl_syntax.specs.Laws.{IsLarger, AcceptsInLarger}
 use Rattle.tmpl_syntax.proofs.VerdictLemmas.{within}
 use Rattle.tmpl_syntax.proofs.ReadingLemmas.{parsed-accepted, accepted, refusal-for}
@@ -22,22 +21,18 @@ use Rattle.tmpl_syntax.specs.declared.fault.Refusal as held
 
 -- no item of these is unread
 abbrev AllRead : List Role → Type 0
-AllRead xs = (k : ℕ) → slice_get xs k ≡ Some unread_role → ⊥
+AllRead xs = (k : ℕ) → slice_get xs k ≡ Some (flawed reason.not_an_action) → ⊥
 
 all-read : (xs : List Role) → NoneRefused xs (length xs) → AllRead xs
-all-read xs none k at = none k reason.not_an_action (within xs k reason.not_an_action (unread_applies at)) (unread_applies at)
+all-read xs none k at = none k reason.not_an_action (within xs k reason.not_an_action (flawed_applies at)) (flawed_applies at)
 
-module _ (large small : Branches) (more : IsLarger large small) where
-  has-more : (a : Action) → has_action small a ≡ true → has_action large a ≡ true
-  has-more (else_branch b h) t = more b t
-  has-more _ t = refl
-
-  same-item : {p : Piece} {x : Item} → IsItem small p x → (role_of x ≡ unread_role → ⊥) → IsItem large p x
+module _ (large small : Language) (more : IsLarger large small) where
+  same-item : {p : Piece} {x : Item} → IsItem small p x → (role_of x ≡ flawed reason.not_an_action → ⊥) → IsItem large p x
   same-item a_text h = a_text
   same-item an_unreadable h = an_unreadable
   same-item (unread none) h = absurd (h refl)
-  same-item (too_deep a s t lt) h = too_deep a s (has-more a t) lt
-  same-item (read {a = a} s t le) h = read s (has-more a t) le
+  same-item (too_deep a s t lt) h = too_deep a s (more a t) lt
+  same-item (read {a = a} s t le) h = read s (more a t) le
 
   same-items : (ps : List Piece) (xs : List Item) → AllZip (IsItem small) ps xs → AllRead (roles_of xs) → AllZip (IsItem large) ps xs
   same-items [] [] is h = tt
@@ -60,7 +55,7 @@ accepts_in_larger large small more old file bytes new h = record {
 -- what Go 1.22 makes of a file is what is parsed
 module _ (old : List Template) (file bytes : List ℕ) (set : List Template) (accepted : IsAccepted go_1_22 old file bytes set) where
   parsed-before : parsed old file bytes ≡ Ok set
-  parsed-before = parsed-accepted old file bytes set (accepts_in_larger every_branch go_1_22 (λ b t. refl) old file bytes set accepted)
+  parsed-before = parsed-accepted old file bytes set (accepts_in_larger every_action go_1_22 (λ a t. refl) old file bytes set accepted)
 
   pub same-before : (new : List Template) → parsed old file bytes ≡ Ok new → new ≡ set
   same-before new e = let same : ◌≡◌ {A = Result (List Template) Refusal} (Ok new) (Ok set) = sym e ∙ parsed-before in cc

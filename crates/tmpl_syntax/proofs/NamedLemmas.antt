@@ -9,7 +9,8 @@ use Rattle.std.proofs.lemmas.List.Sums.{position_or_len_is}
 use Rattle.std.proofs.lemmas.Option.{slice_get-get_or, slice_get_past}
 use Rattle.std.proofs.lemmas.Slice.Eq.{bytes_eq-Decides}
 use Rattle.tmpl_syntax.specs.Tree as tree
-use Rattle.tmpl_syntax.specs.Set.{Template, has_name, number_of, tree_named}
+use Rattle.tmpl_syntax.specs.Set.{Template, number_of, tree_named}
+use Rattle.tmpl_syntax.specs.computed.Set.{has_name}
 
 -- a template by its name and by its number
 pub record Named (name : List ℕ) (ts : List Template) (k : ℕ) : Type 0 where

@@ -9,7 +9,7 @@ use Rattle.tmpl_grammar.specs.Action.{control_in}
 use Rattle.tmpl_grammar.proofs.NeedLemmas.{cells_of, action-within}
 use Rattle.tmpl_syntax.specs.Tree.{Nodes, Definition}
 use Rattle.tmpl_syntax.specs.Set.{Template}
-use Rattle.tmpl_syntax.specs.Language.{Branches}
+use Rattle.tmpl_syntax.specs.Language.{Language}
 use Rattle.tmpl_syntax.specs.Item.{Item, item, action_item, IsItem, read}
 use Rattle.std.specs.List.{AllZip}
 use Rattle.tmpl_syntax.specs.Spelling.{a_text, Leads, nothing, a_node, a_control, a_define, a_block, Closes, an_end, an_else, an_else_branch}
@@ -27,14 +27,14 @@ abbrev cells : List Item → ℕ
 cells [] = 0
 cells (x ∷ xs) = cells_at x + cells xs
 
-item-within : {branches : Branches} {p : Piece} {x : Item} → IsItem branches p x → cells_at x ≤ weight_of p
+item-within : {language : Language} {p : Piece} {x : Item} → IsItem language p x → cells_at x ≤ weight_of p
 item-within (read {ts = ts} {a = a} s has le) = action-within a ts s
 item-within _ = omega arith
 
-items-within : (branches : Branches) (ps : List Piece) (xs : List Item) → AllZip (IsItem branches) ps xs → cells xs ≤ weight ps
-items-within branches [] [] is = omega arith
-items-within branches (p ∷ ps) (x ∷ xs) is = omega (arith, item-within is.0, items-within branches ps xs is.1)
-items-within branches _ _ is = absurd is
+items-within : (language : Language) (ps : List Piece) (xs : List Item) → AllZip (IsItem language) ps xs → cells xs ≤ weight ps
+items-within language [] [] is = omega arith
+items-within language (p ∷ ps) (x ∷ xs) is = omega (arith, item-within is.0, items-within language ps xs is.1)
+items-within language _ _ is = absurd is
 
 -- ---- nodes
 
@@ -90,9 +90,9 @@ all-within file n [] own w le = (omega (arith, le), tt)
 all-within file n (d ∷ ds) own w le = let here = w.0 in (omega (arith, here), all-within file n ds own w.1 le)
 
 pub need-within : NeedsAtMostBytes
-need-within branches file bytes items ds own has spells =
+need-within language file bytes items ds own has spells =
     let spelled = leads-within spells in
-    let read = items-within branches has.0 items has.2 in
+    let read = items-within language has.0 items has.2 in
     let cut = weight-within has.1 in
     all-within file (length bytes) ds own (spelled.1 (length bytes) (omega (arith, read, cut)) tt) (omega (arith, spelled.0, read, cut))
 
@@ -101,5 +101,5 @@ need-less n m [] le h = tt
 need-less n m (t ∷ ts) le h = let here = h.0 in (omega (arith, here, le), need-less n m ts le h.1)
 
 pub need-most : NeedsAtMost
-need-most branches file bytes items ds own within has spells =
-    need-less (3 + length bytes) most_need _ (omega (arith, within)) (need-within branches file bytes items ds own has spells)
+need-most language file bytes items ds own within has spells =
+    need-less (3 + length bytes) most_need _ (omega (arith, within)) (need-within language file bytes items ds own has spells)

@@ -1,41 +1,36 @@
 -- For `print_set` and `print_tree`: what is said first and what is said next are one page.
 use Rattle.std.proofs.Common.{◌≡◌, ◌∙◌, ℕ, true, false, List, [], ◌∷◌, ◌++◌, refl, sym, ap, append_assoc, append-nil, Option, Some}
-use Rattle.std.proofs.Common.{◌+◌, ◌<◌, ◌≤◌, get_or, None, codes, nat_eq, length, drop, arith, ◌-◌, ◌==◌}
-use Rattle.std.proofs.lemmas.Bool.Decides.{nat_tests}
-use Rattle.std.proofs.lemmas.List.{map-append, at_drop_all, at_drop_more}
-use Rattle.std.proofs.Math.Bool.{and-true}
+use Rattle.std.proofs.Common.{◌+◌, ◌<◌, ◌≤◌, get_or, None, codes, length, drop, arith, ◌==◌}
+use Rattle.std.proofs.lemmas.List.{at_drop_all, at_drop_more}
 use Rattle.std.proofs.lemmas.Bool.{eqb-true}
-use Rattle.std.specs.List.{ends_with}
-use Rattle.std.specs.Cmp.Lexicographic.{pointwise}
 use Rattle.tmpl_grammar.specs.Print.{action_tokens, bytes_of}
-use Rattle.tmpl_syntax.specs.Print.Join.{Part, a_text, an_action, ends_brace, file_of, opening, parting}
 use Rattle.tmpl_grammar.specs.Action.{Action, plain_else}
 use Rattle.tmpl_syntax.specs.View.{node_of, nodes_in}
 use Rattle.tmpl_syntax.specs.declared.tree.Node as held
 use Rattle.tmpl_syntax.proofs.ViewLemmas.{control_of-fields}
-use Rattle.tmpl_syntax.specs.Print.Printed.{Said, said, said_text, else_said, node_said, nodes_said}
+use Rattle.tmpl_syntax.specs.Print.Printed.{Said, said, said_text, else_said, node_said, nodes_said, file_of, opening_behind, parting}
 use Rattle.tmpl_syntax.specs.computed.Print.{Page, last_text, page_with}
 
-joined-append : (before : Option (List ℕ)) (ps qs : List Part) → file_of before (ps ++ qs) ≡ file_of before ps ++ file_of (last_text before ps) qs
+joined-append : (before : Option (List ℕ)) (ps qs : List Said) → file_of before (ps ++ qs) ≡ file_of before ps ++ file_of (last_text before ps) qs
 joined-append before [] qs = refl
-joined-append before (a_text t ∷ ps) qs = simp (joined-append (Some t) ps qs, append_assoc)
-joined-append before (an_action ts ∷ ps) qs = simp (joined-append None ps qs, append_assoc)
+joined-append before (said_text t ∷ ps) qs = simp (joined-append (Some t) ps qs, append_assoc)
+joined-append before (said a ∷ ps) qs = simp (joined-append None ps qs, append_assoc)
 
-last-append : (before : Option (List ℕ)) (ps qs : List Part) → last_text before (ps ++ qs) ≡ last_text (last_text before ps) qs
+last-append : (before : Option (List ℕ)) (ps qs : List Said) → last_text before (ps ++ qs) ≡ last_text (last_text before ps) qs
 last-append before [] qs = refl
-last-append before (a_text t ∷ ps) qs = last-append (Some t) ps qs
-last-append before (an_action ts ∷ ps) qs = last-append None ps qs
+last-append before (said_text t ∷ ps) qs = last-append (Some t) ps qs
+last-append before (said a ∷ ps) qs = last-append None ps qs
 
 pub page_append : (p : Page) (ss rs : List Said) → page_with (page_with p ss) rs ≡ page_with p (ss ++ rs)
 unfolding page_with
-page_append p ss rs = simp (map-append, joined-append, last-append, append_assoc)
+page_append p ss rs = simp (joined-append, last-append, append_assoc)
 
 pub page_nothing : (p : Page) → page_with p [] ≡ p
 unfolding page_with
 page_nothing p = ap (λ bs. (bs, p.1)) (append-nil p.0)
 
 -- an action, put piece by piece
-pub action-put : (before : Option (List ℕ)) (a : Action) (old : List ℕ) {opened inside closed : List ℕ} → opened ≡ old ++ opening before
+pub action-put : (before : Option (List ℕ)) (a : Action) (old : List ℕ) {opened inside closed : List ℕ} → opened ≡ old ++ opening_behind before
     → inside ≡ opened ++ bytes_of (action_tokens a) → closed ≡ inside ++ codes "}}" → (closed, None) ≡ page_with (old, before) (said a ∷ [])
 unfolding page_with
 action-put before a old h i j = simp (j, i, h, append_assoc)
@@ -45,17 +40,6 @@ pub text-put : (before : Option (List ℕ)) (t old : List ℕ) {parted ended : L
     → (ended, Some t) ≡ page_with (old, before) (said_text t ∷ [])
 unfolding page_with
 text-put before t old h i = simp (i, h, append_assoc, append-nil)
-
-last-at : (b : ℕ) (t : List ℕ) → pointwise nat_eq (123 ∷ []) (drop (length t) (b ∷ t)) ≡ ends_brace (b ∷ t)
-last-at b [] = and-true (nat_eq 123 b) ∙ grind (arith, nat_tests)
-last-at b (c ∷ t) = last-at c t
-
--- the last byte of a text
-pub last_brace : (t : List ℕ) → ends_with nat_eq t (123 ∷ []) ≡ ends_brace t
-last_brace [] = refl
-last_brace (b ∷ t) =
-    let at : length {A = ℕ} (b ∷ t) - 1 ≡ length t = omega arith in
-    ap (λ n. pointwise nat_eq (123 ∷ []) (drop n (b ∷ t))) at ∙ last-at b t
 
 -- an else part of no nodes, and one of nodes
 pub no_else : (p : Page) (ns : List held.Node) → true ≡ (length ns == 0) → p ≡ page_with p (else_said (nodes_in ns) (nodes_said (nodes_in ns)))

@@ -8,9 +8,9 @@ use Rattle.std.proofs.lemmas.List.{take-take, drop-take}
 use Rattle.std.proofs.lemmas.Option.{get_or_from_slice_get, slice_get_within}
 use Rattle.std.proofs.lemmas.List.Sums.{sum_by-take-drop, count_by_more_yes, count_by_more_no}
 use Rattle.tmpl_grammar.specs.declared.action.Branch.{Branch}
-use Rattle.tmpl_syntax.specs.Place.Open.{opens, ends, IsOpen, IsLast, IsElseOf, HasElse, is_template, IsBody, IsTemplate, OfOneTemplate}
+use Rattle.tmpl_syntax.specs.Place.Open.{opens, ends, IsOpen, IsLast, IsElseOf, HasElse, is_template, IsBody, OfOneTemplate}
 use Rattle.tmpl_syntax.specs.Place.Opening.{Opening}
-use Rattle.tmpl_syntax.specs.Place.Role.{Names, opener, else_part, closer, Role, act_role}
+use Rattle.tmpl_syntax.specs.Place.Role.{Names, opener, else_part, closer, Role}
 use Rattle.tmpl_syntax.specs.Place.Body.{is_level, IsLoop, IsLevel, of_opening, of_else_branch, Levels, none, one, other}
 use Rattle.tmpl_syntax.specs.computed.Frames.{level_of, else_levels}
 use Rattle.tmpl_syntax.specs.Place.Opening as opened
@@ -51,7 +51,7 @@ front : (xs : List Role) (j i : ℕ) → IsOpen xs j i → (n : ℕ) → j < n �
 front xs j i h n from to =
     omega (arith, h.fronts n from to, count-front ends xs (j + 1) n (omega arith), count-front opens xs (j + 1) n (omega arith))
 
-abbrev pub open-by : (xs : List Role) (j i : ℕ) (c : Opening) (p : Names) → slice_get xs j ≡ Some (act_role (opener c p)) → j < i
+abbrev pub open-by : (xs : List Role) (j i : ℕ) (c : Opening) (p : Names) → slice_get xs j ≡ Some (opener c p) → j < i
     → ((n : ℕ) → j < n → n ≤ i → IsFront xs j n) → IsOpen xs j i
 open-by xs j i c p at before fronts = record {
   opened = c;
@@ -64,8 +64,8 @@ open-by xs j i c p at before fronts = record {
 pub same-piece : (xs : List Role) (i : ℕ) (a b : Role) → slice_get xs i ≡ Some a → slice_get xs i ≡ Some b → a ≡ b
 same-piece xs i a b e f = cc
 
-pub same-opening : (xs : List Role) (j : ℕ) (c d : Opening) {p q : Names} → slice_get xs j ≡ Some (act_role (opener c p))
-    → slice_get xs j ≡ Some (act_role (opener d q)) → c ≡ d
+pub same-opening : (xs : List Role) (j : ℕ) (c d : Opening) {p q : Names} → slice_get xs j ≡ Some (opener c p)
+    → slice_get xs j ≡ Some (opener d q) → c ≡ d
 same-opening xs j c d {p} {q} a b = cc
 
 -- a place between
@@ -82,8 +82,8 @@ through xs k j i a b =
       arith,
       front xs k j a j lt (omega arith),
       front xs j i b n beyond to,
-      count-more ends xs (act_role (opener b.opened b.names)) j b.at,
-      count-more opens xs (act_role (opener b.opened b.names)) j b.at,
+      count-more ends xs (opener b.opened b.names) j b.at,
+      count-more opens xs (opener b.opened b.names) j b.at,
     ))
     (λ le. front xs k j a n from le)
     (cases_lt j n))
@@ -109,7 +109,7 @@ pub record Same (xs : List Role) (j m : ℕ) : Type 0 where
 -- what opens nothing is no opening
 pub shut-at : (xs : List Role) (x : Role) (i m : ℕ) → slice_get xs i ≡ Some x → opens x ≡ false → IsOpen xs i m → ⊥
 shut-at xs x i m at shut h =
-    let t : true ≡ false = ap opens (same-piece xs i (act_role (opener h.opened h.names)) x h.at at) ∙ shut in cc
+    let t : true ≡ false = ap opens (same-piece xs i (opener h.opened h.names) x h.at at) ∙ shut in cc
 
 -- what is open is open past one place more, where that ends no more than was opened since
 open-past : (xs : List Role) (k i : ℕ) → IsOpen xs k i → IsFront xs k (i + 1) → IsOpen xs k (i + 1)
@@ -136,12 +136,12 @@ even-step xs x i at o e = record {
 
 -- after an end stands what stood before its opening
 pub same-ended : (xs : List Role) (j i : ℕ) → IsLast xs j i → ups xs i + downs xs (j + 1) ≡ ups xs (j + 1) + downs xs i
-    → slice_get xs i ≡ Some (act_role closer) → Same xs j (i + 1)
+    → slice_get xs i ≡ Some closer → Same xs j (i + 1)
 same-ended xs j i l over at =
     let lt = l.is_open.before in
-    let p = act_role (opener l.is_open.opened l.is_open.names) in
-    let me = count-more ends xs (act_role closer) i at in
-    let mo = count-more opens xs (act_role closer) i at in
+    let p = (opener l.is_open.opened l.is_open.names) in
+    let me = count-more ends xs closer i at in
+    let mo = count-more opens xs closer i at in
     let pe = count-more ends xs p j l.is_open.at in
     let po = count-more opens xs p j l.is_open.at in
     record {
@@ -156,35 +156,35 @@ same-ended xs j i l over at =
             (λ e. omega (arith, front xs j (i + 1) (subst (λ n. IsOpen xs n (i + 1)) e h) (i + 1) (omega arith) (omega arith), over, me, mo))
             (λ o. ⊎_elim (λ kj. omega arith) (λ jk. l.last k jk (cut xs k i (i + 1) ki (omega arith) h)) o)
             (cases_order k j))
-            (λ ik. let kb = h.before in let s : k ≡ i = omega arith in shut-at xs (act_role closer) i (i + 1) at refl (subst (λ n. IsOpen xs n (i + 1)) s h))
+            (λ ik. let kb = h.before in let s : k ≡ i = omega arith in shut-at xs closer i (i + 1) at refl (subst (λ n. IsOpen xs n (i + 1)) s h))
             (cases_lt k i)))
             (cases_lt k j);
       };
       no_else = λ b q h from to o e. ⊎_elim
           (λ hi. ⊎_elim
           (λ jh. e.belongs.last j o.before (cut xs j h i jh (omega arith) l.is_open))
-          (λ hj. let s : h ≡ j = omega arith in shut-at xs (act_role (else_part b)) j i (subst (λ n. slice_get xs n ≡ Some (act_role (else_part b))) s e.at)
+          (λ hj. let s : h ≡ j = omega arith in shut-at xs (else_part b) j i (subst (λ n. slice_get xs n ≡ Some (else_part b)) s e.at)
           refl l.is_open)
           (cases_lt j h))
-          (λ ih. let s : h ≡ i = omega arith in let g : act_role (else_part b) ≡ act_role closer = same-piece xs i (act_role (else_part b)) (act_role closer)
-          (subst (λ n. slice_get xs n ≡ Some (act_role (else_part b))) s e.at) at in cc)
+          (λ ih. let s : h ≡ i = omega arith in let g : (else_part b) ≡ closer = same-piece xs i (else_part b) closer
+          (subst (λ n. slice_get xs n ≡ Some (else_part b)) s e.at) at in cc)
           (cases_lt h i);
     }
 
 -- .. and after a piece that is no opening, end or else
 pub same-still : (xs : List Role) (x : Role) (i : ℕ) → slice_get xs i ≡ Some x → opens x ≡ false → ends x ≡ false
-    → ((b : Option (Branch × Names)) → x ≢ act_role (else_part b)) → Same xs i (i + 1)
+    → ((b : Option (Branch × Names)) → x ≢ (else_part b)) → Same xs i (i + 1)
 same-still xs x i at o e ne = record {
   even = even-step xs x i at o e;
   no_else = λ b q h from to open_q el. let s : h ≡ i = omega arith in ne b
-      (same-piece xs i x (act_role (else_part b)) at (subst (λ n. slice_get xs n ≡ Some (act_role (else_part b))) s el.at));
+      (same-piece xs i x (else_part b) at (subst (λ n. slice_get xs n ≡ Some (else_part b)) s el.at));
 }
 
 -- what an opening adds
-abbrev pub opened_new : (xs : List Role) (i : ℕ) (c : Opening) (p : Names) → slice_get xs i ≡ Some (act_role (opener c p)) → IsOpen xs i (i + 1)
+abbrev pub opened_new : (xs : List Role) (i : ℕ) (c : Opening) (p : Names) → slice_get xs i ≡ Some (opener c p) → IsOpen xs i (i + 1)
 opened_new xs i c p at = open-by xs i (i + 1) c p at (omega arith) (λ n from to. let s : n ≡ i + 1 = omega arith in rw s (omega arith))
 
-abbrev pub last_new : (xs : List Role) (i : ℕ) (c : Opening) (p : Names) → slice_get xs i ≡ Some (act_role (opener c p)) → IsLast xs i (i + 1)
+abbrev pub last_new : (xs : List Role) (i : ℕ) (c : Opening) (p : Names) → slice_get xs i ≡ Some (opener c p) → IsLast xs i (i + 1)
 last_new xs i c p at = record { is_open = opened_new xs i c p at; last = λ k lt o. let le = o.before in omega arith }
 
 -- at two places the bodies of the same defines and blocks are open
@@ -195,12 +195,12 @@ pub record Alike (xs : List Role) (a b : ℕ) : Type 0 where
 pub move-body : (xs : List Role) (k a b : ℕ) → IsBody xs k a → IsOpen xs k b → IsBody xs k b
 move-body xs k a b h o = record { is_open = o; own = subst (λ c. is_template c ≡ true) (same-opening xs k h.is_open.opened o.opened h.is_open.at o.at) h.own }
 
-pub template-moves : (xs : List Role) (a b : ℕ) → Alike xs a b → (t : Option ℕ) → IsTemplate xs a t → IsTemplate xs b t
-template-moves xs a b e None h = λ j o. h j (e.back j o)
-template-moves xs a b e (Some t) h = (e.to t h.0, λ j lt o. h.1 j lt (e.back j o))
-
 pub one-moves : (xs : List Role) (k a b : ℕ) → Alike xs a b → OfOneTemplate xs k a → OfOneTemplate xs k b
-one-moves xs k a b e h = (h.0, h.1, template-moves xs a b e h.0 h.2)
+one-moves xs k a b e h = λ j. (λ o. e.to j ((h j).0 o), λ o. (h j).1 (e.back j o))
+
+-- places where the same bodies are open are of one template
+pub one-alike : (xs : List Role) (a b : ℕ) → Alike xs a b → OfOneTemplate xs a b
+one-alike xs a b e = λ j. (e.to j, e.back j)
 
 pub alike-back : (xs : List Role) (a b : ℕ) → Alike xs a b → Alike xs b a
 alike-back xs a b e = record { to = e.back; back = e.to }
@@ -221,18 +221,13 @@ alike-last xs j i l nt = record {
       (cases_order k j);
 }
 
-pub alike-opened : (xs : List Role) (i : ℕ) (c : Opening) (p : Names) → slice_get xs i ≡ Some (act_role (opener c p)) → is_template c ≡ false
+pub alike-opened : (xs : List Role) (i : ℕ) (c : Opening) (p : Names) → slice_get xs i ≡ Some (opener c p) → is_template c ≡ false
     → Alike xs i (i + 1)
 alike-opened xs i c p at nt = alike-last xs i (i + 1) (last_new xs i c p at) nt
 
--- the body of a define or block is a template of its own, and no place before it is of that template
-pub template-opened : (xs : List Role) (i : ℕ) (c : Opening) (p : Names) → slice_get xs i ≡ Some (act_role (opener c p)) → is_template c ≡ true
-    → IsTemplate xs (i + 1) (Some i)
-template-opened xs i c p at own = (record { is_open = opened_new xs i c p at; own = own }, λ j lt b. let k = b.is_open.before in omega arith)
-
+-- no place before the body of a define or block is of its template
 pub template-apart : (xs : List Role) (j k i : ℕ) → IsBody xs j i → k ≤ j → OfOneTemplate xs k i → ⊥
-template-apart xs j k i b le (None, at, here) = here j b
-template-apart xs j k i b le (Some t, at, here) = let lt = at.0.is_open.before in here.1 j (omega arith) b
+template-apart xs j k i b le same = let lt = ((same j).1 b).is_open.before in omega arith
 
 -- levels
 
@@ -281,36 +276,36 @@ pub levels-even : (xs : List Role) (i n : ℕ) → Even xs i (i + 1) → Levels 
 levels-even xs i n e r = levels-move (i + 1) (λ k lt. level-moves xs k i (i + 1) (λ q le. e.keeps q)) (λ k lt. level-moves xs k (i + 1) i (λ q le. e.only q)) r
 
 -- a piece that is no else is none of any opening
-pub no-else : (xs : List Role) (x : Role) (i : ℕ) → slice_get xs i ≡ Some x → ((b : Option (Branch × Names)) → x ≢ act_role (else_part b))
+pub no-else : (xs : List Role) (x : Role) (i : ℕ) → slice_get xs i ≡ Some x → ((b : Option (Branch × Names)) → x ≢ (else_part b))
     → (b : Option (Branch × Names)) (j : ℕ) → IsElseOf xs b j i → ⊥
-no-else xs x i at ne b j e = ne b (same-piece xs i x (act_role (else_part b)) at e.at)
+no-else xs x i at ne b j e = ne b (same-piece xs i x (else_part b) at e.at)
 
 pub levels-else : (xs : List Role) (i j n : ℕ) (b : Option (Branch × Names)) → Even xs i (i + 1) → (t : IsElseOf xs b j i)
     → is_level t.belongs.is_open.opened ≡ true → Levels xs i i n → Levels xs (i + 1) (i + 1) (else_levels (is_some b) n)
 levels-else xs i j n None e t nt r = levels-no xs (i + 1) i n (levels-even xs i n e r) fresh
   where
     fresh : IsLevel xs i (i + 1) → ⊥
-    fresh (of_opening o is) = shut-at xs (act_role (else_part None)) i (i + 1) t.at refl o
+    fresh (of_opening o is) = shut-at xs (else_part None) i (i + 1) t.at refl o
     fresh (of_else_branch {b = d} u o is) = cc
 levels-else xs i j n (Some b) e t nt r =
     let o = e.keeps j t.belongs.is_open in
     levels-yes xs (i + 1) i n (levels-even xs i n e r) (of_else_branch t o (ap is_level
     (same-opening xs j o.opened t.belongs.is_open.opened o.at t.belongs.is_open.at) ∙ nt))
 
-pub levels-opened : (xs : List Role) (i n : ℕ) (c : Opening) (p : Names) → slice_get xs i ≡ Some (act_role (opener c p))
+pub levels-opened : (xs : List Role) (i n : ℕ) (c : Opening) (p : Names) → slice_get xs i ≡ Some (opener c p)
     → Levels xs i i n → Levels xs (i + 1) (i + 1) (n + level_of c)
 levels-opened xs i n c p at r = go c at
   where
     below : Levels xs (i + 1) i n
     below = levels-move (i + 1)
-        (λ k lt. level-moves xs k i (i + 1) (λ q le. opened-keeps xs (act_role (opener c p)) i q at refl))
+        (λ k lt. level-moves xs k i (i + 1) (λ q le. opened-keeps xs (opener c p) i q at refl))
         (λ k lt. level-moves xs k (i + 1) i (λ q le. cut xs q i (i + 1) (omega arith) (omega arith))) r
 
-    none : slice_get xs i ≡ Some (act_role (opener opened.define p)) → IsLevel xs i (i + 1) → ⊥
+    none : slice_get xs i ≡ Some (opener opened.define p) → IsLevel xs i (i + 1) → ⊥
     none od (of_opening h is) = let t : true ≡ false = sym is ∙ ap is_level (same-opening xs i h.opened opened.define h.at od) in cc
-    none od (of_else_branch {b = b} {j = q} t h is) = no-else xs (act_role (opener c p)) i at (λ d g. cc) (Some b) q t
+    none od (of_else_branch {b = b} {j = q} t h is) = no-else xs (opener c p) i at (λ d g. cc) (Some b) q t
 
-    go : (d : Opening) → slice_get xs i ≡ Some (act_role (opener d p)) → Levels xs (i + 1) (i + 1) (n + level_of d)
+    go : (d : Opening) → slice_get xs i ≡ Some (opener d p) → Levels xs (i + 1) (i + 1) (n + level_of d)
     go opened.define od = rw add-zero (levels-no xs (i + 1) i n below (none od))
     go d od = levels-yes xs (i + 1) i n below (of_opening (opened_new xs i d p od) refl)
 
@@ -326,9 +321,9 @@ pub else_before : (xs : List Role) (q a b : ℕ) → a ≤ b → HasElse xs q a 
 else_before xs q a b le h = (h.0, let lt = h.1 in omega arith, h.2)
 
 -- a piece that is no plain else adds none
-pub has-before : (xs : List Role) (x : Role) (i : ℕ) → slice_get xs i ≡ Some x → x ≢ act_role (else_part None) → (q : ℕ) → HasElse xs q (i + 1) → HasElse xs q i
+pub has-before : (xs : List Role) (x : Role) (i : ℕ) → slice_get xs i ≡ Some x → x ≢ (else_part None) → (q : ℕ) → HasElse xs q (i + 1) → HasElse xs q i
 has-before xs x i at ne q e = ⊎_elim (λ lt. (e.0, lt, e.2)) (λ ge. let g = e.1 in let s : e.0 ≡ i = omega arith in
-    absurd (ne (same-piece xs i x (act_role (else_part None)) at (subst (λ z. slice_get xs z ≡ Some (act_role (else_part None))) s e.2.at)))) (cases_lt e.0 i)
+    absurd (ne (same-piece xs i x (else_part None) at (subst (λ z. slice_get xs z ≡ Some (else_part None)) s e.2.at)))) (cases_lt e.0 i)
 
 pub else-same : (xs : List Role) (q j m : ℕ) → Same xs j m → IsOpen xs q j → HasElse xs q m → HasElse xs q j
 else-same xs q j m s o h = ⊎_elim (λ lt. (h.0, lt, h.2)) (λ ge. absurd (s.no_else None q h.0 ge h.1 o h.2)) (cases_lt h.0 j)
@@ -343,7 +338,7 @@ module _ (xs : List Role) (j i : ℕ) (l : IsLast xs j i) (own : is_template l.i
           (λ ge. absurd (⊎_elim
           (λ gt. has.2.belongs.last j loop.0.before (cut xs j has.0 i gt (let lt = has.1 in omega arith) l.is_open))
           (λ le. let e : has.0 ≡ j = omega arith in
-          shut-at xs (act_role (else_part None)) j i (subst (λ z. slice_get xs z ≡ Some (act_role (else_part None))) e has.2.at) refl l.is_open)
+          shut-at xs (else_part None) j i (subst (λ z. slice_get xs z ≡ Some (else_part None)) e has.2.at) refl l.is_open)
           (cases_lt j has.0)))
           (cases_lt has.0 j)
 

@@ -1,11 +1,11 @@
 -- For `printable`: what a file spells can be printed, its definitions and the nodes of its own template.
-use Rattle.std.proofs.Common.{ℕ, List, [], ◌∷◌, ◌++◌, map}
+use Rattle.std.proofs.Common.{arith, ℕ, List, [], ◌∷◌, ◌++◌, map}
 use Rattle.tmpl_lex.specs.Piece.{Piece}
 use Rattle.tmpl_grammar.specs.Tree.{Header}
 use Rattle.tmpl_grammar.specs.Action.{opening, else_branch, end_action, control_in}
 use Rattle.tmpl_grammar.specs.declared.tree.Control.{Control}
 use Rattle.tmpl_syntax.specs.Tree.{Nodes, none, then, control_node, Definition}
-use Rattle.tmpl_syntax.specs.Language.{Branches}
+use Rattle.tmpl_syntax.specs.Language.{Language}
 use Rattle.tmpl_syntax.specs.Item.{Item, item, text_item, action_item, IsItem, a_text as text_read, read}
 use Rattle.std.specs.List.{AllZip}
 use Rattle.tmpl_syntax.specs.Spelling.{a_text, Leads, nothing, a_node, a_control, a_define, a_block, Closes, an_end, an_else, an_else_branch}
@@ -18,6 +18,7 @@ use Rattle.tmpl_syntax.specs.Print.Printable.{AreSaid, ArePrintable}
 use Rattle.tmpl_syntax.specs.Parse.{template_in}
 use Rattle.tmpl_syntax.specs.Print.Laws.{KeepsPrintable}
 use Rattle.tmpl_syntax.proofs.PrintablePieceLemmas.{OfPiece, OfPieces, cuts-of}
+use Rattle.tmpl_grammar.proofs.ActionDepthLemmas.{action-depth}
 use Rattle.tmpl_grammar.proofs.PrintableActionLemmas.{of_action}
 
 abbrev OfItem : Item → Type 0
@@ -29,15 +30,15 @@ abbrev OfItems : List Item → Type 0
 OfItems [] = Unit {0}
 OfItems (x ∷ xs) = OfItem x × OfItems xs
 
-of-item : {branches : Branches} {p : Piece} {x : Item} → IsItem branches p x → OfPiece p → OfItem x
+of-item : {language : Language} {p : Piece} {x : Item} → IsItem language p x → OfPiece p → OfItem x
 of-item text_read h = h
-of-item (read {ts = ts} {a = a} s t le) h = of_action a ts le h s
+of-item (read {ts = ts} {a = a} s t le) h = let same = action-depth a ts s in of_action a ts (omega (arith, same, le)) h s
 of-item _ h = tt
 
-of-items : (branches : Branches) (ps : List Piece) (xs : List Item) → AllZip (IsItem branches) ps xs → OfPieces ps → OfItems xs
-of-items branches [] [] is h = tt
-of-items branches (p ∷ ps) (x ∷ xs) is h = (of-item is.0 h.0, of-items branches ps xs is.1 h.1)
-of-items branches _ _ is h = absurd is
+of-items : (language : Language) (ps : List Piece) (xs : List Item) → AllZip (IsItem language) ps xs → OfPieces ps → OfItems xs
+of-items language [] [] is h = tt
+of-items language (p ∷ ps) (x ∷ xs) is h = (of-item is.0 h.0, of-items language ps xs is.1 h.1)
+of-items language _ _ is h = absurd is
 
 pub said-append : (ss ts : List Said) → AreSaid ss → AreSaid ts → AreSaid (ss ++ ts)
 said-append [] ts h k = k
@@ -93,6 +94,6 @@ mutual
       ((tt, said-append (node_said (control_node (control_in br) r body other)) [] said tt), e.1, λ path k. i.2 path (e.2 path k))
 
 pub keeps-printable : KeepsPrintable
-keeps-printable branches bytes items ds own h has spells =
-    let k = leads-of spells (of-items branches has.0 items has.2 (cuts-of has.1 h)) in
+keeps-printable language bytes items ds own h has spells =
+    let k = leads-of spells (of-items language has.0 items has.2 (cuts-of has.1 h)) in
     (λ path. k.2 path tt, k.0)

@@ -36,7 +36,7 @@ piece-of line [] e = tt
 piece-of line (b ∷ t) e = (record { some = omega arith; clear = e }, tt)
 
 texts-of : {right left : Bool} {line : ℕ} {bs : List ℕ} {ps : List Piece} → Texts right left line bs ps → Absent (codes "{{") bs → OfPieces ps
-texts-of (trimmed {front = front} {kept = kept} {end = end} f e) h = piece-of _ kept (absent-part (codes "{{") front kept end h)
+texts-of (trimmed {front = front} kept end f e) h = piece-of _ kept (absent-part (codes "{{") front kept end h)
 
 leads-of : {right : Bool} {line : ℕ} {before opening rest : List ℕ} {ps : List Piece} → Leads right line before opening rest ps → OfPieces ps
 leads-of {before = before} h = texts-of h.texts (absent-part (codes "{{") [] before (codes "{") h.first)

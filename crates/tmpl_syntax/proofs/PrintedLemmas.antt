@@ -1,5 +1,5 @@
 -- For `printed_back` and `set_back`: the pieces of what is printed are read as what its nodes say, and this spells the same nodes, apart from lines.
-use Rattle.std.proofs.Common.{◌≡◌, ℕ, List, [], ◌∷◌, ◌++◌, refl, append_assoc, append-nil, map, codes, arith, ◌≤◌, Some, None}
+use Rattle.std.proofs.Common.{◌≡◌, ℕ, false, List, [], ◌∷◌, ◌++◌, refl, ap, subst, append_assoc, append-nil, map, sym, codes, arith, ◌≤◌, Option, Some, None}
 use Rattle.tmpl_grammar.specs.Tree.{Header}
 use Rattle.tmpl_grammar.specs.declared.tree.Control.{Control}
 use Rattle.tmpl_grammar.specs.Action.{end_action, plain_else, define_action, Action, pipeline_action, opening, else_branch, template_action, block_action}
@@ -8,16 +8,20 @@ use Rattle.tmpl_syntax.specs.Item.{Item, item, action_item, text_item, a_text as
 use Rattle.tmpl_syntax.specs.Set.{Template}
 use Rattle.tmpl_syntax.specs.Spelling.{definition, a_text, an_action, a_break, a_continue, a_template, Leads, nothing, a_node, a_control, a_define, Closes}
 use Rattle.tmpl_syntax.specs.Spelling.{an_end, an_else, Spells}
-use Rattle.tmpl_syntax.specs.Print.Printed.{Said, said_text, said, else_said, node_said, nodes_said, template_said, unlined_node, unlined, part_of}
+use Rattle.tmpl_syntax.specs.Print.Printed.{Said, said_text, said, else_said, node_said, nodes_said, template_said, unlined_node, unlined}
+use Rattle.tmpl_syntax.specs.Print.Printed.{opening_behind, parting, file_of}
+use Rattle.tmpl_syntax.specs.computed.Print.{part_of}
 use Rattle.std.specs.List.{flat_map, AllZip}
 use Rattle.tmpl_syntax.specs.Print.Laws.{Says, says_nothing, says_text, says, unlined_definition, unlined_template, newline_nodes, ReadsSame, SetReadsSame}
 use Rattle.tmpl_lex.specs.Piece.{Piece}
+use Rattle.tmpl_lex.specs.Cut.{Cuts}
+use Rattle.tmpl_grammar.specs.Print.{action_tokens, bytes_of}
 use Rattle.tmpl_grammar.specs.Depth.{depth_of, most_deep}
-use Rattle.tmpl_syntax.specs.Language.{every_branch}
-use Rattle.tmpl_syntax.specs.Print.Join.{file_of, IsText, AreParts, SamePieces, no_piece, same_text, same_action}
+use Rattle.tmpl_syntax.specs.Language.{every_action}
+use Rattle.tmpl_syntax.specs.Print.Join.{joined, IsText, AreParts, SamePieces, no_piece, same_text, same_action}
 use Rattle.tmpl_grammar.specs.Printable.{OfAction}
 use Rattle.tmpl_syntax.specs.Print.Printable.{AreSaid, ArePrintable}
-use Rattle.tmpl_syntax.proofs.ItemLemmas.{has-every}
+use Rattle.tmpl_grammar.proofs.ActionDepthLemmas.{action-depth}
 use Rattle.tmpl_lex.proofs.PartLemmas.{absent-nil, absent-cons}
 use Rattle.tmpl_syntax.proofs.JoinLemmas.{cut-back}
 use Rattle.tmpl_grammar.proofs.PrintedTokenLemmas.{action-inside}
@@ -117,19 +121,27 @@ within _ h = omega arith
 
 -- pieces are read as items that say this
 items-said : (ss : List Said) (ps : List Piece) → AreSaid ss → SamePieces (map part_of ss) ps
-    → (xs : List Item) × AllZip (IsItem every_branch) ps xs × Says ss xs
+    → (xs : List Item) × AllZip (IsItem every_action) ps xs × Says ss xs
 items-said [] _ h no_piece = ([], tt, says_nothing)
 items-said (said_text t ∷ ss) _ h (same_text {line = line} s) =
     let (xs, are, say) = items-said ss _ h.1 s in (item line (text_item t) ∷ xs, (text_read, are), says_text say)
 items-said (said a ∷ ss) _ h (same_action {line = line} s) =
     let (xs, are, say) = items-said ss _ h.1 s in
-    (item line (action_item a) ∷ xs, (read (spells-tokens a h.0) (has-every a) (within a h.0), are), says say)
+    let spells = spells-tokens a h.0 in
+    (item line (action_item a) ∷ xs, (read spells refl (rw (sym (action-depth a (action_tokens a) spells)) (within a h.0)), are), says say)
+
+-- what is said is joined part by part
+said-joined : (before : Option (List ℕ)) (ss : List Said) → joined before (map part_of ss) ≡ file_of before ss
+said-joined before [] = refl
+said-joined before (said_text t ∷ ss) = ap (λ bs. parting before ++ (t ++ bs)) (said-joined (Some t) ss)
+said-joined before (said a ∷ ss) = ap (λ bs. opening_behind before ++ (bytes_of (action_tokens a) ++ (codes "}}" ++ bs))) (said-joined None ss)
 
 -- a file of what is said has items that say it
-has-said : (ss : List Said) → AreSaid ss → (xs : List Item) × HasItems every_branch (file_of None (map part_of ss)) xs × Says ss xs
+has-said : (ss : List Said) → AreSaid ss → (xs : List Item) × HasItems every_action (file_of None ss) xs × Says ss xs
 has-said ss h =
     let c = cut-back (map part_of ss) (are-parts ss h) [] (absent-nil 123 123) 1 in
-    let (xs, are, say) = items-said ss c.pieces h c.same in (xs, (c.pieces, c.cuts, are), say)
+    let (xs, are, say) = items-said ss c.pieces h c.same in
+    (xs, (c.pieces, subst (λ bs. Cuts false 1 bs c.pieces) (said-joined None ss) c.cuts, are), say)
 
 pub reads_same : ReadsSame
 reads_same ns h =

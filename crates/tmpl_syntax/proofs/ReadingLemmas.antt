@@ -1,13 +1,20 @@
 -- For `one_outcome`: a file is accepted or refused just as the function says.
-use Rattle.std.proofs.Common.{arith, ◌≡◌, ◌<◌, ◌≤◌, ℕ, zero, suc, List, [], ◌∷◌, Option, Some, None, Result, Ok, Err, refl, sym, ap, subst, ◌∙◌, length, ⊎_elim}
+use Rattle.std.proofs.Common.{arith, ◌≡◌, ◌⊎◌, inl, inr, ◌<◌, ◌≤◌, ℕ, zero, suc, List, [], ◌∷◌, Option, Some, None, Result, Ok, Err, refl, sym, ap, subst, ◌∙◌}
+use Rattle.std.proofs.Common.{length, ⊎_elim}
 use Rattle.std.specs.Prelude.{slice_get}
 use Rattle.std.proofs.lemmas.Bool.{cases_lt}
 use Rattle.std.proofs.lemmas.List.{length-map}
-use Rattle.tmpl_syntax.specs.Language.{every_branch}
-use Rattle.tmpl_syntax.specs.Fault.{Reason, open_at_end, too_long, second_definition}
+use Rattle.tmpl_lex.specs.Piece as piece
+use Rattle.tmpl_lex.specs.computed.Cut.{cut_of}
+use Rattle.tmpl_grammar.specs.computed.Depth.{Reading, unread, too_deep, read}
+use Rattle.tmpl_grammar.specs.computed.Reading.{reading_in}
+use Rattle.tmpl_syntax.specs.computed.Item.{read_item, items_in}
+use Rattle.tmpl_syntax.specs.Language.{every_action}
+use Rattle.tmpl_syntax.specs.Fault.{Reason, unreadable, not_an_action, open_at_end, too_long, second_definition}
 use Rattle.tmpl_syntax.specs.Item.{ItemKind, Item, item, HasItems}
-use Rattle.tmpl_syntax.specs.Place.Role.{role_of, roles_of}
-use Rattle.tmpl_syntax.specs.Place.Body.{Applies, unreadable, Verdict, fine, refused, left_open, Judged}
+use Rattle.tmpl_syntax.specs.Place.Role.{flawed, role_of, roles_of}
+use Rattle.tmpl_syntax.specs.Place.Body.{Applies, flawed as flawed_applies}
+use Rattle.tmpl_syntax.specs.computed.Frames.{Verdict, fine, refused, left_open, Judged}
 use Rattle.tmpl_syntax.specs.computed.Frames.{verdict_of}
 use Rattle.tmpl_syntax.specs.Tree.{Nodes, Definition}
 use Rattle.tmpl_syntax.specs.Spelling.{Spells}
@@ -16,7 +23,8 @@ use Rattle.tmpl_syntax.specs.Set.{Template}
 use Rattle.tmpl_syntax.specs.Laws.{HasOutcome, HasOneOutcome, AcceptsAsParsed, RefusesAsParsed}
 use Rattle.tmpl_syntax.specs.computed.Parse.{Refusal, IsRefusal, line_in, line_at, by_verdict, checked, second_in, unless_second, definitions_or}
 use Rattle.tmpl_syntax.specs.computed.Parse.{all_from, items_of, placed, parsed}
-use Rattle.tmpl_syntax.specs.Parse.{last_line, base_name, most_bytes, all_defined, IsAccepted, IsRefusedBy, Parses, ParsesUnless}
+use Rattle.tmpl_syntax.specs.Parse.{base_name, most_bytes, all_defined, IsAccepted, IsRefusedBy, Parses, ParsesUnless}
+use Rattle.tmpl_syntax.specs.computed.Parse.{last_line}
 use Rattle.tmpl_syntax.proofs.ItemLemmas.{has-items, no-others}
 use Rattle.tmpl_syntax.proofs.VerdictLemmas.{within, one-verdict, judged-all}
 use Rattle.tmpl_syntax.proofs.SecondLemmas.{none-second, has-second, second-none, second-some}
@@ -49,10 +57,30 @@ module _ (set : List Template) (file bytes : List ℕ) where
 
   -- ---- from the function
 
+  -- what is flawed in a file has no other reason than these
+  flawed-read : (ps : List piece.Piece) (i : ℕ) (why : Reason) → slice_get (roles_of (items_in ps)) i ≡ Some (flawed why)
+      → (why ≡ unreadable) ⊎ (why ≡ not_an_action)
+  flawed-read [] i why e = cc
+  flawed-read (p ∷ ps) (suc i) why e = flawed-read ps i why e
+  flawed-read (piece.text line bs ∷ ps) zero why e = cc
+  flawed-read (piece.unreadable line ∷ ps) zero why e = inl (cc)
+  flawed-read (piece.action line ts ∷ ps) zero why e = by (reading_in ts) e
+    where
+      by : (r : Reading) → Some (role_of (item line (read_item r))) ≡ Some (flawed why) → (why ≡ unreadable) ⊎ (why ≡ not_an_action)
+      by unread e = inr (cc)
+      by (too_deep b) e = cc
+      by (read a) e = grind arith
+
   -- what applies to an item is no reason that is asked for at the front or at the end of a file
   refused-as : (line : ℕ) (why : Reason) → {i : ℕ} → Applies (roles_of (items_of bytes)) i why → length bytes ≤ most_bytes
-      → IsRefusedAt (items_of bytes) line why → IsRefusedBy every_branch file bytes line why
-  refused-as line _ (unreadable a) h r = (h, items_of bytes, has-items bytes, r)
+      → IsRefusedAt (items_of bytes) line why → IsRefusedBy every_action file bytes line why
+  refused-as line why {i} (flawed_applies a) h r = ⊎_elim
+      (λ e. subst Becomes (sym e) (λ r. (h, items_of bytes, has-items bytes, r)) r)
+      (λ e. subst Becomes (sym e) (λ r. (h, items_of bytes, has-items bytes, r)) r)
+      (flawed-read (cut_of bytes) i why a)
+    where
+      Becomes : Reason → Type 0
+      Becomes w = IsRefusedAt (items_of bytes) line w → IsRefusedBy every_action file bytes line w
   refused-as line _ _ h r = (h, items_of bytes, has-items bytes, r)
 
   pub outcome : Parses set file bytes (parsed set file bytes)
@@ -90,10 +118,10 @@ module _ (set : List Template) (file bytes : List ℕ) where
           refused-as (line_at (items_of bytes) i) f j.0 short (i, it.0, j, it.1)
       by short left_open v = (short, items_of bytes, has-items bytes, (judged-by left_open v, refl))
 
-  pub accepted : (new : List Template) → parsed set file bytes ≡ Ok new → IsAccepted every_branch set file bytes new
+  pub accepted : (new : List Template) → parsed set file bytes ≡ Ok new → IsAccepted every_action set file bytes new
   accepted new e = subst (Parses set file bytes) e outcome
 
-  pub refusal : (line : ℕ) (reason : Reason) → parsed set file bytes ≡ Err (line, reason) → IsRefusedBy every_branch file bytes line reason
+  pub refusal : (line : ℕ) (reason : Reason) → parsed set file bytes ≡ Err (line, reason) → IsRefusedBy every_action file bytes line reason
   refusal line reason e = subst (Parses set file bytes) e outcome
 
   -- .. where memory may run out
@@ -104,31 +132,31 @@ module _ (set : List Template) (file bytes : List ℕ) where
   -- ---- to the function
 
   -- a file of items on which this is the verdict
-  verdict-as : (items : List Item) → HasItems every_branch bytes items → (v : Verdict) → Judged (roles_of items) v
+  verdict-as : (items : List Item) → HasItems every_action bytes items → (v : Verdict) → Judged (roles_of items) v
       → length bytes ≤ most_bytes
       → parsed set file bytes ≡ placed set file (definitions_or (by_verdict (last_line bytes) items v) (all_from (base_name file) items))
   verdict-as items has v j short = rw (no-others bytes items has) (short-by v short (one-verdict _ _ v (judged-all (roles_of (items_of bytes)))
       (subst (λ xs. Judged (roles_of xs) v) (no-others bytes items has) j)))
 
   -- .. which spell these definitions
-  fine-as : (items : List Item) → HasItems every_branch bytes items → (es : List Definition) (own : Nodes) → Judged (roles_of items) fine
+  fine-as : (items : List Item) → HasItems every_action bytes items → (es : List Definition) (own : Nodes) → Judged (roles_of items) fine
       → Spells items es own → length bytes ≤ most_bytes → (o : Option ℕ) → second_in (all_defined file es own) ≡ o
       → parsed set file bytes ≡ placed set file (unless_second o (all_defined file es own))
   fine-as items has es own j s short o second =
       let same = spells-built items es own s in
       verdict-as items has fine j short ∙ rw (same.0, same.1, second) refl
 
-  pub parsed-accepted : (new : List Template) → IsAccepted every_branch set file bytes new → parsed set file bytes ≡ Ok new
+  pub parsed-accepted : (new : List Template) → IsAccepted every_action set file bytes new → parsed set file bytes ≡ Ok new
   parsed-accepted new h =
       fine-as h.items h.has h.definitions h.own h.judged h.spells h.short None (second-none (all_defined file h.definitions h.own) h.once)
       ∙ ap (λ ts. Ok ts) (sym h.set)
 
-  refused-there-as : (line : ℕ) (why : Reason) → length bytes ≤ most_bytes → (items : List Item) → HasItems every_branch bytes items
+  refused-there-as : (line : ℕ) (why : Reason) → length bytes ≤ most_bytes → (items : List Item) → HasItems every_action bytes items
       → IsRefusedAt items line why → parsed set file bytes ≡ Err (line, why)
   refused-there-as line why short items has r =
       verdict-as items has (refused r.0 why) r.2 short ∙ ap (λ o. Err (line_in o, why)) r.3
 
-  pub parsed-refused : (line : ℕ) (reason : Reason) → IsRefusedBy every_branch file bytes line reason → parsed set file bytes ≡ Err (line, reason)
+  pub parsed-refused : (line : ℕ) (reason : Reason) → IsRefusedBy every_action file bytes line reason → parsed set file bytes ≡ Err (line, reason)
   parsed-refused line too_long (long, at) = parsed-long set file bytes long ∙ ap (λ n. Err (n, too_long)) (sym at)
   parsed-refused line open_at_end (short, items, has, (j, at)) = verdict-as items has left_open j short ∙ ap (λ n. Err (n, open_at_end)) (sym at)
   parsed-refused line second_definition (short, items, has, (j, es, own, s, second)) =

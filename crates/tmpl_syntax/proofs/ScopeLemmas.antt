@@ -1,20 +1,20 @@
 -- For `one_verdict`: names in scope move with what is open, and what a further part of a control sees.
-use Rattle.std.proofs.Common.{arith, ◌≡◌, ℕ, ◌+◌, ◌<◌, ◌≤◌, false, List, [], refl, sym, subst, Option, Some, inl, inr, ⊎_elim, ◌⊎◌, ap, ◌∙◌, None}
+use Rattle.std.proofs.Common.{arith, ◌≡◌, ℕ, ◌+◌, ◌<◌, ◌≤◌, false, List, refl, sym, subst, Option, Some, inl, inr, ⊎_elim, ◌⊎◌, ap, ◌∙◌, None}
 use Rattle.std.specs.Prelude.{slice_get, Contains}
 use Rattle.std.specs.Bool.{Decides}
 use Rattle.std.proofs.lemmas.Bool.{cases_lt}
 use Rattle.std.proofs.lemmas.Bool.Decides.{Decides-like}
 use Rattle.tmpl_grammar.specs.declared.action.Branch.{Branch}
-use Rattle.tmpl_syntax.specs.Place.Open.{IsOpen, NothingOpen, IsLast, IsElseOf, HasElse, is_template, IsTemplate, OfOneTemplate}
-use Rattle.tmpl_syntax.specs.Place.Scope.{Declares, at_the_top, inside, in_header, in_else_branch, IsInScope}
+use Rattle.tmpl_syntax.specs.Place.Open.{IsOpen, IsLast, IsElseOf, HasElse, is_template, OfOneTemplate}
+use Rattle.tmpl_syntax.specs.Place.Scope.{Declares, in_action, in_header, in_else_branch, IsInScope}
 use Rattle.tmpl_syntax.specs.computed.Frames.{is_known, with_names}
 use Rattle.tmpl_syntax.proofs.NameLemmas.{with-Decides}
 use Rattle.tmpl_syntax.proofs.PlaceLemmas.{same-piece, cut, Even, Same, opened-keeps, opened_new, same-opening, one-last}
-use Rattle.tmpl_syntax.proofs.PlaceLemmas.{Alike, even-here, alike-even, alike-back, alike-opened, one-moves, template-moves, no-else}
+use Rattle.tmpl_syntax.proofs.PlaceLemmas.{Alike, even-here, alike-even, alike-back, alike-opened, one-moves, one-alike, no-else}
 use Rattle.tmpl_syntax.specs.Place.Opening.{Opening}
 use Rattle.tmpl_syntax.specs.Place.Opening as opened
 use Rattle.tmpl_grammar.specs.declared.tree.Control.TheVariants.{Range}
-use Rattle.tmpl_syntax.specs.Place.Role.{Name, Names, plain, opener, else_part, Role, act_role}
+use Rattle.tmpl_syntax.specs.Place.Role.{Name, Names, plain, opener, else_part, Role}
 use Rattle.tmpl_syntax.specs.Place.Body.{names_in}
 
 -- an else of the opening at j stands after k and before b; or one is thought of, as of the opening that u says
@@ -27,10 +27,9 @@ IsElsed xs u a j = (u ≡ Some j) ⊎ HasElse xs j a
 
 -- as Declares, with no else from after k to before b
 pub data Reaches (xs : List Role) (u : Option ℕ) (k a b : ℕ) (name : Name) : Type 0 where
-  from_top : {p : Names} → slice_get xs k ≡ Some (act_role (plain p)) → Contains p.declares name → NothingOpen xs k → Reaches xs u k a b name
-  from_inside : {p : Names} {j : ℕ} → slice_get xs k ≡ Some (act_role (plain p)) → Contains p.declares name → IsLast xs j k → IsOpen xs j a
-      → (IsCut xs u k b j → ⊥) → Reaches xs u k a b name
-  from_header : {c : Opening} {p : Names} → slice_get xs k ≡ Some (act_role (opener c p)) → Contains p.declares name → IsOpen xs k a
+  from_action : {p : Names} → slice_get xs k ≡ Some (plain p) → Contains p.declares name
+      → ((j : ℕ) → IsOpen xs j k → IsOpen xs j a × (IsCut xs u k b j → ⊥)) → Reaches xs u k a b name
+  from_header : {c : Opening} {p : Names} → slice_get xs k ≡ Some (opener c p) → Contains p.declares name → IsOpen xs k a
       → (c ≡ opened.control Range → IsElsed xs u a k → ⊥) → Reaches xs u k a b name
   from_else_branch : {c : Branch} {p : Names} {j : ℕ} → IsElseOf xs (Some (c, p)) j k → Contains p.declares name → IsOpen xs j a → Reaches xs u k a b name
 
@@ -50,8 +49,7 @@ pub to-scope : (xs : List Role) (i : ℕ) (n : Name) → Brought xs None i (i + 
 to-scope xs i n s = (s.by, s.before, s.template, go s.reaches)
   where
     go : Reaches xs None s.by i (i + 1) n → Declares xs s.by i n
-    go (from_top at h o) = at_the_top at h o
-    go (from_inside at h l o e) = inside at h l o (λ m d from to t. e (inr (m, d, from, omega arith, t)))
+    go (from_action at h f) = in_action at h (λ j o. let r = f j o in (r.0, λ m d from to t. r.1 (inr (m, d, from, omega arith, t))))
     go (from_header at h o r) = in_header at h o (λ is has. r is (inr has))
     go (from_else_branch e h o) = in_else_branch e h o
 
@@ -59,25 +57,22 @@ pub from-scope : (xs : List Role) (i : ℕ) (n : Name) → IsInScope xs i n → 
 from-scope xs i n s = record { by = s.0; before = s.1; template = s.2; reaches = go s.3 }
   where
     go : Declares xs s.0 i n → Reaches xs None s.0 i (i + 1) n
-    go (at_the_top at h o) = from_top at h o
-    go (inside at h l o p) = from_inside at h l o (⊎_elim (λ e. cc) (λ t. let to = t.3 in p t.0 t.1 t.2 (omega arith) t.4))
+    go (in_action at h f) = from_action at h (λ j o. let r = f j o in (r.0, ⊎_elim (λ e. cc) (λ t. let to = t.3 in r.1 t.0 t.1 t.2 (omega arith) t.4)))
     go (in_header at h o r) = from_header at h o (λ is. ⊎_elim (λ e. cc) (r is))
     go (in_else_branch e h o) = from_else_branch e h o
 
 -- the names that a piece declares
 abbrev pub declared_at : Role → List Name
-declared_at (act_role a) = (names_in a).declares
-declared_at x = []
+declared_at x = (names_in x).declares
 
 -- what a piece brings it declares
 pub brings : (xs : List Role) (u : Option ℕ) (k a b : ℕ) (n : Name) (x : Role) → slice_get xs k ≡ Some x → Reaches xs u k a b n → Contains (declared_at x) n
 brings xs u k a b n x at r = by r (λ y e. subst (λ z. Contains (declared_at z) n) (same-piece xs k y x e at))
   where
     by : Reaches xs u k a b n → ((y : Role) → slice_get xs k ≡ Some y → Contains (declared_at y) n → Contains (declared_at x) n) → Contains (declared_at x) n
-    by (from_top {p = p} e c z) same = same (act_role (plain p)) e c
-    by (from_inside {p = p} e c l o ne) same = same (act_role (plain p)) e c
-    by (from_header {c = d} {p = p} e c o r) same = same (act_role (opener d p)) e c
-    by (from_else_branch {c = d} {p = p} t c o) same = same (act_role (else_part (Some (d, p)))) t.at c
+    by (from_action {p = p} e c f) same = same (plain p) e c
+    by (from_header {c = d} {p = p} e c o r) same = same (opener d p) e c
+    by (from_else_branch {c = d} {p = p} t c o) same = same (else_part (Some (d, p))) t.at c
 
 -- ---- from place to place
 
@@ -102,8 +97,8 @@ module _ {xs : List Role} {u v : Option ℕ} where
       record { by = f.by; before = lt; template = one-moves xs f.by a c alike f.template; reaches = go f.reaches }
     where
       go : Reaches xs u f.by a b n → Reaches xs v f.by c d n
-      go (from_top at h z) = from_top at h z
-      go (from_inside {j = j} at h l p ne) = let lt = l.is_open.before in from_inside at h l (o j (omega arith) p) (λ t. ne (e j lt p t))
+      go (from_action at h g) =
+          from_action at h (λ j p. let r = g j p in let lt = p.before in (o j (omega arith) r.0, λ t. r.1 (e j lt r.0 t)))
       go (from_header {c = s} at h p nr) =
           from_header at h (o f.by (omega arith) p) (λ is t. nr is (r p (same-opening xs f.by p.opened s p.at at ∙ is) t))
       go (from_else_branch {j = j} t h p) = let lt = t.belongs.is_open.before in from_else_branch t h (o j (omega arith) p)
@@ -127,10 +122,9 @@ module _ (xs : List Role) (u : Option ℕ) (j m : ℕ) (s : Same xs j m) where
 
   -- a header or an else branch between brings nothing; an action does where it stands in what is open
   pub brought-late : (n : Name) (k : ℕ) → j ≤ k → k < m → Reaches xs u k m m n
-      → ((p : Names) → slice_get xs k ≡ Some (act_role (plain p)) → Contains p.declares n
-      → NothingOpen xs k ⊎ ((q : ℕ) × IsLast xs q k × IsOpen xs q j × (u ≡ Some q → ⊥)) → ⊥) → ⊥
-  brought-late n k from to (from_top {p = p} e h z) f = f p e h (inl z)
-  brought-late n k from to (from_inside {p = p} {j = q} e h l o ne) f = f p e h (inr (q, l, s.even.only q o, λ t. ne (inl t)))
+      → ((p : Names) → slice_get xs k ≡ Some (plain p) → Contains p.declares n
+      → ((q : ℕ) → IsOpen xs q k → IsOpen xs q j × (u ≡ Some q → ⊥)) → ⊥) → ⊥
+  brought-late n k from to (from_action {p = p} e h g) f = f p e h (λ q o. let r = g q o in (s.even.only q r.0, λ t. r.1 (inl t)))
   brought-late n k from to (from_header e h o r) f = let b = (s.even.only k o).before in omega arith
   brought-late n k from to (from_else_branch {c = c} {p = p} {j = q} t h o) f = s.no_else (Some (c, p)) q k from to (s.even.only q o) t
 
@@ -146,14 +140,14 @@ at-place-back xs i n s =
     (λ q lt o. cut-moves (λ t. inl t) (λ m d ge to from t. absurd (omega arith))) (λ o is t. t)
 
 -- after an opening that is no define or block, where an else of it may be thought of
-module _ (xs : List Role) (i : ℕ) (c : Opening) (p : Names) (at : slice_get xs i ≡ Some (act_role (opener c p))) (nt : is_template c ≡ false)
+module _ (xs : List Role) (i : ℕ) (c : Opening) (p : Names) (at : slice_get xs i ≡ Some (opener c p)) (nt : is_template c ≡ false)
     (u : Option ℕ) (own : (q : ℕ) → u ≡ Some q → q ≡ i) where
   opened-old : (n : Name) → Brought xs None i i n → Brought xs u (i + 1) (i + 1) n
   opened-old n b =
       let lt = b.before in
       let none : (d : Option (Branch × Names)) (q m : ℕ) → i ≤ m → m < i + 1 → IsElseOf xs d q m → ⊥ =
-      λ d q m ge to t. let s : m ≡ i = omega arith in no-else xs (act_role (opener c p)) i at (λ d g. cc) d q (subst (IsElseOf xs d q) s t) in
-      brought-moves i i (i + 1) (i + 1) n (alike-opened xs i c p at nt) b (omega arith) (λ q le. opened-keeps xs (act_role (opener c p)) i q at refl)
+      λ d q m ge to t. let s : m ≡ i = omega arith in no-else xs (opener c p) i at (λ d g. cc) d q (subst (IsElseOf xs d q) s t) in
+      brought-moves i i (i + 1) (i + 1) n (alike-opened xs i c p at nt) b (omega arith) (λ q le. opened-keeps xs (opener c p) i q at refl)
       (λ q lt o. cut-moves (λ t. let e = own q t in absurd (omega arith)) (λ m d ge to from t. absurd (none d q m ge to t)))
       (λ o is. else-moves (λ t. let e = own b.by t in absurd (omega arith)) (λ m ge to t. absurd (none None b.by m ge to t)))
 
@@ -161,11 +155,11 @@ module _ (xs : List Role) (i : ℕ) (c : Opening) (p : Names) (at : slice_get xs
   abbrev IsNew : Name → Type 0
   IsNew n = Contains p.declares n × (c ≡ opened.control Range → u ≡ Some i → ⊥)
 
-  opened-header : (t : Option ℕ) → IsTemplate xs i t → (n : Name) → IsNew n → Brought xs u (i + 1) (i + 1) n
-  opened-header t is n h = record {
+  opened-header : (n : Name) → IsNew n → Brought xs u (i + 1) (i + 1) n
+  opened-header n h = record {
     by = i;
     before = omega arith;
-    template = (t, is, template-moves xs i (i + 1) (alike-opened xs i c p at nt) t is);
+    template = one-alike xs i (i + 1) (alike-opened xs i c p at nt);
     reaches = from_header at h.0 (opened_new xs i c p at)
         (λ r. ⊎_elim (h.1 r) (λ e. let b = e.2.belongs.is_open.before in let g = e.1 in omega arith));
   }
@@ -177,21 +171,20 @@ module _ (xs : List Role) (i : ℕ) (c : Opening) (p : Names) (at : slice_get xs
       (λ q lt o. cut-moves (λ t. cc) (λ m d ge to from t. absurd (omega arith)))
       (λ o is. else-moves (λ t. cc) (λ m ge to t. absurd (omega arith)))))
       (λ ge. let g = b.before in let s : b.by ≡ i = omega arith in let r = subst (λ k. Reaches xs u k (i + 1) (i + 1) n) s b.reaches in
-      inr (brings xs u i (i + 1) (i + 1) n (act_role (opener c p)) at r, λ is thought. header-only is thought r))
+      inr (brings xs u i (i + 1) (i + 1) n (opener c p) at r, λ is thought. header-only is thought r))
       (cases_lt b.by i)
     where
       header-only : c ≡ opened.control Range → u ≡ Some i → Reaches xs u i (i + 1) (i + 1) n → ⊥
       header-only is thought (from_header {c = d} {p = q} e k o r) =
-          let same : act_role (opener c p) ≡ act_role (opener d q) = same-piece xs i (act_role (opener c p)) (act_role (opener d q)) at e in
+          let same : (opener c p) ≡ (opener d q) = same-piece xs i (opener c p) (opener d q) at e in
           let kind : d ≡ c = cc in r (kind ∙ is) (inl thought)
-      header-only is thought (from_top e k z) = cc
-      header-only is thought (from_inside e k l o ne) = cc
+      header-only is thought (from_action e k f) = cc
       header-only is thought (from_else_branch e k o) = let at_else = e.at in cc
 
-  module _ (names : List Name) (h : Sees xs None i names) (t : Option ℕ) (is : IsTemplate xs i t) where
+  module _ (names : List Name) (h : Sees xs None i names) where
     pub sees-opened : (c ≡ opened.control Range → u ≡ Some i → ⊥) → Sees xs u (i + 1) (with_names names p.declares)
     sees-opened free n = Decides-like (is_known (with_names names p.declares) n)
-        (⊎_elim (opened-old n) (λ k. opened-header t is n (k, free)))
+        (⊎_elim (opened-old n) (λ k. opened-header n (k, free)))
         (λ b. ⊎_elim (λ o. inl o) (λ k. inr k.0) (opened-back n b)) (with-Decides names p.declares n (h n))
 
     pub sees-ranged : c ≡ opened.control Range → u ≡ Some i → Sees xs u (i + 1) names

@@ -1,13 +1,14 @@
 -- For `refuse_second`: the second definition of a name that is found is the first there is.
 use Rattle.std.proofs.Common.{◌≡◌, ◌∙◌, ℕ, ◌+◌, Bool, true, false, List, [], ◌∷◌, ◌++◌, Option, Some, None, refl, sym, ap, subst}
-use Rattle.std.proofs.Common.{arith, append_assoc, append-nil, length, drop, get_or, map, not, ◌&&◌, ◌||◌, ◌<◌, bytes_eq}
-use Rattle.std.specs.Prelude.{slice_get}
+use Rattle.std.proofs.Common.{arith, append_assoc, append-nil, length, length-append, take, drop, get_or, map, not, ◌&&◌, ◌||◌, ◌<◌, bytes_eq}
+use Rattle.std.specs.Prelude.{slice_get, Contains}
 use Rattle.std.specs.Bool.{Decides}
 use Rattle.std.specs.List.{HoldsAt}
 use Rattle.std.specs.Option.{option_map, option_or}
 use Rattle.std.proofs.lemmas.Bool.{not-true}
 use Rattle.std.proofs.lemmas.Bool.Decides.{Decides-and, Decides-by_or}
-use Rattle.std.proofs.lemmas.List.{drop_more, length-map}
+use Rattle.std.proofs.lemmas.List.{drop_more, take-append-drop, get_or-take, get_or_append_left, length-take, length-map}
+use lib.Seq.{get_or-append_seam}
 use Rattle.std.proofs.lemmas.List.Elements.{Contains-get_or, at_from_Contains}
 use Rattle.std.proofs.lemmas.Option.{slice_get_read, slice_get_within, slice_get-map, get_or_from_slice_get}
 use Rattle.std.proofs.lemmas.Slice.Eq.{bytes_eq-Decides}
@@ -17,9 +18,45 @@ use Rattle.tmpl_syntax.specs.computed.View.{definition_of}
 use Rattle.tmpl_syntax.specs.declared.tree.Definition as held
 use Rattle.tmpl_syntax.specs.Place.Role.{Name}
 use Rattle.tmpl_syntax.specs.Set.{is_blank}
-use Rattle.tmpl_syntax.specs.Parse.{IsSecond, NoneSecond, HasSecond}
+use Rattle.tmpl_syntax.specs.Parse.{NoneSecond, HasSecond}
 use Rattle.tmpl_syntax.specs.computed.Frames.{is_known}
 use Rattle.tmpl_syntax.specs.computed.Parse.{second_if, second_from, second_in}
+
+-- ---- a second definition, by the list before it
+
+-- among these definitions is one of the same name as that one, and neither is blank
+abbrev IsSecond : List Definition → Definition → Type 0
+IsSecond earlier d =
+    (first : Definition) × Contains earlier first × (first.name ≡ d.name) × (is_blank first.nodes ≡ false) × (is_blank d.nodes ≡ false)
+
+abbrev Once : List Definition → Type 0
+Once ds = (before : List Definition) (d : Definition) (behind : List Definition) → ds ≡ before ++ d ∷ behind → IsSecond before d → ⊥
+
+once-none : (ds : List Definition) → Once ds → NoneSecond ds
+once-none ds once i j d lt within same = by (is_blank (get_or ds i d).nodes) (is_blank (get_or ds j d).nodes) refl refl
+  where
+    split : ds ≡ take j ds ++ get_or ds j d ∷ drop (j + 1) ds
+    split = sym (take-append-drop j ds) ∙ ap (λ es. take j ds ++ es) (drop_more ds j d within)
+
+    earlier : Contains (take j ds) (get_or ds i d)
+    earlier = subst (Contains (take j ds)) (get_or-take j ds i d lt) (Contains-get_or (take j ds) i d (omega (arith, length-take j ds)))
+
+    by : (a b : Bool) → is_blank (get_or ds i d).nodes ≡ a → is_blank (get_or ds j d).nodes ≡ b → (a || b) ≡ true
+    by true b e f = refl
+    by false true e f = refl
+    by false false e f = absurd (once (take j ds) (get_or ds j d) (drop (j + 1) ds) split (get_or ds i d, earlier, same, e, f))
+
+none-apart : (before : List Definition) (d : Definition) (behind : List Definition) → NoneSecond (before ++ d ∷ behind) → IsSecond before d → ⊥
+none-apart before d behind none (first, has, same, some, new) =
+    let (k, lt, at) = at_from_Contains before first has in
+    let both = none k (length before) d lt (omega (arith, length-append before (d ∷ behind))) in
+    let pair = rw (get_or_append_left before (d ∷ behind) d k lt, at d, get_or-append_seam before d behind d) at both in
+    let blank = rw (some, new) at pair same in cc
+
+-- what holds of definitions holds of the first of them
+none-part : (before : List Definition) (d : Definition) (behind : List Definition) → NoneSecond (before ++ d ∷ behind) → NoneSecond (before ++ d ∷ [])
+none-part before d behind none = once-none (before ++ d ∷ []) (λ bs e es are s. none-apart bs e (es ++ behind)
+    (subst NoneSecond (sym (append_assoc before (d ∷ []) behind) ∙ ap (λ ds. ds ++ behind) are ∙ append_assoc bs (e ∷ es) behind) none) s)
 
 -- ---- the names of those that are not blank
 
@@ -82,12 +119,15 @@ at-second before d behind s = walk [] before (d ∷ behind) ∙ rw (s.4, second-
 
 -- ---- what is found
 
-pub none-second : (ds : List Definition) → second_in ds ≡ None → NoneSecond ds
-none-second ds e before d behind are s = by (second_in before) (sym (at-second before d behind s) ∙ ap second_in (sym are) ∙ e)
+none-once-in : (ds : List Definition) → second_in ds ≡ None → Once ds
+none-once-in ds e before d behind are s = by (second_in before) (sym (at-second before d behind s) ∙ ap second_in (sym are) ∙ e)
   where
     by : (o : Option ℕ) → option_or o (Some d.line) ≡ None → ⊥
     by None n = cc
     by (Some line) n = cc
+
+pub none-second : (ds : List Definition) → second_in ds ≡ None → NoneSecond ds
+none-second ds e = once-none ds (none-once-in ds e)
 
 -- what is found is the first one, behind definitions of which none is a second one
 abbrev Found : List Name → List Definition → ℕ → Type 0
@@ -111,7 +151,8 @@ found names (d ∷ ds) line e =
 pub has-second : (ds : List Definition) (line : ℕ) → second_in ds ≡ Some line → HasSecond ds line
 unfolding second_in
 has-second ds line e =
-    let f = found [] ds line e in (f.0, f.1, f.2, f.3, none-second f.0 f.4, known-second f.0 f.1 f.5 f.6, f.7)
+    let f = found [] ds line e in
+    (f.0, f.1, f.2, f.3, none-second f.0 f.4, λ none. none-apart f.0 f.1 [] none (known-second f.0 f.1 f.5 f.6), f.7)
 
 -- ---- there is one answer
 
@@ -120,10 +161,23 @@ second-none ds none = by (second_in ds) refl
   where
     by : (o : Option ℕ) → second_in ds ≡ o → o ≡ None
     by None e = refl
-    by (Some line) e = let s = has-second ds line e in absurd (none s.0 s.1 s.2 s.3 s.5)
+    by (Some line) e = let s = has-second ds line e in absurd (s.5 (none-part s.0 s.1 s.2 (subst NoneSecond s.3 none)))
+
+-- the definition with which none-second no longer holds is a second one
+last-second : (before : List Definition) (d : Definition) → NoneSecond before → (NoneSecond (before ++ d ∷ []) → ⊥) → IsSecond before d
+unfolding second_in
+last-second before d none not = by (is_blank d.nodes) (is_known (kept before) d.name) refl refl
+  where
+    alone : second_in (before ++ d ∷ []) ≡ second_if (is_blank d.nodes) (is_known (kept before) d.name) d.line None None
+    alone = walk [] before (d ∷ []) ∙ ap (λ o. option_or o (second_from (kept before) (d ∷ []))) (second-none before none)
+
+    by : (blank known : Bool) → is_blank d.nodes ≡ blank → is_known (kept before) d.name ≡ known → IsSecond before d
+    by false true e f = known-second before d e f
+    by true k e f = absurd (not (none-second (before ++ d ∷ []) (alone ∙ rw e refl)))
+    by false false e f = absurd (not (none-second (before ++ d ∷ []) (alone ∙ rw (e, f) refl)))
 
 pub second-some : (ds : List Definition) (line : ℕ) → HasSecond ds line → second_in ds ≡ Some line
-second-some ds line s = simp (s.3, at-second s.0 s.1 s.2 s.5, second-none s.0 s.4, s.6)
+second-some ds line s = simp (s.3, at-second s.0 s.1 s.2 (last-second s.0 s.1 s.4 s.5), second-none s.0 s.4, s.6)
 
 -- ---- one after the other
 

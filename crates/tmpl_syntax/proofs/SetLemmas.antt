@@ -8,9 +8,10 @@ use Rattle.std.specs.Map.{lookup, keys_of}
 use Rattle.std.proofs.lemmas.Bool.{and_parts}
 use Rattle.std.proofs.lemmas.List.{length-map}
 use Rattle.tmpl_syntax.specs.View.{tree_of, node_of, nodes_in, template_of}
-use Rattle.tmpl_syntax.specs.Tree.{Tree}
+use Rattle.tmpl_syntax.specs.Tree.{NodeKind, text, Nodes, then, Tree}
 use Rattle.tmpl_syntax.specs.declared.tree.Tree as held
-use Rattle.tmpl_syntax.specs.Set.{Template, tree_named, number_of, has_name, is_blank_node, is_blank, defined, chosen}
+use Rattle.tmpl_syntax.specs.Set.{Template, tree_named, number_of, is_blank, defined}
+use Rattle.tmpl_syntax.specs.computed.Set.{has_name, is_blank_node, chosen}
 use Rattle.tmpl_syntax.specs.declared.tree.Node as held_node
 use Rattle.indexmap.specs.IndexMap.{insert_entry}
 
@@ -32,9 +33,13 @@ lookup-view name (e ∷ es) = go (bytes_eq name e.0.items) (lookup-view name es)
     go true ih = refl
     go false ih = ih
 
+blank-next : (line : ℕ) (k : NodeKind) (ns : Nodes) → is_blank (then line k ns) ≡ (is_blank_node k && is_blank ns)
+blank-next line (text bytes) ns = refl
+blank-next line _ ns = refl
+
 pub blank-list : (ns : List held_node.Node) → list_all (λ n. is_blank_node (node_of n).what) ns ≡ is_blank (nodes_in ns)
 blank-list [] = refl
-blank-list (n ∷ ns) = ap (λ b. is_blank_node (node_of n).what && b) (blank-list ns)
+blank-list (n ∷ ns) = ap (λ b. is_blank_node (node_of n).what && b) (blank-list ns) ∙ sym (blank-next (node_of n).line (node_of n).what (nodes_in ns))
 
 -- the tree of this template or of another one
 abbrev named : Bool → Template → Option Template → Option Tree

@@ -3,14 +3,16 @@ use Rattle.std.proofs.Common.{◌≡◌, ℕ, Bool, true, false, not, ◌||◌, 
 use Rattle.std.proofs.lemmas.List.{map-append}
 use Rattle.std.proofs.lemmas.Bool.{and_parts, not-true, or_right}
 use Rattle.tmpl_syntax.specs.Fault.{Reason}
-use Rattle.tmpl_syntax.specs.computed.Frames.{Frame, Known, none_known, top, takes_else, seen_at, fault_at, frames_past, unless_fault, verdict_from, verdict_of}
+use Rattle.tmpl_syntax.specs.computed.Frames.{Frame, Known, none_known, top, takes_else, names_at, fault_at, frames_after, unless_fault, verdict_from}
+use Rattle.tmpl_syntax.specs.computed.Frames.{verdict_of}
 use Rattle.tmpl_syntax.specs.Tree.{NodeKind, template_node, Nodes, none, Definition}
 use Rattle.tmpl_grammar.specs.Action.{pipeline_action, opening, plain_else, else_branch, end_action, break_action, continue_action}
 use Rattle.tmpl_grammar.specs.Action.{define_action, template_action, block_action}
-use Rattle.tmpl_syntax.specs.Item.{ItemKind, Item, item, text_item, unreadable_item, unread_item, deep_item, action_item}
+use Rattle.tmpl_syntax.specs.Item.{ItemKind, Item, item, text_item, flawed_item, deep_item, action_item}
 use Rattle.tmpl_syntax.specs.Place.Role.{Name, role_of, roles_of}
 use Rattle.tmpl_syntax.specs.Place.Open.{is_template}
-use Rattle.tmpl_syntax.specs.Place.Body.{Verdict, fine, joins}
+use Rattle.tmpl_syntax.specs.Place.Body.{joins}
+use Rattle.tmpl_syntax.specs.computed.Frames.{Verdict, fine}
 use Rattle.tmpl_syntax.proofs.StepLemmas.{joins-own}
 use Rattle.tmpl_syntax.proofs.VerdictLemmas.{one-verdict, judged-all}
 use Rattle.tmpl_grammar.specs.declared.action.Branch.{Branch}
@@ -70,11 +72,10 @@ module _ (names : List Name) (xs : List Item) (p : build.Parts) where
   at-node {n = n} fs line is r = rest-led fs _ xs p.definitions p.definitions _ p.inner p.around (λ ys es d. a_node is d) r
 
   step : (x : Item) (fs : List Frame) → fault_at (role_of x) (top fs) names ≡ None
-      → Rest (frames_past (role_of x) fs names) xs p.definitions p.inner p.around
+      → Rest (frames_after (role_of x) fs names) xs p.definitions p.inner p.around
       → Rest fs (x ∷ xs) (parts_with x p).definitions (parts_with x p).inner (parts_with x p).around
   step (item line (text_item bytes)) fs e r = at-node fs line a_text r
-  step (item line unreadable_item) fs e r = cc
-  step (item line unread_item) fs e r = cc
+  step (item line (flawed_item reason)) fs e r = cc
   step (item line (deep_item branch)) fs e r = let g : true ≡ false = (faultless _ _ _ e).1 in cc
   step (item line (action_item (pipeline_action h))) fs e r = at-node fs line an_action r
   step (item line (action_item (opening c h))) fs e r =
@@ -111,7 +112,7 @@ rest-from : (xs : List Item) (i : ℕ) (known : Known) (fs : List Frame) → ver
 rest-from [] i known [] e = nothing
 rest-from [] i known (f ∷ fs) e = cc
 rest-from (x ∷ xs) i known fs e =
-    let seen = seen_at (role_of x) (top fs) known.inner in
+    let seen = names_at (role_of x) (top fs) known.inner in
     let h = unless-fine (fault_at (role_of x) (top fs) seen) i _ e in
     step seen xs (parts_before xs no_parts) x fs h.0 (rest-from xs _ _ _ h.1)
 

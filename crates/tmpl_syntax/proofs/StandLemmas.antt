@@ -3,32 +3,30 @@ use Rattle.std.proofs.Common.{arith, ◌≡◌, ℕ, ◌+◌, ◌≤◌, true, f
 use Rattle.std.proofs.Common.{Option, Some, None, ⊎_elim, inl, inr, not, ◌||◌}
 use Rattle.std.specs.Prelude.{slice_get, Contains}
 use Rattle.std.specs.Bool.{Decides}
-use Rattle.std.proofs.lemmas.Bool.{cases_lt, cases_order}
+use Rattle.std.proofs.lemmas.Bool.{cases_lt}
 use Rattle.std.proofs.lemmas.Bool.Decides.{Decides-like, Decides-not, Decides-or}
-use Rattle.tmpl_syntax.specs.Place.Open.{IsOpen, NothingOpen, IsLast, HasElse, is_template, IsTemplate, OfOneTemplate}
+use Rattle.tmpl_syntax.specs.Place.Open.{IsOpen, NothingOpen, IsLast, HasElse, is_template, IsBody}
 use Rattle.tmpl_syntax.specs.Place.Body.{IsLoop, Levels}
 use Rattle.tmpl_syntax.specs.computed.Frames.{Frame, top, loops, in_loop, levels, is_known, entered, Known, with_inner, closed_if, closed_names, with_names}
 use Rattle.tmpl_syntax.proofs.NameLemmas.{IsWithin, with-longer, take-with, with-Decides}
-use Rattle.tmpl_syntax.proofs.PlaceLemmas.{ups, downs, same-opening, cut, Same, Alike, alike-last, loop-in, loop-out, alike-back, alike-even, alike-opened}
-use Rattle.tmpl_syntax.proofs.PlaceLemmas.{template-moves, template-opened, template-apart, levels-same, levels-opened, InLoop, else_before, else-same}
+use Rattle.tmpl_syntax.proofs.PlaceLemmas.{ups, downs, same-opening, cut, Same, alike-last, loop-in, loop-out}
+use Rattle.tmpl_syntax.proofs.PlaceLemmas.{one-alike, opened_new, template-apart, levels-same, levels-opened, InLoop, else_before, else-same}
 use Rattle.tmpl_syntax.proofs.ScopeLemmas.{Brought, Sees, brought-same, brought-same-back, brought-late, sees-opened}
 use Rattle.tmpl_syntax.specs.Place.Opening.{Opening}
 use Rattle.tmpl_syntax.specs.Place.Opening as opened
 use Rattle.tmpl_grammar.specs.declared.tree.Control.{Control}
 use Rattle.tmpl_grammar.specs.declared.tree.Control.TheVariants.{Range}
-use Rattle.tmpl_syntax.specs.Place.Role.{Name, Names, opener, Role, act_role}
+use Rattle.tmpl_syntax.specs.Place.Role.{Name, Names, opener, Role}
 
 -- what the newest frame and the names say of the place i
 pub record Here (xs : List Role) (i : ℕ) (t : Option Frame) (names : List Name) : Type 0 where
-  pub template : Option ℕ
-  pub is_template_here : IsTemplate xs i template
   pub levels_are : Levels xs i i (levels t)
   pub sees : Sees xs None i names
 
 -- the frame stands for the opening at j, the last one open at i
 pub record Stood (xs : List Role) (i : ℕ) (seen : List Name) (f : Frame) (j : ℕ) : Type 0 where
   pub names : Names
-  pub opened : slice_get xs j ≡ Some (act_role (opener f.opening names))
+  pub opened : slice_get xs j ≡ Some (opener f.opening names)
   pub last : IsLast xs j i
   pub over : ups xs i + downs xs (j + 1) ≡ ups xs (j + 1) + downs xs i
   pub has : Decides f.has_else (HasElse xs j i)
@@ -60,14 +58,13 @@ looped xs i known (f ∷ fs) (h, j, s, below) = by f.opening refl
     by : (c : Opening) → f.opening ≡ c → Decides (loops c f.has_else f.around) (InLoop xs i)
     by (opened.control Range) e =
         let own = ap is_template (same s.last.is_open ∙ e) in
-        let back = alike-back xs j i (alike-last xs j i s.last own) in
         Decides-like (not f.has_else || f.around)
         (⊎_elim (λ no. (
           j,
           (
             s.last.is_open,
             same s.last.is_open ∙ e,
-            (h.template, template-moves xs i j back h.template h.is_template_here, h.is_template_here),
+            one-alike xs j i (alike-last xs j i s.last own),
             no,
           ),
         )) (loop-in xs j i s.last own))
@@ -85,10 +82,6 @@ looped xs i known (f ∷ fs) (h, j, s, below) = by f.opening refl
           (cases_lt j l.0)),
     )
 
--- a place is of the template of the one before it, where the same templates are open
-pub one-here : (xs : List Role) (i m : ℕ) (t : Option Frame) (names : List Name) → Here xs i t names → Alike xs i m → OfOneTemplate xs i m
-one-here xs i m t names h e = (h.template, h.is_template_here, template-moves xs i m e h.template h.is_template_here)
-
 -- to a place where the same stands, with what was declared on the way
 module _ (xs : List Role) (j m : ℕ) (s : Same xs j m) (known : Known) (ds : List Name) (new : (n : Name) → Contains ds n → Brought xs None m m n)
     (old : (n : Name) → (b : Brought xs None m m n) → j ≤ b.by → Contains ds n) where
@@ -97,8 +90,6 @@ module _ (xs : List Role) (j m : ℕ) (s : Same xs j m) (known : Known) (ds : Li
 
   here-moves : (t : Option Frame) → Here xs j t names → Here xs m t (with_names names ds)
   here-moves t h = record {
-    template = h.template;
-    is_template_here = template-moves xs j m (alike-even xs j m s.even) h.template h.is_template_here;
     levels_are = levels-same xs j m (levels t) s h.levels_are;
     sees = λ n. Decides-like (is_known (with_names names ds) n)
         (⊎_elim (brought-same xs None j m s n) (new n))
@@ -128,10 +119,7 @@ module _ (xs : List Role) (j m : ℕ) (s : Same xs j m) (known : Known) (ds : Li
       late : (n : Name) → (b : Brought xs (Some q) m m n) → j ≤ b.by → ⊥
       late n b ge =
           let there = cut xs q b.by m (let lt = h.last.is_open.before in omega arith) (let lt = b.before in omega arith) (s.even.keeps q h.last.is_open) in
-          brought-late xs (Some q) j m s n b.by ge b.before b.reaches (λ p e c. ⊎_elim (λ none. none q there) (λ r. ⊎_elim
-          (λ is. r.3 (ap (λ k. Some k) is))
-          (λ o. ⊎_elim (λ lt. h.last.last r.0 lt r.2) (λ gt. r.1.last q gt there) o)
-          (cases_order q r.0)))
+          brought-late xs (Some q) j m s n b.by ge b.before b.reaches (λ p e c f. (f q there).1 refl)
 
   pub stands-moves : (fs : List Frame) → Stands xs j known fs → Stands xs m (with_inner known (with_names names ds)) fs
   stands-moves [] h = (λ k o. h.0 k (s.even.only k o), here-moves None h.1)
@@ -141,30 +129,23 @@ module _ (xs : List Role) (j m : ℕ) (s : Same xs j m) (known : Known) (ds : Li
       (here-moves (Some f) h.0, h.1, stood-moves f h.1 h.2, subst (λ l. Stands xs h.1 (closed_if (is_template f.opening) (with_inner known l)) fs) (sym e) h.3)
 
 -- after the opening of a control
-module _ (xs : List Role) (i : ℕ) (names : List Name) (d : Control) (p : Names) (at : slice_get xs i ≡ Some (act_role (opener (opened.control d) p)))
+module _ (xs : List Role) (i : ℕ) (names : List Name) (d : Control) (p : Names) (at : slice_get xs i ≡ Some (opener (opened.control d) p))
     (t : Option Frame) (h : Here xs i t names) where
   abbrev c : Opening
   c = opened.control d
 
-  alike : Alike xs i (i + 1)
-  alike = alike-opened xs i c p at refl
-
   pub here-control : Here xs (i + 1) (Some (entered c p t names)) (with_names names p.declares)
   here-control = record {
-    template = h.template;
-    is_template_here = template-moves xs i (i + 1) alike h.template h.is_template_here;
     levels_are = levels-opened xs i (levels t) c p at h.levels_are;
-    sees = sees-opened xs i c p at refl None (λ q e. cc) names h.sees h.template h.is_template_here (λ r e. cc);
+    sees = sees-opened xs i c p at refl None (λ q e. cc) names h.sees (λ r e. cc);
   }
 
 -- in a template nothing is known
-pub here-template : (xs : List Role) (i : ℕ) (names : List Name) (c : Opening) (p : Names) → slice_get xs i ≡ Some (act_role (opener c p)) → (t : Option Frame)
+pub here-template : (xs : List Role) (i : ℕ) (names : List Name) (c : Opening) (p : Names) → slice_get xs i ≡ Some (opener c p) → (t : Option Frame)
     → Here xs i t names → is_template c ≡ true → Here xs (i + 1) (Some (entered c p t names)) []
 here-template xs i names c p at t h own =
-    let body = template-opened xs i c p at own in
+    let body : IsBody xs i (i + 1) = record { is_open = opened_new xs i c p at; own = own } in
     record {
-      template = Some i;
-      is_template_here = body;
       levels_are = levels-opened xs i (levels t) c p at h.levels_are;
-      sees = λ n. (λ k. cc, λ b. absurd (let lt = b.before in template-apart xs i b.by (i + 1) body.0 (omega arith) b.template));
+      sees = λ n. (λ k. cc, λ b. absurd (let lt = b.before in template-apart xs i b.by (i + 1) body (omega arith) b.template));
     }

@@ -1,6 +1,6 @@
 -- For `one_verdict`: what stands after an opening, an end, a declaration, an else, and what changes no frame.
 use Rattle.std.proofs.Common.{arith, ◌≡◌, ◌≢◌, ℕ, ◌+◌, true, false, List, [], ◌∷◌, refl, sym, ◌∙◌, subst, length, take, Option, Some, inl, inr, ⊎_elim}
-use Rattle.std.proofs.Common.{◌⊎◌, Bool, not, ap, None}
+use Rattle.std.proofs.Common.{Bool, not, ap, None}
 use Rattle.std.specs.Prelude.{slice_get, Contains, is_some}
 use Rattle.std.proofs.lemmas.Bool.{cases_lt, and_parts}
 use Rattle.std.proofs.Math.Seq.{take-length}
@@ -8,18 +8,18 @@ use Rattle.tmpl_grammar.specs.declared.action.Branch.{Branch}
 use Rattle.tmpl_grammar.specs.Action.{control_in}
 use Rattle.tmpl_syntax.specs.computed.Frames.{Frame, top, is_known, entered, Known, with_inner, with_names, opened_names, else_came}
 use Rattle.tmpl_syntax.specs.computed.Frames.{parted, is_placed, closed_if}
-use Rattle.tmpl_syntax.specs.Place.Open.{opens, ends, IsOpen, NothingOpen, IsLast, is_template, IsElseOf, HasElse}
+use Rattle.tmpl_syntax.specs.Place.Open.{opens, ends, IsOpen, IsLast, is_template, IsElseOf, HasElse}
 use Rattle.tmpl_syntax.proofs.NameLemmas.{IsWithin, in-nothing, take-before, with-Decides, part-low, part-high, else_names, take-part, with-longer, take-with}
 use Rattle.tmpl_syntax.proofs.PlaceLemmas.{cut, Same, shut-at, same-ended, same-still, last_new, same-opening, Even, even-step}
-use Rattle.tmpl_syntax.proofs.PlaceLemmas.{alike-even, template-moves, levels-else, else_before, has-before}
-use Rattle.tmpl_syntax.proofs.ScopeLemmas.{Reaches, from_top, from_inside, from_else_branch, Brought, Sees, declared_at, brings, brought-late, sees-opened}
+use Rattle.tmpl_syntax.proofs.PlaceLemmas.{alike-even, one-alike, levels-else, else_before, has-before}
+use Rattle.tmpl_syntax.proofs.ScopeLemmas.{Reaches, from_action, from_else_branch, Brought, Sees, declared_at, brings, brought-late, sees-opened}
 use Rattle.tmpl_syntax.proofs.ScopeLemmas.{sees-ranged, else-sees, else-seen}
-use Rattle.tmpl_syntax.proofs.StandLemmas.{looped, Here, Stood, closed_at, Stands, here-of, one-here, stands-moves, here-control, here-template}
+use Rattle.tmpl_syntax.proofs.StandLemmas.{looped, Here, Stood, closed_at, Stands, here-of, stands-moves, here-control, here-template}
 use Rattle.tmpl_syntax.specs.Place.Opening.{Opening}
 use Rattle.tmpl_syntax.specs.Place.Opening as opened
 use Rattle.tmpl_grammar.specs.declared.tree.Control.{Control}
 use Rattle.tmpl_grammar.specs.declared.tree.Control.TheVariants.{If, With, Range}
-use Rattle.tmpl_syntax.specs.Place.Role.{Name, Names, plain, opener, else_part, closer, Role, act_role}
+use Rattle.tmpl_syntax.specs.Place.Role.{Name, Names, plain, opener, else_part, closer, Role}
 use Rattle.std.specs.Bool.{Decides}
 use Rattle.std.proofs.lemmas.Bool.Decides.{Decides-like}
 use Rattle.std.proofs.lemmas.List.{length-take-le, take-take}
@@ -34,7 +34,7 @@ module _ (xs : List Role) (i : ℕ) (known : Known) (p : Names) (fs : List Frame
   h : Here xs i (top fs) known.inner
   h = here-of xs i known fs s
 
-  stood-opened : (c : Opening) → slice_get xs i ≡ Some (act_role (opener c p)) → (ns : List Name) → IsWithin (entered c p (top fs) known.inner) (length ns)
+  stood-opened : (c : Opening) → slice_get xs i ≡ Some (opener c p) → (ns : List Name) → IsWithin (entered c p (top fs) known.inner) (length ns)
       → (is_template c ≡ false → Sees xs (Some i) (i + 1) (take (entered c p (top fs) known.inner).part ns))
       → Stood xs (i + 1) ns (entered c p (top fs) known.inner) i
   stood-opened c at ns within part = record {
@@ -49,14 +49,13 @@ module _ (xs : List Role) (i : ℕ) (known : Known) (p : Names) (fs : List Frame
   }
 
   -- what the parts of a control see at first
-  part-first : (d : Control) → slice_get xs i ≡ Some (act_role (opener (opened.control d) p)) → (e : Control) → d ≡ e
+  part-first : (d : Control) → slice_get xs i ≡ Some (opener (opened.control d) p) → (e : Control) → d ≡ e
       → Sees xs (Some i) (i + 1) (else_names e known.inner p.declares)
-  part-first d at Range is = sees-ranged xs i (opened.control d) p at refl (Some i) (λ q e. cc) known.inner h.sees h.template h.is_template_here
-      (ap opened.control is) refl
-  part-first d at _ is = sees-opened xs i (opened.control d) p at refl (Some i) (λ q e. cc) known.inner h.sees h.template h.is_template_here (λ r e. cc)
+  part-first d at Range is = sees-ranged xs i (opened.control d) p at refl (Some i) (λ q e. cc) known.inner h.sees (ap opened.control is) refl
+  part-first d at _ is = sees-opened xs i (opened.control d) p at refl (Some i) (λ q e. cc) known.inner h.sees (λ r e. cc)
 
   -- in a template nothing is known, and behind it what is known here
-  pub stands-opened : (c : Opening) → slice_get xs i ≡ Some (act_role (opener c p))
+  pub stands-opened : (c : Opening) → slice_get xs i ≡ Some (opener c p)
       → Stands xs (i + 1) (opened_names c p.declares known) (entered c p (top fs) known.inner ∷ fs)
   stands-opened (opened.control d) at = (
     here-control xs i known.inner d p at (top fs) h,
@@ -72,27 +71,21 @@ module _ (xs : List Role) (i : ℕ) (known : Known) (p : Names) (fs : List Frame
     s,
   )
 
-pub stands-ended : (xs : List Role) (i : ℕ) (known : Known) (f : Frame) (fs : List Frame) → slice_get xs i ≡ Some (act_role closer)
+pub stands-ended : (xs : List Role) (i : ℕ) (known : Known) (f : Frame) (fs : List Frame) → slice_get xs i ≡ Some closer
     → Stands xs i known (f ∷ fs) → Stands xs (i + 1) (closed_at f known) fs
 stands-ended xs i known f fs at s =
     let same = same-ended xs s.1 i s.2.last s.2.over at in
     stands-moves xs s.1 (i + 1) same (closed_at f known) [] (λ n c. in-nothing n c)
-    (λ n b ge. absurd (brought-late xs None s.1 (i + 1) same n b.by ge b.before b.reaches (λ p e c o. ⊎_elim
-    (λ lt. let open_at = cut xs s.1 b.by i lt (let u = b.before in omega arith) s.2.last.is_open in
-    ⊎_elim (λ z. z s.1 open_at) (λ q. q.1.last s.1 q.2.before open_at) o)
-    (λ le. let m : b.by ≡ s.1 = omega arith in shut-at xs (act_role (plain p)) s.1 i (subst (λ z. slice_get xs z ≡ Some (act_role (plain p))) m e) refl
+    (λ n b ge. absurd (brought-late xs None s.1 (i + 1) same n b.by ge b.before b.reaches (λ p e c f. ⊎_elim
+    (λ lt. let u = b.before in let again = (f s.1 (cut xs s.1 b.by i lt (omega arith) s.2.last.is_open)).0.before in omega arith)
+    (λ le. let m : b.by ≡ s.1 = omega arith in shut-at xs (plain p) s.1 i (subst (λ z. slice_get xs z ≡ Some (plain p)) m e) refl
     s.2.last.is_open)
     (cases_lt s.1 b.by))))
     fs s.3
 
--- what is open last, if anything is
-pub last-of : (xs : List Role) (i : ℕ) (known : Known) (fs : List Frame) → Stands xs i known fs → NothingOpen xs i ⊎ ((j : ℕ) × IsLast xs j i)
-last-of xs i known [] s = inl s.0
-last-of xs i known (f ∷ fs) s = inr (s.1, s.2.last)
-
 -- after a piece that is no opening, end or else, what it declares is known
 pub stands-passed : (xs : List Role) (i : ℕ) (known : Known) (x : Role) (fs : List Frame) → slice_get xs i ≡ Some x → opens x ≡ false
-    → ends x ≡ false → ((b : Option (Branch × Names)) → x ≢ act_role (else_part b)) → Stands xs i known fs
+    → ends x ≡ false → ((b : Option (Branch × Names)) → x ≢ (else_part b)) → Stands xs i known fs
     → Stands xs (i + 1) (with_inner known (with_names known.inner (declared_at x))) fs
 stands-passed xs i known x fs at o e nt s = stands-moves xs i (i + 1) same known (declared_at x) (new x at o nt)
     (λ n b ge. let u = b.before in let m : b.by ≡ i = omega arith in
@@ -102,19 +95,16 @@ stands-passed xs i known x fs at o e nt s = stands-moves xs i (i + 1) same known
     same : Same xs i (i + 1)
     same = same-still xs x i at o e nt
 
-    new : (y : Role) → slice_get xs i ≡ Some y → opens y ≡ false → ((b : Option (Branch × Names)) → y ≢ act_role (else_part b))
+    new : (y : Role) → slice_get xs i ≡ Some y → opens y ≡ false → ((b : Option (Branch × Names)) → y ≢ (else_part b))
         → (n : Name) → Contains (declared_at y) n → Brought xs None (i + 1) (i + 1) n
-    new (act_role (plain p)) at o nt n c = record {
+    new (plain p) at o nt n c = record {
       by = i;
       before = omega arith;
-      template = one-here xs i (i + 1) (top fs) known.inner (here-of xs i known fs s) (alike-even xs i (i + 1) same.even);
-      reaches = ⊎_elim
-          (λ z. from_top at c z)
-          (λ l. from_inside at c l.1 (same.even.keeps l.0 l.1.is_open) (⊎_elim (λ e. cc) (λ t. let from = t.2 in let to = t.3 in omega arith)))
-          (last-of xs i known fs s);
+      template = one-alike xs i (i + 1) (alike-even xs i (i + 1) same.even);
+      reaches = from_action at c (λ j o. (same.even.keeps j o, ⊎_elim (λ e. cc) (λ t. let from = t.2 in let to = t.3 in omega arith)));
     }
-    new (act_role (opener d p)) at o nt n c = cc
-    new (act_role (else_part b)) at o nt n c = absurd (nt b refl)
+    new (opener d p) at o nt n c = cc
+    new (else_part b) at o nt n c = absurd (nt b refl)
     new _ at o nt n c = in-nothing n c
 
 -- an else stands in a control, and one that begins with a control in such a one, which is no range
@@ -152,7 +142,7 @@ has-came : (xs : List Role) (i j : ℕ) (b : Option (Branch × Names)) (h : Bool
     → Decides (else_came (is_some b) h) (HasElse xs j (i + 1))
 has-came xs i j None h part d = (λ e. (i, omega arith, part), λ e. refl)
 has-came xs i j (Some b) h part d =
-    Decides-like h (else_before xs j i (i + 1) (omega arith)) (has-before xs (act_role (else_part (Some b))) i part.at (λ g. cc) j) d
+    Decides-like h (else_before xs j i (i + 1) (omega arith)) (has-before xs (else_part (Some b)) i part.at (λ g. cc) j) d
 
 -- the names that a branch declares reach what is behind it
 branch-reaches : (xs : List Role) (u : Option ℕ) (i j : ℕ) (b : Option (Branch × Names)) (n : Name) → IsElseOf xs b j i → IsOpen xs j (i + 1)
@@ -161,7 +151,7 @@ branch-reaches xs u i j None n part o c = in-nothing n c
 branch-reaches xs u i j (Some (d, q)) n part o c = from_else_branch part c o
 
 module _ (xs : List Role) (i : ℕ) (known : Known) (f : Frame) (fs : List Frame) (s : Stands xs i known (f ∷ fs)) (b : Option (Branch × Names))
-    (at : slice_get xs i ≡ Some (act_role (else_part b))) (placed : is_placed (else_part b) (Some f) ≡ true) where
+    (at : slice_get xs i ≡ Some (else_part b)) (placed : is_placed (else_part b) (Some f) ≡ true) where
   abbrev names : List Name
   names = known.inner
 
@@ -175,7 +165,7 @@ module _ (xs : List Role) (i : ℕ) (known : Known) (f : Frame) (fs : List Frame
   part = record { at = at; belongs = s.2.last }
 
   even : Even xs i (i + 1)
-  even = even-step xs (act_role (else_part b)) i at refl refl
+  even = even-step xs (else_part b) i at refl refl
 
   last-after : IsLast xs s.1 (i + 1)
   last-after = record { is_open = even.keeps s.1 s.2.last.is_open; last = λ k lt o. s.2.last.last k lt (even.only k o) }
@@ -192,20 +182,18 @@ module _ (xs : List Role) (i : ℕ) (known : Known) (f : Frame) (fs : List Frame
       (⊎_elim (else-sees xs i s.1 (i + 1) b part even (omega arith) ranged u its n) (λ c. record {
         by = i;
         before = omega arith;
-        template = one-here xs i (i + 1) (Some f) names s.0 (alike-even xs i (i + 1) even);
+        template = one-alike xs i (i + 1) (alike-even xs i (i + 1) even);
         reaches = branch-reaches xs u i s.1 b n part last-after.is_open c;
       }))
       (λ v. ⊎_elim
       (λ lt. inl (else-seen xs i s.1 (i + 1) b part even (omega arith) ranged u its n v lt))
       (λ ge. let lt = v.before in let e : v.by ≡ i = omega arith in
-      inr (brings xs u i (i + 1) (i + 1) n (act_role (else_part b)) at (subst (λ k. Reaches xs u k (i + 1) (i + 1) n) e v.reaches)))
+      inr (brings xs u i (i + 1) (i + 1) n (else_part b) at (subst (λ k. Reaches xs u k (i + 1) (i + 1) n) e v.reaches)))
       (cases_lt v.by i))
       (with-Decides (take f.part names) ds n (s.2.part own n))
 
   here-parted : Here xs (i + 1) (Some (parted (is_some b) (length seen) f)) seen
   here-parted = record {
-    template = s.0.template;
-    is_template_here = template-moves xs i (i + 1) (alike-even xs i (i + 1) even) s.0.template s.0.is_template_here;
     levels_are = levels-else xs i s.1 f.levels b even part
         (ap is_level (same-opening xs s.1 s.2.last.is_open.opened f.opening s.2.last.is_open.at s.2.opened) ∙ level-there f.opening own) s.0.levels_are;
     sees = sees-parted None (λ q e. cc);

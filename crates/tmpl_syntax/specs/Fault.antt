@@ -15,13 +15,11 @@ pub data Reason : Type 0 where
   open_at_end : Reason
   second_definition : Reason
 
--- the order in which the reasons of an action are asked for
+-- the order in which the reasons of an action that is read are asked for
 abbrev pub rank : Reason → ℕ
-rank unreadable = 0
-rank not_an_action = 1
-rank out_of_place = 2
-rank nested_too_deeply = 3
-rank why = 4
+rank out_of_place = 0
+rank nested_too_deeply = 1
+rank why = 2
 
 -- the reason that a kind names; want of memory is none
 abbrev pub reason_of : ParseKind → Option Reason

@@ -5,16 +5,17 @@ use Rattle.std.specs.List.{AllZip}
 use Rattle.tmpl_lex.specs.Cut.{Cuts}
 use Rattle.tmpl_lex.specs.Piece.{Token, Piece, text, action, unreadable}
 use Rattle.tmpl_grammar.specs.Action.{Action, branch_in, SpellsAction}
-use Rattle.tmpl_grammar.specs.Depth.{depth_of, most_deep}
+use Rattle.tmpl_grammar.specs.Depth.{deepest, most_deep}
 use Rattle.tmpl_grammar.specs.declared.action.Branch.{Branch}
-use Rattle.tmpl_syntax.specs.Language.{Branches, has_action}
+use Rattle.tmpl_syntax.specs.Fault as reason
+use Rattle.tmpl_syntax.specs.Fault.{Reason}
+use Rattle.tmpl_syntax.specs.Language.{Language}
 
--- a text, an action that is unreadable, one that has no reading, one whose parentheses nest too deep, where it is an
--- else branch of this control, or one that is read
+-- a text, an action that is unreadable or has no reading and is refused for this reason, one whose parentheses nest too
+-- deep, where it is an else branch of this control, or one that is read
 pub data ItemKind : Type 0 where
   text_item : List ℕ → ItemKind
-  unreadable_item : ItemKind
-  unread_item : ItemKind
+  flawed_item : Reason → ItemKind
   deep_item : Option Branch → ItemKind
   action_item : Action → ItemKind
 
@@ -22,23 +23,20 @@ pub data ItemKind : Type 0 where
 pub data Item : Type 0 where
   item : ℕ → ItemKind → Item
 
--- in a language of these else branches, a piece is read as this item
-pub data IsItem (branches : Branches) : Piece → Item → Type 0 where
-  a_text : {line : ℕ} {bytes : List ℕ} → IsItem branches (text line bytes) (item line (text_item bytes))
-  an_unreadable : {line : ℕ} → IsItem branches (unreadable line) (item line unreadable_item)
+-- in this language a piece is read as this item
+pub data IsItem (has : Language) : Piece → Item → Type 0 where
+  a_text : {line : ℕ} {bytes : List ℕ} → IsItem has (text line bytes) (item line (text_item bytes))
+  an_unreadable : {line : ℕ} → IsItem has (unreadable line) (item line (flawed_item reason.unreadable))
   -- tokens that spell no action of the language
-  unread : {line : ℕ} {ts : List Token}
-      → ((a : Action) → SpellsAction a ts → has_action branches a ≡ true → ⊥)
-      → IsItem branches (action line ts) (item line unread_item)
+  unread : {line : ℕ} {ts : List Token} → ((a : Action) → SpellsAction a ts → has a ≡ true → ⊥)
+      → IsItem has (action line ts) (item line (flawed_item reason.not_an_action))
   -- tokens that spell one whose parentheses nest too deep
-  too_deep : {line : ℕ} {ts : List Token} (a : Action)
-      → SpellsAction a ts → has_action branches a ≡ true → most_deep < depth_of a
-      → IsItem branches (action line ts) (item line (deep_item (branch_in a)))
+  too_deep : {line : ℕ} {ts : List Token} (a : Action) → SpellsAction a ts → has a ≡ true → most_deep < deepest 0 ts
+      → IsItem has (action line ts) (item line (deep_item (branch_in a)))
   -- tokens that spell one within the limit
-  read : {line : ℕ} {ts : List Token} {a : Action}
-      → SpellsAction a ts → has_action branches a ≡ true → depth_of a ≤ most_deep
-      → IsItem branches (action line ts) (item line (action_item a))
+  read : {line : ℕ} {ts : List Token} {a : Action} → SpellsAction a ts → has a ≡ true → deepest 0 ts ≤ most_deep
+      → IsItem has (action line ts) (item line (action_item a))
 
 -- a file of these bytes is cut into pieces that are read as these items, one by one
-abbrev pub HasItems : Branches → List ℕ → List Item → Type 0
-HasItems branches bytes items = (ps : List Piece) × Cuts false 1 bytes ps × AllZip (IsItem branches) ps items
+abbrev pub HasItems : Language → List ℕ → List Item → Type 0
+HasItems language bytes items = (ps : List Piece) × Cuts false 1 bytes ps × AllZip (IsItem language) ps items

@@ -1,11 +1,11 @@
 -- Laws of the definitions.
 use Rattle.std.specs.Prelude.{◌≡◌, ◌↔◌, ◌≤◌, ◌+◌, ℕ, true, List, Result, Ok, Err, length, map}
-use Rattle.tmpl_grammar.specs.declared.action.Branch.{Branch}
+use Rattle.tmpl_grammar.specs.Action.{Action}
 use Rattle.tmpl_syntax.specs.Tree.{Nodes, Definition}
-use Rattle.tmpl_syntax.specs.Language.{Branches, every_branch}
+use Rattle.tmpl_syntax.specs.Language.{Language, every_action}
 use Rattle.tmpl_syntax.specs.Item.{Item, HasItems}
 use Rattle.tmpl_syntax.specs.Place.Role.{Role, roles_of}
-use Rattle.tmpl_syntax.specs.Place.Body.{Verdict, fine, Judged}
+use Rattle.tmpl_syntax.specs.computed.Frames.{Verdict, fine, Judged}
 use Rattle.tmpl_syntax.specs.computed.Frames.{verdict_of}
 use Rattle.tmpl_syntax.specs.Spelling.{Spells}
 use Rattle.tmpl_syntax.specs.Formed.{IsFormed, AreFormed}
@@ -19,16 +19,16 @@ use Rattle.tmpl_syntax.specs.computed.Parse.{items_of, parsed}
 
 -- in each language a file has items, and no others
 abbrev pub HasSomeItems : Type 0
-HasSomeItems = (branches : Branches) (bytes : List ℕ) → (items : List Item) × HasItems branches bytes items
+HasSomeItems = (language : Language) (bytes : List ℕ) → (items : List Item) × HasItems language bytes items
 
 abbrev pub HasOneList : Type 0
 HasOneList =
-    (branches : Branches) (bytes : List ℕ) (xs ys : List Item) → HasItems branches bytes xs → HasItems branches bytes ys
+    (language : Language) (bytes : List ℕ) (xs ys : List Item) → HasItems language bytes xs → HasItems language bytes ys
     → xs ≡ ys
 
 -- in this language they are those that are computed
 abbrev pub HasItemsOf : Type 0
-HasItemsOf = (bytes : List ℕ) → HasItems every_branch bytes (items_of bytes)
+HasItemsOf = (bytes : List ℕ) → HasItems every_action bytes (items_of bytes)
 
 -- each list has a verdict, and no other
 abbrev pub HasVerdict : Type 0
@@ -67,34 +67,34 @@ HasOneOutcome =
 abbrev pub AcceptsAsParsed : Type 0
 AcceptsAsParsed =
     (old : List Template) (file bytes : List ℕ) (new : List Template)
-    → (parsed old file bytes ≡ Ok new) ↔ IsAccepted every_branch old file bytes new
+    → (parsed old file bytes ≡ Ok new) ↔ IsAccepted every_action old file bytes new
 
 -- it is refused just where the function gives a refusal, and line and reason are then those
 abbrev pub RefusesAsParsed : Type 0
 RefusesAsParsed =
     (old : List Template) (file bytes : List ℕ) (line : ℕ) (reason : Reason)
-    → (parsed old file bytes ≡ Err (line, reason)) ↔ IsRefusedBy every_branch file bytes line reason
+    → (parsed old file bytes ≡ Err (line, reason)) ↔ IsRefusedBy every_action file bytes line reason
 
--- one language has each else branch of another
-abbrev pub IsLarger : Branches → Branches → Type 0
-IsLarger large small = (b : Branch) → small b ≡ true → large b ≡ true
+-- one language has each action of another
+abbrev pub IsLarger : Language → Language → Type 0
+IsLarger large small = (a : Action) → small a ≡ true → large a ≡ true
 
 -- .. and accepts each file that the other accepts, which makes the same set
 abbrev pub AcceptsInLarger : Type 0
 AcceptsInLarger =
-    (large small : Branches) → IsLarger large small → (old : List Template) (file bytes : List ℕ) (new : List Template)
+    (large small : Language) → IsLarger large small → (old : List Template) (file bytes : List ℕ) (new : List Template)
     → IsAccepted small old file bytes new → IsAccepted large old file bytes new
 
 -- each template of a file needs at most three cells and one for each byte of the file
 abbrev pub NeedsAtMostBytes : Type 0
 NeedsAtMostBytes =
-    (branches : Branches) (file bytes : List ℕ) (items : List Item) (ds : List Definition) (own : Nodes)
-    → HasItems branches bytes items → Spells items ds own
+    (language : Language) (file bytes : List ℕ) (items : List Item) (ds : List Definition) (own : Nodes)
+    → HasItems language bytes items → Spells items ds own
     → NeedAtMost (3 + length bytes) (map (template_in file) (all_defined file ds own))
 
 -- so of a file within the limit it needs at most so many
 abbrev pub NeedsAtMost : Type 0
 NeedsAtMost =
-    (branches : Branches) (file bytes : List ℕ) (items : List Item) (ds : List Definition) (own : Nodes)
-    → length bytes ≤ most_bytes → HasItems branches bytes items → Spells items ds own
+    (language : Language) (file bytes : List ℕ) (items : List Item) (ds : List Definition) (own : Nodes)
+    → length bytes ≤ most_bytes → HasItems language bytes items → Spells items ds own
     → NeedAtMost most_need (map (template_in file) (all_defined file ds own))

@@ -1,24 +1,20 @@
 -- What a file adds to the set, or why it is refused. What stands outside its definitions is a template too, named by
 -- the file's base name as by Go's `ParseFiles`; the limit on its length, and the kinds and lines of refusals, are our
 -- own rules.
-use Rattle.std.specs.Prelude.{◌≡◌, ◌==◌, ◌+◌, ◌≤◌, ◌<◌, ℕ, false, List, [], ◌∷◌, ◌++◌, Option, Some, None}
-use Rattle.std.specs.Prelude.{Result, Ok, Err, length, map, slice_get, Contains}
+use Rattle.std.specs.Prelude.{◌≡◌, ◌==◌, ◌||◌, ◌+◌, ◌≤◌, ◌<◌, ℕ, true, List, [], ◌∷◌, ◌++◌, Option, Some, None}
+use Rattle.std.specs.Prelude.{Result, Ok, Err, length, map, slice_get, AllPairs}
 use Rattle.std.specs.List.{after_last}
 use Rattle.std.specs.Borrow.{Bor}
 use Rattle.tmpl_lex.specs.Text.{newlines}
 use Rattle.tmpl_syntax.specs.Tree.{Nodes, Definition}
-use Rattle.tmpl_syntax.specs.Language.{Branches, every_branch, go_1_22}
+use Rattle.tmpl_syntax.specs.Language.{Language, every_action, go_1_22}
 use Rattle.tmpl_syntax.specs.Item.{ItemKind, Item, item, HasItems}
 use Rattle.tmpl_syntax.specs.Place.Role.{roles_of}
-use Rattle.tmpl_syntax.specs.Place.Body.{fine, refused, left_open, Judged}
+use Rattle.tmpl_syntax.specs.Place.Body.{IsFine, IsFirstRefused, IsLeftOpen}
 use Rattle.tmpl_syntax.specs.Spelling.{definition, Spells}
 use Rattle.tmpl_syntax.specs.Fault.{Reason, open_at_end, too_long, second_definition, reason_of}
 use Rattle.tmpl_syntax.specs.Set.{Template, is_blank, defined_each}
 use Rattle.tmpl_syntax.specs.declared.fault.ParseFault.{ParseFault}
-
--- the line of the end of a file
-abbrev pub last_line : List ℕ → ℕ
-last_line bytes = newlines bytes + 1
 
 -- the part of a path after its last `/`
 abbrev pub base_name : List ℕ → List ℕ
@@ -36,53 +32,47 @@ all_defined file ds own = ds ++ definition 1 (base_name file) own ∷ []
 abbrev pub template_in : List ℕ → Definition → Template
 template_in file d = (d.name, record { file = file; nodes = d.nodes })
 
--- among these definitions is one of the same name as that one, and neither is blank
-abbrev pub IsSecond : List Definition → Definition → Type 0
-IsSecond earlier d =
-    (first : Definition) × Contains earlier first × (first.name ≡ d.name) × (is_blank first.nodes ≡ false)
-    × (is_blank d.nodes ≡ false)
-
+-- of two of these definitions that have one name, one at least is blank
 abbrev pub NoneSecond : List Definition → Type 0
-NoneSecond ds =
-    (before : List Definition) (d : Definition) (behind : List Definition) → ds ≡ before ++ d ∷ behind
-    → IsSecond before d → ⊥
+NoneSecond ds = AllPairs (λ (c d : Definition). c.name ≡ d.name → (is_blank c.nodes || is_blank d.nodes) ≡ true) ds
 
--- the first one that has an earlier one of its name stands at this line
+-- the first definition with which that is no longer so stands at this line
 abbrev pub HasSecond : List Definition → ℕ → Type 0
 HasSecond ds line =
     (before : List Definition) × (d : Definition) × (behind : List Definition) × (ds ≡ before ++ d ∷ behind)
-    × NoneSecond before × IsSecond before d × (line ≡ d.line)
+    × NoneSecond before × (NoneSecond (before ++ d ∷ []) → ⊥) × (line ≡ d.line)
 
 -- a file is cut into pieces, and these are read as items by the grammar; it is accepted if no item of it is refused,
 -- nothing is open at its end, and none of the templates that the items spell is a second one, and these are then
 -- added to the set, one by one
-pub record IsAccepted (branches : Branches) (old : List Template) (file bytes : List ℕ) (new : List Template)
+pub record IsAccepted (language : Language) (old : List Template) (file bytes : List ℕ) (new : List Template)
     : Type 0 where
   pub short : length bytes ≤ most_bytes
   pub items : List Item
-  pub has : HasItems branches bytes items
-  pub judged : Judged (roles_of items) fine
+  pub has : HasItems language bytes items
+  pub judged : IsFine (roles_of items)
   pub definitions : List Definition
   pub own : Nodes
   pub spells : Spells items definitions own
   pub once : NoneSecond (all_defined file definitions own)
   pub set : new ≡ defined_each old (map (template_in file) (all_defined file definitions own))
 
--- these items of a file are refused at this line, for this reason: something is open at their end, they spell a second
--- definition, or the item at a place is the first that is refused, for this reason, and this is its line
+-- these items of a file are refused at this line, for this reason: something is open at their end, on the last line;
+-- they spell a second definition; or the item at a place is the first that is refused, for this reason, and this is its
+-- line
 abbrev pub AreRefused : List ℕ → List ℕ → List Item → ℕ → Reason → Type 0
-AreRefused file bytes items line open_at_end = Judged (roles_of items) left_open × (line ≡ last_line bytes)
+AreRefused file bytes items line open_at_end = IsLeftOpen (roles_of items) × (line ≡ newlines bytes + 1)
 AreRefused file bytes items line second_definition =
-    Judged (roles_of items) fine × (ds : List Definition) × (own : Nodes) × Spells items ds own
+    IsFine (roles_of items) × (ds : List Definition) × (own : Nodes) × Spells items ds own
     × HasSecond (all_defined file ds own) line
 AreRefused file bytes items line why =
-    (i : ℕ) × (what : ItemKind) × Judged (roles_of items) (refused i why) × (slice_get items i ≡ Some (item line what))
+    (i : ℕ) × (what : ItemKind) × IsFirstRefused (roles_of items) i why × (slice_get items i ≡ Some (item line what))
 
 -- a file of this path and these bytes is refused at this line, for this reason
-abbrev pub IsRefusedBy : Branches → List ℕ → List ℕ → ℕ → Reason → Type 0
-IsRefusedBy branches file bytes line too_long = (most_bytes < length bytes) × (line ≡ 1)
-IsRefusedBy branches file bytes line why =
-    (length bytes ≤ most_bytes) × (items : List Item) × HasItems branches bytes items
+abbrev pub IsRefusedBy : Language → List ℕ → List ℕ → ℕ → Reason → Type 0
+IsRefusedBy language file bytes line too_long = (most_bytes < length bytes) × (line ≡ 1)
+IsRefusedBy language file bytes line why =
+    (length bytes ≤ most_bytes) × (items : List Item) × HasItems language bytes items
     × AreRefused file bytes items line why
 
 -- the line and the reason of a refusal
@@ -92,8 +82,8 @@ Refusal = ℕ × Reason
 -- what comes of a file of this path and these bytes: it is accepted, and makes a new set of the old one, or it is
 -- refused
 abbrev pub Parses : List Template → List ℕ → List ℕ → Result (List Template) Refusal → Type 0
-Parses old file bytes (Ok new) = IsAccepted every_branch old file bytes new
-Parses old file bytes (Err refusal) = IsRefusedBy every_branch file bytes refusal.0 refusal.1
+Parses old file bytes (Ok new) = IsAccepted every_action old file bytes new
+Parses old file bytes (Err refusal) = IsRefusedBy every_action file bytes refusal.0 refusal.1
 
 -- .. where a refusal may be for none of the reasons, which is want of memory
 abbrev pub ParsesUnless : List Template → List ℕ → List ℕ → ℕ → Option Reason → Type 0

@@ -9,42 +9,33 @@ use Rattle.core.specs.Hash.DefaultHasher.{with_keys}
 use Rattle.tmpl_lex.specs.Bytes.{is_space}
 use Rattle.tmpl_syntax.specs.declared.name_hash.NameHash.{NameHash}
 use Rattle.tmpl_syntax.specs.Tree as tree
-use Rattle.tmpl_syntax.specs.Tree.{NodeKind, text}
+use Rattle.tmpl_syntax.specs.Tree.{text}
 use Rattle.tmpl_syntax.specs.Tree.{Nodes, Tree}
 
 -- a name and a tree
 abbrev pub Template : Type 0
 Template = List ℕ × Tree
 
-abbrev pub has_name : List ℕ → Template → Bool
-has_name name t = bytes_eq name t.0
-
 -- the tree of the template of this name
 abbrev pub tree_named : List ℕ → List Template → Option Tree
-tree_named name ts = option_map (λ t. t.1) (find (has_name name) ts)
+tree_named name ts = option_map (λ (t : Template). t.1) (find (λ (t : Template). bytes_eq name t.0) ts)
 
 -- its number: how many templates stand before it
 abbrev pub number_of : List ℕ → List Template → Option ℕ
-number_of name ts = position (has_name name) ts
-
-abbrev pub is_blank_node : NodeKind → Bool
-is_blank_node (text bytes) = list_all is_space bytes
-is_blank_node n = false
+number_of name ts = position (λ (t : Template). bytes_eq name t.0) ts
 
 -- whether all nodes are texts of white space
 abbrev pub is_blank : Nodes → Bool
 is_blank tree.none = true
-is_blank (tree.then line n ns) = is_blank_node n && is_blank ns
+is_blank (tree.then line (text bytes) ns) = list_all is_space bytes && is_blank ns
+is_blank ns = false
 
--- of a body that is there and a new one, the one that stays: a blank one replaces none
-abbrev pub chosen : Tree → Tree → Tree
-chosen old new = if is_blank new.nodes then old else new
-
--- the set after a definition: a new name goes last, and a name that is there keeps its place
+-- the set after a definition: a new name goes last, and a name that is there keeps its place, where a blank body
+-- replaces none
 abbrev pub defined : List Template → List ℕ → Tree → List Template
-defined [] name tree = (name, tree) ∷ []
-defined (t ∷ ts) name tree =
-    if bytes_eq name t.0 then (t.0, chosen t.1 tree) ∷ ts else t ∷ defined ts name tree
+defined [] name new = (name, new) ∷ []
+defined (t ∷ ts) name new =
+    if bytes_eq name t.0 then (t.0, if is_blank new.nodes then t.1 else new) ∷ ts else t ∷ defined ts name new
 
 -- .. after definitions, one by one
 abbrev pub defined_each : List Template → List Template → List Template

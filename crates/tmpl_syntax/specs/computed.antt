@@ -4,4 +4,5 @@ pub mod Frames
 pub mod Item
 pub mod Parse
 pub mod Print
+pub mod Set
 pub mod View

@@ -4,6 +4,7 @@ ghost use Rattle.std.specs.List.{list_all};
 ghost use Rattle.tmpl_lex.specs.Bytes as token;
 ghost use Rattle.tmpl_syntax.specs.View.{node_of, nodes_in};
 ghost use Rattle.tmpl_syntax.specs.Set as spec;
+ghost use Rattle.tmpl_syntax.specs.computed.Set.{is_blank_node};
 
 use crate::tree::{Node, NodeKind};
 use tmpl_lex::is_space;
@@ -18,7 +19,7 @@ pub(crate) fn is_blank(nodes: &[Node]) -> bool
 
 /// Whether each node is a text of white space.
 fn all_blank(nodes: &[Node]) -> bool
-    ensures { result ≡ list_all (λ n. spec.is_blank_node (node_of n).what) nodes.now }
+    ensures { result ≡ list_all (λ n. is_blank_node (node_of n).what) nodes.now }
 {
     nodes.iter().all(|node| is_blank_node(node))
 }
@@ -26,7 +27,7 @@ fn all_blank(nodes: &[Node]) -> bool
 /// Whether a node is a text of white space.
 #[tactic(auto, using(crate::proofs::ViewLemmas::controls))]
 fn is_blank_node(node: &Node) -> bool
-    ensures { result ≡ spec.is_blank_node (node_of node.now).what }
+    ensures { result ≡ is_blank_node (node_of node.now).what }
 {
     match &node.what {
         NodeKind::Text(text) => is_white(text.as_slice()),

@@ -7,7 +7,7 @@ ghost use Rattle.tmpl_syntax.specs.Print.Join.{CutsBack};
 ghost use Rattle.tmpl_syntax.specs.Print.Laws.{AcceptsBack, KeepsPrintable, ReadsSame, SetReadsSame};
 
 /// The law that each file has one list of items: its bytes are cut into one list of pieces, and each piece
-/// is read as one item. So it is in every language that else branches tell apart.
+/// is read as one item. So it is in every language, whichever of the actions it has.
 pub fn one_list_of_items()
     ensures exists { HasSomeItems }
     ensures one { HasOneList }
@@ -46,8 +46,8 @@ pub fn one_outcome()
     ensures refused { RefusesAsParsed }
 {}
 
-/// The law that a language with more else branches accepts each file that one with fewer accepts, and makes the same
-/// set of it.
+/// The law that a language with more actions, such as more else branches, accepts each file that one with fewer
+/// accepts, and makes the same set of it.
 #[tactic(auto, using(crate::proofs::LargerLemmas::accepts_in_larger))]
 pub fn more_branches()
     ensures { AcceptsInLarger }

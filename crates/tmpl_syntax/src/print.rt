@@ -1,10 +1,10 @@
 //! Trees printed as template files.
-ghost use Rattle.std.specs.Prelude.{◌≡◌, ◌∷◌, [], IfOk, OnOk, None, codes};
+ghost use Rattle.std.specs.Prelude.{◌≡◌, ◌∷◌, [], IfOk, OnOk, None, codes, nat_eq};
+ghost use Rattle.std.specs.List.{ends_with};
 ghost use Rattle.tmpl_grammar.specs.View.{printed_of};
-ghost use Rattle.tmpl_syntax.specs.Print.Join.{ends_brace, opening, parting};
 ghost use Rattle.tmpl_syntax.specs.Print.Laws.{SetBack};
 ghost use Rattle.tmpl_syntax.specs.Print.Printed.{else_said, node_said, nodes_said, printed, printed_set};
-ghost use Rattle.tmpl_syntax.specs.Print.Printed.{template_said};
+ghost use Rattle.tmpl_syntax.specs.Print.Printed.{opening_behind, parting, template_said};
 ghost use Rattle.tmpl_syntax.specs.Print.Printed.{said, said_text};
 ghost use Rattle.tmpl_syntax.specs.View.{control_of, node_of, nodes_in, set_view, tree_of};
 ghost use Rattle.tmpl_syntax.specs.computed.View.{page_of, text_of};
@@ -155,7 +155,7 @@ impl<'t> Page<'t> {
 
 /// What opens an action behind a text or none: its `{{`, which takes back a space behind a text that ends in `{`.
 fn opening(before: Option<&[u8]>) -> &'static [u8]
-    ensures { result.now ≡ opening (text_of before.entry) }
+    ensures { result.now ≡ opening_behind (text_of before.entry) }
 {
     match before {
         Some(text) => if ends_in_brace(text) { b" {{- " } else { b"{{" },
@@ -178,9 +178,8 @@ fn parting(before: Option<&[u8]>) -> &'static [u8]
 }
 
 /// Whether a text ends in `{`.
-#[tactic(auto, using(crate::proofs::PageLemmas::last_brace))]
 fn ends_in_brace(text: &[u8]) -> bool
-    ensures { result ≡ ends_brace text.now }
+    ensures { result ≡ ends_with nat_eq text.now (codes "{") }
 {
     text.ends_with(b"{")
 }

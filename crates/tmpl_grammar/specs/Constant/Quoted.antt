@@ -1,6 +1,6 @@
 -- What stands between quotes ("Rune literals" and "String literals" in the specification of Go's language). That a text
 -- need not be UTF-8 is our own rule.
-use Rattle.std.specs.Prelude.{◌≡◌, ℕ, ◌<◌, ◌==◌, true, not, List, [], ◌∷◌, ◌++◌, length, filter, Some, codes}
+use Rattle.std.specs.Prelude.{◌≡◌, ℕ, ◌<◌, true, List, [], ◌∷◌, ◌++◌, length, Some, codes}
 use Rattle.std.specs.Char.{encode_utf8}
 use Rattle.std.specs.Str.{byte}
 use Rattle.std.specs.Str.Parse.{AllDigits, digits_value}
@@ -43,7 +43,3 @@ pub data SpellsRunes (quote : ℕ) : List ℕ → List Rune → Type 0 where
       → SpellsRunes quote rest rs → SpellsRunes quote (b ∷ rest) (rune.char 65533 ∷ rs)
   an_escape : {spelling rest : List ℕ} {r : Rune} {rs : List Rune} → IsEscape quote spelling r
       → SpellsRunes quote rest rs → SpellsRunes quote (spelling ++ rest) (r ∷ rs)
-
--- the text of a raw string
-abbrev pub without_returns : List ℕ → List ℕ
-without_returns bs = filter (λ b. not (b == byte "\r")) bs

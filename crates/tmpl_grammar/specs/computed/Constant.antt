@@ -5,8 +5,7 @@ use Rattle.tmpl_lex.specs.declared.piece.TokenKind.{TokenKind}
 use Rattle.tmpl_lex.specs.declared.piece.TokenKind.TheVariants as kind
 use Rattle.tmpl_grammar.specs.Tree.{Operand, number_constant, text_constant}
 use Rattle.tmpl_grammar.specs.computed.Integer.{integer}
-use Rattle.tmpl_grammar.specs.Constant.Quoted.{without_returns}
-use Rattle.tmpl_grammar.specs.computed.Quoted.{between, unquoted, rune_code}
+use Rattle.tmpl_grammar.specs.computed.Quoted.{between, unquoted, rune_code, without_returns}
 
 -- the text between the quotes of a string, and of a raw string, and the code between those of a character
 abbrev pub string_in : List ℕ → Option Operand

@@ -1,25 +1,12 @@
 -- The parser of pipelines as the code has it: where parentheses nest too deep it lets go of what stands in them once
 -- they close, and tells for all that whether the tokens are a pipeline.
-use Rattle.std.specs.Prelude.{ℕ, suc, ◌-◌, max, Bool, true, false, List, [], ◌∷◌, Option, Some}
+use Rattle.std.specs.Prelude.{Bool, true, false, List, [], ◌∷◌, Option, Some}
 use Rattle.std.specs.Prelude.{option_map, option_and_then}
-use Rattle.tmpl_lex.specs.declared.piece.TokenKind.{TokenKind}
-use Rattle.tmpl_lex.specs.declared.piece.TokenKind.TheVariants as kind
 use Rattle.tmpl_lex.specs.Piece.{Token}
 use Rattle.tmpl_grammar.specs.Tree as tree
 use Rattle.tmpl_grammar.specs.Tree.{Operand, Operands, Pipeline, commands_from}
 use Rattle.tmpl_grammar.specs.computed.Depth.{limited_by}
 use Rattle.tmpl_grammar.specs.computed.Parser.{Parser, step, finished}
-
--- how many parentheses are open behind a token
-abbrev pub depth_behind : TokenKind → ℕ → ℕ
-depth_behind kind.LeftParenthesis n = suc n
-depth_behind kind.RightParenthesis n = n - 1
-depth_behind k n = n
-
--- the most that are open at any place, where so many are at first
-abbrev pub deepest : ℕ → List Token → ℕ
-deepest n [] = n
-deepest n (t ∷ ts) = max n (deepest (depth_behind t.kind n) ts)
 
 -- an operand, with nothing in its parentheses and no chain behind them
 abbrev pub emptied : Operand → Operand

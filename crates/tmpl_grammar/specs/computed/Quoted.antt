@@ -1,6 +1,6 @@
 -- What stands between quotes, computed: the twin of `SpellsRunes`.
 use Rattle.std.specs.Prelude.{ℕ, zero, suc, ◌-◌, ◌==◌, ◌&&◌, nat_lt, nat_le, List, [], ◌∷◌, length, take, drop}
-use Rattle.std.specs.Prelude.{slice_index, Option, Some, None, option_map, option_and_then, if◌then◌else◌}
+use Rattle.std.specs.Prelude.{not, filter, slice_index, Option, Some, None, option_map, option_and_then, if◌then◌else◌}
 use Rattle.std.specs.List.{flat_map}
 use Rattle.std.specs.Char.{len_utf8}
 use lib.Utf8.{scalar}
@@ -8,6 +8,10 @@ use Rattle.tmpl_values.specs.Rune.{Rune, char, byte, bytes_in}
 use Rattle.tmpl_values.specs.Rune.{first_rune}
 use Rattle.tmpl_grammar.specs.computed.Integer.{number_in}
 use Rattle.tmpl_grammar.specs.Constant.Quoted.{code_of}
+
+-- the text of a raw string
+abbrev pub without_returns : List ℕ → List ℕ
+without_returns bs = filter (λ b. not (b == 13)) bs
 
 -- a part, and how many bytes spell it
 abbrev pub Spelled : Type 0

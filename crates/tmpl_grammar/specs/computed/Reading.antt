@@ -11,7 +11,8 @@ pub use Rattle.tmpl_grammar.specs.computed.Token.{is_white, is_blank, without_fr
 use Rattle.tmpl_grammar.specs.computed.Parser.{start, commands_after}
 use Rattle.tmpl_grammar.specs.Tree.{Operand, Operands, Pipeline, Binding, unbound}
 use Rattle.tmpl_grammar.specs.Tree.{declare, assign, declare_pair, Header, commands_from}
-use Rattle.tmpl_grammar.specs.Header.{is_range, may_bind}
+use Rattle.tmpl_grammar.specs.Header.{is_range}
+use Rattle.tmpl_grammar.specs.Printable.{may_bind}
 use Rattle.tmpl_grammar.specs.computed.Depth.{Reading, reading_of}
 use Rattle.tmpl_grammar.specs.Action.{Action, pipeline_action, opening, plain_else, else_branch, end_action}
 use Rattle.tmpl_grammar.specs.Action.{break_action, continue_action}

@@ -5,7 +5,7 @@ ghost use Rattle.std.specs.Prelude.{IfOk, IfSome, OnOk, length, option_and_then,
 ghost use Rattle.tmpl_values.specs.Rune.{first_rune};
 ghost use Rattle.tmpl_grammar.specs.computed.Integer as numeral;
 ghost use Rattle.tmpl_values.specs.Rune.{bytes_in};
-ghost use Rattle.tmpl_grammar.specs.Constant.Quoted.{code_of, without_returns};
+ghost use Rattle.tmpl_grammar.specs.Constant.Quoted.{code_of};
 ghost use Rattle.tmpl_grammar.specs.computed.View.{rune_of, spelled_of};
 ghost use Rattle.tmpl_grammar.specs.computed.Quoted as spec;
 ghost use Rattle.tmpl_grammar.specs.computed.Within.{within};
@@ -60,7 +60,7 @@ pub(crate) fn unquote(alloc: Global, quote: u8, bytes: &[u8]) -> Result<Option<V
 
 /// The text of a raw string: its bytes without carriage returns.
 pub(crate) fn without_returns(alloc: Global, bytes: &[u8]) -> Result<Vec<u8>, AllocError>
-    ensures { IfOk result (λ v. v.items ≡ without_returns bytes.now) }
+    ensures { IfOk result (λ v. v.items ≡ spec.without_returns bytes.now) }
 {
     bytes.iter().copied().filter(|b| *b != b'\r').collect(alloc)
 }

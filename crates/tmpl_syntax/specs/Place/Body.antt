@@ -8,8 +8,8 @@ use Rattle.tmpl_syntax.specs.Place.Opening as opened
 use Rattle.tmpl_grammar.specs.declared.tree.Control.TheVariants.{If, With, Range}
 use Rattle.tmpl_syntax.specs.Fault as reason
 use Rattle.tmpl_syntax.specs.Fault.{Reason, rank}
-use Rattle.tmpl_syntax.specs.Place.Role.{Name, Names, no_names, Act, plain, opener, else_part}
-use Rattle.tmpl_syntax.specs.Place.Role.{closer, jump, nested, Role, unreadable_role, unread_role, act_role}
+use Rattle.tmpl_syntax.specs.Place.Role as role
+use Rattle.tmpl_syntax.specs.Place.Role.{Name, Names, names_given, Role, plain, opener, else_part, closer, jump, nested}
 use Rattle.tmpl_syntax.specs.Place.Open.{IsOpen, NothingOpen, IsLast, IsElseOf, HasElse, OfOneTemplate}
 use Rattle.tmpl_syntax.specs.Place.Scope.{IsInScope}
 
@@ -31,14 +31,14 @@ IsLoop xs j i =
 
 -- out of place is a define at which something is open; an else that may not stand there; an end at which nothing is
 -- open; a break or continue in no range's body
-abbrev pub IsMisplaced : List Role → ℕ → Act → Type 0
+abbrev pub IsMisplaced : List Role → ℕ → Role → Type 0
 IsMisplaced xs i (opener opened.define p) = (j : ℕ) × IsOpen xs j i
 IsMisplaced xs i (else_part None) = TakesElse xs None i → ⊥
 IsMisplaced xs i (else_part (Some (b, p))) = TakesElse xs (Some b) i → ⊥
 IsMisplaced xs i (nested (Some b)) = TakesElse xs (Some b) i → ⊥
 IsMisplaced xs i closer = NothingOpen xs i
 IsMisplaced xs i jump = (j : ℕ) → IsLoop xs j i → ⊥
-IsMisplaced xs i a = ⊥
+IsMisplaced xs i x = ⊥
 
 -- the openings that are a level while they are open
 abbrev pub is_level : Opening → Bool
@@ -58,52 +58,44 @@ pub data Levels (xs : List Role) (i : ℕ) : ℕ → ℕ → Type 0 where
   other : {m n : ℕ} → Levels xs i m n → (IsLevel xs m i → ⊥) → Levels xs i (suc m) n
 
 -- the names in an action
-abbrev pub names_in : Act → Names
+abbrev pub names_in : Role → Names
 names_in (plain p) = p
 names_in (opener c p) = p
 names_in (else_part (Some (b, p))) = p
-names_in a = no_names
+names_in x = names_given None
 
 -- an opening that is a level, or an else branch
-abbrev pub opens_level : Act → Bool
+abbrev pub opens_level : Role → Bool
 opens_level (opener c p) = is_level c
 opens_level (else_part (Some b)) = true
-opens_level a = false
+opens_level x = false
 
 -- the most levels that may stand
 abbrev pub most_levels : ℕ
 most_levels = 500
 
--- a level more where as many stand as may, or parentheses that nest too deep
-pub data IsTooDeep (xs : List Role) (i : ℕ) (a : Act) : Type 0 where
-  in_levels : {n : ℕ} → opens_level a ≡ true → Levels xs i i n → most_levels ≤ n → IsTooDeep xs i a
-  in_parentheses : {b : Option Branch} → a ≡ nested b → IsTooDeep xs i a
-
--- a name used or assigned that is not in scope
-abbrev pub IsUndeclared : List Role → ℕ → Act → Type 0
-IsUndeclared xs i a = (name : Name) × Contains (names_in a).uses name × (IsInScope xs i name → ⊥)
-
--- the reason applies to the item at i
+-- the reason applies to the item at i: it is flawed so, or out of place; it is a level more where as many stand as may,
+-- or its parentheses nest too deep; or it uses or assigns a name that is not in scope
 pub data Applies (xs : List Role) (i : ℕ) : Reason → Type 0 where
-  unreadable : slice_get xs i ≡ Some unreadable_role → Applies xs i reason.unreadable
-  unread : slice_get xs i ≡ Some unread_role → Applies xs i reason.not_an_action
-  misplaced : {a : Act} → slice_get xs i ≡ Some (act_role a) → IsMisplaced xs i a → Applies xs i reason.out_of_place
-  too_deep : {a : Act} → slice_get xs i ≡ Some (act_role a) → IsTooDeep xs i a → Applies xs i reason.nested_too_deeply
-  undeclared : {a : Act} → slice_get xs i ≡ Some (act_role a) → IsUndeclared xs i a
-      → Applies xs i reason.undeclared_variable
+  flawed : {why : Reason} → slice_get xs i ≡ Some (role.flawed why) → Applies xs i why
+  misplaced : {x : Role} → slice_get xs i ≡ Some x → IsMisplaced xs i x → Applies xs i reason.out_of_place
+  in_levels : {x : Role} {n : ℕ} → slice_get xs i ≡ Some x → opens_level x ≡ true → Levels xs i i n → most_levels ≤ n
+      → Applies xs i reason.nested_too_deeply
+  in_parentheses : {b : Option Branch} → slice_get xs i ≡ Some (nested b) → Applies xs i reason.nested_too_deeply
+  undeclared : {x : Role} (name : Name) → slice_get xs i ≡ Some x → Contains (names_in x).uses name
+      → (IsInScope xs i name → ⊥) → Applies xs i reason.undeclared_variable
 
 abbrev pub NoneRefused : List Role → ℕ → Type 0
 NoneRefused xs i = (k : ℕ) (r : Reason) → k < i → Applies xs k r → ⊥
 
--- no item is refused and nothing is open at the end; or the item at a place is the first to which a reason applies, and
--- this is the first reason that does; or none is refused, but something is open at the end
-pub data Verdict : Type 0 where
-  fine : Verdict
-  refused : ℕ → Reason → Verdict
-  left_open : Verdict
+-- no item is refused and nothing is open at the end
+abbrev pub IsFine : List Role → Type 0
+IsFine xs = NoneRefused xs (length xs) × NothingOpen xs (length xs)
 
-abbrev pub Judged : List Role → Verdict → Type 0
-Judged xs fine = NoneRefused xs (length xs) × NothingOpen xs (length xs)
-Judged xs (refused i why) =
-    Applies xs i why × ((r : Reason) → rank r < rank why → Applies xs i r → ⊥) × NoneRefused xs i
-Judged xs left_open = NoneRefused xs (length xs) × (j : ℕ) × IsOpen xs j (length xs)
+-- the item at i is the first to which a reason applies, and this is the first reason that does
+abbrev pub IsFirstRefused : List Role → ℕ → Reason → Type 0
+IsFirstRefused xs i why = Applies xs i why × ((r : Reason) → rank r < rank why → Applies xs i r → ⊥) × NoneRefused xs i
+
+-- none is refused, but something is open at the end
+abbrev pub IsLeftOpen : List Role → Type 0
+IsLeftOpen xs = NoneRefused xs (length xs) × (j : ℕ) × IsOpen xs j (length xs)

@@ -1,18 +1,17 @@
 -- What is open at a place, told by stretches of the list.
-use Rattle.std.specs.Prelude.{◌≡◌, ℕ, ◌+◌, ◌<◌, ◌≤◌, Bool, true, false, List}
+use Rattle.std.specs.Prelude.{◌≡◌, ◌↔◌, ℕ, ◌+◌, ◌<◌, ◌≤◌, Bool, true, false, List}
 use Rattle.std.specs.Prelude.{count_by, slice_get, slice_range, Option, Some, None}
 use Rattle.tmpl_grammar.specs.declared.action.Branch.{Branch}
 use Rattle.tmpl_syntax.specs.Place.Opening.{Opening}
 use Rattle.tmpl_syntax.specs.Place.Opening as opened
-use Rattle.tmpl_syntax.specs.Place.Role.{Names, opener, else_part, closer}
-use Rattle.tmpl_syntax.specs.Place.Role.{Role, act_role}
+use Rattle.tmpl_syntax.specs.Place.Role.{Names, Role, opener, else_part, closer}
 
 abbrev pub opens : Role → Bool
-opens (act_role (opener c p)) = true
+opens (opener c p) = true
 opens x = false
 
 abbrev pub ends : Role → Bool
-ends (act_role closer) = true
+ends closer = true
 ends x = false
 
 -- the opening at j, an if, with, range, define or block, is open at a later i if no front of the stretch strictly
@@ -20,7 +19,7 @@ ends x = false
 pub record IsOpen (xs : List Role) (j i : ℕ) : Type 0 where
   pub opened : Opening
   pub names : Names
-  pub at : slice_get xs j ≡ Some (act_role (opener opened names))
+  pub at : slice_get xs j ≡ Some (opener opened names)
   pub before : j < i
   pub fronts : (n : ℕ) → j < n → n ≤ i
       → count_by ends (slice_range xs (j + 1) n) ≤ count_by opens (slice_range xs (j + 1) n)
@@ -35,7 +34,7 @@ pub record IsLast (xs : List Role) (j i : ℕ) : Type 0 where
 
 -- an else belongs to the last opening open at it; it begins with a control of its own or with none
 pub record IsElseOf (xs : List Role) (begins : Option (Branch × Names)) (j k : ℕ) : Type 0 where
-  pub at : slice_get xs k ≡ Some (act_role (else_part begins))
+  pub at : slice_get xs k ≡ Some (else_part begins)
   pub belongs : IsLast xs j k
 
 -- a plain else of the opening at j stands before i
@@ -52,10 +51,7 @@ pub record IsBody (xs : List Role) (j i : ℕ) : Type 0 where
   pub is_open : IsOpen xs j i
   pub own : is_template is_open.opened ≡ true
 
--- the template of i is that of the last such opening that is open at i, else the file's
-abbrev pub IsTemplate : List Role → ℕ → Option ℕ → Type 0
-IsTemplate xs i None = (j : ℕ) → IsBody xs j i → ⊥
-IsTemplate xs i (Some t) = IsBody xs t i × ((j : ℕ) → t < j → IsBody xs j i → ⊥)
-
+-- the template of a place is that of the last such opening that is open there, else the file's: two places are of one
+-- template if the same ones are open at both
 abbrev pub OfOneTemplate : List Role → ℕ → ℕ → Type 0
-OfOneTemplate xs k i = (t : Option ℕ) × IsTemplate xs k t × IsTemplate xs i t
+OfOneTemplate xs k i = (j : ℕ) → IsBody xs j k ↔ IsBody xs j i

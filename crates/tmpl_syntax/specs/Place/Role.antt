@@ -7,10 +7,11 @@ use Rattle.tmpl_grammar.specs.Tree.{group, Operands, no_operand, operand, Pipeli
 use Rattle.tmpl_grammar.specs.Tree.{Binding, declare, assign, declare_pair, Header}
 use Rattle.tmpl_grammar.specs.Action as action
 use Rattle.tmpl_grammar.specs.Action.{Action, pipeline_action, plain_else}
-use Rattle.tmpl_grammar.specs.Action.{else_branch, end_action, break_action, continue_action, define_action}
+use Rattle.tmpl_grammar.specs.Action.{else_branch, end_action, define_action}
 use Rattle.tmpl_grammar.specs.Action.{template_action, block_action}
-use Rattle.tmpl_syntax.specs.Item.{Item, item, text_item, unreadable_item, unread_item, deep_item, action_item}
+use Rattle.tmpl_syntax.specs.Item.{Item, item, text_item, flawed_item, deep_item, action_item}
 use Rattle.tmpl_grammar.specs.declared.action.Branch.{Branch}
+use Rattle.tmpl_syntax.specs.Fault.{Reason}
 use Rattle.tmpl_syntax.specs.Place.Opening.{Opening}
 use Rattle.tmpl_syntax.specs.Place.Opening as opening
 
@@ -22,22 +23,18 @@ pub record Names : Type 0 where
   pub declares : List Name
   pub uses : List Name
 
--- a plain action puts out or binds a value or runs a template, an opener opens a control or a template, an else_part is
--- an else, which may begin with a control of its own, a closer is an `end`, and a jump a break or continue; and nested
--- are actions whose parentheses nest too deep, of which an else branch alone may be out of place
-pub data Act : Type 0 where
-  plain : Names → Act
-  opener : Opening → Names → Act
-  else_part : Option (Branch × Names) → Act
-  closer : Act
-  jump : Act
-  nested : Option Branch → Act
-
+-- plain is a text, or an action that puts out or binds a value or runs a template; an opener opens a control or a
+-- template, an else_part is an else, which may begin with a control of its own, a closer is an `end`, and a jump a
+-- break or continue; nested are actions whose parentheses nest too deep, of which an else branch alone may be out of
+-- place; and what is flawed is refused for this reason wherever it stands
 pub data Role : Type 0 where
-  text_role : Role
-  unreadable_role : Role
-  unread_role : Role
-  act_role : Act → Role
+  plain : Names → Role
+  opener : Opening → Names → Role
+  else_part : Option (Branch × Names) → Role
+  closer : Role
+  jump : Role
+  nested : Option Branch → Role
+  flawed : Reason → Role
 
 -- `$` alone is the dot with which the template started, and no name that is declared
 abbrev pub named : Name → List Name
@@ -71,31 +68,26 @@ declared_by b = []
 abbrev pub names_of : Header → Names
 names_of h = record { declares = declared_by h.binding; uses = assigned_by h.binding ++ used_by h.pipeline }
 
-abbrev pub no_names : Names
-no_names = record { declares = []; uses = [] }
-
--- the names in what a template is run with
+-- the names in what a template is run with, and none where it is run with nothing
 abbrev pub names_given : Option Pipeline → Names
 names_given given = record { declares = []; uses = option_map_or used_by given [] }
 
-abbrev pub act_of : Action → Act
+abbrev pub act_of : Action → Role
 act_of (pipeline_action h) = plain (names_of h)
 act_of (action.opening c h) = opener (opening.control c) (names_of h)
 act_of plain_else = else_part None
 act_of (else_branch branch h) = else_part (Some (branch, names_of h))
 act_of end_action = closer
-act_of break_action = jump
-act_of continue_action = jump
-act_of (define_action name) = opener opening.define no_names
+act_of (define_action name) = opener opening.define (names_given None)
 act_of (template_action name given) = plain (names_given given)
 act_of (block_action name p) = opener opening.block (names_given (Some p))
+act_of a = jump
 
 abbrev pub role_of : Item → Role
-role_of (item line (text_item bytes)) = text_role
-role_of (item line unreadable_item) = unreadable_role
-role_of (item line unread_item) = unread_role
-role_of (item line (deep_item branch)) = act_role (nested branch)
-role_of (item line (action_item a)) = act_role (act_of a)
+role_of (item line (text_item bytes)) = plain (names_given None)
+role_of (item line (flawed_item reason)) = flawed reason
+role_of (item line (deep_item branch)) = nested branch
+role_of (item line (action_item a)) = act_of a
 
 abbrev pub roles_of : List Item → List Role
 roles_of items = map role_of items

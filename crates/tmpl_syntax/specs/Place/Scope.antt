@@ -5,8 +5,8 @@ use Rattle.tmpl_grammar.specs.declared.action.Branch.{Branch}
 use Rattle.tmpl_syntax.specs.Place.Opening.{Opening}
 use Rattle.tmpl_syntax.specs.Place.Opening as opened
 use Rattle.tmpl_grammar.specs.declared.tree.Control.TheVariants.{Range}
-use Rattle.tmpl_syntax.specs.Place.Role.{Name, Names, plain, opener, Role, act_role}
-use Rattle.tmpl_syntax.specs.Place.Open.{IsOpen, NothingOpen, IsLast, IsElseOf, HasElse, OfOneTemplate}
+use Rattle.tmpl_syntax.specs.Place.Role.{Name, Names, Role, plain, opener}
+use Rattle.tmpl_syntax.specs.Place.Open.{IsOpen, IsElseOf, HasElse, OfOneTemplate}
 
 -- no else of the opening at j stands after k and up to i, whatever it begins with
 abbrev pub IsOnePart : List Role → ℕ → ℕ → ℕ → Type 0
@@ -14,13 +14,11 @@ IsOnePart xs j k i = (m : ℕ) (begins : Option (Branch × Names)) → k < m →
 
 -- the action at k declares the name, and its declaration reaches i:
 pub data Declares (xs : List Role) (k i : ℕ) (name : Name) : Type 0 where
-  -- as an action, the last opening open at k, if any, is open at i with no else of it between or at i;
-  at_the_top : {p : Names} → slice_get xs k ≡ Some (act_role (plain p)) → Contains p.declares name → NothingOpen xs k
-      → Declares xs k i name
-  inside : {p : Names} {j : ℕ} → slice_get xs k ≡ Some (act_role (plain p)) → Contains p.declares name → IsLast xs j k
-      → IsOpen xs j i → IsOnePart xs j k i → Declares xs k i name
+  -- as an action, all that is open at k is open at i, with no else of it between or at i;
+  in_action : {p : Names} → slice_get xs k ≡ Some (plain p) → Contains p.declares name
+      → ((j : ℕ) → IsOpen xs j k → IsOpen xs j i × IsOnePart xs j k i) → Declares xs k i name
   -- in the header of an opening, that opening is open at i, and a range has no else of its own between;
-  in_header : {c : Opening} {p : Names} → slice_get xs k ≡ Some (act_role (opener c p)) → Contains p.declares name
+  in_header : {c : Opening} {p : Names} → slice_get xs k ≡ Some (opener c p) → Contains p.declares name
       → IsOpen xs k i → (c ≡ opened.control Range → HasElse xs k i → ⊥) → Declares xs k i name
   -- in an else branch, the opening to which it belongs is open at i
   in_else_branch : {b : Branch} {p : Names} {j : ℕ} → IsElseOf xs (Some (b, p)) j k → Contains p.declares name

@@ -1,41 +1,22 @@
 -- Texts and actions joined to a file: the inverse of the cut.
-use Rattle.std.specs.Prelude.{◌<◌, ℕ, Bool, false, ◌==◌, List, [], ◌∷◌, ◌++◌, length, Option, Some, None, codes}
-use Rattle.std.specs.Prelude.{if◌then◌else◌}
+use Rattle.std.specs.Prelude.{◌<◌, ℕ, false, List, [], ◌∷◌, ◌++◌, length, Option, Some, None, codes}
 use Rattle.tmpl_lex.specs.Bytes.{Absent}
 use Rattle.tmpl_lex.specs.Text.{text_piece}
 use Rattle.tmpl_lex.specs.Piece.{Token, Piece, text, action}
 use Rattle.tmpl_lex.specs.Cut.{Cuts}
 use Rattle.tmpl_grammar.specs.Print.{IsInside, bytes_of}
+use Rattle.tmpl_syntax.specs.Print.Printed.{opening_behind, parting}
 
 -- a text, or the tokens of an action
 pub data Part : Type 0 where
   a_text : List ℕ → Part
   an_action : List Token → Part
 
--- ---- the bytes of parts
-
--- the text ends in `{`
-abbrev pub ends_brace : List ℕ → Bool
-ends_brace [] = false
-ends_brace (b ∷ []) = b == 123
-ends_brace (b ∷ c ∷ bs) = ends_brace (c ∷ bs)
-
--- what opens an action or a comment behind a text, or behind none: `{{`, or, behind a text that ends in `{`, a space
--- and a left trim marker that takes it
-abbrev pub opening : Option (List ℕ) → List ℕ
-opening None = codes "{{"
-opening (Some t) = if ends_brace t then codes " {{- " else codes "{{"
-
--- between a text and the text before it, if there is one, stands an empty comment
-abbrev pub parting : Option (List ℕ) → List ℕ
-parting None = []
-parting (Some t) = if ends_brace t then codes " {{- /**/}}" else codes "{{/**/}}"
-
 -- the bytes of parts, behind this text or none
-abbrev pub file_of : Option (List ℕ) → List Part → List ℕ
-file_of before [] = []
-file_of before (a_text t ∷ ps) = parting before ++ (t ++ file_of (Some t) ps)
-file_of before (an_action ts ∷ ps) = opening before ++ (bytes_of ts ++ (codes "}}" ++ file_of None ps))
+abbrev pub joined : Option (List ℕ) → List Part → List ℕ
+joined before [] = []
+joined before (a_text t ∷ ps) = parting before ++ (t ++ joined (Some t) ps)
+joined before (an_action ts ∷ ps) = opening_behind before ++ (bytes_of ts ++ (codes "}}" ++ joined None ps))
 
 -- ---- parts that can be joined
 
@@ -67,7 +48,7 @@ before_of (b ∷ bs) = Some (b ∷ bs)
 -- pieces of a text and bytes behind it that are these parts
 pub record HasParts (line : ℕ) (t : List ℕ) (ps : List Part) : Type 0 where
   pub pieces : List Piece
-  pub cuts : Cuts false line (t ++ file_of (before_of t) ps) (text_piece line t ++ pieces)
+  pub cuts : Cuts false line (t ++ joined (before_of t) ps) (text_piece line t ++ pieces)
   pub same : SamePieces ps pieces
 
 -- joined parts are cut into the same parts

@@ -5,11 +5,11 @@ use Rattle.tmpl_syntax.specs.Tree.{Nodes, none, then, text, Definition}
 use Rattle.tmpl_syntax.specs.Set.{Template}
 use Rattle.tmpl_syntax.specs.Parse.{template_in}
 use Rattle.tmpl_grammar.specs.Action.{Action}
-use Rattle.tmpl_syntax.specs.Language.{Branches, every_branch}
+use Rattle.tmpl_syntax.specs.Language.{Language, every_action}
 use Rattle.tmpl_syntax.specs.Item.{Item, item, text_item, action_item, HasItems}
 use Rattle.tmpl_syntax.specs.Spelling.{Spells}
 use Rattle.tmpl_syntax.specs.Place.Role.{roles_of}
-use Rattle.tmpl_syntax.specs.Place.Body.{fine, Judged}
+use Rattle.tmpl_syntax.specs.Place.Body.{IsFine}
 use Rattle.tmpl_syntax.specs.Print.Printed.{Said, said_text, said, nodes_said, printed, printed_set, unlined}
 use Rattle.tmpl_syntax.specs.Print.Printable.{IsPrintable, ArePrintable}
 
@@ -25,7 +25,7 @@ pub data Says : List Said → List Item → Type 0 where
 -- from lines
 pub record ReadBack (ns : Nodes) : Type 0 where
   pub items : List Item
-  pub has : HasItems every_branch (printed ns) items
+  pub has : HasItems every_action (printed ns) items
   pub say : Says (nodes_said ns) items
   pub nodes : Nodes
   pub spells : Spells items [] nodes
@@ -37,15 +37,15 @@ ReadsSame = (ns : Nodes) → IsPrintable ns → ReadBack ns
 -- a template of each definition that a file of bytes spells can be printed, and so can the file's own
 abbrev pub KeepsPrintable : Type 0
 KeepsPrintable =
-    (branches : Branches) (bytes : List ℕ) (items : List Item) (ds : List Definition) (own : Nodes) → AreBytes bytes
-    → HasItems branches bytes items → Spells items ds own
+    (language : Language) (bytes : List ℕ) (items : List Item) (ds : List Definition) (own : Nodes) → AreBytes bytes
+    → HasItems language bytes items → Spells items ds own
     → ((path : List ℕ) → ArePrintable (map (template_in path) ds)) × IsPrintable own
 
 -- items that say what the nodes of an accepted list's own template say are accepted
 abbrev pub AcceptsBack : Type 0
 AcceptsBack =
-    (items : List Item) (ds : List Definition) (own : Nodes) → Judged (roles_of items) fine → Spells items ds own
-    → (read : List Item) → Says (nodes_said own) read → Judged (roles_of read) fine
+    (items : List Item) (ds : List Definition) (own : Nodes) → IsFine (roles_of items) → Spells items ds own
+    → (read : List Item) → Says (nodes_said own) read → IsFine (roles_of read)
 
 -- ---- sets
 
@@ -68,7 +68,7 @@ newline_nodes (t ∷ ts) = then 0 (text (codes "\n")) (newline_nodes ts)
 -- and lines, and a newline behind each
 pub record SetBack (bytes : List ℕ) (ts : List Template) : Type 0 where
   pub items : List Item
-  pub has : HasItems every_branch bytes items
+  pub has : HasItems every_action bytes items
   pub definitions : List Definition
   pub own : Nodes
   pub spells : Spells items definitions own

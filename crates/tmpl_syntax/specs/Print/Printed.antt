@@ -1,12 +1,15 @@
 -- How a tree and a set are printed: their texts and actions one behind the other.
-use Rattle.std.specs.Prelude.{ℕ, List, [], ◌∷◌, ◌++◌, None, map, flat_map, codes}
+use Rattle.std.specs.Prelude.{ℕ, nat_eq, List, [], ◌∷◌, ◌++◌, Option, Some, None, flat_map, codes}
+use Rattle.std.specs.Prelude.{if◌then◌else◌}
+use Rattle.std.specs.List.{ends_with}
+use Rattle.std.specs.Option.{option_map_or}
 use Rattle.tmpl_grammar.specs.Action.{Action, pipeline_action, opening, plain_else}
 use Rattle.tmpl_grammar.specs.Action.{end_action, break_action, continue_action, define_action, template_action}
-use Rattle.tmpl_grammar.specs.Print.{action_tokens}
+use Rattle.tmpl_grammar.specs.Print.{action_tokens, bytes_of}
 use Rattle.tmpl_syntax.specs.Tree.{NodeKind, text, action, control_node, break_node, continue_node, template_node}
-use Rattle.tmpl_syntax.specs.Tree.{Nodes, none, then}
+use Rattle.tmpl_syntax.specs.Tree as tree
+use Rattle.tmpl_syntax.specs.Tree.{Nodes}
 use Rattle.tmpl_syntax.specs.Set.{Template}
-use Rattle.tmpl_syntax.specs.Print.Join.{Part, a_text, an_action, file_of}
 
 -- ---- what nodes say, one text or action behind the other
 
@@ -16,8 +19,8 @@ pub data Said : Type 0 where
 
 -- an else part, where it has nodes
 abbrev pub else_said : Nodes → List Said → List Said
-else_said none ss = []
-else_said (then line n ns) ss = said plain_else ∷ ss
+else_said tree.none ss = []
+else_said (tree.then line n ns) ss = said plain_else ∷ ss
 
 abbrev mutual
   pub node_said : NodeKind → List Said
@@ -30,16 +33,12 @@ abbrev mutual
   node_said (template_node name given) = said (template_action name given) ∷ []
 
   pub nodes_said : Nodes → List Said
-  nodes_said none = []
-  nodes_said (then line n ns) = node_said n ++ nodes_said ns
+  nodes_said tree.none = []
+  nodes_said (tree.then line n ns) = node_said n ++ nodes_said ns
 
 -- a template in a definition of its own, and a newline behind it
 abbrev pub template_said : Template → List Said
 template_said t = said (define_action t.0) ∷ (nodes_said t.1.nodes ++ said end_action ∷ said_text (codes "\n") ∷ [])
-
-abbrev pub part_of : Said → Part
-part_of (said_text bytes) = a_text bytes
-part_of (said a) = an_action (action_tokens a)
 
 -- ---- nodes apart from their lines
 
@@ -49,15 +48,31 @@ abbrev mutual
   unlined_node n = n
 
   pub unlined : Nodes → Nodes
-  unlined none = none
-  unlined (then line n ns) = then 0 (unlined_node n) (unlined ns)
+  unlined tree.none = tree.none
+  unlined (tree.then line n ns) = tree.then 0 (unlined_node n) (unlined ns)
 
 -- ---- the bytes
 
+-- what opens an action or a comment behind a text, or behind none: `{{`, or, behind a text that ends in `{`, a space
+-- and a left trim marker that takes it
+abbrev pub opening_behind : Option (List ℕ) → List ℕ
+opening_behind None = codes "{{"
+opening_behind (Some t) = if ends_with nat_eq t (codes "{") then codes " {{- " else codes "{{"
+
+-- between a text and the text before it, if there is one, stands an empty comment
+abbrev pub parting : Option (List ℕ) → List ℕ
+parting before = option_map_or (λ t. opening_behind (Some t) ++ codes "/**/}}") before []
+
+-- the bytes of what is said, behind this text or none
+abbrev pub file_of : Option (List ℕ) → List Said → List ℕ
+file_of before [] = []
+file_of before (said_text t ∷ ss) = parting before ++ (t ++ file_of (Some t) ss)
+file_of before (said a ∷ ss) = opening_behind before ++ (bytes_of (action_tokens a) ++ (codes "}}" ++ file_of None ss))
+
 -- the bytes of nodes: the inverse of cutting, reading and spelling
 abbrev pub printed : Nodes → List ℕ
-printed ns = file_of None (map part_of (nodes_said ns))
+printed ns = file_of None (nodes_said ns)
 
 -- the bytes of a set, its templates one behind the other
 abbrev pub printed_set : List Template → List ℕ
-printed_set ts = file_of None (map part_of (flat_map template_said ts))
+printed_set ts = file_of None (flat_map template_said ts)

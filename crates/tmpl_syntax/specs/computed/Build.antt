@@ -10,7 +10,7 @@ use Rattle.tmpl_grammar.specs.declared.action.Branch.{Branch}
 use Rattle.tmpl_syntax.specs.Tree.{NodeKind, Nodes, none, then, text, action, control_node, break_node, continue_node}
 use Rattle.tmpl_syntax.specs.Tree.{template_node, Definition}
 use Rattle.tmpl_syntax.specs.Spelling.{definition}
-use Rattle.tmpl_syntax.specs.Item.{Item, item, text_item, unreadable_item, unread_item, deep_item, action_item}
+use Rattle.tmpl_syntax.specs.Item.{Item, item, text_item, flawed_item, deep_item, action_item}
 
 -- the nodes of a part from a place on, and those of the else part behind it
 pub record Level : Type 0 where
@@ -75,8 +75,7 @@ end_before p = record { inner = no_level; around = p.inner ∷ p.around; definit
 -- the parts from an item on, by those behind it
 abbrev pub parts_with : Item → Parts → Parts
 parts_with (item line (text_item bytes)) p = put_before line (text bytes) p
-parts_with (item line unreadable_item) p = p
-parts_with (item line unread_item) p = p
+parts_with (item line (flawed_item reason)) p = p
 parts_with (item line (deep_item branch)) p = p
 parts_with (item line (action_item (pipeline_action h))) p = put_before line (action h) p
 parts_with (item line (action_item (opening c h))) p = control_before line c h p

@@ -11,10 +11,10 @@ use Rattle.tmpl_syntax.specs.Place.Opening as opened
 use Rattle.tmpl_grammar.specs.declared.tree.Control.TheVariants.{Range}
 use Rattle.tmpl_syntax.specs.Fault as reason
 use Rattle.tmpl_syntax.specs.Fault.{Reason}
-use Rattle.tmpl_syntax.specs.Place.Role.{Name, Names, Act, plain, opener, else_part, closer}
-use Rattle.tmpl_syntax.specs.Place.Role.{jump, nested, Role, text_role, unreadable_role, unread_role, act_role}
+use Rattle.tmpl_syntax.specs.Place.Role as role
+use Rattle.tmpl_syntax.specs.Place.Role.{Name, Names, Role, plain, opener, else_part, closer, jump, nested}
 use Rattle.tmpl_syntax.specs.Place.Open.{is_template}
-use Rattle.tmpl_syntax.specs.Place.Body.{joins, names_in, opens_level, most_levels, Verdict, fine, refused, left_open}
+use Rattle.tmpl_syntax.specs.Place.Body.{joins, names_in, opens_level, most_levels, IsFine, IsFirstRefused, IsLeftOpen}
 
 -- what is open, and what stands inside it: whether an else came, whether a break may stand where it was opened, the
 -- levels, how many names there were where it was opened, and how many an else part of it sees
@@ -57,7 +57,7 @@ may_open opened.define t = not (is_inside t)
 may_open c t = true
 
 -- not out of place
-abbrev pub is_placed : Act → Option Frame → Bool
+abbrev pub is_placed : Role → Option Frame → Bool
 is_placed (plain p) t = true
 is_placed (opener c p) t = may_open c t
 is_placed (else_part None) t = takes_else None t
@@ -66,16 +66,17 @@ is_placed closer t = is_inside t
 is_placed jump t = in_loop t
 is_placed (nested None) t = true
 is_placed (nested (Some b)) t = takes_else (Some b) t
+is_placed (role.flawed why) t = true
 
-abbrev pub is_nested : Act → Bool
+abbrev pub is_nested : Role → Bool
 is_nested (nested b) = true
 is_nested a = false
 
-abbrev pub is_too_deep : Act → Option Frame → Bool
+abbrev pub is_too_deep : Role → Option Frame → Bool
 is_too_deep a t = is_nested a || (opens_level a && leb most_levels (levels t))
 
--- of the names before an action, those that it sees: an else ends the part before it, and an `end` the control
-abbrev pub names_at : Act → Option Frame → List Name → List Name
+-- of the names before an item, those that it sees: an else ends the part before it, and an `end` the control
+abbrev pub names_at : Role → Option Frame → List Name → List Name
 names_at (else_part b) (Some f) names = take f.part names
 names_at closer (Some f) names = take f.start names
 names_at a t names = names
@@ -103,7 +104,7 @@ first_fault true false false = Some reason.undeclared_variable
 first_fault true false true = None
 
 -- the fault of an action that sees these names, if it has one
-abbrev pub fault_in : Act → Option Frame → List Name → Option Reason
+abbrev pub fault_in : Role → Option Frame → List Name → Option Reason
 fault_in a t names = first_fault (is_placed a t) (is_too_deep a t) (knows names (names_in a).uses)
 
 -- how many levels an opening adds
@@ -159,7 +160,7 @@ ended_all [] = []
 ended_all (f ∷ fs) = fs
 
 -- the frames after an action that is in place, and sees these names
-abbrev pub frames_after : Act → List Frame → List Name → List Frame
+abbrev pub frames_after : Role → List Frame → List Name → List Frame
 frames_after (plain p) fs names = fs
 frames_after (opener c p) fs names = entered c p (top fs) names ∷ fs
 frames_after (else_part None) fs names = parted_all false (length names) fs
@@ -167,6 +168,7 @@ frames_after (else_part (Some (b, p))) fs names = parted_all true (length (with_
 frames_after closer fs names = ended_all fs
 frames_after jump fs names = fs
 frames_after (nested b) fs names = fs
+frames_after (role.flawed why) fs names = fs
 
 -- the names of the template in which a place stands, and those of the templates around it, the nearest first
 pub record Known : Type 0 where
@@ -199,7 +201,7 @@ closed_names None k = k
 closed_names (Some f) k = closed_if (is_template f.opening) k
 
 -- the names behind an action that is in place and sees these
-abbrev pub known_after : Act → Option Frame → Known → Known
+abbrev pub known_after : Role → Option Frame → Known → Known
 known_after (plain p) t k = with_inner k (with_names k.inner p.declares)
 known_after (opener c p) t k = opened_names c p.declares k
 known_after (else_part None) t k = k
@@ -207,25 +209,23 @@ known_after (else_part (Some (b, p))) t k = with_inner k (with_names k.inner p.d
 known_after closer t k = closed_names t k
 known_after jump t k = k
 known_after (nested b) t k = k
+known_after (role.flawed why) t k = k
 
--- the same for an item
-abbrev pub seen_at : Role → Option Frame → List Name → List Name
-seen_at (act_role a) t names = names_at a t names
-seen_at x t names = names
-
+-- .. and of an item
 abbrev pub fault_at : Role → Option Frame → List Name → Option Reason
-fault_at text_role t names = None
-fault_at unreadable_role t names = Some reason.unreadable
-fault_at unread_role t names = Some reason.not_an_action
-fault_at (act_role a) t names = fault_in a t names
+fault_at (role.flawed why) t names = Some why
+fault_at x t names = fault_in x t names
 
-abbrev pub frames_past : Role → List Frame → List Name → List Frame
-frames_past (act_role a) fs names = frames_after a fs names
-frames_past x fs names = fs
+-- what is found of a list: it is fine, or the item at a place is refused for a reason, or something is left open
+pub data Verdict : Type 0 where
+  fine : Verdict
+  refused : ℕ → Reason → Verdict
+  left_open : Verdict
 
-abbrev pub known_past : Role → Option Frame → Known → Known
-known_past (act_role a) t k = known_after a t k
-known_past x t k = k
+abbrev pub Judged : List Role → Verdict → Type 0
+Judged xs fine = IsFine xs
+Judged xs (refused i why) = IsFirstRefused xs i why
+Judged xs left_open = IsLeftOpen xs
 
 abbrev pub at_end : List Frame → Verdict
 at_end [] = fine
@@ -239,9 +239,9 @@ unless_fault (Some f) i v = refused i f
 abbrev pub verdict_from : ℕ → List Frame → Known → List Role → Verdict
 verdict_from i fs known [] = at_end fs
 verdict_from i fs known (x ∷ xs) =
-    let seen = seen_at x (top fs) known.inner in
+    let seen = names_at x (top fs) known.inner in
     unless_fault (fault_at x (top fs) seen) i
-    (verdict_from (i + 1) (frames_past x fs seen) (known_past x (top fs) (with_inner known seen)) xs)
+    (verdict_from (i + 1) (frames_after x fs seen) (known_after x (top fs) (with_inner known seen)) xs)
 
 abbrev pub none_known : Known
 none_known = record { inner = []; around = [] }

@@ -1,15 +1,16 @@
 -- What a file adds to the set, or why it is refused, computed.
-use Rattle.std.specs.Prelude.{◌≡◌, ℕ, Bool, true, false, List, [], ◌∷◌, ◌++◌, Option, Some, None, Result, Ok}
+use Rattle.std.specs.Prelude.{◌≡◌, ◌+◌, ℕ, Bool, true, false, List, [], ◌∷◌, ◌++◌, Option, Some, None, Result, Ok}
 use Rattle.std.specs.Prelude.{Err, length, map, nat_lt, slice_get, if◌then◌else◌}
 use Rattle.std.specs.Borrow.{Bor}
+use Rattle.tmpl_lex.specs.Text.{newlines}
 use Rattle.tmpl_lex.specs.computed.Cut.{cut_of}
 use Rattle.tmpl_syntax.specs.Tree.{Definition}
 use Rattle.tmpl_syntax.specs.Spelling.{definition}
 use Rattle.tmpl_syntax.specs.Item.{Item, item}
 pub use Rattle.tmpl_syntax.specs.Parse.{Refusal}
-use Rattle.tmpl_syntax.specs.Parse.{last_line, base_name, most_bytes, template_in}
+use Rattle.tmpl_syntax.specs.Parse.{base_name, most_bytes, template_in}
 use Rattle.tmpl_syntax.specs.Place.Role.{Name, roles_of}
-use Rattle.tmpl_syntax.specs.Place.Body.{Verdict, fine, refused, left_open}
+use Rattle.tmpl_syntax.specs.computed.Frames.{Verdict, fine, refused, left_open}
 use Rattle.tmpl_syntax.specs.Fault.{Reason, open_at_end, too_long, second_definition, reason_of}
 use Rattle.tmpl_syntax.specs.Set.{Template, is_blank, defined_each}
 use Rattle.tmpl_syntax.specs.computed.Item.{items_in}
@@ -17,6 +18,10 @@ use Rattle.tmpl_syntax.specs.computed.Frames.{is_known, verdict_of}
 use Rattle.tmpl_syntax.specs.computed.Build.{nodes_from, definitions_from}
 use Rattle.tmpl_syntax.specs.declared.fault.ParseFault.{ParseFault}
 use Rattle.tmpl_syntax.specs.declared.fault.Refusal as held
+
+-- the line of the end of a file
+abbrev pub last_line : List ℕ → ℕ
+last_line bytes = newlines bytes + 1
 
 abbrev pub line_in : Option Item → ℕ
 line_in None = 1

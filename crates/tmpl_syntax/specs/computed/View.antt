@@ -4,8 +4,8 @@ use Rattle.std.specs.Borrow.{Bor}
 use Rattle.tmpl_grammar.specs.View.{action_of}
 use Rattle.tmpl_syntax.specs.Tree.{NodeKind, Node, Definition}
 use Rattle.tmpl_syntax.specs.Spelling.{definition}
-use Rattle.tmpl_syntax.specs.Item.{ItemKind, text_item, unreadable_item}
-use Rattle.tmpl_syntax.specs.Item.{unread_item, deep_item, action_item, Item, item}
+use Rattle.tmpl_syntax.specs.Fault as reason
+use Rattle.tmpl_syntax.specs.Item.{ItemKind, text_item, flawed_item, deep_item, action_item, Item, item}
 use Rattle.tmpl_syntax.specs.Place.Role.{Name}
 use Rattle.tmpl_syntax.specs.View.{kind_step, control_step, node_step, nodes_in}
 use Rattle.tmpl_syntax.specs.computed.Build as build
@@ -31,8 +31,8 @@ use Rattle.tmpl_syntax.specs.declared.build.Parts.{Parts}
 
 abbrev pub item_kind : held_kind.ItemKind → ItemKind
 item_kind (held.Text bytes) = text_item bytes
-item_kind held.Unreadable = unreadable_item
-item_kind held.Unread = unread_item
+item_kind held.Unreadable = flawed_item reason.unreadable
+item_kind held.Unread = flawed_item reason.not_an_action
 item_kind (held.TooDeep branch) = deep_item branch
 item_kind (held.Action a) = action_item (action_of a)
 

@@ -1,7 +1,7 @@
 //! Whether the actions of a file stand where they may.
 ghost use Rattle.std.specs.Prelude.{◌≡◌, map};
 ghost use Rattle.tmpl_syntax.specs.computed.View.{item_of};
-ghost use Rattle.tmpl_syntax.specs.Parse as spec;
+ghost use Rattle.tmpl_syntax.specs.computed.Parse as spec;
 ghost use Rattle.tmpl_syntax.specs.computed.Parse.{IsChecked};
 
 use crate::fault::{ParseKind, Refusal};

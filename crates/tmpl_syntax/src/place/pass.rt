@@ -4,15 +4,15 @@ ghost use Rattle.std.specs.Prelude.{length};
 ghost use Rattle.tmpl_grammar.specs.View.{action_of, binding_of, header_of};
 ghost use Rattle.tmpl_syntax.specs.computed.View.{frame_of, frames_in, item_of, known_names, scopes_of, opening_of};
 ghost use Rattle.tmpl_syntax.specs.Place.Role as role;
-ghost use Rattle.tmpl_syntax.specs.Place.Role.{act_of, names_of, no_names, role_of};
+ghost use Rattle.tmpl_syntax.specs.Place.Role.{act_of, names_of, role_of};
 ghost use Rattle.tmpl_syntax.specs.Place.Body as body;
 ghost use Rattle.tmpl_syntax.specs.Place.Body.{is_level};
 ghost use Rattle.tmpl_syntax.specs.Place.Open.{is_template};
 ghost use Rattle.tmpl_syntax.specs.computed.Frames as spec;
 ghost use Rattle.tmpl_syntax.specs.computed.Frames.{closed_names, ended_all, fault_at, is_too_deep, known_after};
-ghost use Rattle.tmpl_syntax.specs.computed.Frames.{known_past, levels, names_at, opened_names};
-ghost use Rattle.tmpl_syntax.specs.computed.Frames.{entered, frames_after, frames_past, parted_all};
-ghost use Rattle.tmpl_syntax.specs.computed.Frames.{seen_at, top, with_names};
+ghost use Rattle.tmpl_syntax.specs.computed.Frames.{levels, names_at, opened_names};
+ghost use Rattle.tmpl_syntax.specs.computed.Frames.{entered, frames_after, parted_all};
+ghost use Rattle.tmpl_syntax.specs.computed.Frames.{names_at, top, with_names};
 ghost use Rattle.tmpl_syntax.specs.Place.Opening as opening;
 
 use crate::item::{Item, ItemKind};
@@ -33,7 +33,7 @@ pub(super) fn newest(stack: &Vec<Frame>) -> Option<Frame>
 /// Forgets the names that an item does not see: an `else` ends the part before it, and an `end` the control.
 pub(super) fn forget(names: &mut KnownNames<'_>, item: &Item, outside: Option<Frame>)
     ensures { known_names names.new
-        ≡ seen_at (role_of (item_of item.now)) (option_map frame_of outside) (known_names names.old) }
+        ≡ names_at (role_of (item_of item.now)) (option_map frame_of outside) (known_names names.old) }
 {
     let Some(frame) = outside else {
         return;
@@ -66,9 +66,9 @@ pub(super) fn take_in<'i>(
     requires { fault_at (role_of (item_of item.now)) (top (frames_in stack.old.items))
         (scopes_of scopes.old).inner ≡ None }
     ensures frames { IfOk result (λ u. frames_in stack.new.items
-        ≡ frames_past (role_of (item_of item.now)) (frames_in stack.old.items) (scopes_of scopes.old).inner) }
+        ≡ frames_after (role_of (item_of item.now)) (frames_in stack.old.items) (scopes_of scopes.old).inner) }
     ensures names { IfOk result (λ u. scopes_of scopes.new
-        ≡ known_past (role_of (item_of item.now)) (top (frames_in stack.old.items)) (scopes_of scopes.old)) }
+        ≡ known_after (role_of (item_of item.now)) (top (frames_in stack.old.items)) (scopes_of scopes.old)) }
 {
     match &item.what {
         ItemKind::Action(action) => take_in_action(alloc, stack, scopes, action),
@@ -131,8 +131,8 @@ fn enter_template(
     requires levels { is_level (opening_of opening) ≡ true
         → levels (top (frames_in stack.old.items)) < body.most_levels }
     ensures frames { IfOk result (λ u. frames_in stack.new.items
-        ≡ entered (opening_of opening) no_names (top (frames_in stack.old.items)) (scopes_of scopes.old).inner
-        ∷ frames_in stack.old.items) }
+        ≡ entered (opening_of opening) (role.names_given None) (top (frames_in stack.old.items))
+        (scopes_of scopes.old).inner ∷ frames_in stack.old.items) }
     ensures names { IfOk result (λ u. scopes_of scopes.new
         ≡ opened_names (opening_of opening) [] (scopes_of scopes.old)) }
 {
