@@ -1,9 +1,10 @@
 -- For `fill`: what was gathered is what a call comes to, as far as no memory was refused.
-use Rattle.std.proofs.Common.{◌≡◌, ◌≢◌, ◌∙◌, ◌+◌, ◌++◌, ◌<◌, ◌≤◌, ℕ, Bool, true, false, [], Some, ap, arith, length, refl, sym, inl, inr}
+use Rattle.std.proofs.Common.{◌≡◌, ◌≢◌, ◌∙◌, ◌+◌, ◌++◌, ◌<◌, ◌≤◌, ℕ, Bool, true, false, [], ◌∷◌, Some, ap, arith, length, refl, sym, inl, inr}
 use Rattle.std.proofs.lemmas.Bool.{le-leb, lt-leb}
 use Rattle.std.proofs.lemmas.List.{append-nil}
-use Rattle.tmpl_meaning.specs.Sink.{Sunk, Told, sunk}
-use Rattle.tmpl_tool.specs.Outcome.{Answer, BegunIf, Outcome, memory_line, write_line}
+use Rattle.std.specs.Prelude.{if◌then◌else◌}
+use Rattle.tmpl_meaning.specs.Sink.{Begun, Sunk, Told, sunk}
+use Rattle.tmpl_tool.specs.Outcome.{Answer, Outcome, memory_line, write_line}
 use Rattle.tmpl_tool.specs.Source.{Bytes}
 use Rattle.tmpl_c.specs.Filled.{Fills, Rendered, Seen, fits}
 
@@ -26,9 +27,12 @@ outcome_front a all f err code (inr (inl cut)) =
     (begins.1, begins.2 ∙ ap (λ (xs : Bytes). xs ++ begins.1) (sym (some_same all begins.0 begins.3)))
 outcome_front a all f err code (inr (inr refused)) = from a.made_text refused.0
   where
-    from : (made : Bool) → BegunIf made a.text (sunk (holding [] 0) (holding all f)) → (rest : Bytes) × (a.text ≡ all ++ rest)
+    nothing : (front rest : Bytes) → ◌≡◌ {A = Bytes} [] (front ++ rest) → front ≡ []
+    nothing [] rest e = refl
+    nothing (b ∷ front) rest e = cc
+    from : (made : Bool) → Begun (if made then a.text else []) (sunk (holding [] 0) (holding all f)) → (rest : Bytes) × (a.text ≡ all ++ rest)
     from true h = (h.1.1, h.1.2 ∙ ap (λ (xs : Bytes). xs ++ h.1.1) (sym (some_same all h.1.0 h.1.3)))
-    from false h = (a.text, ap (λ (xs : Bytes). xs ++ a.text) (sym (some_same all [] h.1)))
+    from false h = (a.text, ap (λ (xs : Bytes). xs ++ a.text) (sym (some_same all h.1.0 h.1.3 ∙ nothing h.1.0 h.1.1 h.1.2)))
 
 -- where no memory was refused it is all of it, and so is the line
 outcome_exact : (a : Answer) (all line : Bytes) (f g code : ℕ) → Outcome a (sunk (holding [] 0) (holding all f)) (sunk (holding [] 0) (holding line g)) code

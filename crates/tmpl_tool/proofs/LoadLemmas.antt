@@ -3,7 +3,8 @@ use Rattle.std.proofs.Common.{◌≡◌, ◌∙◌, ◌+◌, ◌++◌, ◌<◌, 
 use Rattle.std.proofs.Common.{IfSome, Bor, drop, map, ◌≤◌, ap, append_assoc, arith, eq-eqb, inl, inr, refl, sym, zero-add}
 use Rattle.std.specs.Prelude.{nat_eq, option_map}
 use Rattle.std.proofs.lemmas.List.{append-nil, drop_all, length-append}
-use Rattle.std.specs.Result.{result_map_both}
+use Rattle.std.specs.Option.{option_map_or}
+use Rattle.std.specs.Result.{result_map_both, result_ok}
 use Rattle.std.proofs.Math.Dec.{eqb-suc-zero}
 use Rattle.std.proofs.lemmas.Bool.{ne_eqb}
 use Rattle.tmpl_syntax.specs.Set.{Template}
@@ -14,7 +15,7 @@ use Rattle.tmpl_syntax.specs.declared.fault.ParseFault.{ParseFault}
 use Rattle.tmpl_syntax.proofs.FileLemmas.{parsed-long}
 use Rattle.tmpl_tool.specs.Source.{Asked, Bytes, Files, TellsFront}
 use Rattle.tmpl_tool.specs.Tool as tool
-use Rattle.tmpl_tool.specs.Tool.{Failing, Stop, file_reads, loaded, no_read, reads_behind, with_file}
+use Rattle.tmpl_tool.specs.Tool.{Failing, Stop, file_reads, loaded, no_read, with_file}
 use Rattle.tmpl_values.specs.Stage.{and_then}
 use Rattle.tmpl_tool.specs.Inputs.{Adds, ComesOf, StopsAt}
 use Rattle.tmpl_tool.specs.declared.stop.Stop as held
@@ -103,7 +104,7 @@ module _ (before between after : Option (List Bytes)) (files : Files) (start : L
   pub stops_there : (s : Option Stop) → StopsAt (Asked between after) (λ fails. with_file parsed files (fails 0) set name) (λ fails. name ∷ []) s
       → StopsAt (Asked before after) (λ fails. loaded parsed files fails 0 start names) (λ fails. file_reads parsed files fails 0 start names) s
   stops_there None (front, rest, e, asked) =
-      let tail = reads_behind (λ s. file_reads parsed files no_read (suc i) s left) (with_file parsed files false set name) in
+      let tail = option_map_or (λ s. file_reads parsed files no_read (suc i) s left) (result_ok (with_file parsed files false set name)) [] in
       let parted : (so_far.0 ++ front) ++ (rest ++ tail) ≡ so_far.0 ++ ((front ++ rest) ++ tail) = simp append_assoc in (
         so_far.0 ++ front,
         rest ++ tail,
@@ -140,5 +141,5 @@ all_succeed files fails k set (n ∷ ns) succeed =
     let moved : (j : ℕ) → suc k + j ≡ k + suc j = λ j. omega arith in
     let behind = λ (s : List Template). all_succeed files fails (suc k) s ns (λ j lt. ap fails (moved j) ∙ succeed (suc j) (omega (arith, lt))) in (
       λ i. and_then (with_file parsed files (here i) set n) (λ s. (behind s).0 i),
-      λ i. n ∷ reads_behind (λ s. (behind s).1 i) (with_file parsed files (here i) set n),
+      λ i. n ∷ option_map_or (λ s. (behind s).1 i) (result_ok (with_file parsed files (here i) set n)) [],
     )

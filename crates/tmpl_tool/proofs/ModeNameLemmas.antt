@@ -1,6 +1,6 @@
 -- For `parse`: neither the fault nor the matches of the command depend on where the four words of `--missingkey` lie, so that `wanted` is one function.
 use Rattle.std.proofs.Common.{◌≡◌, ◌∙◌, ℕ, zero, suc, Bool, false, cond, not, List, [], ◌∷◌, length, drop, map, Option, Some, None}
-use Rattle.std.proofs.Common.{is_some, refl, ap, sym}
+use Rattle.std.proofs.Common.{Bor, is_some, refl, ap, sym}
 use Rattle.std.specs.Prelude.{◌&&◌, ◌||◌, ◌==◌, ◌+◌, min, if◌then◌else◌, find, fold, encode_utf8, option_map, slice_get}
 use Rattle.std.specs.List.{list_any}
 use Rattle.std.specs.Option.{option_map_or}
@@ -30,9 +30,12 @@ use Rattle.clap.specs.Takes.{is_given}
 use Rattle.clap.specs.Words.{matches_of}
 use Rattle.clap.proofs.WalkLemmas.{find-map, list_any-map}
 use Rattle.tmpl_tool.specs.Laws.{LiesAnywhere}
-use Rattle.tmpl_tool.specs.Words.{Modes, here, tool_app, word_here, words_fault, words_rows}
+use Rattle.tmpl_tool.specs.Words.{Modes, here, tool_app, words_fault, words_rows}
 
 -- ---- an argument whose words lie in another place
+
+abbrev word_here : Text → Bor Text
+word_here text = record { ref_ptr = (0, 0); now = text }
 
 abbrev moved_modes : Modes → Modes
 moved_modes modes = record { ref_ptr = (0, 0); now = map word_here (map (λ word. word.now) modes.now) }

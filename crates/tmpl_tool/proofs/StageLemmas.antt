@@ -1,11 +1,10 @@
 -- For the laws of the command: what it comes to, stage by stage, and that it never comes to the status of refused memory.
-use Rattle.std.proofs.Common.{◌≡◌, ◌≢◌, ◌∙◌, ◌++◌, ◌+◌, add-zero, arith, ℕ, suc, Bool, true, false, List, [], ◌∷◌, length, Option, Some}
+use Rattle.std.proofs.Common.{◌≡◌, ◌≢◌, ◌∙◌, ◌++◌, ◌+◌, add-zero, arith, ℕ, suc, List, [], ◌∷◌, length, Option, Some}
 use Rattle.std.proofs.Common.{None, Result, Ok, Err, ap, refl, sym, inl, inr}
 use Rattle.std.specs.Option.{option_map_or}
 use Rattle.tmpl_syntax.specs.Set.{Template}
 use Rattle.tmpl_meaning.specs.Meaning.{Fault, Ran}
 use Rattle.tmpl_tool.specs.Source.{Bytes, Files}
-use Rattle.tmpl_tool.specs.Outcome.{BegunIf}
 use Rattle.tmpl_tool.specs.Laws.{GivesHelp, Prints, RefusesWords, Runs, StopsAtData, StopsAtDataRead, StopsAtFile, StopsAtName, StopsAtRead}
 use Rattle.tmpl_tool.specs.Laws.{TellsFailedWrite, TellsRefusedMemory}
 use Rattle.tmpl_tool.specs.Tool as tool
@@ -65,11 +64,7 @@ runs parse words files fails w set goes input found tree is = rw (goes.0.0, goes
 pub tells_failed_write : TellsFailedWrite
 tells_failed_write a out err code (inl exact) rose = absurd (rose (exact.0.count ∙ add-zero out.before.failures))
 tells_failed_write a out err code (inr (inl cut)) rose = (cut.0.count, cut.0, cut.1, cut.2)
-tells_failed_write a out err code (inr (inr refused)) rose = absurd (rose (untouched a.made_text refused.0))
-  where
-    untouched : (made : Bool) → BegunIf made a.text out → out.after.failures ≡ out.before.failures
-    untouched true h = h.0
-    untouched false h = h.0
+tells_failed_write a out err code (inr (inr refused)) rose = absurd (rose refused.0.0)
 
 -- no answer has the status of refused memory
 fault-other : (o : Option Fault) → ◌≢◌ {A = ℕ} (option_map_or (λ (f : Fault). 1) o 0) 7

@@ -3,7 +3,8 @@ use Rattle.std.proofs.Common.{◌≡◌, ◌∙◌, ◌+◌, ◌++◌, ◌<◌, 
 use Rattle.std.proofs.Common.{append_assoc, refl, sym, subst, inl, inr, zero-add}
 use Rattle.std.proofs.lemmas.List.{append-nil}
 use Rattle.std.specs.Prelude.{nat_eq, option_map, option_to_list, if◌then◌else◌}
-use Rattle.std.specs.Result.{result_map_both}
+use Rattle.std.specs.Option.{option_map_or}
+use Rattle.std.specs.Result.{result_map_both, result_ok}
 use Rattle.tmpl_values.specs.Value.{Value}
 use Rattle.tmpl_values.specs.Json.{not_json, not_whole}
 use Rattle.tmpl_syntax.specs.Fault.{Reason, reason_of}
@@ -17,7 +18,7 @@ use Rattle.tmpl_tool.specs.Source.{Asked, Bytes, Files}
 use Rattle.tmpl_tool.specs.Outcome.{Says}
 use Rattle.tmpl_tool.specs.Tool as tool
 use Rattle.tmpl_tool.specs.Tool.{Failing, Follows, MadeOf, Parse, Stop, answer_of, asked_by, data_found, data_wanted, file_reads}
-use Rattle.tmpl_tool.specs.Tool.{loaded, no_read, reads_behind, stop_answer, stop_if, tool_answer, tool_reads}
+use Rattle.tmpl_tool.specs.Tool.{loaded, no_read, stop_answer, stop_if, tool_answer, tool_reads}
 use Rattle.tmpl_values.specs.Stage.{and_then}
 use Rattle.tmpl_tool.specs.Inputs.{Counts, StopsAt, inputs_of, inputs_reads, said_of, stop_seen}
 use Rattle.tmpl_tool.specs.computed.Load.{after_set, after_words, finished, rendered}
@@ -35,7 +36,7 @@ abbrev template_reads : Files → Wanted → Failing → List Bytes
 template_reads files w fails = file_reads parsed files fails 0 [] w.files
 
 abbrev behind_templates : Wanted → Result (List Template) Stop → List Bytes
-behind_templates w r = reads_behind (λ set. option_to_list (data_wanted w)) r
+behind_templates w r = option_map_or (λ set. option_to_list (data_wanted w)) (result_ok r) []
 
 module _ (files : Files) (w : Wanted) where
   module _ (Made : List Bytes → Type 0) where
@@ -155,7 +156,7 @@ module _ (err : Sunk) (code : ℕ) where
         → Follows (tool_answer parse words files) (tool_reads parse words files) was is Made out err code
     accepted words asked h =
         subst (λ r. Follows (λ fails. answer_of (and_then r (λ w. after_words parse files w fails)))
-        (λ fails. reads_behind (λ w. inputs_reads parse files w fails) r) was is Made out err code) (sym asked) h
+        (λ fails. option_map_or (λ w. inputs_reads parse files w fails) (result_ok r) []) was is Made out err code) (sym asked) h
 
 -- words that are taken
 pub asks : (words : List Bytes) (w : Wanted) → wanted words ≡ Some w → asks_help words ≡ false → asked_by words ≡ Ok w

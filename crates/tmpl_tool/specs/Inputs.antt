@@ -1,7 +1,8 @@
 -- What the command needs of the files, and what is answered of it.
 use Rattle.std.specs.Prelude.{◌≡◌, ◌+◌, ◌++◌, ℕ, nat_eq, List, [], Option, Some, None, Result, Ok, Err, length}
 use Rattle.std.specs.Prelude.{option_map, option_to_list, IfSome}
-use Rattle.std.specs.Result.{result_map_both}
+use Rattle.std.specs.Option.{option_map_or}
+use Rattle.std.specs.Result.{result_map_both, result_ok}
 use Rattle.tmpl_values.specs.Json.{not_json, not_whole}
 use Rattle.tmpl_values.specs.Value.{Value}
 use Rattle.tmpl_values.specs.View.{value_of}
@@ -14,7 +15,7 @@ use Rattle.tmpl_tool.specs.Outcome.{Answer, memory_line}
 use Rattle.tmpl_tool.specs.Source.{Asked, Bytes, Files}
 use Rattle.tmpl_tool.specs.Tool.{Failing, MadeOf, Parse, Stop, data_found, data_wanted, file_reads, flawed, loaded}
 use Rattle.tmpl_tool.specs.Tool.{no_read}
-use Rattle.tmpl_tool.specs.Tool.{not_found, only_line, reads_behind, refused, stop_answer, unread}
+use Rattle.tmpl_tool.specs.Tool.{not_found, only_line, refused, stop_answer, unread}
 use Rattle.tmpl_values.specs.Stage.{and_then}
 use Rattle.tmpl_tool.specs.Words.{Wanted}
 use Rattle.tmpl_tool.specs.declared.files.inputs.Inputs.{Inputs}
@@ -29,7 +30,7 @@ inputs_of parse files w fails = and_then (loaded parse files fails 0 [] w.files)
 -- .. and the files that are read for that
 abbrev pub inputs_reads : Parse → Files → Wanted → Failing → List Bytes
 inputs_reads parse files w fails = file_reads parse files fails 0 [] w.files
-    ++ reads_behind (λ set. option_to_list (data_wanted w)) (loaded parse files fails 0 [] w.files)
+    ++ option_map_or (λ set. option_to_list (data_wanted w)) (result_ok (loaded parse files fails 0 [] w.files)) []
 
 -- ---- what is held
 

@@ -1,16 +1,16 @@
 -- Laws of the command: its stages, and its ends.
 use Rattle.std.specs.Prelude.{◌≡◌, ◌≢◌, ◌+◌, ℕ, true, false, List, [], ◌∷◌, ◌++◌, length, Option, Some, None}
-use Rattle.std.specs.Prelude.{Ok, Err}
+use Rattle.std.specs.Prelude.{Ok, Err, if◌then◌else◌}
 use Rattle.clap.specs.Words.{Text, fault_of, matches_of}
 use Rattle.tmpl_values.specs.Value.{Value}
 use Rattle.tmpl_syntax.specs.Tree.{Tree}
 use Rattle.tmpl_syntax.specs.Set.{Template, tree_named}
 use Rattle.tmpl_meaning.specs.Meaning.{ran}
-use Rattle.tmpl_meaning.specs.Sink.{Cut, Sunk}
+use Rattle.tmpl_meaning.specs.Sink.{Begun, Cut, Sunk}
 use Rattle.tmpl_tool.specs.Help.{asks_help}
 use Rattle.tmpl_tool.specs.Words.{HasModeNames, Modes, Wanted, tool_app, wanted, words_fault, words_rows}
 use Rattle.tmpl_tool.specs.Source.{Bytes, Files}
-use Rattle.tmpl_tool.specs.Outcome.{Answer, BegunIf, Outcome, Says, memory_line, write_line}
+use Rattle.tmpl_tool.specs.Outcome.{Answer, Outcome, Says, memory_line, write_line}
 use Rattle.tmpl_tool.specs.Tool.{Failing, IsParse, Parse, Stop, asked_by, asked_name, bad_words, data_found, help}
 use Rattle.tmpl_tool.specs.Tool.{loaded, printed, run_answer, stop_answer, tool_answer, unnamed, unread, with_file}
 
@@ -103,4 +103,4 @@ abbrev pub TellsRefusedMemory : Type 0
 TellsRefusedMemory =
     (parse : Parse) (words : List Bytes) (files : Files) (fails : Failing) (out err : Sunk) (code : ℕ)
     → Outcome (tool_answer parse words files fails) out err code → code ≡ 7
-    → let a = tool_answer parse words files fails in BegunIf a.made_text a.text out × Says memory_line err
+    → let a = tool_answer parse words files fails in Begun (if a.made_text then a.text else []) out × Says memory_line err

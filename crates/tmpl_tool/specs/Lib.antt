@@ -3,7 +3,6 @@ pub mod Help
 pub mod Inputs
 pub mod Laws
 pub mod Outcome
-pub mod Part
 pub mod Request
 pub mod Source
 pub mod Tool

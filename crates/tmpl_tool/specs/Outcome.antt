@@ -1,8 +1,7 @@
 -- What is observed of the two sinks and the status, where the command comes to an end.
-use Rattle.std.specs.Prelude.{◌≡◌, ◌≢◌, ◌+◌, ◌⊎◌, ℕ, Bool, true, false, [], ◌∷◌, codes}
-use Rattle.tmpl_meaning.specs.Sink.{Begun, Cut, Sunk, Untouched, Whole}
+use Rattle.std.specs.Prelude.{◌≡◌, ◌≢◌, ◌+◌, ◌⊎◌, ◌++◌, ℕ, Bool, [], codes, if◌then◌else◌}
+use Rattle.tmpl_meaning.specs.Sink.{Begun, Cut, Sunk, Whole}
 use Rattle.tmpl_tool.specs.Source.{Bytes}
-use Rattle.tmpl_tool.specs.Part.{line, plain}
 
 -- what the command comes to
 pub record Answer : Type 0 where
@@ -20,11 +19,15 @@ pub record Answer : Type 0 where
 abbrev pub Says : Bytes → Sunk → Type 0
 Says text s = Whole text s ⊎ Cut text s
 
+-- a line on the error sink: the name of the program, what it says, and a newline
+abbrev pub line : Bytes → Bytes
+line said = codes "tmpl: " ++ (said ++ codes "\n")
+
 abbrev pub write_line : Bytes
-write_line = line (plain (codes "write failed") ∷ [])
+write_line = line (codes "write failed")
 
 abbrev pub memory_line : Bytes
-memory_line = line (plain (codes "out of memory") ∷ [])
+memory_line = line (codes "out of memory")
 
 -- the output did not fail: the whole text, the status and the line
 abbrev pub Exact : Answer → Sunk → Sunk → ℕ → Type 0
@@ -34,14 +37,9 @@ Exact a out err code = Whole a.text out × (code ≡ a.status) × Says a.line er
 abbrev pub Unwritten : Answer → Sunk → Sunk → ℕ → Type 0
 Unwritten a out err code = Cut a.text out × (code ≡ 6) × Says write_line err
 
--- the sink did not fail, and took a beginning of the text; nothing where no text is made
-abbrev pub BegunIf : Bool → Bytes → Sunk → Type 0
-BegunIf true text s = Begun text s
-BegunIf false text s = Untouched s
-
 -- memory was refused: a beginning of the text, and nothing unless the command comes to a run that makes text
 abbrev pub Refused : Answer → Sunk → Sunk → ℕ → Type 0
-Refused a out err code = BegunIf a.made_text a.text out × (code ≡ 7) × Says memory_line err
+Refused a out err code = Begun (if a.made_text then a.text else []) out × (code ≡ 7) × Says memory_line err
 
 -- one of the three
 abbrev pub Outcome : Answer → Sunk → Sunk → ℕ → Type 0

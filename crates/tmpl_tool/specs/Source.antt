@@ -1,6 +1,6 @@
 -- What a source tells, and what a read answers.
 use Rattle.std.specs.Prelude.{◌≡◌, ◌<◌, ◌⊎◌, ◌+◌, ◌++◌, ℕ, List, [], ◌∷◌, length, Option, Some, None, Result, Ok, Err}
-use Rattle.std.specs.Prelude.{Vec, option_map}
+use Rattle.std.specs.Prelude.{IfSome, Vec, option_map}
 use Rattle.tmpl_tool.specs.declared.files.source.SourceFault.{SourceFault}
 use Rattle.tmpl_tool.specs.declared.files.source.SourceFault.TheVariants as fault
 
@@ -11,23 +11,18 @@ Bytes = List ℕ
 abbrev pub Files : Type 0
 Files = Bytes → Option Bytes
 
--- where the files are told, this one has these bytes, or is not there
-abbrev pub Tells : Option Files → Bytes → Option Bytes → Type 0
-Tells None name found = Unit {0}
-Tells (Some files) name found = files name ≡ found
-
--- a read, with the count of failures before and after it
+-- a read, with the count of failures before and after it: where the files are told, this one has these bytes, or is not
+-- there
 abbrev pub IsRead : {Z : Type 0} → Option Files → Bytes → ℕ → ℕ → Result (Vec ℕ Z) SourceFault → Type 0
-IsRead told name was is (Ok bytes) = (is ≡ was) × Tells told name (Some bytes.items)
-IsRead told name was is (Err fault.NotFound) = (is ≡ was) × Tells told name None
+IsRead told name was is (Ok bytes) = (is ≡ was) × IfSome told (λ files. files name ≡ Some bytes.items)
+IsRead told name was is (Err fault.NotFound) = (is ≡ was) × IfSome told (λ files. files name ≡ None)
 IsRead told name was is (Err fault.Failed) = is ≡ was + 1
 IsRead told name was is (Err fault.OutOfMemory) = is ≡ was
 
 -- where the files are told, this one begins with these bytes, and they are all of it or more than so many
 abbrev pub TellsFront : ℕ → Option Files → Bytes → Bytes → Type 0
-TellsFront most None name bytes = Unit {0}
-TellsFront most (Some files) name bytes =
-    (rest : Bytes) × (files name ≡ Some (bytes ++ rest)) × ((rest ≡ []) ⊎ (most < length bytes))
+TellsFront most told name bytes = IfSome told (λ files.
+    (rest : Bytes) × (files name ≡ Some (bytes ++ rest)) × ((rest ≡ []) ⊎ (most < length bytes)))
 
 -- a read that may stop behind so many bytes
 abbrev pub IsReadUpTo : {Z : Type 0} → ℕ → Option Files → Bytes → ℕ → ℕ → Result (Vec ℕ Z) SourceFault → Type 0

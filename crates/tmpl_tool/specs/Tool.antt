@@ -1,10 +1,11 @@
 -- The command as one function of the words and of the contents of files.
 use Rattle.std.specs.Prelude.{◌≡◌, ◌⊎◌, ◌+◌, ℕ, suc, nat_eq, Bool, true, false, List, [], ◌∷◌, ◌++◌, length, Option}
-use Rattle.std.specs.Prelude.{Some, None, Result, Ok, Err, codes, option_to_list, unwrap_or, if◌then◌else◌}
+use Rattle.std.specs.Prelude.{Some, None, Result, Ok, Err, codes, decimal, option_map, option_to_list, slice_get, unwrap_or, if◌then◌else◌}
 use Rattle.std.specs.Option.{ok_or, option_map_or}
-use Rattle.std.specs.Result.{result_err, result_map_both}
+use Rattle.std.specs.Result.{result_map_both, result_ok}
 use Rattle.tmpl_values.specs.Value.{Value}
 use Rattle.tmpl_values.specs.Json.{Flaw, not_json, not_whole, data_of}
+use Rattle.tmpl_values.specs.Quote.{quote}
 use Rattle.tmpl_values.specs.Stage.{and_then}
 use Rattle.tmpl_syntax.specs.Fault as reason
 use Rattle.tmpl_syntax.specs.Fault.{Reason}
@@ -20,8 +21,7 @@ use Rattle.tmpl_funcs.specs.declared.fault.CallFault.TheVariants as call
 use Rattle.tmpl_tool.specs.Help.{asks_help}
 use Rattle.tmpl_tool.specs.Words.{Wanted, wanted}
 use Rattle.tmpl_tool.specs.Source.{Bytes, Files}
-use Rattle.tmpl_tool.specs.Part.{LinePart, line, number, plain, quoted}
-use Rattle.tmpl_tool.specs.Outcome.{Answer, Outcome}
+use Rattle.tmpl_tool.specs.Outcome.{Answer, Outcome, line}
 
 -- ---- template files
 
@@ -74,21 +74,19 @@ abbrev pub only_text : Bytes → Answer
 only_text text = record { text = text; line = []; status = 0; unread = false; made_text = false }
 
 -- nothing is put out, and a line is said
-abbrev pub only_line : ℕ → List LinePart → Answer
-only_line status pieces =
-    record { text = []; line = line pieces; status = status; unread = false; made_text = false }
+abbrev pub only_line : ℕ → Bytes → Answer
+only_line status said = record { text = []; line = line said; status = status; unread = false; made_text = false }
 
 abbrev pub stop_answer : Stop → Answer
 stop_answer help = only_text usage
 stop_answer (printed set) = only_text (printed_set set)
-stop_answer bad_words = only_line 2 (plain (codes "arguments refused; see tmpl --help") ∷ [])
-stop_answer (not_found file) = only_line 3 (plain file ∷ plain (codes ": no such file") ∷ [])
-stop_answer (unread file) =
-    record (only_line 3 (plain file ∷ plain (codes ": read failed") ∷ [])) { unread = true }
+stop_answer bad_words = only_line 2 (codes "arguments refused; see tmpl --help")
+stop_answer (not_found file) = only_line 3 (file ++ codes ": no such file")
+stop_answer (unread file) = record (only_line 3 (file ++ codes ": read failed")) { unread = true }
 stop_answer (refused file r) =
-    only_line 4 (plain file ∷ plain (codes ":") ∷ number r.0 ∷ plain (codes ": ") ∷ plain (reason_text r.1) ∷ [])
-stop_answer (unnamed name) = only_line 4 (plain (codes "no template ") ∷ quoted name ∷ [])
-stop_answer (flawed file flaw) = only_line 5 (plain file ∷ plain (flaw_text flaw) ∷ [])
+    only_line 4 (file ++ (codes ":" ++ (decimal r.0 ++ (codes ": " ++ reason_text r.1))))
+stop_answer (unnamed name) = only_line 4 (codes "no template " ++ quote name)
+stop_answer (flawed file flaw) = only_line 5 (file ++ flaw_text flaw)
 
 -- ---- a run
 
@@ -99,23 +97,21 @@ call_text call.OutOfRange = codes "out of range"
 call_text call.NotComparable = codes "can't be compared"
 call_text call.FormatRefused = codes "format refused"
 
-abbrev pub cause_pieces : Cause → List LinePart
-cause_pieces (steps_spent limit) =
-    plain (codes "more than ") ∷ number limit ∷ plain (codes " steps") ∷ []
-cause_pieces (lacks_field name) =
-    plain (codes "no field ") ∷ quoted name ∷ plain (codes " here") ∷ []
-cause_pieces (lacks_entry name) = plain (codes "no entry for key ") ∷ quoted name ∷ []
-cause_pieces not_a_range = plain (codes "can't range over this value") ∷ []
-cause_pieces not_a_function = plain (codes "not a function") ∷ []
-cause_pieces nil_command = plain (codes "nil is not a command") ∷ []
-cause_pieces (no_template name) = plain (codes "no template ") ∷ quoted name ∷ []
-cause_pieces (calls_too_deep limit) = plain (codes "calls deeper than ") ∷ number limit ∷ []
-cause_pieces (call_failed f fault) = plain (name_of f) ∷ plain (codes ": ") ∷ plain (call_text fault) ∷ []
+abbrev pub cause_text : Cause → Bytes
+cause_text (steps_spent limit) = codes "more than " ++ (decimal limit ++ codes " steps")
+cause_text (lacks_field name) = codes "no field " ++ (quote name ++ codes " here")
+cause_text (lacks_entry name) = codes "no entry for key " ++ quote name
+cause_text not_a_range = codes "can't range over this value"
+cause_text not_a_function = codes "not a function"
+cause_text nil_command = codes "nil is not a command"
+cause_text (no_template name) = codes "no template " ++ quote name
+cause_text (calls_too_deep limit) = codes "calls deeper than " ++ decimal limit
+cause_text (call_failed f fault) = name_of f ++ (codes ": " ++ call_text fault)
 
 -- a line that says where a run stopped, and why
 abbrev pub fault_line : Fault → Bytes
-fault_line f = line (plain f.file ∷ plain (codes ":") ∷ number f.line ∷ plain (codes ": in ")
-    ∷ quoted f.template ∷ plain (codes ": ") ∷ cause_pieces f.cause)
+fault_line f = line (f.file ++ (codes ":" ++ (decimal f.line ++ (codes ": in " ++ (quote f.template
+    ++ (codes ": " ++ cause_text f.cause))))))
 
 -- the whole text, or that before the fault
 abbrev pub run_answer : Ran → Answer
@@ -179,19 +175,14 @@ data_found files fails (Some name) = and_then (read files fails name) (data_in n
 abbrev pub data_wanted : Wanted → Option Bytes
 data_wanted w = if w.print then None else w.data_file
 
--- the name of the first FILE's own template
-abbrev pub first_name : List Bytes → Bytes
-first_name [] = []
-first_name (name ∷ names) = base_name name
-
--- the name of the template that words ask for
+-- the name of the template that words ask for, or else of the first FILE's own
 abbrev pub asked_name : Wanted → Bytes
-asked_name w = unwrap_or w.name (first_name w.files)
+asked_name w = unwrap_or w.name (option_map_or base_name (slice_get w.files 0) [])
 
 -- the name looked up, and the run
 abbrev pub named_run : Rules → Bytes → List Template → Option Value → Result Ran Stop
 named_run rules name set input =
-    and_then (ok_or (tree_named name set) (unnamed name)) (λ tree. Ok (ran rules set name tree input))
+    ok_or (option_map (λ tree. ran rules set name tree input) (tree_named name set)) (unnamed name)
 
 -- ---- the command
 
@@ -204,27 +195,19 @@ tool_answer parse words files fails = answer_of
     and_then (data_found files (fails (length w.files)) w.data_file) (λ input.
     named_run w.rules (asked_name w) set input)))))
 
--- why words are not followed that read no file: those that ask for help, and those that are refused
-abbrev pub words_alone : List Bytes → Option Stop
-words_alone words = result_err (asked_by words)
-
 -- ---- the reads
-
--- what is read where a stage goes on; nothing where it stops
-abbrev pub reads_behind : {T : Type 0} → (T → List Bytes) → Result T Stop → List Bytes
-reads_behind next (Ok t) = next t
-reads_behind next (Err s) = []
 
 -- each FILE in turn, up to the first that stops the command
 abbrev pub file_reads : Parse → Files → Failing → ℕ → List Template → List Bytes → List Bytes
 file_reads parse files fails k set [] = []
-file_reads parse files fails k set (name ∷ names) =
-    name ∷ reads_behind (λ s. file_reads parse files fails (suc k) s names) (with_file parse files (fails k) set name)
+file_reads parse files fails k set (name ∷ names) = name ∷ option_map_or
+    (λ s. file_reads parse files fails (suc k) s names) (result_ok (with_file parse files (fails k) set name)) []
 
 -- the files that are read, in order: the FILEs, and then the data of a run
 abbrev pub tool_reads : Parse → List Bytes → Files → Failing → List Bytes
-tool_reads parse words files fails = reads_behind (λ w. file_reads parse files fails 0 [] w.files
-    ++ reads_behind (λ set. option_to_list (data_wanted w)) (loaded parse files fails 0 [] w.files)) (asked_by words)
+tool_reads parse words files fails = option_map_or (λ w. file_reads parse files fails 0 [] w.files ++ option_map_or
+    (λ set. option_to_list (data_wanted w)) (result_ok (loaded parse files fails 0 [] w.files)) [])
+    (result_ok (asked_by words)) []
 
 -- ---- what is observed
 

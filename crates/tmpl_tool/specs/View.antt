@@ -1,7 +1,8 @@
 -- What the program's own values stand for.
-use Rattle.std.specs.Prelude.{List, map, option_map}
+use Rattle.std.specs.Prelude.{◌++◌, List, [], ◌∷◌, decimal, map, option_map}
+use Rattle.tmpl_values.specs.Quote.{quote}
 use Rattle.tmpl_meaning.specs.View.{rules_of}
-use Rattle.tmpl_tool.specs.Part.{LinePart, plain, quoted, number}
+use Rattle.tmpl_tool.specs.Source.{Bytes}
 use Rattle.tmpl_tool.specs.Words.{Wanted}
 use Rattle.tmpl_tool.specs.declared.messages.part.Part.{Part}
 use Rattle.tmpl_tool.specs.declared.messages.part.Part.TheVariants as part
@@ -21,11 +22,15 @@ seen request = record {
 
 -- ---- messages
 
-abbrev pub part_of : Part → LinePart
-part_of (part.Text t) = plain t.now
-part_of (part.Bytes b) = plain b.now
-part_of (part.Quoted name) = quoted name.now
-part_of (part.Number n) = number n
+-- the bytes of a part of a line
+abbrev pub part_bytes : Part → Bytes
+part_bytes (part.Text t) = t.now
+part_bytes (part.Bytes b) = b.now
+part_bytes (part.Quoted name) = quote name.now
+part_bytes (part.Number n) = decimal n
 
-abbrev pub parts_of : List Part → List LinePart
-parts_of parts = map part_of parts
+-- .. and of parts, one after the other
+abbrev pub parts_bytes : List Part → Bytes
+parts_bytes [] = []
+parts_bytes (p ∷ []) = part_bytes p
+parts_bytes (p ∷ ps) = part_bytes p ++ parts_bytes ps

@@ -1,16 +1,18 @@
 -- What the words of a command line ask for, by clap's definition of a simple command.
 use Rattle.std.specs.Prelude.{◌≡◌, ℕ, Bool, true, false, List, [], ◌∷◌, Option, Some, None, pos, map, codes}
-use Rattle.std.specs.Prelude.{if◌then◌else◌, unwrap_or}
+use Rattle.std.specs.Prelude.{fold, if◌then◌else◌, unwrap_or}
 use Rattle.std.specs.Borrow.{Bor}
 use Rattle.std.specs.Option.{option_map_or}
 use Rattle.std.specs.Str.{bytes_eq}
 use Rattle.std.specs.Str.Parse.{digits_value, without_leading_plus}
 use Rattle.clap.specs.Words.{App, Row, Rule, Text, all_of, fault_of, first_of, matches_of, new_app, new_rule, with_rule}
 use Rattle.clap.specs.Simple.{on_top}
+use Rattle.clap.specs.Walk.{is_empty}
 use Rattle.clap.specs.Words.{Kinds}
 use Rattle.clap.specs.Lexer.{usize_max}
 use Rattle.clap.specs.ValueTests.{is_unsigned_in}
 use Rattle.clap.specs.declared.builder.ArgAction.TheVariants.{Set, SetTrue}
+use Rattle.clap.specs.declared.builder.ValueParser.{ValueParser}
 use Rattle.clap.specs.declared.builder.ValueParser.TheVariants as vp
 use Rattle.tmpl_meaning.specs.Meaning.{Rules}
 use Rattle.tmpl_meaning.specs.declared.missing_key.MissingKey.{MissingKey}
@@ -28,25 +30,17 @@ mode_names = codes "default" ∷ codes "invalid" ∷ codes "zero" ∷ codes "err
 abbrev pub HasModeNames : Modes → Type 0
 HasModeNames modes = map (λ word. word.now) modes.now ≡ mode_names
 
--- one place where the four words may lie; it does not matter which
-abbrev pub word_here : Text → Bor Text
-word_here text = record { ref_ptr = (0, 0); now = text }
-
+-- one place where they may lie; it does not matter which
 abbrev pub here : Modes
-here = record { ref_ptr = (0, 0); now = map word_here mode_names }
+here = record { ref_ptr = (0, 0); now = map (λ text. record { ref_ptr = (0, 0); now = text }) mode_names }
 
 -- an option with one value
 abbrev pub option_rule : Text → Rule
 option_rule id = record (new_rule id) { long = Some id; action = Some Set }
 
-abbrev pub mode_rule : Modes → Rule
-mode_rule modes = record (option_rule (codes "missingkey")) { parser = Some (vp.Names modes) }
-
-abbrev pub depth_rule : Rule
-depth_rule = record (option_rule (codes "depth")) { parser = Some (vp.Signed (pos 1) (pos 100000)) }
-
-abbrev pub steps_rule : Rule
-steps_rule = record (option_rule (codes "steps")) { parser = Some (vp.Unsigned 1 4611686018427387904) }
+-- .. that has to be one of these
+abbrev pub parsed_rule : Text → ValueParser → Rule
+parsed_rule id parser = record (option_rule id) { parser = Some parser }
 
 -- an option without a value
 abbrev pub print_rule : Rule
@@ -58,17 +52,12 @@ file_rule = record (new_rule (codes "file")) {
   range = Some (record { start_inclusive = 1; end_inclusive = usize_max });
 }
 
--- the command without its arguments; it has no help of its own
-abbrev pub bare_app : App
-bare_app = on_top (λ s. record s { disable_help_flag = true }) (new_app (codes "tmpl"))
-
-abbrev pub first_options : Modes → App
-first_options modes = with_rule (with_rule (with_rule bare_app
-    (option_rule (codes "data"))) (mode_rule modes)) (option_rule (codes "name"))
-
+-- the command, with no help of clap's own, and its arguments
 abbrev pub tool_app : Modes → App
-tool_app modes = with_rule (with_rule (with_rule (with_rule (first_options modes)
-    depth_rule) steps_rule) print_rule) file_rule
+tool_app modes = fold with_rule (on_top (λ s. record s { disable_help_flag = true }) (new_app (codes "tmpl")))
+    (option_rule (codes "data") ∷ parsed_rule (codes "missingkey") (vp.Names modes) ∷ option_rule (codes "name")
+    ∷ parsed_rule (codes "depth") (vp.Signed (pos 1) (pos 100000))
+    ∷ parsed_rule (codes "steps") (vp.Unsigned 1 4611686018427387904) ∷ print_rule ∷ file_rule ∷ [])
 
 -- ---- the options that the words name
 
@@ -77,18 +66,11 @@ mode_named word = if bytes_eq word (codes "invalid") then Invalid
     else (if bytes_eq word (codes "zero") then Zero
     else (if bytes_eq word (codes "error") then Error else Default))
 
-abbrev pub mode_of : Option Text → MissingKey
-mode_of word = option_map_or mode_named word Default
-
 -- the number that a text spells, where it is in the range
 abbrev pub number_in : ℕ → ℕ → ℕ → Option Text → ℕ
 number_in default low high None = default
 number_in default low high (Some text) =
     if is_unsigned_in low high text then digits_value 10 (without_leading_plus text) else default
-
--- whether an option without a value is given
-abbrev pub is_set : Option Text → Bool
-is_set value = option_map_or (λ text. bytes_eq text (codes "true")) value false
 
 -- what words that are accepted ask for
 pub record Wanted : Type 0 where
@@ -99,21 +81,17 @@ pub record Wanted : Type 0 where
   pub print : Bool
   pub files : List Text
 
--- the rules of a run that they ask for
-abbrev pub rules_wanted : List Row → Rules
-rules_wanted rows = record {
-  missing_key = mode_of (first_of (codes "missingkey") rows);
-  step_limit = number_in 1000000000 1 4611686018427387904 (first_of (codes "steps") rows);
-  depth_limit = number_in 1000 1 100000 (first_of (codes "depth") rows);
-}
-
 -- what clap's matches ask for
 abbrev pub wanted_in : List Row → Wanted
 wanted_in rows = record {
   data_file = first_of (codes "data") rows;
   name = first_of (codes "name") rows;
-  rules = rules_wanted rows;
-  print = is_set (first_of (codes "print") rows);
+  rules = record {
+    missing_key = option_map_or mode_named (first_of (codes "missingkey") rows) Default;
+    step_limit = number_in 1000000000 1 4611686018427387904 (first_of (codes "steps") rows);
+    depth_limit = number_in 1000 1 100000 (first_of (codes "depth") rows);
+  };
+  print = option_map_or (λ text. bytes_eq text (codes "true")) (first_of (codes "print") rows) false;
   files = unwrap_or (all_of (codes "file") rows) [];
 }
 
@@ -125,11 +103,6 @@ words_fault words = fault_of (tool_app here) words
 unfoldable pub words_rows : List Text → List Row
 words_rows words = matches_of (tool_app here) words
 
--- what the words ask for, if there is no fault in them
-abbrev pub wanted_if : Kinds → List Row → Option Wanted
-wanted_if [] rows = Some (wanted_in rows)
-wanted_if (k ∷ ks) rows = None
-
 -- what the words ask for, and nothing where they are refused
 abbrev pub wanted : List Text → Option Wanted
-wanted words = wanted_if (words_fault words) (words_rows words)
+wanted words = if is_empty (words_fault words) then Some (wanted_in (words_rows words)) else None

@@ -1,10 +1,11 @@
 //! The command over a source and two sinks.
 ghost use Rattle.std.specs.Prelude.{◌≡◌, ◌<◌, ◌^◌, ◌-◌, IfSome, map};
+ghost use Rattle.std.specs.Result.{result_err};
 ghost use Rattle.std.specs.String.{string_bytes};
 ghost use Rattle.tmpl_meaning.specs.Sink.{sunk};
 ghost use Rattle.tmpl_tool.specs.Outcome.{Counted, Once, Outcome};
 ghost use Rattle.tmpl_tool.specs.Source.{Asked};
-ghost use Rattle.tmpl_tool.specs.Tool.{Follows, IsParse, Parse, stop_answer, tool_answer, tool_reads, words_alone};
+ghost use Rattle.tmpl_tool.specs.Tool.{Follows, IsParse, Parse, asked_by, stop_answer, tool_answer, tool_reads};
 
 use crate::answer::answer;
 use crate::files::inputs::{Inputs, read_inputs};
@@ -52,7 +53,7 @@ pub fn tool<S: Source, O: Sink, E: Sink>(
     ensures reads { Once (S.failures source.old) (S.failures source.new) }
     ensures counts { Counted (O.so_far out.old).failures (O.so_far out.new).failures result.code }
     ensures cuts { Once (E.so_far err.old).failures (E.so_far err.new).failures }
-    ensures unasked { IfSome (words_alone (map (λ word. string_bytes word) words.now)) (λ stop.
+    ensures unasked { IfSome (result_err (asked_by (map (λ word. string_bytes word) words.now))) (λ stop.
         (source.new ≡ source.old) × Outcome (stop_answer stop)
         (sunk (O.so_far out.old) (O.so_far out.new))
         (sunk (E.so_far err.old) (E.so_far err.new))
@@ -85,7 +86,7 @@ pub fn tool_keeping<S: Source, O: Sink, E: Sink>(
     ensures reads { Once (S.failures source.old) (S.failures source.new) }
     ensures counts { Counted (O.so_far out.old).failures (O.so_far out.new).failures result.status.code }
     ensures cuts { Once (E.so_far err.old).failures (E.so_far err.new).failures }
-    ensures unasked { IfSome (words_alone (map (λ word. string_bytes word) words.now)) (λ stop.
+    ensures unasked { IfSome (result_err (asked_by (map (λ word. string_bytes word) words.now))) (λ stop.
         (source.new ≡ source.old) × Outcome (stop_answer stop)
         (sunk (O.so_far out.old) (O.so_far out.new))
         (sunk (E.so_far err.old) (E.so_far err.new))

@@ -3,7 +3,7 @@ ghost use Rattle.std.specs.Prelude.{◌≡◌, ◌≢◌, ◌≤◌, ◌<◌, �
 ghost use Rattle.clap.specs.Words.{all_of, first_of, one_of, found_of, rows_of, kind_of};
 ghost use Rattle.tmpl_tool.specs.computed.Words.{Parses};
 ghost use Rattle.tmpl_tool.specs.Request.{Asks};
-ghost use Rattle.tmpl_tool.specs.Words.{is_set, mode_named, mode_of, number_in, rules_wanted, wanted, wanted_in};
+ghost use Rattle.tmpl_tool.specs.Words.{mode_named, number_in, wanted, wanted_in};
 ghost use Rattle.tmpl_meaning.specs.View.{rules_of};
 ghost use Rattle.tmpl_tool.specs.View.{seen};
 ghost use Rattle.std.specs.String.{string_bytes};
@@ -37,7 +37,7 @@ fn mode_named(word: &str) -> MissingKey
 /// What `--missingkey` asks for.
 #[tactic(auto, using(crate::proofs::NumberLemmas::rows))]
 fn mode_of(matches: &ArgMatches<'_>) -> MissingKey
-    ensures { result ≡ mode_of (first_of (codes "missingkey") (rows_of (found_of matches.now))) }
+    ensures { result ≡ (wanted_in (rows_of (found_of matches.now))).rules.missing_key }
 {
     match matches.get_str("missingkey") {
         None => MissingKey::Default,
@@ -100,7 +100,7 @@ fn steps_of(matches: &ArgMatches<'_>) -> u64
 /// Whether `--print` is given.
 #[tactic(auto, using(crate::proofs::NumberLemmas::rows))]
 fn print_of(matches: &ArgMatches<'_>) -> bool
-    ensures { result ≡ is_set (first_of (codes "print") (rows_of (found_of matches.now))) }
+    ensures { result ≡ (wanted_in (rows_of (found_of matches.now))).print }
 {
     match matches.get_str("print") {
         Some(text) => text == "true",
@@ -141,7 +141,7 @@ fn request_in<'a>(alloc: Global, matches: &ArgMatches<'a>) -> Result<Request<'a>
 
 /// How the template is to be run.
 fn options_in(matches: &ArgMatches<'_>) -> Options
-    ensures { rules_of result ≡ rules_wanted (rows_of (found_of matches.now)) }
+    ensures { rules_of result ≡ (wanted_in (rows_of (found_of matches.now))).rules }
 {
     Options {
         missing_key: mode_of(matches),

@@ -1,12 +1,13 @@
 -- The stages of the command behind a stage, and where a run failed.
-use Rattle.std.specs.Prelude.{List, [], ◌∷◌, Option, Result, codes, length}
+use Rattle.std.specs.Prelude.{◌++◌, List, [], Option, Result, codes, decimal, length}
+use Rattle.tmpl_values.specs.Quote.{quote}
 use Rattle.tmpl_values.specs.Stage.{and_then}
 use Rattle.tmpl_values.specs.Value.{Value}
 use Rattle.tmpl_syntax.specs.Set.{Template}
 use Rattle.tmpl_meaning.specs.Meaning.{Ran}
 use Rattle.tmpl_meaning.specs.declared.fault.RunFault.{RunFault}
-use Rattle.tmpl_tool.specs.Part.{LinePart, number, plain, quoted}
-use Rattle.tmpl_tool.specs.Source.{Files}
+use Rattle.tmpl_tool.specs.Outcome.{line}
+use Rattle.tmpl_tool.specs.Source.{Bytes, Files}
 use Rattle.tmpl_tool.specs.Tool.{Failing, Parse, Stop, asked_name, data_found, loaded, named_run, printed}
 use Rattle.tmpl_tool.specs.Tool.{stop_if}
 use Rattle.tmpl_tool.specs.Words.{Wanted}
@@ -32,7 +33,7 @@ after_set files fails w set = and_then (stop_if w.print (printed set)) (λ u. af
 abbrev pub after_words : Parse → Files → Wanted → Failing → Result Ran Stop
 after_words parse files w fails = and_then (loaded parse files fails 0 [] w.files) (after_set files fails w)
 
--- where a run failed, as the line says it
-abbrev pub place_of : RunFault → List LinePart
-place_of f = plain f.file.now ∷ plain (codes ":") ∷ number f.line ∷ plain (codes ": in ") ∷ quoted f.template.now
-    ∷ plain (codes ": ") ∷ []
+-- a line that says where a run failed, and then this
+abbrev pub line_at : RunFault → Bytes → Bytes
+line_at f said = line (f.file.now ++ (codes ":" ++ (decimal f.line ++ (codes ": in " ++ (quote f.template.now
+    ++ (codes ": " ++ said))))))

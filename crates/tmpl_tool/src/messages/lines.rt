@@ -1,13 +1,12 @@
 //! What the program says where it does not end well.
-ghost use Rattle.std.specs.Prelude.{◌≡◌, ◌≢◌, ◌<◌, ◌^◌, ◌-◌, ◌∷◌, ◌++◌, [], option_map};
+ghost use Rattle.std.specs.Prelude.{◌≡◌, ◌≢◌, ◌<◌, ◌^◌, ◌-◌, ◌++◌, option_map};
 ghost use Rattle.tmpl_meaning.specs.Sink.{sunk};
 ghost use Rattle.tmpl_meaning.specs.View.{fault_seen};
-ghost use Rattle.tmpl_tool.specs.Outcome.{EndsWith, Once, Says, memory_line, write_line};
-ghost use Rattle.tmpl_tool.specs.Part.{line, plain};
-ghost use Rattle.tmpl_tool.specs.computed.Load.{place_of};
+ghost use Rattle.tmpl_tool.specs.Outcome.{EndsWith, Once, Says, line, memory_line, write_line};
+ghost use Rattle.tmpl_tool.specs.computed.Load.{line_at};
 ghost use Rattle.tmpl_tool.specs.Tool.{call_text, fault_line};
 ghost use Rattle.tmpl_tool.specs.Tool.{bad_words, reason_text, stop_answer, unnamed};
-ghost use Rattle.tmpl_tool.specs.View.{parts_of};
+ghost use Rattle.tmpl_tool.specs.View.{parts_bytes};
 ghost use Rattle.tmpl_tool.specs.Inputs.{refusal_seen, said_of, stop_seen};
 ghost use Rattle.tmpl_syntax.specs.Fault.{reason_of};
 
@@ -23,7 +22,7 @@ use tmpl_syntax::{ParseFault, ParseKind};
 #[tactic(auto, using(crate::proofs::MessageLemmas::said))]
 fn say<E: Sink>(err: &mut E, parts: &[Part<'_>], code: u8) -> Status
     requires { (E.so_far err.old).failures < 2 ^ 64 - 1 }
-    ensures { EndsWith code (line (parts_of parts.now))
+    ensures { EndsWith code (line (parts_bytes parts.now))
         (sunk (E.so_far err.old) (E.so_far err.new)) result.code }
 {
     let _ = put_line(err, [].as_slice(), parts);
@@ -110,7 +109,7 @@ fn refuse_template<E: Sink>(err: &mut E, fault: &ParseFault<'_>) -> Status
 /// Says why a file, of which the name comes first, stops the program, and gives this status.
 fn refuse_file<E: Sink>(err: &mut E, name: &str, why: &str, code: u8) -> Status
     requires { (E.so_far err.old).failures < 2 ^ 64 - 1 }
-    ensures { EndsWith code (line (plain name.now ∷ plain why.now ∷ []))
+    ensures { EndsWith code (line (name.now ++ why.now))
         (sunk (E.so_far err.old) (E.so_far err.new)) result.code }
 {
     say(err, [Text(name), Text(why)].as_slice(), code)
@@ -163,7 +162,7 @@ pub(crate) fn run_failed<E: Sink>(err: &mut E, fault: &RunFault<'_>) -> Status
 fn say_at<E: Sink>(err: &mut E, fault: &RunFault<'_>, reason: &[Part<'_>])
     requires { (E.so_far err.old).failures < 2 ^ 64 - 1 }
     ensures cuts { Once (E.so_far err.old).failures (E.so_far err.new).failures }
-    ensures line { Says (line (place_of fault.now ++ parts_of reason.now))
+    ensures line { Says (line_at fault.now (parts_bytes reason.now))
         (sunk (E.so_far err.old) (E.so_far err.new)) }
 {
     let place = [

@@ -2,8 +2,8 @@
 ghost use Rattle.std.specs.Prelude.{◌≡◌, ◌≤◌, ◌<◌, ◌^◌, ◌-◌, ◌++◌, IfSome, length, take};
 ghost use Rattle.tmpl_values.specs.Put.{IsPut};
 ghost use Rattle.tmpl_meaning.specs.Sink.{as_puts};
-ghost use Rattle.tmpl_tool.specs.Part.{parts_text, line, part_text};
-ghost use Rattle.tmpl_tool.specs.View.{part_of, parts_of};
+ghost use Rattle.tmpl_tool.specs.Outcome.{line};
+ghost use Rattle.tmpl_tool.specs.View.{part_bytes, parts_bytes};
 
 use itoa::Buffer;
 use tmpl_meaning::{Fixed, Full};
@@ -35,7 +35,7 @@ pub(crate) fn put_line<E: Sink>(
 ) -> Result<(), SinkFault>
     requires { (E.so_far err.old).failures < 2 ^ 64 - 1 }
     ensures { IsPut result (as_puts (E.so_far err.old))
-        (as_puts (E.so_far err.new)) (line (parts_of place.now ++ parts_of parts.now)) }
+        (as_puts (E.so_far err.new)) (line (parts_bytes place.now ++ parts_bytes parts.now)) }
 {
     let mut memory = [0; LINE_SIZE];
     match line_in(memory.as_mut_slice(), place, parts) {
@@ -49,7 +49,7 @@ pub(crate) fn put_line<E: Sink>(
 
 /// Writes a line to the front of the memory, and says how long it is, if it fits.
 fn line_in(memory: &mut [u8], place: &[Part<'_>], parts: &[Part<'_>]) -> Option<usize>
-    ensures line { IfSome result (λ size. take size memory.new ≡ line (parts_of place.now ++ parts_of parts.now)) }
+    ensures line { IfSome result (λ size. take size memory.new ≡ line (parts_bytes place.now ++ parts_bytes parts.now)) }
     ensures within { IfSome result (λ size. size ≤ length memory.new) }
 {
     let mut fixed = Fixed {
@@ -67,7 +67,7 @@ fn line_in(memory: &mut [u8], place: &[Part<'_>], parts: &[Part<'_>]) -> Option<
 fn write_line<P: Put>(put: &mut P, place: &[Part<'_>], parts: &[Part<'_>]) -> Result<(), P::Fault>
     requires { (P.so_far put.old).failures < 2 ^ 64 - 1 }
     ensures { IsPut result (P.so_far put.old) (P.so_far put.new)
-        (line (parts_of place.now ++ parts_of parts.now)) }
+        (line (parts_bytes place.now ++ parts_bytes parts.now)) }
 {
     put.put(b"tmpl: ")?;
     write_parts(put, place)?;
@@ -78,7 +78,7 @@ fn write_line<P: Put>(put: &mut P, place: &[Part<'_>], parts: &[Part<'_>]) -> Re
 /// Puts the parts, one after the other.
 fn write_parts<P: Put>(put: &mut P, parts: &[Part<'_>]) -> Result<(), P::Fault>
     requires { (P.so_far put.old).failures < 2 ^ 64 - 1 }
-    ensures { IsPut result (P.so_far put.old) (P.so_far put.new) (parts_text (parts_of parts.now)) }
+    ensures { IsPut result (P.so_far put.old) (P.so_far put.new) (parts_bytes parts.now) }
 {
     for part in parts {
         write_part(put, part)?;
@@ -89,7 +89,7 @@ fn write_parts<P: Put>(put: &mut P, parts: &[Part<'_>]) -> Result<(), P::Fault>
 /// Puts a part, as its kind says.
 fn write_part<P: Put>(put: &mut P, part: &Part<'_>) -> Result<(), P::Fault>
     requires { (P.so_far put.old).failures < 2 ^ 64 - 1 }
-    ensures { IsPut result (P.so_far put.old) (P.so_far put.new) (part_text (part_of part.now)) }
+    ensures { IsPut result (P.so_far put.old) (P.so_far put.new) (part_bytes part.now) }
 {
     match part {
         Part::Text(text) => put.put(text.as_bytes()),

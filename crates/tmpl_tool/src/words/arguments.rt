@@ -1,8 +1,9 @@
 //! The command line, by clap's builder.
-ghost use Rattle.std.specs.Prelude.{◌≡◌, false, IfOk};
+ghost use Rattle.std.specs.Prelude.{◌≡◌, codes, false, pos, IfOk};
 ghost use Rattle.clap.specs.Words.{app_of, rule_of};
-ghost use Rattle.tmpl_tool.specs.Words.{depth_rule, file_rule, first_options, mode_rule, option_rule, print_rule};
-ghost use Rattle.tmpl_tool.specs.Words.{steps_rule, tool_app};
+ghost use Rattle.clap.specs.declared.builder.ValueParser.TheVariants as vp;
+ghost use Rattle.tmpl_tool.specs.Words.{file_rule, option_rule, parsed_rule, print_rule, tool_app};
+ghost use Rattle.tmpl_tool.specs.computed.Words.{first_options};
 
 use clap::{Arg, ArgAction, Command, value_parser};
 use std::alloc::{AllocError, Global};
@@ -17,7 +18,7 @@ fn option_arg<'a>(alloc: Global, id: &'a str) -> Arg<'a>
 
 /// The option `--missingkey`.
 fn mode_arg<'a>(alloc: Global, modes: &'a [&'a str]) -> Arg<'a>
-    ensures rule { rule_of result ≡ mode_rule modes.entry }
+    ensures rule { rule_of result ≡ parsed_rule (codes "missingkey") (vp.Names modes.entry) }
     ensures local { result.global ≡ false }
 {
     option_arg(alloc, "missingkey").value_parser(modes)
@@ -25,7 +26,7 @@ fn mode_arg<'a>(alloc: Global, modes: &'a [&'a str]) -> Arg<'a>
 
 /// The option `--depth`.
 fn depth_arg<'a>(alloc: Global) -> Arg<'a>
-    ensures rule { rule_of result ≡ depth_rule }
+    ensures rule { rule_of result ≡ parsed_rule (codes "depth") (vp.Signed (pos 1) (pos 100000)) }
     ensures local { result.global ≡ false }
 {
     option_arg(alloc, "depth").value_parser(value_parser!(u32).range(1..=100_000))
@@ -33,7 +34,7 @@ fn depth_arg<'a>(alloc: Global) -> Arg<'a>
 
 /// The option `--steps`.
 fn steps_arg<'a>(alloc: Global) -> Arg<'a>
-    ensures rule { rule_of result ≡ steps_rule }
+    ensures rule { rule_of result ≡ parsed_rule (codes "steps") (vp.Unsigned 1 4611686018427387904) }
     ensures local { result.global ≡ false }
 {
     option_arg(alloc, "steps").value_parser(value_parser!(u64).range(1..=4_611_686_018_427_387_904))

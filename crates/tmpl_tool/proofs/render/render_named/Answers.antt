@@ -1,9 +1,8 @@
-use Rattle.std.proofs.Common.{option_map, sym}
+use Rattle.std.proofs.Common.{option_map}
 use Rattle.tmpl_values.specs.View.{value_of}
 use Rattle.tmpl_syntax.specs.View.{set_view}
 use Rattle.tmpl_meaning.specs.View.{rules_of}
 use Rattle.tmpl_engine.specs.Render.{ran_named}
-use Rattle.tmpl_tool.proofs.RenderLemmas.{ok_or-ran_named}
 use Rattle.tmpl_tool.proofs.render.render_named.Goals as goal
 
 pub returns : goal.returns
@@ -18,5 +17,5 @@ returns g c =
     record {
       counts = c.tell_end.ensures.counts ran before after c.render_through-end.ensures;
       cuts = c.tell_end.ensures.cuts;
-      outcome = rw (sym (ok_or-ran_named rules name set input)) (c.tell_end.ensures.outcome ran before after c.render_through-end.ensures);
+      outcome = c.tell_end.ensures.outcome ran before after c.render_through-end.ensures;
     }

@@ -2,11 +2,10 @@ use Rattle.std.proofs.Common.{◌≡◌, ◌∙◌, List, Some, Bor, ap, sym, su
 use Rattle.std.specs.Prelude.{option_map}
 use Rattle.tmpl_syntax.specs.Fault.{reason_of}
 use Rattle.tmpl_meaning.specs.Sink.{sunk}
-use Rattle.tmpl_tool.specs.Outcome.{Says}
-use Rattle.tmpl_tool.specs.Part.{line}
+use Rattle.tmpl_tool.specs.Outcome.{Says, line}
 use Rattle.tmpl_tool.specs.Source.{Bytes}
 use Rattle.tmpl_tool.specs.Tool.{reason_text}
-use Rattle.tmpl_tool.specs.View.{parts_of}
+use Rattle.tmpl_tool.specs.View.{parts_bytes}
 use Rattle.tmpl_tool.specs.declared.messages.part.Part.{Part}
 use Rattle.tmpl_tool.proofs.MessageLemmas.{refusal-line}
 use Rattle.tmpl_tool.proofs.messages.lines.refuse_template.Goals as goal
@@ -18,5 +17,5 @@ returns-clause-line g c =
     let told : Some c.in-Some.text.now ≡ option_map reason_text (reason_of fault.kind) =
     sym (ap (option_map (λ (t : Bor Bytes). t.now)) c.in-Some.is) ∙ c.reason_text.ensures in
     subst (λ l. Says l err)
-    (ap (λ (ps : List Part). line (parts_of ps)) c.as_slice.ensures
+    (ap (λ (ps : List Part). line (parts_bytes ps)) c.as_slice.ensures
     ∙ sym (refusal-line fault.file.now fault.line (reason_of fault.kind) c.in-Some.text.now told)) c.say.ensures.line
