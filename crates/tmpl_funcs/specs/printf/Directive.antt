@@ -1,7 +1,7 @@
 -- What a form of `printf` prints of a value ("Printing" in the documentation of `fmt`). Which flags
 -- a verb takes, and that any other is refused, is this project's own rule.
-use Rattle.std.specs.Prelude.{ℕ, ℤ, pos, negsuc, nat_abs, ◌/◌, ◌%◌, Bool, true, false, List, [], ◌∷◌, Option, Some}
-use Rattle.std.specs.Prelude.{None, option_map, if◌then◌else◌}
+use Rattle.std.specs.Prelude.{ℕ, ℤ, pos, negsuc, nat_abs, ◌/◌, ◌%◌, ◌||◌, not, Bool, true, false, List, [], ◌∷◌, Option}
+use Rattle.std.specs.Prelude.{Some, None, option_map, if◌then◌else◌}
 use Rattle.std.specs.List.{flat_map}
 use Rattle.std.specs.Char.{encode_utf8}
 use Rattle.std.specs.Fmt.{digits, digit_glyph}
@@ -12,7 +12,7 @@ use Rattle.tmpl_values.specs.Item.{bytes_of}
 use Rattle.tmpl_values.specs.Quote.{quote}
 use Rattle.tmpl_values.specs.Text.{inner_text, truth_text}
 use Rattle.tmpl_funcs.specs.Index.{number_of}
-use Rattle.tmpl_funcs.specs.printf.Form.{has_minus_alone, is_bare}
+use Rattle.tmpl_funcs.specs.printf.Form.{is_bare}
 use Rattle.tmpl_funcs.specs.printf.Pad.{padded, laid_out}
 use Rattle.tmpl_funcs.specs.printf.Rune.{truncated_to}
 use Rattle.tmpl_funcs.specs.declared.printf.form.Form.{Form}
@@ -21,7 +21,7 @@ use Rattle.tmpl_funcs.specs.declared.printf.form.Verb.TheVariants as verb
 
 -- the text of a value that is no number, padded, in a form with no flag but `-`
 abbrev pub text_form : Form → Option (List ℕ) → Option (List ℕ)
-text_form f text = if has_minus_alone f then option_map (padded f) text else None
+text_form f text = if not (f.plus || (f.zero || f.space)) then option_map (padded f) text else None
 
 -- the sign of a number: `-`, or with the flags `+` and space what these ask for
 abbrev pub sign : Form → ℤ → List ℕ
