@@ -6,18 +6,14 @@ use Rattle.tmpl_values.specs.Compare.{equality, order}
 use Rattle.tmpl_funcs.specs.declared.fault.CallFault.{CallFault}
 use Rattle.tmpl_funcs.specs.declared.fault.CallFault.TheVariants.{WrongCount, NotComparable}
 
--- the second comparison, where the first one is there and does not hold
-abbrev pub or_else : Option Bool → Option Bool → Option Bool
-or_else a b = option_and_then (λ holds. if holds then Some true else b) a
-
 -- whether the first value equals one of the others, compared in order up to the first equal one
 abbrev pub equal_to_one : Value → List Value → Option Bool
 equal_to_one v [] = Some false
-equal_to_one v (w ∷ ws) = or_else (equality v w) (equal_to_one v ws)
+equal_to_one v (w ∷ ws) = option_and_then (λ equal. if equal then Some true else equal_to_one v ws) (equality v w)
 
--- below or equal
+-- below or equal, of which the second is asked only where the first does not hold
 abbrev pub at_most : Value → Value → Option Bool
-at_most v w = or_else (order v w) (equality v w)
+at_most v w = option_and_then (λ below. if below then Some true else equality v w) (order v w)
 
 -- whether the first argument equals one of the others; values that can't be compared are a fault
 abbrev pub eq_of : List Value → Result Value CallFault

@@ -4,7 +4,8 @@ use Rattle.std.proofs.Common.{refl, sym, subst, ap, append_assoc, append-nil}
 use Rattle.std.proofs.lemmas.List.{take-append-drop}
 use Rattle.std.proofs.lemmas.Nat.{mul-le}
 use Rattle.tmpl_values.specs.Item.{bytes_of}
-use Rattle.tmpl_values.specs.Put.{Puts, Took, appended}
+use Rattle.tmpl_values.specs.Put.{Puts, appended}
+use Rattle.tmpl_values.specs.computed.Put.{Took}
 use Rattle.tmpl_values.specs.Text.{text_of}
 use Rattle.tmpl_values.specs.Value.{Value}
 use Rattle.tmpl_meaning.specs.Sink.{IsPut, Told, as_puts, with_bytes}

@@ -1,7 +1,8 @@
 -- For what puts several texts, as `put_quoted`: puts one after another are one put of the joined text.
 use Rattle.std.proofs.Common.{◌≡◌, ◌∙◌, ℕ, List, [], ◌++◌, Option, Some, None, Result, Ok, Err, refl, sym, ap, append_assoc, append-nil, arith, subst}
 use Rattle.std.specs.Result.{IsErr}
-use Rattle.tmpl_values.specs.Put.{Puts, appended, IsPut, Took}
+use Rattle.tmpl_values.specs.Put.{Puts, appended, IsPut}
+use Rattle.tmpl_values.specs.computed.Put.{Took}
 
 -- bytes that may not be told, and others behind them
 pub appended-append : (old : Option (List ℕ)) (a b : List ℕ) → appended (appended old a) b ≡ appended old (a ++ b)

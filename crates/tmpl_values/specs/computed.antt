@@ -1,5 +1,6 @@
 pub mod Codes
 pub mod Falls
+pub mod Put
 pub mod Quote
 pub mod Rune
 pub mod Weight

@@ -1,7 +1,7 @@
 -- What a form of `printf` prints of a value ("Printing" in the documentation of `fmt`). Which flags
 -- a verb takes, and that any other is refused, is this project's own rule.
-use Rattle.std.specs.Prelude.{ℕ, ℤ, pos, negsuc, nat_abs, ◌/◌, ◌%◌, Bool, true, false, List, [], ◌∷◌, Option, Some}
-use Rattle.std.specs.Prelude.{None, option_map, if◌then◌else◌}
+use Rattle.std.specs.Prelude.{ℕ, ℤ, pos, nat_abs, int_lt, int_le, ◌/◌, ◌%◌, ◌&&◌, ◌||◌, not, Bool, true, false, List}
+use Rattle.std.specs.Prelude.{[], ◌∷◌, Option, Some, None, option_map, if◌then◌else◌}
 use Rattle.std.specs.List.{flat_map}
 use Rattle.std.specs.Char.{encode_utf8}
 use Rattle.std.specs.Fmt.{digits, digit_glyph}
@@ -12,7 +12,7 @@ use Rattle.tmpl_values.specs.Item.{bytes_of}
 use Rattle.tmpl_values.specs.Quote.{quote}
 use Rattle.tmpl_values.specs.Text.{inner_text, truth_text}
 use Rattle.tmpl_funcs.specs.Index.{number_of}
-use Rattle.tmpl_funcs.specs.printf.Form.{has_minus_alone, is_bare}
+use Rattle.tmpl_funcs.specs.printf.Form.{is_bare}
 use Rattle.tmpl_funcs.specs.printf.Pad.{padded, laid_out}
 use Rattle.tmpl_funcs.specs.printf.Rune.{truncated_to}
 use Rattle.tmpl_funcs.specs.declared.printf.form.Form.{Form}
@@ -21,12 +21,11 @@ use Rattle.tmpl_funcs.specs.declared.printf.form.Verb.TheVariants as verb
 
 -- the text of a value that is no number, padded, in a form with no flag but `-`
 abbrev pub text_form : Form → Option (List ℕ) → Option (List ℕ)
-text_form f text = if has_minus_alone f then option_map (padded f) text else None
+text_form f text = if not (f.plus || (f.zero || f.space)) then option_map (padded f) text else None
 
 -- the sign of a number: `-`, or with the flags `+` and space what these ask for
 abbrev pub sign : Form → ℤ → List ℕ
-sign f (negsuc n) = 45 ∷ []
-sign f (pos n) = if f.plus then 43 ∷ [] else (if f.space then 32 ∷ [] else [])
+sign f n = if int_lt n (pos 0) then 45 ∷ [] else (if f.plus then 43 ∷ [] else (if f.space then 32 ∷ [] else []))
 
 -- a number in a base
 abbrev pub number_form : ℕ → Bool → Form → ℤ → List ℕ
@@ -38,8 +37,7 @@ hex_pair upper b = digit_glyph upper (b / 16) ∷ digit_glyph upper (b % 16) ∷
 
 -- the character of a code; U+FFFD where it is none
 abbrev pub char_text : ℤ → List ℕ
-char_text (pos n) = if scalar n then encode_utf8 n else encode_utf8 65533
-char_text (negsuc n) = encode_utf8 65533
+char_text n = encode_utf8 (if int_le (pos 0) n && scalar (nat_abs n) then nat_abs n else 65533)
 
 -- what a form of this verb prints of a value; none where the verb does not take the value or a flag. `%v` prints the
 -- text that an operand of `print` has, of a sequence or a mapping with no flag and no width; `%x` and `%X` print a

@@ -129,10 +129,6 @@ form_of f = record {
   verb = f.verb;
 }
 
--- the form has no flag but `-`
-abbrev pub has_minus_alone : Form → Bool
-has_minus_alone f = not (f.plus || (f.zero || f.space))
-
 -- the form has neither flags nor a width
 abbrev pub is_bare : Form → Bool
-is_bare f = has_minus_alone f && (not f.minus && f.width == 0)
+is_bare f = not (f.plus || (f.zero || f.space)) && (not f.minus && f.width == 0)

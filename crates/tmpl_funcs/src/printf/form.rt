@@ -41,7 +41,8 @@ pub(crate) struct Form {
 }
 
 impl Form {
-    ghost use Rattle.tmpl_funcs.specs.printf.Form.{has_minus_alone, is_bare};
+    ghost use Rattle.tmpl_funcs.specs.computed.Directive.{has_minus_alone};
+    ghost use Rattle.tmpl_funcs.specs.printf.Form.{is_bare};
 
     /// Whether it has no flag but `-`.
     pub(crate) fn has_minus_alone(self) -> bool
