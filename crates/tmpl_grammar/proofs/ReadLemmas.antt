@@ -13,14 +13,15 @@ use Rattle.tmpl_grammar.specs.Tree.{Operand, Operands, Pipeline, operands_from, 
 use Rattle.tmpl_grammar.specs.Constant as constant
 use Rattle.tmpl_grammar.specs.Constant.{IsConstant}
 use Rattle.tmpl_grammar.specs.Operand as operand
-use Rattle.tmpl_grammar.specs.Operand.{IsOperand, begins_later}
+use Rattle.tmpl_grammar.specs.Operand.{IsOperand}
+use Rattle.tmpl_grammar.specs.computed.Operand.{begins_later}
 use Rattle.tmpl_grammar.specs.computed.Operand.{operand_at}
 use Rattle.tmpl_grammar.specs.computed.Parser as parser
 use Rattle.tmpl_grammar.specs.computed.Parser.{Parser, Partial, settled, more_commands, may_stand, kept_if, linked, linked_by, step, step_by}
 use Rattle.tmpl_grammar.specs.computed.Parser.{steps, finished, finished_with, commands_after}
-use Rattle.tmpl_grammar.specs.Pipeline.{IsBlank, IsChain, IsChained, MayBeLater, SpellsOperand, SpellsMore, SpellsCommand, SpellsLater, SpellsPipeline}
+use Rattle.tmpl_grammar.specs.Pipeline.{IsBlank, IsChain, IsChained, may_be_later, SpellsOperand, SpellsMore, SpellsCommand, SpellsLater, SpellsPipeline}
 use Rattle.tmpl_grammar.proofs.IsOperandLemmas.{operand-admitted}
-use Rattle.tmpl_grammar.proofs.SpelledLemmas.{parser_at, operand_list, command_list, operands-back, commands-back, more-whole, stands-anywhere}
+use Rattle.tmpl_grammar.proofs.SpelledLemmas.{parser_at, operand_list, command_list, operands-back, commands-back, more-whole, later-is, stands-anywhere}
 
 -- ---- what is read so far
 
@@ -78,15 +79,15 @@ module _ (t : Token) (is : t.kind ≡ kind.Space) (cs : List Operands) (os : Lis
 -- ---- ends of commands
 
 -- behind a whole command stands a later one
-begins-later : (cs : List Operands) (c ms : Operands) → MayFollow (cs ++ c ∷ []) [] ms → MayBeLater ms
+begins-later : (cs : List Operands) (c ms : Operands) → MayFollow (cs ++ c ∷ []) [] ms → may_be_later ms ≡ true
 begins-later cs c tree.no_operand may = absurd may
-begins-later [] c (tree.operand p ps) may = may
-begins-later (d ∷ cs) c (tree.operand p ps) may = may
+begins-later [] c (tree.operand p ps) may = later-is p ps ∙ may
+begins-later (d ∷ cs) c (tree.operand p ps) may = later-is p ps ∙ may
 
 -- these are the whole commands, with the one that ends
 record Completes (cs : List Operands) (os : List Operand) (last : Option Operand) (done : List Operands) : Type 0 where
   ends : (ts : List Token) → Reads cs os last ts → Ends done ts
-  later : (ms : Operands) → MayFollow done [] ms → MayBeLater ms
+  later : (ms : Operands) → MayFollow done [] ms → may_be_later ms ≡ true
 
 completes : (cs : List Operands) (os : List Operand) (last : Option Operand) → IfSome (more_commands cs (settled last os)) (Completes cs os last)
 completes cs [] None = tt
@@ -105,7 +106,7 @@ completes cs os (Some o) = rw (more-whole cs os o) (record {
 ends-whole : (cs : List Operands) (ts : List Token) → Ends cs ts → SpellsPipeline (commands_from cs) ts
 ends-whole cs ts f = simp append-nil at (f tree.no_command [] refl)
 
-begins-barred : (t : Token) (cs : List Operands) (ts : List Token) → t.kind ≡ kind.Pipe → ((ms : Operands) → MayFollow cs [] ms → MayBeLater ms)
+begins-barred : (t : Token) (cs : List Operands) (ts : List Token) → t.kind ≡ kind.Pipe → ((ms : Operands) → MayFollow cs [] ms → may_be_later ms ≡ true)
     → Ends cs ts → Begins cs [] (ts ++ t ∷ [])
 begins-barred t cs ts is later_may f ms later us vs s may l =
     rw (operands-back ms, append_assoc ts (t ∷ []) (us ++ vs))

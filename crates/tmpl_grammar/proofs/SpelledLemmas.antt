@@ -7,11 +7,12 @@ use Rattle.tmpl_lex.specs.Piece.{Token}
 use Rattle.tmpl_grammar.specs.Token.{begins_name, name_in}
 use Rattle.tmpl_grammar.specs.Tree as tree
 use Rattle.tmpl_grammar.specs.Tree.{Operand, Operands, Pipeline, operands_from, commands_from}
-use Rattle.tmpl_grammar.specs.Operand.{IsOperand, begins_later}
+use Rattle.tmpl_grammar.specs.Operand.{IsOperand}
+use Rattle.tmpl_grammar.specs.computed.Operand.{begins_later}
 use Rattle.tmpl_grammar.specs.computed.Operand.{operand_at}
 use Rattle.tmpl_grammar.specs.computed.Parser as parser
 use Rattle.tmpl_grammar.specs.computed.Parser.{Parser, Partial, settled, more_commands, closed, may_stand, kept_if, linked, linked_by, step, step_by, steps}
-use Rattle.tmpl_grammar.specs.Pipeline.{IsBlank, IsChain, IsChained, MayBeLater, SpellsOperand, SpellsMore, SpellsCommand, SpellsLater, SpellsPipeline}
+use Rattle.tmpl_grammar.specs.Pipeline.{IsBlank, IsChain, IsChained, may_be_later, SpellsOperand, SpellsMore, SpellsCommand, SpellsLater, SpellsPipeline}
 use Rattle.tmpl_grammar.proofs.IsOperandLemmas.{computes-operand}
 
 abbrev pub parser_at : List Partial → List Operands → List Operand → Option Operand → Parser
@@ -95,6 +96,11 @@ stands-behind : (cs : List Operands) (os : List Operand) (p o : Operand) → may
 stands-behind cs [] p o = grind arith
 stands-behind cs (q ∷ os) p o = grind arith
 
+-- what begins a later command
+pub later-is : (o : Operand) (os : Operands) → may_be_later (tree.operand o os) ≡ begins_later o
+later-is (tree.fields names) os = refl
+later-is _ os = refl
+
 -- an operand that may begin a later command may stand anywhere
 pub stands-anywhere : (cs : List Operands) (os : List Operand) (o : Operand) → begins_later o ≡ true → may_stand cs os o ≡ true
 stands-anywhere cs os o e = grind arith
@@ -173,7 +179,7 @@ mutual
   later-read tree.no_command ts s h ls cs outer whole =
       rw (s, append-nil cs) (record { end = h; to = refl; outer_is = outer; closed_is = whole })
   later-read (tree.command os later) ts (bar, a, b, is, bars, may, spells, rest) h ls cs outer whole =
-      let r = command-read os a spells ls cs (λ o ms e. stands-anywhere cs [] o (subst MayBeLater e may)) in
+      let r = command-read os a spells ls cs (λ o ms e. stands-anywhere cs [] o (sym (later-is o ms) ∙ ap may_be_later (sym e) ∙ may)) in
       rw (is, sym (append_assoc cs (os ∷ []) (command_list later))) (ended-along (bar ∷ []) (bar-step h ls cs bar bars outer whole)
       (ended-along a r.to (later-read later b rest r.end ls _ r.outer_is r.closed_is)))
 

@@ -1,5 +1,5 @@
 -- The operands that are one token ("Arguments" and "Functions" in the documentation of Go's text/template).
-use Rattle.std.specs.Prelude.{◌≡◌, ℕ, Bool, true, false, List, [], ◌∷◌, codes}
+use Rattle.std.specs.Prelude.{◌≡◌, ℕ, Bool, true, List, [], ◌∷◌, codes}
 use Rattle.tmpl_values.specs.Text.{truth_text}
 use Rattle.tmpl_funcs.specs.Func.{name_of}
 use Rattle.tmpl_funcs.specs.declared.func.Func.{Func}
@@ -20,11 +20,3 @@ pub data IsOperand : Token → Operand → Type 0 where
   nil_word : IsOperand (token kind.Word (codes "nil")) tree.nil
   a_function : (f : Func) → IsOperand (token kind.Word (name_of f)) (tree.function f)
   a_constant : {t : Token} {o : Operand} → IsConstant t o → IsOperand t o
-
--- a constant, `nil` and dot begin no later command of a pipeline
-abbrev pub begins_later : Operand → Bool
-begins_later (tree.fields names) = true
-begins_later (tree.variable name names) = true
-begins_later (tree.function f) = true
-begins_later (tree.group commands names) = true
-begins_later o = false

@@ -1,12 +1,12 @@
 -- The grammar of a pipeline ("Arguments" and "Pipelines" in the documentation of Go's text/template): which tokens
 -- spell which tree. White space may stand between any two tokens, but not inside a chain.
-use Rattle.std.specs.Prelude.{◌≡◌, ℕ, true, List, [], ◌∷◌, ◌++◌}
+use Rattle.std.specs.Prelude.{◌≡◌, ℕ, Bool, true, false, List, [], ◌∷◌, ◌++◌}
 use Rattle.tmpl_lex.specs.declared.piece.TokenKind.TheVariants as kind
 use Rattle.tmpl_lex.specs.Piece.{Token}
 use Rattle.tmpl_grammar.specs.Token.{begins_name, name_in}
 use Rattle.tmpl_grammar.specs.Tree as tree
 use Rattle.tmpl_grammar.specs.Tree.{Operand, Operands, Pipeline}
-use Rattle.tmpl_grammar.specs.Operand.{IsOperand, begins_later}
+use Rattle.tmpl_grammar.specs.Operand.{IsOperand}
 
 -- perhaps white space
 abbrev pub IsBlank : List Token → Type 0
@@ -25,9 +25,12 @@ abbrev pub IsChained : Operand → List (List ℕ) → List Token → Type 0
 IsChained o names ts = (t : Token) × (us : List Token) × (ts ≡ t ∷ us) × IsOperand t o × IsChain names us
 
 -- a later command begins with no constant, `nil` or dot
-abbrev pub MayBeLater : Operands → Type 0
-MayBeLater tree.no_operand = ⊥
-MayBeLater (tree.operand o os) = begins_later o ≡ true
+abbrev pub may_be_later : Operands → Bool
+may_be_later (tree.operand (tree.fields names) os) = true
+may_be_later (tree.operand (tree.variable name names) os) = true
+may_be_later (tree.operand (tree.function f) os) = true
+may_be_later (tree.operand (tree.group commands names) os) = true
+may_be_later os = false
 
 abbrev mutual
   -- an operand
@@ -58,8 +61,8 @@ abbrev mutual
   pub SpellsLater : Pipeline → List Token → Type 0
   SpellsLater tree.no_command ts = ts ≡ []
   SpellsLater (tree.command os cs) ts =
-      (bar : Token) × (a : List Token) × (b : List Token) × (ts ≡ bar ∷ a ++ b) × (bar.kind ≡ kind.Pipe) × MayBeLater os
-      × SpellsCommand os a × SpellsLater cs b
+      (bar : Token) × (a : List Token) × (b : List Token) × (ts ≡ bar ∷ a ++ b) × (bar.kind ≡ kind.Pipe)
+      × (may_be_later os ≡ true) × SpellsCommand os a × SpellsLater cs b
 
   -- one or more commands
   pub SpellsPipeline : Pipeline → List Token → Type 0

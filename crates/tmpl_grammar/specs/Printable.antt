@@ -12,7 +12,7 @@ use Rattle.tmpl_grammar.specs.Action.{Action, pipeline_action, opening}
 use Rattle.tmpl_grammar.specs.Action.{else_branch, define_action}
 use Rattle.tmpl_grammar.specs.Action.{template_action, block_action}
 use Rattle.tmpl_grammar.specs.Header.{is_range}
-use Rattle.tmpl_grammar.specs.Pipeline.{MayBeLater}
+use Rattle.tmpl_grammar.specs.Pipeline.{may_be_later}
 use Rattle.tmpl_grammar.specs.Depth.{depth_of_pipeline, most_deep}
 
 -- ---- names
@@ -52,7 +52,7 @@ abbrev mutual
 
   pub OfLater : Pipeline → Type 0
   OfLater tree.no_command = Unit {0}
-  OfLater (tree.command os cs) = MayBeLater os × OfCommand os × OfLater cs
+  OfLater (tree.command os cs) = (may_be_later os ≡ true) × OfCommand os × OfLater cs
 
   pub OfCommands : Pipeline → Type 0
   OfCommands tree.no_command = ⊥

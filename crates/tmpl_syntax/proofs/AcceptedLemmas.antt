@@ -24,9 +24,11 @@ use Rattle.tmpl_syntax.specs.computed.Frames.{fine, Judged}
 use Rattle.tmpl_syntax.specs.computed.Frames.{opened_names, closed_if, none_known, verdict_of}
 use Rattle.tmpl_syntax.specs.Spelling.{a_text, an_action, a_break, a_continue, a_template, Leads, nothing, a_node, a_control, a_define, a_block}
 use Rattle.tmpl_syntax.specs.Spelling.{Closes, an_end, an_else, an_else_branch}
-use Rattle.tmpl_syntax.specs.Print.Printed.{Said, said_text, said, else_said, node_said, nodes_said}
+use Rattle.tmpl_syntax.specs.Print.Printed.{Said, said_text, said, node_said, nodes_said}
+use Rattle.tmpl_syntax.specs.computed.Print.{else_said}
 use Rattle.tmpl_syntax.specs.Print.Laws.{Says, says_nothing, says_text, says, AcceptsBack}
 use Rattle.tmpl_syntax.proofs.StepLemmas.{joins-control}
+use Rattle.tmpl_syntax.proofs.PrintableNodeLemmas.{control-said}
 use Rattle.tmpl_syntax.proofs.VerdictLemmas.{one-verdict, judged-all}
 use Rattle.tmpl_syntax.specs.Formed.{are_among, declared_to, else_scope, scope_behind, is_formed, are_formed, AreFormed}
 use Rattle.tmpl_syntax.specs.Laws.{SpellsFormed}
@@ -205,7 +207,8 @@ mutual
       let in_body = nodes-passes body (f ∷ fs) inside (declared_to h.binding scope) rest (alike-declared h.binding names scope a)
       (subst (λ l. are_formed body (declared_to h.binding scope) l (n + 1) ≡ true) (sym (looped c (in_loop (top fs)))) p.in_body) in_rest in
       let joined : (nodes_said body ++ (ends ++ said end_action ∷ [])) ++ ss ≡ nodes_said body ++ rest = simp append_assoc in
-      ap (λ ts. passes fs known ((opener (opened.control c) (names_of h)) ∷ roles_said ts)) joined
+      ap (λ ts. passes fs known (roles_said (ts ++ ss))) (control-said c h body other)
+      ∙ ap (λ ts. passes fs known ((opener (opened.control c) (names_of h)) ∷ roles_said ts)) joined
       ∙ opened-passes fs known scope (roles_said (nodes_said body ++ rest)) a (opened.control c) (names_of h) refl
       ∙ both_true (both_true p.uses p.room) in_body
   node-passes (text bytes) fs known scope ss a e more = alone-passes fs known scope (roles_said ss) a 0 (a_text {bytes = bytes}) ∙ both_true e more

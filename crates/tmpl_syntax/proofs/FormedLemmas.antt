@@ -17,8 +17,8 @@ use Rattle.tmpl_syntax.specs.Formed.{are_among, declared_to, else_scope, is_loop
 use Rattle.tmpl_syntax.specs.Place.Opening.{Opening}
 use Rattle.tmpl_syntax.specs.Place.Opening as opened
 use Rattle.tmpl_syntax.specs.Place.Role.{Name, Names, declared_by, names_of, names_given, opener, Role, role_of}
-use Rattle.tmpl_syntax.specs.Place.Body.{is_level, most_levels}
-use Rattle.tmpl_syntax.specs.computed.Frames.{Verdict, fine}
+use Rattle.tmpl_syntax.specs.Place.Body.{most_levels}
+use Rattle.tmpl_syntax.specs.computed.Frames.{Verdict, fine, is_level}
 use Rattle.tmpl_syntax.specs.computed.Frames.{Frame, top, loops, in_loop, levels, is_known, knows, first_fault, part_of, entered, names_at, fault_at}
 use Rattle.tmpl_syntax.specs.computed.Frames.{frames_after, unless_fault, Known, with_inner, with_names, opened_names, known_after, verdict_from}
 use Rattle.tmpl_syntax.proofs.NameLemmas.{one-known, with-longer, take-with, take-before, part-high, else_names, take-part}

@@ -7,8 +7,10 @@ use Rattle.tmpl_grammar.specs.Print.{action_tokens, bytes_of}
 use Rattle.tmpl_grammar.specs.Action.{Action, plain_else}
 use Rattle.tmpl_syntax.specs.View.{node_of, nodes_in}
 use Rattle.tmpl_syntax.specs.declared.tree.Node as held
+use Rattle.tmpl_syntax.proofs.PrintableNodeLemmas.{control-said}
 use Rattle.tmpl_syntax.proofs.ViewLemmas.{control_of-fields}
-use Rattle.tmpl_syntax.specs.Print.Printed.{Said, said, said_text, else_said, node_said, nodes_said, file_of, opening_behind, parting}
+use Rattle.tmpl_syntax.specs.Print.Printed.{Said, said, said_text, node_said, nodes_said, file_of, opening_behind, parting}
+use Rattle.tmpl_syntax.specs.computed.Print.{else_said}
 use Rattle.tmpl_syntax.specs.computed.Print.{Page, last_text, page_with}
 
 joined-append : (before : Option (List ℕ)) (ps qs : List Said) → file_of before (ps ++ qs) ≡ file_of before ps ++ file_of (last_text before ps) qs
@@ -64,4 +66,4 @@ module _ (p : Page) (ns : List held.Node) (i : ℕ) where
 
 pub ruleset nodes = (page-next, page-done)
 
-pub ruleset pages = (action-put, text-put, page_append, page_nothing, no_else, some_else, control_of-fields)
+pub ruleset pages = (action-put, text-put, page_append, page_nothing, no_else, some_else, control-said, control_of-fields)

@@ -11,7 +11,7 @@ use Rattle.tmpl_grammar.specs.declared.action.Branch.{Branch}
 use Rattle.tmpl_syntax.specs.Place.Open.{opens, ends, IsOpen, IsLast, IsElseOf, HasElse, is_template, IsBody, OfOneTemplate}
 use Rattle.tmpl_syntax.specs.Place.Opening.{Opening}
 use Rattle.tmpl_syntax.specs.Place.Role.{Names, opener, else_part, closer, Role}
-use Rattle.tmpl_syntax.specs.Place.Body.{is_level, IsLoop, IsLevel, of_opening, of_else_branch, Levels, none, one, other}
+use Rattle.tmpl_syntax.specs.Place.Body.{IsLoop, IsLevel, of_opening, of_else_branch, Levels, none, one, other}
 use Rattle.tmpl_syntax.specs.computed.Frames.{level_of, else_levels}
 use Rattle.tmpl_syntax.specs.Place.Opening as opened
 
@@ -232,9 +232,9 @@ template-apart xs j k i b le same = let lt = ((same j).1 b).is_open.before in om
 -- levels
 
 pub level-moves : (xs : List Role) (k a b : ℕ) → ((q : ℕ) → q ≤ k → IsOpen xs q a → IsOpen xs q b) → IsLevel xs k a → IsLevel xs k b
-level-moves xs k a b f (of_opening o nt) = let n = f k (omega arith) o in of_opening n (ap is_level (same-opening xs k n.opened o.opened n.at o.at) ∙ nt)
+level-moves xs k a b f (of_opening o nt) = let n = f k (omega arith) o in of_opening n (λ e. nt (sym (same-opening xs k n.opened o.opened n.at o.at) ∙ e))
 level-moves xs k a b f (of_else_branch {j = j} t o nt) =
-    let lt = t.belongs.is_open.before in let n = f j (omega arith) o in of_else_branch t n (ap is_level (same-opening xs j n.opened o.opened n.at o.at) ∙ nt)
+    let lt = t.belongs.is_open.before in let n = f j (omega arith) o in of_else_branch t n (λ e. nt (sym (same-opening xs j n.opened o.opened n.at o.at) ∙ e))
 
 pub levels-unique : {xs : List Role} {i m n p : ℕ} → Levels xs i m n → Levels xs i m p → n ≡ p
 levels-unique none none = refl
@@ -281,7 +281,7 @@ pub no-else : (xs : List Role) (x : Role) (i : ℕ) → slice_get xs i ≡ Some 
 no-else xs x i at ne b j e = ne b (same-piece xs i x (else_part b) at e.at)
 
 pub levels-else : (xs : List Role) (i j n : ℕ) (b : Option (Branch × Names)) → Even xs i (i + 1) → (t : IsElseOf xs b j i)
-    → is_level t.belongs.is_open.opened ≡ true → Levels xs i i n → Levels xs (i + 1) (i + 1) (else_levels (is_some b) n)
+    → (t.belongs.is_open.opened ≢ opened.define) → Levels xs i i n → Levels xs (i + 1) (i + 1) (else_levels (is_some b) n)
 levels-else xs i j n None e t nt r = levels-no xs (i + 1) i n (levels-even xs i n e r) fresh
   where
     fresh : IsLevel xs i (i + 1) → ⊥
@@ -289,8 +289,8 @@ levels-else xs i j n None e t nt r = levels-no xs (i + 1) i n (levels-even xs i 
     fresh (of_else_branch {b = d} u o is) = cc
 levels-else xs i j n (Some b) e t nt r =
     let o = e.keeps j t.belongs.is_open in
-    levels-yes xs (i + 1) i n (levels-even xs i n e r) (of_else_branch t o (ap is_level
-    (same-opening xs j o.opened t.belongs.is_open.opened o.at t.belongs.is_open.at) ∙ nt))
+    levels-yes xs (i + 1) i n (levels-even xs i n e r) (of_else_branch t o
+    (λ e. nt (sym (same-opening xs j o.opened t.belongs.is_open.opened o.at t.belongs.is_open.at) ∙ e)))
 
 pub levels-opened : (xs : List Role) (i n : ℕ) (c : Opening) (p : Names) → slice_get xs i ≡ Some (opener c p)
     → Levels xs i i n → Levels xs (i + 1) (i + 1) (n + level_of c)
@@ -302,12 +302,12 @@ levels-opened xs i n c p at r = go c at
         (λ k lt. level-moves xs k (i + 1) i (λ q le. cut xs q i (i + 1) (omega arith) (omega arith))) r
 
     none : slice_get xs i ≡ Some (opener opened.define p) → IsLevel xs i (i + 1) → ⊥
-    none od (of_opening h is) = let t : true ≡ false = sym is ∙ ap is_level (same-opening xs i h.opened opened.define h.at od) in cc
+    none od (of_opening h is) = is (same-opening xs i h.opened opened.define h.at od)
     none od (of_else_branch {b = b} {j = q} t h is) = no-else xs (opener c p) i at (λ d g. cc) (Some b) q t
 
     go : (d : Opening) → slice_get xs i ≡ Some (opener d p) → Levels xs (i + 1) (i + 1) (n + level_of d)
     go opened.define od = rw add-zero (levels-no xs (i + 1) i n below (none od))
-    go d od = levels-yes xs (i + 1) i n below (of_opening (opened_new xs i d p od) refl)
+    go d od = levels-yes xs (i + 1) i n below (of_opening (opened_new xs i d p od) (λ e. cc))
 
 -- loops
 

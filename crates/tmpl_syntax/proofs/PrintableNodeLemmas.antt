@@ -1,5 +1,5 @@
 -- For `printable`: what a file spells can be printed, its definitions and the nodes of its own template.
-use Rattle.std.proofs.Common.{arith, ℕ, List, [], ◌∷◌, ◌++◌, map}
+use Rattle.std.proofs.Common.{arith, ◌≡◌, refl, ℕ, List, [], ◌∷◌, ◌++◌, map}
 use Rattle.tmpl_lex.specs.Piece.{Piece}
 use Rattle.tmpl_grammar.specs.Tree.{Header}
 use Rattle.tmpl_grammar.specs.Action.{opening, else_branch, end_action, control_in}
@@ -12,7 +12,8 @@ use Rattle.tmpl_syntax.specs.Spelling.{a_text, Leads, nothing, a_node, a_control
 use Rattle.tmpl_grammar.specs.declared.action.Branch.{Branch}
 use Rattle.tmpl_grammar.specs.declared.action.Branch.TheVariants as branch
 use Rattle.tmpl_syntax.specs.Print.Join.{IsText}
-use Rattle.tmpl_syntax.specs.Print.Printed.{Said, said_text, said, else_said, node_said, nodes_said}
+use Rattle.tmpl_syntax.specs.Print.Printed.{Said, said_text, said, node_said, nodes_said}
+use Rattle.tmpl_syntax.specs.computed.Print.{else_said}
 use Rattle.tmpl_grammar.specs.Printable.{OfAction}
 use Rattle.tmpl_syntax.specs.Print.Printable.{AreSaid, ArePrintable}
 use Rattle.tmpl_syntax.specs.Parse.{template_in}
@@ -58,6 +59,12 @@ else-of : (other : Nodes) → AreSaid (nodes_said other) → AreSaid (else_said 
 else-of none h = tt
 else-of (then line n ns) h = (tt, h)
 
+-- what a control says, with its else part or without one
+pub control-said : (c : Control) (h : Header) (body other : Nodes) → node_said (control_node c h body other)
+    ≡ said (opening c h) ∷ (nodes_said body ++ (else_said other (nodes_said other) ++ said end_action ∷ []))
+control-said c h body none = refl
+control-said c h body (then line n ns) = refl
+
 -- this can be printed, and the items behind it are as good; the definitions can if those behind them can
 abbrev Kept : List Said → List Item → List Definition → List Definition → Type 0
 Kept ss ys ds es = AreSaid ss × OfItems ys × ((path : List ℕ) → ArePrintable (map (template_in path) es) → ArePrintable (map (template_in path) ds))
@@ -72,7 +79,7 @@ mutual
       let e = closes-of o i.1 in
       let m = leads-of l e.1 in (
         said-append (node_said (control_node c r body other)) (nodes_said ns)
-            (control-of c r (nodes_said body) (else_said other (nodes_said other)) h.0 i.0 e.0) m.0,
+            (rw (control-said c r body other) (control-of c r (nodes_said body) (else_said other (nodes_said other)) h.0 i.0 e.0)) m.0,
         m.1,
         λ path k. i.2 path (e.2 path (m.2 path k)),
       )
@@ -90,8 +97,9 @@ mutual
   closes-of (an_else_branch {branch = br} {h = r} {body = body} {other = other} l o) h =
       let i = leads-of l h.1 in
       let e = closes-of o i.1 in
-      let said = control-of (control_in br) r (nodes_said body) (else_said other (nodes_said other)) (branch-of br r h.0) i.0 e.0 in
-      ((tt, said-append (node_said (control_node (control_in br) r body other)) [] said tt), e.1, λ path k. i.2 path (e.2 path k))
+      let parts = control-of (control_in br) r (nodes_said body) (else_said other (nodes_said other)) (branch-of br r h.0) i.0 e.0 in
+      let can : AreSaid (node_said (control_node (control_in br) r body other)) = rw (control-said (control_in br) r body other) parts in
+      ((tt, said-append (node_said (control_node (control_in br) r body other)) [] can tt), e.1, λ path k. i.2 path (e.2 path k))
 
 pub keeps-printable : KeepsPrintable
 keeps-printable language bytes items ds own h has spells =

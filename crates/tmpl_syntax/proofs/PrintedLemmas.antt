@@ -8,7 +8,8 @@ use Rattle.tmpl_syntax.specs.Item.{Item, item, action_item, text_item, a_text as
 use Rattle.tmpl_syntax.specs.Set.{Template}
 use Rattle.tmpl_syntax.specs.Spelling.{definition, a_text, an_action, a_break, a_continue, a_template, Leads, nothing, a_node, a_control, a_define, Closes}
 use Rattle.tmpl_syntax.specs.Spelling.{an_end, an_else, Spells}
-use Rattle.tmpl_syntax.specs.Print.Printed.{Said, said_text, said, else_said, node_said, nodes_said, template_said, unlined_node, unlined}
+use Rattle.tmpl_syntax.specs.Print.Printed.{Said, said_text, said, node_said, nodes_said, template_said, unlined_node, unlined}
+use Rattle.tmpl_syntax.specs.computed.Print.{else_said}
 use Rattle.tmpl_syntax.specs.Print.Printed.{opening_behind, parting, file_of}
 use Rattle.tmpl_syntax.specs.computed.Print.{part_of}
 use Rattle.std.specs.List.{flat_map, AllZip}
@@ -26,7 +27,7 @@ use Rattle.tmpl_lex.proofs.PartLemmas.{absent-nil, absent-cons}
 use Rattle.tmpl_syntax.proofs.JoinLemmas.{cut-back}
 use Rattle.tmpl_grammar.proofs.PrintedTokenLemmas.{action-inside}
 use Rattle.tmpl_grammar.proofs.PrintedSpellingLemmas.{spells-tokens}
-use Rattle.tmpl_syntax.proofs.PrintableNodeLemmas.{said-append}
+use Rattle.tmpl_syntax.proofs.PrintableNodeLemmas.{said-append, control-said}
 
 -- ---- nodes
 
@@ -54,12 +55,13 @@ else-leads : (other : Nodes) → ((ss : List Said) (xs : List Item) → Says (no
 else-leads none ih ss _ (says s) = (none, refl, _, λ ds. an_end, s)
 else-leads (then line n ns) ih ss _ (says s) = ended (then line n ns) ss _ _ (ih (said end_action ∷ ss) _ s)
 
-control-leads : (c : Control) (h : Header) (body other : Nodes)
+control-parts : (c : Control) (h : Header) (body other : Nodes)
     → ((ss : List Said) (xs : List Item) → Says (nodes_said body ++ ss) xs → LeadsNodes body ss xs)
     → ((ss : List Said) (xs : List Item) → Says (nodes_said other ++ ss) xs → LeadsNodes other ss xs)
-    → (ss : List Said) (xs : List Item) → Says (node_said (control_node c h body other) ++ ss) xs
+    → (ss : List Said) (xs : List Item)
+    → Says ((said (opening c h) ∷ (nodes_said body ++ (else_said other (nodes_said other) ++ said end_action ∷ []))) ++ ss) xs
     → LeadsNode (control_node c h body other) ss xs
-control-leads c h body other in_body in_other ss _ (says {line = line} s) =
+control-parts c h body other in_body in_other ss _ (says {line = line} s) =
     let (bs, e, ys, b, t) = in_body _ _ (simp append_assoc at s) in
     let (os, f, zs, o, u) = else-leads other in_other ss ys t in
     (line, control_node c h bs os, cc, zs, λ ms ws ds es l. a_control {zs = zs} {other = os} (b ds) (o ds) l, u)
@@ -68,7 +70,8 @@ mutual
   node-leads : (n : NodeKind) (ss : List Said) (xs : List Item) → Says (node_said n ++ ss) xs → LeadsNode n ss xs
   node-leads (text bytes) ss _ (says_text s) = (_, text bytes, refl, _, λ ms zs ds es. a_node a_text, s)
   node-leads (action h) ss _ (says s) = (_, action h, refl, _, λ ms zs ds es. a_node an_action, s)
-  node-leads (control_node c h body other) ss xs s = control-leads c h body other (nodes-leads body) (nodes-leads other) ss xs s
+  node-leads (control_node c h body other) ss xs s =
+      control-parts c h body other (nodes-leads body) (nodes-leads other) ss xs (rw (control-said c h body other) at s)
   node-leads break_node ss _ (says s) = (_, break_node, refl, _, λ ms zs ds es. a_node a_break, s)
   node-leads continue_node ss _ (says s) = (_, continue_node, refl, _, λ ms zs ds es. a_node a_continue, s)
   node-leads (template_node name given) ss _ (says s) = (_, template_node name given, refl, _, λ ms zs ds es. a_node a_template, s)

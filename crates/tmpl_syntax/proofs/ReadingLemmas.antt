@@ -1,7 +1,8 @@
 -- For `one_outcome`: a file is accepted or refused just as the function says.
 use Rattle.std.proofs.Common.{arith, ◌≡◌, ◌⊎◌, inl, inr, ◌<◌, ◌≤◌, ℕ, zero, suc, List, [], ◌∷◌, Option, Some, None, Result, Ok, Err, refl, sym, ap, subst, ◌∙◌}
 use Rattle.std.proofs.Common.{length, ⊎_elim}
-use Rattle.std.specs.Prelude.{slice_get}
+use Rattle.std.specs.Prelude.{slice_get, map}
+use Rattle.std.specs.List.{fold}
 use Rattle.std.proofs.lemmas.Bool.{cases_lt}
 use Rattle.std.proofs.lemmas.List.{length-map}
 use Rattle.tmpl_lex.specs.Piece as piece
@@ -19,11 +20,11 @@ use Rattle.tmpl_syntax.specs.computed.Frames.{verdict_of}
 use Rattle.tmpl_syntax.specs.Tree.{Nodes, Definition}
 use Rattle.tmpl_syntax.specs.Spelling.{Spells}
 use Rattle.tmpl_syntax.specs.computed.Build.{nodes_from, definitions_from}
-use Rattle.tmpl_syntax.specs.Set.{Template}
+use Rattle.tmpl_syntax.specs.Set.{Template, defined, defined_each}
 use Rattle.tmpl_syntax.specs.Laws.{HasOutcome, HasOneOutcome, AcceptsAsParsed, RefusesAsParsed}
 use Rattle.tmpl_syntax.specs.computed.Parse.{Refusal, IsRefusal, line_in, line_at, by_verdict, checked, second_in, unless_second, definitions_or}
 use Rattle.tmpl_syntax.specs.computed.Parse.{all_from, items_of, placed, parsed}
-use Rattle.tmpl_syntax.specs.Parse.{base_name, most_bytes, all_defined, IsAccepted, IsRefusedBy, Parses, ParsesUnless}
+use Rattle.tmpl_syntax.specs.Parse.{base_name, most_bytes, all_defined, template_in, IsAccepted, IsRefusedBy, Parses, ParsesUnless}
 use Rattle.tmpl_syntax.specs.computed.Parse.{last_line}
 use Rattle.tmpl_syntax.proofs.ItemLemmas.{has-items, no-others}
 use Rattle.tmpl_syntax.proofs.VerdictLemmas.{within, one-verdict, judged-all}
@@ -41,6 +42,12 @@ item-there (x ∷ xs) (suc i) h = item-there xs i (omega arith)
 abbrev IsRefusedAt : List Item → ℕ → Reason → Type 0
 IsRefusedAt items line why =
     (i : ℕ) × (what : ItemKind) × Judged (roles_of items) (refused i why) × (slice_get items i ≡ Some (item line what))
+
+-- a file's templates are added one by one
+fold-defined : (file : List ℕ) (ds : List Definition) (set : List Template) → defined_each set (map (template_in file) ds)
+    ≡ fold (λ (ts : List Template) (d : Definition). defined ts d.name (record { file = file; nodes = d.nodes })) set ds
+fold-defined file [] set = refl
+fold-defined file (d ∷ ds) set = fold-defined file ds (defined set d.name (record { file = file; nodes = d.nodes }))
 
 module _ (set : List Template) (file bytes : List ℕ) where
   short-by : (v : Verdict) → length bytes ≤ most_bytes → verdict_of (roles_of (items_of bytes)) ≡ v
@@ -100,7 +107,7 @@ module _ (set : List Template) (file bytes : List ℕ) where
         own = nodes_from (items_of bytes);
         spells = spells-fine (items_of bytes) v;
         once = none-second ds o;
-        set = refl;
+        set = fold-defined file ds set;
       }
       once short v (Some line) o = (
         short,
@@ -149,7 +156,7 @@ module _ (set : List Template) (file bytes : List ℕ) where
   pub parsed-accepted : (new : List Template) → IsAccepted every_action set file bytes new → parsed set file bytes ≡ Ok new
   parsed-accepted new h =
       fine-as h.items h.has h.definitions h.own h.judged h.spells h.short None (second-none (all_defined file h.definitions h.own) h.once)
-      ∙ ap (λ ts. Ok ts) (sym h.set)
+      ∙ ap (λ ts. Ok ts) (fold-defined file (all_defined file h.definitions h.own) set ∙ sym h.set)
 
   refused-there-as : (line : ℕ) (why : Reason) → length bytes ≤ most_bytes → (items : List Item) → HasItems every_action bytes items
       → IsRefusedAt items line why → parsed set file bytes ≡ Err (line, why)

@@ -5,7 +5,7 @@ use Rattle.std.specs.Prelude.{slice_get, Contains}
 use Rattle.std.specs.Bool.{Decides}
 use Rattle.std.proofs.lemmas.Bool.{cases_lt}
 use Rattle.std.proofs.lemmas.Bool.Decides.{Decides-like, Decides-not, Decides-or}
-use Rattle.tmpl_syntax.specs.Place.Open.{IsOpen, NothingOpen, IsLast, HasElse, is_template, IsBody}
+use Rattle.tmpl_syntax.specs.Place.Open.{IsOpen, IsLast, HasElse, is_template, IsBody}
 use Rattle.tmpl_syntax.specs.Place.Body.{IsLoop, Levels}
 use Rattle.tmpl_syntax.specs.computed.Frames.{Frame, top, loops, in_loop, levels, is_known, entered, Known, with_inner, closed_if, closed_names, with_names}
 use Rattle.tmpl_syntax.proofs.NameLemmas.{IsWithin, with-longer, take-with, with-Decides}
@@ -40,7 +40,7 @@ closed_at f known = closed_names (Some f) (with_inner known (take f.start known.
 
 -- .. and the frames below it stand as they stood at j
 abbrev pub Stands : List Role → ℕ → Known → List Frame → Type 0
-Stands xs i known [] = NothingOpen xs i × Here xs i None known.inner
+Stands xs i known [] = ((j : ℕ) → IsOpen xs j i → ⊥) × Here xs i None known.inner
 Stands xs i known (f ∷ fs) = Here xs i (Some f) known.inner × (j : ℕ) × Stood xs i known.inner f j × Stands xs j (closed_at f known) fs
 
 pub here-of : (xs : List Role) (i : ℕ) (known : Known) (fs : List Frame) → Stands xs i known fs → Here xs i (top fs) known.inner

@@ -24,7 +24,7 @@ use Rattle.std.specs.Bool.{Decides}
 use Rattle.std.proofs.lemmas.Bool.Decides.{Decides-like}
 use Rattle.std.proofs.lemmas.List.{length-take-le, take-take}
 use Rattle.tmpl_grammar.specs.declared.action.Branch.TheVariants.{If as if_branch, With as with_branch}
-use Rattle.tmpl_syntax.specs.Place.Body.{joins, is_level, names_in}
+use Rattle.tmpl_syntax.specs.Place.Body.{joins, names_in}
 
 -- after an opening
 module _ (xs : List Role) (i : ℕ) (known : Known) (p : Names) (fs : List Frame) (s : Stands xs i known fs) where
@@ -123,9 +123,8 @@ joins-no-range if_branch c j e = let is = joins-control if_branch c j in cc
 joins-no-range with_branch c j e = let is = joins-control with_branch c j in cc
 
 -- a control is a level
-level-there : (c : Opening) → is_template c ≡ false → is_level c ≡ true
-level-there opened.define e = cc
-level-there _ e = refl
+level-there : (c : Opening) → is_template c ≡ false → c ≢ opened.define
+level-there c e is = let t : false ≡ true = sym e ∙ ap is_template is in cc
 
 -- what may take an else is a control
 else-own : (b : Option (Branch × Names)) (f : Frame) → is_placed (else_part b) (Some f) ≡ true → is_template f.opening ≡ false
@@ -195,7 +194,7 @@ module _ (xs : List Role) (i : ℕ) (known : Known) (f : Frame) (fs : List Frame
   here-parted : Here xs (i + 1) (Some (parted (is_some b) (length seen) f)) seen
   here-parted = record {
     levels_are = levels-else xs i s.1 f.levels b even part
-        (ap is_level (same-opening xs s.1 s.2.last.is_open.opened f.opening s.2.last.is_open.at s.2.opened) ∙ level-there f.opening own) s.0.levels_are;
+        (λ e. level-there f.opening own (sym (same-opening xs s.1 s.2.last.is_open.opened f.opening s.2.last.is_open.at s.2.opened) ∙ e)) s.0.levels_are;
     sees = sees-parted None (λ q e. cc);
   }
 

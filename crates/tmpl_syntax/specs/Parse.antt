@@ -3,17 +3,17 @@
 -- own rules.
 use Rattle.std.specs.Prelude.{◌≡◌, ◌==◌, ◌||◌, ◌+◌, ◌≤◌, ◌<◌, ℕ, true, List, [], ◌∷◌, ◌++◌, Option, Some, None}
 use Rattle.std.specs.Prelude.{Result, Ok, Err, length, map, slice_get, AllPairs}
-use Rattle.std.specs.List.{after_last}
+use Rattle.std.specs.List.{after_last, fold}
 use Rattle.std.specs.Borrow.{Bor}
 use Rattle.tmpl_lex.specs.Text.{newlines}
 use Rattle.tmpl_syntax.specs.Tree.{Nodes, Definition}
 use Rattle.tmpl_syntax.specs.Language.{Language, every_action, go_1_22}
 use Rattle.tmpl_syntax.specs.Item.{ItemKind, Item, item, HasItems}
-use Rattle.tmpl_syntax.specs.Place.Role.{roles_of}
+use Rattle.tmpl_syntax.specs.Place.Role.{role_of}
 use Rattle.tmpl_syntax.specs.Place.Body.{IsFine, IsFirstRefused, IsLeftOpen}
 use Rattle.tmpl_syntax.specs.Spelling.{definition, Spells}
 use Rattle.tmpl_syntax.specs.Fault.{Reason, open_at_end, too_long, second_definition, reason_of}
-use Rattle.tmpl_syntax.specs.Set.{Template, is_blank, defined_each}
+use Rattle.tmpl_syntax.specs.Set.{Template, is_blank, defined}
 use Rattle.tmpl_syntax.specs.declared.fault.ParseFault.{ParseFault}
 
 -- the part of a path after its last `/`
@@ -50,23 +50,24 @@ pub record IsAccepted (language : Language) (old : List Template) (file bytes : 
   pub short : length bytes ≤ most_bytes
   pub items : List Item
   pub has : HasItems language bytes items
-  pub judged : IsFine (roles_of items)
+  pub judged : IsFine (map role_of items)
   pub definitions : List Definition
   pub own : Nodes
   pub spells : Spells items definitions own
   pub once : NoneSecond (all_defined file definitions own)
-  pub set : new ≡ defined_each old (map (template_in file) (all_defined file definitions own))
+  pub set : new ≡ fold (λ ts (d : Definition). defined ts d.name (record { file = file; nodes = d.nodes }))
+      old (all_defined file definitions own)
 
 -- these items of a file are refused at this line, for this reason: something is open at their end, on the last line;
 -- they spell a second definition; or the item at a place is the first that is refused, for this reason, and this is its
 -- line
 abbrev pub AreRefused : List ℕ → List ℕ → List Item → ℕ → Reason → Type 0
-AreRefused file bytes items line open_at_end = IsLeftOpen (roles_of items) × (line ≡ newlines bytes + 1)
+AreRefused file bytes items line open_at_end = IsLeftOpen (map role_of items) × (line ≡ newlines bytes + 1)
 AreRefused file bytes items line second_definition =
-    IsFine (roles_of items) × (ds : List Definition) × (own : Nodes) × Spells items ds own
+    IsFine (map role_of items) × (ds : List Definition) × (own : Nodes) × Spells items ds own
     × HasSecond (all_defined file ds own) line
 AreRefused file bytes items line why =
-    (i : ℕ) × (what : ItemKind) × IsFirstRefused (roles_of items) i why × (slice_get items i ≡ Some (item line what))
+    (i : ℕ) × (what : ItemKind) × IsFirstRefused (map role_of items) i why × (slice_get items i ≡ Some (item line what))
 
 -- a file of this path and these bytes is refused at this line, for this reason
 abbrev pub IsRefusedBy : Language → List ℕ → List ℕ → ℕ → Reason → Type 0

@@ -3,12 +3,12 @@ ghost use Rattle.std.specs.Prelude.{◌≡◌, ◌∷◌, [], IfOk, OnOk, None, 
 ghost use Rattle.std.specs.List.{ends_with};
 ghost use Rattle.tmpl_grammar.specs.View.{printed_of};
 ghost use Rattle.tmpl_syntax.specs.Print.Laws.{SetBack};
-ghost use Rattle.tmpl_syntax.specs.Print.Printed.{else_said, node_said, nodes_said, printed, printed_set};
+ghost use Rattle.tmpl_syntax.specs.Print.Printed.{node_said, nodes_said, printed, printed_set};
 ghost use Rattle.tmpl_syntax.specs.Print.Printed.{opening_behind, parting, template_said};
 ghost use Rattle.tmpl_syntax.specs.Print.Printed.{said, said_text};
 ghost use Rattle.tmpl_syntax.specs.View.{control_of, node_of, nodes_in, set_view, tree_of};
 ghost use Rattle.tmpl_syntax.specs.computed.View.{page_of, text_of};
-ghost use Rattle.tmpl_syntax.specs.computed.Print.{page_with};
+ghost use Rattle.tmpl_syntax.specs.computed.Print.{else_said, page_with};
 
 use crate::set::Set;
 use crate::tree::{ControlNode, Node, NodeKind, Tree};

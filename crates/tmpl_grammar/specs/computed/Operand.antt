@@ -51,3 +51,11 @@ operand_by k t = None
 -- the operand of a token, if it is one
 unfoldable pub operand_at : Token → Option Operand
 operand_at t = operand_by t.kind t
+
+-- a constant, `nil` and dot begin no later command of a pipeline
+abbrev pub begins_later : Operand → Bool
+begins_later (tree.fields names) = true
+begins_later (tree.variable name names) = true
+begins_later (tree.function f) = true
+begins_later (tree.group commands names) = true
+begins_later o = false

@@ -7,7 +7,7 @@ use Rattle.tmpl_lex.specs.Piece.{Token}
 use Rattle.tmpl_grammar.specs.Token.{begins_name, name_in}
 use Rattle.tmpl_grammar.specs.Tree as tree
 use Rattle.tmpl_grammar.specs.Tree.{Operand, Operands, operands_from, commands_from}
-use Rattle.tmpl_grammar.specs.Operand.{begins_later}
+use Rattle.tmpl_grammar.specs.computed.Operand.{begins_later}
 use Rattle.tmpl_grammar.specs.computed.Operand.{operand_at}
 
 -- a pipeline as far as it is read: its whole commands, and the operands of the next one with white space behind them

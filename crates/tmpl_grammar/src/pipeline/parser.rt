@@ -6,7 +6,7 @@ ghost use Rattle.tmpl_grammar.specs.computed.Parser as spec;
 ghost use Rattle.tmpl_grammar.specs.computed.View.{parser_of, partial_of};
 ghost use Rattle.tmpl_grammar.specs.View.{command_of, operand_of};
 ghost use Rattle.tmpl_grammar.specs.Token as token;
-ghost use Rattle.tmpl_grammar.specs.Operand as word;
+ghost use Rattle.tmpl_grammar.specs.computed.Operand as word;
 
 use crate::operand::{begins_name, name_in, operand_at};
 use crate::tree::{Command, Operand};

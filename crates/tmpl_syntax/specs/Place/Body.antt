@@ -10,7 +10,7 @@ use Rattle.tmpl_syntax.specs.Fault as reason
 use Rattle.tmpl_syntax.specs.Fault.{Reason, rank}
 use Rattle.tmpl_syntax.specs.Place.Role as role
 use Rattle.tmpl_syntax.specs.Place.Role.{Name, Names, names_given, Role, plain, opener, else_part, closer, jump, nested}
-use Rattle.tmpl_syntax.specs.Place.Open.{IsOpen, NothingOpen, IsLast, IsElseOf, HasElse, OfOneTemplate}
+use Rattle.tmpl_syntax.specs.Place.Open.{IsOpen, IsLast, IsElseOf, HasElse, OfOneTemplate}
 use Rattle.tmpl_syntax.specs.Place.Scope.{IsInScope}
 
 -- an else stands in a control, an `else if` in an `if` alone, and an `else with` in a `with`
@@ -36,20 +36,15 @@ IsMisplaced xs i (opener opened.define p) = (j : ℕ) × IsOpen xs j i
 IsMisplaced xs i (else_part None) = TakesElse xs None i → ⊥
 IsMisplaced xs i (else_part (Some (b, p))) = TakesElse xs (Some b) i → ⊥
 IsMisplaced xs i (nested (Some b)) = TakesElse xs (Some b) i → ⊥
-IsMisplaced xs i closer = NothingOpen xs i
+IsMisplaced xs i closer = (j : ℕ) → IsOpen xs j i → ⊥
 IsMisplaced xs i jump = (j : ℕ) → IsLoop xs j i → ⊥
 IsMisplaced xs i x = ⊥
 
--- the openings that are a level while they are open
-abbrev pub is_level : Opening → Bool
-is_level opened.define = false
-is_level c = true
-
 -- a level is an open if, with, range or block, or an else branch that belongs to an open one
 pub data IsLevel (xs : List Role) (k i : ℕ) : Type 0 where
-  of_opening : (o : IsOpen xs k i) → is_level o.opened ≡ true → IsLevel xs k i
+  of_opening : (o : IsOpen xs k i) → (o.opened ≡ opened.define → ⊥) → IsLevel xs k i
   of_else_branch : {b : Branch × Names} {j : ℕ} → IsElseOf xs (Some b) j k → (o : IsOpen xs j i)
-      → is_level o.opened ≡ true → IsLevel xs k i
+      → (o.opened ≡ opened.define → ⊥) → IsLevel xs k i
 
 -- of the places before m, n are levels at i
 pub data Levels (xs : List Role) (i : ℕ) : ℕ → ℕ → Type 0 where
@@ -64,9 +59,10 @@ names_in (opener c p) = p
 names_in (else_part (Some (b, p))) = p
 names_in x = names_given None
 
--- an opening that is a level, or an else branch
+-- what is a level while it is open
 abbrev pub opens_level : Role → Bool
-opens_level (opener c p) = is_level c
+opens_level (opener opened.define p) = false
+opens_level (opener c p) = true
 opens_level (else_part (Some b)) = true
 opens_level x = false
 
@@ -90,7 +86,7 @@ NoneRefused xs i = (k : ℕ) (r : Reason) → k < i → Applies xs k r → ⊥
 
 -- no item is refused and nothing is open at the end
 abbrev pub IsFine : List Role → Type 0
-IsFine xs = NoneRefused xs (length xs) × NothingOpen xs (length xs)
+IsFine xs = NoneRefused xs (length xs) × ((j : ℕ) → IsOpen xs j (length xs) → ⊥)
 
 -- the item at i is the first to which a reason applies, and this is the first reason that does
 abbrev pub IsFirstRefused : List Role → ℕ → Reason → Type 0

@@ -24,9 +24,6 @@ pub record IsOpen (xs : List Role) (j i : ℕ) : Type 0 where
   pub fronts : (n : ℕ) → j < n → n ≤ i
       → count_by ends (slice_range xs (j + 1) n) ≤ count_by opens (slice_range xs (j + 1) n)
 
-abbrev pub NothingOpen : List Role → ℕ → Type 0
-NothingOpen xs i = (j : ℕ) → IsOpen xs j i → ⊥
-
 -- the last opening open at i
 pub record IsLast (xs : List Role) (j i : ℕ) : Type 0 where
   pub is_open : IsOpen xs j i

@@ -17,17 +17,14 @@ pub data Said : Type 0 where
   said_text : List ℕ → Said
   said : Action → Said
 
--- an else part, where it has nodes
-abbrev pub else_said : Nodes → List Said → List Said
-else_said tree.none ss = []
-else_said (tree.then line n ns) ss = said plain_else ∷ ss
-
 abbrev mutual
   pub node_said : NodeKind → List Said
   node_said (text bytes) = said_text bytes ∷ []
   node_said (action h) = said (pipeline_action h) ∷ []
+  -- an else part is said where it has nodes
+  node_said (control_node c h body tree.none) = said (opening c h) ∷ (nodes_said body ++ said end_action ∷ [])
   node_said (control_node c h body other) =
-      said (opening c h) ∷ (nodes_said body ++ (else_said other (nodes_said other) ++ said end_action ∷ []))
+      said (opening c h) ∷ (nodes_said body ++ said plain_else ∷ (nodes_said other ++ said end_action ∷ []))
   node_said break_node = said break_action ∷ []
   node_said continue_node = said continue_action ∷ []
   node_said (template_node name given) = said (template_action name given) ∷ []

@@ -107,6 +107,11 @@ first_fault true false true = None
 abbrev pub fault_in : Role → Option Frame → List Name → Option Reason
 fault_in a t names = first_fault (is_placed a t) (is_too_deep a t) (knows names (names_in a).uses)
 
+-- the openings that are a level while they are open
+abbrev pub is_level : Opening → Bool
+is_level opened.define = false
+is_level c = true
+
 -- how many levels an opening adds
 abbrev pub level_of : Opening → ℕ
 level_of opened.define = 0

@@ -1,6 +1,9 @@
 -- A file as far as it is printed.
 use Rattle.std.specs.Prelude.{◌==◌, ℕ, Bool, false, List, [], ◌∷◌, ◌++◌, Option, Some, None}
 use Rattle.tmpl_grammar.specs.Print.{action_tokens}
+use Rattle.tmpl_grammar.specs.Action.{plain_else}
+use Rattle.tmpl_syntax.specs.Tree as tree
+use Rattle.tmpl_syntax.specs.Tree.{Nodes}
 use Rattle.tmpl_syntax.specs.Print.Join.{Part, a_text, an_action}
 use Rattle.tmpl_syntax.specs.Print.Printed.{Said, said_text, said, file_of}
 
@@ -13,6 +16,11 @@ ends_brace (b ∷ c ∷ bs) = ends_brace (c ∷ bs)
 abbrev pub part_of : Said → Part
 part_of (said_text bytes) = a_text bytes
 part_of (said a) = an_action (action_tokens a)
+
+-- an else part, where it has nodes
+abbrev pub else_said : Nodes → List Said → List Said
+else_said tree.none ss = []
+else_said (tree.then line n ns) ss = said plain_else ∷ ss
 
 -- its bytes, and the text with which it ends, if it ends with one
 abbrev pub Page : Type 0

@@ -6,11 +6,10 @@ ghost use Rattle.tmpl_syntax.specs.computed.View.{frame_of, frames_in, item_of, 
 ghost use Rattle.tmpl_syntax.specs.Place.Role as role;
 ghost use Rattle.tmpl_syntax.specs.Place.Role.{act_of, names_of, role_of};
 ghost use Rattle.tmpl_syntax.specs.Place.Body as body;
-ghost use Rattle.tmpl_syntax.specs.Place.Body.{is_level};
 ghost use Rattle.tmpl_syntax.specs.Place.Open.{is_template};
 ghost use Rattle.tmpl_syntax.specs.computed.Frames as spec;
 ghost use Rattle.tmpl_syntax.specs.computed.Frames.{closed_names, ended_all, fault_at, is_too_deep, known_after};
-ghost use Rattle.tmpl_syntax.specs.computed.Frames.{levels, names_at, opened_names};
+ghost use Rattle.tmpl_syntax.specs.computed.Frames.{is_level, levels, names_at, opened_names};
 ghost use Rattle.tmpl_syntax.specs.computed.Frames.{entered, frames_after, parted_all};
 ghost use Rattle.tmpl_syntax.specs.computed.Frames.{names_at, top, with_names};
 ghost use Rattle.tmpl_syntax.specs.Place.Opening as opening;
