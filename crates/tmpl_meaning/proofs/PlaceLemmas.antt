@@ -4,6 +4,8 @@ use Rattle.std.proofs.Common.{refl, sym, map, if◌then◌else◌}
 use Rattle.std.proofs.lemmas.Bool.{false≢true, and_parts}
 use Rattle.std.proofs.lemmas.List.Folds.{list_all-append}
 use Rattle.std.specs.Cmp.Lexicographic.{nat_list_eq_equiv}
+use Rattle.std.specs.Option.{option_map_or}
+use Rattle.std.specs.List.{find}
 use Rattle.std.specs.Str.{bytes_eq}
 use Rattle.tmpl_values.specs.Value.{Value, nothing}
 use Rattle.tmpl_funcs.specs.Func.{takes}
@@ -25,7 +27,8 @@ found-same name (v ∷ env) older e =
     go (bytes_eq v.0 name) (ap (λ b. b || is_among (names env) name) (nat_list_eq_equiv.symm v.0 name) ∙ e) (found-same name env older)
   where
     go : (b : Bool) → (b || is_among (names env) name) ≡ true → (is_among (names env) name ≡ true → lookup name (env ++ older) ≡ lookup name env)
-        → (if b then v.1 else lookup name (env ++ older)) ≡ (if b then v.1 else lookup name env)
+        → option_map_or (λ v. v.1) (if b then Some v else find (λ v. bytes_eq v.0 name) (env ++ older)) nothing
+        ≡ option_map_or (λ v. v.1) (if b then Some v else find (λ v. bytes_eq v.0 name) env) nothing
     go true h more = refl
     go false h more = more h
 

@@ -2,7 +2,9 @@
 -- text/template). What nothing, null and the modes for missing keys do is our own rule, also where Go differs.
 use Rattle.std.specs.Prelude.{ℕ, suc, ◌+◌, Bool, true, false, not, ◌||◌, List, [], ◌∷◌, ◌++◌, Option, Some}
 use Rattle.std.specs.Prelude.{None, Result, Ok, Err, length, option_to_list, unwrap_or, if◌then◌else◌}
+use Rattle.std.specs.Option.{option_map_or}
 use Rattle.std.specs.Result.{result_map_both}
+use Rattle.std.specs.List.{find}
 use Rattle.std.specs.Str.{bytes_eq}
 use Rattle.tmpl_values.specs.Value.{Value, nothing, null, boolean, number, string}
 use Rattle.tmpl_values.specs.Stage.{and_then}
@@ -28,8 +30,7 @@ Environment = List (List ℕ × Value)
 
 -- the value of the newest variable of a name; a template that is accepted names none that is not there
 abbrev pub lookup : List ℕ → Environment → Value
-lookup name [] = nothing
-lookup name (v ∷ env) = if bytes_eq v.0 name then v.1 else lookup name env
+lookup name env = option_map_or (λ v. v.1) (find (λ v. bytes_eq v.0 name) env) nothing
 
 -- ---- fields
 
