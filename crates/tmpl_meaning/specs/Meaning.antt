@@ -130,16 +130,16 @@ over s line b body other None r = (r, faulted_at s line not_a_range)
 over s line b body other (Some []) r = other r
 over s line b body other (Some (e ∷ es)) r = turns s line b body (e ∷ es) r
 
--- a control with the value of its pipeline, by its body with a dot and its other part: the body of an `if` or a `with`,
--- which has the value as its dot, where the value is not empty, else the other part
+-- a control with the value of its pipeline, by its body with a dot and its other part: an `if` or a `with` is the body
+-- where the value is not empty, which a `with` has as its dot, else the other part
 abbrev pub controlled : Setting → ℕ → Control → Binding → Value → (Value → Next) → Next → Value → Next
 controlled s line control.If b d body other v r = (if truth v then body d else other) (with_bound b (nothing, v) r)
 controlled s line control.With b d body other v r = (if truth v then body v else other) (with_bound b (nothing, v) r)
 controlled s line control.Range b d body other v r = over s line b body other (visited b v) r
 
 abbrev mutual
-  -- a node with this dot, once its step is taken; its variables last to the end of a control; a template that is
-  -- called is looked for before its pipeline is looked at, and is handed the value of that, or nothing
+  -- a node with this dot, once its step is taken; its variables last to the end of a control; a template that it calls
+  -- is looked for before its pipeline is looked at, and is handed the value of that, or nothing
   pub stepped : Setting → ℕ → NodeKind → Value → Next
   stepped s line (text bytes) d = λ r. (record r { text = r.text ++ bytes }, done)
   stepped s line (action h) d = with_pipeline s line h.pipeline d (shown h.binding)

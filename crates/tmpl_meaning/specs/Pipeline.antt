@@ -34,7 +34,7 @@ lookup name env = option_map_or (λ v. v.1) (find (λ v. bytes_eq v.0 name) env)
 
 -- ---- fields
 
--- a field, by what its value has under the name: of a map that has no entry of it, or of nothing, which has none
+-- a field, by what its value has under the name; absent is an entry that a map does not have, and any entry of nothing
 abbrev pub field_value : MissingKey → List ℕ → FieldValue → Result Value Cause
 field_value missing_key name (found v) = Ok v
 field_value missing_key name no_field = Err (lacks_field name)
