@@ -12,7 +12,7 @@ use Rattle.tmpl_syntax.specs.Tree.{Tree}
 use Rattle.tmpl_syntax.specs.Set.{Template}
 use Rattle.tmpl_meaning.specs.Fault.{Cause, call_failed, calls_too_deep, no_template, steps_spent}
 use Rattle.tmpl_meaning.specs.Pipeline.{Environment, Given, given}
-use Rattle.tmpl_meaning.specs.Meaning.{Calls, End, Next, Ran, Rules, Run, Setting, after, after_turn, apart, calls_within, controlled, done, fault_of}
+use Rattle.tmpl_meaning.specs.Meaning.{Calls, End, Next, Ran, Rules, Run, Setting, after, after_turn, calls_within, controlled, done, fault_of}
 use Rattle.tmpl_meaning.specs.Meaning.{faulted, faulted_at, meanings, scope, setting_of, spend, with_bound, with_pipeline, with_value}
 
 -- ---- pipelines
@@ -67,16 +67,20 @@ left_by end = option_map_or faulted (fault_of end) done
 
 -- ---- calls
 
+-- .. behind which the variables are these
+abbrev pub returned : Environment → Run × End → Run × End
+returned env part = (record part.0 { env = env }, left_by part.1)
+
+-- a run that sees no variable but `$`
+abbrev pub apart : Value → Next → Next
+apart v body r = returned r.env (body (record r { env = ([], v) ∷ [] }))
+
 abbrev pub run_called : Rules → Calls → List ℕ → Option Tree → Result (Value → Next) Cause
 run_called rules calls name found =
     option_map_or (λ t. Ok (λ v. apart v (meanings (setting_of rules calls name t) t.nodes v))) found (Err (no_template name))
 
 abbrev pub uncalled : Rules → List ℕ → Option Tree → Result (Value → Next) Cause
 uncalled rules name found = option_map_or (λ t. Err (calls_too_deep rules.depth_limit)) found (Err (no_template name))
-
--- .. behind which the variables are these
-abbrev pub returned : Environment → Run × End → Run × End
-returned env part = (record part.0 { env = env }, left_by part.1)
 
 abbrev pub calling : Setting → ℕ → List ℕ → Option Pipeline → Value → Next
 calling s line name given d = with_value s line (s.calls name) (handing s line given d)

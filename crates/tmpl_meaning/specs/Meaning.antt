@@ -166,22 +166,18 @@ abbrev pub fault_of : End → Option Fault
 fault_of (faulted f) = Some f
 fault_of end = None
 
--- a template sees no variable but `$`, which is the value that is handed to it; behind it the variables are those of
--- its caller, and it is done where it has no fault
-abbrev pub apart : Value → Next → Next
-apart v body r = let q = body (record r { env = ([], v) ∷ [] }) in
-    (record q.0 { env = r.env }, option_map_or faulted (fault_of q.1) done)
-
 abbrev pub setting_of : Rules → Calls → List ℕ → Tree → Setting
 setting_of rules calls name t = record { rules = rules; file = t.file; template = name; calls = calls }
 
--- what names call in this set, where so many calls may be made inside one another
+-- what names call in this set, where so many calls may be made inside one another: a template sees no variable but `$`,
+-- which is the value that is handed to it; behind it the variables are those of its caller, and it is done where it has
+-- no fault
 abbrev pub calls_within : Rules → List Template → ℕ → Calls
 calls_within rules set zero name =
     option_map_or (λ t. Err (calls_too_deep rules.depth_limit)) (tree_named name set) (Err (no_template name))
-calls_within rules set (suc n) name = option_map_or
-    (λ t. Ok (λ v. apart v (meanings (setting_of rules (calls_within rules set n) name t) t.nodes v)))
-    (tree_named name set) (Err (no_template name))
+calls_within rules set (suc n) name = option_map_or (λ t. Ok (λ v r.
+    let q = meanings (setting_of rules (calls_within rules set n) name t) t.nodes v (record r { env = ([], v) ∷ [] }) in
+    (record q.0 { env = r.env }, option_map_or faulted (fault_of q.1) done))) (tree_named name set) (Err (no_template name))
 
 -- ---- whole templates
 

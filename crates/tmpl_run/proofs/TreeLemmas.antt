@@ -14,8 +14,8 @@ use Rattle.tmpl_syntax.specs.Set.{Template, number_of}
 use Rattle.tmpl_syntax.proofs.NamedLemmas.{Named, numbered, unnumbered}
 use Rattle.tmpl_syntax.specs.Tree.{NodeKind, Nodes}
 use Rattle.tmpl_meaning.specs.Meaning as meaning
-use Rattle.tmpl_meaning.specs.Meaning.{Calls, End, Next, Ran, Run, Setting, apart, calls_within, meanings, setting_of, with_value, stepped}
-use Rattle.tmpl_meaning.proofs.PartLemmas.{calling, handing, left_by, ran_of, ran_with, returned, run_called, spend_if, started, uncalled}
+use Rattle.tmpl_meaning.specs.Meaning.{Calls, End, Next, Ran, Run, Setting, calls_within, meanings, setting_of, with_value, stepped}
+use Rattle.tmpl_meaning.proofs.PartLemmas.{apart, calling, handing, left_by, ran_of, ran_with, returned, run_called, spend_if, started, uncalled}
 use Rattle.tmpl_code.specs.Instruction as code
 use Rattle.tmpl_code.specs.Layout.{Layout, first_layout, declared_in, grown}
 use Rattle.tmpl_code.specs.Calls.{IsChain, NodesName, NodeNames}
