@@ -88,8 +88,7 @@ operand_count (operand o os) = suc (operand_count os)
 
 -- whether a value decides an `or`, as the first that is not empty, or an `and`, as the first that is
 abbrev pub decides : Bool → Value → Bool
-decides true v = truth v
-decides false v = not (truth v)
+decides is_or v = if is_or then truth v else not (truth v)
 
 -- ---- commands
 
