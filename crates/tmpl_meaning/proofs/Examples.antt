@@ -10,7 +10,7 @@ use Rattle.tmpl_grammar.specs.Tree.{no_operand, operand, no_command, command, Pi
 use Rattle.tmpl_grammar.specs.declared.tree.Control.TheVariants as control
 use Rattle.tmpl_syntax.specs.Tree.{NodeKind, Nodes, Tree, none, then, text, action, control_node, break_node, continue_node, template_node}
 use Rattle.tmpl_meaning.specs.Laws.{with_older, within}
-use Rattle.tmpl_meaning.specs.Meaning.{Ran, Cause, Rules, call_failed, lacks_field, meanings, ran_with, started}
+use Rattle.tmpl_meaning.specs.Meaning.{Ran, Run, Cause, Rules, call_failed, lacks_field, meanings, ran}
 use Rattle.tmpl_syntax.specs.Set.{Template}
 use Rattle.tmpl_meaning.specs.declared.missing_key.MissingKey.TheVariants.{Default}
 use Rattle.tmpl_meaning.specs.declared.missing_key.MissingKey.{MissingKey}
@@ -52,7 +52,7 @@ rules mode steps depth = record { missing_key = mode; step_limit = steps; depth_
 
 -- a run with so many steps over this dot
 abbrev run : ℕ → Nodes → Value → Ran
-run steps ns d = ran_with (rules Default steps 1000) [] (codes "t") (tree_of ns) d
+run steps ns d = ran (rules Default steps 1000) [] (codes "t") (tree_of ns) (Some d)
 
 abbrev puts : List ℕ → Ran
 puts bytes = record { text = bytes; fault = None; made_text = false }
@@ -134,7 +134,7 @@ abbrev beside : List ℕ → Nodes → Template
 beside name ns = (name, record { file = codes "g"; nodes = ns })
 
 abbrev run_with : ℕ → ℕ → List Template → Nodes → Value → Ran
-run_with steps depth set ns d = ran_with (rules Default steps depth) set (codes "t") (tree_of ns) d
+run_with steps depth set ns d = ran (rules Default steps depth) set (codes "t") (tree_of ns) (Some d)
 
 abbrev bare_call : List ℕ → Nodes → Nodes
 bare_call name ns = then 1 (template_node name None) ns
@@ -162,7 +162,8 @@ a-break-called = refl
 -- {{$x}}, and {{$x := .}}{{$x}}, with an older variable of that name: what is not formed is another run, what is formed the same
 abbrev with_one : Nodes → List ℕ
 with_one ns =
-    (meanings (within (rules Default 9 9) [] 9 (codes "t") (tree_of ns)) ns three (with_older ((x, one 1) ∷ []) (started 9 three))).0.text
+    let start : Run = record { env = ([], three) ∷ []; text = []; left = 9; made_text = false } in
+    (meanings (within (rules Default 9 9) [] 9 (codes "t") (tree_of ns)) ns three (with_older ((x, one 1) ∷ []) start)).0.text
 
 an-older-one : with_one (then 1 (put (variable x [])) none) ≡ text_of (one 1)
 an-older-one = refl

@@ -21,12 +21,14 @@ use Rattle.tmpl_syntax.specs.Place.Role.{Name, assigned_by, names_of, names_give
 use Rattle.tmpl_syntax.specs.Formed.{is_among, are_among, declared_to, else_scope, is_looped, scope_behind, is_formed, are_formed}
 use Rattle.tmpl_syntax.proofs.FormedLemmas.{control-formed, or-left, or-right}
 use Rattle.tmpl_meaning.specs.Fault.{Cause, Fault}
-use Rattle.tmpl_meaning.specs.Meaning.{Calls, End, Next, Rules, Run, Setting, after, without_key, assigned, bound, broke, continued, run_called, oldest}
-use Rattle.tmpl_meaning.specs.Meaning.{calls_within, choosing, controlled, done, faulted, handing, left_by, meanings, on_end}
-use Rattle.tmpl_meaning.specs.Meaning.{on_turn, after_turn, one_of, over, scope, scoped, setting_of, shown, spend, spend_if, stepped, turn, turns}
-use Rattle.tmpl_meaning.specs.Meaning.{uncalled, visited, with_bound, with_given, with_pipeline, with_value}
-use Rattle.tmpl_meaning.specs.Pipeline.{Environment, Given, pipeline_value}
+use Rattle.tmpl_meaning.specs.Meaning.{Calls, End, Next, Rules, Run, Setting, after, after_turn, assigned, bound, broke, continued, calls_within}
+use Rattle.tmpl_meaning.specs.Meaning.{done, faulted, meanings, over, scope, setting_of, shown, spend, stepped, turns, visited, with_bound}
+use Rattle.tmpl_meaning.specs.Meaning.{with_pipeline, with_value}
+use Rattle.tmpl_meaning.specs.Pipeline.{Environment, Given, commands_value}
 use Rattle.tmpl_meaning.specs.Laws.{FindsItsOwn, FindsNames, IsOver, EndsInRange, StaysInScope, scope_past, with_older}
+use Rattle.tmpl_meaning.proofs.PartLemmas.{choosing, controlling, handing, left_by, oldest, on_end, on_turn, one_of, run_called, scoped, spend_if, turn}
+use Rattle.tmpl_meaning.proofs.PartLemmas.{uncalled, with_given}
+use Rattle.tmpl_meaning.proofs.PartLemmas.{without_key}
 use Rattle.tmpl_meaning.proofs.PlaceLemmas.{names, pipeline-same}
 
 -- ---- lists of names
@@ -142,7 +144,7 @@ module _ (loop : Bool) (ns : List Name) (P : End → List Name → Type 0) (faul
   with_pipeline-leaves : (s : Setting) (line : ℕ) (p : Pipeline) (d : Value) (go : Value → Next) → is_among ns [] ≡ true → are_among ns (used_by p) ≡ true
       → ((v : Value) → Leaves loop ns P (go v)) → Leaves loop ns P (with_pipeline s line p d go)
   with_pipeline-leaves s line p d go start known h r is =
-      let g : Given Value = pipeline_value (record { missing_key = s.rules.missing_key; dot = d; env = r.env }) p in
+      let g : Given Value = commands_value (record { missing_key = s.rules.missing_key; dot = d; env = r.env }) p None in
       let k = with_value-leaves s line g.result go (every g.result h) (record r { made_text = r.made_text || g.made_text }) is in
       let own : FindsItsOwn (with_pipeline s line p d go) r =
       λ older.
@@ -283,7 +285,7 @@ module _ (s : Setting) (line : ℕ) (h : Header) (d : Value) (ns : List Name) (k
   over-leaves loop other p q (Some (e ∷ es)) = weaker loop false ns (These ns) Any _ (λ f. refl) (λ end left h. tt) (turns-leave p (e ∷ es))
 
   controlled-leaves : (c : Control) (loop : Bool) (other : Next) → ((v : Value) → Leaves (is_looped c loop) (declared_to h.binding ns) Any (body v))
-      → Leaves loop (else_scope c h.binding ns) Any other → Leaves loop ns Any (controlled s line c h d body other)
+      → Leaves loop (else_scope c h.binding ns) Any other → Leaves loop ns Any (controlling s line c h d body other)
   controlled-leaves control.If loop other p q = choosing-leaves s line h d loop ns (λ v. body d) other known (λ v. p d) q
   controlled-leaves control.With loop other p q = choosing-leaves s line h d loop ns body other known p q
   controlled-leaves control.Range loop other p q =
@@ -337,7 +339,7 @@ module _ (s : Setting) (calls : CallsEnd s.calls) where
         let in_body = declared_to h.binding ns in
         let in_other = else_scope c h.binding ns in
         weaker loop loop (full ns) (These (full ns)) (Done (full ns)) _ (λ f. f) (λ end left h f. h)
-        (scope-leaves loop (full ns) Any (controlled s line c h d (λ v. meanings s body v) (meanings s other d))
+        (scope-leaves loop (full ns) Any (controlling s line c h d (λ v. meanings s body v) (meanings s other d))
         (controlled-leaves s line h d (full ns) (known-in h ns parts.uses) (λ v. meanings s body v) c loop (meanings s other d)
         (λ v. rw (declared-full h.binding ns) (any (is_looped c loop) (full in_body) (Done (full (scope_past body in_body))) (meanings s body v)
         (nodes-leave body v in_body (is_looped c loop) (levels + 1) parts.in_body)))

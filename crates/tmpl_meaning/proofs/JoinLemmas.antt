@@ -1,16 +1,16 @@
 -- For the law `joins_by_table`: `and` and `or` over operands that all have values give what the table says.
-use Rattle.std.proofs.Common.{◌≡◌, ◌∙◌, Bool, true, false, not, List, [], ◌∷◌, length, Option, Some, None, Result, Ok, Err, refl, ap, sym, if◌then◌else◌}
+use Rattle.std.proofs.Common.{◌≡◌, ◌∙◌, ◌++◌, Bool, true, false, not, List, [], ◌∷◌, length, Option, Some, None, Result, Ok, Err, option_to_list, refl, ap, sym}
+use Rattle.std.proofs.Common.{if◌then◌else◌}
 use Rattle.std.specs.Bool.{beq}
 use Rattle.tmpl_values.specs.Value.{Value, nothing}
 use Rattle.tmpl_values.specs.Truth.{truth}
-use Rattle.tmpl_funcs.specs.Dispatch.{called}
 use Rattle.tmpl_funcs.specs.Junction.{deciding}
 use Rattle.tmpl_funcs.specs.Func.{takes}
 use Rattle.tmpl_grammar.specs.Tree.{Operands, no_operand, operand}
 use Rattle.tmpl_meaning.specs.Fault.{Cause}
 use Rattle.tmpl_meaning.specs.Laws.{JoinsByTable, joining}
-use Rattle.tmpl_meaning.specs.Pipeline.{Given, Place, decided, decides, given, given_then, go_on, junction, operand_value, operand_values}
-use Rattle.tmpl_meaning.specs.Pipeline.{or_call_failed, piped_after}
+use Rattle.tmpl_meaning.specs.Pipeline.{Given, Place, applied, decides, given, given_then, go_on, junction, operand_value, operand_values}
+use Rattle.tmpl_meaning.proofs.PartLemmas.{decided}
 
 -- of values the first that decides, else the last, or this one where there are none
 abbrev among : Bool → Value → List Value → Value
@@ -59,29 +59,25 @@ parted (Ok v) made rest vs h = go rest.result refl
 
 module _ (stop : Bool) (s : Place) (piped : Option Value) where
   joined : (os : Operands) (last : Value) (vs : List Value) → (operand_values s os).result ≡ Ok vs
-      → (junction stop s last os piped).result ≡ Ok (among stop last (piped_after vs piped))
+      → (junction stop s last os piped).result ≡ Ok (among stop last (vs ++ option_to_list piped))
   joined no_operand last vs h = let empty : vs ≡ [] = cc in none piped empty
     where
-      none : (p : Option Value) → vs ≡ [] → (junction stop s last no_operand p).result ≡ Ok (among stop last (piped_after vs p))
-      none None e = ap (λ ws. Ok (among stop last ws)) (sym e)
-      none (Some v) e = ap (λ ws. Ok (among stop last (piped_after ws (Some v)))) (sym e)
+      none : (p : Option Value) → vs ≡ [] → (junction stop s last no_operand p).result ≡ Ok (among stop last (vs ++ option_to_list p))
+      none None e = ap (λ ws. Ok (among stop last (ws ++ []))) (sym e)
+      none (Some v) e = ap (λ ws. Ok (among stop last (ws ++ v ∷ []))) (sym e)
   joined (operand o os) last vs h =
       let p = parted (operand_value s o).result (operand_value s o).made_text (operand_values s os) vs h in
       ap (λ r. (go_on r (operand_value s o).made_text (λ v. decided (decides stop v) v (junction stop s v os piped))).result) p.is
-      ∙ by_test stop p.first (piped_after p.others piped) (junction stop s p.first os piped) (joined os p.first p.others p.are)
-      ∙ ap (λ ws. Ok (among stop last ws)) (after p.others piped ∙ ap (λ ws. piped_after ws piped) (sym p.all))
-    where
-      after : (ws : List Value) (q : Option Value) {v : Value} → v ∷ piped_after ws q ≡ piped_after (v ∷ ws) q
-      after ws None = refl
-      after ws (Some x) = refl
+      ∙ by_test stop p.first (p.others ++ option_to_list piped) (junction stop s p.first os piped) (joined os p.first p.others p.are)
+      ∙ ap (λ ws. Ok (among stop last (ws ++ option_to_list piped))) (sym p.all)
 
 -- the table's answer for values of a number that the function takes
 table : (is_or : Bool) (vs : List Value) → takes (joining is_or) (length vs) ≡ true
-    → Ok (among is_or nothing vs) ≡ or_call_failed (joining is_or) (called (joining is_or) vs)
+    → Ok (among is_or nothing vs) ≡ (applied (joining is_or) vs).result
 table true [] h = cc
 table false [] h = cc
 table true (v ∷ vs) h = refl
 table false (v ∷ vs) h = refl
 
 pub joins : JoinsByTable
-joins is_or s os piped vs h takes = joined is_or s piped os nothing vs h ∙ table is_or (piped_after vs piped) takes
+joins is_or s os piped vs h takes = joined is_or s piped os nothing vs h ∙ table is_or (vs ++ option_to_list piped) takes

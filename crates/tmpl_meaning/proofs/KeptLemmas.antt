@@ -13,10 +13,10 @@ use Rattle.tmpl_syntax.specs.Tree as tree
 use Rattle.tmpl_syntax.specs.Tree.{NodeKind, Nodes, Tree, text, action, control_node, template_node}
 use Rattle.tmpl_syntax.specs.Set.{Template, tree_named}
 use Rattle.tmpl_meaning.specs.Fault.{Cause}
-use Rattle.tmpl_meaning.specs.Pipeline.{Environment, Place, pipeline_value}
-use Rattle.tmpl_meaning.specs.Meaning.{Calls, End, Next, Rules, Run, Setting, apart, broke, calls_within, choosing, controlled, done, faulted, handing}
-use Rattle.tmpl_meaning.specs.Meaning.{meanings, on_end, on_turn, one_of, over, run_called, setting_of, shown, spend, spend_if, stepped, turn, turns, uncalled}
-use Rattle.tmpl_meaning.specs.Meaning.{visited, with_bound, with_pipeline, with_value, without_key}
+use Rattle.tmpl_meaning.specs.Pipeline.{Environment, Place, commands_value}
+use Rattle.tmpl_meaning.specs.Meaning.{Calls, End, Next, Rules, Run, Setting, broke, calls_within, done, faulted, meanings, over, scope}
+use Rattle.tmpl_meaning.specs.Meaning.{setting_of, shown, spend, stepped, turns, visited, with_bound, with_pipeline, with_value}
+use Rattle.tmpl_meaning.proofs.PartLemmas.{apart, choosing, controlling, handing, on_end, on_turn, one_of, run_called, spend_if, turn, uncalled, without_key}
 
 -- each pipeline of a node, and of nodes, is such
 abbrev mutual
@@ -37,7 +37,7 @@ pub record Keeps (Then : Run → Run → Type 0) (Fine : Pipeline → Type 0) : 
   pub binds : (r : Run) (env : Environment) → Then r (record r { env = env })
   pub spends : (r : Run) (left : ℕ) → Then r (record r { left = left })
   pub puts : (r : Run) (bytes : List ℕ) → Then r (record r { text = r.text ++ bytes })
-  pub pipes : (p : Pipeline) (s : Place) → Fine p → (r : Run) → Then r (record r { made_text = r.made_text || (pipeline_value s p).made_text })
+  pub pipes : (p : Pipeline) (s : Place) → Fine p → (r : Run) → Then r (record r { made_text = r.made_text || (commands_value s p None).made_text })
 
 module _ {Then : Run → Run → Type 0} {Fine : Pipeline → Type 0} (k : Keeps Then Fine) where
   abbrev pub Kept : Next → Type 0
@@ -71,7 +71,7 @@ module _ {Then : Run → Run → Type 0} {Fine : Pipeline → Type 0} (k : Keeps
       → Kept (with_pipeline s line p d go)
   pipeline-kept s line p d go fine h r =
       let at : Place = record { missing_key = s.rules.missing_key; dot = d; env = r.env } in
-      let given = pipeline_value at p in
+      let given = commands_value at p None in
       k.on r (record r { made_text = r.made_text || given.made_text }) _ (k.pipes p at fine r) (value-kept s line given.result go (λ v is. h v) _)
 
   shown-kept : (b : Binding) (v : Value) → Kept (shown b v)
@@ -99,7 +99,8 @@ module _ {Then : Run → Run → Type 0} {Fine : Pipeline → Type 0} (k : Keeps
   turns-kept s line b body h (e ∷ es) r =
       let part = turn s line b body e r in
       turn-kept r part.1 part.0 (turns s line b body es)
-      (spend-kept s line _ (λ q. k.on q (body e.1 (with_bound b e q)).0 _ (bound-kept b e (body e.1) (h e.1) q) (k.binds _ _)) r)
+      (spend-kept s line (scope (λ q. body e.1 (with_bound b e q)))
+      (λ q. k.on q (body e.1 (with_bound b e q)).0 _ (bound-kept b e (body e.1) (h e.1) q) (k.binds _ _)) r)
       (turns-kept s line b body h es)
 
   over-kept : (s : Setting) (line : ℕ) (b : Binding) (body : Value → Next) (other : Next) (o : Option (List Element)) → ((v : Value) → Kept (body v))
@@ -109,7 +110,7 @@ module _ {Then : Run → Run → Type 0} {Fine : Pipeline → Type 0} (k : Keeps
   over-kept s line b body other (Some (e ∷ es)) h g r = turns-kept s line b body h (e ∷ es) r
 
   controlled-kept : (s : Setting) (line : ℕ) (c : Control) (h : Header) (d : Value) (body : Value → Next) (other : Next) → Fine h.pipeline
-      → ((v : Value) → Kept (body v)) → Kept other → Kept (controlled s line c h d body other)
+      → ((v : Value) → Kept (body v)) → Kept other → Kept (controlling s line c h d body other)
   controlled-kept s line control.If h d body other fine f g = choosing-kept s line h d (λ v. body d) other fine (λ v. f d) g
   controlled-kept s line control.With h d body other fine f g = choosing-kept s line h d body other fine f g
   controlled-kept s line control.Range h d body other fine f g =
@@ -139,7 +140,7 @@ module _ {Then : Run → Run → Type 0} {Fine : Pipeline → Type 0} (k : Keeps
       nodes-kept tree.none d fine r = k.same r
       nodes-kept (tree.then line n ns) d fine r =
           let part = spend s line (stepped s line n d) r in
-          end-kept r part.1 part.0 (meanings s ns d) (spend-kept s line _ (stepped-kept n line d fine.0) r) (nodes-kept ns d fine.1)
+          end-kept r part.1 part.0 (meanings s ns d) (spend-kept s line (stepped s line n d) (stepped-kept n line d fine.0) r) (nodes-kept ns d fine.1)
 
   -- ---- calls of a set
 

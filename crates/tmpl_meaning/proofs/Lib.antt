@@ -3,6 +3,7 @@ pub mod Examples
 pub mod FormedLemmas
 pub mod JoinLemmas
 pub mod KeptLemmas
+pub mod PartLemmas
 pub mod PlaceLemmas
 pub mod PutLemmas
 pub mod ToldLemmas

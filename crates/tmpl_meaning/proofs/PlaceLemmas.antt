@@ -1,19 +1,21 @@
 -- For the law `formed_runs`: a pipeline whose names are there gives the same with older variables behind these.
-use Rattle.std.proofs.Common.{◌≡◌, ◌∙◌, ◌++◌, ◌||◌, Bool, true, false, ℕ, List, [], ◌∷◌, Option, Some, None, Result, Ok, Err, ap, refl, sym, map, if◌then◌else◌}
+use Rattle.std.proofs.Common.{◌≡◌, ◌∙◌, ◌+◌, ◌++◌, ◌||◌, Bool, true, false, ℕ, List, [], ◌∷◌, Option, Some, None, Ok, length, option_to_list, ap}
+use Rattle.std.proofs.Common.{refl, sym, map, if◌then◌else◌}
 use Rattle.std.proofs.lemmas.Bool.{false≢true, and_parts}
 use Rattle.std.proofs.lemmas.List.Folds.{list_all-append}
 use Rattle.std.specs.Cmp.Lexicographic.{nat_list_eq_equiv}
+use Rattle.std.specs.Option.{option_map_or}
+use Rattle.std.specs.List.{find}
 use Rattle.std.specs.Str.{bytes_eq}
 use Rattle.tmpl_values.specs.Value.{Value, nothing}
 use Rattle.tmpl_funcs.specs.Func.{takes}
-use Rattle.tmpl_grammar.specs.Tree.{Operand, variable, group}
+use Rattle.tmpl_grammar.specs.Tree.{Operand, variable, nil, function, group}
 use Rattle.tmpl_grammar.specs.Tree.{Operands, no_operand, operand, Pipeline, no_command, command}
 use Rattle.tmpl_syntax.specs.Place.Role.{Name, used_by_operand, used_by_operands, used_by}
 use Rattle.tmpl_syntax.specs.Formed.{is_among, are_among}
-use Rattle.tmpl_meaning.specs.Fault.{Cause}
-use Rattle.tmpl_meaning.specs.Pipeline.{Environment, Given, Place, lookup, chain, without_null, given, go_on, given_then, piped_after, applied, by_function}
-use Rattle.tmpl_meaning.specs.Pipeline.{by_count, decides, decided, commanded, argument_count, operand_value, operand_values, junction, command_value}
-use Rattle.tmpl_meaning.specs.Pipeline.{commands_value, pipeline_value}
+use Rattle.tmpl_meaning.specs.Pipeline.{Environment, Place, lookup, chain, without_null, given, given_then, applied, by_function, decides}
+use Rattle.tmpl_meaning.specs.Pipeline.{operand_count, operand_value, operand_values, junction, command_value, commands_value}
+use Rattle.tmpl_meaning.proofs.PartLemmas.{by_count, decided}
 use Rattle.tmpl_meaning.specs.declared.missing_key.MissingKey.{MissingKey}
 
 abbrev pub names : Environment → List Name
@@ -25,7 +27,8 @@ found-same name (v ∷ env) older e =
     go (bytes_eq v.0 name) (ap (λ b. b || is_among (names env) name) (nat_list_eq_equiv.symm v.0 name) ∙ e) (found-same name env older)
   where
     go : (b : Bool) → (b || is_among (names env) name) ≡ true → (is_among (names env) name ≡ true → lookup name (env ++ older) ≡ lookup name env)
-        → (if b then v.1 else lookup name (env ++ older)) ≡ (if b then v.1 else lookup name env)
+        → option_map_or (λ v. v.1) (if b then Some v else find (λ v. bytes_eq v.0 name) (env ++ older)) nothing
+        ≡ option_map_or (λ v. v.1) (if b then Some v else find (λ v. bytes_eq v.0 name) env) nothing
     go true h more = refl
     go false h more = more h
 
@@ -58,28 +61,27 @@ module _ (mode : MissingKey) (d : Value) (env older : Environment) (start : is_a
 
     junction-same : (os : Operands) (stop : Bool) (last : Value) (piped : Option Value) → are_among (names env) (used_by_operands os) ≡ true
         → junction stop far last os piped ≡ junction stop near last os piped
-    junction-same no_operand stop last None e = refl
-    junction-same no_operand stop last (Some v) e = refl
+    junction-same no_operand stop last piped e = refl
     junction-same (operand o os) stop last piped e =
         let p = parted (used_by_operand o) (used_by_operands os) e in
         λ i. given_then (operand-same o p.0 i) (λ v. decided (decides stop v) v (junction-same os stop v piped p.1 i))
 
     command-same : (os : Operands) (piped : Option Value) → are_among (names env) (used_by_operands os) ≡ true
         → command_value far os piped ≡ command_value near os piped
-    command-same no_operand piped e = refl
-    command-same (operand o os) piped e =
-        let p = parted (used_by_operand o) (used_by_operands os) e in
-        λ i. commanded o os piped (operand-same o p.0 i) (λ f. by_count f (takes f (argument_count os piped))
-        (by_function f (given_then (operands-same os p.1 i) (λ vs. applied f (piped_after vs piped)))
-        (junction-same os false nothing piped p.1 i) (junction-same os true nothing piped p.1 i)))
+    command-same (operand (function f) os) piped e =
+        λ i. by_count f (takes f (operand_count os + length (option_to_list piped)))
+        (by_function f (given_then (operands-same os e i) (λ vs. applied f (vs ++ option_to_list piped)))
+        (junction-same os false nothing piped e i) (junction-same os true nothing piped e i))
+    command-same (operand nil no_operand) None e = refl
+    command-same (operand o no_operand) None e = operand-same o (parted (used_by_operand o) [] e).0
+    command-same _ piped e = refl
 
     commands-same : (cs : Pipeline) (piped : Option Value) → are_among (names env) (used_by cs) ≡ true
         → commands_value far cs piped ≡ commands_value near cs piped
-    commands-same no_command None e = refl
-    commands-same no_command (Some v) e = refl
+    commands-same no_command piped e = refl
     commands-same (command os cs) piped e =
         let p = parted (used_by_operands os) (used_by cs) e in
         λ i. given_then (command-same os piped p.0 i) (λ v. commands-same cs (Some (without_null v)) p.1 i)
 
-  pub pipeline-same : (p : Pipeline) → are_among (names env) (used_by p) ≡ true → pipeline_value far p ≡ pipeline_value near p
+  pub pipeline-same : (p : Pipeline) → are_among (names env) (used_by p) ≡ true → commands_value far p None ≡ commands_value near p None
   pipeline-same commands e = commands-same commands None e

@@ -1,8 +1,7 @@
 -- The law that `and` and `or` are those of the function table, the law that a run only adds to its text, and what never
 -- comes in a run of a formed tree.
-use Rattle.std.specs.Prelude.{◌≡◌, ℕ, Bool, true, false, List, [], ◌∷◌, ◌++◌, length, map, Option, Ok}
+use Rattle.std.specs.Prelude.{◌≡◌, ℕ, Bool, true, false, List, [], ◌∷◌, ◌++◌, length, map, Option, Ok, option_to_list}
 use Rattle.tmpl_values.specs.Value.{Value, nothing}
-use Rattle.tmpl_funcs.specs.Dispatch.{called}
 use Rattle.tmpl_funcs.specs.Func.{takes}
 use Rattle.tmpl_funcs.specs.declared.func.Func.{Func}
 use Rattle.tmpl_funcs.specs.declared.func.Func.TheVariants.{And, Or}
@@ -14,7 +13,7 @@ use Rattle.tmpl_syntax.specs.Place.Role.{Name}
 use Rattle.tmpl_syntax.specs.Formed.{are_formed, scope_behind}
 use Rattle.tmpl_meaning.specs.Meaning.{End, Next, Rules, Run, Setting, broke, calls_within, continued, done, meaning}
 use Rattle.tmpl_meaning.specs.Meaning.{meanings, setting_of}
-use Rattle.tmpl_meaning.specs.Pipeline.{Environment, Place, junction, operand_values, or_call_failed, piped_after}
+use Rattle.tmpl_meaning.specs.Pipeline.{Environment, Place, applied, junction, operand_values}
 
 -- `or`, or else `and`
 abbrev pub joining : Bool → Func
@@ -25,9 +24,8 @@ joining false = And
 abbrev pub JoinsByTable : Type 0
 JoinsByTable = (is_or : Bool) (s : Place) (os : Operands) (piped : Option Value) (vs : List Value)
     → (operand_values s os).result ≡ Ok vs
-    → takes (joining is_or) (length (piped_after vs piped)) ≡ true
-    → (junction is_or s nothing os piped).result
-    ≡ or_call_failed (joining is_or) (called (joining is_or) (piped_after vs piped))
+    → takes (joining is_or) (length (vs ++ option_to_list piped)) ≡ true
+    → (junction is_or s nothing os piped).result ≡ (applied (joining is_or) (vs ++ option_to_list piped)).result
 
 -- however far a run has come, the text behind this part of it begins with the text before
 abbrev pub OnlyAdds : Next → Type 0

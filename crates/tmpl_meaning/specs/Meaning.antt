@@ -1,5 +1,5 @@
 -- The meaning of a template: its text, and the fault that ends it if there is one.
-use Rattle.std.specs.Prelude.{ℕ, zero, suc, ◌-◌, nat_eq, Bool, true, false, ◌||◌, List, [], ◌∷◌, ◌++◌, length, drop}
+use Rattle.std.specs.Prelude.{ℕ, zero, suc, ◌-◌, nat_eq, Bool, false, ◌||◌, List, [], ◌∷◌, ◌++◌, length, drop}
 use Rattle.std.specs.Prelude.{Option, Some, None, Result, Ok, Err, if◌then◌else◌}
 use Rattle.std.specs.Option.{option_map_or}
 use Rattle.std.specs.Str.{bytes_eq}
@@ -7,7 +7,7 @@ use Rattle.tmpl_values.specs.Value.{Value, nothing}
 use Rattle.tmpl_values.specs.Elements.{Element, elements, pairs}
 use Rattle.tmpl_values.specs.Text.{text_of}
 use Rattle.tmpl_values.specs.Truth.{truth}
-use Rattle.tmpl_grammar.specs.Tree.{Pipeline, Binding, unbound, declare, assign, declare_pair, Header}
+use Rattle.tmpl_grammar.specs.Tree.{Pipeline, Binding, unbound, declare, assign, declare_pair}
 use Rattle.tmpl_grammar.specs.declared.tree.Control.{Control}
 use Rattle.tmpl_grammar.specs.declared.tree.Control.TheVariants as control
 use Rattle.tmpl_syntax.specs.Tree as tree
@@ -16,7 +16,7 @@ use Rattle.tmpl_syntax.specs.Tree.{template_node, Nodes, Tree}
 use Rattle.tmpl_syntax.specs.Set.{Template, tree_named}
 pub use Rattle.tmpl_meaning.specs.Fault.{Cause, Fault, steps_spent, not_a_function, nil_command, lacks_field}
 pub use Rattle.tmpl_meaning.specs.Fault.{lacks_entry, not_a_range, call_failed, no_template, calls_too_deep}
-use Rattle.tmpl_meaning.specs.Pipeline.{Environment, Given, pipeline_value, without_null}
+use Rattle.tmpl_meaning.specs.Pipeline.{Environment, commands_value, without_null}
 use Rattle.tmpl_meaning.specs.declared.missing_key.MissingKey.{MissingKey}
 
 -- ---- variables
@@ -25,10 +25,6 @@ use Rattle.tmpl_meaning.specs.declared.missing_key.MissingKey.{MissingKey}
 abbrev pub assigned : List ℕ → Value → Environment → Environment
 assigned name x [] = []
 assigned name x (v ∷ env) = if bytes_eq v.0 name then (v.0, x) ∷ env else v ∷ assigned name x env
-
--- the oldest so many variables
-abbrev pub oldest : ℕ → Environment → Environment
-oldest n env = drop (length env - n) env
 
 -- binds variables to a value: to an element of a range, by its index or key and itself
 abbrev pub bound : Binding → Element → Environment → Environment
@@ -75,95 +71,53 @@ pub record Setting : Type 0 where
   pub calls : Calls
 
 abbrev pub faulted_at : Setting → ℕ → Cause → End
-faulted_at s line cause =
-    faulted (record { file = s.file; line = line; template = s.template; cause = cause })
-
-abbrev pub spend_if : Bool → Setting → ℕ → Next → Next
-spend_if true s line go r = (r, faulted_at s line (steps_spent s.rules.step_limit))
-spend_if false s line go r = go (record r { left = r.left - 1 })
+faulted_at s line cause = faulted (record { file = s.file; line = line; template = s.template; cause = cause })
 
 -- takes a step and goes on, or stops where none is left
 abbrev pub spend : Setting → ℕ → Next → Next
-spend s line go r = spend_if (nat_eq r.left 0) s line go r
+spend s line go r = if nat_eq r.left 0 then (r, faulted_at s line (steps_spent s.rules.step_limit))
+    else go (record r { left = r.left - 1 })
 
 -- goes on from where a part is done
-abbrev pub on_end : End → Run → Next → Run × End
-on_end done r go = go r
-on_end end r go = (r, end)
-
 abbrev pub after : Run × End → Next → Run × End
-after part go = on_end part.1 part.0 go
+after (r, done) go = go r
+after part go = part
 
 -- goes on with what is there, or stops
 abbrev pub with_value : {T : Type 0} → Setting → ℕ → Result T Cause → (T → Next) → Next
 with_value s line (Ok t) go r = go t r
 with_value s line (Err cause) go r = (r, faulted_at s line cause)
 
--- goes on with what a pipeline gave, or stops
-abbrev pub with_given : Setting → ℕ → Given Value → (Value → Next) → Next
-with_given s line g go r = with_value s line g.result go (record r { made_text = r.made_text || g.made_text })
-
 -- goes on with the value of a pipeline, or stops
 abbrev pub with_pipeline : Setting → ℕ → Pipeline → Value → (Value → Next) → Next
 with_pipeline s line p d go r =
-    with_given s line (pipeline_value (record { missing_key = s.rules.missing_key; dot = d; env = r.env }) p) go r
+    let g = commands_value (record { missing_key = s.rules.missing_key; dot = d; env = r.env }) p None in
+    with_value s line g.result go (record r { made_text = r.made_text || g.made_text })
 
--- the variables are as many again as they were: those declared since are gone, and values assigned stay
-abbrev pub scoped : ℕ → Run × End → Run × End
-scoped n part = (record part.0 { env = oldest n part.0.env }, part.1)
-
--- a part whose variables last to its end
+-- a part whose variables last to its end: behind it there are the oldest, as many as there were before it, so those
+-- declared in it are gone, and values assigned stay
 abbrev pub scope : Next → Next
-scope part r = scoped (length r.env) (part r)
-
--- puts bytes after the text so far
-abbrev pub putting : List ℕ → Next
-putting bytes r = (record r { text = r.text ++ bytes }, done)
+scope part r = let q = part r in (record q.0 { env = drop (length q.0.env - length r.env) q.0.env }, q.1)
 
 abbrev pub with_bound : Binding → Element → Run → Run
 with_bound b e r = record r { env = bound b e r.env }
 
--- a value that is no element of a range, and so has no index or key
-abbrev pub without_key : Value → Element
-without_key v = (nothing, v)
-
--- puts the text of a value, or binds variables to it
+-- puts the text of a value, or binds variables to it, which is no element of a range and so has no index or key
 abbrev pub shown : Binding → Value → Next
-shown unbound v r = putting (text_of v) r
-shown b v r = (with_bound b (without_key v) r, done)
-
--- an action
-abbrev pub acting : Setting → ℕ → Header → Value → Next
-acting s line h d = with_pipeline s line h.pipeline d (shown h.binding)
-
--- one of two parts, by whether the value is empty
-abbrev pub one_of : Bool → Next → Next → Next
-one_of true body other r = body r
-one_of false body other r = other r
-
--- an `if` or a `with`: the body, which may take the value as its dot, where the value is not empty, else the other part
-abbrev pub choosing : Setting → ℕ → Header → Value → (Value → Next) → Next → Next
-choosing s line h d body other =
-    with_pipeline s line h.pipeline d (λ v r. one_of (truth v) (body v) other (with_bound h.binding (without_key v) r))
+shown unbound v r = (record r { text = r.text ++ text_of v }, done)
+shown b v r = (with_bound b (nothing, v) r, done)
 
 -- goes on from where the body of a range ends for one element: a break ends the range
-abbrev pub on_turn : End → Run → Next → Run × End
-on_turn broke r go = (r, done)
-on_turn (faulted f) r go = (r, faulted f)
-on_turn end r go = go r
-
 abbrev pub after_turn : Run × End → Next → Run × End
-after_turn part go = on_turn part.1 part.0 go
+after_turn (r, broke) go = (r, done)
+after_turn (r, faulted f) go = (r, faulted f)
+after_turn (r, end) go = go r
 
--- the body for one element, which costs a step and has the element as its dot
-abbrev pub turn : Setting → ℕ → Binding → (Value → Next) → Element → Next
-turn s line b body e = spend s line (scope (λ r. body e.1 (with_bound b e r)))
-
--- the body for each element in order
+-- the body for each element in order, which costs a step and has the element as its dot
 abbrev pub turns : Setting → ℕ → Binding → (Value → Next) → List Element → Next
 turns s line b body [] r = (r, done)
 turns s line b body (e ∷ es) r =
-    after_turn (turn s line b body e r) (turns s line b body es)
+    after_turn (spend s line (scope (λ q. body e.1 (with_bound b e q))) r) (turns s line b body es)
 
 -- the elements that a range visits, if it may range over the value: with two variables it may not over a number
 abbrev pub visited : Binding → Value → Option (List Element)
@@ -176,35 +130,25 @@ over s line b body other None r = (r, faulted_at s line not_a_range)
 over s line b body other (Some []) r = other r
 over s line b body other (Some (e ∷ es)) r = turns s line b body (e ∷ es) r
 
-abbrev pub ranging : Setting → ℕ → Header → Value → (Value → Next) → Next → Next
-ranging s line h d body other =
-    with_pipeline s line h.pipeline d (λ v. over s line h.binding body other (visited h.binding v))
-
--- a control, by its body with a dot and its other part
-abbrev pub controlled : Setting → ℕ → Control → Header → Value → (Value → Next) → Next → Next
-controlled s line control.If h d body other = choosing s line h d (λ v. body d) other
-controlled s line control.With h d body other = choosing s line h d body other
-controlled s line control.Range h d body other = ranging s line h d body other
-
--- goes on with the value that is handed to a template: that of the pipeline, or nothing
-abbrev pub handing : Setting → ℕ → Option Pipeline → Value → (Value → Next) → Next
-handing s line None d go = go nothing
-handing s line (Some p) d go = with_pipeline s line p d go
-
--- a call: the template is looked for before its pipeline is looked at
-abbrev pub calling : Setting → ℕ → List ℕ → Option Pipeline → Value → Next
-calling s line name given d = with_value s line (s.calls name) (handing s line given d)
+-- a control with the value of its pipeline, by its body with a dot and its other part: an `if` or a `with` is the body
+-- where the value is not empty, which a `with` has as its dot, else the other part
+abbrev pub controlled : Setting → ℕ → Control → Binding → Value → (Value → Next) → Next → Value → Next
+controlled s line control.If b d body other v r = (if truth v then body d else other) (with_bound b (nothing, v) r)
+controlled s line control.With b d body other v r = (if truth v then body v else other) (with_bound b (nothing, v) r)
+controlled s line control.Range b d body other v r = over s line b body other (visited b v) r
 
 abbrev mutual
-  -- a node with this dot, once its step is taken; its variables last to the end of a control
+  -- a node with this dot, once its step is taken; its variables last to the end of a control; a template that it calls
+  -- is looked for before its pipeline is looked at, and is handed the value of that, or nothing
   pub stepped : Setting → ℕ → NodeKind → Value → Next
-  stepped s line (text bytes) d = putting bytes
-  stepped s line (action h) d = acting s line h d
+  stepped s line (text bytes) d = λ r. (record r { text = r.text ++ bytes }, done)
+  stepped s line (action h) d = with_pipeline s line h.pipeline d (shown h.binding)
   stepped s line (control_node c h body other) d =
-      scope (controlled s line c h d (λ v. meanings s body v) (meanings s other d))
+      scope (with_pipeline s line h.pipeline d (controlled s line c h.binding d (meanings s body) (meanings s other d)))
   stepped s line break_node d = λ r. (r, broke)
   stepped s line continue_node d = λ r. (r, continued)
-  stepped s line (template_node name given) d = calling s line name given d
+  stepped s line (template_node name given) d = with_value s line (s.calls name)
+      (λ go. option_map_or (λ p. with_pipeline s line p d go) given (go nothing))
 
   -- the nodes one after the other, up to the first that is not done; each costs a step before anything else
   pub meanings : Setting → Nodes → Value → Next
@@ -217,36 +161,23 @@ meaning s line n d = spend s line (stepped s line n d)
 
 -- ---- calls
 
--- where a template ends, whatever it ends in: one that is accepted breaks out of nothing but a range of its own
-abbrev pub left_by : End → End
-left_by (faulted f) = faulted f
-left_by end = done
-
--- behind a template the variables are those of its caller
-abbrev pub returned : Environment → Run × End → Run × End
-returned env part = (record part.0 { env = env }, left_by part.1)
-
--- a template sees no variable but `$`, which is the value that is handed to it
-abbrev pub apart : Value → Next → Next
-apart v body r = returned r.env (body (record r { env = ([], v) ∷ [] }))
+-- the fault of an end; a template that is accepted breaks out of nothing but a range of its own
+abbrev pub fault_of : End → Option Fault
+fault_of (faulted f) = Some f
+fault_of end = None
 
 abbrev pub setting_of : Rules → Calls → List ℕ → Tree → Setting
 setting_of rules calls name t = record { rules = rules; file = t.file; template = name; calls = calls }
 
--- the run of a template of this name that calls so
-abbrev pub run_called : Rules → Calls → List ℕ → Option Tree → Result (Value → Next) Cause
-run_called rules calls name None = Err (no_template name)
-run_called rules calls name (Some t) = Ok (λ v. apart v (meanings (setting_of rules calls name t) t.nodes v))
-
--- .. where no call more may be made
-abbrev pub uncalled : Rules → List ℕ → Option Tree → Result (Value → Next) Cause
-uncalled rules name None = Err (no_template name)
-uncalled rules name (Some t) = Err (calls_too_deep rules.depth_limit)
-
--- what names call in this set, where so many calls may be made inside one another
+-- what names call in this set, where so many calls may be made inside one another: a template sees no variable but `$`,
+-- which is the value that is handed to it; behind it the variables are those of its caller, and it is done where it has
+-- no fault
 abbrev pub calls_within : Rules → List Template → ℕ → Calls
-calls_within rules set zero name = uncalled rules name (tree_named name set)
-calls_within rules set (suc n) name = run_called rules (calls_within rules set n) name (tree_named name set)
+calls_within rules set zero name =
+    option_map_or (λ t. Err (calls_too_deep rules.depth_limit)) (tree_named name set) (Err (no_template name))
+calls_within rules set (suc n) name = option_map_or (λ t. Ok (λ v r.
+    let q = meanings (setting_of rules (calls_within rules set n) name t) t.nodes v (record r { env = ([], v) ∷ [] }) in
+    (record q.0 { env = r.env }, option_map_or faulted (fault_of q.1) done))) (tree_named name set) (Err (no_template name))
 
 -- ---- whole templates
 
@@ -257,27 +188,11 @@ pub record Ran : Type 0 where
   pub fault : Option Fault
   pub made_text : Bool
 
--- a template that is accepted breaks out of nothing but a range of its own
-abbrev pub fault_of : End → Option Fault
-fault_of (faulted f) = Some f
-fault_of end = None
-
-abbrev pub ran_of : Run × End → Ran
-ran_of r = record { text = r.0.text; fault = fault_of r.1; made_text = r.0.made_text }
-
--- the starting dot: the data, of which null is nothing; nothing where there is no data
-abbrev pub starting_dot : Option Value → Value
-starting_dot input = option_map_or without_null input nothing
-
--- the run at its start, with this dot
-abbrev pub started : ℕ → Value → Run
-started step_limit d = record { env = ([], d) ∷ []; text = []; left = step_limit; made_text = false }
-
-abbrev pub ran_with : Rules → List Template → List ℕ → Tree → Value → Ran
-ran_with rules set name t d =
-    ran_of (meanings (setting_of rules (calls_within rules set (rules.depth_limit - 1)) name t) t.nodes d
-    (started rules.step_limit d))
-
--- what a template of this name and set puts out over the data
+-- what a template of this name and set puts out over the data: the dot at its start is the data, of which null is
+-- nothing, and nothing where there is no data
 abbrev pub ran : Rules → List Template → List ℕ → Tree → Option Value → Ran
-ran rules set name t input = ran_with rules set name t (starting_dot input)
+ran rules set name t input =
+    let d = option_map_or without_null input nothing in
+    let r = meanings (setting_of rules (calls_within rules set (rules.depth_limit - 1)) name t) t.nodes d
+    (record { env = ([], d) ∷ []; text = []; left = rules.step_limit; made_text = false }) in
+    record { text = r.0.text; fault = fault_of r.1; made_text = r.0.made_text }

@@ -1,18 +1,19 @@
 -- The value of a pipeline ("Arguments", "Pipelines", "Variables" and "Functions" in the documentation of Go's
 -- text/template). What nothing, null and the modes for missing keys do is our own rule, also where Go differs.
 use Rattle.std.specs.Prelude.{ℕ, suc, ◌+◌, Bool, true, false, not, ◌||◌, List, [], ◌∷◌, ◌++◌, Option, Some}
-use Rattle.std.specs.Prelude.{None, Result, Ok, Err, length, option_to_list, if◌then◌else◌}
+use Rattle.std.specs.Prelude.{None, Result, Ok, Err, length, option_to_list, unwrap_or, if◌then◌else◌}
+use Rattle.std.specs.Option.{option_map_or}
 use Rattle.std.specs.Result.{result_map_both}
+use Rattle.std.specs.List.{find}
 use Rattle.std.specs.Str.{bytes_eq}
 use Rattle.tmpl_values.specs.Value.{Value, nothing, null, boolean, number, string}
 use Rattle.tmpl_values.specs.Stage.{and_then}
 use Rattle.tmpl_values.specs.Truth.{truth}
-use Rattle.tmpl_values.specs.Field.{FieldValue, found, missing, of_nothing, no_field, field_at}
+use Rattle.tmpl_values.specs.Field.{FieldValue, found, missing, no_field, field_at}
 use Rattle.tmpl_funcs.specs.Dispatch.{called}
 use Rattle.tmpl_funcs.specs.Func.{makes_text, takes}
 use Rattle.tmpl_funcs.specs.declared.func.Func.{Func}
 use Rattle.tmpl_funcs.specs.declared.func.Func.TheVariants.{And, Or}
-use Rattle.tmpl_funcs.specs.declared.fault.CallFault.{CallFault}
 use Rattle.tmpl_funcs.specs.declared.fault.CallFault.TheVariants.{WrongCount}
 use Rattle.tmpl_grammar.specs.Tree.{Operand, dot, fields, variable, bool_constant, number_constant}
 use Rattle.tmpl_grammar.specs.Tree.{text_constant, nil, function, group, Operands, no_operand, operand}
@@ -29,34 +30,22 @@ Environment = List (List ℕ × Value)
 
 -- the value of the newest variable of a name; a template that is accepted names none that is not there
 abbrev pub lookup : List ℕ → Environment → Value
-lookup name [] = nothing
-lookup name (v ∷ env) = if bytes_eq v.0 name then v.1 else lookup name env
+lookup name env = option_map_or (λ v. v.1) (find (λ v. bytes_eq v.0 name) env) nothing
 
 -- ---- fields
 
--- what a map comes to that has no entry of this name
-abbrev pub absent_entry : MissingKey → List ℕ → Result Value Cause
-absent_entry Zero name = Ok null
-absent_entry Error name = Err (lacks_entry name)
-absent_entry missing_key name = Ok nothing
-
--- what nothing comes to, which has no entries
-abbrev pub field_of_nothing : MissingKey → List ℕ → Result Value Cause
-field_of_nothing Error name = Err (lacks_entry name)
-field_of_nothing missing_key name = Ok nothing
-
--- a field, by what its value has under the name
+-- a field, by what its value has under the name; absent is an entry that a map does not have, and any entry of nothing
 abbrev pub field_value : MissingKey → List ℕ → FieldValue → Result Value Cause
 field_value missing_key name (found v) = Ok v
-field_value missing_key name missing = absent_entry missing_key name
-field_value missing_key name of_nothing = field_of_nothing missing_key name
 field_value missing_key name no_field = Err (lacks_field name)
+field_value Error name absent = Err (lacks_entry name)
+field_value Zero name missing = Ok null
+field_value missing_key name absent = Ok nothing
 
 -- the field of the field of .. of a value
 abbrev pub chain : MissingKey → List (List ℕ) → Value → Result Value Cause
 chain missing_key [] v = Ok v
-chain missing_key (name ∷ names) v =
-    and_then (field_value missing_key name (field_at name v)) (chain missing_key names)
+chain missing_key (name ∷ names) v = and_then (field_value missing_key name (field_at name v)) (chain missing_key names)
 
 -- a null that a command gives is nothing
 abbrev pub without_null : Value → Value
@@ -83,16 +72,9 @@ given_then g next = go_on g.result g.made_text next
 
 -- ---- calls
 
-abbrev pub piped_after : List Value → Option Value → List Value
-piped_after vs None = vs
-piped_after vs (Some v) = vs ++ v ∷ []
-
-abbrev pub or_call_failed : Func → Result Value CallFault → Result Value Cause
-or_call_failed f answer = result_map_both (λ v. v) (call_failed f) answer
-
 -- a function over these values
 abbrev pub applied : Func → List Value → Given Value
-applied f vs = record { result = or_call_failed f (called f vs); made_text = makes_text f }
+applied f vs = record { result = result_map_both (λ v. v) (call_failed f) (called f vs); made_text = makes_text f }
 
 -- by the function: `and` and `or` evaluate their operands themselves
 abbrev pub by_function : Func → Given Value → Given Value → Given Value → Given Value
@@ -100,54 +82,21 @@ by_function And all both either = both
 by_function Or all both either = either
 by_function f all both either = all
 
-abbrev pub by_count : Func → Bool → Given Value → Given Value
-by_count f true g = g
-by_count f false g = given (Err (call_failed f WrongCount))
-
 abbrev pub operand_count : Operands → ℕ
 operand_count no_operand = 0
 operand_count (operand o os) = suc (operand_count os)
 
 -- whether a value decides an `or`, as the first that is not empty, or an `and`, as the first that is
 abbrev pub decides : Bool → Value → Bool
-decides true v = truth v
-decides false v = not (truth v)
-
-abbrev pub decided : Bool → Value → Given Value → Given Value
-decided true v rest = given (Ok v)
-decided false v rest = rest
+decides is_or v = if is_or then truth v else not (truth v)
 
 -- ---- commands
-
-abbrev pub or_nil : Operand → Given Value → Given Value
-or_nil nil g = given (Err nil_command)
-or_nil o g = g
-
-abbrev pub stands_alone : Operands → Option Value → Bool
-stands_alone no_operand None = true
-stands_alone os piped = false
-
-abbrev pub operand_alone : Bool → Operand → Given Value → Given Value
-operand_alone true o g = or_nil o g
-operand_alone false o g = given (Err not_a_function)
-
--- a command by its first operand: a call where that is a function, else the operand, which stands alone
-abbrev pub commanded : Operand → Operands → Option Value → Given Value → (Func → Given Value) → Given Value
-commanded (function f) os piped g call = call f
-commanded o os piped g call = operand_alone (stands_alone os piped) o g
 
 -- where a pipeline stands: the mode for missing keys, dot and the variables
 pub record Place : Type 0 where
   pub missing_key : MissingKey
   pub dot : Value
   pub env : Environment
-
--- a function as an argument: a call without arguments
-abbrev pub bare_call : Func → Given Value
-bare_call f = by_count f (takes f 0) (applied f [])
-
-abbrev pub argument_count : Operands → Option Value → ℕ
-argument_count os piped = operand_count os + length (option_to_list piped)
 
 abbrev mutual
   -- as an argument: null stays null, `nil` is nothing, and a function is a call without arguments
@@ -159,7 +108,7 @@ abbrev mutual
   operand_value s (number_constant n) = given (Ok (number n))
   operand_value s (text_constant bytes) = given (Ok (string bytes))
   operand_value s nil = given (Ok nothing)
-  operand_value s (function f) = bare_call f
+  operand_value s (function f) = if takes f 0 then applied f [] else given (Err (call_failed f WrongCount))
   operand_value s (group commands names) =
       given_then (commands_value s commands None) (λ v. given (chain s.missing_key names v))
 
@@ -171,26 +120,24 @@ abbrev mutual
 
   -- the first of the operands and the piped value that decides, else the last of them; no operand after it is evaluated
   pub junction : Bool → Place → Value → Operands → Option Value → Given Value
-  junction stop s last no_operand None = given (Ok last)
-  junction stop s last no_operand (Some v) = given (Ok v)
-  junction stop s last (operand o os) piped = given_then (operand_value s o)
-      (λ v. decided (decides stop v) v (junction stop s v os piped))
+  junction is_or s last no_operand piped = given (Ok (unwrap_or piped last))
+  junction is_or s last (operand o os) piped = given_then (operand_value s o)
+      (λ v. if decides is_or v then given (Ok v) else junction is_or s v os piped)
 
-  -- a command, to which a value may be piped; the number of arguments is looked at first
+  -- a command, to which a value may be piped: a call, of which the number of arguments is looked at first, or one
+  -- operand alone, which `nil` may not be
   pub command_value : Place → Operands → Option Value → Given Value
-  command_value s no_operand piped = given (Err not_a_function)
-  command_value s (operand o os) piped = commanded o os piped (operand_value s o)
-      (λ f. by_count f (takes f (argument_count os piped))
-      (by_function f (given_then (operand_values s os) (λ vs. applied f (piped_after vs piped)))
-      (junction false s nothing os piped) (junction true s nothing os piped)))
+  command_value s (operand (function f) os) piped =
+      if takes f (operand_count os + length (option_to_list piped)) then
+      by_function f (given_then (operand_values s os) (λ vs. applied f (vs ++ option_to_list piped)))
+      (junction false s nothing os piped) (junction true s nothing os piped)
+      else given (Err (call_failed f WrongCount))
+  command_value s (operand nil no_operand) None = given (Err nil_command)
+  command_value s (operand o no_operand) None = operand_value s o
+  command_value s os piped = given (Err not_a_function)
 
   -- the commands from left to right: each gives its value to the next as its last argument
   pub commands_value : Place → Pipeline → Option Value → Given Value
-  commands_value s no_command None = given (Ok nothing)
-  commands_value s no_command (Some v) = given (Ok v)
+  commands_value s no_command piped = given (Ok (unwrap_or piped nothing))
   commands_value s (command os cs) piped =
       given_then (command_value s os piped) (λ v. commands_value s cs (Some (without_null v)))
-
--- the value of a pipeline
-abbrev pub pipeline_value : Place → Pipeline → Given Value
-pipeline_value s p = commands_value s p None

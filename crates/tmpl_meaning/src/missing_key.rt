@@ -1,9 +1,9 @@
 //! Fields, and what a field comes to for which a map has no entry.
 ghost use Rattle.std.specs.Prelude.{◌≡◌, false};
-ghost use Rattle.tmpl_values.specs.Field.{field_at};
+ghost use Rattle.tmpl_values.specs.Field.{field_at, missing, of_nothing};
 ghost use Rattle.tmpl_values.specs.View.{is_made, val_of};
 ghost use Rattle.tmpl_funcs.specs.Answer.{IsBorrowed};
-ghost use Rattle.tmpl_meaning.specs.Pipeline.{absent_entry, chain, field_of_nothing, field_value};
+ghost use Rattle.tmpl_meaning.specs.Pipeline.{chain, field_value};
 ghost use Rattle.tmpl_meaning.specs.View.{value_seen};
 
 use crate::fault::RunFaultKind;
@@ -51,7 +51,7 @@ impl MissingKey {
 
     /// What a map comes to that has no entry of this name.
     fn absent_entry(self, name: &[u8]) -> Result<Val<'_>, RunFaultKind<'_>>
-        ensures value { value_seen result ≡ absent_entry self name.now }
+        ensures value { value_seen result ≡ field_value self name.now missing }
         ensures borrowed { IsBorrowed result }
     {
         match self {
@@ -63,7 +63,7 @@ impl MissingKey {
 
     /// What nothing comes to, which has no entries.
     fn field_of_nothing(self, name: &[u8]) -> Result<Val<'_>, RunFaultKind<'_>>
-        ensures value { value_seen result ≡ field_of_nothing self name.now }
+        ensures value { value_seen result ≡ field_value self name.now of_nothing }
         ensures borrowed { IsBorrowed result }
     {
         match self {

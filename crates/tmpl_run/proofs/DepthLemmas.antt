@@ -13,12 +13,13 @@ use Rattle.tmpl_syntax.specs.Tree.{NodeKind, Nodes, action, control_node, templa
 use Rattle.tmpl_syntax.specs.Set.{Template, number_of, tree_named}
 use Rattle.tmpl_syntax.proofs.NamedLemmas.{Named, numbered, unnumbered}
 use Rattle.tmpl_meaning.specs.Fault as fault
-use Rattle.tmpl_meaning.specs.Pipeline.{pipeline_value}
-use Rattle.tmpl_meaning.specs.Meaning.{Calls, Cause, Next, Rules, Run, Setting, after, after_turn, without_key, apart, run_called, calls_within}
-use Rattle.tmpl_meaning.specs.Meaning.{controlled, handing, meanings, one_of, over, ran_of, scope, scoped, setting_of, shown, spend, spend_if, started}
-use Rattle.tmpl_meaning.specs.Meaning.{starting_dot, stepped, turns, uncalled, visited, with_bound, with_pipeline, with_value}
+use Rattle.tmpl_meaning.specs.Pipeline.{commands_value}
+use Rattle.tmpl_meaning.specs.Meaning.{Calls, Cause, Next, Rules, Run, Setting, after, after_turn, calls_within, meanings, over, scope}
+use Rattle.tmpl_meaning.specs.Meaning.{setting_of, shown, spend, stepped, turns, visited, with_bound, with_pipeline, with_value}
+use Rattle.tmpl_meaning.proofs.PartLemmas.{apart, controlling, handing, one_of, ran_of, run_called, scoped, spend_if, started, uncalled, without_key}
 use Rattle.tmpl_code.specs.Calls.{IsChain, NodeNames, NodesName}
 use Rattle.tmpl_run.specs.Laws.{DepthByChains}
+use Rattle.tmpl_run.specs.State.{starting_dot}
 
 -- a setting, and one that differs in the depth and in what names call
 module _ (s : Setting) (depth : ℕ) (calls : Calls) where
@@ -33,7 +34,7 @@ module _ (s : Setting) (depth : ℕ) (calls : Calls) where
 
   pipeline-same : (line : ℕ) (p : Pipeline) (d : Value) (go : Value → Next) (r : Run) → with_pipeline other line p d go r ≡ with_pipeline s line p d go r
   pipeline-same line p d go r =
-      let g = pipeline_value (record { missing_key = s.rules.missing_key; dot = d; env = r.env }) p in
+      let g = commands_value (record { missing_key = s.rules.missing_key; dot = d; env = r.env }) p None in
       value-same g.result line go (record r { made_text = r.made_text || g.made_text })
 
   turns-same : (line : ℕ) (b : Binding) (body : Value → Next) (es : List Element) (r : Run) → turns other line b body es r ≡ turns s line b body es r
@@ -46,7 +47,7 @@ module _ (s : Setting) (depth : ℕ) (calls : Calls) where
   over-same line b body els o r = grind (arith, turns-same)
 
   controlled-same : (line : ℕ) (c : Control) (h : Header) (d : Value) (body : Value → Next) (els : Next) (r : Run)
-      → controlled other line c h d body els r ≡ controlled s line c h d body els r
+      → controlling other line c h d body els r ≡ controlling s line c h d body els r
   controlled-same line control.Range h d body els r =
       pipeline-same line h.pipeline d (λ v. over other line h.binding body els (visited h.binding v)) r
       ∙ (λ i. with_pipeline s line h.pipeline d (λ v t. over-same line h.binding body els (visited h.binding v) t i) r)
@@ -67,7 +68,7 @@ module _ (s : Setting) (depth : ℕ) (calls : Calls) where
     stepped-same (action h) agree line d r = pipeline-same line h.pipeline d (shown h.binding) r
     stepped-same (control_node c h body els) agree line d r =
         (λ i. scoped (length r.env) (controlled-same line c h d (λ v. meanings other body v) (meanings other els d) r i))
-        ∙ (λ i. scoped (length r.env) (controlled s line c h d (λ v t. meanings-same body (λ name names. agree name (inl names)) v t i)
+        ∙ (λ i. scoped (length r.env) (controlling s line c h d (λ v t. meanings-same body (λ name names. agree name (inl names)) v t i)
         (λ t. meanings-same els (λ name names. agree name (inr names)) d t i) r))
     stepped-same (template_node name given) agree line d r =
         (λ i. with_value other line (agree name refl i) (handing other line given d) r)

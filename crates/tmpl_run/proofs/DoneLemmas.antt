@@ -11,7 +11,7 @@ use Rattle.std.proofs.Math.Nat.{mul-le-mul_right, suc-mul}
 use Rattle.tmpl_syntax.specs.Set.{Template}
 use Rattle.tmpl_meaning.specs.Fault.{Fault}
 use Rattle.tmpl_meaning.specs.Meaning.{Ran}
-use Rattle.tmpl_code.specs.Instruction.{Instruction}
+use Rattle.tmpl_code.specs.Instruction.{Instruction, act}
 use Rattle.tmpl_run.specs.Cell.{Cell}
 use Rattle.tmpl_run.specs.State.{Plan, State}
 use Rattle.tmpl_run.specs.Step.{step}
@@ -66,7 +66,8 @@ module _ (plan : Plan) (s : State) where
 
   next-told : (me : Option Template) (i : Option Instruction) (t : State) → done_in plan me i s ≡ goes t
       → (t.text ≡ s.text ++ added_at i s) × (t.made_text ≡ mark_at i s.made_text)
-  next-told me i t e = grind (arith, common_steps, append-nil, or-false)
+  next-told me (Some (act o)) t e = grind (arith, common_steps, append-nil, or-false)
+  next-told me _ t e = grind (arith, common_steps, append-nil, or-false)
 
   last-told : (me : Option Template) (i : Option Instruction) (r : Ran) → done_in plan me i s ≡ ended r
       → (r.text ≡ s.text ++ added_at i s) × (r.made_text ≡ mark_at i s.made_text)

@@ -14,8 +14,9 @@ use Rattle.tmpl_syntax.specs.Tree.{NodeKind, Nodes}
 use Rattle.tmpl_syntax.specs.Need.{left_behind, need_of_node, need_of_nodes}
 use Rattle.tmpl_meaning.specs.Fault.{Cause}
 use Rattle.tmpl_meaning.specs.Pipeline.{Environment}
-use Rattle.tmpl_meaning.specs.Meaning.{Calls, Next, Run, Setting, without_key, assigned, with_bound, with_pipeline, with_value, End, choosing, meanings}
-use Rattle.tmpl_meaning.specs.Meaning.{oldest, one_of, shown, stepped, scope}
+use Rattle.tmpl_meaning.specs.Meaning.{Calls, Next, Run, Setting, assigned, with_bound, with_pipeline, with_value, End, meanings, shown, stepped}
+use Rattle.tmpl_meaning.specs.Meaning.{scope}
+use Rattle.tmpl_meaning.proofs.PartLemmas.{choosing, oldest, one_of, without_key}
 use Rattle.tmpl_meaning.specs.Meaning as meaning
 use Rattle.tmpl_code.specs.Instruction as code
 use Rattle.tmpl_code.specs.Layout.{Layout, bound_on, declares, slot_named, declared_in, grown}

@@ -1,12 +1,11 @@
 -- For the law `comes_to_meaning`: the code of a pipeline finds its cells and has room for its need, and the run goes on behind it with the value that the
 -- pipeline gives, or stops as the pipeline does.
 use Rattle.std.proofs.Common.{arith, ◌≡◌, ◌∙◌, ◌+◌, ◌≤◌, ◌<◌, ◌||◌, ◌++◌, ℕ, zero, suc, Bool, true, false, List, [], ◌∷◌, length, map, take, drop, reverse}
-use Rattle.std.proofs.Common.{refl, ap, sym, subst, Option, Some, None, Result, Ok, Err, is_some, append_assoc}
+use Rattle.std.proofs.Common.{refl, ap, sym, subst, Option, Some, None, Result, Ok, Err, is_some, option_to_list, append_assoc, append-nil}
 use Rattle.std.proofs.lemmas.List.{length-map, reverse-append, reverse-reverse, length-reverse}
 use Rattle.std.proofs.Math.Bool.{or_assoc, or_comm}
 use Rattle.std.proofs.Math.Seq.{drop-append_seam, take-append_seam}
 use Rattle.tmpl_values.specs.Value.{Value, nothing}
-use Rattle.tmpl_funcs.specs.Dispatch.{called}
 use Rattle.tmpl_funcs.specs.Func.{is_called, makes_text, takes}
 use Rattle.tmpl_funcs.specs.declared.func.Func.{Func}
 use Rattle.tmpl_funcs.specs.declared.func.Func.TheVariants.{And, Or}
@@ -14,11 +13,12 @@ use Rattle.tmpl_grammar.specs.Tree.{Operand, fields, variable, nil, function, gr
 use Rattle.tmpl_grammar.specs.Need.{need_of_arguments, need_of_command, need_of_commands, need_of_operand, need_of_pipeline}
 use Rattle.tmpl_meaning.specs.Fault.{Cause}
 use Rattle.tmpl_meaning.specs.Pipeline as meaning
-use Rattle.tmpl_meaning.specs.Pipeline.{Environment, Given, Place, chain, command_value, commands_value, decided, decides, given, given_then, go_on, junction}
-use Rattle.tmpl_meaning.specs.Pipeline.{lookup, operand_value, operand_values, or_call_failed, piped_after, pipeline_value, without_null}
+use Rattle.tmpl_meaning.specs.Pipeline.{Environment, Given, Place, chain, command_value, commands_value, decides, given, given_then, go_on, junction, lookup}
+use Rattle.tmpl_meaning.specs.Pipeline.{operand_value, operand_values, without_null}
+use Rattle.tmpl_meaning.proofs.PartLemmas.{by_count, decided}
 use Rattle.tmpl_code.specs.Instruction.{Operation, Refusal, act, call_with, decide, refuse, settle}
 use Rattle.tmpl_code.specs.Layout.{Layout, slot_named}
-use Rattle.tmpl_code.specs.Code.{BareAt, CallBy, Code, CommandAt, CommandsAt, CountedAt, DecideAt, FirstAt, JunctionAt, OperandAt, OperandsAt, Part, PipelineAt}
+use Rattle.tmpl_code.specs.Code.{BareAt, CallBy, Code, CommandAt, CommandsAt, CountedAt, DecideAt, JunctionAt, OperandAt, OperandsAt, Part, PipelineAt}
 use Rattle.tmpl_code.specs.Code.{VariableAt, chain_before, is_last, operand_count, piped_count}
 use Rattle.tmpl_run.specs.Cell.{Cell, fresh, values_in}
 use Rattle.tmpl_run.specs.State.{State}
@@ -96,7 +96,8 @@ count-same : (os : Operands) → operand_count os ≡ meaning.operand_count os
 count-same no_operand = refl
 count-same (operand o os) = ap suc (count-same os)
 
-arguments-same : (os : Operands) (piped : Option Value) → meaning.argument_count os piped ≡ operand_count os + piped_count (is_some piped)
+arguments-same : (os : Operands) (piped : Option Value)
+    → meaning.operand_count os + length (option_to_list piped) ≡ operand_count os + piped_count (is_some piped)
 arguments-same os piped = grind (arith, count-same)
 
 -- ---- what follows what is given
@@ -140,8 +141,8 @@ module _ (way : Way) (s : State) where
 
   -- .. of a function
   calls : (f : Func) (ws : List Value) (is : Code) (cs : List Cell) (m : Bool) → Follows (meaning.applied f ws) m (Puts is cs)
-      → Gone is (m || makes_text f) (pushed (or_call_failed f (called f ws)) cs)
-  calls f ws is cs m k = pushes _ is cs _ (subst (λ b. FollowsBy (or_call_failed f (called f ws)) b (Puts is cs)) (or_comm (makes_text f) m) k)
+      → Gone is (m || makes_text f) (pushed (meaning.applied f ws).result cs)
+  calls f ws is cs m k = pushes _ is cs _ (subst (λ b. FollowsBy (meaning.applied f ws).result b (Puts is cs)) (or_comm (makes_text f) m) k)
 
   module _ (same : who_of s ≡ way.who) (env : Environment) where
     -- where the machine reads, and where the pipeline does
@@ -186,7 +187,7 @@ module _ (way : Way) (s : State) where
         steps refl (omega arith) (pushes (chain way.plan.rules.missing_key (name ∷ names) v) rest cs m k)
 
     bare-leads : {code : Code} {cs : List Cell} {m : Bool} (t : Bool) (f : Func) (rest : Code) → takes f 0 ≡ t → length cs < way.room → BareAt t f code rest
-        → Follows (meaning.by_count f t (meaning.applied f [])) m (Puts rest cs) → Goes code cs m
+        → Follows (by_count f t (meaning.applied f [])) m (Puts rest cs) → Goes code cs m
     bare-leads {cs = cs} {m = m} true f rest e room l k = steps l (bare-called f e, omega arith, omega arith) (calls f [] rest cs m k)
     bare-leads false f rest e room l k = refuses l k
 
@@ -226,7 +227,7 @@ module _ (way : Way) (s : State) where
 
     -- of a function over the operands that were put on the stack
     applied-leads : {m : Bool} (cs : List Cell) (f : Func) (os : Operands) (piped : Option Value) (rest : Code) (ws : List Value) → is_called f ≡ true
-        → length cs < way.room → length ws ≡ operand_count os → Follows (meaning.applied f (piped_after ws piped)) m (Puts rest cs)
+        → length cs < way.room → length ws ≡ operand_count os → Follows (meaning.applied f (ws ++ option_to_list piped)) m (Puts rest cs)
         → Goes (act (call_with f (operand_count os) (is_some piped)) ∷ rest) (stacked ws (with piped cs)) m
     applied-leads {m} cs f os piped rest ws named room count k =
         let high = length-stacked ws (with piped cs) in
@@ -235,13 +236,13 @@ module _ (way : Way) (s : State) where
         (λ j. called_on f (sym (taken ws (with piped cs) (operand_count os) (sym count)) j) (is_some piped)
         (sym (dropped ws (with piped cs) (operand_count os) (sym count)) j)) (by piped k))
       where
-        by : (piped : Option Value) → Follows (meaning.applied f (piped_after ws piped)) m (Puts rest cs)
+        by : (piped : Option Value) → Follows (meaning.applied f (ws ++ option_to_list piped)) m (Puts rest cs)
             → Gone rest (m || makes_text f) (called_on f ws (is_some piped) (with piped cs))
-        by None k = calls f ws rest cs m k
+        by None k = calls f ws rest cs m (subst (λ l. Follows (meaning.applied f l) m (Puts rest cs)) (append-nil ws) k)
         by (Some p) k = calls f (ws ++ p ∷ []) rest cs m k
 
     counted-leads : {code : Code} {cs : List Cell} {m : Bool} (t : Bool) (f : Func) (rest : Code) (g : Given Value) (Call : Part) (Go : Value → Bool → Type 0)
-        → (t ≡ true → Call code rest → Follows g m Go → Goes code cs m) → CountedAt t f Call code rest → Follows (meaning.by_count f t g) m Go → Goes code cs m
+        → (t ≡ true → Call code rest → Follows g m Go → Goes code cs m) → CountedAt t f Call code rest → Follows (by_count f t g) m Go → Goes code cs m
     counted-leads true f rest g Call Go h l k = h refl l k
     counted-leads false f rest g Call Go h l k = refuses l k
 
@@ -254,16 +255,6 @@ module _ (way : Way) (s : State) where
     call-leads m And All Both Either rest all both either Go a b c l k = b refl l k
     call-leads m Or All Both Either rest all both either Go a b c l k = c refl l k
     call-leads m _ All Both Either rest all both either Go a b c l k = a refl l k
-
-    -- an operand that is no function as a command
-    first-leads : {code : Code} {m : Bool} (cs : List Cell) (os : Operands) (piped : Option Value) (o : Operand) (rest : Code) (Value-at : Part)
-        → (piped_count (is_some piped) ≡ 0 → Value-at code rest → Follows (operand_value here o) m (Puts rest (with piped cs)) → Goes code (with piped cs) m)
-        → FirstAt (is_last os (is_some piped)) o Value-at code rest
-        → Follows (meaning.operand_alone (meaning.stands_alone os piped) o (operand_value here o)) m (Puts rest cs) → Goes code (with piped cs) m
-    first-leads cs no_operand None nil rest Value-at h l k = refuses l k
-    first-leads cs no_operand (Some p) o rest Value-at h l k = refuses l k
-    first-leads cs (operand x xs) piped o rest Value-at h l k = refuses l k
-    first-leads cs no_operand None _ rest Value-at h l k = h refl l k
 
     -- ---- pipelines
 
@@ -309,13 +300,12 @@ module _ (way : Way) (s : State) where
       command-leads : {n : ℕ} {lay : Layout} {code : Code} {m : Bool} (cs : List Cell) (os : Operands) (piped : Option Value) (rest : Code)
           → Slots n lay (with piped cs) env → length cs + need_of_command (piped_count (is_some piped)) os ≤ way.room
           → CommandAt os (is_some piped) n lay code rest → Follows (command_value here os piped) m (Puts rest cs) → Goes code (with piped cs) m
-      command-leads cs no_operand piped rest h room l k = refuses l k
       command-leads {n} {lay} {m = m} cs (operand (function f) os) piped rest h room l k =
           let p = is_some piped in
           let count = operand_count os + piped_count p in
           let all : Code = act (call_with f (operand_count os) p) ∷ rest in
           let All : Part = λ code rest. OperandsAt os n lay code (act (call_with f (operand_count os) p) ∷ rest) in
-          let apply : List Value → Given Value = λ ws. meaning.applied f (piped_after ws piped) in
+          let apply : List Value → Given Value = λ ws. meaning.applied f (ws ++ option_to_list piped) in
           let both : Given Value = junction false here nothing os piped in
           let either : Given Value = junction true here nothing os piped in
           let g : Given Value = meaning.by_function f (given_then (operand_values here os) apply) both either in
@@ -327,9 +317,10 @@ module _ (way : Way) (s : State) where
           (λ ws b k long. applied-leads cs f os piped rest ws named (omega arith) long k) k))
           (λ e j k. junction-leads cs os (piped_count p) false piped nothing rest h (omega arith) (omega arith) (some-both f And count (λ x. cc) e t) j k)
           (λ e j k. junction-leads cs os (piped_count p) true piped nothing rest h (omega arith) (omega arith) (some-both f Or count (λ x. cc) e t) j k) j k) l
-          (subst (λ n. Follows (meaning.by_count f (takes f n) g) m (Puts rest cs)) (arguments-same os piped) k)
-      command-leads {n} {lay} {m = m} cs (operand o os) piped rest h room l k = first-leads cs os piped o rest (OperandAt o n lay)
-          (λ none j k. operand-leads o rest h (let long = length-with piped cs in omega arith) j k) l k
+          (subst (λ n. Follows (by_count f (takes f n) g) m (Puts rest cs)) (arguments-same os piped) k)
+      command-leads cs (operand nil no_operand) None rest h room l k = refuses l k
+      command-leads cs (operand o no_operand) None rest h room l k = operand-leads o rest h (omega arith) l k
+      command-leads cs _ piped rest h room l k = refuses l k
 
       commands-leads : {n : ℕ} {lay : Layout} {code : Code} {cs : List Cell} {m : Bool} (commands : Pipeline) (piped : Option Value) (rest : Code)
           → Slots n lay cs env → length cs + need_of_commands (piped_count (is_some piped)) commands ≤ way.room
@@ -343,7 +334,7 @@ module _ (way : Way) (s : State) where
 
 -- what a pipeline gives in a state
 abbrev pub given_in : Way → Layout → State → Pipeline → Given Value
-given_in way lay s p = pipeline_value (record { missing_key = way.plan.rules.missing_key; dot = s.dot; env = env_of lay s.cells }) p
+given_in way lay s p = commands_value (record { missing_key = way.plan.rules.missing_key; dot = s.dot; env = env_of lay s.cells }) p None
 
 pub pipeline-leads : (way : Way) (p : Pipeline) (lay : Layout) (start rest : Code) (s : State) → who_of s ≡ way.who → PipelineAt p lay start rest
     → drop s.place way.plan.code ≡ start → length lay ≤ length s.cells → length s.cells + need_of_pipeline p ≤ way.room

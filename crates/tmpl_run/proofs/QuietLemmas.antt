@@ -1,26 +1,28 @@
 -- For the law `text_is_named` and the clause `spared` of `run`: a template of a set that names no function which makes a text
 -- calls none, so the mark of its run stays as it is.
-use Rattle.std.proofs.Common.{arith, ◌≡◌, ◌≢◌, ◌||◌, ◌<◌, IfSome, length, ℕ, zero, suc, Bool, true, false, List, [], ◌∷◌, Option, Some, None, Result, Ok, Err}
-use Rattle.std.proofs.Common.{refl, subst}
+use Rattle.std.proofs.Common.{arith, ◌≡◌, ◌≢◌, ◌||◌, ◌<◌, ◌++◌, IfSome, length, ℕ, zero, suc, Bool, true, false, List, [], ◌∷◌, Option, Some, None, Result, Ok}
+use Rattle.std.proofs.Common.{Err}
+use Rattle.std.proofs.Common.{option_to_list, refl, subst}
 use Rattle.std.specs.Prelude.{◌-◌, get_or, slice_get}
 use Rattle.std.proofs.lemmas.Bool.{or_from, or_parts}
 use Rattle.std.proofs.lemmas.Option.{slice_get-get_or}
 use Rattle.tmpl_values.specs.Value.{Value, nothing}
 use Rattle.tmpl_funcs.specs.Func.{makes_text}
-use Rattle.tmpl_grammar.specs.Tree.{Operand, function, group, Operands, no_operand, operand, Pipeline, no_command, command}
+use Rattle.tmpl_grammar.specs.Tree.{Operand, nil, function, group, Operands, no_operand, operand, Pipeline, no_command, command}
 use Rattle.tmpl_syntax.specs.Tree as tree
 use Rattle.tmpl_syntax.specs.Tree.{NodeKind, Nodes, Tree, action, control_node, template_node}
 use Rattle.tmpl_syntax.specs.Set.{Template, number_of, tree_named}
 use Rattle.tmpl_syntax.proofs.NamedLemmas.{Named, numbered, unnumbered}
 use Rattle.tmpl_meaning.specs.Pipeline as meaning
-use Rattle.tmpl_meaning.specs.Pipeline.{Given, Place, command_value, commands_value, decided, decides, given, given_then, go_on, junction, operand_value}
-use Rattle.tmpl_meaning.specs.Pipeline.{operand_values, pipeline_value}
-use Rattle.tmpl_meaning.specs.Meaning.{Rules, Run, calls_within, ran, setting_of, started, starting_dot}
+use Rattle.tmpl_meaning.specs.Pipeline.{Given, Place, command_value, commands_value, decides, given, given_then, junction, operand_value, operand_values}
+use Rattle.tmpl_meaning.specs.Meaning.{Rules, Run, calls_within, ran, setting_of}
 use Rattle.tmpl_meaning.specs.Sink.{Sunk}
+use Rattle.tmpl_meaning.proofs.PartLemmas.{decided, started}
 use Rattle.tmpl_meaning.proofs.KeptLemmas.{Keeps, NodeHas, NodesHave, calls-kept, nodes-kept}
 use Rattle.tmpl_code.specs.MakesText.{commands_make_text, node_makes_text, nodes_make_text, operand_makes_text, operands_make_text, pipeline_makes_text}
 use Rattle.tmpl_code.specs.MakesText.{set_makes_text}
 use Rattle.tmpl_run.specs.Laws.{TextIsNamed}
+use Rattle.tmpl_run.specs.State.{starting_dot}
 use Rattle.tmpl_run.specs.Run.{IsRun}
 use Rattle.tmpl_run.specs.computed.Machines.{no_template}
 use Rattle.tmpl_run.specs.declared.fault.RunError.{RunError}
@@ -54,13 +56,13 @@ mutual
       (λ v. grind (arith, junction-quiet os stop s v piped n.1))
 
   command-quiet : (os : Operands) (s : Place) (piped : Option Value) → operands_make_text os ≡ false → (command_value s os piped).made_text ≡ false
-  command-quiet no_operand s piped e = refl
   command-quiet (operand (function f) os) s piped e =
       let n = or_parts (makes_text f) (operands_make_text os) e in
-      let all = then-quiet (operand_values s os) (λ vs. meaning.applied f (meaning.piped_after vs piped)) (operands-quiet os s n.1) (λ vs. n.0) in
+      let all = then-quiet (operand_values s os) (λ vs. meaning.applied f (vs ++ option_to_list piped)) (operands-quiet os s n.1) (λ vs. n.0) in
       grind (arith, all, junction-quiet os false s nothing piped n.1, junction-quiet os true s nothing piped n.1)
-  command-quiet (operand o os) s piped e =
-      let n = or_parts (operand_makes_text o) (operands_make_text os) e in grind (arith, operand-quiet o s n.0)
+  command-quiet (operand nil no_operand) s None e = refl
+  command-quiet (operand o no_operand) s None e = operand-quiet o s (or_parts (operand_makes_text o) false e).0
+  command-quiet _ s piped e = refl
 
   commands-quiet : (cs : Pipeline) (s : Place) (piped : Option Value) → commands_make_text cs ≡ false → (commands_value s cs piped).made_text ≡ false
   commands-quiet no_command s piped e = grind arith
@@ -85,7 +87,7 @@ quiet = record {
   binds = λ r env e. e;
   spends = λ r left e. e;
   puts = λ r bytes e. e;
-  pipes = λ p s none r e. or_from r.made_text (pipeline_value s p).made_text e (commands-quiet p s None none);
+  pipes = λ p s none r e. or_from r.made_text (commands_value s p None).made_text e (commands-quiet p s None none);
 }
 
 mutual

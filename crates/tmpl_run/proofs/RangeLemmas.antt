@@ -12,8 +12,8 @@ use Rattle.tmpl_syntax.specs.Tree.{Nodes}
 use Rattle.tmpl_syntax.specs.Need.{need_of_nodes}
 use Rattle.tmpl_meaning.specs.Pipeline.{Environment}
 use Rattle.tmpl_meaning.specs.Meaning as meaning
-use Rattle.tmpl_meaning.specs.Meaning.{Calls, End, Next, Run, after_turn, bound, meanings, oldest, on_turn, over, ranging, scope}
-use Rattle.tmpl_meaning.specs.Meaning.{scoped, spend_if, turns, visited, with_bound}
+use Rattle.tmpl_meaning.specs.Meaning.{Calls, End, Next, Run, after_turn, bound, meanings, over, scope, turns, visited, with_bound}
+use Rattle.tmpl_meaning.proofs.PartLemmas.{controlling, on_turn, scoped, spend_if}
 use Rattle.tmpl_code.specs.Instruction as code
 use Rattle.tmpl_code.specs.Layout.{Layout, bound_on, declared_in, declares_key, slot_named, first_layout}
 use Rattle.tmpl_code.specs.Code.{Above, Code, Ended, NodesAt, SetDotAt, TurnAt}
@@ -297,7 +297,7 @@ module _ (way : Way) (calls : Calls) (spare : ℕ) where
   range-leads h body other ih-body ih-other g lay fr here rest s l w room k =
       let fits = w.fits in
       value-leads way calls B g s.left h.pipeline go l.1 st (omega arith)
-      (ways.unscope way A g lay fr (length (env_of lay s.cells)) (ranging (set way calls) s.line h s.dot body-of other-of (run_of lay s))
+      (ways.unscope way A g lay fr (length (env_of lay s.cells)) (controlling (set way calls) s.line control.Range h s.dot body-of other-of (run_of lay s))
       (length-env lay s.cells st.cells.deep) w.inside k)
       (λ v m place at k. ways.does way st.runs (at ∙ l.2.5) (let long = length-cells st.cells in omega arith)
       (by v m place (at ∙ l.2.5) (elements_for (declares_key h.binding) v) refl

@@ -6,7 +6,8 @@ use Rattle.std.specs.List.{drop-map}
 use Rattle.std.proofs.lemmas.List.{length-map, length-set}
 use Rattle.tmpl_values.specs.Value.{Value, nothing}
 use Rattle.tmpl_meaning.specs.Pipeline.{Environment, lookup}
-use Rattle.tmpl_meaning.specs.Meaning.{Run, assigned, oldest}
+use Rattle.tmpl_meaning.specs.Meaning.{Run, assigned}
+use Rattle.tmpl_meaning.proofs.PartLemmas.{oldest}
 use Rattle.tmpl_grammar.specs.Tree.{Binding, unbound, declare, assign, declare_pair}
 use Rattle.tmpl_grammar.specs.Need.{declared_count}
 use Rattle.tmpl_syntax.specs.Tree as tree

@@ -5,8 +5,9 @@ use Rattle.std.proofs.lemmas.Option.{slice_get-get_or, slice_get_within}
 use Rattle.tmpl_values.specs.Value.{Value}
 use Rattle.tmpl_syntax.specs.Set.{Template}
 use Rattle.tmpl_syntax.specs.View.{set_view}
-use Rattle.tmpl_meaning.specs.Meaning.{Ran, ran, ran_with, starting_dot}
+use Rattle.tmpl_meaning.specs.Meaning.{Ran, ran}
 use Rattle.tmpl_meaning.specs.declared.options.Options.{Options}
+use Rattle.tmpl_meaning.proofs.PartLemmas.{ran_with}
 use Rattle.tmpl_code.specs.Code.{Starts}
 use Rattle.tmpl_code.specs.Room.{Suffices}
 use Rattle.tmpl_code.specs.View.{instructions_of}
@@ -17,7 +18,7 @@ use Rattle.tmpl_run.specs.computed.Plan.{plan_of}
 use Rattle.tmpl_run.specs.computed.View.{size_of}
 use Rattle.tmpl_run.specs.declared.machine.Machine.{Machine}
 use Rattle.tmpl_run.specs.Ends.{Ends}
-use Rattle.tmpl_run.specs.State.{Plan, State, starting}
+use Rattle.tmpl_run.specs.State.{Plan, State, starting, starting_dot}
 use Rattle.tmpl_run.proofs.TreeLemmas.{need-is, run-leads, starts-at}
 
 -- the run of the template that a state runs, over its dot

@@ -14,8 +14,8 @@ use Rattle.tmpl_syntax.specs.Set.{Template, number_of}
 use Rattle.tmpl_syntax.proofs.NamedLemmas.{Named, numbered, unnumbered}
 use Rattle.tmpl_syntax.specs.Tree.{NodeKind, Nodes}
 use Rattle.tmpl_meaning.specs.Meaning as meaning
-use Rattle.tmpl_meaning.specs.Meaning.{Calls, End, Next, Ran, Run, Setting, apart, run_called, calls_within, handing, left_by, meanings, setting_of}
-use Rattle.tmpl_meaning.specs.Meaning.{spend_if, uncalled, with_value, ran_of, ran_with, started, stepped}
+use Rattle.tmpl_meaning.specs.Meaning.{Calls, End, Next, Ran, Run, Setting, calls_within, meanings, setting_of, with_value, stepped}
+use Rattle.tmpl_meaning.proofs.PartLemmas.{apart, calling, handing, left_by, ran_of, ran_with, returned, run_called, spend_if, started, uncalled}
 use Rattle.tmpl_code.specs.Instruction as code
 use Rattle.tmpl_code.specs.Layout.{Layout, first_layout, declared_in, grown}
 use Rattle.tmpl_code.specs.Calls.{IsChain, NodesName, NodeNames}
@@ -118,7 +118,7 @@ module _ (way : Way) (first : 1 ≤ way.who.depth) (linked : Starts way.plan.tem
     goes-back : (g : Option Ring) (lay : Layout) (fr : Frame) (rest : Code) (s : State) (number : ℕ) (t : Template)
         (is-t : slice_get way.plan.templates number ≡ Some t) (place : ℕ)
         → Stands way.plan way.who rest lay fr (record s { place = place + 1 })
-        → (x : Run × End) → ways.After way (ways.Onward way rest lay fr s.dot) g (meaning.returned (env_of lay s.cells) x)
+        → (x : Run × End) → ways.After way (ways.Onward way rest lay fr s.dot) g (returned (env_of lay s.cells) x)
         → ways.After (inside-of s number t is-t place) (ways.Leaves (inside-of s number t is-t place)) None x
     goes-back g lay fr rest s number t is-t place st x k = by x.1 k
       where
@@ -212,7 +212,7 @@ module _ (way : Way) (first : 1 ≤ way.who.depth) (linked : Starts way.plan.tem
         by : (o : Option ℕ) → number_of name way.plan.templates ≡ o → here ≡ step_of_call line o ∷ start
             → CallAt name o given lay start rest → ways.Leading way s
         by None e l at-node =
-            ways.spends way (calls_of n) A g lay line start s (meaning.calling (set_of n) line name given s.dot) st.runs (st.at ∙ l) k
+            ways.spends way (calls_of n) A g lay line start s (calling (set_of n) line name given s.dot) st.runs (st.at ∙ l) k
             (λ at k. ways.does way st.runs (at ∙ at-node) tt
             (subst (λ c. ways.After way A g (with_value (set_of n) line c (handing (set_of n) line given s.dot) (run_of lay (ways.step_taken line s))))
             (absent way.plan.rules way.plan.templates n name (unnumbered name way.plan.templates e)) k))
@@ -280,7 +280,7 @@ module _ (way : Way) (first : 1 ≤ way.who.depth) (linked : Starts way.plan.tem
                     value-leads way (calls_of (suc m)) A g (s.left - 1) p body l (record { at = there; runs = st.runs; cells = st.cells }) (omega arith) k
                     (λ v made place at k. gets v made place at k)
 
-            pays : (b : Bool) → nat_eq s.left 0 ≡ b → ways.After way A g (spend_if b (set_of n) line (meaning.calling (set_of n) line name given s.dot)
+            pays : (b : Bool) → nat_eq s.left 0 ≡ b → ways.After way A g (spend_if b (set_of n) line (calling (set_of n) line name given s.dot)
                 (run_of lay s))
                 → Comes (ways.Leading way) (deepened b (nat_lt s.depth way.plan.rules.depth_limit) way.plan way.me line s) way.end
             pays true is k = k

@@ -8,7 +8,8 @@ use Rattle.tmpl_syntax.specs.Set.{Template}
 use Rattle.tmpl_meaning.specs.Fault.{Fault}
 use Rattle.tmpl_meaning.specs.Pipeline.{Environment}
 use Rattle.tmpl_meaning.specs.Meaning as meaning
-use Rattle.tmpl_meaning.specs.Meaning.{Calls, End, Next, Ran, Run, Setting, oldest, on_end, scoped, setting_of, spend_if}
+use Rattle.tmpl_meaning.specs.Meaning.{Calls, End, Next, Ran, Run, Setting, setting_of}
+use Rattle.tmpl_meaning.proofs.PartLemmas.{oldest, on_end, scoped, spend_if}
 use Rattle.tmpl_code.specs.Instruction.{Instruction}
 use Rattle.tmpl_code.specs.Code.{Code, Around, EndAt, Exit}
 use Rattle.tmpl_code.specs.Instruction as code

@@ -2,12 +2,12 @@
 use Rattle.std.specs.Prelude.{◌≡◌, ◌<◌, ◌≤◌, ◌⊎◌, ℕ, true, List, ◌++◌, length, Option, Some, slice_get}
 use Rattle.tmpl_values.specs.Value.{Value}
 use Rattle.tmpl_syntax.specs.Set.{Template}
-use Rattle.tmpl_meaning.specs.Meaning.{Ran, Rules, ran, starting_dot}
+use Rattle.tmpl_meaning.specs.Meaning.{Ran, Rules, ran}
 use Rattle.tmpl_code.specs.Calls.{IsChain}
 use Rattle.tmpl_code.specs.Code.{Starts}
 use Rattle.tmpl_code.specs.MakesText.{set_makes_text}
 use Rattle.tmpl_code.specs.Room.{Suffices}
-use Rattle.tmpl_run.specs.State.{Plan, State, starting}
+use Rattle.tmpl_run.specs.State.{Plan, State, starting, starting_dot}
 use Rattle.tmpl_run.specs.Machine.{goes, next_of}
 use Rattle.tmpl_run.specs.Ends.{Ends}
 

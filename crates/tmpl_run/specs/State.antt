@@ -1,8 +1,10 @@
 -- Where a run of flat code stands, and what it goes by.
-use Rattle.std.specs.Prelude.{ℕ, Bool, false, List, [], ◌∷◌}
+use Rattle.std.specs.Prelude.{ℕ, Bool, false, List, [], ◌∷◌, Option}
+use Rattle.std.specs.Option.{option_map_or}
 use Rattle.tmpl_values.specs.Value.{Value, nothing}
 use Rattle.tmpl_syntax.specs.Set.{Template}
 use Rattle.tmpl_meaning.specs.Meaning.{Rules}
+use Rattle.tmpl_meaning.specs.Pipeline.{without_null}
 use Rattle.tmpl_code.specs.Code.{Code}
 use Rattle.tmpl_run.specs.Cell.{Cell, fresh}
 
@@ -30,6 +32,10 @@ pub record State : Type 0 where
   pub depth : ℕ
   -- that of the next instruction
   pub place : ℕ
+
+-- the dot at the start: the data, of which null is nothing; nothing where there is no data
+abbrev pub starting_dot : Option Value → Value
+starting_dot input = option_map_or without_null input nothing
 
 -- before the first instruction of the template of this number, which starts here, over a value: `$` lies above two
 -- cells that tell of no caller

@@ -2,13 +2,12 @@
 use Rattle.std.specs.Prelude.{ℕ, Bool, true, false, ◌||◌, List, [], ◌∷◌, ◌++◌, take, drop, reverse}
 use Rattle.std.specs.Prelude.{Result, Ok, Err}
 use Rattle.tmpl_values.specs.Value.{Value, nothing, boolean, number, string}
-use Rattle.tmpl_funcs.specs.Dispatch.{called}
 use Rattle.tmpl_funcs.specs.Func.{makes_text}
 use Rattle.tmpl_funcs.specs.declared.func.Func.{Func}
 use Rattle.tmpl_funcs.specs.declared.fault.CallFault.TheVariants.{WrongCount}
 use Rattle.tmpl_meaning.specs.Fault as fault
 use Rattle.tmpl_meaning.specs.Fault.{Cause, call_failed}
-use Rattle.tmpl_meaning.specs.Pipeline.{Place, chain, decides, or_call_failed, without_null}
+use Rattle.tmpl_meaning.specs.Pipeline.{Place, applied, chain, decides, without_null}
 use Rattle.tmpl_code.specs.Instruction.{Operation, push_nothing, push_bool, push_number, push_text, push_dot}
 use Rattle.tmpl_code.specs.Instruction.{push_fields, push_slot, chained, call_with, decide, settle, refuse}
 use Rattle.tmpl_code.specs.Instruction.{Refusal, not_a_function, nil_command, wrong_count, no_template}
@@ -39,8 +38,8 @@ cause_of (no_template name) = fault.no_template name
 
 -- a function over these arguments, and over a piped one that lies on the stack
 abbrev pub called_on : Func → List Value → Bool → List Cell → Went
-called_on f args false cs = pushed (or_call_failed f (called f args)) cs
-called_on f args true cs = newest cs (λ v cs. pushed (or_call_failed f (called f (args ++ v ∷ []))) cs)
+called_on f args false cs = pushed (applied f args).result cs
+called_on f args true cs = newest cs (λ v cs. pushed (applied f (args ++ v ∷ [])).result cs)
 
 -- a value that decides stays, and a piped one below it goes; another goes
 abbrev pub decided_by : Bool → ℕ → Bool → Value → List Cell → Went

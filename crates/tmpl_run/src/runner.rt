@@ -3,7 +3,7 @@ ghost use Rattle.std.specs.Prelude.{◌≡◌, ◌≢◌, Err, ◌+◌, ◌-◌,
 ghost use Rattle.std.specs.Prelude.{option_map, slice_get};
 ghost use Rattle.tmpl_values.specs.View.{is_made, val_of, value_of};
 ghost use Rattle.tmpl_syntax.specs.View.{set_view};
-ghost use Rattle.tmpl_meaning.specs.Meaning.{Ran, ran, starting_dot};
+ghost use Rattle.tmpl_meaning.specs.Meaning.{Ran, ran};
 ghost use Rattle.tmpl_meaning.specs.Sink.{sunk};
 ghost use Rattle.tmpl_meaning.specs.View.{rules_of};
 ghost use Rattle.tmpl_code.specs.MakesText.{set_makes_text};
@@ -14,7 +14,7 @@ ghost use Rattle.tmpl_run.specs.computed.Output.{Grows, given_of, waiting};
 ghost use Rattle.tmpl_run.specs.computed.Plain.{IsPlain};
 ghost use Rattle.tmpl_run.specs.Run.{IsRun};
 ghost use Rattle.tmpl_run.specs.computed.Plan.{plan_of};
-ghost use Rattle.tmpl_run.specs.State.{starting};
+ghost use Rattle.tmpl_run.specs.State.{starting, starting_dot};
 ghost use Rattle.tmpl_run.specs.computed.View.{size_of};
 
 use crate::fault::RunError;

@@ -1,4 +1,4 @@
-use Rattle.tmpl_meaning.specs.Meaning.{starting_dot}
+use Rattle.tmpl_run.specs.State.{starting_dot}
 use Rattle.tmpl_run.proofs.TreeLemmas.{run-leads}
 use Rattle.tmpl_run.proofs.laws.comes_to_meaning.Goals as goal
 
