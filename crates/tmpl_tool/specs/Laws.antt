@@ -103,4 +103,5 @@ abbrev pub TellsRefusedMemory : Type 0
 TellsRefusedMemory =
     (parse : Parse) (words : List Bytes) (files : Files) (fails : Failing) (out err : Sunk) (code : ℕ)
     → Outcome (tool_answer parse words files fails) out err code → code ≡ 7
-    → let a = tool_answer parse words files fails in Begun (if a.made_text then a.text else []) out × Says memory_line err
+    → let a = tool_answer parse words files fails in
+    Begun (if a.made_text then a.text else []) out × Says memory_line err

@@ -1,6 +1,7 @@
 -- The command as one function of the words and of the contents of files.
 use Rattle.std.specs.Prelude.{◌≡◌, ◌⊎◌, ◌+◌, ℕ, suc, nat_eq, Bool, true, false, List, [], ◌∷◌, ◌++◌, length, Option}
-use Rattle.std.specs.Prelude.{Some, None, Result, Ok, Err, codes, decimal, option_map, option_to_list, slice_get, unwrap_or, if◌then◌else◌}
+use Rattle.std.specs.Prelude.{Some, None, Result, Ok, Err, codes, decimal, option_map, option_to_list, slice_get}
+use Rattle.std.specs.Prelude.{unwrap_or, if◌then◌else◌}
 use Rattle.std.specs.Option.{ok_or, option_map_or}
 use Rattle.std.specs.Result.{result_map_both, result_ok}
 use Rattle.tmpl_values.specs.Value.{Value}

@@ -49,7 +49,8 @@ pub(crate) fn put_line<E: Sink>(
 
 /// Writes a line to the front of the memory, and says how long it is, if it fits.
 fn line_in(memory: &mut [u8], place: &[Part<'_>], parts: &[Part<'_>]) -> Option<usize>
-    ensures line { IfSome result (λ size. take size memory.new ≡ line (parts_bytes place.now ++ parts_bytes parts.now)) }
+    ensures line { IfSome result (λ size. take size memory.new
+        ≡ line (parts_bytes place.now ++ parts_bytes parts.now)) }
     ensures within { IfSome result (λ size. size ≤ length memory.new) }
 {
     let mut fixed = Fixed {
