@@ -177,7 +177,8 @@ calls_within rules set zero name =
     option_map_or (λ t. Err (calls_too_deep rules.depth_limit)) (tree_named name set) (Err (no_template name))
 calls_within rules set (suc n) name = option_map_or (λ t. Ok (λ v r.
     let q = meanings (setting_of rules (calls_within rules set n) name t) t.nodes v (record r { env = ([], v) ∷ [] }) in
-    (record q.0 { env = r.env }, option_map_or faulted (fault_of q.1) done))) (tree_named name set) (Err (no_template name))
+    (record q.0 { env = r.env }, option_map_or faulted (fault_of q.1) done)))
+    (tree_named name set) (Err (no_template name))
 
 -- ---- whole templates
 
