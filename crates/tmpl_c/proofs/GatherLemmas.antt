@@ -30,6 +30,7 @@ outcome_front a all f err code (inr (inr refused)) = from a.made_text refused.0
     nothing : (front rest : Bytes) → ◌≡◌ {A = Bytes} [] (front ++ rest) → front ≡ []
     nothing [] rest e = refl
     nothing (b ∷ front) rest e = cc
+
     from : (made : Bool) → Begun (if made then a.text else []) (sunk (holding [] 0) (holding all f)) → (rest : Bytes) × (a.text ≡ all ++ rest)
     from true h = (h.1.1, h.1.2 ∙ ap (λ (xs : Bytes). xs ++ h.1.1) (sym (some_same all h.1.0 h.1.3)))
     from false h = (a.text, ap (λ (xs : Bytes). xs ++ a.text) (sym (some_same all h.1.0 h.1.3 ∙ nothing h.1.0 h.1.1 h.1.2)))
