@@ -8,10 +8,11 @@ use Rattle.tmpl_grammar.specs.Tree as tree
 use Rattle.tmpl_grammar.specs.Tree.{Operand, Operands, Pipeline}
 use Rattle.tmpl_grammar.specs.Operand.{IsOperand}
 use Rattle.tmpl_grammar.specs.Pipeline.{IsBlank, IsChain, IsChained, SpellsOperand, SpellsMore, SpellsCommand, SpellsLater, SpellsPipeline}
-use Rattle.tmpl_grammar.specs.Depth.{depth_behind, deepest, depth_of_operand, depth_of_operands, depth_of_pipeline}
+use Rattle.tmpl_grammar.specs.Depth.{depth_of_operand, depth_of_operands, depth_of_pipeline}
+use Rattle.tmpl_grammar.specs.computed.Depth.{depth_behind, deepest}
 
 -- tokens that close what they open, and open so many within
-abbrev pub Nests : ℕ → List Token → Type 0
+abbrev Nests : ℕ → List Token → Type 0
 Nests d ts = (n : ℕ) (us : List Token) → deepest n (ts ++ us) ≡ max (n + d) (deepest n us)
 
 least : (n : ℕ) (ts : List Token) → n ≤ deepest n ts
@@ -24,11 +25,11 @@ pub too-deep : (most n m : ℕ) (ts : List Token) (t : Token) (us : List Token) 
 too-deep most n m ts t us is e h =
     grind (arith, nat_tests, least m us)
 
-pub none-nests : Nests 0 []
+none-nests : Nests 0 []
 none-nests n us = let low = least n us in omega (arith, low)
 
 -- a token that is no parenthesis, and tokens behind it
-pub one-nests : (t : Token) (ts : List Token) (d : ℕ) → ((n : ℕ) → depth_behind t.kind n ≡ n) → Nests d ts → Nests d (t ∷ ts)
+one-nests : (t : Token) (ts : List Token) (d : ℕ) → ((n : ℕ) → depth_behind t.kind n ≡ n) → Nests d ts → Nests d (t ∷ ts)
 one-nests t ts d same h = grind arith
 
 of-kind : (t : Token) (ts : List Token) (d : ℕ) (k : TokenKind) → t.kind ≡ k → ((n : ℕ) → depth_behind k n ≡ n) → Nests d ts → Nests d (t ∷ ts)
@@ -38,7 +39,7 @@ of-kind t ts d k is same = one-nests t ts d (λ n. ap (λ k. depth_behind k n) i
 both-nest : (ts us : List Token) (d e : ℕ) → Nests d ts → Nests e us → Nests (max d e) (ts ++ us)
 both-nest ts us d e h k n vs = grind (arith, append_assoc ts us vs, h n (us ++ vs), k n vs)
 
-pub blank-nests : (ws ts : List Token) (d : ℕ) → IsBlank ws → Nests d ts → Nests d (ws ++ ts)
+blank-nests : (ws ts : List Token) (d : ℕ) → IsBlank ws → Nests d ts → Nests d (ws ++ ts)
 blank-nests [] ts d b h = h
 blank-nests (w ∷ ws) ts d b h = of-kind w (ws ++ ts) d kind.Space b.0 (λ n. refl) (blank-nests ws ts d b.1 h)
 
@@ -47,7 +48,7 @@ chain-nests [] ts c = rw c none-nests
 chain-nests (n ∷ names) ts (t, us, is, field, begins, name, rest) =
     rw is (of-kind t us 0 kind.Field field (λ n. refl) (chain-nests names us rest))
 
-pub operand-apart : (t : Token) (o : Operand) → IsOperand t o → (n : ℕ) → depth_behind t.kind n ≡ n
+operand-apart : (t : Token) (o : Operand) → IsOperand t o → (n : ℕ) → depth_behind t.kind n ≡ n
 operand-apart t o is n = grind arith
 
 chained-nests : (o : Operand) (names : List (List ℕ)) (ts : List Token) → IsChained o names ts → Nests 0 ts
@@ -85,7 +86,7 @@ mutual
   later-nests (tree.command os cs) ts (bar, a, b, is, bars, may, spells, rest) =
       rw is (of-kind bar (a ++ b) _ kind.Pipe bars (λ n. refl) (both-nest a b _ _ (command-nests os a spells) (later-nests cs b rest)))
 
-  pub pipeline-nests : (cs : Pipeline) (ts : List Token) → SpellsPipeline cs ts → Nests (depth_of_pipeline cs) ts
+  pipeline-nests : (cs : Pipeline) (ts : List Token) → SpellsPipeline cs ts → Nests (depth_of_pipeline cs) ts
   pipeline-nests tree.no_command ts s = absurd s
   pipeline-nests (tree.command os cs) ts (a, b, is, spells, rest) =
       rw is (both-nest a b _ _ (command-nests os a spells) (later-nests cs b rest))

@@ -1,4 +1,3 @@
-pub mod ActionDepthLemmas
 pub mod ActionLemmas
 pub mod DepthLemmas
 pub mod DigitLemmas

@@ -9,8 +9,8 @@ use Rattle.tmpl_lex.specs.declared.piece.TokenKind.{TokenKind}
 use Rattle.tmpl_lex.specs.Piece.{Token}
 use Rattle.tmpl_grammar.specs.Tree as tree
 use Rattle.tmpl_grammar.specs.Tree.{Operand, Operands, Pipeline, operands_from, commands_from}
-use Rattle.tmpl_grammar.specs.Depth.{deepest, depth_of_pipeline, most_deep}
-use Rattle.tmpl_grammar.specs.computed.Depth.{limited_pipeline}
+use Rattle.tmpl_grammar.specs.Depth.{depth_of_pipeline, most_deep}
+use Rattle.tmpl_grammar.specs.computed.Depth.{deepest, limited_pipeline}
 use Rattle.tmpl_grammar.specs.computed.Limited.{emptied, pruned, pruned_step, pruned_steps, pruned_commands, limited_commands}
 use Rattle.tmpl_grammar.specs.computed.Parser.{Parser, Partial, settled, more_commands, may_stand, step, step_by, steps, finished, commands_after, start}
 use Rattle.tmpl_grammar.specs.computed.Reading.{pipeline_in}

@@ -1,31 +1,14 @@
 -- How deep parentheses nest, and how deep they may (our own limit).
-use Rattle.std.specs.Prelude.{ℕ, suc, ◌+◌, ◌-◌, max, List, [], ◌∷◌, Some}
-use Rattle.tmpl_lex.specs.declared.piece.TokenKind.{TokenKind}
-use Rattle.tmpl_lex.specs.declared.piece.TokenKind.TheVariants as kind
-use Rattle.tmpl_lex.specs.Piece.{Token}
+use Rattle.std.specs.Prelude.{ℕ, ◌+◌, max, Some}
 use Rattle.tmpl_grammar.specs.Tree as tree
 use Rattle.tmpl_grammar.specs.Tree.{Operand, Operands, Pipeline}
-use Rattle.tmpl_grammar.specs.Action.{Action, pipeline_action, opening}
-use Rattle.tmpl_grammar.specs.Action.{else_branch}
-use Rattle.tmpl_grammar.specs.Action.{template_action, block_action}
-
--- how many parentheses are open behind a token of this kind, where so many are before it
-abbrev pub depth_behind : TokenKind → ℕ → ℕ
-depth_behind kind.LeftParenthesis n = suc n
-depth_behind kind.RightParenthesis n = n - 1
-depth_behind k n = n
-
--- the most that are open at any place of tokens, where so many are at first
-abbrev pub deepest : ℕ → List Token → ℕ
-deepest n [] = n
-deepest n (t ∷ ts) = max n (deepest (depth_behind t.kind n) ts)
+use Rattle.tmpl_grammar.specs.Action.{Action, pipeline_action, opening, else_branch, template_action, block_action}
 
 -- our own limit
 abbrev pub most_deep : ℕ
 most_deep = 100
 
--- ---- the same of what tokens spell
-
+-- how many parentheses stand around what is innermost in it
 abbrev mutual
   pub depth_of_operand : Operand → ℕ
   depth_of_operand (tree.group commands names) = 1 + depth_of_pipeline commands

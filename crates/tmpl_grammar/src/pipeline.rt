@@ -1,9 +1,9 @@
 //! The reading of pipelines.
 ghost use Rattle.std.specs.Prelude.{◌≡◌, ◌≤◌, IfOk, map, nat_le, option_map};
 ghost use Rattle.tmpl_lex.specs.View.{token_of};
-ghost use Rattle.tmpl_grammar.specs.Depth.{deepest, depth_behind, most_deep};
+ghost use Rattle.tmpl_grammar.specs.Depth.{most_deep};
 ghost use Rattle.tmpl_grammar.specs.View.{command_of, pipeline_of};
-ghost use Rattle.tmpl_grammar.specs.computed.Depth.{limited_pipeline};
+ghost use Rattle.tmpl_grammar.specs.computed.Depth.{deepest, depth_behind, limited_pipeline};
 ghost use Rattle.tmpl_grammar.specs.computed.Limited.{limited_commands, pruned_commands};
 ghost use Rattle.tmpl_grammar.specs.computed.Parser.{start};
 ghost use Rattle.tmpl_grammar.specs.computed.Reading as spec;

@@ -1,5 +1,5 @@
 -- For `one_list_of_items` and `read_all`: the pieces of a file are read as the items that are computed, also part by part.
-use Rattle.std.proofs.Common.{arith, ◌≡◌, ◌∙◌, ◌≤◌, ◌<◌, ℕ, Bool, true, false, List, [], ◌∷◌, map, Option, Some, None, refl, ap, sym, subst, ⊎_elim, ◌++◌}
+use Rattle.std.proofs.Common.{◌≡◌, ◌∙◌, ◌≤◌, ◌<◌, ℕ, Bool, true, false, List, [], ◌∷◌, map, Option, Some, None, refl, ap, sym, subst, ⊎_elim, ◌++◌}
 use Rattle.std.proofs.Math.Path.{fun_ext}
 use Rattle.std.proofs.lemmas.Bool.{le-leb, cases_lt}
 use Rattle.std.proofs.lemmas.Option.{same_Some}
@@ -7,7 +7,7 @@ use Rattle.tmpl_lex.specs.computed.Cut.{cut_of}
 use Rattle.tmpl_lex.specs.Piece.{Token, Piece, text, action, unreadable}
 use Rattle.tmpl_lex.proofs.CutLemmas.{cut_of-Cuts, Cuts-cut_of}
 use Rattle.tmpl_grammar.specs.Action.{Action, branch_in, SpellsAction}
-use Rattle.tmpl_grammar.specs.Depth.{deepest, depth_of, most_deep}
+use Rattle.tmpl_grammar.specs.Depth.{depth_of, most_deep}
 use Rattle.tmpl_grammar.specs.computed.Depth.{unread as unread_within, too_deep as deep_within, read as read_within, reading_by, reading_of}
 use Rattle.tmpl_grammar.specs.computed.Reading.{action_in}
 use Rattle.tmpl_syntax.specs.Item.{Item, item, HasItems, IsItem, a_text, an_unreadable, unread, too_deep, read}
@@ -16,7 +16,6 @@ use Rattle.tmpl_syntax.specs.computed.Item.{read_item, item_in, items_in}
 use Rattle.tmpl_syntax.specs.Language.{Language, every_action}
 use Rattle.tmpl_syntax.specs.Laws.{HasItemsOf, HasOneList, HasSomeItems}
 use Rattle.tmpl_syntax.specs.computed.Parse.{items_of}
-use Rattle.tmpl_grammar.proofs.ActionDepthLemmas.{action-depth}
 use Rattle.tmpl_grammar.proofs.LimitLemmas.{nat_le-false}
 use Rattle.tmpl_grammar.proofs.ActionLemmas.{reads-action, spells-action, none-spelled}
 use Rattle.tmpl_lex.specs.declared.part.Rest as held
@@ -25,11 +24,11 @@ use Rattle.tmpl_lex.proofs.FirstPartLemmas.{whole-cut}
 
 -- ---- the limit
 
-within-read : (a : Action) (ts : List Token) → SpellsAction a ts → deepest 0 ts ≤ most_deep → reading_of (Some a) ≡ read_within a
-within-read a ts s le = let same = action-depth a ts s in ap (λ b. reading_by b a) (le-leb (depth_of a) most_deep (omega (arith, same, le)))
+within-read : (a : Action) → depth_of a ≤ most_deep → reading_of (Some a) ≡ read_within a
+within-read a le = ap (λ b. reading_by b a) (le-leb (depth_of a) most_deep le)
 
-deep-read : (a : Action) (ts : List Token) → SpellsAction a ts → most_deep < deepest 0 ts → reading_of (Some a) ≡ deep_within (branch_in a)
-deep-read a ts s lt = let same = action-depth a ts s in ap (λ b. reading_by b a) (nat_le-false (depth_of a) most_deep (omega (arith, same, lt)))
+deep-read : (a : Action) → most_deep < depth_of a → reading_of (Some a) ≡ deep_within (branch_in a)
+deep-read a lt = ap (λ b. reading_by b a) (nat_le-false (depth_of a) most_deep lt)
 
 -- ---- the actions of a language
 
@@ -62,9 +61,9 @@ module _ (language : Language) where
   read-item : (line : ℕ) (ts : List Token) (a : Action) → SpellsAction a ts → language a ≡ true
       → IsItem language (action line ts) (item line (read_item (reading_of (Some a))))
   read-item line ts a s t = ⊎_elim
-      (λ lt. subst (λ r. IsItem language (action line ts) (item line (read_item r))) (sym (deep-read a ts s lt)) (too_deep a s t lt))
-      (λ le. subst (λ r. IsItem language (action line ts) (item line (read_item r))) (sym (within-read a ts s le)) (read s t le))
-      (cases_lt most_deep (deepest 0 ts))
+      (λ lt. subst (λ r. IsItem language (action line ts) (item line (read_item r))) (sym (deep-read a lt)) (too_deep a s t lt))
+      (λ le. subst (λ r. IsItem language (action line ts) (item line (read_item r))) (sym (within-read a le)) (read s t le))
+      (cases_lt most_deep (depth_of a))
 
   action-item : (line : ℕ) (ts : List Token) → IsItem language (action line ts) (item_for language (action line ts))
   action-item line ts = by (action_in ts) refl
@@ -95,8 +94,8 @@ module _ (language : Language) where
 
   only-item : {p : Piece} {x : Item} → IsItem language p x → x ≡ item_for language p
   only-item (unread {line = line} {ts = ts} none) = unread-only line ts none (action_in ts) refl
-  only-item (too_deep {ts = ts} a spells t lt) = rw (reads-action ts a spells) (rw t (rw (deep-read a ts spells lt) refl))
-  only-item (read {ts = ts} {a = a} spells t le) = rw (reads-action ts a spells) (rw t (rw (within-read a ts spells le) refl))
+  only-item (too_deep {ts = ts} a spells t lt) = rw (reads-action ts a spells) (rw t (rw (deep-read a lt) refl))
+  only-item (read {ts = ts} {a = a} spells t le) = rw (reads-action ts a spells) (rw t (rw (within-read a le) refl))
   only-item _ = refl
 
   -- ---- the items of a file

@@ -19,7 +19,6 @@ use Rattle.tmpl_syntax.specs.Print.Printable.{AreSaid, ArePrintable}
 use Rattle.tmpl_syntax.specs.Parse.{template_in}
 use Rattle.tmpl_syntax.specs.Print.Laws.{KeepsPrintable}
 use Rattle.tmpl_syntax.proofs.PrintablePieceLemmas.{OfPiece, OfPieces, cuts-of}
-use Rattle.tmpl_grammar.proofs.ActionDepthLemmas.{action-depth}
 use Rattle.tmpl_grammar.proofs.PrintableActionLemmas.{of_action}
 
 abbrev OfItem : Item → Type 0
@@ -33,7 +32,7 @@ OfItems (x ∷ xs) = OfItem x × OfItems xs
 
 of-item : {language : Language} {p : Piece} {x : Item} → IsItem language p x → OfPiece p → OfItem x
 of-item text_read h = h
-of-item (read {ts = ts} {a = a} s t le) h = let same = action-depth a ts s in of_action a ts (omega (arith, same, le)) h s
+of-item (read {ts = ts} {a = a} s t le) h = of_action a ts le h s
 of-item _ h = tt
 
 of-items : (language : Language) (ps : List Piece) (xs : List Item) → AllZip (IsItem language) ps xs → OfPieces ps → OfItems xs

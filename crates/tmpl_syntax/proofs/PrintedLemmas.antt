@@ -22,7 +22,6 @@ use Rattle.tmpl_syntax.specs.Language.{every_action}
 use Rattle.tmpl_syntax.specs.Print.Join.{joined, IsText, AreParts, SamePieces, no_piece, same_text, same_action}
 use Rattle.tmpl_grammar.specs.Printable.{OfAction}
 use Rattle.tmpl_syntax.specs.Print.Printable.{AreSaid, ArePrintable}
-use Rattle.tmpl_grammar.proofs.ActionDepthLemmas.{action-depth}
 use Rattle.tmpl_lex.proofs.PartLemmas.{absent-nil, absent-cons}
 use Rattle.tmpl_syntax.proofs.JoinLemmas.{cut-back}
 use Rattle.tmpl_grammar.proofs.PrintedTokenLemmas.{action-inside}
@@ -130,8 +129,7 @@ items-said (said_text t ∷ ss) _ h (same_text {line = line} s) =
     let (xs, are, say) = items-said ss _ h.1 s in (item line (text_item t) ∷ xs, (text_read, are), says_text say)
 items-said (said a ∷ ss) _ h (same_action {line = line} s) =
     let (xs, are, say) = items-said ss _ h.1 s in
-    let spells = spells-tokens a h.0 in
-    (item line (action_item a) ∷ xs, (read spells refl (rw (sym (action-depth a (action_tokens a) spells)) (within a h.0)), are), says say)
+    (item line (action_item a) ∷ xs, (read (spells-tokens a h.0) refl (within a h.0), are), says say)
 
 -- what is said is joined part by part
 said-joined : (before : Option (List ℕ)) (ss : List Said) → joined before (map part_of ss) ≡ file_of before ss

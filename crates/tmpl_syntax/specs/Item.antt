@@ -5,7 +5,7 @@ use Rattle.std.specs.List.{AllZip}
 use Rattle.tmpl_lex.specs.Cut.{Cuts}
 use Rattle.tmpl_lex.specs.Piece.{Token, Piece, text, action, unreadable}
 use Rattle.tmpl_grammar.specs.Action.{Action, branch_in, SpellsAction}
-use Rattle.tmpl_grammar.specs.Depth.{deepest, most_deep}
+use Rattle.tmpl_grammar.specs.Depth.{depth_of, most_deep}
 use Rattle.tmpl_grammar.specs.declared.action.Branch.{Branch}
 use Rattle.tmpl_syntax.specs.Fault as reason
 use Rattle.tmpl_syntax.specs.Fault.{Reason}
@@ -31,10 +31,10 @@ pub data IsItem (has : Language) : Piece → Item → Type 0 where
   unread : {line : ℕ} {ts : List Token} → ((a : Action) → SpellsAction a ts → has a ≡ true → ⊥)
       → IsItem has (action line ts) (item line (flawed_item reason.not_an_action))
   -- tokens that spell one whose parentheses nest too deep
-  too_deep : {line : ℕ} {ts : List Token} (a : Action) → SpellsAction a ts → has a ≡ true → most_deep < deepest 0 ts
+  too_deep : {line : ℕ} {ts : List Token} (a : Action) → SpellsAction a ts → has a ≡ true → most_deep < depth_of a
       → IsItem has (action line ts) (item line (deep_item (branch_in a)))
   -- tokens that spell one within the limit
-  read : {line : ℕ} {ts : List Token} {a : Action} → SpellsAction a ts → has a ≡ true → deepest 0 ts ≤ most_deep
+  read : {line : ℕ} {ts : List Token} {a : Action} → SpellsAction a ts → has a ≡ true → depth_of a ≤ most_deep
       → IsItem has (action line ts) (item line (action_item a))
 
 -- a file of these bytes is cut into pieces that are read as these items, one by one

@@ -1,5 +1,8 @@
 -- What is read of an action within the limit of its parentheses, computed.
-use Rattle.std.specs.Prelude.{Bool, true, false, nat_le, Option, Some, None, option_map}
+use Rattle.std.specs.Prelude.{ℕ, suc, ◌-◌, max, Bool, true, false, nat_le, List, [], ◌∷◌, Option, Some, None, option_map}
+use Rattle.tmpl_lex.specs.declared.piece.TokenKind.{TokenKind}
+use Rattle.tmpl_lex.specs.declared.piece.TokenKind.TheVariants as kind
+use Rattle.tmpl_lex.specs.Piece.{Token}
 use Rattle.tmpl_grammar.specs.Tree.{Pipeline, no_command, Header}
 use Rattle.tmpl_grammar.specs.Action.{Action, pipeline_action, opening, else_branch, template_action, block_action}
 use Rattle.tmpl_grammar.specs.Action.{branch_in}
@@ -21,7 +24,18 @@ abbrev pub reading_of : Option Action → Reading
 reading_of None = unread
 reading_of (Some a) = reading_by (nat_le (depth_of a) most_deep) a
 
--- ---- as the code has it: a pipeline that is too deep is left out
+-- ---- as the code has it: parentheses are counted over the tokens, and a pipeline that is too deep is left out
+
+-- how many parentheses are open behind a token of this kind, where so many are before it
+abbrev pub depth_behind : TokenKind → ℕ → ℕ
+depth_behind kind.LeftParenthesis n = suc n
+depth_behind kind.RightParenthesis n = n - 1
+depth_behind k n = n
+
+-- the most that are open at any place of tokens, where so many are at first
+abbrev pub deepest : ℕ → List Token → ℕ
+deepest n [] = n
+deepest n (t ∷ ts) = max n (deepest (depth_behind t.kind n) ts)
 
 abbrev pub limited_by : Bool → Pipeline → Pipeline
 limited_by true p = p

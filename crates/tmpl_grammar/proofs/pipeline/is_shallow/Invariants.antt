@@ -1,6 +1,7 @@
 use Rattle.std.proofs.Common.{◌≡◌, ◌≤◌, drop, map, nat_le}
 use Rattle.tmpl_lex.specs.View.{token_of}
-use Rattle.tmpl_grammar.specs.Depth.{deepest, most_deep}
+use Rattle.tmpl_grammar.specs.Depth.{most_deep}
+use Rattle.tmpl_grammar.specs.computed.Depth.{deepest}
 use Rattle.tmpl_grammar.proofs.pipeline.is_shallow.Given as goal
 
 abbrev pub invariant-loop-token : goal.invariant-loop-token
