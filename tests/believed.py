@@ -29,7 +29,7 @@ MOST = {
     "tmpl_values": 166,
     "tmpl_funcs": 217,
     "tmpl_lex": 101,
-    "tmpl_grammar": 298,
+    "tmpl_grammar": 308,
     "tmpl_syntax": 352,
     "tmpl_meaning": 216,
     "tmpl_tool": 233,

@@ -11,7 +11,7 @@ use Rattle.tmpl_engine.specs.declared.error.RenderError.TheVariants.{NoTemplate,
 use Rattle.tmpl_tool.specs.Outcome.{Outcome, Says, memory_line}
 use Rattle.tmpl_tool.specs.Source.{Bytes}
 use Rattle.tmpl_tool.specs.Tool as tool
-use Rattle.tmpl_tool.specs.Tool.{answer_of, named_run, stop_answer}
+use Rattle.tmpl_tool.specs.Tool.{answer_of, stop_answer}
 use Rattle.tmpl_tool.proofs.MessageLemmas.{nothing_put}
 
 -- a sink that was not touched took the whole of nothing
@@ -33,3 +33,5 @@ says_refused None name before after err code h is says = let wrong = h.0 in cc
 says_refused (Some r) name before after err code (inl run) is says = inr (inr (rw run.1 run.0, is, says))
 says_refused (Some r) name before after err code (inr untouched) is says =
     inr (inr ((untouched.0, ([], _, refl, untouched.1 ∙ appended-nil before.bytes)), is, says))
+
+pub ruleset ends = (says_unnamed, says_refused)

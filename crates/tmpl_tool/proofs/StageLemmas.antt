@@ -8,7 +8,7 @@ use Rattle.tmpl_tool.specs.Source.{Bytes, Files}
 use Rattle.tmpl_tool.specs.Laws.{GivesHelp, Prints, RefusesWords, Runs, StopsAtData, StopsAtDataRead, StopsAtFile, StopsAtName, StopsAtRead}
 use Rattle.tmpl_tool.specs.Laws.{TellsFailedWrite, TellsRefusedMemory}
 use Rattle.tmpl_tool.specs.Tool as tool
-use Rattle.tmpl_tool.specs.Tool.{Failing, Parse, Stop, answer_of, asked_by, asked_name, data_found, loaded, stop_if, tool_answer, with_file}
+use Rattle.tmpl_tool.specs.Tool.{Failing, Parse, Stop, answer_of, asked_by, loaded, with_file}
 use Rattle.tmpl_values.specs.Stage.{and_then}
 use Rattle.tmpl_tool.specs.computed.Load.{after_words}
 
