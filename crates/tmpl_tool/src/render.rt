@@ -52,7 +52,6 @@ pub fn tell_end<E: Sink>(end: Result<(), RenderError<'_>>, name: &[u8], err: &mu
 }
 
 /// Says why a render of the template of this name ended, and gives the status of that.
-#[tactic(auto, using(crate::proofs::RenderLemmas::ends))]
 fn tell_error<E: Sink>(error: RenderError<'_>, name: &[u8], err: &mut E) -> Status
     requires { (E.so_far err.old).failures < 2 ^ 64 - 1 }
     ensures cuts { Once (E.so_far err.old).failures (E.so_far err.new).failures }
