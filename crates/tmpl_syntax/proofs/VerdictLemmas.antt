@@ -62,13 +62,34 @@ within xs i f a = let h = holder xs i f a in slice_get_within xs i h.0 h.1
 said : (xs : List Role) (i : ℕ) (x : Role) → slice_get xs i ≡ Some x → (r : Reason) → Applies xs i r → Says xs i x r
 said xs i x at r a = let h = holder xs i r a in subst (λ y. Says xs i y r) (same-piece xs i h.0 x h.1 at) h.2
 
+-- what is not flawed has one of three faults
+abbrev SaysOne : List Role → ℕ → Role → Reason → Type 0
+SaysOne xs i x r = (IsMisplaced xs i x × (r ≡ reason.out_of_place)) ⊎ (IsTooDeep xs i x × (r ≡ reason.nested_too_deeply))
+    ⊎ (IsUndeclared xs i x × (r ≡ reason.undeclared_variable))
+
+says-one : (xs : List Role) (i : ℕ) (x : Role) → ((why : Reason) → x ≢ flawed why) → (r : Reason) → Says xs i x r → SaysOne xs i x r
+says-one xs i (flawed why) sound r s = absurd (sound why refl)
+says-one xs i x sound reason.out_of_place s = inl (s, refl)
+says-one xs i x sound reason.nested_too_deeply s = inr (inl (s, refl))
+says-one xs i x sound reason.undeclared_variable s = inr (inr (s, refl))
+says-one xs i x sound r s = absurd s
+
+-- the reason of a rank
+abbrev at-rank : ℕ → Reason
+at-rank zero = reason.out_of_place
+at-rank (suc zero) = reason.nested_too_deeply
+at-rank (suc (suc n)) = reason.undeclared_variable
+
+ranked : (xs : List Role) (i : ℕ) (x : Role) (r : Reason) → SaysOne xs i x r → r ≡ at-rank (rank r)
+ranked xs i x r (inl s) = rw s.1 refl
+ranked xs i x r (inr (inl s)) = rw s.1 refl
+ranked xs i x r (inr (inr s)) = rw s.1 refl
+
 -- reasons of one rank that are said of an item are one
 same-said : (xs : List Role) (i : ℕ) (x : Role) (f g : Reason) → Says xs i x f → Says xs i x g → rank f ≡ rank g → f ≡ g
 same-said xs i (flawed why) f g a b e = sym a ∙ b
-same-said xs i x reason.out_of_place reason.out_of_place a b e = refl
-same-said xs i x reason.nested_too_deeply reason.nested_too_deeply a b e = refl
-same-said xs i x reason.undeclared_variable reason.undeclared_variable a b e = refl
-same-said xs i x f g a b e = grind arith
+same-said xs i x f g a b e = ranked xs i x f (says-one xs i x (λ w e. cc) f a) ∙ ap at-rank e
+    ∙ sym (ranked xs i x g (says-one xs i x (λ w e. cc) g b))
 
 same-rank : (xs : List Role) (i : ℕ) (f g : Reason) → Applies xs i f → Applies xs i g → rank f ≡ rank g → f ≡ g
 same-rank xs i f g a b e = let h = holder xs i f a in same-said xs i h.0 f g h.2 (said xs i h.0 h.1 g b) e
@@ -112,18 +133,6 @@ sound-start xs = record {
 abbrev Tells : List Role → ℕ → Option Reason → Type 0
 Tells xs i None = (r : Reason) → Applies xs i r → ⊥
 Tells xs i (Some f) = Applies xs i f × ((r : Reason) → rank r < rank f → Applies xs i r → ⊥)
-
--- what is not flawed has one of three faults
-abbrev SaysOne : List Role → ℕ → Role → Reason → Type 0
-SaysOne xs i x r = (IsMisplaced xs i x × (r ≡ reason.out_of_place)) ⊎ (IsTooDeep xs i x × (r ≡ reason.nested_too_deeply))
-    ⊎ (IsUndeclared xs i x × (r ≡ reason.undeclared_variable))
-
-says-one : (xs : List Role) (i : ℕ) (x : Role) → ((why : Reason) → x ≢ flawed why) → (r : Reason) → Says xs i x r → SaysOne xs i x r
-says-one xs i (flawed why) sound r s = absurd (sound why refl)
-says-one xs i x sound reason.out_of_place s = inl (s, refl)
-says-one xs i x sound reason.nested_too_deeply s = inr (inl (s, refl))
-says-one xs i x sound reason.undeclared_variable s = inr (inr (s, refl))
-says-one xs i x sound r s = absurd s
 
 module _ (xs : List Role) (i : ℕ) (a : Role) (at : slice_get xs i ≡ Some a) (sound : (r : Reason) → Says xs i a r → SaysOne xs i a r) where
   -- what is asked for first does not apply
