@@ -9,13 +9,12 @@ use Rattle.tmpl_values.specs.Value.{Value}
 use Rattle.tmpl_values.specs.View.{val_of}
 use Rattle.tmpl_values.specs.declared.value.Cell.{Cell}
 use Rattle.tmpl_funcs.specs.View.{values_of}
-use Rattle.tmpl_funcs.specs.printf.Form.{WrittenForm, is_plain, form_bytes}
+use Rattle.tmpl_funcs.specs.printf.Form.{Form, WrittenForm, form_of, is_plain}
 use Rattle.tmpl_funcs.specs.printf.Reading.{form_at}
-use Rattle.tmpl_funcs.specs.printf.Form.{form_of}
+use Rattle.tmpl_funcs.specs.printf.Spelling.{form_bytes}
 use Rattle.tmpl_funcs.specs.computed.Directive.{printed}
 use Rattle.tmpl_funcs.specs.printf.Format.{formatted}
 use Rattle.tmpl_funcs.specs.computed.Format.{both, IsAdded, IsSegmentAdded}
-use Rattle.tmpl_funcs.specs.declared.printf.form.Form.{Form}
 use Rattle.tmpl_funcs.specs.declared.fault.CallError.{CallError}
 use Rattle.tmpl_funcs.specs.declared.fault.CallError.TheVariants as error
 use Rattle.tmpl_funcs.specs.declared.fault.CallFault.TheVariants as fault

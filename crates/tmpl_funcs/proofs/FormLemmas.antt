@@ -1,19 +1,18 @@
 -- For `read_form` and what it calls: a form is read part by part.
-use Rattle.std.proofs.Common.{◌≡◌, ◌∙◌, ℕ, suc, ◌-◌, ◌≤◌, ◌==◌, Bool, true, false, List, [], ◌∷◌, ◌++◌, length, get_or}
-use Rattle.std.proofs.Common.{take, drop, find, map, IfSome, Option, Some, option_map, if◌then◌else◌, refl, sym, ap, subst, arith}
+use Rattle.std.proofs.Common.{◌≡◌, ◌∙◌, ℕ, suc, ◌-◌, ◌≤◌, Bool, true, false, List, [], ◌∷◌, ◌++◌, length, get_or}
+use Rattle.std.proofs.Common.{take, drop, Option, Some, None, option_map, if◌then◌else◌, refl, sym, ap, subst, arith}
 use Rattle.std.proofs.Common.{append_assoc, length-drop}
 use Rattle.std.specs.Borrow.{Bor}
 use Rattle.std.specs.Char.{is_ascii_digit}
 use Rattle.std.specs.List.{prefix_len}
 use Rattle.std.proofs.lemmas.List.{take_all, take-append-drop}
-use Rattle.std.proofs.lemmas.Bool.Decides.{nat_tests}
-use Rattle.tmpl_funcs.specs.printf.Form.{WrittenForm, letter, pointed, form_bytes, is_flag}
+use Rattle.tmpl_funcs.specs.printf.Form.{WrittenForm, form_of, is_flag}
+use Rattle.tmpl_funcs.specs.printf.Directive.{is_verb}
 use Rattle.tmpl_funcs.specs.printf.Reading.{verb_of, form_at, verb_behind}
-use Rattle.tmpl_funcs.specs.printf.Form.{form_of}
+use Rattle.tmpl_funcs.specs.printf.Spelling.{pointed, form_bytes}
+use Rattle.tmpl_funcs.specs.computed.View.{form_seen}
 use Rattle.tmpl_funcs.specs.computed.Reading.{form_if, form_by, width_behind, precision_behind, IsRead}
 use Rattle.tmpl_funcs.specs.declared.printf.form.Form.{Form}
-use Rattle.tmpl_funcs.specs.declared.printf.form.Verb.{Verb}
-use Rattle.tmpl_funcs.specs.declared.printf.form.Verb.TheVariants as verb
 
 -- the same reading of the same bytes
 pub IsRead-along : {asked asked' : Option WrittenForm} {all all' : List ℕ} (read : Option (Form × Bor (List ℕ))) → IsRead asked all read
@@ -21,57 +20,36 @@ pub IsRead-along : {asked asked' : Option WrittenForm} {all all' : List ℕ} (re
 IsRead-along {asked} {asked'} {all} {all'} read h e w =
     subst (λ (bs : List ℕ). IsRead asked' bs read) w (subst (λ (o : Option WrittenForm). IsRead o all read) e h)
 
-found-by : (b : ℕ) (t : Bool) (w : Verb) (ws : List Verb) → (b == letter w) ≡ t → IfSome (find (λ v. b == letter v) ws) (λ v. letter v ≡ b)
-    → IfSome (if t then Some w else find (λ v. b == letter v) ws) (λ v. letter v ≡ b)
-found-by b true w ws is more = grind (arith, nat_tests)
-found-by b false w ws is more = more
+-- the letter of a verb is that letter
+pub letter-verb_of : (b v : ℕ) → verb_of b ≡ Some v → (v ≡ b) × (is_verb v ≡ true)
+letter-verb_of b v is = by (is_verb b) refl is
+  where
+    by : (t : Bool) → is_verb b ≡ t → (if t then Some b else None) ≡ Some v → (v ≡ b) × (is_verb v ≡ true)
+    by true t e = let same : b ≡ v = cc in (sym same, ap is_verb (sym same) ∙ t)
+    by false t e = cc
 
-found-in : (b : ℕ) (ws : List Verb) → IfSome (find (λ v. b == letter v) ws) (λ v. letter v ≡ b)
-found-in b [] = tt
-found-in b (w ∷ ws) = found-by b (b == letter w) w ws refl (found-in b ws)
-
--- the verbs without their letters
-abbrev all_verbs : List Verb
-all_verbs = verb.Value ∷ verb.Decimal ∷ verb.Octal ∷ verb.Binary ∷ verb.Hex ∷ verb.UpperHex ∷ verb.Text ∷ verb.Quoted ∷ verb.Char ∷ verb.Truth ∷ []
-
-abbrev letterless : ℕ × Verb → Verb
-letterless p = p.1
-
-lettered-by : (b : ℕ) (t : Bool) (w : Verb) (o : Option (ℕ × Verb)) (q : Option Verb) → option_map letterless o ≡ q
-    → option_map letterless (if t then Some (letter w, w) else o) ≡ (if t then Some w else q)
-lettered-by b true w o q more = refl
-lettered-by b false w o q more = more
-
-lettered : (b : ℕ) (ws : List Verb) → option_map letterless (find (λ (p : ℕ × Verb). b == p.0) (map (λ w. (letter w, w)) ws)) ≡ find (λ w. b == letter w) ws
-lettered b [] = refl
-lettered b (w ∷ ws) = lettered-by b (b == letter w) w _ _ (lettered b ws)
-
--- the letter of the verb of a letter
-pub letter-verb_of : (b : ℕ) (v : Verb) → verb_of b ≡ Some v → letter v ≡ b
-letter-verb_of b v is = subst (λ o. IfSome o (λ v. letter v ≡ b)) (sym (lettered b all_verbs) ∙ is) (found-in b all_verbs)
-
-module _ (flags width : List ℕ) (p : Option (List ℕ)) (b : ℕ) (bs : List ℕ) (v : Verb) (form : Form) (is : letter v ≡ b) where
-  form_if-made : (t : Bool) → option_map form_of (form_if t flags width p v) ≡ Some form
-      → (x : WrittenForm) × (form_if t flags width p v ≡ Some x) × (form ≡ form_of x) × (flags ++ (width ++ (pointed p ++ b ∷ bs)) ≡ form_bytes x ++ bs)
+module _ (flags width : List ℕ) (p : Option (List ℕ)) (b : ℕ) (bs : List ℕ) (v : ℕ) (form : Form) (is : v ≡ b) where
+  form_if-made : (t : Bool) → Some (form_seen form) ≡ option_map form_of (form_if t flags width p v)
+      → (x : WrittenForm) × (form_if t flags width p v ≡ Some x) × (form_seen form ≡ form_of x) × (flags ++ (width ++ (pointed p ++ b ∷ bs)) ≡ form_bytes x ++ bs)
   form_if-made true h =
       let x : WrittenForm = record { flags = flags; width = width; precision = p; verb = v } in
-      let same : form_of x ≡ form = cc in (
+      let same : form_seen form ≡ form_of x = cc in (
         x,
         refl,
-        sym same,
+        same,
         sym (simp append_assoc (ap (λ c. flags ++ (width ++ (pointed p ++ c ∷ bs))) is)),
       )
   form_if-made false h = cc
 
 -- the form whose verb stands at the front
-pub verb_behind-read : (flags width : List ℕ) (p : Option (List ℕ)) (bytes : List ℕ) (v : Verb) (form : Form) → 1 ≤ length bytes
+pub verb_behind-read : (flags width : List ℕ) (p : Option (List ℕ)) (bytes : List ℕ) (v : ℕ) (form : Form) → 1 ≤ length bytes
     → verb_of (get_or bytes 0 0) ≡ Some v
-    → option_map form_of (form_by flags width p (Some v)) ≡ Some form
-    → (x : WrittenForm) × (verb_behind flags width p bytes ≡ Some x) × (form ≡ form_of x) ×
+    → Some (form_seen form) ≡ option_map form_of (form_by flags width p (Some v))
+    → (x : WrittenForm) × (verb_behind flags width p bytes ≡ Some x) × (form_seen form ≡ form_of x) ×
     (flags ++ (width ++ (pointed p ++ bytes)) ≡ form_bytes x ++ take (length bytes - 1) (drop 1 bytes))
 verb_behind-read flags width p [] v form h e m = absurd (omega arith)
 verb_behind-read flags width p (b ∷ bs) v form h e m =
-    let made = form_if-made flags width p b bs v form (letter-verb_of b v e) _ m in
+    let made = form_if-made flags width p b bs v form (letter-verb_of b v e).0 _ m in
     let all : take (length (b ∷ bs) - 1) bs ≡ bs = take_all (suc (length bs) - 1) bs (omega arith) in
     (made.0, ap (form_by flags width p) e ∙ made.1, made.2, made.3 ∙ ap (λ r. form_bytes made.0 ++ r) (sym all))
 

@@ -8,13 +8,11 @@ use Rattle.std.proofs.lemmas.Bool.{not-true}
 use Rattle.std.proofs.lemmas.List.{length-take}
 use Rattle.std.proofs.lemmas.List.Sums.{prefix_len-le-length}
 use Rattle.tmpl_values.specs.Value.{Value}
-use Rattle.tmpl_funcs.specs.printf.Form.{WrittenForm, Segment, literal, percent, form, letter, pointed, form_bytes, segment_bytes}
-use Rattle.tmpl_funcs.specs.printf.Form.{is_plain}
-use Rattle.tmpl_funcs.specs.declared.printf.form.Verb.{Verb}
+use Rattle.tmpl_funcs.specs.printf.Form.{WrittenForm, Segment, literal, percent, form, form_of, is_plain}
+use Rattle.tmpl_funcs.specs.printf.Spelling.{pointed, form_bytes, segment_bytes}
 use Rattle.std.specs.Option.{option_map_or}
 use Rattle.tmpl_funcs.specs.printf.Reading.{form_at, first_segment, segment_len, segments_after, reading}
 use Rattle.tmpl_funcs.specs.computed.Reading.{rest_len, with_segment}
-use Rattle.tmpl_funcs.specs.printf.Form.{form_of}
 use Rattle.tmpl_funcs.specs.computed.Directive.{printed}
 use Rattle.tmpl_funcs.specs.printf.Format.{texts, formatted}
 use Rattle.tmpl_funcs.specs.computed.Format.{both}
@@ -29,15 +27,15 @@ segments-skip (suc n) [] = refl
 segments-skip (suc n) (b ∷ bs) = segments-skip n bs
 
 -- a segment has as many bytes as its spelling
-pointed-len : (p : Option (List ℕ)) (v : Verb) → length (pointed p ++ letter v ∷ []) ≡ 1 + option_map_or (λ digits. 1 + length digits) p 0
+pointed-len : (p : Option (List ℕ)) (v : ℕ) → length (pointed p ++ v ∷ []) ≡ 1 + option_map_or (λ digits. 1 + length digits) p 0
 pointed-len None v = refl
-pointed-len (Some ds) v = omega (arith, length-append ds (letter v ∷ []))
+pointed-len (Some ds) v = omega (arith, length-append ds (v ∷ []))
 
 segment_len-is : (p : Segment) → segment_len p ≡ length (segment_bytes p)
 segment_len-is (literal run) = refl
 segment_len-is percent = refl
 segment_len-is (form f) =
-    let tail : List ℕ = pointed f.precision ++ letter f.verb ∷ [] in
+    let tail : List ℕ = pointed f.precision ++ f.verb ∷ [] in
     omega (arith, length-append f.flags (f.width ++ tail), length-append f.width tail, pointed-len f.precision f.verb)
 
 -- the first segment before those behind it, as one is read

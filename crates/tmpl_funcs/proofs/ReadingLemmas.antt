@@ -9,13 +9,12 @@ use Rattle.std.proofs.lemmas.Bool.Decides.{nat_tests}
 use Rattle.std.proofs.lemmas.List.{length-take}
 use Rattle.std.proofs.lemmas.List.Sums.{prefix_len-le-length, take_while-cons}
 use Rattle.std.proofs.lemmas.Option.{IfSome_then}
-use Rattle.tmpl_funcs.specs.printf.Form.{WrittenForm, Segment, literal, percent, form, letter, pointed, form_bytes}
-use Rattle.tmpl_funcs.specs.printf.Form.{segment_bytes, is_plain, is_flag, is_short, begins_above_0}
-use Rattle.tmpl_funcs.specs.printf.Form.{takes_precision, IsPrecision, IsForm, IsNoRun, AreSegments, IsReading}
+use Rattle.tmpl_funcs.specs.printf.Directive.{is_verb}
+use Rattle.tmpl_funcs.specs.printf.Form.{WrittenForm, Segment, literal, percent, form, is_plain, is_flag, takes_precision}
+use Rattle.tmpl_funcs.specs.printf.Spelling.{pointed, form_bytes, segment_bytes, is_short, begins_above_0}
+use Rattle.tmpl_funcs.specs.printf.Spelling.{IsPrecision, IsForm, IsNoRun, AreSegments, IsReading}
 use Rattle.tmpl_funcs.specs.printf.Reading.{verb_of, behind, verb_behind, form_at, first_segment, segments_after, reading}
 use Rattle.tmpl_funcs.specs.computed.Reading.{is_precision, form_if, form_by, precision_behind, rest_len, with_segment}
-use Rattle.tmpl_funcs.specs.declared.printf.form.Verb.{Verb}
-use Rattle.tmpl_funcs.specs.declared.printf.form.Verb.TheVariants as verb
 use Rattle.tmpl_funcs.proofs.FormLemmas.{letter-verb_of}
 use Rattle.tmpl_funcs.proofs.FormatLemmas.{segments-before, reading-first, first_segment-plain, first_segment-form}
 use Rattle.tmpl_funcs.proofs.FrontLemmas.{begins, take_while-append, behind-append, list_all-take_while, begins-behind}
@@ -24,10 +23,6 @@ use Rattle.std.proofs.lemmas.Bool.{and_parts}
 
 -- ---- from the relation to the function
 
-verb_of-letter : (v : Verb) → verb_of (letter v) ≡ Some v
-verb_of-letter verb.Value = refl
-verb_of-letter _ = refl
-
 -- a letter is neither flag nor digit nor `%` nor point
 record IsLetter (b : ℕ) : Type 0 where
   flag : is_flag b ≡ false
@@ -35,9 +30,13 @@ record IsLetter (b : ℕ) : Type 0 where
   plain : is_plain b ≡ true
   point : (b == 46) ≡ false
 
-letter-IsLetter : (v : Verb) → IsLetter (letter v)
-letter-IsLetter verb.Value = record { flag = refl; digit = refl; plain = refl; point = refl }
-letter-IsLetter _ = record { flag = refl; digit = refl; plain = refl; point = refl }
+letter-IsLetter : (v : ℕ) → is_verb v ≡ true → IsLetter v
+letter-IsLetter v is = record {
+  flag = grind (arith, nat_tests);
+  digit = grind (arith, nat_tests);
+  plain = grind (arith, nat_tests);
+  point = grind (arith, nat_tests);
+}
 
 -- a digit above 0 is no flag
 is_flag-decimal : (b : ℕ) → is_ascii_digit b ≡ true → not (b == 48) ≡ true → is_flag b ≡ false
@@ -55,45 +54,45 @@ begins-front : (p q : ℕ → Bool) (xs ys zs : List ℕ) → ((b : ℕ) → q b
 begins-front p q [] ys zs each all more = more
 begins-front p q (x ∷ xs) ys zs each all more = each x (and_parts (q x) (list_all q xs) all).0
 
-module _ (v : Verb) (rest : List ℕ) where
+module _ (v : ℕ) (is_one : is_verb v ≡ true) (rest : List ℕ) where
   -- what begins at the precision begins with a point or the letter
-  pointed-first : (q : ℕ → Bool) (t : Bool) (p : Option (List ℕ)) → q 46 ≡ t → q (letter v) ≡ t → begins q ((pointed p ++ letter v ∷ []) ++ rest) ≡ t
+  pointed-first : (q : ℕ → Bool) (t : Bool) (p : Option (List ℕ)) → q 46 ≡ t → q (v) ≡ t → begins q ((pointed p ++ v ∷ []) ++ rest) ≡ t
   pointed-first q t None point is = is
   pointed-first q t (Some ds) point is = point
 
   width-no_flag : (width : List ℕ) (p : Option (List ℕ)) → list_all is_ascii_digit width ≡ true → begins_above_0 width ≡ true
-      → begins is_flag ((width ++ (pointed p ++ letter v ∷ [])) ++ rest) ≡ false
-  width-no_flag [] p all above = pointed-first is_flag false p refl (letter-IsLetter v).flag
+      → begins is_flag ((width ++ (pointed p ++ v ∷ [])) ++ rest) ≡ false
+  width-no_flag [] p all above = pointed-first is_flag false p refl (letter-IsLetter v is_one).flag
   width-no_flag (d ∷ ds) p all above = is_flag-decimal d (and_parts (is_ascii_digit d) (list_all is_ascii_digit ds) all).0 above
 
   flags-plain : (flags width : List ℕ) (p : Option (List ℕ)) → list_all is_flag flags ≡ true → list_all is_ascii_digit width ≡ true
-      → begins is_plain ((flags ++ (width ++ (pointed p ++ letter v ∷ []))) ++ rest) ≡ true
+      → begins is_plain ((flags ++ (width ++ (pointed p ++ v ∷ []))) ++ rest) ≡ true
   flags-plain flags width p flags_all all =
       begins-front is_plain is_flag flags _ rest is_plain-flag flags_all
-      (begins-front is_plain is_ascii_digit width _ rest is_plain-decimal all (pointed-first is_plain true p refl (letter-IsLetter v).plain))
+      (begins-front is_plain is_ascii_digit width _ rest is_plain-decimal all (pointed-first is_plain true p refl (letter-IsLetter v is_one).plain))
 
   verb_behind-letter : (flags width : List ℕ) (p : Option (List ℕ)) → is_short width ≡ true → is_precision p v ≡ true
-      → verb_behind flags width p (letter v ∷ rest) ≡ Some (record { flags = flags; width = width; precision = p; verb = v })
-  verb_behind-letter flags width p short fits = rw (verb_of-letter v, short, fits) refl
+      → verb_behind flags width p (v ∷ rest) ≡ Some (record { flags = flags; width = width; precision = p; verb = v })
+  verb_behind-letter flags width p short fits = rw (is_one, short, fits) refl
 
   precision_behind-pointed : (flags width : List ℕ) (p : Option (List ℕ)) → is_short width ≡ true → IsPrecision p v
-      → precision_behind flags width ((pointed p ++ letter v ∷ []) ++ rest) ≡ Some (record { flags = flags; width = width; precision = p; verb = v })
-  precision_behind-pointed flags width None short fits = rw (letter-IsLetter v).point (verb_behind-letter flags width None short refl)
+      → precision_behind flags width ((pointed p ++ v ∷ []) ++ rest) ≡ Some (record { flags = flags; width = width; precision = p; verb = v })
+  precision_behind-pointed flags width None short fits = rw (letter-IsLetter v is_one).point (verb_behind-letter flags width None short refl)
   precision_behind-pointed flags width (Some ds) short fits =
-      let stop : begins is_ascii_digit (letter v ∷ rest) ≡ false = (letter-IsLetter v).digit in
+      let stop : begins is_ascii_digit (v ∷ rest) ≡ false = (letter-IsLetter v is_one).digit in
       rw (
-        append_assoc ds (letter v ∷ []) rest,
-        take_while-append is_ascii_digit ds (letter v ∷ rest) fits.0 stop,
-        behind-append is_ascii_digit ds (letter v ∷ rest) fits.0 stop,
+        append_assoc ds (v ∷ []) rest,
+        take_while-append is_ascii_digit ds (v ∷ rest) fits.0 stop,
+        behind-append is_ascii_digit ds (v ∷ rest) fits.0 stop,
       ) (verb_behind-letter flags width (Some ds) short (rw (fits.1, fits.2) refl))
 
 -- a form is read as it is spelled
 form_at-form_bytes : (f : WrittenForm) (rest : List ℕ) → IsForm f → form_at (form_bytes f ++ rest) ≡ Some f
 unfolding form_at
 form_at-form_bytes f rest is =
-    let tail : List ℕ = pointed f.precision ++ letter f.verb ∷ [] in
-    let stop = width-no_flag f.verb rest f.width f.precision is.width is.above in
-    let digits = pointed-first f.verb rest is_ascii_digit false f.precision refl (letter-IsLetter f.verb).digit in
+    let tail : List ℕ = pointed f.precision ++ f.verb ∷ [] in
+    let stop = width-no_flag f.verb is.verb rest f.width f.precision is.width is.above in
+    let digits = pointed-first f.verb is.verb rest is_ascii_digit false f.precision refl (letter-IsLetter f.verb is.verb).digit in
     rw (
       append_assoc f.flags (f.width ++ tail) rest,
       take_while-append is_flag f.flags ((f.width ++ tail) ++ rest) is.flags stop,
@@ -102,7 +101,7 @@ form_at-form_bytes f rest is =
       take_while-append is_ascii_digit f.width (tail ++ rest) is.width digits,
       behind-append is_ascii_digit f.width (tail ++ rest) is.width digits,
     )
-    (precision_behind-pointed f.verb rest f.flags f.width f.precision is.short is.precision)
+    (precision_behind-pointed f.verb is.verb rest f.flags f.width f.precision is.short is.precision)
 
 first_segment-form_at : (bs : List ℕ) (f : WrittenForm) → begins is_plain bs ≡ true → form_at bs ≡ Some f → first_segment (37 ∷ bs) ≡ Some (form f)
 first_segment-form_at [] f h is = cc
@@ -136,7 +135,7 @@ reading-found (percent ∷ ps) are = reading-cons percent 37 (37 ∷ []) (flat_m
 reading-found (form f ∷ ps) are =
     let rest : List ℕ = flat_map segment_bytes ps in
     reading-cons (form f) 37 (form_bytes f) rest ps refl (first_segment-form_at (form_bytes f ++ rest) f
-    (flags-plain f.verb rest f.flags f.width f.precision are.0.flags are.0.width) (form_at-form_bytes f rest are.0)) (reading-found ps are.1)
+    (flags-plain f.verb are.0.verb rest f.flags f.width f.precision are.0.flags are.0.width) (form_at-form_bytes f rest are.0)) (reading-found ps are.1)
 
 -- ---- from the function to the relation
 
@@ -148,18 +147,19 @@ record IsFound (flags width bytes : List ℕ) (f : WrittenForm) : Type 0 where
   width_is : f.width ≡ width
   short : is_short width ≡ true
   precision : IsPrecision f.precision f.verb
+  verb : is_verb f.verb ≡ true
 
 -- a precision is spelled by digits
 abbrev AreDigits : Option (List ℕ) → Type 0
 AreDigits None = Unit {0}
 AreDigits (Some ds) = list_all is_ascii_digit ds ≡ true
 
-IsPrecision-by : (p : Option (List ℕ)) (v : Verb) → AreDigits p → is_precision p v ≡ true → IsPrecision p v
+IsPrecision-by : (p : Option (List ℕ)) (v : ℕ) → AreDigits p → is_precision p v ≡ true → IsPrecision p v
 IsPrecision-by None v digits fits = tt
 IsPrecision-by (Some ds) v digits fits = let both = and_parts (is_short ds) (takes_precision v) fits in (digits, both.0, both.1)
 
 module _ (flags width : List ℕ) (p : Option (List ℕ)) (digits : AreDigits p) where
-  form_by-sound : (b : ℕ) (bs : List ℕ) (o : Option Verb) → verb_of b ≡ o
+  form_by-sound : (b : ℕ) (bs : List ℕ) (o : Option ℕ) → verb_of b ≡ o
       → IfSome (form_by flags width p o) (IsFound flags width (flags ++ (width ++ (pointed p ++ b ∷ bs))))
   form_by-sound b bs None is = tt
   form_by-sound b bs (Some v) is = go (is_short width && is_precision p v) refl
@@ -169,11 +169,12 @@ module _ (flags width : List ℕ) (p : Option (List ℕ)) (digits : AreDigits p)
       go false test = tt
       go true test = let both = and_parts (is_short width) (is_precision p v) test in record {
         rest = bs;
-        spells = sym (simp append_assoc (ap (λ c. flags ++ (width ++ (pointed p ++ c ∷ bs))) (letter-verb_of b v is)));
+        spells = sym (simp append_assoc (ap (λ c. flags ++ (width ++ (pointed p ++ c ∷ bs))) (letter-verb_of b v is).0));
         flags_is = refl;
         width_is = refl;
         short = both.0;
         precision = IsPrecision-by p v digits both.1;
+        verb = (letter-verb_of b v is).1;
       }
 
   verb_behind-sound : (bs : List ℕ) → IfSome (verb_behind flags width p bs) (IsFound flags width (flags ++ (width ++ (pointed p ++ bs))))
@@ -222,6 +223,7 @@ form_at-sound bs =
         short = ap is_short parts.width_is ∙ parts.short;
         above = ap begins_above_0 parts.width_is ∙ begins_above_0-digits tail (begins-behind is_flag bs);
         precision = parts.precision;
+        verb = parts.verb;
       },
       spells ∙ ap (λ r. form_bytes f ++ r) (sym left),
     ))

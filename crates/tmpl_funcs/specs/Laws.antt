@@ -5,7 +5,8 @@ use Rattle.tmpl_funcs.specs.Dispatch.{called}
 use Rattle.tmpl_funcs.specs.Func.{takes}
 use Rattle.tmpl_funcs.specs.declared.func.Func.{Func}
 use Rattle.tmpl_funcs.specs.declared.fault.CallFault.TheVariants.{WrongCount}
-use Rattle.tmpl_funcs.specs.printf.Form.{Segment, IsReading}
+use Rattle.tmpl_funcs.specs.printf.Form.{Segment}
+use Rattle.tmpl_funcs.specs.printf.Spelling.{IsReading}
 use Rattle.tmpl_funcs.specs.printf.Reading.{reading}
 
 -- a number of arguments that a function does not take is refused before anything else

@@ -6,3 +6,4 @@ pub mod Format
 pub mod Index
 pub mod Join
 pub mod Reading
+pub mod View

@@ -4,3 +4,4 @@ pub mod Format
 pub mod Pad
 pub mod Reading
 pub mod Rune
+pub mod Spelling

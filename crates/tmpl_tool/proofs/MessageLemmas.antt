@@ -16,7 +16,7 @@ use Rattle.tmpl_tool.specs.Tool as tool
 use Rattle.tmpl_tool.specs.Tool.{reason_text}
 use Rattle.tmpl_tool.specs.Inputs.{said_of}
 use Rattle.tmpl_tool.specs.Source.{Bytes}
-use Rattle.tmpl_tool.specs.View.{part_bytes, parts_bytes}
+use Rattle.tmpl_tool.specs.computed.View.{part_bytes, parts_bytes}
 use Rattle.tmpl_tool.specs.computed.Load.{line_at}
 use Rattle.tmpl_tool.specs.declared.messages.part.Part.{Part}
 

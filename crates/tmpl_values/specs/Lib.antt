@@ -15,5 +15,4 @@ pub mod Truth
 pub mod Value
 pub mod View
 pub mod computed
-pub mod made
 pub mod row

@@ -1,3 +1,4 @@
+pub mod Buffer
 pub mod Codes
 pub mod Falls
 pub mod Put

@@ -1,6 +1,6 @@
 //! The bytes of a text that was made during a run.
 ghost use Rattle.std.specs.Prelude.{◌≡◌, IfOk, true};
-ghost use Rattle.tmpl_values.specs.made.View.{buffer_bytes, is_counted};
+ghost use Rattle.tmpl_values.specs.computed.Buffer.{buffer_bytes, is_counted};
 
 use std::alloc::{AllocError, Global};
 use std::rc::Rc;

@@ -17,7 +17,7 @@ pub struct Made {
 
 impl Model for Made {
     ghost use Rattle.std.specs.Prelude.{List, ℕ, Bool, ◌≤◌, length, slice_range};
-    ghost use Rattle.tmpl_values.specs.made.View.{buffer_bytes, is_counted};
+    ghost use Rattle.tmpl_values.specs.computed.Buffer.{buffer_bytes, is_counted};
 
     ghost Value = { List ℕ × Bool };
 

@@ -5,27 +5,27 @@ use Rattle.std.specs.Borrow.{Bor}
 use Rattle.std.specs.Char.{is_ascii_digit}
 use Rattle.std.specs.List.{take_while}
 use Rattle.std.specs.Option.{option_map_or}
-use Rattle.tmpl_funcs.specs.printf.Form.{WrittenForm, Segment, form_bytes, segment_bytes, form_of, is_short}
-use Rattle.tmpl_funcs.specs.printf.Form.{takes_precision}
+use Rattle.tmpl_funcs.specs.printf.Form.{WrittenForm, Segment, form_of, takes_precision}
 use Rattle.tmpl_funcs.specs.printf.Reading.{behind, verb_behind}
-use Rattle.tmpl_funcs.specs.declared.printf.form.Form.{Form}
-use Rattle.tmpl_funcs.specs.declared.printf.form.Verb.{Verb}
+use Rattle.tmpl_funcs.specs.printf.Spelling.{form_bytes, segment_bytes, is_short}
+use Rattle.tmpl_funcs.specs.computed.View.{form_seen}
+use Rattle.tmpl_funcs.specs.declared.printf.form.Form as held
 
 -- the number that decimal digits write when they follow those of n
 abbrev pub number_after : ℕ → List ℕ → ℕ
 number_after = fold (λ n d. 10 * n + (d - 48))
 
 -- the precision is short, and the verb may have it
-abbrev pub is_precision : Option (List ℕ) → Verb → Bool
+abbrev pub is_precision : Option (List ℕ) → ℕ → Bool
 is_precision precision verb = option_map_or (λ digits. is_short digits && takes_precision verb) precision true
 
 -- a form of these parts, where its digits are few enough and the verb may have the precision
-abbrev pub form_if : Bool → List ℕ → List ℕ → Option (List ℕ) → Verb → Option WrittenForm
+abbrev pub form_if : Bool → List ℕ → List ℕ → Option (List ℕ) → ℕ → Option WrittenForm
 form_if taken flags width precision verb =
     if taken then Some (record { flags = flags; width = width; precision = precision; verb = verb }) else None
 
 -- a form of these parts, where its verb is one
-abbrev pub form_by : List ℕ → List ℕ → Option (List ℕ) → Option Verb → Option WrittenForm
+abbrev pub form_by : List ℕ → List ℕ → Option (List ℕ) → Option ℕ → Option WrittenForm
 form_by flags width precision verb =
     option_and_then (λ v. form_if (is_short width && is_precision precision v) flags width precision v) verb
 
@@ -49,7 +49,7 @@ abbrev pub with_segment : Option Segment → Option (List Segment) → Option (L
 with_segment segment behind = option_and_then (λ p. option_map (λ ps. p ∷ ps) behind) segment
 
 -- the form asked for was read at the front of these bytes, and what stands behind it
-abbrev pub IsRead : Option WrittenForm → List ℕ → Option (Form × Bor (List ℕ)) → Type 0
+abbrev pub IsRead : Option WrittenForm → List ℕ → Option (held.Form × Bor (List ℕ)) → Type 0
 IsRead asked bytes None = asked ≡ None
-IsRead asked bytes (Some read) = (f : WrittenForm) × (asked ≡ Some f) × (read.0 ≡ form_of f)
+IsRead asked bytes (Some read) = (f : WrittenForm) × (asked ≡ Some f) × (form_seen read.0 ≡ form_of f)
     × (bytes ≡ form_bytes f ++ read.1.now)

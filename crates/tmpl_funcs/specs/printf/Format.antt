@@ -18,7 +18,7 @@ texts [] [] = Some []
 texts (literal run ∷ ps) vs = option_map (λ t. run ++ t) (texts ps vs)
 texts (percent ∷ ps) vs = option_map (λ t. 37 ∷ t) (texts ps vs)
 texts (form f ∷ ps) (v ∷ vs) =
-    option_and_then (λ s. option_map (λ t. s ++ t) (texts ps vs)) (printed_by f.verb (form_of f) v)
+    option_and_then (λ s. option_map (λ t. s ++ t) (texts ps vs)) (printed_by (form_of f) v)
 texts _ _ = None
 
 -- the text of a format and arguments

@@ -2,7 +2,7 @@
 -- units of Unicode code points, that is, runes").
 use Rattle.std.specs.Prelude.{ℕ, ◌+◌, ◌-◌, List, ◌++◌, length, replicate, if◌then◌else◌}
 use Rattle.tmpl_values.specs.Rune.{runes}
-use Rattle.tmpl_funcs.specs.declared.printf.form.Form.{Form}
+use Rattle.tmpl_funcs.specs.printf.Form.{Form}
 
 -- a text with what it lacks to a width, counted in runes: spaces before it, or behind it with the
 -- flag `-`

@@ -1,26 +1,17 @@
 -- The reading of a format from left to right: the one that `IsReading` admits.
 use Rattle.std.specs.Prelude.{ℕ, zero, suc, ◌+◌, ◌-◌, ◌&&◌, ◌==◌, nat_le, Bool, true, List, [], ◌∷◌, length, drop}
-use Rattle.std.specs.Prelude.{slice_get, slice_index, Option, Some, None, find}
+use Rattle.std.specs.Prelude.{slice_get, slice_index, Option, Some, None}
 use Rattle.std.specs.Prelude.{option_map, option_and_then, if◌then◌else◌}
 use Rattle.std.specs.Char.{is_ascii_digit}
 use Rattle.std.specs.List.{prefix_len, take_while}
 use Rattle.std.specs.Option.{option_map_or}
-use Rattle.std.specs.Str.{byte}
 use Rattle.tmpl_funcs.specs.printf.Form.{WrittenForm, Segment, literal, percent, form, is_plain, is_flag}
 use Rattle.tmpl_funcs.specs.printf.Form.{takes_precision}
-use Rattle.tmpl_funcs.specs.declared.printf.form.Verb.{Verb}
-use Rattle.tmpl_funcs.specs.declared.printf.form.Verb.TheVariants.{Value, Decimal, Octal, Binary, Hex, UpperHex, Text}
-use Rattle.tmpl_funcs.specs.declared.printf.form.Verb.TheVariants.{Quoted, Char, Truth}
+use Rattle.tmpl_funcs.specs.printf.Directive.{is_verb}
 
--- the verbs, each behind its letter
-abbrev pub verbs : List (ℕ × Verb)
-verbs =
-    (byte "v", Value) ∷ (byte "d", Decimal) ∷ (byte "o", Octal) ∷ (byte "b", Binary) ∷ (byte "x", Hex)
-    ∷ (byte "X", UpperHex) ∷ (byte "s", Text) ∷ (byte "q", Quoted) ∷ (byte "c", Char) ∷ (byte "t", Truth) ∷ []
-
--- the verb of a letter
-abbrev pub verb_of : ℕ → Option Verb
-verb_of b = option_map (λ p. p.1) (find (λ p. b == p.0) verbs)
+-- the letter, where a verb has it
+abbrev pub verb_of : ℕ → Option ℕ
+verb_of b = if is_verb b then Some b else None
 
 -- what stands behind the longest front whose bytes pass a test
 abbrev pub behind : (ℕ → Bool) → List ℕ → List ℕ

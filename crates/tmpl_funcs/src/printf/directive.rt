@@ -5,9 +5,10 @@ ghost use Rattle.std.specs.List.{flat_map};
 ghost use Rattle.tmpl_values.specs.Quote.{quote};
 ghost use Rattle.tmpl_values.specs.Text.{inner_text};
 ghost use Rattle.tmpl_values.specs.View.{val_of};
-ghost use Rattle.tmpl_funcs.specs.printf.Directive.{char_text, hex_pair, number_form, printed_by, sign, text_form};
-ghost use Rattle.tmpl_funcs.specs.computed.Directive.{hex_form, printed};
-ghost use Rattle.tmpl_funcs.specs.declared.printf.form.Verb.TheVariants as verb;
+ghost use Rattle.tmpl_funcs.specs.printf.Directive.{char_text, hex_pair, number_form, print_any, print_hex, print_truth};
+ghost use Rattle.tmpl_funcs.specs.printf.Directive.{sign, text_form};
+ghost use Rattle.tmpl_funcs.specs.computed.Directive.{printed};
+ghost use Rattle.tmpl_funcs.specs.computed.View.{form_seen};
 ghost use Rattle.tmpl_funcs.specs.printf.Rune.{truncated_to};
 ghost use Rattle.tmpl_funcs.specs.computed.Format.{IsAdded};
 
@@ -25,7 +26,7 @@ use tmpl_values::{Val, add_quote, digit};
 /// Adds what a form prints of a value.
 #[tactic(auto, unfolding(crate::specs::computed::Directive::printed))]
 pub(crate) fn add_printed(form: Form, value: &Val<'_>, bytes: &mut Vec<u8>) -> Result<(), CallError>
-    ensures { IsAdded (printed form (val_of value.now)) bytes.old.items bytes.new.items result }
+    ensures { IsAdded (printed (form_seen form) (val_of value.now)) bytes.old.items bytes.new.items result }
 {
     match form.verb {
         Verb::Value => add_value(form, value, bytes),
@@ -43,7 +44,7 @@ pub(crate) fn add_printed(form: Form, value: &Val<'_>, bytes: &mut Vec<u8>) -> R
 
 /// `%v`: lists and maps stand without flags and width.
 fn add_value(form: Form, value: &Val<'_>, bytes: &mut Vec<u8>) -> Result<(), CallError>
-    ensures { IsAdded (printed_by verb.Value form (val_of value.now)) bytes.old.items bytes.new.items result }
+    ensures { IsAdded (print_any (form_seen form) (val_of value.now)) bytes.old.items bytes.new.items result }
 {
     if let Some(text) = value.bytes() {
         return add_text_form(form, text, bytes);
@@ -64,7 +65,7 @@ fn add_value(form: Form, value: &Val<'_>, bytes: &mut Vec<u8>) -> Result<(), Cal
 
 /// Nothing, a truth value or a number, in a form with no flag but `-`.
 fn add_scalar(form: Form, value: &Val<'_>, bytes: &mut Vec<u8>) -> Result<(), CallError>
-    ensures { IsAdded (text_form form (Some (inner_text (val_of value.now))))
+    ensures { IsAdded (text_form (form_seen form) (Some (inner_text (val_of value.now))))
         bytes.old.items bytes.new.items result }
 {
     if !form.has_minus_alone() {
@@ -78,7 +79,7 @@ fn add_scalar(form: Form, value: &Val<'_>, bytes: &mut Vec<u8>) -> Result<(), Ca
 
 /// A text, in a form with no flag but `-`.
 fn add_text_form(form: Form, text: &[u8], bytes: &mut Vec<u8>) -> Result<(), CallError>
-    ensures { IsAdded (text_form form (Some text.now)) bytes.old.items bytes.new.items result }
+    ensures { IsAdded (text_form (form_seen form) (Some text.now)) bytes.old.items bytes.new.items result }
 {
     if !form.has_minus_alone() {
         return Err(CallError::Fault(CallFault::FormatRefused));
@@ -90,7 +91,7 @@ fn add_text_form(form: Form, text: &[u8], bytes: &mut Vec<u8>) -> Result<(), Cal
 /// `%s`.
 fn add_string(form: Form, text: Option<&[u8]>, bytes: &mut Vec<u8>) -> Result<(), CallError>
     ensures { IsAdded
-        (text_form form (option_map (truncated_to form.precision) (option_map (λ t. t.now) text.entry)))
+        (text_form (form_seen form) (option_map (truncated_to form.precision) (option_map (λ t. t.now) text.entry)))
         bytes.old.items bytes.new.items result }
 {
     match text {
@@ -101,7 +102,7 @@ fn add_string(form: Form, text: Option<&[u8]>, bytes: &mut Vec<u8>) -> Result<()
 
 /// `%q`.
 fn add_quoted(form: Form, text: Option<&[u8]>, bytes: &mut Vec<u8>) -> Result<(), CallError>
-    ensures { IsAdded (text_form form (option_map quote (option_map (λ t. t.now) text.entry)))
+    ensures { IsAdded (text_form (form_seen form) (option_map quote (option_map (λ t. t.now) text.entry)))
         bytes.old.items bytes.new.items result }
 {
     match text {
@@ -117,7 +118,7 @@ fn add_quoted(form: Form, text: Option<&[u8]>, bytes: &mut Vec<u8>) -> Result<()
 
 /// `%c`.
 fn add_char(form: Form, code: Option<i64>, bytes: &mut Vec<u8>) -> Result<(), CallError>
-    ensures { IsAdded (text_form form (option_map char_text code))
+    ensures { IsAdded (text_form (form_seen form) (option_map char_text code))
         bytes.old.items bytes.new.items result }
 {
     match code {
@@ -145,7 +146,7 @@ fn char_of(code: i64) -> char
 
 /// `%t`.
 fn add_truth(form: Form, value: &Val<'_>, bytes: &mut Vec<u8>) -> Result<(), CallError>
-    ensures { IsAdded (printed_by verb.Truth form (val_of value.now))
+    ensures { IsAdded (print_truth (form_seen form) (val_of value.now))
         bytes.old.items bytes.new.items result }
 {
     match value {
@@ -163,7 +164,7 @@ fn add_truth(form: Form, value: &Val<'_>, bytes: &mut Vec<u8>) -> Result<(), Cal
 
 /// `%d`.
 fn add_decimal(form: Form, n: Option<i64>, bytes: &mut Vec<u8>) -> Result<(), CallError>
-    ensures { IsAdded (option_map (number_form 10 false form) n)
+    ensures { IsAdded (option_map (number_form 10 false (form_seen form)) n)
         bytes.old.items bytes.new.items result }
 {
     match n {
@@ -187,7 +188,7 @@ fn add_in_base(
 ) -> Result<(), CallError>
     requires low { 2 ≤ base }
     requires high { base ≤ 16 }
-    ensures { IsAdded (option_map (number_form base upper form) n)
+    ensures { IsAdded (option_map (number_form base upper (form_seen form)) n)
         bytes.old.items bytes.new.items result }
 {
     match n {
@@ -204,7 +205,7 @@ fn add_in_base(
 
 /// The sign of a number.
 fn sign(form: Form, n: i64) -> &'static [u8]
-    ensures { result.now ≡ sign form n }
+    ensures { result.now ≡ sign (form_seen form) n }
 {
     if n < 0 {
         b"-"
@@ -219,7 +220,7 @@ fn sign(form: Form, n: i64) -> &'static [u8]
 
 /// `%x` and `%X`.
 fn add_hex(upper: bool, form: Form, value: &Val<'_>, bytes: &mut Vec<u8>) -> Result<(), CallError>
-    ensures { IsAdded (hex_form upper form (val_of value.now))
+    ensures { IsAdded (print_hex upper (form_seen form) (val_of value.now))
         bytes.old.items bytes.new.items result }
 {
     match value.bytes() {
@@ -230,7 +231,7 @@ fn add_hex(upper: bool, form: Form, value: &Val<'_>, bytes: &mut Vec<u8>) -> Res
 
 /// The bytes of a text, in a form with no flag but `-`.
 fn add_hex_text(upper: bool, form: Form, text: &[u8], bytes: &mut Vec<u8>) -> Result<(), CallError>
-    ensures { IsAdded (text_form form (Some (flat_map (hex_pair upper) text.now)))
+    ensures { IsAdded (text_form (form_seen form) (Some (flat_map (hex_pair upper) text.now)))
         bytes.old.items bytes.new.items result }
 {
     if !form.has_minus_alone() {

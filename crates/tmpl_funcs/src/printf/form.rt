@@ -42,18 +42,19 @@ pub(crate) struct Form {
 
 impl Form {
     ghost use Rattle.tmpl_funcs.specs.computed.Directive.{has_minus_alone};
+    ghost use Rattle.tmpl_funcs.specs.computed.View.{form_seen};
     ghost use Rattle.tmpl_funcs.specs.printf.Form.{is_bare};
 
     /// Whether it has no flag but `-`.
     pub(crate) fn has_minus_alone(self) -> bool
-        ensures { result ≡ has_minus_alone self }
+        ensures { result ≡ has_minus_alone (form_seen self) }
     {
         !(self.plus | (self.zero | self.space))
     }
 
     /// Whether it has neither flags nor a width.
     pub(crate) fn is_bare(self) -> bool
-        ensures { result ≡ is_bare self }
+        ensures { result ≡ is_bare (form_seen self) }
     {
         self.has_minus_alone() & (!self.minus & (self.width == 0))
     }

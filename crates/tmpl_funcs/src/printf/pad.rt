@@ -2,6 +2,7 @@
 ghost use Rattle.std.specs.Prelude.{◌≡◌, ◌≤◌, ◌-◌, ◌++◌, OnOk, drop, length, replicate, take};
 ghost use Rattle.tmpl_values.specs.Rune.{runes};
 ghost use Rattle.tmpl_funcs.specs.printf.Pad.{laid_out, padded};
+ghost use Rattle.tmpl_funcs.specs.computed.View.{form_seen};
 
 use super::form::Form;
 use super::rune::rune_count;
@@ -9,7 +10,7 @@ use std::alloc::AllocError;
 
 /// Adds a text with the spaces that it lacks to the width, counted in runes.
 pub(crate) fn add_padded(form: Form, text: &[u8], bytes: &mut Vec<u8>) -> Result<(), AllocError>
-    ensures { OnOk result (bytes.new.items ≡ bytes.old.items ++ padded form text.now) }
+    ensures { OnOk result (bytes.new.items ≡ bytes.old.items ++ padded (form_seen form) text.now) }
 {
     let padding = padding_len(form.width, text);
     if form.minus {
@@ -25,7 +26,7 @@ pub(crate) fn add_padded(form: Form, text: &[u8], bytes: &mut Vec<u8>) -> Result
 pub(crate) fn pad_from(form: Form, start: usize, bytes: &mut Vec<u8>) -> Result<(), AllocError>
     requires { start ≤ length bytes.old.items }
     ensures { OnOk result (bytes.new.items
-        ≡ take start bytes.old.items ++ padded form (drop start bytes.old.items)) }
+        ≡ take start bytes.old.items ++ padded (form_seen form) (drop start bytes.old.items)) }
 {
     let padding = padding_len(form.width, &bytes[start..]);
     add_repeated(b' ', padding, bytes)?;
@@ -54,7 +55,7 @@ pub(crate) fn add_laid_out(
     bytes: &mut Vec<u8>,
 ) -> Result<(), AllocError>
     ensures { OnOk result (bytes.new.items
-        ≡ bytes.old.items ++ laid_out form sign.now digits.now) }
+        ≡ bytes.old.items ++ laid_out (form_seen form) sign.now digits.now) }
 {
     let padding = form.width.saturating_sub(sign.len() + digits.len());
     if form.minus {

@@ -1,8 +1,10 @@
 //! The reading of a form.
 ghost use Rattle.std.specs.Prelude.{◌≡◌, ◌≤◌, ◌++◌, length, option_map, Some};
-ghost use Rattle.tmpl_funcs.specs.printf.Form.{form_of, number_in, pointed};
+ghost use Rattle.tmpl_funcs.specs.printf.Form.{form_of, number_in};
 ghost use Rattle.tmpl_funcs.specs.printf.Reading.{form_at, verb_behind, verb_of};
+ghost use Rattle.tmpl_funcs.specs.printf.Spelling.{pointed};
 ghost use Rattle.tmpl_funcs.specs.computed.Reading.{form_by, precision_behind, width_behind, IsRead};
+ghost use Rattle.tmpl_funcs.specs.computed.View.{form_seen, letter_of};
 
 use super::class::Class;
 use super::form::{Form, Verb};
@@ -62,8 +64,8 @@ fn read_verb<'a>(
 
 /// The form of these parts, if they are one.
 fn make_form(flags: &[u8], width: &[u8], precision: Option<&[u8]>, verb: Verb) -> Option<Form>
-    ensures { result ≡ option_map form_of (form_by flags.now width.now
-        (option_map (λ d. d.now) precision.entry) (Some verb)) }
+    ensures { option_map form_seen result ≡ option_map form_of (form_by flags.now width.now
+        (option_map (λ d. d.now) precision.entry) (Some (letter_of verb))) }
 {
     if width.len() > MOST_DIGITS {
         return None;
@@ -91,7 +93,7 @@ fn make_form(flags: &[u8], width: &[u8], precision: Option<&[u8]>, verb: Verb) -
 impl Verb {
     /// The verb of a letter.
     fn of(letter: u8) -> Option<Verb>
-        ensures { result ≡ verb_of letter }
+        ensures { option_map letter_of result ≡ verb_of letter }
     {
         match letter {
             b'v' => Some(Verb::Value),

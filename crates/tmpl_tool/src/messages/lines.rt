@@ -6,7 +6,7 @@ ghost use Rattle.tmpl_tool.specs.Outcome.{EndsWith, Once, Says, line, memory_lin
 ghost use Rattle.tmpl_tool.specs.computed.Load.{line_at};
 ghost use Rattle.tmpl_tool.specs.Tool.{call_text, fault_line};
 ghost use Rattle.tmpl_tool.specs.Tool.{bad_words, reason_text, stop_answer, unnamed};
-ghost use Rattle.tmpl_tool.specs.View.{parts_bytes};
+ghost use Rattle.tmpl_tool.specs.computed.View.{parts_bytes};
 ghost use Rattle.tmpl_tool.specs.Inputs.{refusal_seen, said_of, stop_seen};
 ghost use Rattle.tmpl_syntax.specs.Fault.{reason_of};
 

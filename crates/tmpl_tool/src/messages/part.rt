@@ -3,7 +3,7 @@ ghost use Rattle.std.specs.Prelude.{◌≡◌, ◌≤◌, ◌<◌, ◌^◌, ◌-
 ghost use Rattle.tmpl_values.specs.Put.{IsPut};
 ghost use Rattle.tmpl_meaning.specs.Sink.{as_puts};
 ghost use Rattle.tmpl_tool.specs.Outcome.{line};
-ghost use Rattle.tmpl_tool.specs.View.{part_bytes, parts_bytes};
+ghost use Rattle.tmpl_tool.specs.computed.View.{part_bytes, parts_bytes};
 
 use itoa::Buffer;
 use tmpl_meaning::{Fixed, Full};

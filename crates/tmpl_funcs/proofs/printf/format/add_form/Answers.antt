@@ -2,6 +2,7 @@ use Rattle.std.proofs.Common.{◌∙◌, ◌∷◌, ap, arith}
 use Rattle.tmpl_values.specs.View.{val_of}
 use Rattle.tmpl_funcs.specs.View.{values_of}
 use Rattle.tmpl_funcs.specs.computed.Directive.{printed}
+use Rattle.tmpl_funcs.specs.computed.View.{form_seen}
 use Rattle.tmpl_funcs.specs.printf.Format.{formatted}
 use Rattle.tmpl_funcs.specs.computed.Format.{IsSegmentAdded}
 use Rattle.tmpl_funcs.proofs.FormatLemmas.{formatted-no_form, formatted-form_alone}
@@ -25,9 +26,9 @@ returns-in_err-add_printed-in-len1-up c =
     let x = c.operand-item in
     IsErrAnd-along (IsSegmentAdded (37 ∷ bs)
     (values_of c.args.operands.now) c.args.bytes.now.items c.add_printed.new.bytes.items) c.from_residual.result _ c.from_residual.ensures.1
-    (IsSegmentAdded-refused (printed c.in-Some.form (val_of x.result.val)) c.args.bytes.now.items c.add_printed.new.bytes.items (37 ∷ bs)
+    (IsSegmentAdded-refused (printed (form_seen c.in-Some.form) (val_of x.result.val)) c.args.bytes.now.items c.add_printed.new.bytes.items (37 ∷ bs)
     (values_of c.args.operands.now) _ c.in_err-add_printed-in-len1-up.ensures
-    (formatted-form_none bs c.requires.some c.requires.other c.args.operands.now x.result c.in-len1-up.len_at_least x.is c.in-Some.form
+    (formatted-form_none bs c.requires.some c.requires.other c.args.operands.now x.result c.in-len1-up.len_at_least x.is (form_seen c.in-Some.form)
     c.in-Some.behind.now read.0 read.1 read.2 read.3))
 
 pub returns-in_ok-add_printed-in-len1-up : goal.returns-in_ok-add_printed-in-len1-up
@@ -35,5 +36,5 @@ returns-in_ok-add_printed-in-len1-up c =
     let read = c.in-Some.ensures in
     let x = c.operand-item in
     formatted-form_added c.args.spelled.now c.requires.some c.requires.other c.args.operands.now x.result c.in-len1-up.len_at_least x.is
-    c.in-Some.form c.in-Some.behind.now read.0 read.1 read.2 read.3 c.args.bytes.now.items c.add_printed.new.bytes.items
+    (form_seen c.in-Some.form) c.in-Some.behind.now read.0 read.1 read.2 read.3 c.args.bytes.now.items c.add_printed.new.bytes.items
     c.in_ok-add_printed-in-len1-up.ensures

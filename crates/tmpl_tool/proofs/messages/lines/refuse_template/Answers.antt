@@ -5,7 +5,7 @@ use Rattle.tmpl_meaning.specs.Sink.{sunk}
 use Rattle.tmpl_tool.specs.Outcome.{Says, line}
 use Rattle.tmpl_tool.specs.Source.{Bytes}
 use Rattle.tmpl_tool.specs.Tool.{reason_text}
-use Rattle.tmpl_tool.specs.View.{parts_bytes}
+use Rattle.tmpl_tool.specs.computed.View.{parts_bytes}
 use Rattle.tmpl_tool.specs.declared.messages.part.Part.{Part}
 use Rattle.tmpl_tool.proofs.MessageLemmas.{refusal-line}
 use Rattle.tmpl_tool.proofs.messages.lines.refuse_template.Goals as goal

@@ -1,7 +1,7 @@
 use Rattle.std.proofs.Common.{◌∙◌, ◌++◌, List, ap, subst}
 use Rattle.tmpl_meaning.specs.Sink.{sunk}
 use Rattle.tmpl_tool.specs.Outcome.{Says, line}
-use Rattle.tmpl_tool.specs.View.{parts_bytes}
+use Rattle.tmpl_tool.specs.computed.View.{parts_bytes}
 use Rattle.tmpl_tool.specs.declared.messages.part.Part.{Part}
 use Rattle.tmpl_tool.proofs.MessageLemmas.{place-said, put_says}
 use Rattle.tmpl_tool.proofs.messages.lines.say_at.Goals as goal

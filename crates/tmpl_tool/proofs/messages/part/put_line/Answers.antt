@@ -2,7 +2,7 @@ use Rattle.std.proofs.Common.{◌≡◌, ◌++◌, refl, sym, subst}
 use Rattle.tmpl_values.specs.Put.{IsPut}
 use Rattle.tmpl_meaning.specs.Sink.{as_puts}
 use Rattle.tmpl_tool.specs.Outcome.{line}
-use Rattle.tmpl_tool.specs.View.{parts_bytes}
+use Rattle.tmpl_tool.specs.computed.View.{parts_bytes}
 use Rattle.tmpl_tool.proofs.messages.part.put_line.Goals as goal
 
 -- what stands behind the reference at the end is what was put through it, as the puts kept its name

@@ -1,5 +1,5 @@
 use Rattle.tmpl_values.proofs.PutLemmas.{IsPut-along, IsPut-append, IsPut-stop}
-use Rattle.tmpl_tool.specs.View.{parts_bytes}
+use Rattle.tmpl_tool.specs.computed.View.{parts_bytes}
 use Rattle.tmpl_tool.proofs.MessageLemmas.{line-parted}
 use Rattle.tmpl_tool.proofs.messages.part.write_line.Goals as goal
 

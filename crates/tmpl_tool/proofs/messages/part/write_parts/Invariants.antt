@@ -1,7 +1,7 @@
 use Rattle.std.proofs.Common.{◌≡◌, ◌++◌, Ok, drop}
 use Rattle.tmpl_values.specs.Put.{IsPut}
 use Rattle.tmpl_tool.specs.Source.{Bytes}
-use Rattle.tmpl_tool.specs.View.{parts_bytes}
+use Rattle.tmpl_tool.specs.computed.View.{parts_bytes}
 use Rattle.tmpl_tool.proofs.messages.part.write_parts.Given as goal
 
 abbrev pub invariant-loop-part : goal.invariant-loop-part

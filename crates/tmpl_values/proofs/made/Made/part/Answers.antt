@@ -1,6 +1,6 @@
 use Rattle.std.proofs.Common.{◌∙◌, ◌+◌, ◌-◌, ◌≤◌, Bool, ap, sym, subst, arith, length, slice_range, drop, List, ℕ}
 use Rattle.std.proofs.lemmas.List.{length-take}
-use Rattle.tmpl_values.specs.made.View.{buffer_bytes, is_counted}
+use Rattle.tmpl_values.specs.computed.Buffer.{buffer_bytes, is_counted}
 use Rattle.tmpl_values.proofs.BytesLemmas.{range-range}
 use Rattle.tmpl_values.proofs.made.Made.part.Goals as goal
 

@@ -1,0 +1,70 @@
+-- How formats are spelled, and by which segments: what the law of one reading speaks of.
+use Rattle.std.specs.Prelude.{◌≡◌, ℕ, ◌==◌, not, nat_le, Bool, true, List, [], ◌∷◌, ◌++◌, length, Option, Some, None}
+use Rattle.std.specs.Char.{is_ascii_digit}
+use Rattle.std.specs.List.{flat_map, list_all}
+use Rattle.tmpl_funcs.specs.printf.Directive.{is_verb}
+use Rattle.tmpl_funcs.specs.printf.Form.{WrittenForm, Segment, literal, percent, form, is_plain, is_flag}
+use Rattle.tmpl_funcs.specs.printf.Form.{takes_precision}
+
+-- the precision, behind a point
+abbrev pub pointed : Option (List ℕ) → List ℕ
+pointed None = []
+pointed (Some digits) = 46 ∷ digits
+
+-- how a form is spelled behind its `%`
+abbrev pub form_bytes : WrittenForm → List ℕ
+form_bytes f = f.flags ++ (f.width ++ (pointed f.precision ++ f.verb ∷ []))
+
+-- how a segment is spelled
+abbrev pub segment_bytes : Segment → List ℕ
+segment_bytes (literal run) = run
+segment_bytes percent = 37 ∷ 37 ∷ []
+segment_bytes (form f) = 37 ∷ form_bytes f
+
+-- the digits are few enough
+abbrev pub is_short : List ℕ → Bool
+is_short digits = nat_le (length digits) 4
+
+-- the first digit, if there is one, is not 0
+abbrev pub begins_above_0 : List ℕ → Bool
+begins_above_0 [] = true
+begins_above_0 (d ∷ ds) = not (d == 48)
+
+-- a precision of few digits, which may be none, before a verb that may have it; or no precision
+abbrev pub IsPrecision : Option (List ℕ) → ℕ → Type 0
+IsPrecision None verb = Unit {0}
+IsPrecision (Some digits) verb =
+    (list_all is_ascii_digit digits ≡ true) × (is_short digits ≡ true) × (takes_precision verb ≡ true)
+
+-- a form: any flags, a width of at most four digits of which the first is not 0, a precision, and a verb
+pub record IsForm (f : WrittenForm) : Type 0 where
+  pub flags : list_all is_flag f.flags ≡ true
+  pub width : list_all is_ascii_digit f.width ≡ true
+  pub short : is_short f.width ≡ true
+  pub above : begins_above_0 f.width ≡ true
+  pub precision : IsPrecision f.precision f.verb
+  pub verb : is_verb f.verb ≡ true
+
+-- a segment is well formed; a run has bytes, and none of them is `%`
+abbrev pub IsSegment : Segment → Type 0
+IsSegment (literal []) = ⊥
+IsSegment (literal (b ∷ bs)) = list_all is_plain (b ∷ bs) ≡ true
+IsSegment percent = Unit {0}
+IsSegment (form f) = IsForm f
+
+-- the next segment, if there is one, is no run
+abbrev pub IsNoRun : List Segment → Type 0
+IsNoRun (literal run ∷ ps) = ⊥
+IsNoRun _ = Unit {0}
+
+-- the segments are well formed, and a run goes on as far as it can
+abbrev pub AreSegments : List Segment → Type 0
+AreSegments [] = Unit {0}
+AreSegments (literal run ∷ ps) = IsSegment (literal run) × IsNoRun ps × AreSegments ps
+AreSegments (percent ∷ ps) = AreSegments ps
+AreSegments (form f ∷ ps) = IsForm f × AreSegments ps
+
+-- the segments of a format: spelled one after another they are the format
+pub record IsReading (format : List ℕ) (ps : List Segment) : Type 0 where
+  pub spells : format ≡ flat_map segment_bytes ps
+  pub segments : AreSegments ps

@@ -1,0 +1,19 @@
+-- What the parts of a line stand for.
+use Rattle.std.specs.Prelude.{◌++◌, List, [], ◌∷◌, decimal}
+use Rattle.tmpl_values.specs.Quote.{quote}
+use Rattle.tmpl_tool.specs.Source.{Bytes}
+use Rattle.tmpl_tool.specs.declared.messages.part.Part.{Part}
+use Rattle.tmpl_tool.specs.declared.messages.part.Part.TheVariants as part
+
+-- the bytes of a part of a line
+abbrev pub part_bytes : Part → Bytes
+part_bytes (part.Text t) = t.now
+part_bytes (part.Bytes b) = b.now
+part_bytes (part.Quoted name) = quote name.now
+part_bytes (part.Number n) = decimal n
+
+-- .. and of parts, one after the other
+abbrev pub parts_bytes : List Part → Bytes
+parts_bytes [] = []
+parts_bytes (p ∷ []) = part_bytes p
+parts_bytes (p ∷ ps) = part_bytes p ++ parts_bytes ps
