@@ -11,12 +11,12 @@ import harness
 PROBE = f"{harness.TOP}/crates/tmpl_probe/out/tmpl_probe"
 MOSTS = (1, 3, 4096)  # bytes that a put takes at most
 WORK = 10**9  # puts of a row times its bytes, up to which each put fails in turn; beyond that only some do
-SMALL = 1 << 16  # bytes in the files and the output of a row that is run often
+SMALL = 1 << 14  # bytes in the files and the output of a row that is run often
 SPARE = 1 << 23  # bytes of files that one process may read again and again, which it keeps, and trees of them
 MANY = 1 << 30  # more runs than there are puts
 ALL = 1 << 62  # more bytes than there are
 ROWS = 1200  # rows
-LEAST = {"output": 150000, "errors": 18000, "reads": 3000}  # runs
+LEAST = {"output": 40000, "errors": 18000, "reads": 3000}  # runs
 LINES = set()  # those of which each byte was put alone
 WRITE_FAILED = b"tmpl: write failed\n"
 

@@ -1,4 +1,4 @@
-"""Runs the built program over each small row with its Nth allocation refused, for each N that there is. Each run must answer
+"""Runs the built program over each small row, and each worked one, with its Nth allocation refused, for each N there is. Each run must answer
 as the row does, or put out nothing and end with status 7 and its line. So also the printing of each small set of the rows, which must come
 to what reading.py tells. TMPL=PATH names another build."""
 import copy
@@ -11,10 +11,11 @@ import harness
 import print as printing
 from harness import build_shim
 
-SMALL = 65536  # bytes in the files and the output of a row
+SMALL = 4096  # bytes in the files and the output of a row, but for worked ones
+WORKED = "worked: "
 MOST = 100000  # allocations of one run
 LITTLE = 150  # bytes in the files of a set that is printed
-LEAST = {"rows": 150000, "printed sets": 25000}  # allocations of all
+LEAST = {"rows": 90000, "printed sets": 25000}  # allocations of all
 
 
 def refusing(number, shim, once):
@@ -90,7 +91,7 @@ def main():
     global SHIM
     if not harness.is_built():
         return harness.closing(0, 1)
-    rows = [it for it in harness.read_rows() if it.is_plain() and it.is_again() and it.size() <= SMALL]
+    rows = [it for it in harness.read_rows() if it.is_plain() and it.is_again() and (it.size() <= SMALL or it.name.startswith(WORKED))]
     passed = failed = 0
     with tempfile.TemporaryDirectory() as folder:
         SHIM = f"{folder}/fail_alloc.so"

@@ -1,8 +1,8 @@
 """Runs the built program over each row with writes that take 1, 3 or 4,096 bytes at most, and with each of these refused in turn, once
 and for good, by an error, by an interrupt, and by taking no byte; to its output, and to its errors. A short write must change nothing.
 Behind a refused write of output nothing may be put out but the line, with status 6; behind one of errors nothing at all, and the status
-stays. Of a text of more than 65,536 bytes writes are refused by errors alone, and those of 1 byte once. Rows of more than 4 MiB, and those
-whose runs end with a hundred thousand templates inside one another, are put by 4,096 bytes. TMPL=PATH names another build.
+stays. Of a text of more than 65,536 bytes writes are refused by errors alone, and those of 1 byte once. Texts of more than 131,072 bytes,
+and those whose runs end with a hundred thousand templates inside one another, are put by 4,096 bytes. TMPL=PATH names another build.
 
 `writes.py --long` puts these by 3 bytes and by 1 as well, which takes half an hour, most of it to give the cells of those templates back
 behind each refusal, and says of each how many writes were refused."""
@@ -15,9 +15,9 @@ import time
 import harness
 
 FEW = 65536  # bytes up to which each write is refused in each way
-MANY = 4 << 20  # bytes from which on only long writes are refused in the gate
+MANY = 1 << 17  # bytes beyond which only long writes are refused in the gate
 DEEP = b"100000"  # the depth whose cells take long to give back behind a refusal
-LEAST = 5000000  # refused writes
+LEAST = 1200000  # refused writes
 WAYS = ("by an error", "by an error for good", "by an interrupt", "by taking no byte")  # as fail_write.c has them
 MOST = {1: 1, 3: 2, 4096: 4}  # the most bytes that a write takes, and in how many ways it is refused where the text is long
 COUNT = struct.Struct("l")
