@@ -4,12 +4,12 @@ use Rattle.std.proofs.Common.{subst, ◌∙◌, length, drop, option_map, append
 use Rattle.std.proofs.lemmas.Bool.{eqb-true, and_parts, both_ways, false_from_ne_true}
 use Rattle.std.proofs.Math.Seq.{take-append_seam}
 use Rattle.tmpl_lex.specs.Bytes.{is_space, Absent, BeginsNone}
-use Rattle.tmpl_lex.specs.Cut.{Leads, Cuts, last, closed, unclosed}
+use Rattle.tmpl_lex.specs.Cut.{TextBefore, Cuts, last, closed, unclosed}
 use Rattle.tmpl_lex.specs.Delimiter.{IsLeftMarker, left_marker, Opens, opens, opens_marked}
 use Rattle.tmpl_lex.specs.Piece.{Piece, action, unreadable}
 use Rattle.tmpl_lex.specs.Text.{newlines}
 use Rattle.tmpl_lex.specs.computed.Action.{Opened, comment, tokens, neither, opened}
-use Rattle.tmpl_lex.specs.computed.Cut.{joined, cut_within, cut_of}
+use Rattle.tmpl_lex.specs.computed.Cut.{with_rest, cut_within, cut_of}
 use Rattle.tmpl_lex.specs.computed.Part.{Rest, stretch, split_open, rest_behind, part_from, part_of, pieces_of, ends_at}
 use Rattle.tmpl_lex.specs.computed.Text.{texts}
 use Rattle.tmpl_lex.specs.computed.Trim.{End, left_marked, past_left, behind_marker}
@@ -102,7 +102,7 @@ pub part-is : (r : Rest) → IsPart r (part_of r).0 (part_of r).1
 part-is r = go (split_open r.bytes) refl
   where
     leads : (before after : List ℕ) (m : HasMarker after (left_marked after) (past_left after)) → Absent (123 ∷ 123 ∷ []) (before ++ 123 ∷ [])
-        → Leads r.trims r.line before (123 ∷ 123 ∷ m.marker) (past_left after) (texts r.trims (left_marked after) r.line before)
+        → TextBefore r.trims r.line before (123 ∷ 123 ∷ m.marker) (past_left after) (texts r.trims (left_marked after) r.line before)
     leads before after m first =
         record { left = left_marked after; first = first; opens = m.opens; texts = texts-made r.trims (left_marked after) r.line before }
 
@@ -171,7 +171,7 @@ cut_within-Cuts zero r h = absurd (omega arith)
 cut_within-Cuts (suc n) r h = go (part_of r).0 (part_of r).1 (part-is r) (λ s less. cut_within-Cuts n s less)
   where
     go : (ps : List Piece) (o : Option Rest) → IsPart r ps o → ((s : Rest) → length s.bytes < n → CutsRest s (cut_within n s))
-        → CutsRest r (joined ps o (cut_within n))
+        → CutsRest r (with_rest ps o (cut_within n))
     go ps None cuts ih = cuts
     go ps (Some s) b ih = b.cuts (cut_within n s) (ih s (omega (arith, b.some, ap length b.is, length-append b.front s.bytes)))
 
@@ -182,7 +182,7 @@ Cuts-cut_within zero r qs cuts h = absurd (omega arith)
 Cuts-cut_within (suc n) r qs cuts h = go (part_of r).0 (part_of r).1 (part-is r) (part-only cuts) (λ s ps cuts less. Cuts-cut_within n s ps cuts less)
   where
     go : (ps : List Piece) (o : Option Rest) → IsPart r ps o → IsOnly qs ps o
-        → ((s : Rest) (more : List Piece) → CutsRest s more → length s.bytes < n → more ≡ cut_within n s) → qs ≡ joined ps o (cut_within n)
+        → ((s : Rest) (more : List Piece) → CutsRest s more → length s.bytes < n → more ≡ cut_within n s) → qs ≡ with_rest ps o (cut_within n)
     go ps None b only ih = only
     go ps (Some s) b only ih =
         only.2 ∙ ap (λ more. ps ++ more) (ih s only.0 only.1 (omega (arith, b.some, ap length b.is, length-append b.front s.bytes)))

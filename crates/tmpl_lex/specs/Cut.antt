@@ -20,7 +20,7 @@ pub data Closed : ℕ → List ℕ → Bool → List ℕ → List Piece → Type
 
 -- the text before the first `{{`, with what opens there and the bytes behind it: no `{{` begins in it, nor with its
 -- last byte; it is these pieces
-pub record Leads (right : Bool) (line : ℕ) (before opening rest : List ℕ) (pieces : List Piece) : Type 0 where
+pub record TextBefore (right : Bool) (line : ℕ) (before opening rest : List ℕ) (pieces : List Piece) : Type 0 where
   pub left : Bool
   pub first : Absent (codes "{{") (before ++ codes "{")
   pub opens : Opens left opening rest
@@ -34,12 +34,12 @@ pub data Cuts : Bool → ℕ → List ℕ → List Piece → Type 0 where
       → Absent (codes "{{") bs → Texts right false line bs texts → Cuts right line bs texts
   -- a comment or an action, and what the bytes behind it are cut into
   closed : {right trims : Bool} {line : ℕ} {before opening body rest : List ℕ} {texts here ps : List Piece}
-      → Leads right line before opening (body ++ rest) texts → Closed (line + newlines before) body trims rest here
+      → TextBefore right line before opening (body ++ rest) texts → Closed (line + newlines before) body trims rest here
       → Cuts trims (line + newlines (before ++ opening ++ body)) rest ps
       → Cuts right line (before ++ opening ++ body ++ rest) (texts ++ here ++ ps)
   -- a `{{` behind which no closed comment and no closed action begins
   unclosed : {right : Bool} {line : ℕ} {before opening rest : List ℕ} {texts : List Piece}
-      → Leads right line before opening rest texts
+      → TextBefore right line before opening rest texts
       → ((here : ℕ) (body : List ℕ) (trims : Bool) (behind : List ℕ) (ps : List Piece)
       → Closed here body trims behind ps → rest ≡ body ++ behind → ⊥)
       → Cuts right line (before ++ opening ++ rest) (texts ++ unreadable (line + newlines before) ∷ [])

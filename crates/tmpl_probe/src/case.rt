@@ -4,9 +4,9 @@ use crate::reader::Reader;
 use crate::sink::Limits;
 use std::alloc::{AllocError, Global};
 
-/// What a number says of a run.
+/// What the number of a run sets.
 #[derive(Clone, Copy, PartialEq, Eq)]
-pub(crate) enum Told {
+pub(crate) enum Varied {
     /// At which put the output fails.
     Output,
     /// At which put the errors fail.
@@ -20,7 +20,7 @@ pub(crate) enum Told {
 /// The numbers with which a case is run: so many, from the first on in steps.
 #[derive(Clone, Copy)]
 pub(crate) struct Numbers {
-    pub(crate) told: Told,
+    pub(crate) varied: Varied,
     pub(crate) first: u64,
     pub(crate) step: u64,
     pub(crate) count: u64,
@@ -84,19 +84,19 @@ fn limits(reader: &mut Reader<'_>) -> Option<Limits> {
 
 fn numbers_in(reader: &mut Reader<'_>) -> Option<Numbers> {
     Some(Numbers {
-        told: told_by(reader.text()?)?,
+        varied: varied_by(reader.text()?)?,
         first: reader.number()?,
         step: reader.number()?,
         count: reader.number()?,
     })
 }
 
-fn told_by(word: &str) -> Option<Told> {
+fn varied_by(word: &str) -> Option<Varied> {
     match word {
-        "output" => Some(Told::Output),
-        "errors" => Some(Told::Errors),
-        "reads" => Some(Told::Reads),
-        "front" => Some(Told::Front),
+        "output" => Some(Varied::Output),
+        "errors" => Some(Varied::Errors),
+        "reads" => Some(Varied::Reads),
+        "front" => Some(Varied::Front),
         _ => None,
     }
 }

@@ -1,5 +1,5 @@
 //! Runs of the command over files and sinks in memory, and what is put out of each.
-use crate::case::{Case, Numbers, Told};
+use crate::case::{Case, Numbers, Varied};
 use crate::files::{File, LentFiles};
 use crate::reader::Reader;
 use crate::sink::{LentSink, Limits};
@@ -70,8 +70,8 @@ fn run_case(
 }
 
 /// These limits, with another put that fails.
-fn failing(limits: Limits, number: u64, is_told: bool) -> Limits {
-    if is_told {
+fn failing(limits: Limits, number: u64, is_varied: bool) -> Limits {
+    if is_varied {
         Limits {
             fails_at: number,
             ..limits
@@ -84,7 +84,7 @@ fn failing(limits: Limits, number: u64, is_told: bool) -> Limits {
 /// The files of a case, the first of them cut to so many bytes where that is what the number says.
 fn cut_files<'a>(case: &Case<'a>, number: u64) -> Result<Vec<File<'a>>, AllocError> {
     let mut files = case.files.clone()?;
-    if case.numbers.told == Told::Front
+    if case.numbers.varied == Varied::Front
         && let Some(first) = files.as_mut_slice().first_mut()
         && let Some((front, _)) = first.bytes.split_at_checked(number as usize)
     {
@@ -101,17 +101,17 @@ fn run_once(
     room: &mut Room<'_>,
     writer: &mut impl Write,
 ) -> io::Result<bool> {
-    let told = case.numbers.told;
+    let varied = case.numbers.varied;
     let files = cut_files(case, number)?;
-    let fails_at = if told == Told::Reads { number } else { 0 };
+    let fails_at = if varied == Varied::Reads { number } else { 0 };
     let mut source = LentFiles::new(files.as_slice(), fails_at);
     let mut out = LentSink::new(
         &mut *room.out,
-        failing(case.out, number, told == Told::Output),
+        failing(case.out, number, varied == Varied::Output),
     );
     let mut err = LentSink::new(
         &mut *room.err,
-        failing(case.err, number, told == Told::Errors),
+        failing(case.err, number, varied == Varied::Errors),
     );
     let status = tool(
         alloc,
@@ -121,11 +121,11 @@ fn run_once(
         &mut err,
     );
     put_run(writer, status.code, &source, &out, &err, case.wanted)?;
-    Ok(match told {
-        Told::Output => out.has_failed(),
-        Told::Errors => err.has_failed(),
-        Told::Reads => source.has_failed(),
-        Told::Front => true,
+    Ok(match varied {
+        Varied::Output => out.has_failed(),
+        Varied::Errors => err.has_failed(),
+        Varied::Reads => source.has_failed(),
+        Varied::Front => true,
     })
 }
 

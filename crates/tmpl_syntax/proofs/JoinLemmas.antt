@@ -8,12 +8,12 @@ use Rattle.std.proofs.lemmas.Bool.Decides.{nat_tests}
 use Rattle.std.proofs.lemmas.List.{reverse-append}
 use Rattle.std.proofs.Math.Bool.{and-false, and-true}
 use Rattle.tmpl_lex.specs.Bytes.{is_space, Absent, BeginsNone, Stops}
-use Rattle.tmpl_lex.specs.Cut.{a_comment, an_action as tokens_closed, Leads, Cuts, last, closed}
+use Rattle.tmpl_lex.specs.Cut.{a_comment, an_action as tokens_closed, TextBefore, Cuts, last, closed}
 use Rattle.tmpl_lex.specs.Delimiter.{IsLeftMarker, left_marker, opens, opens_marked, closes}
 use Rattle.tmpl_lex.specs.Piece.{Piece, text, action}
 use Rattle.tmpl_lex.specs.Text.{newlines, text_piece, keeps, trims, Texts, trimmed}
 use Rattle.tmpl_lex.proofs.PartLemmas.{absent-rest, absent-here, absent-nil, absent-one, absent-cons}
-use Rattle.tmpl_syntax.specs.Print.Join.{Part, a_text, an_action, before_of, joined, AreParts, no_piece}
+use Rattle.tmpl_syntax.specs.Print.Join.{PrintedPart, a_text, an_action, before_of, joined_parts, AreParts, no_piece}
 use Rattle.tmpl_syntax.specs.Print.Join.{same_text, same_action, HasParts, CutsBack}
 use Rattle.tmpl_syntax.specs.Print.Printed.{opening_behind, parting}
 use Rattle.tmpl_syntax.specs.computed.Print.{ends_brace}
@@ -84,7 +84,7 @@ some-before (b ∷ t) h = refl
 record Opening (line : ℕ) (t a : List ℕ) : Type 0 where
   before : List ℕ
   delimiter : List ℕ
-  leads : Leads false line before delimiter a (text_piece line t)
+  leads : TextBefore false line before delimiter a (text_piece line t)
   is : before ++ (delimiter ++ a) ≡ t ++ (open_behind t ++ a)
 
 opens-behind : (line : ℕ) (t a : List ℕ) → Absent (123 ∷ 123 ∷ []) t → BeginsNone IsLeftMarker a → Opening line t a
@@ -115,14 +115,14 @@ some-text : (line : ℕ) (t : List ℕ) → 0 < length t → (qs : List Piece) �
 some-text line [] h qs = absurd (omega arith)
 some-text line (b ∷ t) h qs = refl
 
-pub cut-back : (ps : List Part) → AreParts ps → (t : List ℕ) → Absent (codes "{{") t → (line : ℕ) → HasParts line t ps
+pub cut-back : (ps : List PrintedPart) → AreParts ps → (t : List ℕ) → Absent (codes "{{") t → (line : ℕ) → HasParts line t ps
 cut-back [] h t clear line = record {
   pieces = [];
   cuts = simp append-nil (last clear (texts-whole line t));
   same = no_piece;
 }
 cut-back (an_action ts ∷ ps) h t clear line =
-    let rest : List ℕ = joined None ps in
+    let rest : List ℕ = joined_parts None ps in
     let body : List ℕ = bytes_of ts ++ codes "}}" in
     let o = opens-behind line t (body ++ rest) clear (rw append_assoc (h.0.unmarked rest)) in
     let here : ℕ = line + newlines o.before in
@@ -145,13 +145,13 @@ cut-back (a_text u ∷ ps) h [] clear line =
       same = same_text more.same;
     }
 cut-back (a_text u ∷ ps) h (b ∷ t) clear line =
-    let rest : List ℕ = u ++ joined (before_of u) ps in
+    let rest : List ℕ = u ++ joined_parts (before_of u) ps in
     let body : List ℕ = codes "/**/}}" in
     let o = opens-behind line (b ∷ t) (body ++ rest) clear (solid-unmarked (solid refl refl)) in
     let next : ℕ = line + newlines (o.before ++ o.delimiter ++ body) in
     let more = cut-back ps h.1 u h.0.clear next in
     let is : opening_behind (Some (b ∷ t)) ≡ open_behind (b ∷ t) = open-is (b ∷ t) in
-    let file : o.before ++ o.delimiter ++ body ++ rest ≡ (b ∷ t) ++ (parting (Some (b ∷ t)) ++ (u ++ joined (Some u) ps)) =
+    let file : o.before ++ o.delimiter ++ body ++ rest ≡ (b ∷ t) ++ (parting (Some (b ∷ t)) ++ (u ++ joined_parts (Some u) ps)) =
     simp (append_assoc, o.is, is, some-before u h.0.some) in
     record {
       pieces = text next u ∷ more.pieces;

@@ -3,7 +3,7 @@
 use Rattle.std.proofs.Common.{arith, ℕ, Bool, List, [], ◌∷◌, ◌++◌, codes}
 use Rattle.tmpl_values.specs.Bytes.{AreBytes}
 use Rattle.tmpl_lex.specs.Bytes.{Absent}
-use Rattle.tmpl_lex.specs.Cut.{Closed, a_comment, an_action, Leads, Cuts, last, closed, unclosed}
+use Rattle.tmpl_lex.specs.Cut.{Closed, a_comment, an_action, TextBefore, Cuts, last, closed, unclosed}
 use Rattle.tmpl_lex.specs.Piece.{Token, Piece, text, action, unreadable}
 use Rattle.tmpl_lex.specs.Text.{text_piece, Texts, trimmed}
 use Rattle.tmpl_lex.specs.Token.{bytes_of, Spells}
@@ -38,7 +38,7 @@ piece-of line (b ∷ t) e = (record { some = omega arith; clear = e }, tt)
 texts-of : {right left : Bool} {line : ℕ} {bs : List ℕ} {ps : List Piece} → Texts right left line bs ps → Absent (codes "{{") bs → OfPieces ps
 texts-of (trimmed {front = front} kept end f e) h = piece-of _ kept (absent-part (codes "{{") front kept end h)
 
-leads-of : {right : Bool} {line : ℕ} {before opening rest : List ℕ} {ps : List Piece} → Leads right line before opening rest ps → OfPieces ps
+leads-of : {right : Bool} {line : ℕ} {before opening rest : List ℕ} {ps : List Piece} → TextBefore right line before opening rest ps → OfPieces ps
 leads-of {before = before} h = texts-of h.texts (absent-part (codes "{{") [] before (codes "{") h.first)
 
 closed-of : {line : ℕ} {body : List ℕ} {trims : Bool} {rest : List ℕ} {ps : List Piece} → Closed line body trims rest ps → AreBytes body → OfPieces ps

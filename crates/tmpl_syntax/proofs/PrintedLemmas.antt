@@ -19,7 +19,7 @@ use Rattle.tmpl_lex.specs.Cut.{Cuts}
 use Rattle.tmpl_grammar.specs.Print.{action_tokens, bytes_of}
 use Rattle.tmpl_grammar.specs.Depth.{depth_of, most_deep}
 use Rattle.tmpl_syntax.specs.Language.{every_action}
-use Rattle.tmpl_syntax.specs.Print.Join.{joined, IsText, AreParts, SamePieces, no_piece, same_text, same_action}
+use Rattle.tmpl_syntax.specs.Print.Join.{joined_parts, IsText, AreParts, SamePieces, no_piece, same_text, same_action}
 use Rattle.tmpl_grammar.specs.Printable.{OfAction}
 use Rattle.tmpl_syntax.specs.Print.Printable.{AreSaid, ArePrintable}
 use Rattle.tmpl_lex.proofs.PartLemmas.{absent-nil, absent-cons}
@@ -132,7 +132,7 @@ items-said (said a ∷ ss) _ h (same_action {line = line} s) =
     (item line (action_item a) ∷ xs, (read (spells-tokens a h.0) refl (within a h.0), are), says say)
 
 -- what is said is joined part by part
-said-joined : (before : Option (List ℕ)) (ss : List Said) → joined before (map part_of ss) ≡ file_of before ss
+said-joined : (before : Option (List ℕ)) (ss : List Said) → joined_parts before (map part_of ss) ≡ file_of before ss
 said-joined before [] = refl
 said-joined before (said_text t ∷ ss) = ap (λ bs. parting before ++ (t ++ bs)) (said-joined (Some t) ss)
 said-joined before (said a ∷ ss) = ap (λ bs. opening_behind before ++ (bytes_of (action_tokens a) ++ (codes "}}" ++ bs))) (said-joined None ss)

@@ -18,15 +18,15 @@ use Rattle.tmpl_tool.specs.Inputs.{said_of}
 use Rattle.tmpl_tool.specs.Source.{Bytes}
 use Rattle.tmpl_tool.specs.computed.View.{part_bytes, parts_bytes}
 use Rattle.tmpl_tool.specs.computed.Load.{line_at}
-use Rattle.tmpl_tool.specs.declared.messages.part.Part.{Part}
+use Rattle.tmpl_tool.specs.declared.messages.part.LinePart.{LinePart}
 
 -- one part, and then others
-parts-cons : (p : Part) (ps : List Part) → parts_bytes (p ∷ ps) ≡ part_bytes p ++ parts_bytes ps
+parts-cons : (p : LinePart) (ps : List LinePart) → parts_bytes (p ∷ ps) ≡ part_bytes p ++ parts_bytes ps
 parts-cons p [] = sym (append-nil (part_bytes p))
 parts-cons p (q ∷ ps) = refl
 
 -- one more of the parts
-pub parts-more : (parts : List Part) (i : ℕ) (d : Part) → i < length parts
+pub parts-more : (parts : List LinePart) (i : ℕ) (d : LinePart) → i < length parts
     → parts_bytes (drop i parts) ≡ part_bytes (get_or parts i d) ++ parts_bytes (drop (i + 1) parts)
 parts-more parts i d lt = at_drop_more parts_bytes parts i d lt ∙ parts-cons (get_or parts i d) (drop (i + 1) parts)
 

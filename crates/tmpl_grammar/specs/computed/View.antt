@@ -13,8 +13,8 @@ use Rattle.tmpl_grammar.specs.computed.Parser as parser
 use Rattle.tmpl_grammar.specs.declared.tree.Binding as held_binding
 use Rattle.tmpl_grammar.specs.declared.action.Reading as held_reading
 use Rattle.tmpl_grammar.specs.declared.action.Reading.TheVariants as held
-use Rattle.tmpl_grammar.specs.declared.constant.quoted.Part.{Part}
-use Rattle.tmpl_grammar.specs.declared.constant.quoted.Part.TheVariants as part
+use Rattle.tmpl_grammar.specs.declared.constant.quoted.QuotedPart.{QuotedPart}
+use Rattle.tmpl_grammar.specs.declared.constant.quoted.QuotedPart.TheVariants as part
 use Rattle.tmpl_grammar.specs.declared.header.VariableFront.{VariableFront}
 use Rattle.tmpl_grammar.specs.declared.header.Front.{Front}
 use Rattle.tmpl_grammar.specs.declared.header.Front.TheVariants as front
@@ -55,9 +55,9 @@ parser_of h = record {
 }
 
 -- what a part between quotes stands for, and how many bytes spell it
-abbrev pub rune_of : Part → Rune
+abbrev pub rune_of : QuotedPart → Rune
 rune_of (part.Byte b) = byte b
 rune_of (part.Char c) = char c
 
-abbrev pub spelled_of : Part × ℕ → Rune × ℕ
+abbrev pub spelled_of : QuotedPart × ℕ → Rune × ℕ
 spelled_of p = (rune_of p.0, p.1)

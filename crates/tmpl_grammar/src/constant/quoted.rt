@@ -16,13 +16,13 @@ use tmpl_values::first_char;
 
 /// What a part of a text between quotes stands for.
 #[derive(Clone, Copy)]
-pub(crate) enum Part {
+pub(crate) enum QuotedPart {
     Byte(u8),
     Char(char),
 }
 
 /// A part, and how many bytes spell it.
-type Spelled = (Part, usize);
+type Spelled = (QuotedPart, usize);
 
 /// The bytes between two such quotes, if the first byte and the last are such.
 pub(crate) fn between(quote: u8, bytes: &[u8]) -> Option<&[u8]>
@@ -77,14 +77,14 @@ pub(crate) fn rune_code(quote: u8, bytes: &[u8]) -> Option<u32>
     }
 }
 
-impl Part {
+impl QuotedPart {
     /// Puts it behind a text, a character by its UTF-8.
     fn add_to(self, text: &mut Vec<u8>) -> Result<(), AllocError>
         ensures { OnOk result (text.new.items ≡ text.old.items ++ bytes_in (rune_of self)) }
     {
         match self {
-            Part::Byte(byte) => Ok(text.push(byte)?),
-            Part::Char(c) => {
+            QuotedPart::Byte(byte) => Ok(text.push(byte)?),
+            QuotedPart::Char(c) => {
                 let mut buffer = [0; 4];
                 text.extend_from_slice(c.encode_utf8(&mut buffer).as_bytes())
             }
@@ -96,8 +96,8 @@ impl Part {
         ensures { result ≡ code_of (rune_of self) }
     {
         match self {
-            Part::Byte(byte) => u32::from(byte),
-            Part::Char(c) => u32::from(c),
+            QuotedPart::Byte(byte) => u32::from(byte),
+            QuotedPart::Char(c) => u32::from(c),
         }
     }
 }
@@ -130,11 +130,11 @@ fn rune_part(bytes: &[u8]) -> Spelled
 {
     let first = bytes[0];
     if first < 0x80 {
-        return (Part::Char(char::from(first)), 1);
+        return (QuotedPart::Char(char::from(first)), 1);
     }
     match first_char(bytes) {
-        Some(c) => (Part::Char(c), c.len_utf8()),
-        None => (Part::Char('\u{fffd}'), 1),
+        Some(c) => (QuotedPart::Char(c), c.len_utf8()),
+        None => (QuotedPart::Char('\u{fffd}'), 1),
     }
 }
 
@@ -146,7 +146,7 @@ fn escape(quote: u8, bytes: &[u8]) -> Option<Spelled>
     match bytes {
         [] => None,
         [letter, digits @ ..] => match byte_named(quote, *letter) {
-            Some(byte) => Some((Part::Byte(byte), 2)),
+            Some(byte) => Some((QuotedPart::Byte(byte), 2)),
             None => escape_by_digits(*letter, digits, bytes),
         },
     }
@@ -209,7 +209,7 @@ fn as_byte(len: usize, n: u64) -> Option<Spelled>
     ensures within { IfSome result (λ p. p.1 ≡ len) }
 {
     match u8::try_from(n) {
-        Ok(byte) => Some((Part::Byte(byte), len)),
+        Ok(byte) => Some((QuotedPart::Byte(byte), len)),
         Err(_) => None,
     }
 }
@@ -220,7 +220,7 @@ fn as_char(len: usize, n: u64) -> Option<Spelled>
     ensures within { IfSome result (λ p. p.1 ≡ len) }
 {
     match u32::try_from(n) {
-        Ok(n) => Some((Part::Char(char::from_u32(n)?), len)),
+        Ok(n) => Some((QuotedPart::Char(char::from_u32(n)?), len)),
         Err(_) => None,
     }
 }

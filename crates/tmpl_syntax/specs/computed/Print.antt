@@ -4,7 +4,7 @@ use Rattle.tmpl_grammar.specs.Print.{action_tokens}
 use Rattle.tmpl_grammar.specs.Action.{plain_else}
 use Rattle.tmpl_syntax.specs.Tree as tree
 use Rattle.tmpl_syntax.specs.Tree.{Nodes}
-use Rattle.tmpl_syntax.specs.Print.Join.{Part, a_text, an_action}
+use Rattle.tmpl_syntax.specs.Print.Join.{PrintedPart, a_text, an_action}
 use Rattle.tmpl_syntax.specs.Print.Printed.{Said, said_text, said, file_of}
 
 -- the text ends in `{`
@@ -13,7 +13,7 @@ ends_brace [] = false
 ends_brace (b ∷ []) = b == 123
 ends_brace (b ∷ c ∷ bs) = ends_brace (c ∷ bs)
 
-abbrev pub part_of : Said → Part
+abbrev pub part_of : Said → PrintedPart
 part_of (said_text bytes) = a_text bytes
 part_of (said a) = an_action (action_tokens a)
 

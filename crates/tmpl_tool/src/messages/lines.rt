@@ -10,7 +10,7 @@ ghost use Rattle.tmpl_tool.specs.computed.View.{parts_bytes};
 ghost use Rattle.tmpl_tool.specs.Inputs.{refusal_seen, said_of, stop_seen};
 ghost use Rattle.tmpl_syntax.specs.Fault.{reason_of};
 
-use crate::messages::part::Part::{self, Bytes, Number, Quoted, Text};
+use crate::messages::part::LinePart::{self, Bytes, Number, Quoted, Text};
 use crate::messages::part::put_line;
 use crate::status::Status;
 use crate::stop::Stop;
@@ -20,7 +20,7 @@ use tmpl_syntax::{ParseFault, ParseKind};
 
 /// Says a line of these parts, and gives this status. A sink that fails cuts the line.
 #[tactic(auto, using(crate::proofs::MessageLemmas::said))]
-fn say<E: Sink>(err: &mut E, parts: &[Part<'_>], code: u8) -> Status
+fn say<E: Sink>(err: &mut E, parts: &[LinePart<'_>], code: u8) -> Status
     requires { (E.so_far err.old).failures < 2 ^ 64 - 1 }
     ensures { EndsWith code (line (parts_bytes parts.now))
         (sunk (E.so_far err.old) (E.so_far err.new)) result.code }
@@ -159,7 +159,7 @@ pub(crate) fn run_failed<E: Sink>(err: &mut E, fault: &RunFault<'_>) -> Status
 
 /// Says where a run failed, and these parts as the reason.
 #[tactic(auto, using(crate::proofs::MessageLemmas::said))]
-fn say_at<E: Sink>(err: &mut E, fault: &RunFault<'_>, reason: &[Part<'_>])
+fn say_at<E: Sink>(err: &mut E, fault: &RunFault<'_>, reason: &[LinePart<'_>])
     requires { (E.so_far err.old).failures < 2 ^ 64 - 1 }
     ensures cuts { Once (E.so_far err.old).failures (E.so_far err.new).failures }
     ensures line { Says (line_at fault.now (parts_bytes reason.now))

@@ -15,7 +15,7 @@ const LINE_SIZE: usize = 4096;
 
 /// A part of a line.
 #[derive(Clone, Copy, Debug)]
-pub(crate) enum Part<'a> {
+pub(crate) enum LinePart<'a> {
     /// A text as it is.
     Text(&'a str),
     /// Bytes as they are.
@@ -30,8 +30,8 @@ pub(crate) enum Part<'a> {
 /// by part where it is longer than `LINE_SIZE`.
 pub(crate) fn put_line<E: Sink>(
     err: &mut E,
-    place: &[Part<'_>],
-    parts: &[Part<'_>],
+    place: &[LinePart<'_>],
+    parts: &[LinePart<'_>],
 ) -> Result<(), SinkFault>
     requires { (E.so_far err.old).failures < 2 ^ 64 - 1 }
     ensures { IsPut result (as_puts (E.so_far err.old))
@@ -48,7 +48,7 @@ pub(crate) fn put_line<E: Sink>(
 }
 
 /// Writes a line to the front of the memory, and says how long it is, if it fits.
-fn line_in(memory: &mut [u8], place: &[Part<'_>], parts: &[Part<'_>]) -> Option<usize>
+fn line_in(memory: &mut [u8], place: &[LinePart<'_>], parts: &[LinePart<'_>]) -> Option<usize>
     ensures line { IfSome result (λ size. take size memory.new
         ≡ line (parts_bytes place.now ++ parts_bytes parts.now)) }
     ensures within { IfSome result (λ size. size ≤ length memory.new) }
@@ -65,7 +65,11 @@ fn line_in(memory: &mut [u8], place: &[Part<'_>], parts: &[Part<'_>]) -> Option<
 }
 
 /// Puts the program's name, the place, the parts, and a newline.
-fn write_line<P: Put>(put: &mut P, place: &[Part<'_>], parts: &[Part<'_>]) -> Result<(), P::Fault>
+fn write_line<P: Put>(
+    put: &mut P,
+    place: &[LinePart<'_>],
+    parts: &[LinePart<'_>],
+) -> Result<(), P::Fault>
     requires { (P.so_far put.old).failures < 2 ^ 64 - 1 }
     ensures { IsPut result (P.so_far put.old) (P.so_far put.new)
         (line (parts_bytes place.now ++ parts_bytes parts.now)) }
@@ -77,7 +81,7 @@ fn write_line<P: Put>(put: &mut P, place: &[Part<'_>], parts: &[Part<'_>]) -> Re
 }
 
 /// Puts the parts, one after the other.
-fn write_parts<P: Put>(put: &mut P, parts: &[Part<'_>]) -> Result<(), P::Fault>
+fn write_parts<P: Put>(put: &mut P, parts: &[LinePart<'_>]) -> Result<(), P::Fault>
     requires { (P.so_far put.old).failures < 2 ^ 64 - 1 }
     ensures { IsPut result (P.so_far put.old) (P.so_far put.new) (parts_bytes parts.now) }
 {
@@ -88,15 +92,15 @@ fn write_parts<P: Put>(put: &mut P, parts: &[Part<'_>]) -> Result<(), P::Fault>
 }
 
 /// Puts a part, as its kind says.
-fn write_part<P: Put>(put: &mut P, part: &Part<'_>) -> Result<(), P::Fault>
+fn write_part<P: Put>(put: &mut P, part: &LinePart<'_>) -> Result<(), P::Fault>
     requires { (P.so_far put.old).failures < 2 ^ 64 - 1 }
     ensures { IsPut result (P.so_far put.old) (P.so_far put.new) (part_bytes part.now) }
 {
     match part {
-        Part::Text(text) => put.put(text.as_bytes()),
-        Part::Bytes(bytes) => put.put(bytes),
-        Part::Quoted(name) => put_quoted(name, put),
-        Part::Number(number) => {
+        LinePart::Text(text) => put.put(text.as_bytes()),
+        LinePart::Bytes(bytes) => put.put(bytes),
+        LinePart::Quoted(name) => put_quoted(name, put),
+        LinePart::Number(number) => {
             let mut buffer = Buffer::new();
             put.put(buffer.format(*number).as_bytes())
         }

@@ -6,7 +6,7 @@ use Rattle.tmpl_tool.specs.Outcome.{Says, line}
 use Rattle.tmpl_tool.specs.Source.{Bytes}
 use Rattle.tmpl_tool.specs.Tool.{reason_text}
 use Rattle.tmpl_tool.specs.computed.View.{parts_bytes}
-use Rattle.tmpl_tool.specs.declared.messages.part.Part.{Part}
+use Rattle.tmpl_tool.specs.declared.messages.part.LinePart.{LinePart}
 use Rattle.tmpl_tool.proofs.MessageLemmas.{refusal-line}
 use Rattle.tmpl_tool.proofs.messages.lines.refuse_template.Goals as goal
 
@@ -17,5 +17,5 @@ returns-clause-line g c =
     let told : Some c.in-Some.text.now ≡ option_map reason_text (reason_of fault.kind) =
     sym (ap (option_map (λ (t : Bor Bytes). t.now)) c.in-Some.is) ∙ c.reason_text.ensures in
     subst (λ l. Says l err)
-    (ap (λ (ps : List Part). line (parts_bytes ps)) c.as_slice.ensures
+    (ap (λ (ps : List LinePart). line (parts_bytes ps)) c.as_slice.ensures
     ∙ sym (refusal-line fault.file.now fault.line (reason_of fault.kind) c.in-Some.text.now told)) c.say.ensures.line
