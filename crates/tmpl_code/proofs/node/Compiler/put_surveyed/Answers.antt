@@ -26,9 +26,8 @@ loop-i-preserved c =
     record {
       nodes =
           tail.put_more (record { code = l.self.code; scope = c.shrink.new.scope }) c.requires l.invariant.nodes (l.i - 1) item (omega arith) (omega arith)
-          c.index-nodes-i.is refl c.shrink.ensures c.in_ok-put_node.ensures.part
-          c.in_ok-put_node.ensures.ends
-          (c.in_ok-push.ensures ∙ ap (λ i. i ∷ code_of c.put_node.new.self.code) c.first_instruction.ensures) refl;
+          c.index-nodes-i.is refl c.shrink.ensures c.in_ok-put_node.ensures
+          (c.in_ok-push.ensures.code ∙ ap (λ i. i ∷ code_of c.put_node.new.self.code) c.first_instruction.ensures) refl;
       survey = record {
         need = joined.need ∙ (λ j. max (found.need j) ((above.need ∙ (λ k. c.left_behind.ensures k + behind.need k)) j)) ∙ ap need_of_nodes here;
         text = joined.text ∙ (λ j. found.text j || (above.text ∙ behind.text) j) ∙ ap nodes_make_text here;
@@ -37,5 +36,5 @@ loop-i-preserved c =
     }
 
 -- the loop ends at the first node
-pub returns-clause-code : goal.returns-clause-code
-returns-clause-code c = tail.put_all (omega arith) c.loop-i.invariant.nodes
+pub returns-clause-put : goal.returns-clause-put
+returns-clause-put c = tail.put_all (omega arith) c.loop-i.invariant.nodes
