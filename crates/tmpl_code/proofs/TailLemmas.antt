@@ -3,6 +3,8 @@
 use Rattle.std.proofs.Common.{arith, ◌≡◌, ◌∙◌, ◌+◌, ◌-◌, ◌≤◌, ℕ, Bool, List, [], ◌∷◌, ◌++◌, length, drop, refl, ap, sym, Option, Some, None}
 use Rattle.std.proofs.Common.{append_assoc, length-append, ◌<◌, zero, take, get_or, subst}
 use Rattle.std.proofs.Math.Seq.{drop-append-add}
+use Rattle.std.proofs.Common.{Result, OnOk}
+use Rattle.std.proofs.lemmas.Result.{on_ok_weaker}
 use Rattle.std.proofs.lemmas.List.Prefix.{end_rest}
 use Rattle.tmpl_grammar.specs.Tree.{Binding, Header}
 use Rattle.tmpl_grammar.specs.Need.{declared_count}
@@ -13,7 +15,7 @@ use Rattle.tmpl_syntax.specs.View.{node_of, nodes_in}
 use Rattle.tmpl_syntax.specs.declared.tree.Node as held_node
 use Rattle.tmpl_code.specs.Instruction.{Instruction, unless, enter_with, end_with, cut, enter, next}
 use Rattle.tmpl_code.specs.Layout.{Layout, declares, declares_key, declared_in}
-use Rattle.tmpl_code.specs.Code.{Code, NodesPart, Exit, PipelineAt, HeaderAt, EndAt, NodeAt, NodesAt, step_of}
+use Rattle.tmpl_code.specs.Code.{Code, Part, NodesPart, Exit, PipelineAt, HeaderAt, EndAt, NodeAt, NodesAt, step_of}
 use Rattle.tmpl_code.specs.computed.Held.{Ends, BoundPart, DottedPart, EndedPart, IsOpen, Placed, Put, TurnsPart, all_grown, code_of, exit_seen, last_of, layout_of}
 use Rattle.tmpl_code.specs.computed.Held.{shrunk}
 use Rattle.tmpl_code.specs.declared.code.Code as held_code
@@ -37,6 +39,11 @@ ends_both {code} {mid} {rest} a b = record {
 }
 
 pub ruleset ends = (ends_same, ends_on, ends_both)
+
+-- a last part that is put behind code which ends with the code before
+pub placed_on : {T E : Type 0} (r : Result T E) (P Q : Part) (before mid after : held_code.Code) → OnOk r (Placed Q mid after)
+    → Ends (code_of before) (code_of mid) → (Q (code_of after) (code_of mid) → P (code_of after) (code_of before)) → OnOk r (Placed P before after)
+placed_on r P Q before mid after put on so = on_ok_weaker r (λ p. record { code = so p.code; ends = ends_both p.ends on }) put
 
 -- what lies between is passed over
 pub passes : {n : ℕ} {rest code : Code} → Ends rest code → n ≡ length code - length rest → drop n code ≡ rest

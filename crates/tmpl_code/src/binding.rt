@@ -16,6 +16,7 @@ use std::alloc::AllocError;
 use tmpl_grammar::{Binding, Header};
 
 /// Puts the pipeline of a header, and what binds its value.
+#[tactic(auto, using(crate::proofs::TailLemmas::ends, crate::proofs::TailLemmas::placed_on))]
 pub(crate) fn put_header<'s>(
     code: &mut Code<'s>,
     scope: &Scope<'s>,

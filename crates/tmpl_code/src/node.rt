@@ -170,6 +170,7 @@ fn put_continue(
 }
 
 /// Puts a call of the template of this name and number, if there is one.
+#[tactic(auto, using(crate::proofs::TailLemmas::ends, crate::proofs::TailLemmas::placed_on))]
 fn put_template<'s>(
     code: &mut Code<'s>,
     scope: &Scope<'s>,
