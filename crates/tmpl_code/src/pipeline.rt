@@ -164,6 +164,7 @@ fn operand_count(operands: &[Operand]) -> usize
 
 /// Puts a call of a function.
 #[cycle(pipeline)]
+#[tactic(auto, using(crate::proofs::TailLemmas::ends, crate::proofs::TailLemmas::placed_on))]
 fn put_call<'s>(
     code: &mut Code<'s>,
     scope: &Scope<'s>,
@@ -256,7 +257,7 @@ fn put_decide(
 
 /// Puts an operand, above so many values.
 #[cycle(pipeline)]
-#[tactic(auto, using(tmpl_grammar::proofs::ViewLemmas::group_seen, crate::proofs::TailLemmas::ends))]
+#[tactic(auto, using(tmpl_grammar::proofs::ViewLemmas::group_seen, crate::proofs::TailLemmas::ends, crate::proofs::TailLemmas::placed_on))]
 fn put_operand<'s>(
     code: &mut Code<'s>,
     scope: &Scope<'s>,

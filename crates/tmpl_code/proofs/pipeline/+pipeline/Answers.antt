@@ -1,10 +1,9 @@
 use Rattle.std.proofs.Common.{rules, false, ◌≡◌, ◌∙◌, ◌+◌, ◌-◌, drop, length, ap, sym, subst, arith}
 use Rattle.std.proofs.lemmas.Grind.{common_steps}
 use borrow.Author.Rules.{get_or_read}
-use Rattle.tmpl_grammar.proofs.ViewLemmas.{group_seen}
 use Rattle.tmpl_grammar.specs.declared.tree.Operand.TheFolds.{the_lemmas}
 use Rattle.tmpl_grammar.specs.View.{commands_in, operand_of, operands_in}
-use Rattle.tmpl_code.specs.computed.Held.{CalledAt, Placed, code_of, decided, layout_of}
+use Rattle.tmpl_code.specs.computed.Held.{Placed, code_of, decided, layout_of}
 use Rattle.tmpl_code.specs.Code.{Code, is_last, CommandAt, CommandsAt, JunctionAt, OperandAt}
 use Rattle.tmpl_code.proofs.BackwardLemmas.{junction_more, operands_from}
 use Rattle.tmpl_code.proofs.TailLemmas.{ends_both}
@@ -60,20 +59,8 @@ put_command-returns-in-Function t c =
     on_ok_weaker {Q = Placed (CommandAt (operands_in a.operands.now) a.piped a.above (layout_of a.scope.now)) a.code.now c.put_call.new.code} _
     (λ put. record { code = grind (arith, common_steps, get_or_read, the_lemmas); ends = put.ends }) c.put_call.ensures
 
-pub put_call-returns-in_ok-push-in_default : goal.put_call-returns-in_ok-push-in_default
-put_call-returns-in_ok-push-in_default t c =
-    let a = c.args in
-    on_ok_weaker {Q = Placed (CalledAt a.func (operands_in a.operands.now) a.piped a.above (layout_of a.scope.now)) a.code.now c.put_operands.new.code} _
-    (λ put. record { code = grind (arith, common_steps); ends = ends_both put.ends c.in_ok-push-in_default.ensures.ends }) c.put_operands.ensures
-
 pub put_operand-returns-in_ok-put_chain-in-Variable : goal.put_operand-returns-in_ok-put_chain-in-Variable
 put_operand-returns-in_ok-put_chain-in-Variable t c =
     let a = c.args in
     on_ok_weaker {Q = Placed (OperandAt (operand_of a.operand.now) a.above (layout_of a.scope.now)) a.code.now c.put_variable.new.code} _
     (λ put. record { code = search (rules, the_lemmas); ends = ends_both put.ends c.in_ok-put_chain-in-Variable.ensures.ends }) c.put_variable.ensures
-
-pub put_operand-returns-in_ok-put_chain-in-Group : goal.put_operand-returns-in_ok-put_chain-in-Group
-put_operand-returns-in_ok-put_chain-in-Group t c =
-    let a = c.args in
-    on_ok_weaker {Q = Placed (OperandAt (operand_of a.operand.now) a.above (layout_of a.scope.now)) a.code.now c.put_commands.new.code} _
-    (λ put. record { code = search (rules, the_lemmas, group_seen); ends = ends_both put.ends c.in_ok-put_chain-in-Group.ensures.ends }) c.put_commands.ensures
