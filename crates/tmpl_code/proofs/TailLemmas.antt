@@ -16,8 +16,8 @@ use Rattle.tmpl_syntax.specs.declared.tree.Node as held_node
 use Rattle.tmpl_code.specs.Instruction.{Instruction, unless, enter_with, end_with, cut, enter, next}
 use Rattle.tmpl_code.specs.Layout.{Layout, declares, declares_key, declared_in}
 use Rattle.tmpl_code.specs.Code.{Code, Part, NodesPart, Exit, PipelineAt, HeaderAt, EndAt, NodeAt, NodesAt, step_of}
-use Rattle.tmpl_code.specs.computed.Held.{Ends, BoundPart, DottedPart, EndedPart, IsOpen, Placed, Put, TurnsPart, all_grown, code_of, exit_seen, last_of, layout_of}
-use Rattle.tmpl_code.specs.computed.Held.{shrunk}
+use Rattle.tmpl_code.specs.computed.Held.{Ends, BoundPart, DottedPart, EndedPart, IsOpen, Placed, Put, TurnsPart, all_grown, code_of, exit_seen, last_of}
+use Rattle.tmpl_code.specs.computed.Held.{layout_of, shrunk}
 use Rattle.tmpl_code.specs.declared.code.Code as held_code
 use Rattle.tmpl_code.specs.declared.node.Around as held_around
 use Rattle.tmpl_code.specs.declared.node.Compiler as held_compiler

@@ -126,10 +126,11 @@ fn cost_of_arguments(held: usize, operands: &[Operand]) -> Result<Cost, AllocErr
         (texts.operands_make_text (operands_in operands.now))) }
 {
     let mut i = operands.len();
-    let mut cost = Cost::cells(sum(held, i)?);
+    let mut below = sum(held, i)?;
+    let mut cost = Cost::cells(below);
     while i > 0 {
         i -= 1;
-        let below = sum(held, i)?;
+        below -= 1;
         cost = cost_of_operand(&operands[i])?.above(below)?.with(cost);
     }
     Ok(cost)

@@ -1,4 +1,4 @@
-use Rattle.std.proofs.Common.{◌≤◌, ◌+◌, ◌*◌, drop, length}
+use Rattle.std.proofs.Common.{◌≡◌, ◌≤◌, ◌+◌, ◌*◌, drop, length}
 use Rattle.tmpl_grammar.specs.View.{commands_in, operand_of, operands_in}
 use Rattle.tmpl_grammar.specs.Need.{need_of_commands, need_of_arguments}
 use Rattle.tmpl_code.specs.MakesText.{commands_make_text, operands_make_text}
@@ -36,5 +36,6 @@ invariant-cost_of_piped-loop-i l = record {
 abbrev pub invariant-cost_of_arguments-loop-i : goal.invariant-cost_of_arguments-loop-i
 invariant-cost_of_arguments-loop-i l = record {
   within : l.i ≤ length l.operands;
+  below : l.below ≡ l.held + l.i;
   cost : let os = operands_in (drop l.i l.operands) in Costs (need_of_arguments (l.held + l.i) os) (operands_make_text os) l.cost;
 }

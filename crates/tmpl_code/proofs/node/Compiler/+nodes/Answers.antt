@@ -7,6 +7,7 @@ use Rattle.tmpl_code.specs.Code.{NodeAt}
 use Rattle.tmpl_code.specs.computed.Held.{Put, code_of}
 use Rattle.tmpl_code.proofs.NodeLemmas.{item-weight}
 use Rattle.tmpl_code.proofs.TailLemmas as tail
+use Rattle.tmpl_code.specs.declared.node.Compiler.{Compiler}
 use Rattle.tmpl_code.proofs.TailLemmas.{ends_both}
 use Rattle.tmpl_code.proofs.node.Compiler.+nodes.Goals as goal
 
@@ -44,8 +45,8 @@ put_if-returns t c =
     on_ok_weaker _ (λ headed. tail.put_if (set_view a.site.set.now) c.requires (header_of p.header.now) (nodes_in p.body.now) (nodes_in p.other.now)
     c.in_ok-to.to c.in_ok-skip.skip c.declares-kept.result c.in_ok-put_ended.ensures c.in_ok-put_ended-2.ensures
     (c.in_ok-to.ensures ∙ ap (λ n. length (code_of c.put_ended.new.self.code) - n) c.len-end.ensures)
-    (c.in_ok-skip.ensures ∙ ap (λ n. length (code_of c.put_ended-2.new.self.code) - n) c.len-second.ensures) c.declares-kept.ensures c.in_ok-push.ensures.code refl
-    headed) c.put_header.ensures
+    (c.in_ok-skip.ensures ∙ ap (λ n. length (code_of c.put_ended-2.new.self.code) - n) c.len-second.ensures) c.declares-kept.ensures
+    c.in_ok-push.ensures.code refl headed) c.put_header.ensures
 
 pub put_with-returns : goal.put_with-returns
 put_with-returns t c =
@@ -69,13 +70,14 @@ put_range-returns t c =
     c.in_ok-put_end.ensures c.in_ok-put_nodes.ensures refl c.in_ok-push.ensures.code
     c.len-after.ensures refl c.len-below.ensures c.in_ok-put_turns.ensures
     c.in_ok-count.ensures (c.in_ok-skip.ensures ∙ ap (λ n. length (code_of c.put_nodes.new.self.code) - n) c.len-after.ensures)
-    (c.in_ok-skip-2.ensures ∙ ap (λ n. length (code_of c.put_turns.new.self.code) - n) c.len-second.ensures) c.declares_key-key.ensures c.in_ok-push-2.ensures.code
-    refl piped) c.put_pipeline.ensures
+    (c.in_ok-skip-2.ensures ∙ ap (λ n. length (code_of c.put_turns.new.self.code) - n) c.len-second.ensures) c.declares_key-key.ensures
+    c.in_ok-push-2.ensures.code refl piped) c.put_pipeline.ensures
 
 pub put_node-returns-in_ok-put_shown-in-Action : goal.put_node-returns-in_ok-put_shown-in-Action
 put_node-returns-in_ok-put_shown-in-Action t c =
     let a = c.args in
     let node = node_of a.node.now in
     let shown = c.in_ok-put_shown-in-Action.ensures in
-    on_ok_weaker {Q = Put (NodeAt (set_view a.site.set.now) node.line node.what) a.site.exit a.self.now (record { code = c.put_header.new.code; scope = a.self.now.scope })}
-    _ (λ headed. record { code = search (rules, the_lemmas); ends = ends_both headed.ends shown.ends; scope = refl }) c.put_header.ensures
+    let after : Compiler = record { code = c.put_header.new.code; scope = a.self.now.scope } in
+    on_ok_weaker {Q = Put (NodeAt (set_view a.site.set.now) node.line node.what) a.site.exit a.self.now after} _
+    (λ headed. record { code = search (rules, the_lemmas); ends = ends_both headed.ends shown.ends; scope = refl }) c.put_header.ensures
