@@ -3,6 +3,8 @@
 use Rattle.std.proofs.Common.{arith, ◌≡◌, ◌∙◌, ◌+◌, ◌-◌, ◌≤◌, ℕ, Bool, List, [], ◌∷◌, ◌++◌, length, drop, refl, ap, sym, Option, Some, None}
 use Rattle.std.proofs.Common.{append_assoc, length-append, ◌<◌, zero, take, get_or, subst}
 use Rattle.std.proofs.Math.Seq.{drop-append-add}
+use Rattle.std.proofs.Common.{Result, OnOk}
+use Rattle.std.proofs.lemmas.Result.{on_ok_weaker}
 use Rattle.std.proofs.lemmas.List.Prefix.{end_rest}
 use Rattle.tmpl_grammar.specs.Tree.{Binding, Header}
 use Rattle.tmpl_grammar.specs.Need.{declared_count}
@@ -13,9 +15,10 @@ use Rattle.tmpl_syntax.specs.View.{node_of, nodes_in}
 use Rattle.tmpl_syntax.specs.declared.tree.Node as held_node
 use Rattle.tmpl_code.specs.Instruction.{Instruction, unless, enter_with, end_with, cut, enter, next}
 use Rattle.tmpl_code.specs.Layout.{Layout, declares, declares_key, declared_in}
-use Rattle.tmpl_code.specs.Code.{Code, NodesPart, Exit, PipelineAt, HeaderAt, EndAt, NodeAt, NodesAt, step_of}
-use Rattle.tmpl_code.specs.computed.Held.{Ends, BoundPart, DottedPart, EndedPart, IsOpen, Put, TurnsPart, all_grown, code_of, exit_seen, last_of, layout_of}
-use Rattle.tmpl_code.specs.computed.Held.{shrunk}
+use Rattle.tmpl_code.specs.Code.{Code, Part, NodesPart, Exit, PipelineAt, HeaderAt, EndAt, NodeAt, NodesAt, step_of}
+use Rattle.tmpl_code.specs.computed.Held.{Ends, BoundPart, DottedPart, EndedPart, IsOpen, Placed, Put, TurnsPart, all_grown, code_of, exit_seen, last_of}
+use Rattle.tmpl_code.specs.computed.Held.{layout_of, shrunk}
+use Rattle.tmpl_code.specs.declared.code.Code as held_code
 use Rattle.tmpl_code.specs.declared.node.Around as held_around
 use Rattle.tmpl_code.specs.declared.node.Compiler as held_compiler
 use Rattle.tmpl_code.proofs.NodeLemmas.{all_grown-longer, grows, nodes_more, shrinks}
@@ -36,6 +39,11 @@ ends_both {code} {mid} {rest} a b = record {
 }
 
 pub ruleset ends = (ends_same, ends_on, ends_both)
+
+-- a last part that is put behind code which ends with the code before
+pub placed_on : {T E : Type 0} (r : Result T E) (P Q : Part) (before mid after : held_code.Code) → OnOk r (Placed Q mid after)
+    → Ends (code_of before) (code_of mid) → (Q (code_of after) (code_of mid) → P (code_of after) (code_of before)) → OnOk r (Placed P before after)
+placed_on r P Q before mid after put on so = on_ok_weaker r (λ p. record { code = so p.code; ends = ends_both p.ends on }) put
 
 -- what lies between is passed over
 pub passes : {n : ℕ} {rest code : Code} → Ends rest code → n ≡ length code - length rest → drop n code ≡ rest
@@ -87,49 +95,55 @@ put_on {P} {e} old {mid} {new} h t same p = rw (← same, ← exit_on e (layout_
 
 module _ (ts : List Template) {e : Option held_around.Around} {old : Compiler} (h : IsOpen e (code_of old.code) (layout_of old.scope)) where
   pub put_ended : (b : Binding) (ns : Nodes) (skip n : ℕ) {mid new : Compiler} → layout_of mid.scope ≡ layout_of old.scope
-      → n ≡ declared_count b + declared_in ns
-      → EndAt n skip (code_of mid.code) (code_of old.code) → Ends (code_of old.code) (code_of mid.code) → Put (BoundPart ts b ns) e mid new
+      → n ≡ declared_count b + declared_in ns → Placed (EndAt n skip) old.code mid.code → Put (BoundPart ts b ns) e mid new
       → Put (EndedPart ts b ns skip) e old new
-  put_ended b ns skip n {mid} {new} same count end on p =
-      record { code = (code_of mid.code, put_on {P = BoundPart ts b ns} old h on same p, rw (← count) end); scope = p.scope ∙ same }
+  put_ended b ns skip n {mid} {new} same count end p = record {
+    code = (code_of mid.code, put_on {P = BoundPart ts b ns} old h end.ends same p, rw (← count) end.code);
+    ends = ends_both p.ends end.ends;
+    scope = p.scope ∙ same;
+  }
 
   module _ (head : Header) (body others : Nodes) where
-    pub put_if : {second first new : Compiler} {start : Code} (to skip : ℕ) (kept : Bool) → Put (EndedPart ts head.binding others 0) e old second
-        → Ends (code_of old.code) (code_of second.code)
-        → Put (EndedPart ts head.binding body to) e second first → Ends (code_of second.code) (code_of first.code)
+    pub put_if : {second first new : Compiler} {start : held_code.Code} (to skip : ℕ) (kept : Bool) → Put (EndedPart ts head.binding others 0) e old second
+        → Put (EndedPart ts head.binding body to) e second first
         → to ≡ length (code_of second.code) - length (code_of old.code) → skip ≡ length (code_of first.code) - length (code_of second.code)
-        → kept ≡ declares head.binding → start ≡ unless kept skip ∷ code_of first.code → layout_of new.scope ≡ layout_of first.scope
-        → HeaderAt head (layout_of first.scope) (code_of new.code) start
+        → kept ≡ declares head.binding → code_of start ≡ unless kept skip ∷ code_of first.code → layout_of new.scope ≡ layout_of first.scope
+        → Placed (HeaderAt head (layout_of first.scope)) start new.code
         → Put (NodeAt ts 0 (control_node control.If head body others)) e old new
-    put_if {second} {first} {new} {start} to skip kept p past q on tos skipped keeps is same headed =
+    put_if {second} {first} {new} {start} to skip kept p q tos skipped keeps is same headed =
         let scope = q.scope ∙ p.scope in
-        let begins : start ≡ unless (declares head.binding) skip ∷ code_of first.code = rw (← keeps) is in
-        let part = put_on {P = EndedPart ts head.binding body to} old h past p.scope q in
+        let begins : code_of start ≡ unless (declares head.binding) skip ∷ code_of first.code = rw (← keeps) is in
+        let part = put_on {P = EndedPart ts head.binding body to} old h p.ends p.scope q in
         record {
-          code = (start, rw (← scope) headed, (code_of first.code, code_of second.code, skip, to, begins, part, p.code, passes on skipped, passes past tos));
+          code = (
+            code_of start,
+            rw (← scope) headed.code,
+            (code_of first.code, code_of second.code, skip, to, begins, part, p.code, passes q.ends skipped, passes p.ends tos),
+          );
+          ends = ends_both headed.ends (ends_on is (ends_both q.ends p.ends));
           scope = same ∙ scope;
         }
 
-    pub put_with : {second mid first new : Compiler} {start : Code} (to skip n v : ℕ) (kept : Bool) → Put (EndedPart ts head.binding others 0) e old second
-        → Ends (code_of old.code) (code_of second.code) → layout_of mid.scope ≡ layout_of second.scope
-        → code_of mid.code ≡ end_with n v to ∷ code_of second.code
-        → Put (DottedPart ts head.binding body) e mid first → Ends (code_of mid.code) (code_of first.code)
+    pub put_with : {second mid first new : Compiler} {start : held_code.Code} (to skip n v : ℕ) (kept : Bool)
+        → Put (EndedPart ts head.binding others 0) e old second
+        → layout_of mid.scope ≡ layout_of second.scope → code_of mid.code ≡ end_with n v to ∷ code_of second.code
+        → Put (DottedPart ts head.binding body) e mid first
         → n ≡ declared_in body → v ≡ declared_count head.binding → to ≡ length (code_of second.code) - length (code_of old.code)
         → skip ≡ length (code_of first.code) - length (code_of second.code)
-        → kept ≡ declares head.binding → start ≡ enter_with kept skip ∷ code_of first.code → layout_of new.scope ≡ layout_of first.scope
-        → HeaderAt head (layout_of first.scope) (code_of new.code) start
+        → kept ≡ declares head.binding → code_of start ≡ enter_with kept skip ∷ code_of first.code → layout_of new.scope ≡ layout_of first.scope
+        → Placed (HeaderAt head (layout_of first.scope)) start new.code
         → Put (NodeAt ts 0 (control_node control.With head body others)) e old new
-    put_with {second} {mid} {first} {new} {start} to skip n v kept p past saved goes q on ns vs tos skipped keeps is same headed =
+    put_with {second} {mid} {first} {new} {start} to skip n v kept p saved goes q ns vs tos skipped keeps is same headed =
         let scope = q.scope ∙ saved ∙ p.scope in
         let one = ends_one goes in
-        let begins : start ≡ enter_with (declares head.binding) skip ∷ code_of first.code = rw (← keeps) is in
-        let part = put_on {P = DottedPart ts head.binding body} old h (ends_both one past) (saved ∙ p.scope) q in
+        let begins : code_of start ≡ enter_with (declares head.binding) skip ∷ code_of first.code = rw (← keeps) is in
+        let part = put_on {P = DottedPart ts head.binding body} old h (ends_both one p.ends) (saved ∙ p.scope) q in
         let body_put : DottedPart ts head.binding body (layout_of old.scope) (exit_seen e (code_of old.code)) (code_of first.code)
         (end_with (declared_in body) (declared_count head.binding) to ∷ code_of second.code) = rw (← ns, ← vs, ← goes) part in
         record {
           code = (
-            start,
-            rw (← scope) headed,
+            code_of start,
+            rw (← scope) headed.code,
             (
               code_of first.code,
               code_of second.code,
@@ -138,39 +152,38 @@ module _ (ts : List Template) {e : Option held_around.Around} {old : Compiler} (
               begins,
               body_put,
               p.code,
-              passes (ends_both on one) skipped,
-              passes past tos,
+              passes (ends_both q.ends one) skipped,
+              passes p.ends tos,
             ),
           );
+          ends = ends_both headed.ends (ends_on is (ends_both q.ends (ends_both one p.ends)));
           scope = same ∙ scope;
         }
 
-    pub put_range : {end second mid first new : Compiler} {start : Code} (line to skip n m : ℕ) (key : Bool) (a : held_around.Around)
-        → layout_of end.scope ≡ layout_of old.scope → m ≡ declared_in others → EndAt m 0 (code_of end.code) (code_of old.code)
-        → Ends (code_of old.code) (code_of end.code)
-        → Put (NodesAt ts others) e end second → Ends (code_of end.code) (code_of second.code)
+    pub put_range : {end second mid first new : Compiler} {start : held_code.Code} (line to skip n m : ℕ) (key : Bool) (a : held_around.Around)
+        → layout_of end.scope ≡ layout_of old.scope → m ≡ declared_in others → Placed (EndAt m 0) old.code end.code
+        → Put (NodesAt ts others) e end second
         → layout_of mid.scope ≡ layout_of second.scope → code_of mid.code ≡ next n to line ∷ code_of second.code
         → a.after ≡ length (code_of old.code) → a.line ≡ line → a.below ≡ length (layout_of mid.scope) → Put (TurnsPart ts head.binding body) (Some a) mid first
-        → Ends (code_of mid.code) (code_of first.code)
         → n ≡ declared_count head.binding + declared_in body → to ≡ length (code_of second.code) - length (code_of old.code)
         → skip ≡ length (code_of first.code) - length (code_of second.code)
-        → key ≡ declares_key head.binding → start ≡ enter key skip ∷ code_of first.code → layout_of new.scope ≡ layout_of first.scope
-        → PipelineAt head.pipeline (layout_of first.scope) (code_of new.code) start
+        → key ≡ declares_key head.binding → code_of start ≡ enter key skip ∷ code_of first.code → layout_of new.scope ≡ layout_of first.scope
+        → Placed (PipelineAt head.pipeline (layout_of first.scope)) start new.code
         → Put (NodeAt ts line (control_node control.Range head body others)) e old new
-    put_range {end} {second} {mid} {first} {new} {start} line to skip n m key a ended ms close closed p past saved goes after lines below q on ns tos skipped
-        keys is same piped =
+    put_range {end} {second} {mid} {first} {new} {start} line to skip n m key a ended ms close p saved goes after lines below q ns tos skipped keys is same
+        piped =
         let lay = saved ∙ p.scope ∙ ended in
         let one = ends_one goes in
-        let before = ends_both past closed in
+        let before = ends_both p.ends close.ends in
         let out : last_of a.after (code_of mid.code) ≡ code_of old.code = passes (ends_both one before) (ap (λ n. length (code_of mid.code) - n) after) in
         let inner : Exit = Some (record { out = code_of old.code; line = line; below = length (layout_of old.scope) }) in
         let around : exit_seen (Some a) (code_of mid.code) ≡ inner = rw (out, lines, below, lay) refl in
         let turns : TurnsPart ts head.binding body (layout_of old.scope) inner (code_of first.code) (code_of mid.code) = rw (← around, ← lay) q.code in
-        let begins : start ≡ enter (declares_key head.binding) skip ∷ code_of first.code = rw (← keys) is in
+        let begins : code_of start ≡ enter (declares_key head.binding) skip ∷ code_of first.code = rw (← keys) is in
         record {
           code = (
-            start,
-            rw (← (q.scope ∙ lay)) piped,
+            code_of start,
+            rw (← (q.scope ∙ lay)) piped.code,
             (
               code_of first.code,
               turns.0,
@@ -180,11 +193,12 @@ module _ (ts : List Template) {e : Option held_around.Around} {old : Compiler} (
               begins,
               turns.1,
               rw (← ns, ← goes) turns.2,
-              (code_of end.code, put_on {P = NodesAt ts others} old h closed ended p, rw (← ms) close),
-              passes (ends_both on one) skipped,
+              (code_of end.code, put_on {P = NodesAt ts others} old h close.ends ended p, rw (← ms) close.code),
+              passes (ends_both q.ends one) skipped,
               passes before tos,
             ),
           );
+          ends = ends_both piped.ends (ends_on is (ends_both q.ends (ends_both one before)));
           scope = same ∙ q.scope ∙ lay;
         }
 
@@ -201,7 +215,7 @@ pub put_all : {ts : List Template} {e : Option held_around.Around} {ns : List he
     → Put (NodesAt ts (nodes_in ns)) e old now
 put_all {ts} {e} {ns} {i} {old} {now} none l =
     let scope : layout_of now.scope ≡ layout_of old.scope = l.layout ∙ ap (λ k. all_grown (nodes_in (take k ns)) (layout_of old.scope)) none in
-    record { code = rw (← scope) (rw none at l.put); scope = scope }
+    record { code = rw (← scope) (rw none at l.put); ends = l.ends; scope = scope }
 
 -- a node more, whose variables went out of scope
 module _ {ts : List Template} {e : Option held_around.Around} {ns : List held_node.Node} {i : ℕ} {old now : Compiler} (start : Compiler)
@@ -220,10 +234,10 @@ module _ {ts : List Template} {e : Option held_around.Around} {ns : List held_no
       let long = ap (λ (x : Layout). length x) layout in
       open_on e (layout_of old.scope) (layout_of start.scope) behind (omega (arith, more, long)) h
 
-  pub put_more : {mid new : Compiler} → Put (NodeAt ts (node_of n).line (node_of n).what) e start mid → Ends (code_of start.code) (code_of mid.code)
+  pub put_more : {mid new : Compiler} → Put (NodeAt ts (node_of n).line (node_of n).what) e start mid
       → code_of new.code ≡ step_of ts (node_of n).line (node_of n).what ∷ code_of mid.code → layout_of new.scope ≡ layout_of mid.scope
       → Putting ts e ns j old new
-  put_more {mid} {new} p on step kept =
+  put_more {mid} {new} p step kept =
       let line = (node_of n).line in
       let what = (node_of n).what in
       let x = exit_seen e (code_of old.code) in
@@ -237,5 +251,5 @@ module _ {ts : List Template} {e : Option held_around.Around} {ns : List held_no
         within = omega arith;
         layout = scope;
         put = rw scope put;
-        ends = ends_on step (ends_both on behind);
+        ends = ends_on step (ends_both p.ends behind);
       }

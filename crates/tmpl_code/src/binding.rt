@@ -6,7 +6,7 @@ ghost use Rattle.tmpl_grammar.specs.Need.{declared_count};
 ghost use Rattle.tmpl_grammar.specs.View.{binding_of, header_of};
 ghost use Rattle.tmpl_code.specs.Code as spec;
 ghost use Rattle.tmpl_code.specs.Layout.{bound_on, declares, declares_key};
-ghost use Rattle.tmpl_code.specs.computed.Held.{Ends, bound_off, code_of, layout_of};
+ghost use Rattle.tmpl_code.specs.computed.Held.{Ends, Placed, bound_off, code_of, layout_of};
 
 use crate::code::Code;
 use crate::instruction::Instruction;
@@ -16,14 +16,13 @@ use std::alloc::AllocError;
 use tmpl_grammar::{Binding, Header};
 
 /// Puts the pipeline of a header, and what binds its value.
+#[tactic(auto, using(crate::proofs::TailLemmas::ends, crate::proofs::TailLemmas::placed_on))]
 pub(crate) fn put_header<'s>(
     code: &mut Code<'s>,
     scope: &Scope<'s>,
     header: &'s Header,
 ) -> Result<(), AllocError>
-    ensures code { OnOk result (spec.HeaderAt (header_of header.now) (layout_of scope.now)
-        (code_of code.new) (code_of code.old)) }
-    ensures ends { OnOk result (Ends (code_of code.old) (code_of code.new)) }
+    ensures { OnOk result (Placed (spec.HeaderAt (header_of header.now) (layout_of scope.now)) code.old code.new) }
 {
     put_bind(code, scope, &header.binding)?;
     put_pipeline(code, scope, &header.pipeline)
@@ -31,9 +30,7 @@ pub(crate) fn put_header<'s>(
 
 /// Puts what binds variables to the value on top.
 fn put_bind(code: &mut Code<'_>, scope: &Scope<'_>, binding: &Binding) -> Result<(), AllocError>
-    ensures code { OnOk result (spec.BindAt (binding_of binding.now) (layout_of scope.now)
-        (code_of code.new) (code_of code.old)) }
-    ensures ends { OnOk result (Ends (code_of code.old) (code_of code.new)) }
+    ensures { OnOk result (Placed (spec.BindAt (binding_of binding.now) (layout_of scope.now)) code.old code.new) }
 {
     match binding {
         Binding::Unbound => Ok(()),
@@ -44,8 +41,7 @@ fn put_bind(code: &mut Code<'_>, scope: &Scope<'_>, binding: &Binding) -> Result
 }
 
 fn put_set(code: &mut Code<'_>, slot: Option<usize>) -> Result<(), AllocError>
-    ensures code { OnOk result (spec.SetAt slot (code_of code.new) (code_of code.old)) }
-    ensures ends { OnOk result (Ends (code_of code.old) (code_of code.new)) }
+    ensures { OnOk result (Placed (spec.SetAt slot) code.old code.new) }
 {
     match slot {
         Some(slot) => code.push(Instruction::Set(short(slot)?)),
@@ -55,8 +51,7 @@ fn put_set(code: &mut Code<'_>, slot: Option<usize>) -> Result<(), AllocError>
 
 /// Puts the end of an action, whose value was bound.
 pub(crate) fn put_shown(code: &mut Code<'_>, binding: &Binding) -> Result<(), AllocError>
-    ensures code { OnOk result (spec.ShownAt (binding_of binding.now) (code_of code.new) (code_of code.old)) }
-    ensures ends { OnOk result (Ends (code_of code.old) (code_of code.new)) }
+    ensures { OnOk result (Placed (spec.ShownAt (binding_of binding.now)) code.old code.new) }
 {
     match binding {
         Binding::Unbound => code.push(Instruction::Show),
@@ -82,8 +77,7 @@ pub(crate) fn put_turn(
 }
 
 fn put_set_dot(code: &mut Code<'_>, slot: Option<usize>) -> Result<(), AllocError>
-    ensures code { OnOk result (spec.SetDotAt slot (code_of code.new) (code_of code.old)) }
-    ensures ends { OnOk result (Ends (code_of code.old) (code_of code.new)) }
+    ensures { OnOk result (Placed (spec.SetDotAt slot) code.old code.new) }
 {
     match slot {
         Some(slot) => code.push(Instruction::SetDot(short(slot)?)),

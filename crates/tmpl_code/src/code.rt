@@ -1,8 +1,8 @@
 //! The code so far. It is put from the last instruction to the first, so what stands behind an instruction is known
 //! when it is put, and no jump is ever written back.
-ghost use Rattle.std.specs.Prelude.{◌≡◌, ◌-◌, ◌≤◌, ◌∷◌, [], IfOk, OnOk, length};
+ghost use Rattle.std.specs.Prelude.{◌≡◌, ◌-◌, ◌≤◌, [], IfOk, OnOk, length};
 ghost use Rattle.tmpl_code.specs.View.{instruction_of, instructions_of};
-ghost use Rattle.tmpl_code.specs.computed.Held.{code_of};
+ghost use Rattle.tmpl_code.specs.computed.Held.{Placed, Pushed, code_of};
 
 use crate::instruction::Instruction;
 use crate::pipeline::short;
@@ -45,9 +45,9 @@ impl<'s> Code<'s> {
     }
 
     /// Puts an instruction before the others.
-    #[tactic(auto, using(crate::proofs::HeldLemmas::code_push), unfolding(crate::specs::computed::Held::code_of))]
+    #[tactic(auto, using(crate::proofs::HeldLemmas::code_push, crate::proofs::TailLemmas::ends_one), unfolding(crate::specs::computed::Held::code_of))]
     pub(crate) fn push(&mut self, instruction: Instruction<'s>) -> Result<(), AllocError>
-        ensures { OnOk result (code_of self.new ≡ instruction_of instruction.entry ∷ code_of self.old) }
+        ensures { OnOk result (Placed (Pushed (instruction_of instruction.entry)) self.old self.new) }
     {
         self.instructions.push(instruction)?;
         Ok(())

@@ -7,7 +7,8 @@ ghost use Rattle.tmpl_code.specs.Code as spec;
 ghost use Rattle.tmpl_code.specs.Layout.{first_layout};
 ghost use Rattle.tmpl_code.specs.MakesText.{nodes_make_text};
 ghost use Rattle.tmpl_code.specs.Program.{IsLinked};
-ghost use Rattle.tmpl_code.specs.computed.Held.{Ends, IsOpen, Put, code_of, layout_of, places};
+ghost use Rattle.tmpl_code.specs.computed.Surveyed.{Surveys, SurveysNodes};
+ghost use Rattle.tmpl_code.specs.computed.Held.{IsOpen, Placed, Put, code_of, layout_of, places};
 
 use crate::bound::bound_of;
 use crate::code::Code;
@@ -73,12 +74,10 @@ impl<'s> Compiler<'s> {
         set: &Set,
         nodes: &'s [Node],
     ) -> Result<Survey, AllocError>
-        ensures code { OnOk result
-            (spec.TreeAt (set_view set.now) (nodes_in nodes.now) (code_of self.new.code) (code_of self.old.code)) }
-        ensures ends { OnOk result (Ends (code_of self.old.code) (code_of self.new.code)) }
-        ensures need { IfOk result (λ s. s.need ≡ 3 + need_of_nodes (nodes_in nodes.now)) }
-        ensures text { IfOk result (λ s. s.makes_text ≡ nodes_make_text (nodes_in nodes.now)) }
-        ensures calls { IfOk result (λ s. s.calls ≡ nodes_call (nodes_in nodes.now)) }
+        ensures put { OnOk result
+            (Placed (spec.TreeAt (set_view set.now) (nodes_in nodes.now)) self.old.code self.new.code) }
+        ensures survey { let ns = nodes_in nodes.now in
+            IfOk result (Surveys (3 + need_of_nodes ns) (nodes_make_text ns) (nodes_call ns)) }
     {
         self.scope = first_scope(alloc)?;
         self.code
@@ -91,12 +90,9 @@ impl<'s> Compiler<'s> {
     #[tactic(auto, using(crate::proofs::TailLemmas::ends, crate::proofs::BackwardLemmas::from_none))]
     fn put_surveyed(&mut self, site: Site<'_>, nodes: &'s [Node]) -> Result<Survey, AllocError>
         requires { IsOpen site.exit (code_of self.old.code) (layout_of self.old.scope) }
-        ensures code { OnOk result (Put (spec.NodesAt (set_view site.entry.set.now) (nodes_in nodes.now))
+        ensures put { OnOk result (Put (spec.NodesAt (set_view site.entry.set.now) (nodes_in nodes.now))
             site.entry.exit self.old self.new) }
-        ensures ends { OnOk result (Ends (code_of self.old.code) (code_of self.new.code)) }
-        ensures need { IfOk result (λ s. s.need ≡ need_of_nodes (nodes_in nodes.now)) }
-        ensures text { IfOk result (λ s. s.makes_text ≡ nodes_make_text (nodes_in nodes.now)) }
-        ensures calls { IfOk result (λ s. s.calls ≡ nodes_call (nodes_in nodes.now)) }
+        ensures survey { IfOk result (SurveysNodes (nodes_in nodes.now)) }
     {
         grow_all(&mut self.scope, nodes)?;
         let mut survey = Survey::nothing();

@@ -1,6 +1,7 @@
 //! What pipelines cost: how many cells of a stack they need, and whether they make a text.
 ghost use Rattle.std.specs.Prelude.{◌≡◌, ◌+◌, ◌||◌, false, IfOk, max, option_map};
 ghost use Rattle.tmpl_code.specs.MakesText as texts;
+ghost use Rattle.tmpl_code.specs.computed.Surveyed.{Costs};
 ghost use Rattle.tmpl_grammar.specs.Need as needs;
 ghost use Rattle.tmpl_grammar.specs.View.{commands_in, operand_of, operands_in, pipeline_of};
 
@@ -20,8 +21,7 @@ pub(crate) struct Cost {
 impl Cost {
     /// So many cells, and no text.
     fn cells(need: usize) -> Cost
-        ensures need { result.need ≡ need }
-        ensures text { result.makes_text ≡ false }
+        ensures { Costs need false result }
     {
         Cost {
             need,
@@ -31,8 +31,7 @@ impl Cost {
 
     /// The cost of the same above so many values that are held.
     fn above(self, held: usize) -> Result<Cost, AllocError>
-        ensures need { IfOk result (λ c. c.need ≡ held + self.need) }
-        ensures text { IfOk result (λ c. c.makes_text ≡ self.makes_text) }
+        ensures { IfOk result (Costs (held + self.need) self.makes_text) }
     {
         Ok(Cost {
             need: sum(held, self.need)?,
@@ -42,8 +41,7 @@ impl Cost {
 
     /// The cost of both, of which one is computed behind the other.
     fn with(self, other: Cost) -> Cost
-        ensures need { result.need ≡ max self.need other.need }
-        ensures text { result.makes_text ≡ (self.makes_text || other.makes_text) }
+        ensures { Costs (max self.need other.need) (self.makes_text || other.makes_text) result }
     {
         Cost {
             need: larger(self.need, other.need),
@@ -59,8 +57,8 @@ pub(crate) fn larger(a: usize, b: usize) -> usize
 }
 
 pub(crate) fn cost_of_pipeline(pipeline: &Pipeline) -> Result<Cost, AllocError>
-    ensures need { IfOk result (λ c. c.need ≡ needs.need_of_pipeline (pipeline_of pipeline.now)) }
-    ensures text { IfOk result (λ c. c.makes_text ≡ texts.pipeline_makes_text (pipeline_of pipeline.now)) }
+    ensures { IfOk result (Costs (needs.need_of_pipeline (pipeline_of pipeline.now))
+        (texts.pipeline_makes_text (pipeline_of pipeline.now))) }
 {
     cost_of_commands(pipeline.commands.as_slice())
 }
@@ -68,8 +66,8 @@ pub(crate) fn cost_of_pipeline(pipeline: &Pipeline) -> Result<Cost, AllocError>
 /// What commands cost, to the first of which nothing is piped.
 #[cycle(pipes)]
 fn cost_of_commands(commands: &[Command]) -> Result<Cost, AllocError>
-    ensures need { IfOk result (λ c. c.need ≡ needs.need_of_commands 0 (commands_in commands.now)) }
-    ensures text { IfOk result (λ c. c.makes_text ≡ texts.commands_make_text (commands_in commands.now)) }
+    ensures { IfOk result (Costs (needs.need_of_commands 0 (commands_in commands.now))
+        (texts.commands_make_text (commands_in commands.now))) }
 {
     match commands {
         [first, rest @ ..] => {
@@ -84,8 +82,8 @@ fn cost_of_commands(commands: &[Command]) -> Result<Cost, AllocError>
 #[cycle(pipes)]
 #[tactic(auto, using(crate::proofs::OperandLemmas::lighter, crate::proofs::BackwardLemmas::from_none))]
 fn cost_of_piped(commands: &[Command]) -> Result<Cost, AllocError>
-    ensures need { IfOk result (λ c. c.need ≡ needs.need_of_commands 1 (commands_in commands.now)) }
-    ensures text { IfOk result (λ c. c.makes_text ≡ texts.commands_make_text (commands_in commands.now)) }
+    ensures { IfOk result (Costs (needs.need_of_commands 1 (commands_in commands.now))
+        (texts.commands_make_text (commands_in commands.now))) }
 {
     let mut cost = Cost::cells(1);
     let mut i = commands.len();
@@ -100,8 +98,8 @@ fn cost_of_piped(commands: &[Command]) -> Result<Cost, AllocError>
 /// operand nothing is computed, though it may name a function.
 #[cycle(pipes)]
 fn cost_of_command(piped: usize, operands: &[Operand]) -> Result<Cost, AllocError>
-    ensures need { IfOk result (λ c. c.need ≡ needs.need_of_command piped (operands_in operands.now)) }
-    ensures text { IfOk result (λ c. c.makes_text ≡ texts.operands_make_text (operands_in operands.now)) }
+    ensures { IfOk result (Costs (needs.need_of_command piped (operands_in operands.now))
+        (texts.operands_make_text (operands_in operands.now))) }
 {
     match operands {
         [first, rest @ ..] => {
@@ -124,14 +122,15 @@ fn cost_of_command(piped: usize, operands: &[Operand]) -> Result<Cost, AllocErro
 #[cycle(pipes)]
 #[tactic(auto, using(crate::proofs::OperandLemmas::no_argument, crate::proofs::OperandLemmas::lighter, crate::proofs::BackwardLemmas::from_none))]
 fn cost_of_arguments(held: usize, operands: &[Operand]) -> Result<Cost, AllocError>
-    ensures need { IfOk result (λ c. c.need ≡ needs.need_of_arguments held (operands_in operands.now)) }
-    ensures text { IfOk result (λ c. c.makes_text ≡ texts.operands_make_text (operands_in operands.now)) }
+    ensures { IfOk result (Costs (needs.need_of_arguments held (operands_in operands.now))
+        (texts.operands_make_text (operands_in operands.now))) }
 {
     let mut i = operands.len();
-    let mut cost = Cost::cells(sum(held, i)?);
+    let mut below = sum(held, i)?;
+    let mut cost = Cost::cells(below);
     while i > 0 {
         i -= 1;
-        let below = sum(held, i)?;
+        below -= 1;
         cost = cost_of_operand(&operands[i])?.above(below)?.with(cost);
     }
     Ok(cost)
@@ -140,8 +139,8 @@ fn cost_of_arguments(held: usize, operands: &[Operand]) -> Result<Cost, AllocErr
 #[cycle(pipes)]
 #[tactic(auto, using(tmpl_grammar::proofs::ViewLemmas::group_seen))]
 fn cost_of_operand(operand: &Operand) -> Result<Cost, AllocError>
-    ensures need { IfOk result (λ c. c.need ≡ needs.need_of_operand (operand_of operand.now)) }
-    ensures text { IfOk result (λ c. c.makes_text ≡ texts.operand_makes_text (operand_of operand.now)) }
+    ensures { IfOk result (Costs (needs.need_of_operand (operand_of operand.now))
+        (texts.operand_makes_text (operand_of operand.now))) }
 {
     match operand {
         Operand::Function(func) => Ok(Cost {
@@ -154,8 +153,8 @@ fn cost_of_operand(operand: &Operand) -> Result<Cost, AllocError>
 }
 
 pub(crate) fn cost_of_given(given: &Option<Pipeline>) -> Result<Cost, AllocError>
-    ensures need { IfOk result (λ c. c.need ≡ needs.need_of_given (option_map pipeline_of given.now)) }
-    ensures text { IfOk result (λ c. c.makes_text ≡ texts.given_makes_text (option_map pipeline_of given.now)) }
+    ensures { IfOk result (Costs (needs.need_of_given (option_map pipeline_of given.now))
+        (texts.given_makes_text (option_map pipeline_of given.now))) }
 {
     match given {
         Some(pipeline) => cost_of_pipeline(pipeline),

@@ -15,6 +15,19 @@ pub(crate) struct Guess {
     pub each: usize,
 }
 
+/// Templates by number, in the order in which they are weighed.
+#[derive(Drop)]
+struct Order {
+    /// Those that each of them calls.
+    called: Ties,
+    /// Those that call none in a cycle, each behind all that it calls.
+    below: Vec<usize>,
+    /// Those in cycles of calls, and between cycles.
+    between: Vec<usize>,
+    /// The others that none in a cycle calls, each before all that it calls.
+    above: Vec<usize>,
+}
+
 /// A guess for templates that need so much and have this code.
 pub(crate) fn guess_weights(
     alloc: Global,
@@ -23,35 +36,40 @@ pub(crate) fn guess_weights(
     starts: &[usize],
 ) -> Result<Guess, AllocError> {
     let calls = calls_in(alloc, instructions, starts)?;
-    let callers = turned(alloc, calls.as_slice())?;
-    let called = Ties::new(alloc, needs.len(), calls.as_slice())?;
-    let calling = Ties::new(alloc, needs.len(), callers.as_slice())?;
-    let below = peel(alloc, needs.len(), calls.as_slice(), &calling)?;
-    let above = peel(alloc, needs.len(), callers.as_slice(), &called)?;
-    let between = rest(alloc, needs.len(), below.as_slice(), above.as_slice())?;
-    let each = most_of(needs, between.as_slice());
+    let order = order_by(alloc, needs.len(), calls.as_slice())?;
+    let each = most_of(needs, order.between.as_slice());
     let mut weights = filled(alloc, needs.len(), 0)?;
-    weigh_below(
-        &called,
-        needs,
-        each,
-        below.as_slice(),
-        weights.as_mut_slice(),
-    );
-    weigh_between(&called, between.as_slice(), weights.as_mut_slice());
-    weigh_above(
-        &called,
-        needs,
-        each,
-        above.as_slice(),
-        weights.as_mut_slice(),
-    );
+    weigh_in(&order, needs, each, weights.as_mut_slice());
     let fixed = most(weights.as_slice());
     Ok(Guess {
         weights,
         fixed,
         each,
     })
+}
+
+/// The order of so many templates by their calls.
+fn order_by(alloc: Global, count: usize, calls: &[Tie]) -> Result<Order, AllocError> {
+    let callers = turned(alloc, calls)?;
+    let called = Ties::new(alloc, count, calls)?;
+    let calling = Ties::new(alloc, count, callers.as_slice())?;
+    let below = peel(alloc, count, calls, &calling)?;
+    let above = peel(alloc, count, callers.as_slice(), &called)?;
+    let between = rest(alloc, count, below.as_slice(), above.as_slice())?;
+    Ok(Order {
+        called,
+        below,
+        between,
+        above,
+    })
+}
+
+/// Weighs all templates, each behind those that it calls.
+fn weigh_in(order: &Order, needs: &[usize], each: usize, weights: &mut [usize]) {
+    let called = &order.called;
+    weigh_below(called, needs, each, order.below.as_slice(), weights);
+    weigh_between(called, order.between.as_slice(), weights);
+    weigh_above(called, needs, each, order.above.as_slice(), weights);
 }
 
 /// The calls in code, each as a tie from the template that calls to the one that is called.

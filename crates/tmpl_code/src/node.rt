@@ -10,8 +10,8 @@ ghost use Rattle.tmpl_syntax.specs.View.{control_of, node_of, nodes_in, set_view
 ghost use Rattle.tmpl_code.specs.Code as spec;
 ghost use Rattle.tmpl_code.specs.Layout.{declared_in, grown};
 ghost use Rattle.tmpl_code.specs.View.{instruction_of};
-ghost use Rattle.tmpl_code.specs.computed.Held.{BoundPart, DottedPart, EndedPart, IsOpen, PartsAt, Put, TurnsPart};
-ghost use Rattle.tmpl_code.specs.computed.Held.{Ends, all_grown, code_of, exit_seen, layout_of, shrunk};
+ghost use Rattle.tmpl_code.specs.computed.Held.{BoundPart, DottedPart, EndedPart, IsOpen, PartsAt, Placed, Put};
+ghost use Rattle.tmpl_code.specs.computed.Held.{TurnsPart, all_grown, code_of, exit_seen, layout_of, shrunk};
 
 use crate::binding::{
     close, declared_count, declares, declares_key, open, put_header, put_shown, put_turn,
@@ -132,9 +132,8 @@ pub(crate) fn grow_all<'s>(scope: &mut Scope<'s>, nodes: &'s [Node]) -> Result<(
 /// Puts a break.
 fn put_break(code: &mut Code<'_>, scope: &Scope<'_>, exit: Option<Around>) -> Result<(), AllocError>
     requires { IsOpen exit (code_of code.old) (layout_of scope.now) }
-    ensures code { OnOk result (spec.BreakAt (exit_seen exit (code_of code.old)) (layout_of scope.now)
-        (code_of code.new) (code_of code.old)) }
-    ensures ends { OnOk result (Ends (code_of code.old) (code_of code.new)) }
+    ensures { OnOk result (Placed (spec.BreakAt (exit_seen exit (code_of code.old)) (layout_of scope.now))
+        code.old code.new) }
 {
     match exit {
         Some(around) => {
@@ -153,9 +152,8 @@ fn put_continue(
     exit: Option<Around>,
 ) -> Result<(), AllocError>
     requires { IsOpen exit (code_of code.old) (layout_of scope.now) }
-    ensures code { OnOk result (spec.ContinueAt (exit_seen exit (code_of code.old)) (layout_of scope.now)
-        (code_of code.new) (code_of code.old)) }
-    ensures ends { OnOk result (Ends (code_of code.old) (code_of code.new)) }
+    ensures { OnOk result (Placed (spec.ContinueAt (exit_seen exit (code_of code.old)) (layout_of scope.now))
+        code.old code.new) }
 {
     match exit {
         Some(around) => {
@@ -172,6 +170,7 @@ fn put_continue(
 }
 
 /// Puts a call of the template of this name and number, if there is one.
+#[tactic(auto, using(crate::proofs::TailLemmas::ends, crate::proofs::TailLemmas::placed_on))]
 fn put_template<'s>(
     code: &mut Code<'s>,
     scope: &Scope<'s>,
@@ -179,9 +178,8 @@ fn put_template<'s>(
     number: Option<usize>,
     given: &'s Option<Pipeline>,
 ) -> Result<(), AllocError>
-    ensures code { OnOk result (spec.CallAt name.now number (option_map pipeline_of given.now) (layout_of scope.now)
-        (code_of code.new) (code_of code.old)) }
-    ensures ends { OnOk result (Ends (code_of code.old) (code_of code.new)) }
+    ensures { OnOk result (Placed (spec.CallAt name.now number (option_map pipeline_of given.now) (layout_of scope.now))
+        code.old code.new) }
 {
     match number {
         Some(number) => {
@@ -198,9 +196,8 @@ fn put_given<'s>(
     scope: &Scope<'s>,
     given: &'s Option<Pipeline>,
 ) -> Result<(), AllocError>
-    ensures code { OnOk result (spec.GivenAt (option_map pipeline_of given.now) (layout_of scope.now)
-        (code_of code.new) (code_of code.old)) }
-    ensures ends { OnOk result (Ends (code_of code.old) (code_of code.new)) }
+    ensures { OnOk result (Placed (spec.GivenAt (option_map pipeline_of given.now) (layout_of scope.now))
+        code.old code.new) }
 {
     match given {
         Some(pipeline) => put_pipeline(code, scope, pipeline),
@@ -228,8 +225,7 @@ pub(crate) fn first_instruction<'s>(set: &Set, node: &Node) -> Instruction<'s>
 /// either, nothing ends it.
 #[tactic(auto, using(crate::proofs::TailLemmas::end_at, crate::proofs::TailLemmas::ends))]
 fn put_end(code: &mut Code<'_>, count: u32, skip: u32) -> Result<(), AllocError>
-    ensures code { OnOk result (spec.EndAt count skip (code_of code.new) (code_of code.old)) }
-    ensures ends { OnOk result (Ends (code_of code.old) (code_of code.new)) }
+    ensures { OnOk result (Placed (spec.EndAt count skip) code.old code.new) }
 {
     match (count, skip) {
         (0, 0) => Ok(()),
@@ -242,9 +238,8 @@ impl<'s> Compiler<'s> {
     #[cycle(nodes)]
     pub(crate) fn put_nodes(&mut self, site: Site<'_>, nodes: &'s [Node]) -> Result<(), AllocError>
         requires { IsOpen site.exit (code_of self.old.code) (layout_of self.old.scope) }
-        ensures part { OnOk result (Put (spec.NodesAt (set_view site.entry.set.now) (nodes_in nodes.now))
+        ensures { OnOk result (Put (spec.NodesAt (set_view site.entry.set.now) (nodes_in nodes.now))
             site.entry.exit self.old self.new) }
-        ensures ends { OnOk result (Ends (code_of self.old.code) (code_of self.new.code)) }
     {
         grow_all(&mut self.scope, nodes)?;
         let mut i = nodes.len();
@@ -263,10 +258,9 @@ impl<'s> Compiler<'s> {
     #[tactic(auto, using(tmpl_syntax::proofs::ViewLemmas::controls, crate::proofs::TailLemmas::ends))]
     pub(crate) fn put_node(&mut self, site: Site<'_>, node: &'s Node) -> Result<(), AllocError>
         requires { IsOpen site.exit (code_of self.old.code) (layout_of self.old.scope) }
-        ensures part { OnOk result (Put
+        ensures { OnOk result (Put
             (spec.NodeAt (set_view site.entry.set.now) (node_of node.now).line (node_of node.now).what)
             site.entry.exit self.old self.new) }
-        ensures ends { OnOk result (Ends (code_of self.old.code) (code_of self.new.code)) }
     {
         match &node.what {
             NodeKind::Text(text) => self.code.push(Instruction::Put(text)),
@@ -294,9 +288,8 @@ impl<'s> Compiler<'s> {
         node: &'s ControlNode,
     ) -> Result<(), AllocError>
         requires { IsOpen site.exit (code_of self.old.code) (layout_of self.old.scope) }
-        ensures part { OnOk result (Put (spec.NodeAt (set_view site.entry.set.now) line (control_of node.now))
+        ensures { OnOk result (Put (spec.NodeAt (set_view site.entry.set.now) line (control_of node.now))
             site.entry.exit self.old self.new) }
-        ensures ends { OnOk result (Ends (code_of self.old.code) (code_of self.new.code)) }
     {
         let parts = Parts {
             header: &node.header,
@@ -315,9 +308,8 @@ impl<'s> Compiler<'s> {
     #[tactic(auto, using(crate::proofs::TailLemmas::ends, crate::proofs::TailLemmas::longer))]
     fn put_if(&mut self, site: Site<'_>, parts: Parts<'s>) -> Result<(), AllocError>
         requires { IsOpen site.exit (code_of self.old.code) (layout_of self.old.scope) }
-        ensures part { OnOk result (Put (PartsAt (set_view site.entry.set.now) 0 control.If parts.entry)
+        ensures { OnOk result (Put (PartsAt (set_view site.entry.set.now) 0 control.If parts.entry)
             site.entry.exit self.old self.new) }
-        ensures ends { OnOk result (Ends (code_of self.old.code) (code_of self.new.code)) }
     {
         let end = self.code.len();
         self.put_ended(site, &parts.header.binding, parts.other, 0)?;
@@ -335,9 +327,8 @@ impl<'s> Compiler<'s> {
     #[tactic(auto, using(crate::proofs::TailLemmas::ends, crate::proofs::TailLemmas::longer, crate::proofs::TailLemmas::open_on))]
     fn put_with(&mut self, site: Site<'_>, parts: Parts<'s>) -> Result<(), AllocError>
         requires { IsOpen site.exit (code_of self.old.code) (layout_of self.old.scope) }
-        ensures part { OnOk result (Put (PartsAt (set_view site.entry.set.now) 0 control.With parts.entry)
+        ensures { OnOk result (Put (PartsAt (set_view site.entry.set.now) 0 control.With parts.entry)
             site.entry.exit self.old self.new) }
-        ensures ends { OnOk result (Ends (code_of self.old.code) (code_of self.new.code)) }
     {
         let end = self.code.len();
         self.put_ended(site, &parts.header.binding, parts.other, 0)?;
@@ -360,9 +351,8 @@ impl<'s> Compiler<'s> {
     #[tactic(auto, using(crate::proofs::TailLemmas::ends, crate::proofs::TailLemmas::longer))]
     fn put_range(&mut self, site: Site<'_>, line: u32, parts: Parts<'s>) -> Result<(), AllocError>
         requires { IsOpen site.exit (code_of self.old.code) (layout_of self.old.scope) }
-        ensures part { OnOk result (Put (PartsAt (set_view site.entry.set.now) line control.Range parts.entry)
+        ensures { OnOk result (Put (PartsAt (set_view site.entry.set.now) line control.Range parts.entry)
             site.entry.exit self.old self.new) }
-        ensures ends { OnOk result (Ends (code_of self.old.code) (code_of self.new.code)) }
     {
         let after = self.code.len();
         put_end(&mut self.code, short(declared_in(parts.other)?)?, 0)?;
@@ -396,10 +386,9 @@ impl<'s> Compiler<'s> {
         skip: u32,
     ) -> Result<(), AllocError>
         requires { IsOpen site.exit (code_of self.old.code) (layout_of self.old.scope) }
-        ensures part { OnOk result (Put
+        ensures { OnOk result (Put
             (EndedPart (set_view site.entry.set.now) (binding_of binding.now) (nodes_in nodes.now) skip)
             site.entry.exit self.old self.new) }
-        ensures ends { OnOk result (Ends (code_of self.old.code) (code_of self.new.code)) }
     {
         put_end(&mut self.code, declared_by(binding, nodes)?, skip)?;
         self.put_part(site, binding, nodes)
@@ -415,10 +404,9 @@ impl<'s> Compiler<'s> {
         nodes: &'s [Node],
     ) -> Result<(), AllocError>
         requires { IsOpen site.exit (code_of self.old.code) (layout_of self.old.scope) }
-        ensures part { OnOk result (Put
+        ensures { OnOk result (Put
             (BoundPart (set_view site.entry.set.now) (binding_of binding.now) (nodes_in nodes.now))
             site.entry.exit self.old self.new) }
-        ensures ends { OnOk result (Ends (code_of self.old.code) (code_of self.new.code)) }
     {
         open(&mut self.scope, binding)?;
         self.put_nodes(site, nodes)?;
@@ -436,10 +424,9 @@ impl<'s> Compiler<'s> {
         nodes: &'s [Node],
     ) -> Result<(), AllocError>
         requires { IsOpen site.exit (code_of self.old.code) (layout_of self.old.scope) }
-        ensures part { OnOk result (Put
+        ensures { OnOk result (Put
             (DottedPart (set_view site.entry.set.now) (binding_of binding.now) (nodes_in nodes.now))
             site.entry.exit self.old self.new) }
-        ensures ends { OnOk result (Ends (code_of self.old.code) (code_of self.new.code)) }
     {
         open(&mut self.scope, binding)?;
         self.scope.save()?;
@@ -461,9 +448,8 @@ impl<'s> Compiler<'s> {
     ) -> Result<(), AllocError>
         requires after { around.after ≤ length (code_of self.old.code) }
         requires below { around.below ≡ length (layout_of self.old.scope) }
-        ensures part { OnOk result (Put (TurnsPart (set_view set.now) (binding_of binding.now) (nodes_in body.now))
+        ensures { OnOk result (Put (TurnsPart (set_view set.now) (binding_of binding.now) (nodes_in body.now))
             (Some around) self.old self.new) }
-        ensures ends { OnOk result (Ends (code_of self.old.code) (code_of self.new.code)) }
     {
         self.scope.save()?;
         self.scope.save()?;

@@ -1,13 +1,12 @@
 //! Pipelines to code, each from its last operand to its first.
 #![tactic(auto, using(crate::proofs::TailLemmas::ends))]
 
-ghost use Rattle.std.specs.Prelude.{◌≡◌, ◌+◌, ◌^◌, ◌≤◌, ◌<◌, ◌∷◌, IfOk, IsOk, OnOk, false, length, true};
+ghost use Rattle.std.specs.Prelude.{◌≡◌, ◌+◌, ◌^◌, ◌≤◌, ◌<◌, IfOk, IsOk, OnOk, false, length, true};
 ghost use Rattle.tmpl_funcs.specs.Func.{takes};
 ghost use Rattle.tmpl_grammar.specs.View.{commands_in, operand_of, operands_in, pipeline_of};
 ghost use Rattle.tmpl_code.specs.Code as spec;
-ghost use Rattle.tmpl_code.specs.Instruction.{act, call_with};
 ghost use Rattle.tmpl_code.specs.Layout.{slot_named};
-ghost use Rattle.tmpl_code.specs.computed.Held.{Ends, code_of, decided, layout_of};
+ghost use Rattle.tmpl_code.specs.computed.Held.{CalledAt, Ends, Placed, code_of, decided, layout_of};
 
 use crate::code::Code;
 use crate::instruction::{Instruction, Refusal};
@@ -46,9 +45,8 @@ pub(crate) fn put_pipeline<'s>(
     scope: &Scope<'s>,
     pipeline: &'s Pipeline,
 ) -> Result<(), AllocError>
-    ensures code { OnOk result (spec.PipelineAt (pipeline_of pipeline.now) (layout_of scope.now)
-        (code_of code.new) (code_of code.old)) }
-    ensures ends { OnOk result (Ends (code_of code.old) (code_of code.new)) }
+    ensures { OnOk result (Placed (spec.PipelineAt (pipeline_of pipeline.now) (layout_of scope.now))
+        code.old code.new) }
 {
     put_commands(code, scope, 0, pipeline.commands.as_slice())
 }
@@ -61,9 +59,8 @@ fn put_commands<'s>(
     above: usize,
     commands: &'s [Command],
 ) -> Result<(), AllocError>
-    ensures code { OnOk result (spec.CommandsAt (commands_in commands.now) false above (layout_of scope.now)
-        (code_of code.new) (code_of code.old)) }
-    ensures ends { OnOk result (Ends (code_of code.old) (code_of code.new)) }
+    ensures { OnOk result (Placed (spec.CommandsAt (commands_in commands.now) false above (layout_of scope.now))
+        code.old code.new) }
 {
     match commands {
         [first, rest @ ..] => {
@@ -84,9 +81,8 @@ fn put_piped<'s>(
     above: usize,
     commands: &'s [Command],
 ) -> Result<(), AllocError>
-    ensures code { OnOk result (spec.CommandsAt (commands_in commands.now) true above (layout_of scope.now)
-        (code_of code.new) (code_of code.old)) }
-    ensures ends { OnOk result (Ends (code_of code.old) (code_of code.new)) }
+    ensures { OnOk result (Placed (spec.CommandsAt (commands_in commands.now) true above (layout_of scope.now))
+        code.old code.new) }
 {
     let below = sum(above, 1)?;
     let mut i = commands.len();
@@ -107,9 +103,8 @@ fn put_command<'s>(
     piped: bool,
     operands: &'s [Operand],
 ) -> Result<(), AllocError>
-    ensures code { OnOk result (spec.CommandAt (operands_in operands.now) piped above (layout_of scope.now)
-        (code_of code.new) (code_of code.old)) }
-    ensures ends { OnOk result (Ends (code_of code.old) (code_of code.new)) }
+    ensures { OnOk result (Placed (spec.CommandAt (operands_in operands.now) piped above (layout_of scope.now))
+        code.old code.new) }
 {
     match operands {
         [first, rest @ ..] => match first {
@@ -140,9 +135,8 @@ fn put_alone<'s>(
     above: usize,
     operand: &'s Operand,
 ) -> Result<(), AllocError>
-    ensures code { OnOk result (spec.AloneAt (operand_of operand.now)
-        (spec.OperandAt (operand_of operand.now) above (layout_of scope.now)) (code_of code.new) (code_of code.old)) }
-    ensures ends { OnOk result (Ends (code_of code.old) (code_of code.new)) }
+    ensures { OnOk result (Placed (spec.AloneAt (operand_of operand.now)
+        (spec.OperandAt (operand_of operand.now) above (layout_of scope.now))) code.old code.new) }
 {
     match operand {
         Operand::Nil => code.push(Instruction::Refuse(Refusal::NilCommand)),
@@ -170,6 +164,7 @@ fn operand_count(operands: &[Operand]) -> usize
 
 /// Puts a call of a function.
 #[cycle(pipeline)]
+#[tactic(auto, using(crate::proofs::TailLemmas::ends, crate::proofs::TailLemmas::placed_on))]
 fn put_call<'s>(
     code: &mut Code<'s>,
     scope: &Scope<'s>,
@@ -178,14 +173,8 @@ fn put_call<'s>(
     func: Func,
     operands: &'s [Operand],
 ) -> Result<(), AllocError>
-    ensures code { let os = operands_in operands.now in let cells = layout_of scope.now in
-        OnOk result (spec.CountedAt (takes func (spec.argument_count os piped)) func
-        (spec.CallBy func
-        (λ code rest. spec.OperandsAt os above cells code (act (call_with func (spec.operand_count os) piped) ∷ rest))
-        (spec.JunctionAt false os piped above cells)
-        (spec.JunctionAt true os piped above cells))
-        (code_of code.new) (code_of code.old)) }
-    ensures ends { OnOk result (Ends (code_of code.old) (code_of code.new)) }
+    ensures { OnOk result (Placed (CalledAt func (operands_in operands.now) piped above (layout_of scope.now))
+        code.old code.new) }
 {
     if !func.takes(argument_count(operands, piped)) {
         return code.push(Instruction::Refuse(Refusal::WrongCount(func)));
@@ -210,9 +199,8 @@ fn put_operands<'s>(
     above: usize,
     operands: &'s [Operand],
 ) -> Result<(), AllocError>
-    ensures code { OnOk result (spec.OperandsAt (operands_in operands.now) above (layout_of scope.now)
-        (code_of code.new) (code_of code.old)) }
-    ensures ends { OnOk result (Ends (code_of code.old) (code_of code.new)) }
+    ensures { OnOk result (Placed (spec.OperandsAt (operands_in operands.now) above (layout_of scope.now))
+        code.old code.new) }
 {
     let mut i = operands.len();
     while i > 0 {
@@ -233,9 +221,8 @@ fn put_junction<'s>(
     piped: bool,
     operands: &'s [Operand],
 ) -> Result<(), AllocError>
-    ensures code { OnOk result (spec.JunctionAt is_or (operands_in operands.now) piped above (layout_of scope.now)
-        (code_of code.new) (code_of code.old)) }
-    ensures ends { OnOk result (Ends (code_of code.old) (code_of code.new)) }
+    ensures { OnOk result (Placed (spec.JunctionAt is_or (operands_in operands.now) piped above (layout_of scope.now))
+        code.old code.new) }
 {
     let end = code.len();
     let mut last = !piped;
@@ -270,16 +257,15 @@ fn put_decide(
 
 /// Puts an operand, above so many values.
 #[cycle(pipeline)]
-#[tactic(auto, using(tmpl_grammar::proofs::ViewLemmas::group_seen, crate::proofs::TailLemmas::ends))]
+#[tactic(auto, using(tmpl_grammar::proofs::ViewLemmas::group_seen, crate::proofs::TailLemmas::ends, crate::proofs::TailLemmas::placed_on))]
 fn put_operand<'s>(
     code: &mut Code<'s>,
     scope: &Scope<'s>,
     above: usize,
     operand: &'s Operand,
 ) -> Result<(), AllocError>
-    ensures code { OnOk result (spec.OperandAt (operand_of operand.now) above (layout_of scope.now)
-        (code_of code.new) (code_of code.old)) }
-    ensures ends { OnOk result (Ends (code_of code.old) (code_of code.new)) }
+    ensures { OnOk result (Placed (spec.OperandAt (operand_of operand.now) above (layout_of scope.now))
+        code.old code.new) }
 {
     match operand {
         Operand::Dot => code.push(Instruction::PushDot),
@@ -313,8 +299,7 @@ fn put_chain<'s>(code: &mut Code<'s>, names: &'s Vec<Bytes>) -> Result<(), Alloc
 
 /// Puts the variable of a slot, below so many values.
 fn put_variable(code: &mut Code<'_>, slot: Option<usize>, above: usize) -> Result<(), AllocError>
-    ensures code { OnOk result (spec.VariableAt slot above (code_of code.new) (code_of code.old)) }
-    ensures ends { OnOk result (Ends (code_of code.old) (code_of code.new)) }
+    ensures { OnOk result (Placed (spec.VariableAt slot above) code.old code.new) }
 {
     match slot {
         Some(slot) => code.push(Instruction::PushSlot(short(sum(above, slot)?)?)),
@@ -324,8 +309,7 @@ fn put_variable(code: &mut Code<'_>, slot: Option<usize>, above: usize) -> Resul
 
 /// Puts a function as an argument: a call without arguments.
 fn put_bare(code: &mut Code<'_>, func: Func) -> Result<(), AllocError>
-    ensures code { OnOk result (spec.BareAt (takes func 0) func (code_of code.new) (code_of code.old)) }
-    ensures ends { OnOk result (Ends (code_of code.old) (code_of code.new)) }
+    ensures { OnOk result (Placed (spec.BareAt (takes func 0) func) code.old code.new) }
 {
     if func.takes(0) {
         code.push(Instruction::Call {

@@ -1,7 +1,6 @@
 //! What templates need and do, told in one walk over their nodes.
 ghost use Rattle.std.specs.Prelude.{◌≡◌, ◌+◌, ◌||◌, false, IfOk, max};
-ghost use Rattle.tmpl_code.specs.computed.Weights as calling;
-ghost use Rattle.tmpl_code.specs.MakesText as texts;
+ghost use Rattle.tmpl_code.specs.computed.Surveyed.{Surveys, SurveysNode, SurveysNodes};
 ghost use Rattle.tmpl_syntax.specs.Need as needs;
 ghost use Rattle.tmpl_syntax.specs.View.{control_of, node_of, nodes_in};
 
@@ -27,9 +26,7 @@ pub(crate) struct Survey {
 impl Survey {
     /// The survey of no node.
     pub(crate) fn nothing() -> Survey
-        ensures need { result.need ≡ 0 }
-        ensures text { result.makes_text ≡ false }
-        ensures calls { result.calls ≡ false }
+        ensures { Surveys 0 false false result }
     {
         Survey {
             need: 0,
@@ -40,9 +37,8 @@ impl Survey {
 
     /// The survey of both, whose cells are not held at one time.
     pub(crate) fn with(self, other: Survey) -> Survey
-        ensures need { result.need ≡ max self.need other.need }
-        ensures text { result.makes_text ≡ (self.makes_text || other.makes_text) }
-        ensures calls { result.calls ≡ (self.calls || other.calls) }
+        ensures { Surveys (max self.need other.need) (self.makes_text || other.makes_text)
+            (self.calls || other.calls) result }
     {
         Survey {
             need: larger(self.need, other.need),
@@ -53,9 +49,7 @@ impl Survey {
 
     /// The survey of the same above so many cells that are held.
     pub(crate) fn above(self, held: usize) -> Result<Survey, AllocError>
-        ensures need { IfOk result (λ s. s.need ≡ held + self.need) }
-        ensures text { IfOk result (λ s. s.makes_text ≡ self.makes_text) }
-        ensures calls { IfOk result (λ s. s.calls ≡ self.calls) }
+        ensures { IfOk result (Surveys (held + self.need) self.makes_text self.calls) }
     {
         Ok(Survey {
             need: sum(held, self.need)?,
@@ -65,9 +59,7 @@ impl Survey {
 
     /// The survey of a pipeline that costs so much, and of a call of a template where there is one.
     fn of_cost(cost: Cost, calls: bool) -> Survey
-        ensures need { result.need ≡ cost.need }
-        ensures text { result.makes_text ≡ cost.makes_text }
-        ensures calls { result.calls ≡ calls }
+        ensures { Surveys cost.need cost.makes_text calls result }
     {
         Survey {
             need: cost.need,
@@ -81,9 +73,7 @@ impl Survey {
 #[cycle(nodes)]
 #[tactic(auto, using(crate::proofs::NodeLemmas::lighter, crate::proofs::BackwardLemmas::from_none))]
 fn survey_nodes(nodes: &[Node]) -> Result<Survey, AllocError>
-    ensures need { IfOk result (λ s. s.need ≡ needs.need_of_nodes (nodes_in nodes.now)) }
-    ensures text { IfOk result (λ s. s.makes_text ≡ texts.nodes_make_text (nodes_in nodes.now)) }
-    ensures calls { IfOk result (λ s. s.calls ≡ calling.nodes_call (nodes_in nodes.now)) }
+    ensures { IfOk result (SurveysNodes (nodes_in nodes.now)) }
 {
     let mut survey = Survey::nothing();
     let mut i = nodes.len();
@@ -98,9 +88,7 @@ fn survey_nodes(nodes: &[Node]) -> Result<Survey, AllocError>
 #[cycle(nodes)]
 #[tactic(auto, using(tmpl_syntax::proofs::ViewLemmas::controls))]
 pub(crate) fn survey_node(node: &Node) -> Result<Survey, AllocError>
-    ensures need { IfOk result (λ s. s.need ≡ needs.need_of_node (node_of node.now).what) }
-    ensures text { IfOk result (λ s. s.makes_text ≡ texts.node_makes_text (node_of node.now).what) }
-    ensures calls { IfOk result (λ s. s.calls ≡ calling.node_calls (node_of node.now).what) }
+    ensures { IfOk result (SurveysNode (node_of node.now).what) }
 {
     match &node.what {
         NodeKind::Text(_) | NodeKind::Break | NodeKind::Continue => Ok(Survey::nothing()),
@@ -113,9 +101,7 @@ pub(crate) fn survey_node(node: &Node) -> Result<Survey, AllocError>
 #[cycle(nodes)]
 #[tactic(auto, using(tmpl_syntax::proofs::ViewLemmas::controls))]
 fn survey_control(node: &ControlNode) -> Result<Survey, AllocError>
-    ensures need { IfOk result (λ s. s.need ≡ needs.need_of_node (control_of node.now)) }
-    ensures text { IfOk result (λ s. s.makes_text ≡ texts.node_makes_text (control_of node.now)) }
-    ensures calls { IfOk result (λ s. s.calls ≡ calling.node_calls (control_of node.now)) }
+    ensures { IfOk result (SurveysNode (control_of node.now)) }
 {
     let header = cost_of_pipeline(&node.header.pipeline)?;
     let declared = declared_count(&node.header.binding);

@@ -2,8 +2,10 @@
 -- the oldest to the newest.
 use Rattle.std.specs.Prelude.{◌≡◌, ℕ, ◌+◌, ◌-◌, ◌≤◌, Bool, true, false, List, [], ◌∷◌, length, drop, Option, Some, None}
 use Rattle.std.specs.Prelude.{map, reverse, ◌++◌}
+use Rattle.tmpl_funcs.specs.Func.{takes}
+use Rattle.tmpl_funcs.specs.declared.func.Func.{Func}
 use Rattle.tmpl_grammar.specs.Need.{declared_count}
-use Rattle.tmpl_grammar.specs.Tree.{Binding, unbound, declare, assign, declare_pair}
+use Rattle.tmpl_grammar.specs.Tree.{Binding, unbound, declare, assign, declare_pair, Operands}
 use Rattle.tmpl_grammar.specs.View.{header_of}
 use Rattle.tmpl_grammar.specs.declared.tree.Control.{Control}
 use Rattle.tmpl_syntax.specs.Tree as tree
@@ -11,8 +13,9 @@ use Rattle.tmpl_syntax.specs.Tree.{NodeKind, text, action, control_node, break_n
 use Rattle.tmpl_syntax.specs.Tree.{Nodes}
 use Rattle.tmpl_syntax.specs.Set.{Template}
 use Rattle.tmpl_syntax.specs.View.{nodes_in}
-use Rattle.tmpl_code.specs.Code.{Code, Ended, Exit, NodeAt, NodesAt, NodesPart, TreeAt, TurnAt}
-use Rattle.tmpl_code.specs.Instruction.{act, decide}
+use Rattle.tmpl_code.specs.Code.{argument_count, operand_count, CallBy, CountedAt, JunctionAt, OperandsAt}
+use Rattle.tmpl_code.specs.Code.{Code, Ended, Exit, NodeAt, NodesAt, NodesPart, Part, TreeAt, TurnAt}
+use Rattle.tmpl_code.specs.Instruction.{Instruction, act, call_with, decide}
 use Rattle.tmpl_code.specs.Layout.{Layout, bound_on, declared_in, grown}
 use Rattle.tmpl_code.specs.View.{instruction_of}
 use Rattle.tmpl_code.specs.computed.Cells.{layout_in}
@@ -42,6 +45,15 @@ pub record Ends (rest code : Code) : Type 0 where
   pub front : Code
   pub is : code ≡ front ++ rest
 
+-- code of this kind was put before other code, which stands behind it
+pub record Placed (P : Part) (before after : held_code.Code) : Type 0 where
+  pub code : P (code_of after) (code_of before)
+  pub ends : Ends (code_of before) (code_of after)
+
+-- one instruction
+abbrev pub Pushed : Instruction → Part
+Pushed i code rest = code ≡ i ∷ rest
+
 -- the last so many instructions
 abbrev pub last_of : ℕ → Code → Code
 last_of n code = drop (length code - n) code
@@ -60,6 +72,15 @@ IsOpen (Some a) code cells = (a.after ≤ length code) × (a.below + 2 ≤ lengt
 abbrev pub all_grown : Nodes → Layout → Layout
 all_grown tree.none cells = cells
 all_grown (tree.then line n ns) cells = all_grown ns (grown n cells)
+
+-- a call of a function
+abbrev pub CalledAt : Func → Operands → Bool → ℕ → Layout → Part
+CalledAt f os piped above cells =
+    CountedAt (takes f (argument_count os piped)) f
+    (CallBy f
+    (λ code rest. OperandsAt os above cells code (act (call_with f (operand_count os) piped) ∷ rest))
+    (JunctionAt false os piped above cells)
+    (JunctionAt true os piped above cells))
 
 -- without the variables that are declared
 abbrev pub bound_off : Binding → Layout → Layout
@@ -95,10 +116,11 @@ abbrev pub PartsAt : List Template → ℕ → Control → held_node.Parts → N
 PartsAt ts line c p =
     NodeAt ts line (control_node c (header_of p.header.now) (nodes_in p.body.now) (nodes_in p.other.now))
 
--- such a part was put before the code, and the cells are as they were
+-- such a part was put before the code, which stands behind it, and the cells are as they were
 pub record Put (P : NodesPart) (exit : Option held_around.Around) (before after : held_compiler.Compiler) : Type 0 where
   pub code :
       P (layout_of before.scope) (exit_seen exit (code_of before.code)) (code_of after.code) (code_of before.code)
+  pub ends : Ends (code_of before.code) (code_of after.code)
   pub scope : layout_of after.scope ≡ layout_of before.scope
 
 -- the places in code of this size from which on there is so much code

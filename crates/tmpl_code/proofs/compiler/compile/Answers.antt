@@ -28,11 +28,11 @@ loop-i-preserved c =
     let nodes : nodes_in c.as_slice-nodes.result.now ≡ t.1.nodes = ap nodes_in c.as_slice-nodes.ensures.value in
     let here : t ∷ drop (i + 1) ts ≡ drop i ts = sym (drop-next ts i t c.template.ensures.value) in
     let starts = subst (λ n. LastStarts ts (drop n ts) (reverse l.lengths.items) old) next l.invariant.starts in
-    let lies = subst (λ (ns : Nodes). TreeAt ts ns new old) nodes c.in_ok-own.ensures.code in
+    let lies = subst (λ (ns : Nodes). TreeAt ts ns new old) nodes c.in_ok-own.ensures.put.code in
     let found = c.in_ok-own in
-    let needs : found.own.need ≡ need t.1 = found.ensures.need ∙ ap (λ (ns : Nodes). 3 + need_of_nodes ns) nodes in
-    let makes : found.own.makes_text ≡ nodes_make_text t.1.nodes = found.ensures.text ∙ ap nodes_make_text nodes in
-    let calling : found.own.calls ≡ nodes_call t.1.nodes = found.ensures.calls ∙ ap nodes_call nodes in
+    let needs : found.own.need ≡ need t.1 = found.ensures.survey.need ∙ ap (λ (ns : Nodes). 3 + need_of_nodes ns) nodes in
+    let makes : found.own.makes_text ≡ nodes_make_text t.1.nodes = found.ensures.survey.text ∙ ap nodes_make_text nodes in
+    let calling : found.own.calls ≡ nodes_call t.1.nodes = found.ensures.survey.calls ∙ ap nodes_call nodes in
     let most : l.survey.need ≡ largest_need (drop (i + 1) ts) = l.invariant.most ∙ ap (λ n. largest_need (drop n ts)) next in
     let made : l.survey.makes_text ≡ set_makes_text (drop (i + 1) ts) = l.invariant.makes ∙ ap (λ n. set_makes_text (drop n ts)) next in
     let called : l.survey.calls ≡ set_calls (drop (i + 1) ts) = l.invariant.calling ∙ ap (λ n. set_calls (drop n ts)) next in
@@ -42,7 +42,7 @@ loop-i-preserved c =
     record {
       within = omega arith;
       starts = starts_more ts i t l.lengths.items c.push.new.self.items c.len.result old new c.template.ensures.value c.in_ok-push.ensures.items c.len.ensures
-          lies c.in_ok-own.ensures.ends starts;
+          lies c.in_ok-own.ensures.put.ends starts;
       needs =
           ap reverse c.in_ok-push-2.ensures.items ∙ reverse-append l.needs.items (found.own.need ∷ [])
           ∙ (λ j. needs j ∷ (l.invariant.needs ∙ ap (λ n. map (λ (t : Template). need t.1) (drop n ts)) next) j)

@@ -1,10 +1,12 @@
-use Rattle.std.proofs.Common.{◌≡◌, ◌∙◌, ◌+◌, ◌-◌, drop, length, ap, sym, subst, arith}
+use Rattle.std.proofs.Common.{rules, false, ◌≡◌, ◌∙◌, ◌+◌, ◌-◌, drop, length, ap, sym, subst, arith}
 use Rattle.std.proofs.lemmas.Grind.{common_steps}
-use Rattle.tmpl_grammar.specs.View.{operands_in}
-use Rattle.tmpl_code.specs.computed.Held.{code_of, decided, layout_of}
-use Rattle.tmpl_code.specs.Code.{Code, is_last, JunctionAt}
+use borrow.Author.Rules.{get_or_read}
+use Rattle.tmpl_grammar.specs.declared.tree.Operand.TheFolds.{the_lemmas}
+use Rattle.tmpl_grammar.specs.View.{commands_in, operand_of, operands_in}
+use Rattle.tmpl_code.specs.computed.Held.{Placed, code_of, decided, layout_of}
+use Rattle.tmpl_code.specs.Code.{Code, is_last, CommandAt, CommandsAt, JunctionAt, OperandAt}
 use Rattle.tmpl_code.proofs.BackwardLemmas.{junction_more, operands_from}
-use Rattle.tmpl_code.proofs.TailLemmas.{ends_both, ends_on, ends_one}
+use Rattle.tmpl_code.proofs.TailLemmas.{ends_both}
 use Rattle.std.proofs.lemmas.Result.{on_ok_weaker}
 use Rattle.tmpl_code.proofs.pipeline.+pipeline.Goals as goal
 
@@ -34,7 +36,7 @@ pub put_piped-loop-i-preserved : goal.put_piped-loop-i-preserved
 put_piped-loop-i-preserved t c = record {
   within = omega arith;
   put = grind (arith, common_steps);
-  ends = ends_both c.in_ok-put_command.ensures.ends (ends_on c.in_ok-push.ensures c.loop-i.invariant.ends);
+  ends = ends_both c.in_ok-put_command.ensures.ends (ends_both c.in_ok-push.ensures.ends c.loop-i.invariant.ends);
 }
 
 pub put_operands-loop-i-preserved : goal.put_operands-loop-i-preserved
@@ -44,9 +46,21 @@ put_operands-loop-i-preserved t c = record {
   ends = ends_both c.in_ok-put_operand.ensures.ends c.loop-i.invariant.ends;
 }
 
-pub put_commands-returns-in_ok-push-in-len1-up-clause-ends : goal.put_commands-returns-in_ok-push-in-len1-up-clause-ends
-put_commands-returns-in_ok-push-in-len1-up-clause-ends t c =
-    on_ok_weaker _ (λ on. ends_both on (ends_on c.in_ok-push-in-len1-up.ensures c.in_ok-put_piped-in-len1-up.ensures.ends)) c.put_command.ensures.ends
+pub put_commands-returns-in_ok-push-in-len1-up : goal.put_commands-returns-in_ok-push-in-len1-up
+put_commands-returns-in_ok-push-in-len1-up t c =
+    let a = c.args in
+    let others = ends_both c.in_ok-push-in-len1-up.ensures.ends c.in_ok-put_piped-in-len1-up.ensures.ends in
+    on_ok_weaker {Q = Placed (CommandsAt (commands_in a.commands.now) false a.above (layout_of a.scope.now)) a.code.now c.put_command.new.code} _
+    (λ put. record { code = grind (arith, common_steps); ends = ends_both put.ends others }) c.put_command.ensures
 
-pub put_command-returns-in_default-2-clause-ends : goal.put_command-returns-in_default-2-clause-ends
-put_command-returns-in_default-2-clause-ends t c = on_ok_weaker _ ends_one c.push-in_default-2.ensures
+pub put_command-returns-in-Function : goal.put_command-returns-in-Function
+put_command-returns-in-Function t c =
+    let a = c.args in
+    on_ok_weaker {Q = Placed (CommandAt (operands_in a.operands.now) a.piped a.above (layout_of a.scope.now)) a.code.now c.put_call.new.code} _
+    (λ put. record { code = grind (arith, common_steps, get_or_read, the_lemmas); ends = put.ends }) c.put_call.ensures
+
+pub put_operand-returns-in_ok-put_chain-in-Variable : goal.put_operand-returns-in_ok-put_chain-in-Variable
+put_operand-returns-in_ok-put_chain-in-Variable t c =
+    let a = c.args in
+    on_ok_weaker {Q = Placed (OperandAt (operand_of a.operand.now) a.above (layout_of a.scope.now)) a.code.now c.put_variable.new.code} _
+    (λ put. record { code = search (rules, the_lemmas); ends = ends_both put.ends c.in_ok-put_chain-in-Variable.ensures.ends }) c.put_variable.ensures

@@ -1,8 +1,6 @@
-use Rattle.std.proofs.Common.{◌≡◌, ◌≤◌, ◌+◌, ◌*◌, drop, length}
-use Rattle.tmpl_syntax.specs.Need.{need_of_nodes}
+use Rattle.std.proofs.Common.{◌≤◌, ◌+◌, ◌*◌, drop, length}
 use Rattle.tmpl_syntax.specs.View.{control_of, node_of, nodes_in}
-use Rattle.tmpl_code.specs.computed.Weights.{nodes_call}
-use Rattle.tmpl_code.specs.MakesText.{nodes_make_text}
+use Rattle.tmpl_code.specs.computed.Surveyed.{SurveysNodes}
 use Rattle.tmpl_code.proofs.NodeLemmas.{node_weight, nodes_weight}
 use Rattle.tmpl_code.proofs.survey.+nodes.Given as goal
 
@@ -21,7 +19,5 @@ decreases-survey_nodes-loop-i l = l.i
 abbrev pub invariant-survey_nodes-loop-i : goal.invariant-survey_nodes-loop-i
 invariant-survey_nodes-loop-i l = record {
   within : l.i ≤ length l.nodes;
-  need : l.survey.need ≡ need_of_nodes (nodes_in (drop l.i l.nodes));
-  text : l.survey.makes_text ≡ nodes_make_text (nodes_in (drop l.i l.nodes));
-  calls : l.survey.calls ≡ nodes_call (nodes_in (drop l.i l.nodes));
+  survey : SurveysNodes (nodes_in (drop l.i l.nodes)) l.survey;
 }

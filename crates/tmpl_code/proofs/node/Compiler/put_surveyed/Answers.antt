@@ -21,18 +21,20 @@ loop-i-preserved c =
     let here = nodes_from ns l.i (l.i - 1) item (omega arith) (omega arith) c.index-nodes-i.is in
     let found = c.in_ok-survey_node.ensures in
     let above = c.in_ok-above.ensures in
+    let behind = l.invariant.survey in
     let joined = c.with-survey.ensures in
     record {
       nodes =
           tail.put_more (record { code = l.self.code; scope = c.shrink.new.scope }) c.requires l.invariant.nodes (l.i - 1) item (omega arith) (omega arith)
-          c.index-nodes-i.is refl c.shrink.ensures c.in_ok-put_node.ensures.part
-          c.in_ok-put_node.ensures.ends
-          (c.in_ok-push.ensures ∙ ap (λ i. i ∷ code_of c.put_node.new.self.code) c.first_instruction.ensures) refl;
-      need = joined.need ∙ (λ j. max (found.need j) ((above.need ∙ (λ k. c.left_behind.ensures k + l.invariant.need k)) j)) ∙ ap need_of_nodes here;
-      text = joined.text ∙ (λ j. found.text j || (above.text ∙ l.invariant.text) j) ∙ ap nodes_make_text here;
-      calls = joined.calls ∙ (λ j. found.calls j || (above.calls ∙ l.invariant.calls) j) ∙ ap nodes_call here;
+          c.index-nodes-i.is refl c.shrink.ensures c.in_ok-put_node.ensures
+          (c.in_ok-push.ensures.code ∙ ap (λ i. i ∷ code_of c.put_node.new.self.code) c.first_instruction.ensures) refl;
+      survey = record {
+        need = joined.need ∙ (λ j. max (found.need j) ((above.need ∙ (λ k. c.left_behind.ensures k + behind.need k)) j)) ∙ ap need_of_nodes here;
+        text = joined.text ∙ (λ j. found.text j || (above.text ∙ behind.text) j) ∙ ap nodes_make_text here;
+        calls = joined.calls ∙ (λ j. found.calls j || (above.calls ∙ behind.calls) j) ∙ ap nodes_call here;
+      };
     }
 
 -- the loop ends at the first node
-pub returns-clause-code : goal.returns-clause-code
-returns-clause-code c = tail.put_all (omega arith) c.loop-i.invariant.nodes
+pub returns-clause-put : goal.returns-clause-put
+returns-clause-put c = tail.put_all (omega arith) c.loop-i.invariant.nodes

@@ -1,0 +1,26 @@
+-- What is told of pipelines and of nodes, each in one walk.
+use Rattle.std.specs.Prelude.{◌≡◌, ℕ, Bool}
+use Rattle.tmpl_syntax.specs.Need.{need_of_node, need_of_nodes}
+use Rattle.tmpl_syntax.specs.Tree.{NodeKind, Nodes}
+use Rattle.tmpl_code.specs.MakesText.{node_makes_text, nodes_make_text}
+use Rattle.tmpl_code.specs.computed.Weights.{node_calls, nodes_call}
+use Rattle.tmpl_code.specs.declared.cost.Cost as held_cost
+use Rattle.tmpl_code.specs.declared.survey.Survey as held_survey
+
+-- so many cells, and whether a text is made
+pub record Costs (cells : ℕ) (makes : Bool) (c : held_cost.Cost) : Type 0 where
+  pub need : c.need ≡ cells
+  pub text : c.makes_text ≡ makes
+
+-- and whether a template is called
+pub record Surveys (cells : ℕ) (makes calling : Bool) (s : held_survey.Survey) : Type 0 where
+  pub need : s.need ≡ cells
+  pub text : s.makes_text ≡ makes
+  pub calls : s.calls ≡ calling
+
+-- what a node needs and does, and what nodes do
+abbrev pub SurveysNode : NodeKind → held_survey.Survey → Type 0
+SurveysNode n = Surveys (need_of_node n) (node_makes_text n) (node_calls n)
+
+abbrev pub SurveysNodes : Nodes → held_survey.Survey → Type 0
+SurveysNodes ns = Surveys (need_of_nodes ns) (nodes_make_text ns) (nodes_call ns)
