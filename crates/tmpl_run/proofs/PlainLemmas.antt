@@ -61,6 +61,10 @@ borrowed-push top cs c h p = subst (λ n. AreBorrowed (take n (set cs top c))) (
 pub borrowed-same : (n : ℕ) (old new : List held.Cell) → new ≡ old → AreBorrowed (take n old) → AreBorrowed (take n new)
 borrowed-same n old new e p = subst (λ cs. AreBorrowed (take n cs)) (sym e) p
 
+pub ruleset pushes = borrowed-push
+
+pub ruleset takes = borrowed-taken
+
 pub ruleset plains = (borrowed-taken, borrowed-popped, borrowed-set, borrowed-push, borrowed-same)
 
 pub ruleset looks = (borrowed-at, made_at-is, made-at, borrowed-set, borrowed-push)

@@ -8,16 +8,9 @@ use Rattle.tmpl_values.specs.View.{val_of}
 use Rattle.tmpl_run.specs.Cell.{Cell, slot_cell}
 use Rattle.tmpl_run.specs.Machine.{top}
 use Rattle.tmpl_run.specs.computed.Held.{cell_at, cell_of, cells_in}
-use Rattle.tmpl_run.specs.computed.View.{cells_of, size_of}
-use Rattle.tmpl_run.specs.declared.stack.Stack.{Stack}
 
 pub live-length : (top : ℕ) (cs : List held.Cell) → top ≤ length cs → length (cells_in top cs) ≡ top
 live-length top cs h = length-map (reverse (take top cs)) cell_of ∙ length-reverse (take top cs) ∙ length-take-le top cs h
-
--- no more cells are live than there are
-pub cells-fit : (s : Stack) → length (cells_of s) ≤ size_of s
-unfolding cells_of
-cells-fit s = let live = live-length s.top s.cells.now s.within in let within = s.within in omega arith
 
 live-more : (top : ℕ) (cs : List held.Cell) (d : held.Cell) → top < length cs → cells_in (top + 1) cs ≡ cell_of (get_or cs top d) ∷ cells_in top cs
 live-more top cs d h = grind (arith, add-one, take-suc cs top d h, reverse-append (take top cs) (get_or cs top d ∷ []))
@@ -76,6 +69,10 @@ live-set (suc top) (suc k) cs d h g =
       live-more top cs d (omega arith),
       live-set top k cs d (omega arith) (omega arith),
     )
+
+pub ruleset pushes = (live-length, live-push)
+
+pub ruleset takes = (live-length, live-taken)
 
 pub ruleset stacks = (live-length, live-push, live-taken, live-popped, slot-at, live-set)
 

@@ -1,20 +1,19 @@
 //! Steps, `if` and `with`.
-ghost use Rattle.std.specs.Prelude.{◌≡◌, ◌+◌, ◌<◌, ◌≤◌, ◌^◌, false, length, true, IfOk, Ok, OnOk};
+ghost use Rattle.std.specs.Prelude.{◌≡◌, ◌+◌, ◌<◌, ◌≤◌, ◌^◌, false, length, true, Ok, OnOk};
 ghost use Rattle.tmpl_values.specs.Truth.{truth};
 ghost use Rattle.tmpl_values.specs.View.{is_kept};
 ghost use Rattle.tmpl_meaning.specs.View.{rules_of};
 ghost use Rattle.tmpl_code.specs.Instruction as code;
 ghost use Rattle.tmpl_run.specs.Cell.{slot};
 ghost use Rattle.tmpl_run.specs.computed.Machines.{untold};
-ghost use Rattle.tmpl_run.specs.computed.Plain.{IsPlain, Spared, SparedOr};
+ghost use Rattle.tmpl_run.specs.computed.Plain.{IsPlain, SparedOr};
 ghost use Rattle.tmpl_run.specs.Ready.{RoomIf};
-ghost use Rattle.tmpl_run.specs.computed.Turned.{Executed, TurnedUnder};
+ghost use Rattle.tmpl_run.specs.computed.Turned.{Executed, TurnedOr, TurnedUnder};
 ghost use Rattle.tmpl_run.specs.computed.View.{cells_of, size_of};
 
 use crate::flow::Flow;
 use crate::halt::Halt;
 use crate::machine::Machine;
-use std::alloc::AllocError;
 use std::mem;
 use tmpl_meaning::{Options, RunFaultKind};
 use tmpl_values::Cell;
@@ -70,16 +69,15 @@ impl<'m, 'a> Machine<'m, 'a> {
 
     /// Where the newest value is not empty it becomes dot, and the dot from outside is saved; else goes on with the
     /// other part.
-    pub(crate) fn open_with(&mut self, kept: bool, skip: usize) -> Result<Flow, AllocError>
+    pub(crate) fn open_with(&mut self, kept: bool, skip: usize) -> Result<Flow, Halt<'a>>
         requires found { 1 ≤ length (cells_of self.old.stack) }
-        requires within { length (cells_of self.old.stack) ≤ size_of self.old.stack }
         requires room { RoomIf kept (length (cells_of self.old.stack)) (size_of self.old.stack) }
         requires body { self.old.place + 1 < 2 ^ 64 }
         requires other { truth (slot 0 (cells_of self.old.stack)) ≡ false → self.old.place + 1 + skip < 2 ^ 64 }
-        ensures step { IfOk result (λ f. Executed untold (code.enter_with kept skip) self.old self.new (Ok f)) }
+        ensures step { TurnedOr untold (code.enter_with kept skip) self.old self.new result }
         ensures dot { truth (slot 0 (cells_of self.old.stack)) ≡ true
             → OnOk result (is_kept self.new.dot ≡ true) }
-        ensures plain { IsPlain self.old → Spared result (IsPlain self.new) }
+        ensures plain { IsPlain self.old → SparedOr result (IsPlain self.new) }
         ensures size { size_of self.new.stack ≡ size_of self.old.stack }
     {
         let Cell { val, num } = self.stack.take();

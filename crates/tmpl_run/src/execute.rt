@@ -36,7 +36,6 @@ impl<'m, 'a> Machine<'m, 'a> {
     ) -> Result<Flow, Halt<'a>>
         requires place { self.old.place + 1 < 2 ^ 64 }
         requires depth { self.old.depth + 1 < 2 ^ 64 }
-        requires within { length (cells_of self.old.stack) ≤ size_of self.old.stack }
         requires ready { Has (instruction_of instruction.now) (length (cells_of self.old.stack))
             (size_of self.old.stack) }
         requires lands { Lands (done (plan_of options.now program.now) no_template (instruction_of instruction.now)
@@ -97,11 +96,11 @@ impl<'m, 'a> Machine<'m, 'a> {
                 self.show(piece, sink)?;
                 Ok(Flow::On)
             }
-            Instruction::Hold { key } => Ok(self.hold(key)?),
-            Instruction::Set(slot) => Ok(self.set(slot as usize)?),
-            Instruction::SetDot(slot) => Ok(self.set_dot(slot as usize)?),
+            Instruction::Hold { key } => self.hold(key),
+            Instruction::Set(slot) => self.set(slot as usize),
+            Instruction::SetDot(slot) => self.set_dot(slot as usize),
             Instruction::Unless { kept, skip } => Ok(self.branch(kept, skip as usize)),
-            Instruction::With { kept, skip } => Ok(self.open_with(kept, skip as usize)?),
+            Instruction::With { kept, skip } => self.open_with(kept, skip as usize),
             Instruction::EndWith {
                 count,
                 variables,
@@ -109,7 +108,7 @@ impl<'m, 'a> Machine<'m, 'a> {
             } => Ok(self.close_with(count as usize, variables as usize, skip as usize)),
             Instruction::Drop { count, skip } => Ok(self.forget(count as usize, skip as usize)),
             Instruction::Enter { key, skip } => { self.open_range(options, key, skip as usize) }
-            Instruction::Turn(count) => Ok(self.turn(count as usize)?),
+            Instruction::Turn(count) => self.turn(count as usize),
             Instruction::Next { count, skip, line } => {
                 self.next(options, count as usize, skip as usize, line as u64)
             }

@@ -1,7 +1,7 @@
 //! Whether a run goes on.
 
 /// Whether a run goes on.
-#[derive(Clone, Copy, Debug, PartialEq, Eq)]
+#[derive(Clone, Copy)]
 pub(crate) enum Flow {
     On,
     /// It is at its end.

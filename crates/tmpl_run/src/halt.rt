@@ -3,7 +3,7 @@ use std::alloc::AllocError;
 use tmpl_meaning::{RunFaultKind, SinkFault};
 
 /// Why a run halts before its end.
-#[derive(Clone, Copy, Debug)]
+#[derive(Clone, Copy)]
 pub(crate) enum Halt<'a> {
     Fault(RunFaultKind<'a>),
     /// The sink failed.

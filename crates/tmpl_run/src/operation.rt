@@ -120,7 +120,6 @@ impl<'m, 'a> Machine<'m, 'a> {
         names: &'a [Bytes],
     ) -> Result<Flow, Halt<'a>>
         requires found { 1 ≤ length (cells_of self.old.stack) }
-        requires within { length (cells_of self.old.stack) ≤ size_of self.old.stack }
         requires place { self.old.place + 1 < 2 ^ 64 }
         ensures step { TurnedOr (by_mode missing_key) (act (chained names.now)) self.old self.new result }
         ensures plain { IsPlain self.old → SparedOr result (IsPlain self.new) }
@@ -158,7 +157,6 @@ impl<'m, 'a> Machine<'m, 'a> {
     /// below it goes. Another goes.
     pub(crate) fn decide(&mut self, is_or: bool, piped: bool, skip: usize) -> Flow
         requires found { 1 + piped_count piped ≤ length (cells_of self.old.stack) }
-        requires within { length (cells_of self.old.stack) ≤ size_of self.old.stack }
         requires place { self.old.place + 1 < 2 ^ 64 }
         requires over { decides is_or (slot 0 (cells_of self.old.stack)) ≡ true → self.old.place + 1 + skip < 2 ^ 64 }
         ensures step { Executed untold (act (decide is_or piped skip)) self.old self.new (Ok result) }
@@ -179,7 +177,6 @@ impl<'m, 'a> Machine<'m, 'a> {
     /// A null on top becomes nothing.
     pub(crate) fn settle(&mut self) -> Flow
         requires found { 1 ≤ length (cells_of self.old.stack) }
-        requires within { length (cells_of self.old.stack) ≤ size_of self.old.stack }
         requires place { self.old.place + 1 < 2 ^ 64 }
         ensures step { Executed untold (act settle) self.old self.new (Ok result) }
         ensures plain { IsPlain self.old → IsPlain self.new }

@@ -1,5 +1,5 @@
 //! Ranges.
-ghost use Rattle.std.specs.Prelude.{◌≡◌, ◌+◌, ◌-◌, ◌<◌, ◌≤◌, ◌^◌, [], drop, false, length, option_map, IfOk, OnOk};
+ghost use Rattle.std.specs.Prelude.{◌≡◌, ◌+◌, ◌-◌, ◌<◌, ◌≤◌, ◌^◌, [], drop, false, length, option_map, OnOk};
 ghost use Rattle.std.specs.Prelude.{Some, None, Ok};
 ghost use Rattle.tmpl_values.specs.Elements.{item_at};
 ghost use Rattle.tmpl_values.specs.View.{is_made, val_of};
@@ -9,7 +9,7 @@ ghost use Rattle.tmpl_run.specs.Cell.{slot, slot_cell};
 ghost use Rattle.tmpl_run.specs.Machine.{elements_for, variables_on};
 ghost use Rattle.tmpl_run.specs.computed.Machines.{state_of, untold};
 ghost use Rattle.tmpl_run.specs.computed.Plain.{IsPlain, Spared, SparedOr};
-ghost use Rattle.tmpl_run.specs.computed.Turned.{Executed, TurnedUnder};
+ghost use Rattle.tmpl_run.specs.computed.Turned.{Executed, TurnedOr, TurnedUnder};
 ghost use Rattle.tmpl_run.specs.computed.View.{cells_of, size_of};
 ghost use Rattle.tmpl_run.specs.computed.Held.{has_more};
 
@@ -74,14 +74,14 @@ impl<'m, 'a> Machine<'m, 'a> {
 
     /// The element that the range visits becomes dot, and the values of so many variables.
     #[tactic(auto, using(crate::proofs::TurnLemmas::lefts))]
-    pub(crate) fn turn(&mut self, count: usize) -> Result<Flow, AllocError>
+    pub(crate) fn turn(&mut self, count: usize) -> Result<Flow, Halt<'a>>
         requires found { 2 ≤ length (cells_of self.old.stack) }
         requires element { item_at (slot_cell 1 (cells_of self.old.stack)).num
             (slot_cell 1 (cells_of self.old.stack)).val ≡ None → ⊥ }
         requires room { length (cells_of self.old.stack) + count ≤ size_of self.old.stack }
         requires place { self.old.place + 1 < 2 ^ 64 }
-        ensures step { IfOk result (λ f. Executed untold (code.turn count) self.old self.new (Ok f)) }
-        ensures plain { IsPlain self.old → Spared result (IsPlain self.new) }
+        ensures step { TurnedOr untold (code.turn count) self.old self.new result }
+        ensures plain { IsPlain self.old → SparedOr result (IsPlain self.new) }
         ensures size { size_of self.new.stack ≡ size_of self.old.stack }
     {
         let Some((key, element)) = self.stack.element() else {
@@ -125,7 +125,6 @@ impl<'m, 'a> Machine<'m, 'a> {
         line: u64,
     ) -> Result<Flow, Halt<'a>>
         requires found { count + 2 ≤ length (cells_of self.old.stack) }
-        requires within { length (cells_of self.old.stack) ≤ size_of self.old.stack }
         requires behind { has_more (slot_cell 1 (drop count (cells_of self.old.stack))) ≡ false
             → self.old.place + 1 + skip < 2 ^ 64 }
         ensures step { TurnedUnder (rules_of options.now) (λ _. Unit {0}) (code.next count skip line)

@@ -51,6 +51,7 @@ impl<'s, 'a> Stack<'s, 'a> {
     }
 
     /// Puts a cell.
+    #[tactic(auto, using(crate::proofs::StackLemmas::pushes, crate::proofs::PlainLemmas::pushes), unfolding(crate::specs::computed::View::cells_of, crate::specs::computed::Plain::IsPlainStack))]
     pub(crate) fn push(&mut self, val: Val<'a>, num: u64)
         requires { length (cells_of self.old) < size_of self.old }
         ensures cells { cells_of self.new ≡ cell (val_of val.entry) num ∷ cells_of self.old }
@@ -63,10 +64,12 @@ impl<'s, 'a> Stack<'s, 'a> {
     }
 
     /// Takes the newest cell.
+    #[tactic(auto, using(crate::proofs::StackLemmas::takes, crate::proofs::PlainLemmas::takes), unfolding(crate::specs::computed::View::cells_of, crate::specs::computed::Plain::IsPlainStack))]
     pub(crate) fn take(&mut self) -> Cell<'a>
         requires { 1 ≤ length (cells_of self.old) }
         ensures cells { cells_of self.old ≡ cell_of result ∷ cells_of self.new }
         ensures count { length (cells_of self.old) ≡ length (cells_of self.new) + 1 }
+        ensures room { length (cells_of self.new) < size_of self.new }
         ensures size { size_of self.new ≡ size_of self.old }
         ensures plain { IsPlainStack self.old → (is_made result.val ≡ false) × IsPlainStack self.new }
     {
@@ -81,6 +84,7 @@ impl<'s, 'a> Stack<'s, 'a> {
         requires { 1 ≤ length (cells_of self.old) }
         ensures cells { IfOk result (λ c. cells_of self.old ≡ cell_of c ∷ cells_of self.new) }
         ensures count { length (cells_of self.old) ≡ length (cells_of self.new) + 1 }
+        ensures room { length (cells_of self.new) < size_of self.new }
         ensures kept { IfOk result (λ c. is_kept c.val ≡ true) }
         ensures size { size_of self.new ≡ size_of self.old }
         ensures plain { IsPlainStack self.old → IsOkAnd result (λ c. (is_made c.val ≡ false) × IsPlainStack self.new) }
@@ -474,6 +478,7 @@ fn take_at<'a>(cells: &mut [Cell<'a>], at: usize) -> Cell<'a>
 
 /// Leaves no made text in the cells from a place to before another. What owns nothing is left as it is, since most
 /// cells own nothing and it costs more to write them than to look.
+#[tactic(auto)]
 #[inline(always)]
 fn clear(cells: &mut [Cell<'_>], from: usize, to: usize)
     requires { to ≤ length cells.old }

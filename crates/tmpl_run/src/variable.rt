@@ -1,26 +1,25 @@
 //! Variables.
-ghost use Rattle.std.specs.Prelude.{◌≡◌, ◌+◌, ◌<◌, ◌≤◌, ◌^◌, length, IfOk, Ok};
+ghost use Rattle.std.specs.Prelude.{◌≡◌, ◌+◌, ◌<◌, ◌≤◌, ◌^◌, length};
 ghost use Rattle.tmpl_code.specs.Instruction as code;
 ghost use Rattle.tmpl_run.specs.computed.Machines.{untold};
-ghost use Rattle.tmpl_run.specs.computed.Plain.{IsPlain, Spared};
+ghost use Rattle.tmpl_run.specs.computed.Plain.{IsPlain, SparedOr};
 ghost use Rattle.tmpl_run.specs.Ready.{RoomIf};
-ghost use Rattle.tmpl_run.specs.computed.Turned.{Executed};
+ghost use Rattle.tmpl_run.specs.computed.Turned.{TurnedOr};
 ghost use Rattle.tmpl_run.specs.computed.View.{cells_of, size_of};
 
 use crate::flow::Flow;
+use crate::halt::Halt;
 use crate::machine::Machine;
-use std::alloc::AllocError;
 use tmpl_values::{Cell, Val};
 
 impl<'m, 'a> Machine<'m, 'a> {
     /// The newest value becomes a variable; where an index or key is declared too, nothing becomes one below it.
-    pub(crate) fn hold(&mut self, key: bool) -> Result<Flow, AllocError>
+    pub(crate) fn hold(&mut self, key: bool) -> Result<Flow, Halt<'a>>
         requires found { 1 ≤ length (cells_of self.old.stack) }
-        requires within { length (cells_of self.old.stack) ≤ size_of self.old.stack }
         requires room { RoomIf key (length (cells_of self.old.stack)) (size_of self.old.stack) }
         requires place { self.old.place + 1 < 2 ^ 64 }
-        ensures step { IfOk result (λ f. Executed untold (code.hold key) self.old self.new (Ok f)) }
-        ensures plain { IsPlain self.old → Spared result (IsPlain self.new) }
+        ensures step { TurnedOr untold (code.hold key) self.old self.new result }
+        ensures plain { IsPlain self.old → SparedOr result (IsPlain self.new) }
         ensures size { size_of self.new.stack ≡ size_of self.old.stack }
     {
         let Cell { val, num } = self.stack.take_shared(self.alloc)?;
@@ -33,12 +32,11 @@ impl<'m, 'a> Machine<'m, 'a> {
     }
 
     /// Copies the newest value to a slot, which counts from below it.
-    pub(crate) fn set(&mut self, slot: usize) -> Result<Flow, AllocError>
+    pub(crate) fn set(&mut self, slot: usize) -> Result<Flow, Halt<'a>>
         requires found { slot + 1 < length (cells_of self.old.stack) }
-        requires within { length (cells_of self.old.stack) ≤ size_of self.old.stack }
         requires place { self.old.place + 1 < 2 ^ 64 }
-        ensures step { IfOk result (λ f. Executed untold (code.set slot) self.old self.new (Ok f)) }
-        ensures plain { IsPlain self.old → Spared result (IsPlain self.new) }
+        ensures step { TurnedOr untold (code.set slot) self.old self.new result }
+        ensures plain { IsPlain self.old → SparedOr result (IsPlain self.new) }
         ensures size { size_of self.new.stack ≡ size_of self.old.stack }
     {
         let Cell { val, num } = self.stack.take_shared(self.alloc)?;
@@ -49,11 +47,11 @@ impl<'m, 'a> Machine<'m, 'a> {
     }
 
     /// Copies dot to a slot.
-    pub(crate) fn set_dot(&mut self, slot: usize) -> Result<Flow, AllocError>
+    pub(crate) fn set_dot(&mut self, slot: usize) -> Result<Flow, Halt<'a>>
         requires found { slot < length (cells_of self.old.stack) }
         requires place { self.old.place + 1 < 2 ^ 64 }
-        ensures step { IfOk result (λ f. Executed untold (code.set_dot slot) self.old self.new (Ok f)) }
-        ensures plain { IsPlain self.old → Spared result (IsPlain self.new) }
+        ensures step { TurnedOr untold (code.set_dot slot) self.old self.new result }
+        ensures plain { IsPlain self.old → SparedOr result (IsPlain self.new) }
         ensures size { size_of self.new.stack ≡ size_of self.old.stack }
     {
         self.stack.set(slot, self.dot.share()?);

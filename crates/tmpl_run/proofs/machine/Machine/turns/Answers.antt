@@ -7,7 +7,6 @@ use Rattle.tmpl_run.specs.declared.flow.Flow.TheVariants as flow
 use Rattle.tmpl_run.proofs.GoingLemmas as going
 use Rattle.tmpl_run.proofs.OutputLemmas.{grows-on, grows-same}
 use Rattle.tmpl_run.proofs.ReadyLemmas.{able}
-use Rattle.tmpl_run.proofs.StackLemmas.{cells-fit}
 use Rattle.tmpl_run.proofs.machine.Machine.turns.Goals as goal
 
 pub loop-stop-init : goal.loop-stop-init
@@ -36,7 +35,6 @@ execute-requires g c =
     record {
       place = omega (arith, inside, fits);
       depth = omega (arith, deep);
-      within = cells-fit c.loop-stop.self.stack;
       ready = going.has inv items code c.index-code-self.is;
       lands = lands;
       able = able (plan_of c.args.options.now c.args.program.now) no_template (state_of c.loop-stop.self) _ lands;
