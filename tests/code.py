@@ -41,7 +41,7 @@ ROWS = [
         5 push 2
         6 settle
         7 set 0
-        8 drop 1 -> 9
+        8 forget 1 -> 9
         9 spend line 1
         10 push slot 0
         11 settle
@@ -115,10 +115,10 @@ ROWS = [
         6 push slot 0
         7 settle
         8 show
-        9 drop 1 -> 13
+        9 forget 1 -> 13
         10 spend line 1
         11 put "no"
-        12 drop 1 -> 13
+        12 forget 1 -> 13
         13 return 0""",
     ),
     # where nothing is to be forgotten or passed over, nothing ends a part
@@ -137,7 +137,7 @@ ROWS = [
         9 unless -> 13
         10 spend line 1
         11 put "y"
-        12 drop 0 -> 15
+        12 forget 0 -> 15
         13 spend line 1
         14 put "z"
         15 return 0""",
@@ -156,7 +156,7 @@ ROWS = [
         7 spend line 2
         8 push .k
         9 settle
-        10 with -> 14
+        10 enter with -> 14
         11 spend line 2
         12 leave 1 -> 17
         13 end with 0 0 -> 14
@@ -177,11 +177,11 @@ ROWS = [
         6 push slot 0
         7 settle
         8 hold
-        9 with kept -> 13
+        9 enter with kept -> 13
         10 spend line 1
         11 next 4 line 1 -> 15
         12 end with 0 1 -> 14
-        13 drop 1 -> 14
+        13 forget 1 -> 14
         14 next 2 line 1 -> 15
         15 return 0""",
     ),

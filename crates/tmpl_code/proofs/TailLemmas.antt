@@ -13,9 +13,9 @@ use Rattle.tmpl_syntax.specs.Tree.{control_node, Nodes}
 use Rattle.tmpl_syntax.specs.Set.{Template}
 use Rattle.tmpl_syntax.specs.View.{node_of, nodes_in}
 use Rattle.tmpl_syntax.specs.declared.tree.Node as held_node
-use Rattle.tmpl_code.specs.Instruction.{Instruction, unless, enter_with, end_with, cut, enter, next}
+use Rattle.tmpl_code.specs.Instruction.{Instruction, unless, enter_with, end_with, forget, enter, next}
 use Rattle.tmpl_code.specs.Layout.{Layout, declares, declares_key, declared_in}
-use Rattle.tmpl_code.specs.Code.{Code, Part, NodesPart, Exit, PipelineAt, HeaderAt, EndAt, NodeAt, NodesAt, step_of}
+use Rattle.tmpl_code.specs.Code.{Code, Stretch, NodesPart, Exit, PipelineAt, HeaderAt, EndAt, NodeAt, NodesAt, step_of}
 use Rattle.tmpl_code.specs.computed.Held.{Ends, BoundPart, DottedPart, EndedPart, IsOpen, Placed, Put, TurnsPart, all_grown, code_of, exit_seen, last_of}
 use Rattle.tmpl_code.specs.computed.Held.{layout_of, shrunk}
 use Rattle.tmpl_code.specs.declared.code.Code as held_code
@@ -41,7 +41,7 @@ ends_both {code} {mid} {rest} a b = record {
 pub ruleset ends = (ends_same, ends_on, ends_both)
 
 -- a last part that is put behind code which ends with the code before
-pub placed_on : {T E : Type 0} (r : Result T E) (P Q : Part) (before mid after : held_code.Code) → OnOk r (Placed Q mid after)
+pub placed_on : {T E : Type 0} (r : Result T E) (P Q : Stretch) (before mid after : held_code.Code) → OnOk r (Placed Q mid after)
     → Ends (code_of before) (code_of mid) → (Q (code_of after) (code_of mid) → P (code_of after) (code_of before)) → OnOk r (Placed P before after)
 placed_on r P Q before mid after put on so = on_ok_weaker r (λ p. record { code = so p.code; ends = ends_both p.ends on }) put
 
@@ -53,7 +53,7 @@ pub longer : {rest code : Code} → Ends rest code → length rest ≤ length co
 longer {rest} t = let more = ap length t.is ∙ length-append t.front rest in omega arith
 
 -- what forgets cells or passes over instructions ends a part
-pub end_at : (n to : ℕ) (code rest : Code) → (n ≡ 0 → to ≡ 0 → ⊥) → code ≡ cut n to ∷ rest → EndAt n to code rest
+pub end_at : (n to : ℕ) (code rest : Code) → (n ≡ 0 → to ≡ 0 → ⊥) → code ≡ forget n to ∷ rest → EndAt n to code rest
 end_at zero zero code rest some is = absurd (some refl refl)
 end_at _ _ code rest some is = is
 

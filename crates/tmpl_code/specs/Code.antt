@@ -21,7 +21,7 @@ use Rattle.tmpl_syntax.specs.Set.{Template, number_of}
 use Rattle.tmpl_code.specs.Instruction.{not_a_function, nil_command, wrong_count, no_template, Operation}
 use Rattle.tmpl_code.specs.Instruction.{push_nothing, push_bool, push_number, push_text, push_dot, push_fields}
 use Rattle.tmpl_code.specs.Instruction.{push_slot, chained, call_with, decide, settle, refuse, Instruction, spend, put}
-use Rattle.tmpl_code.specs.Instruction.{act, show, hold, set, set_dot, unless, enter_with, end_with, cut, enter, turn}
+use Rattle.tmpl_code.specs.Instruction.{act, show, hold, set, set_dot, unless, enter_with, end_with, forget, enter, turn}
 use Rattle.tmpl_code.specs.Instruction.{next, leave, deepen, invoke, return_from}
 use Rattle.tmpl_code.specs.Layout.{Layout, slot_named, bound_on, declares, declares_key, grown, declared_in}
 use Rattle.tmpl_code.specs.Layout.{first_layout}
@@ -31,11 +31,11 @@ abbrev pub Code : Type 0
 Code = List Instruction
 
 -- what stands from a place up to another, both told by the code from there on
-abbrev pub Part : Type 1
-Part = Code → Code → Type 0
+abbrev pub Stretch : Type 1
+Stretch = Code → Code → Type 0
 
 -- one step of a pipeline
-abbrev pub One : Operation → Part
+abbrev pub One : Operation → Stretch
 One o code rest = code ≡ act o ∷ rest
 
 -- ---- operands
@@ -46,12 +46,12 @@ chain_before [] rest = rest
 chain_before (name ∷ names) rest = act (chained (name ∷ names)) ∷ rest
 
 -- the variable of a slot, below so many values
-abbrev pub VariableAt : Option ℕ → ℕ → Part
+abbrev pub VariableAt : Option ℕ → ℕ → Stretch
 VariableAt None above code rest = One push_nothing code rest
 VariableAt (Some slot) above code rest = One (push_slot (above + slot)) code rest
 
 -- a function as an argument: a call without arguments
-abbrev pub BareAt : Bool → Func → Part
+abbrev pub BareAt : Bool → Func → Stretch
 BareAt true f code rest = One (call_with f 0 false) code rest
 BareAt false f code rest = One (refuse (wrong_count f)) code rest
 
@@ -75,34 +75,34 @@ is_last no_operand true = false
 is_last (operand o os) piped = false
 
 -- a first operand that is no function and stands alone
-abbrev pub AloneAt : Operand → Part → Part
+abbrev pub AloneAt : Operand → Stretch → Stretch
 AloneAt nil Value code rest = One (refuse nil_command) code rest
 AloneAt o Value code rest = Value code rest
 
 -- a first operand that is no function: it takes no argument
-abbrev pub FirstAt : Bool → Operand → Part → Part
+abbrev pub FirstAt : Bool → Operand → Stretch → Stretch
 FirstAt true o Value code rest = AloneAt o Value code rest
 FirstAt false o Value code rest = One (refuse not_a_function) code rest
 
 -- a command by its first operand: a call where that is a function
-abbrev pub CommandBy : Operand → Operands → Bool → Part → (Func → Part) → Part
+abbrev pub CommandBy : Operand → Operands → Bool → Stretch → (Func → Stretch) → Stretch
 CommandBy (function f) os piped Value Call code rest = Call f code rest
 CommandBy o os piped Value Call code rest = FirstAt (is_last os piped) o Value code rest
 
 -- a call, by whether the function takes so many arguments
-abbrev pub CountedAt : Bool → Func → Part → Part
+abbrev pub CountedAt : Bool → Func → Stretch → Stretch
 CountedAt true f Call code rest = Call code rest
 CountedAt false f Call code rest = One (refuse (wrong_count f)) code rest
 
 -- by the function: `and` and `or` decide behind each operand
-abbrev pub CallBy : Func → Part → Part → Part → Part
+abbrev pub CallBy : Func → Stretch → Stretch → Stretch → Stretch
 CallBy And All Both Either = Both
 CallBy Or All Both Either = Either
 CallBy f All Both Either = All
 
 -- behind an operand of an `or`, or else of an `and`: where the value decides, the others are passed over; none is
 -- behind the last argument
-abbrev pub DecideAt : Bool → Bool → Bool → Part → Part
+abbrev pub DecideAt : Bool → Bool → Bool → Stretch → Stretch
 DecideAt true is_or piped Others code rest = code ≡ rest
 DecideAt false is_or piped Others code rest =
     (skip : ℕ) × (more : Code)
@@ -110,7 +110,7 @@ DecideAt false is_or piped Others code rest =
 
 abbrev mutual
   -- an operand, where so many values lie above the cells of this layout
-  pub OperandAt : Operand → ℕ → Layout → Part
+  pub OperandAt : Operand → ℕ → Layout → Stretch
   OperandAt dot above cells code rest = One push_dot code rest
   OperandAt (fields names) above cells code rest = One (push_fields names) code rest
   OperandAt (variable name names) above cells code rest =
@@ -124,20 +124,20 @@ abbrev mutual
       CommandsAt commands false above cells code (chain_before names rest)
 
   -- the operands of a call, each above the values of those before it
-  pub OperandsAt : Operands → ℕ → Layout → Part
+  pub OperandsAt : Operands → ℕ → Layout → Stretch
   OperandsAt no_operand above cells code rest = code ≡ rest
   OperandsAt (operand o os) above cells code rest =
       (mid : Code) × OperandAt o above cells code mid × OperandsAt os (suc above) cells mid rest
 
   -- the operands of an `or`, or else of an `and`
-  pub JunctionAt : Bool → Operands → Bool → ℕ → Layout → Part
+  pub JunctionAt : Bool → Operands → Bool → ℕ → Layout → Stretch
   JunctionAt is_or no_operand piped above cells code rest = code ≡ rest
   JunctionAt is_or (operand o os) piped above cells code rest =
       (mid : Code) × OperandAt o above cells code mid
       × DecideAt (is_last os piped) is_or piped (JunctionAt is_or os piped above cells) mid rest
 
   -- a command, where so many values lie above the cells, of which a piped one is the newest
-  pub CommandAt : Operands → Bool → ℕ → Layout → Part
+  pub CommandAt : Operands → Bool → ℕ → Layout → Stretch
   CommandAt no_operand piped above cells code rest = One (refuse not_a_function) code rest
   CommandAt (operand o os) piped above cells code rest =
       CommandBy o os piped (OperandAt o above cells)
@@ -150,48 +150,48 @@ abbrev mutual
 
   -- the commands from left to right, where so many values lie above the cells, and one more that is piped to the first,
   -- if it is so; a null that a command gives is made nothing
-  pub CommandsAt : Pipeline → Bool → ℕ → Layout → Part
+  pub CommandsAt : Pipeline → Bool → ℕ → Layout → Stretch
   CommandsAt no_command false above cells code rest = One push_nothing code rest
   CommandsAt no_command true above cells code rest = code ≡ rest
   CommandsAt (command os cs) piped above cells code rest =
       (mid : Code) × CommandAt os piped (above + piped_count piped) cells code (act settle ∷ mid)
       × CommandsAt cs true above cells mid rest
 
-abbrev pub PipelineAt : Pipeline → Layout → Part
+abbrev pub PipelineAt : Pipeline → Layout → Stretch
 PipelineAt p cells code rest = CommandsAt p false 0 cells code rest
 
 -- ---- bindings
 
 -- a value that is assigned to the variable of a slot, and stays on top
-abbrev pub SetAt : Option ℕ → Part
+abbrev pub SetAt : Option ℕ → Stretch
 SetAt None code rest = code ≡ rest
 SetAt (Some slot) code rest = code ≡ set slot ∷ rest
 
 -- what binds variables to the value on top
-abbrev pub BindAt : Binding → Layout → Part
+abbrev pub BindAt : Binding → Layout → Stretch
 BindAt unbound cells code rest = code ≡ rest
 BindAt (declare name) cells code rest = code ≡ hold false ∷ rest
 BindAt (assign name) cells code rest = SetAt (slot_named name cells) code rest
 BindAt (declare_pair key name) cells code rest = code ≡ hold true ∷ rest
 
 -- the pipeline of a header, and what binds its value
-abbrev pub HeaderAt : Header → Layout → Part
+abbrev pub HeaderAt : Header → Layout → Stretch
 HeaderAt h cells code rest = (mid : Code) × PipelineAt h.pipeline cells code mid × BindAt h.binding cells mid rest
 
 -- the end of an action, whose value was bound
-abbrev pub ShownAt : Binding → Part
+abbrev pub ShownAt : Binding → Stretch
 ShownAt unbound code rest = code ≡ show ∷ rest
 ShownAt (declare name) code rest = code ≡ rest
-ShownAt (assign name) code rest = code ≡ cut 1 0 ∷ rest
+ShownAt (assign name) code rest = code ≡ forget 1 0 ∷ rest
 ShownAt (declare_pair key name) code rest = code ≡ rest
 
 -- the element that a range visits, assigned to the variable of a slot
-abbrev pub SetDotAt : Option ℕ → Part
+abbrev pub SetDotAt : Option ℕ → Stretch
 SetDotAt None code rest = code ≡ rest
 SetDotAt (Some slot) code rest = code ≡ set_dot slot ∷ rest
 
 -- what binds the variables of a range to the element that it visits, above the cells of the range
-abbrev pub TurnAt : Binding → Layout → Part
+abbrev pub TurnAt : Binding → Layout → Stretch
 TurnAt unbound cells code rest = code ≡ turn 0 ∷ rest
 TurnAt (declare name) cells code rest = code ≡ turn 1 ∷ rest
 TurnAt (assign name) cells code rest =
@@ -214,12 +214,12 @@ abbrev pub Above : Around → Layout → ℕ → Type 0
 Above a cells count = count + 2 + a.below ≡ length cells
 
 -- out of no range: the template ends, of which three cells lie below
-abbrev pub BreakAt : Exit → Layout → Part
+abbrev pub BreakAt : Exit → Layout → Stretch
 BreakAt None cells code rest = code ≡ return_from (length cells - 3) ∷ rest
 BreakAt (Some a) cells code rest =
     (count : ℕ) × (skip : ℕ) × Above a cells count × (code ≡ leave count skip ∷ rest) × (drop skip rest ≡ a.out)
 
-abbrev pub ContinueAt : Exit → Layout → Part
+abbrev pub ContinueAt : Exit → Layout → Stretch
 ContinueAt None cells code rest = code ≡ return_from (length cells - 3) ∷ rest
 ContinueAt (Some a) cells code rest =
     (count : ℕ) × (skip : ℕ) × Above a cells count × (code ≡ next count skip a.line ∷ rest) × (drop skip rest ≡ a.out)
@@ -227,12 +227,12 @@ ContinueAt (Some a) cells code rest =
 -- ---- calls
 
 -- the value that is handed to a template: that of the pipeline, or nothing
-abbrev pub GivenAt : Option Pipeline → Layout → Part
+abbrev pub GivenAt : Option Pipeline → Layout → Stretch
 GivenAt None cells code rest = One push_nothing code rest
 GivenAt (Some p) cells code rest = PipelineAt p cells code rest
 
 -- a call, by the number of the template: it is looked for before its pipeline is looked at
-abbrev pub CallAt : List ℕ → Option ℕ → Option Pipeline → Layout → Part
+abbrev pub CallAt : List ℕ → Option ℕ → Option Pipeline → Layout → Stretch
 CallAt name None given cells code rest = One (refuse (no_template name)) code rest
 CallAt name (Some number) given cells code rest = GivenAt given cells code (invoke number ∷ rest)
 
@@ -250,16 +250,16 @@ step_of ts line n = spend line
 
 -- what ends a part: so many cells are forgotten, and so many instructions passed over; where that is none, nothing is
 -- there
-abbrev pub EndAt : ℕ → ℕ → Part
+abbrev pub EndAt : ℕ → ℕ → Stretch
 EndAt zero zero code rest = code ≡ rest
-EndAt zero (suc to) code rest = code ≡ cut 0 (suc to) ∷ rest
-EndAt (suc count) to code rest = code ≡ cut (suc count) to ∷ rest
+EndAt zero (suc to) code rest = code ≡ forget 0 (suc to) ∷ rest
+EndAt (suc count) to code rest = code ≡ forget (suc count) to ∷ rest
 
-abbrev pub Ended : ℕ → ℕ → Part → Part
+abbrev pub Ended : ℕ → ℕ → Stretch → Stretch
 Ended count to P code rest = (end : Code) × P code end × EndAt count to end rest
 
 -- the parts of an `if`, which leave so many variables each, behind its header
-abbrev pub IfAt : Binding → ℕ → ℕ → Part → Part → Part
+abbrev pub IfAt : Binding → ℕ → ℕ → Stretch → Stretch → Stretch
 IfAt b in_body in_other Body Other code rest =
     (first : Code) × (second : Code) × (skip : ℕ) × (to : ℕ)
     × (code ≡ unless (declares b) skip ∷ first)
@@ -268,7 +268,7 @@ IfAt b in_body in_other Body Other code rest =
     × (drop skip first ≡ second) × (drop to second ≡ rest)
 
 -- those of a `with`
-abbrev pub WithAt : Binding → ℕ → ℕ → Part → Part → Part
+abbrev pub WithAt : Binding → ℕ → ℕ → Stretch → Stretch → Stretch
 WithAt b in_body in_other Body Other code rest =
     (first : Code) × (second : Code) × (skip : ℕ) × (to : ℕ)
     × (code ≡ enter_with (declares b) skip ∷ first)
@@ -277,7 +277,7 @@ WithAt b in_body in_other Body Other code rest =
     × (drop skip first ≡ second) × (drop to second ≡ rest)
 
 -- those of a range of this line, behind its pipeline
-abbrev pub RangeAt : ℕ → Binding → ℕ → ℕ → Part → Part → Part → Part
+abbrev pub RangeAt : ℕ → Binding → ℕ → ℕ → Stretch → Stretch → Stretch → Stretch
 RangeAt line b in_body in_other Turn Body Other code rest =
     (start : Code) × (first : Code) × (second : Code) × (skip : ℕ) × (to : ℕ)
     × (code ≡ enter (declares_key b) skip ∷ start)
@@ -288,7 +288,7 @@ RangeAt line b in_body in_other Turn Body Other code rest =
 
 -- nodes, by the layout before them and the range around
 abbrev pub NodesPart : Type 1
-NodesPart = Layout → Exit → Part
+NodesPart = Layout → Exit → Stretch
 
 -- a control, by the nodes of its two parts, which leave so many variables each
 abbrev pub ControlAt : ℕ → Control → Header → ℕ → ℕ → NodesPart → NodesPart → NodesPart
@@ -312,7 +312,7 @@ ControlAt line control.Range h in_body in_other Body Other cells exit code rest 
 
 abbrev mutual
   -- a node of this line, once its step is taken; calls are of these templates
-  pub NodeAt : List Template → ℕ → NodeKind → Layout → Exit → Part
+  pub NodeAt : List Template → ℕ → NodeKind → Layout → Exit → Stretch
   NodeAt ts line (text bytes) cells exit code rest = code ≡ put bytes ∷ rest
   NodeAt ts line (action h) cells exit code rest =
       (mid : Code) × HeaderAt h cells code mid × ShownAt h.binding mid rest
@@ -325,14 +325,14 @@ abbrev mutual
       CallAt name (number_of name ts) given cells code rest
 
   -- the nodes one after the other; each costs a step before anything else
-  pub NodesAt : List Template → Nodes → Layout → Exit → Part
+  pub NodesAt : List Template → Nodes → Layout → Exit → Stretch
   NodesAt ts tree.none cells exit code rest = code ≡ rest
   NodesAt ts (tree.then line n ns) cells exit code rest =
       (start : Code) × (mid : Code) × (code ≡ step_of ts line n ∷ start)
       × NodeAt ts line n cells exit start mid × NodesAt ts ns (grown n cells) exit mid rest
 
 -- a whole template
-abbrev pub TreeAt : List Template → Nodes → Part
+abbrev pub TreeAt : List Template → Nodes → Stretch
 TreeAt ts ns code rest = NodesAt ts ns first_layout None code (return_from (declared_in ns) ∷ rest)
 
 -- ---- all templates

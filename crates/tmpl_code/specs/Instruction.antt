@@ -41,7 +41,7 @@ pub data Instruction : Type 0 where
   enter_with : Bool → ℕ → Instruction
   -- so many cells above the saved dot and so many below it, and how many it passes over
   end_with : ℕ → ℕ → ℕ → Instruction
-  cut : ℕ → ℕ → Instruction
+  forget : ℕ → ℕ → Instruction
   -- whether the index or key is wanted
   enter : Bool → ℕ → Instruction
   -- so many variables

@@ -3,7 +3,7 @@ use Rattle.std.specs.Prelude.{List, map}
 use Rattle.tmpl_code.specs.Instruction.{Refusal, not_a_function, nil_command, wrong_count, no_template}
 use Rattle.tmpl_code.specs.Instruction.{push_nothing, push_bool, push_number, push_text, push_dot, push_fields}
 use Rattle.tmpl_code.specs.Instruction.{push_slot, chained, call_with, decide, settle, refuse, Instruction, spend, put}
-use Rattle.tmpl_code.specs.Instruction.{act, show, hold, set, set_dot, unless, enter_with, end_with, cut, enter, turn}
+use Rattle.tmpl_code.specs.Instruction.{act, show, hold, set, set_dot, unless, enter_with, end_with, forget, enter, turn}
 use Rattle.tmpl_code.specs.Instruction.{next, leave, deepen, invoke, return_from}
 use Rattle.tmpl_code.specs.declared.instruction.Refusal as held_refusal
 use Rattle.tmpl_code.specs.declared.instruction.Refusal.TheVariants as r
@@ -36,9 +36,9 @@ instruction_of (i.Hold key) = hold key
 instruction_of (i.Set slot) = set slot
 instruction_of (i.SetDot slot) = set_dot slot
 instruction_of (i.Unless kept skip) = unless kept skip
-instruction_of (i.With kept skip) = enter_with kept skip
+instruction_of (i.EnterWith kept skip) = enter_with kept skip
 instruction_of (i.EndWith count variables skip) = end_with count variables skip
-instruction_of (i.Drop count skip) = cut count skip
+instruction_of (i.Forget count skip) = forget count skip
 instruction_of (i.Enter key skip) = enter key skip
 instruction_of (i.Turn count) = turn count
 instruction_of (i.Next count skip line) = next count skip line

@@ -55,7 +55,7 @@ pub(crate) fn put_shown(code: &mut Code<'_>, binding: &Binding) -> Result<(), Al
 {
     match binding {
         Binding::Unbound => code.push(Instruction::Show),
-        Binding::Assign(_) => code.push(Instruction::Drop { count: 1, skip: 0 }),
+        Binding::Assign(_) => code.push(Instruction::Forget { count: 1, skip: 0 }),
         Binding::Declare(_) | Binding::DeclarePair(_) => Ok(()),
     }
 }

@@ -76,7 +76,7 @@ pub enum Instruction<'s> {
     },
     /// Where the newest value is not empty it becomes dot, and the dot from outside is saved in its cell, or in a new
     /// one where it is a variable. Where it is empty passes over so many, and forgets it unless it is a variable.
-    With {
+    EnterWith {
         kept: bool,
         skip: u32,
     },
@@ -88,7 +88,7 @@ pub enum Instruction<'s> {
         skip: u32,
     },
     /// Forgets so many cells and passes over so many instructions.
-    Drop {
+    Forget {
         count: u32,
         skip: u32,
     },

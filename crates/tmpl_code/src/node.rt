@@ -229,7 +229,7 @@ fn put_end(code: &mut Code<'_>, count: u32, skip: u32) -> Result<(), AllocError>
 {
     match (count, skip) {
         (0, 0) => Ok(()),
-        _ => code.push(Instruction::Drop { count, skip }),
+        _ => code.push(Instruction::Forget { count, skip }),
     }
 }
 
@@ -342,7 +342,7 @@ impl<'s> Compiler<'s> {
         self.put_dotted_part(site, &parts.header.binding, parts.body)?;
         let kept = declares(&parts.header.binding);
         let skip = self.code.since(second)?;
-        self.code.push(Instruction::With { kept, skip })?;
+        self.code.push(Instruction::EnterWith { kept, skip })?;
         put_header(&mut self.code, &self.scope, parts.header)
     }
 

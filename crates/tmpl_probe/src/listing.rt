@@ -116,9 +116,9 @@ fn words(instruction: &Instruction<'_>) -> &'static str {
         Instruction::Set(_) => "set",
         Instruction::SetDot(_) => "set dot",
         Instruction::Unless { kept, .. } => either(*kept, "unless kept", "unless"),
-        Instruction::With { kept, .. } => either(*kept, "with kept", "with"),
+        Instruction::EnterWith { kept, .. } => either(*kept, "enter with kept", "enter with"),
         Instruction::EndWith { .. } => "end with",
-        Instruction::Drop { .. } => "drop",
+        Instruction::Forget { .. } => "forget",
         Instruction::Enter { key, .. } => either(*key, "enter key", "enter"),
         Instruction::Turn(_) => "turn",
         Instruction::Next { .. } => "next",
@@ -138,7 +138,7 @@ fn count(instruction: &Instruction<'_>) -> Option<u64> {
         | Instruction::Invoke(count)
         | Instruction::Return(count)
         | Instruction::EndWith { count, .. }
-        | Instruction::Drop { count, .. }
+        | Instruction::Forget { count, .. }
         | Instruction::Next { count, .. }
         | Instruction::Leave { count, .. }
         | Instruction::PushSlot(count)
@@ -166,9 +166,9 @@ fn line(instruction: &Instruction<'_>) -> Option<u64> {
 fn skip(instruction: &Instruction<'_>) -> Option<usize> {
     match instruction {
         Instruction::Unless { skip, .. }
-        | Instruction::With { skip, .. }
+        | Instruction::EnterWith { skip, .. }
         | Instruction::EndWith { skip, .. }
-        | Instruction::Drop { skip, .. }
+        | Instruction::Forget { skip, .. }
         | Instruction::Enter { skip, .. }
         | Instruction::Next { skip, .. }
         | Instruction::Leave { skip, .. }

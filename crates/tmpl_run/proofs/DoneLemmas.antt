@@ -18,7 +18,7 @@ use Rattle.tmpl_run.specs.Step.{step}
 use Rattle.tmpl_run.specs.Machine.{Turn, done, done_in, ended, goes, next_of}
 use Rattle.tmpl_run.specs.Machine.{stuck}
 use Rattle.tmpl_run.specs.Ready.{Has}
-use Rattle.tmpl_run.specs.Ends.{Comes, Ends, IsReady, Leads}
+use Rattle.tmpl_run.specs.Ends.{Comes, Ends, IsReady, RunsTo}
 use Rattle.tmpl_run.specs.Laws.{Begins, Lessens}
 use Rattle.tmpl_run.specs.computed.Machines.{no_template}
 use Rattle.tmpl_run.specs.computed.Turned.{added, mark_behind}
@@ -87,13 +87,13 @@ module _ (plan : Plan) (room : ℕ) (f : Ran) where
       → (s : State) → Ends plan room s f → P s
   ends-by P step s h = leads h.0 s h.1
     where
-      ends : (n : ℕ) (u : Turn) → Comes (λ t. Leads plan room n t f) u f → Comes (λ t. Ends plan room t f) u f
+      ends : (n : ℕ) (u : Turn) → Comes (λ t. RunsTo plan room n t f) u f → Comes (λ t. Ends plan room t f) u f
       ends n (goes t) l = (n, l)
       ends n _ l = l
 
-      leads : (n : ℕ) (s : State) → Leads plan room n s f → P s
+      leads : (n : ℕ) (s : State) → RunsTo plan room n s f → P s
       leads zero s l = absurd l
-      leads (suc n) s l = step s l.0 (ends n (next_of plan s) l.1) (λ t e. leads n t (subst (λ u. Comes (λ t. Leads plan room n t f) u f) e l.1))
+      leads (suc n) s l = step s l.0 (ends n (next_of plan s) l.1) (λ t e. leads n t (subst (λ u. Comes (λ t. RunsTo plan room n t f) u f) e l.1))
 
   abbrev Now : State → Type 0
   Now s = IsReady room (slice_get plan.code s.place) s × Comes (λ t. Ends plan room t f) (next_of plan s) f

@@ -11,7 +11,7 @@ use Rattle.tmpl_values.specs.Value.{Value}
 use Rattle.tmpl_meaning.specs.Sink.{IsPut, Told, as_puts, with_bytes}
 use Rattle.tmpl_values.proofs.PutLemmas.{IsPut-append, appended-append, appended-nil}
 use Rattle.tmpl_run.specs.computed.Output.{Grew, Grows, both, given_of, told_since}
-use Rattle.tmpl_run.specs.declared.piece.Piece.{Piece}
+use Rattle.tmpl_run.specs.declared.piece.LentPiece.{LentPiece}
 
 pub grows-same : (a : Told) → Grows a a
 grows-same a = ([], appended-nil a.bytes)
@@ -79,10 +79,10 @@ both-one a b c d e =
     (omega (arith, sums, same), same)
 
 -- what was put through two references is what stands behind them at their ends
-pub put-back : {F : Type 0} (r : Result (Unit {0}) F) (old now told : Told) (p q kept : Piece) (m n : ℕ) (text : List ℕ) → told ≡ now → kept ≡ q
+pub put-back : {F : Type 0} (r : Result (Unit {0}) F) (old now told : Told) (p q kept : LentPiece) (m n : ℕ) (text : List ℕ) → told ≡ now → kept ≡ q
     → IsPut r (record (given_of old p) { through = m }) (record (given_of now q) { through = n }) text → IsPut r (given_of old p) (given_of told kept) text
 put-back r old now told p q kept m n text told-is kept-is h =
     subst (λ (t : Told). IsPut r (given_of old p) (given_of t kept) text) (sym told-is)
-    (subst (λ (w : Piece). IsPut r (given_of old p) (given_of now w) text) (sym kept-is) (record { count = h.count; bytes = h.bytes; through = refl }))
+    (subst (λ (w : LentPiece). IsPut r (given_of old p) (given_of now w) text) (sym kept-is) (record { count = h.count; bytes = h.bytes; through = refl }))
 
 pub ruleset putting = (put-behind-none, IsPut-append)

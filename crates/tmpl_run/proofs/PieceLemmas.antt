@@ -1,4 +1,4 @@
--- For `Piece`: what waits in a lent piece of memory when bytes are kept, passed on or cleared.
+-- For `LentPiece`: what waits in a lent piece of memory when bytes are kept, passed on or cleared.
 use Rattle.std.proofs.Common.{arith, ◌≡◌, ◌∙◌, ◌+◌, ◌-◌, ◌≤◌, ℕ, List, ◌++◌, length, drop, take, sym, ap}
 use Rattle.std.specs.List.{between}
 use Rattle.std.proofs.lemmas.Slice.{between_is}

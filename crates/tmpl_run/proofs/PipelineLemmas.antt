@@ -18,7 +18,7 @@ use Rattle.tmpl_meaning.specs.Pipeline.{operand_value, operand_values, without_n
 use Rattle.tmpl_meaning.proofs.PartLemmas.{by_count, decided}
 use Rattle.tmpl_code.specs.Instruction.{Operation, Refusal, act, call_with, decide, refuse, settle}
 use Rattle.tmpl_code.specs.Layout.{Layout, slot_named}
-use Rattle.tmpl_code.specs.Code.{BareAt, CallBy, Code, CommandAt, CommandsAt, CountedAt, DecideAt, JunctionAt, OperandAt, OperandsAt, Part, PipelineAt}
+use Rattle.tmpl_code.specs.Code.{BareAt, CallBy, Code, CommandAt, CommandsAt, CountedAt, DecideAt, JunctionAt, OperandAt, OperandsAt, Stretch, PipelineAt}
 use Rattle.tmpl_code.specs.Code.{VariableAt, chain_before, is_last, operand_count, piped_count}
 use Rattle.tmpl_run.specs.Cell.{Cell, fresh, values_in}
 use Rattle.tmpl_run.specs.State.{State}
@@ -241,13 +241,13 @@ module _ (way : Way) (s : State) where
         by None k = calls f ws rest cs m (subst (λ l. Follows (meaning.applied f l) m (Puts rest cs)) (append-nil ws) k)
         by (Some p) k = calls f (ws ++ p ∷ []) rest cs m k
 
-    counted-leads : {code : Code} {cs : List Cell} {m : Bool} (t : Bool) (f : Func) (rest : Code) (g : Given Value) (Call : Part) (Go : Value → Bool → Type 0)
+    counted-leads : {code : Code} {cs : List Cell} {m : Bool} (t : Bool) (f : Func) (rest : Code) (g : Given Value) (Call : Stretch) (Go : Value → Bool → Type 0)
         → (t ≡ true → Call code rest → Follows g m Go → Goes code cs m) → CountedAt t f Call code rest → Follows (by_count f t g) m Go → Goes code cs m
     counted-leads true f rest g Call Go h l k = h refl l k
     counted-leads false f rest g Call Go h l k = refuses l k
 
     -- by the function
-    call-leads : {code : Code} {G : Type 0} (m : Bool) (f : Func) (All Both Either : Part) (rest : Code) (all both either : Given Value) (Go : Value → Bool
+    call-leads : {code : Code} {G : Type 0} (m : Bool) (f : Func) (All Both Either : Stretch) (rest : Code) (all both either : Given Value) (Go : Value → Bool
         → Type 0)
         → (is_called f ≡ true → All code rest → Follows all m Go → G) → (f ≡ And → Both code rest → Follows both m Go → G)
         → (f ≡ Or → Either code rest → Follows either m Go → G)
@@ -304,7 +304,7 @@ module _ (way : Way) (s : State) where
           let p = is_some piped in
           let count = operand_count os + piped_count p in
           let all : Code = act (call_with f (operand_count os) p) ∷ rest in
-          let All : Part = λ code rest. OperandsAt os n lay code (act (call_with f (operand_count os) p) ∷ rest) in
+          let All : Stretch = λ code rest. OperandsAt os n lay code (act (call_with f (operand_count os) p) ∷ rest) in
           let apply : List Value → Given Value = λ ws. meaning.applied f (ws ++ option_to_list piped) in
           let both : Given Value = junction false here nothing os piped in
           let either : Given Value = junction true here nothing os piped in

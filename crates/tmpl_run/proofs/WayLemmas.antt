@@ -18,7 +18,7 @@ use Rattle.tmpl_run.specs.Cell.{Cell, cell}
 use Rattle.tmpl_run.specs.State.{Plan, State}
 use Rattle.tmpl_run.specs.Machine.{Turn, done, done_in, ended, goes, next_of, onto, paid_if, stuck}
 use Rattle.tmpl_run.specs.Ready.{Has}
-use Rattle.tmpl_run.specs.Ends.{Comes, Ends, IsReady, Leads}
+use Rattle.tmpl_run.specs.Ends.{Comes, Ends, IsReady, RunsTo}
 use Rattle.tmpl_run.proofs.SlotLemmas.{Cells, Frame, Over, dropped, env-dropped, frame_of, named, named-less, run_of}
 
 here : (code is : Code) (pc : ℕ) (i : Instruction) → drop pc code ≡ i ∷ is → slice_get code pc ≡ Some i
@@ -142,8 +142,8 @@ module _ (way : Way) where
 
       by : (t : Turn) → done way.plan way.me i s ≡ t → Comes Leading t way.end → Leading s
       by (goes t) e h = let leads = h.ends in
-          record { ends = (suc leads.0, (able, subst (λ x. Comes (λ t. Leads way.plan way.room leads.0 t way.end) x way.end) (sym (after ∙ e)) leads.1)) }
-      by (ended r) e h = record { ends = (1, (able, subst (λ x. Comes (λ t. Leads way.plan way.room 0 t way.end) x way.end) (sym (after ∙ e)) h)) }
+          record { ends = (suc leads.0, (able, subst (λ x. Comes (λ t. RunsTo way.plan way.room leads.0 t way.end) x way.end) (sym (after ∙ e)) leads.1)) }
+      by (ended r) e h = record { ends = (1, (able, subst (λ x. Comes (λ t. RunsTo way.plan way.room 0 t way.end) x way.end) (sym (after ∙ e)) h)) }
       by stuck e h = absurd h
 
   -- where a part that is done goes on

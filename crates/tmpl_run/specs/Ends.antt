@@ -17,11 +17,11 @@ Comes After (ended r) end = r ≡ end
 Comes After stuck end = ⊥
 
 -- in so many turns at most it comes to this end; each of them is ready, and none gets stuck
-abbrev pub Leads : Plan → ℕ → ℕ → State → Ran → Type 0
-Leads plan room zero s end = ⊥
-Leads plan room (suc n) s end =
-    IsReady room (slice_get plan.code s.place) s × Comes (λ t. Leads plan room n t end) (next_of plan s) end
+abbrev pub RunsTo : Plan → ℕ → ℕ → State → Ran → Type 0
+RunsTo plan room zero s end = ⊥
+RunsTo plan room (suc n) s end =
+    IsReady room (slice_get plan.code s.place) s × Comes (λ t. RunsTo plan room n t end) (next_of plan s) end
 
 -- .. in some number of turns
 abbrev pub Ends : Plan → ℕ → State → Ran → Type 0
-Ends plan room s end = (n : ℕ) × Leads plan room n s end
+Ends plan room s end = (n : ℕ) × RunsTo plan room n s end

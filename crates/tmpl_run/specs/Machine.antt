@@ -192,7 +192,7 @@ done plan t (code.enter_with kept skip) s = top s.cells (λ c cs. with_dot (trut
 done plan t (code.end_with n variables skip) s =
     top (drop n s.cells)
     (λ c cs. goes (record s { cells = drop variables cs; dot = c.val; place = s.place + 1 + skip }))
-done plan t (code.cut n skip) s = onto (drop n s.cells) (s.place + 1 + skip) s
+done plan t (code.forget n skip) s = onto (drop n s.cells) (s.place + 1 + skip) s
 done plan t (code.enter key skip) s = top s.cells (λ c cs. opened plan t skip c cs (elements_for key c.val) s)
 done plan t (code.turn n) s = ring s.cells (λ d v cs. turned n (left_in v) s)
 done plan t (code.next n skip line) s =

@@ -13,7 +13,7 @@ ghost use Rattle.tmpl_run.specs.computed.View.{cells_of, size_of};
 use crate::flow::Flow;
 use crate::halt::Halt;
 use crate::machine::Machine;
-use crate::piece::Piece;
+use crate::piece::LentPiece;
 use tmpl_code::Instruction;
 use tmpl_meaning::{MissingKey, Sink};
 use tmpl_values::Bytes;
@@ -57,7 +57,7 @@ impl<'m, 'a> Machine<'m, 'a> {
     pub(crate) fn put_dot<S: Sink>(
         &mut self,
         code: &[Instruction<'a>],
-        piece: &mut Piece<'_>,
+        piece: &mut LentPiece<'_>,
         sink: &mut S,
     ) -> Result<Flow, Halt<'a>>
         requires here { self.old.place < length code.now }
@@ -85,7 +85,7 @@ impl<'m, 'a> Machine<'m, 'a> {
         missing_key: MissingKey,
         names: &'a [Bytes],
         code: &[Instruction<'a>],
-        piece: &mut Piece<'_>,
+        piece: &mut LentPiece<'_>,
         sink: &mut S,
     ) -> Result<Flow, Halt<'a>>
         requires here { self.old.place < length code.now }
@@ -114,7 +114,7 @@ impl<'m, 'a> Machine<'m, 'a> {
         &mut self,
         slot: usize,
         code: &[Instruction<'a>],
-        piece: &mut Piece<'_>,
+        piece: &mut LentPiece<'_>,
         sink: &mut S,
     ) -> Result<Flow, Halt<'a>>
         requires found { slot < length (cells_of self.old.stack) }
@@ -139,7 +139,11 @@ impl<'m, 'a> Machine<'m, 'a> {
 
     /// Puts out the text of dot, for three instructions.
     #[inline(always)]
-    fn show_dot<S: Sink>(&mut self, piece: &mut Piece<'_>, sink: &mut S) -> Result<Flow, Halt<'a>>
+    fn show_dot<S: Sink>(
+        &mut self,
+        piece: &mut LentPiece<'_>,
+        sink: &mut S,
+    ) -> Result<Flow, Halt<'a>>
         requires place { self.old.place + 3 < 2 ^ 64 }
         requires countable { (S.so_far sink.old).failures < 2 ^ 64 - 1 }
         ensures step { Shown untold (act push_dot) self.old self.new result }
@@ -160,7 +164,7 @@ impl<'m, 'a> Machine<'m, 'a> {
         &mut self,
         missing_key: MissingKey,
         names: &'a [Bytes],
-        piece: &mut Piece<'_>,
+        piece: &mut LentPiece<'_>,
         sink: &mut S,
     ) -> Result<Flow, Halt<'a>>
         requires place { self.old.place + 3 < 2 ^ 64 }
@@ -184,7 +188,7 @@ impl<'m, 'a> Machine<'m, 'a> {
     fn show_slot<S: Sink>(
         &mut self,
         slot: usize,
-        piece: &mut Piece<'_>,
+        piece: &mut LentPiece<'_>,
         sink: &mut S,
     ) -> Result<Flow, Halt<'a>>
         requires found { slot < length (cells_of self.old.stack) }

@@ -39,7 +39,7 @@ impl<'m, 'a> Machine<'m, 'a> {
     pub(crate) fn forget(&mut self, count: usize, skip: usize) -> Flow
         requires place { self.old.place + 1 + skip < 2 ^ 64 }
         requires found { count ≤ length (cells_of self.old.stack) }
-        ensures step { Executed untold (code.cut count skip) self.old self.new (Ok result) }
+        ensures step { Executed untold (code.forget count skip) self.old self.new (Ok result) }
         ensures plain { IsPlain self.old → IsPlain self.new }
         ensures size { size_of self.new.stack ≡ size_of self.old.stack }
     {

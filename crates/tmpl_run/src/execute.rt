@@ -15,7 +15,7 @@ use crate::flow::Flow;
 use crate::halt::Halt;
 use crate::machine::Machine;
 use crate::operation::fault_for;
-use crate::piece::Piece;
+use crate::piece::LentPiece;
 use tmpl_code::{Instruction, Parts};
 use tmpl_meaning::{Options, RunFaultKind, Sink};
 use tmpl_values::Val;
@@ -31,7 +31,7 @@ impl<'m, 'a> Machine<'m, 'a> {
         options: &Options,
         code: &[Instruction<'a>],
         instruction: &Instruction<'a>,
-        piece: &mut Piece<'_>,
+        piece: &mut LentPiece<'_>,
         sink: &mut S,
     ) -> Result<Flow, Halt<'a>>
         requires place { self.old.place + 1 < 2 ^ 64 }
@@ -100,13 +100,13 @@ impl<'m, 'a> Machine<'m, 'a> {
             Instruction::Set(slot) => self.set(slot as usize),
             Instruction::SetDot(slot) => self.set_dot(slot as usize),
             Instruction::Unless { kept, skip } => Ok(self.branch(kept, skip as usize)),
-            Instruction::With { kept, skip } => self.open_with(kept, skip as usize),
+            Instruction::EnterWith { kept, skip } => self.open_with(kept, skip as usize),
             Instruction::EndWith {
                 count,
                 variables,
                 skip,
             } => Ok(self.close_with(count as usize, variables as usize, skip as usize)),
-            Instruction::Drop { count, skip } => Ok(self.forget(count as usize, skip as usize)),
+            Instruction::Forget { count, skip } => Ok(self.forget(count as usize, skip as usize)),
             Instruction::Enter { key, skip } => { self.open_range(options, key, skip as usize) }
             Instruction::Turn(count) => self.turn(count as usize),
             Instruction::Next { count, skip, line } => {

@@ -6,13 +6,13 @@ ghost use Rattle.tmpl_values.specs.View.{val_of};
 ghost use Rattle.tmpl_meaning.specs.Sink.{IsPut};
 ghost use Rattle.tmpl_run.specs.computed.Output.{Grew, Grows, given_of};
 
-use crate::piece::{MOST_DIGITS, Piece};
+use crate::piece::{LentPiece, MOST_DIGITS};
 use itoa::Buffer;
 use std::marker::{Brand, PhantomData};
 use tmpl_meaning::{Sink, SinkFault, put_all};
 use tmpl_values::{Put, Val, put_text};
 
-impl Piece<'_> {
+impl LentPiece<'_> {
     ghost use Rattle.tmpl_run.specs.computed.Output.{waiting};
 
     /// Gives the sink what waits. Where it fails, what it did not take still waits.
@@ -114,7 +114,7 @@ impl Beginning for Brand {
 /// A piece and the sink behind it, as one that takes bytes.
 #[derive(Drop)]
 struct Output<'p, 'm, 's, S: Sink, B: Beginning> {
-    piece: &'p mut Piece<'m>,
+    piece: &'p mut LentPiece<'m>,
     sink: &'s mut S,
     beginning: PhantomData<B>,
     ghost grew: { Grew B.taken (S.so_far sink.now) },
@@ -136,7 +136,7 @@ impl<'p, 'm, 's, S: Sink, B: Beginning> Put for Output<'p, 'm, 's, S, B> {
 
 /// Puts the text that a value has as an action, whatever it is.
 fn put_any<S: Sink, B: Beginning>(
-    piece: &mut Piece<'_>,
+    piece: &mut LentPiece<'_>,
     sink: &mut S,
     value: &Val<'_>,
 ) -> Result<(), SinkFault>

@@ -9,7 +9,7 @@ pub(crate) const MOST_DIGITS: usize = 20;
 
 /// Memory in which bytes wait for a sink, so that it is given many at once.
 #[derive(Drop)]
-pub(crate) struct Piece<'m> {
+pub(crate) struct LentPiece<'m> {
     bytes: &'m mut [u8],
     /// Those before it were given.
     start: usize,
@@ -19,14 +19,14 @@ pub(crate) struct Piece<'m> {
     ghost within: { end ≤ length bytes.now },
 }
 
-impl<'m> Piece<'m> {
+impl<'m> LentPiece<'m> {
     ghost use Rattle.tmpl_run.specs.computed.Output.{waiting};
 
     /// Nothing waits.
-    pub(crate) fn new(bytes: &'m mut [u8]) -> Piece<'m>
+    pub(crate) fn new(bytes: &'m mut [u8]) -> LentPiece<'m>
         ensures { waiting result ≡ [] }
     {
-        Piece {
+        LentPiece {
             bytes,
             start: 0,
             end: 0,

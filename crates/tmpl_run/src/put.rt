@@ -12,7 +12,7 @@ ghost use Rattle.tmpl_run.specs.computed.View.{cells_of, size_of};
 ghost use Rattle.tmpl_run.specs.declared.flow.Flow.TheVariants as flow;
 
 use crate::machine::Machine;
-use crate::piece::Piece;
+use crate::piece::LentPiece;
 use tmpl_meaning::{Sink, SinkFault};
 use tmpl_syntax::Text;
 
@@ -21,7 +21,7 @@ impl<'m, 'a> Machine<'m, 'a> {
     pub(crate) fn put_text<S: Sink>(
         &mut self,
         text: &Text,
-        piece: &mut Piece<'_>,
+        piece: &mut LentPiece<'_>,
         sink: &mut S,
     ) -> Result<(), SinkFault>
         requires place { self.old.place + 1 < 2 ^ 64 }
@@ -40,7 +40,7 @@ impl<'m, 'a> Machine<'m, 'a> {
     /// Takes the newest value, and puts out its text.
     pub(crate) fn show<S: Sink>(
         &mut self,
-        piece: &mut Piece<'_>,
+        piece: &mut LentPiece<'_>,
         sink: &mut S,
     ) -> Result<(), SinkFault>
         requires place { self.old.place + 1 < 2 ^ 64 }

@@ -21,7 +21,7 @@ use crate::fault::RunError;
 use crate::flow::Flow;
 use crate::halt::Halt;
 use crate::machine::Machine;
-use crate::piece::Piece;
+use crate::piece::LentPiece;
 use crate::stack::Stack;
 use std::alloc::Global;
 use tmpl_code::{Entry, Parts, Program};
@@ -78,7 +78,7 @@ impl<'m, 'a> Machine<'m, 'a> {
         &mut self,
         program: &Parts<'a>,
         options: &Options,
-        piece: &mut Piece<'_>,
+        piece: &mut LentPiece<'_>,
         sink: &mut S,
     ) -> Result<(), RunError<'a>>
         ghost end: { Ran }
@@ -148,14 +148,14 @@ pub fn run<'a, S: Sink>(
 {
     let parts = program.parts();
     let mut machine = Machine::start(alloc, parts, entry, data, options, cells);
-    let mut piece = Piece::new(piece);
+    let mut piece = LentPiece::new(piece);
     let end = machine.turns(parts, options, &mut piece, out);
     close(&mut piece, out, end)
 }
 
 /// Gives the sink what waits, where a run came to its end or to a fault.
 fn close<'a, S: Sink>(
-    piece: &mut Piece<'_>,
+    piece: &mut LentPiece<'_>,
     sink: &mut S,
     end: Result<(), RunError<'a>>,
 ) -> Result<(), RunError<'a>>

@@ -21,7 +21,7 @@ ghost use Rattle.tmpl_run.specs.Cell.{cell};
 ghost use Rattle.tmpl_run.specs.computed.Held.{cell_at, cell_of, cells_in, has_more, made_at};
 ghost use Rattle.tmpl_run.specs.computed.Output.{Grows, given_of};
 
-use crate::piece::Piece;
+use crate::piece::LentPiece;
 use std::alloc::{AllocError, Global};
 use std::mem;
 use tmpl_funcs::{CallError, Func, call};
@@ -154,7 +154,7 @@ impl<'s, 'a> Stack<'s, 'a> {
     pub(crate) fn show_slot<S: Sink>(
         &mut self,
         index: usize,
-        piece: &mut Piece<'_>,
+        piece: &mut LentPiece<'_>,
         sink: &mut S,
     ) -> Result<(), SinkFault>
         requires found { index < length (cells_of self.old) }
@@ -377,7 +377,7 @@ fn unowned<'a>(val: &Val<'a>) -> Option<Val<'a>>
 fn show_at<S: Sink>(
     cells: &mut [Cell<'_>],
     at: usize,
-    piece: &mut Piece<'_>,
+    piece: &mut LentPiece<'_>,
     sink: &mut S,
 ) -> Result<(), SinkFault>
     requires within { at < length cells.old }

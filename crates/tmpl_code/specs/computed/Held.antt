@@ -14,7 +14,7 @@ use Rattle.tmpl_syntax.specs.Tree.{Nodes}
 use Rattle.tmpl_syntax.specs.Set.{Template}
 use Rattle.tmpl_syntax.specs.View.{nodes_in}
 use Rattle.tmpl_code.specs.Code.{argument_count, operand_count, CallBy, CountedAt, JunctionAt, OperandsAt}
-use Rattle.tmpl_code.specs.Code.{Code, Ended, Exit, NodeAt, NodesAt, NodesPart, Part, TreeAt, TurnAt}
+use Rattle.tmpl_code.specs.Code.{Code, Ended, Exit, NodeAt, NodesAt, NodesPart, Stretch, TreeAt, TurnAt}
 use Rattle.tmpl_code.specs.Instruction.{Instruction, act, call_with, decide}
 use Rattle.tmpl_code.specs.Layout.{Layout, bound_on, declared_in, grown}
 use Rattle.tmpl_code.specs.View.{instruction_of}
@@ -46,12 +46,12 @@ pub record Ends (rest code : Code) : Type 0 where
   pub is : code ≡ front ++ rest
 
 -- code of this kind was put before other code, which stands behind it
-pub record Placed (P : Part) (before after : held_code.Code) : Type 0 where
+pub record Placed (P : Stretch) (before after : held_code.Code) : Type 0 where
   pub code : P (code_of after) (code_of before)
   pub ends : Ends (code_of before) (code_of after)
 
 -- one instruction
-abbrev pub Pushed : Instruction → Part
+abbrev pub Pushed : Instruction → Stretch
 Pushed i code rest = code ≡ i ∷ rest
 
 -- the last so many instructions
@@ -74,7 +74,7 @@ all_grown tree.none cells = cells
 all_grown (tree.then line n ns) cells = all_grown ns (grown n cells)
 
 -- a call of a function
-abbrev pub CalledAt : Func → Operands → Bool → ℕ → Layout → Part
+abbrev pub CalledAt : Func → Operands → Bool → ℕ → Layout → Stretch
 CalledAt f os piped above cells =
     CountedAt (takes f (argument_count os piped)) f
     (CallBy f

@@ -3,14 +3,14 @@ use Rattle.std.specs.Prelude.{◌≡◌, ◌+◌, ◌*◌, ℕ, List, [], Option
 use Rattle.std.specs.List.{between}
 use Rattle.tmpl_values.specs.Put.{Puts, appended}
 use Rattle.tmpl_meaning.specs.Sink.{Told}
-use Rattle.tmpl_run.specs.declared.piece.Piece.{Piece}
+use Rattle.tmpl_run.specs.declared.piece.LentPiece.{LentPiece}
 
 -- the bytes that wait in a piece, the oldest first
-abbrev pub waiting : Piece → List ℕ
+abbrev pub waiting : LentPiece → List ℕ
 waiting p = between p.start p.end p.bytes.now
 
 -- what a sink took, by what it tells of itself, and behind it what waits
-abbrev pub given_of : Told → Piece → Puts
+abbrev pub given_of : Told → LentPiece → Puts
 given_of told p =
     record { bytes = appended told.bytes (waiting p); failures = told.failures; through = 0 }
 

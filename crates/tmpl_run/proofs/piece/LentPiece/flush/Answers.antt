@@ -3,7 +3,7 @@ use Rattle.tmpl_values.proofs.PutLemmas.{IsPut-append}
 use Rattle.tmpl_meaning.specs.Sink.{Told}
 use Rattle.tmpl_run.specs.computed.Output.{waiting}
 use Rattle.tmpl_run.proofs.OutputLemmas.{given-on, grows-on}
-use Rattle.tmpl_run.proofs.piece.Piece.flush.Goals as goal
+use Rattle.tmpl_run.proofs.piece.LentPiece.flush.Goals as goal
 
 pub loop-sink-preserved : goal.loop-sink-preserved
 loop-sink-preserved g c =

@@ -2,7 +2,7 @@ use Rattle.std.proofs.Common.{length, Ok, []}
 use Rattle.tmpl_meaning.specs.Sink.{IsPut}
 use Rattle.tmpl_meaning.specs.declared.sink.SinkFault.{SinkFault}
 use Rattle.tmpl_run.specs.computed.Output.{Grows, given_of, waiting}
-use Rattle.tmpl_run.proofs.piece.Piece.flush.Given as goal
+use Rattle.tmpl_run.proofs.piece.LentPiece.flush.Given as goal
 
 abbrev pub invariant-loop-sink : goal.invariant-loop-sink
 invariant-loop-sink g l = record {
