@@ -21,8 +21,8 @@ use Rattle.tmpl_syntax.specs.Set.{Template, number_of}
 use Rattle.tmpl_code.specs.Instruction.{not_a_function, nil_command, wrong_count, no_template, Operation}
 use Rattle.tmpl_code.specs.Instruction.{push_nothing, push_bool, push_number, push_text, push_dot, push_fields}
 use Rattle.tmpl_code.specs.Instruction.{push_slot, chained, call_with, decide, settle, refuse, Instruction, spend, put}
-use Rattle.tmpl_code.specs.Instruction.{act, show, hold, set, set_dot, unless, enter_with, end_with, forget, enter, turn}
-use Rattle.tmpl_code.specs.Instruction.{next, leave, deepen, invoke, return_from}
+use Rattle.tmpl_code.specs.Instruction.{act, show, hold, set, set_dot, unless, enter_with, end_with, forget, enter}
+use Rattle.tmpl_code.specs.Instruction.{turn, next, leave, deepen, invoke, return_from}
 use Rattle.tmpl_code.specs.Layout.{Layout, slot_named, bound_on, declares, declares_key, grown, declared_in}
 use Rattle.tmpl_code.specs.Layout.{first_layout}
 

@@ -3,8 +3,8 @@ use Rattle.std.specs.Prelude.{List, map}
 use Rattle.tmpl_code.specs.Instruction.{Refusal, not_a_function, nil_command, wrong_count, no_template}
 use Rattle.tmpl_code.specs.Instruction.{push_nothing, push_bool, push_number, push_text, push_dot, push_fields}
 use Rattle.tmpl_code.specs.Instruction.{push_slot, chained, call_with, decide, settle, refuse, Instruction, spend, put}
-use Rattle.tmpl_code.specs.Instruction.{act, show, hold, set, set_dot, unless, enter_with, end_with, forget, enter, turn}
-use Rattle.tmpl_code.specs.Instruction.{next, leave, deepen, invoke, return_from}
+use Rattle.tmpl_code.specs.Instruction.{act, show, hold, set, set_dot, unless, enter_with, end_with, forget, enter}
+use Rattle.tmpl_code.specs.Instruction.{turn, next, leave, deepen, invoke, return_from}
 use Rattle.tmpl_code.specs.declared.instruction.Refusal as held_refusal
 use Rattle.tmpl_code.specs.declared.instruction.Refusal.TheVariants as r
 use Rattle.tmpl_code.specs.declared.instruction.Instruction as held_instruction

@@ -30,7 +30,8 @@ letter-verb_of b v is = by (is_verb b) refl is
 
 module _ (flags width : List ℕ) (p : Option (List ℕ)) (b : ℕ) (bs : List ℕ) (v : ℕ) (form : Form) (is : v ≡ b) where
   form_if-made : (t : Bool) → Some (form_seen form) ≡ option_map form_of (form_if t flags width p v)
-      → (x : WrittenForm) × (form_if t flags width p v ≡ Some x) × (form_seen form ≡ form_of x) × (flags ++ (width ++ (pointed p ++ b ∷ bs)) ≡ form_bytes x ++ bs)
+      → (x : WrittenForm) × (form_if t flags width p v ≡ Some x) × (form_seen form ≡ form_of x)
+      × (flags ++ (width ++ (pointed p ++ b ∷ bs)) ≡ form_bytes x ++ bs)
   form_if-made true h =
       let x : WrittenForm = record { flags = flags; width = width; precision = p; verb = v } in
       let same : form_seen form ≡ form_of x = cc in (

@@ -241,7 +241,8 @@ module _ (way : Way) (s : State) where
         by None k = calls f ws rest cs m (subst (λ l. Follows (meaning.applied f l) m (Puts rest cs)) (append-nil ws) k)
         by (Some p) k = calls f (ws ++ p ∷ []) rest cs m k
 
-    counted-leads : {code : Code} {cs : List Cell} {m : Bool} (t : Bool) (f : Func) (rest : Code) (g : Given Value) (Call : Stretch) (Go : Value → Bool → Type 0)
+    counted-leads : {code : Code} {cs : List Cell} {m : Bool} (t : Bool) (f : Func) (rest : Code) (g : Given Value) (Call : Stretch)
+        (Go : Value → Bool → Type 0)
         → (t ≡ true → Call code rest → Follows g m Go → Goes code cs m) → CountedAt t f Call code rest → Follows (by_count f t g) m Go → Goes code cs m
     counted-leads true f rest g Call Go h l k = h refl l k
     counted-leads false f rest g Call Go h l k = refuses l k
