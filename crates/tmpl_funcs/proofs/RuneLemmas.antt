@@ -7,9 +7,10 @@ use Rattle.std.proofs.Math.Seq.{take-append_seam}
 use Rattle.std.proofs.lemmas.List.{take-append-drop}
 use Rattle.std.proofs.lemmas.Str.{len_utf8_bounds, length-encode}
 use Rattle.tmpl_values.specs.Rune.{Rune, bytes_in}
-use Rattle.tmpl_values.specs.Rune.{first_rune, runes}
-use Rattle.tmpl_values.specs.computed.Rune.{tail_len}
-use Rattle.tmpl_values.proofs.RuneLemmas.{Front, encoding, lone, front, runes-first, runes-nil}
+use Rattle.tmpl_values.specs.Runes.{runes}
+use Rattle.tmpl_values.specs.computed.Rune.{first_rune, tail_len}
+use Rattle.tmpl_values.specs.computed.Runes.{Front, encoding, lone, front}
+use Rattle.tmpl_values.proofs.RunesLemmas.{runes-first, runes-nil}
 
 bytes_in-Front : (b : ℕ) (bs : List ℕ) (r : Rune) → Front (b ∷ bs) r → bytes_in r ≡ take (suc (tail_len r)) (b ∷ bs)
 bytes_in-Front b bs _ lone = refl

@@ -8,9 +8,9 @@ use Rattle.std.proofs.lemmas.Bool.{eqb-true, cond_both}
 use Rattle.std.proofs.lemmas.Bool.Decides.{nat_tests}
 use Rattle.std.proofs.lemmas.Str.{length-encode, len_utf8_bounds, char_from_byte, encode_ascii}
 use lib.Utf8.{low_scalar}
-use Rattle.tmpl_values.specs.Rune.{Rune, BeginsNoChar, char, first_rune}
-use Rattle.tmpl_values.proofs.HasRunesLemmas.{begins-none, byte-first}
-use Rattle.tmpl_values.proofs.RuneLemmas.{first_rune-encode, Front, encoding, lone, front}
+use Rattle.tmpl_values.specs.Rune.{Rune, BeginsNoChar, char}
+use Rattle.tmpl_values.specs.computed.Rune.{first_rune}
+use Rattle.tmpl_values.specs.computed.Runes.{first_rune-encode, Front, encoding, lone, front, begins-none, byte-first}
 use Rattle.tmpl_grammar.specs.Constant.Quoted.{code_of, SpellsRunes, at_end, a_char, a_byte, an_escape}
 use Rattle.tmpl_grammar.specs.computed.Quoted.{Spelled, rune_part, part_at, with_part, parts, whole_code, rune_code}
 use Rattle.tmpl_grammar.proofs.EscapeLemmas.{IsMark, escape-at, escape-some, FirstPart, has-escape}

@@ -6,11 +6,13 @@ use Rattle.std.proofs.lemmas.Bool.{eqb-true, eqb-false}
 use Rattle.std.proofs.lemmas.Bool.Decides.{nat_tests}
 use Rattle.std.proofs.lemmas.Str.{encode_ascii}
 use lib.Utf8.{scalar, scalar_fits}
-use Rattle.tmpl_values.specs.Rune.{Rune, char, byte, bytes_in, runes}
+use Rattle.tmpl_values.specs.Rune.{Rune, char, byte, bytes_in}
+use Rattle.tmpl_values.specs.Runes.{runes}
 use Rattle.tmpl_values.specs.Quote.{letters, letter_of, hexes, spelling}
 use Rattle.tmpl_values.specs.computed.Quote.{inside, rune_spelling}
 use Rattle.tmpl_values.specs.Bytes.{AreBytes}
-use Rattle.tmpl_values.proofs.RuneLemmas.{IsRune, AreRunes, are_runes, text-runes}
+use Rattle.tmpl_values.proofs.RuneLemmas.{IsRune, AreRunes}
+use Rattle.tmpl_values.proofs.RunesLemmas.{are_runes, text-runes}
 use Rattle.tmpl_grammar.specs.Constant.Quoted.{IsEscape, a_letter, the_quote, two_digits, four_digits, eight_digits, SpellsRunes, at_end, a_char, an_escape}
 use Rattle.tmpl_grammar.proofs.HexLemmas.{are-hexes, value-hexes}
 

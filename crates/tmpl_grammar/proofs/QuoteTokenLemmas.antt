@@ -10,7 +10,8 @@ use Rattle.std.specs.Char.{encode_utf8, digit_char}
 use Rattle.std.proofs.lemmas.Bool.Decides.{nat_tests}
 use Rattle.std.proofs.lemmas.Str.{inside_one}
 use Rattle.tmpl_lex.specs.Token.{IsQuoted, no_byte, a_byte, an_escape}
-use Rattle.tmpl_values.specs.Rune.{Rune, runes}
+use Rattle.tmpl_values.specs.Rune.{Rune}
+use Rattle.tmpl_values.specs.Runes.{runes}
 use Rattle.tmpl_values.specs.Quote.{letters, letter_of, hexes, spelling}
 use Rattle.tmpl_values.specs.computed.Quote.{inside, rune_spelling}
 use Rattle.tmpl_grammar.proofs.QuotePartLemmas.{letter-no-newline}

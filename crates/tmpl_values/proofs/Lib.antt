@@ -1,7 +1,6 @@
 pub mod BytesLemmas
 pub mod DataLemmas
 pub mod ElementLemmas
-pub mod HasRunesLemmas
 pub mod ItemLemmas
 pub mod KeyLemmas
 pub mod PartedLemmas
@@ -10,5 +9,6 @@ pub mod QuoteLemmas
 pub mod RestLemmas
 pub mod RisingLemmas
 pub mod RuneLemmas
+pub mod RunesLemmas
 pub mod TreeLemmas
 pub mod WalkLemmas

@@ -8,10 +8,11 @@ use Rattle.std.proofs.Math.Seq.{take-add}
 use Rattle.std.proofs.lemmas.List.{drop-drop}
 use Rattle.std.proofs.lemmas.Str.{len_utf8_bounds, length-encode}
 use Rattle.tmpl_values.specs.Rune.{char, byte}
-use Rattle.tmpl_values.specs.Rune.{first_rune}
+use Rattle.tmpl_values.specs.computed.Rune.{first_rune}
 use Rattle.tmpl_values.specs.Quote.{spelling, letters, letter_of}
 use Rattle.tmpl_values.specs.computed.Quote.{inside}
-use Rattle.tmpl_values.proofs.RuneLemmas.{runes-first, runes-nil, take-first_rune}
+use Rattle.tmpl_values.proofs.RuneLemmas.{take-first_rune}
+use Rattle.tmpl_values.proofs.RunesLemmas.{runes-first, runes-nil}
 
 pub inside-char : (p : ℕ → Bool) (bs : List ℕ) (c : ℕ) → 0 < length bs → first_rune bs ≡ char c
     → inside p bs ≡ spelling p (char c) ++ inside p (drop (len_utf8 c) bs)

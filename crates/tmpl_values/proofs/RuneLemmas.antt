@@ -17,54 +17,9 @@ use Rattle.std.proofs.Math.Seq.{take-append_seam}
 use Rattle.std.proofs.lemmas.Str.{chars-append, chars_past_char, chars-nil, IsUtf8-encode, length-encode, len_utf8_bounds}
 use Rattle.std.proofs.lemmas.Slice.Eq.{bytes_eq-Decides}
 use Rattle.tmpl_values.specs.Bytes.{AreBytes}
-use Rattle.tmpl_values.specs.Rune.{Rune, char, byte, bytes_in, first_rune, runes, runes_after}
-use Rattle.tmpl_values.specs.computed.Rune.{tail_len}
-
--- the bytes begin with the encoding of this character
-abbrev begins_with : ℕ → List ℕ → Bool
-begins_with c bs = scalar c && bytes_eq (take (len_utf8 c) bs) (encode_utf8 c)
-
-chars-encode : (c : ℕ) (rest : List ℕ) → IsScalar c → chars (encode_utf8 c ++ rest) ≡ c ∷ chars rest
-chars-encode c rest s =
-    let one : chars (encode_utf8 c) ≡ c ∷ [] = chars_past_char (encode_utf8 c) [] c (IsUtf8-encode c s) (sym (append-nil (encode_utf8 c)))
-    ∙ ap (λ l. c ∷ l) chars-nil in
-    chars-append (encode_utf8 c) rest (IsUtf8-encode c s) ∙ ap (λ l. l ++ chars rest) one
-
-begins_with-encode : (c : ℕ) (rest : List ℕ) → IsScalar c → begins_with c (encode_utf8 c ++ rest) ≡ true
-begins_with-encode c rest s =
-    let front : take (len_utf8 c) (encode_utf8 c ++ rest) ≡ encode_utf8 c = ap (λ n. take n (encode_utf8 c ++ rest)) (sym (length-encode c))
-    ∙ take-append_seam (encode_utf8 c) rest in
-    rw (s, front) ((bytes_eq-Decides (encode_utf8 c) (encode_utf8 c)).1 refl)
-
-pub first_rune-encode : (c : ℕ) (rest : List ℕ) → IsScalar c → first_rune (encode_utf8 c ++ rest) ≡ char c
-unfolding first_rune
-first_rune-encode c rest s = rw (chars-encode c rest s, begins_with-encode c rest s) refl
-
--- ---- the runes of bytes are those bytes
-
--- what the first rune is
-pub data Front (bs : List ℕ) : Rune → Type 0 where
-  encoding : (c : ℕ) → IsScalar c → take (len_utf8 c) bs ≡ encode_utf8 c → Front bs (char c)
-  lone : Front bs (byte (get_or bs 0 0))
-
-Front-by : (t : Bool) (bs : List ℕ) (c : ℕ) → begins_with c bs ≡ t → Front bs (if t then char c else byte (get_or bs 0 0))
-Front-by true bs c h =
-    let parts = and_parts (scalar c) _ h in
-    encoding c parts.0 ((bytes_eq-Decides (take (len_utf8 c) bs) (encode_utf8 c)).0 parts.1)
-Front-by false bs c h = lone
-
-pub front : (bs : List ℕ) → Front bs (first_rune bs)
-unfolding first_rune
-front bs = Front-by _ bs (get_or (chars bs) 0 0) refl
-
-pub bytes_in-Front : (b : ℕ) (bs : List ℕ) (r : Rune) → Front (b ∷ bs) r → (bytes_in r ++ drop (tail_len r) bs ≡ b ∷ bs) × (tail_len r ≤ length bs)
-bytes_in-Front b bs _ lone = (refl, omega arith)
-bytes_in-Front b bs _ (encoding c s e) =
-    let n : len_utf8 c ≡ suc (len_utf8 c - 1) = omega (arith, len_utf8_bounds c) in rw (length-encode c) (
-      ap (λ t. t ++ drop (len_utf8 c - 1) bs) (sym e) ∙ ap (λ k. take (len_utf8 c) (b ∷ bs) ++ drop k (b ∷ bs)) (sym n)
-          ∙ take-append-drop (len_utf8 c) (b ∷ bs),
-      omega (arith, length-take (len_utf8 c) (b ∷ bs), ap length e, length-encode c, len_utf8_bounds c),
-    )
+use Rattle.tmpl_values.specs.Rune.{Rune, char, byte, bytes_in}
+use Rattle.tmpl_values.specs.computed.Rune.{first_rune, runes_read, runes_after, tail_len}
+use Rattle.tmpl_values.specs.computed.Runes.{Front, encoding, lone, front, bytes_in-Front, first_rune-encode}
 
 pub bytes_in-runes : (n : ℕ) (bs : List ℕ) → n ≤ length bs → flat_map bytes_in (runes_after n bs) ≡ drop n bs
 bytes_in-runes zero [] h = refl
@@ -76,9 +31,9 @@ bytes_in-runes zero (b ∷ bs) h =
     ap (λ t. bytes_in r ++ t) (bytes_in-runes (tail_len r) bs parts.1) ∙ parts.0
 
 -- the runes of a text, one after another, are the text
-pub text-runes : (bs : List ℕ) → flat_map bytes_in (runes bs) ≡ bs
-unfolding runes
-text-runes bs = bytes_in-runes 0 bs (omega arith)
+pub text-read : (bs : List ℕ) → flat_map bytes_in (runes_read bs) ≡ bs
+unfolding runes_read
+text-read bs = bytes_in-runes 0 bs (omega arith)
 
 abbrev pub IsRune : Rune → Type 0
 IsRune (char c) = IsScalar c
@@ -98,28 +53,15 @@ AreRunes-runes_after (suc n) [] h = tt
 AreRunes-runes_after (suc n) (b ∷ bs) h = AreRunes-runes_after n bs h.1
 AreRunes-runes_after zero (b ∷ bs) h = (IsRune-Front b bs _ (front (b ∷ bs)) h.0, AreRunes-runes_after (tail_len (first_rune (b ∷ bs))) bs h.1)
 
-pub are_runes : (bs : List ℕ) → AreBytes bs → AreRunes (runes bs)
-unfolding runes
-are_runes bs h = AreRunes-runes_after 0 bs h
+pub are_read : (bs : List ℕ) → AreBytes bs → AreRunes (runes_read bs)
+unfolding runes_read
+are_read bs h = AreRunes-runes_after 0 bs h
 
 Front-char : (bs : List ℕ) (c : ℕ) → Front bs (char c) → IsScalar c × (take (len_utf8 c) bs ≡ encode_utf8 c)
 Front-char bs _ (encoding c s e) = (s, e)
 
 pub take-first_rune : (bs : List ℕ) (c : ℕ) → first_rune bs ≡ char c → take (len_utf8 c) bs ≡ encode_utf8 c
 take-first_rune bs c is = (Front-char bs c (subst (Front bs) is (front bs))).1
-
-runes_after-drop : (n : ℕ) (bs : List ℕ) → n ≤ length bs → runes_after n bs ≡ runes_after 0 (drop n bs)
-runes_after-drop zero bs h = refl
-runes_after-drop (suc n) [] h = refl
-runes_after-drop (suc n) (b ∷ bs) h = runes_after-drop n bs (omega arith)
-
--- the first rune, and those behind it
-pub runes-first : (bs : List ℕ) (r : Rune) → 0 < length bs → first_rune bs ≡ r → runes bs ≡ r ∷ runes (drop (suc (tail_len r)) bs)
-unfolding runes
-runes-first [] r h is = absurd (omega arith)
-runes-first (b ∷ bs) r h is =
-    let fits = (bytes_in-Front b bs r (subst (Front (b ∷ bs)) is (front (b ∷ bs)))).1 in
-    ap (λ r. r ∷ runes_after (tail_len r) bs) is ∙ ap (λ rs. r ∷ rs) (runes_after-drop (tail_len r) bs fits)
 
 -- whether a character stands at the front can be told from the length that the first byte names
 pub first_rune-text : (bs rest t : List ℕ) (c : ℕ) → IsScalar c → t ≡ encode_utf8 c ++ rest → (n : ℕ) → t ≡ take n bs
@@ -177,7 +119,3 @@ first_rune-ill_formed bs n e never = first_rune-ill_formed_by bs n (first_rune b
 pub are_bytes : (bs : List ℕ) → ((i : ℕ) → Fits w8 (get_or bs i 0)) → AreBytes bs
 are_bytes [] f = tt
 are_bytes (b ∷ bs) f = (omega (arith, f 0), are_bytes bs (λ i. f (suc i)))
-
-pub runes-nil : runes [] ≡ []
-unfolding runes
-runes-nil = refl

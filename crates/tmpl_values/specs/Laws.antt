@@ -1,29 +1,27 @@
--- The laws of runes, that they are those of a relation, which tells them without going from left to right; and of data,
--- that it is nested no deeper than `serde_json` reads, and that the keys of its mappings rise.
+-- The laws of runes, that a text has one list of them, which can be read from left to right; and of data, that it is
+-- nested no deeper than `serde_json` reads, and that the keys of its mappings rise.
 use Rattle.std.specs.Prelude.{◌≡◌, ◌≤◌, ℕ, suc, max, true, List, [], ◌∷◌, ◌++◌, flat_map, Ok}
 use Rattle.std.specs.Char.{encode_utf8}
 use lib.Utf8.{scalar}
 use Rattle.tmpl_values.specs.Json.{data_of}
-use Rattle.tmpl_values.specs.Rune.{Rune, char, byte, bytes_in, BeginsNoChar, runes}
+use Rattle.tmpl_values.specs.Rune.{Rune, bytes_in, HasRunes}
+use Rattle.tmpl_values.specs.Runes.{runes}
+use Rattle.tmpl_values.specs.computed.Rune.{runes_read}
 use Rattle.tmpl_values.specs.Value.{Value, sequence, mapping, Items, no_item, item, Entries, no_entry, entry, AreRising}
 
 -- ---- runes
 
--- the bytes are these runes, one after the other
-pub data HasRunes : List ℕ → List Rune → Type 0 where
-  at_end : HasRunes [] []
-  a_char : {c : ℕ} {rest : List ℕ} {rs : List Rune} → scalar c ≡ true → HasRunes rest rs
-      → HasRunes (encode_utf8 c ++ rest) (char c ∷ rs)
-  a_byte : {b : ℕ} {rest : List ℕ} {rs : List Rune} → BeginsNoChar (b ∷ rest) → HasRunes rest rs
-      → HasRunes (b ∷ rest) (byte b ∷ rs)
-
--- the runes that `runes` gives are those of the bytes
+-- the bytes have these runes
 abbrev pub HasTheseRunes : Type 0
 HasTheseRunes = (bs : List ℕ) → HasRunes bs (runes bs)
 
 -- and no other runes are
 abbrev pub HasNoOtherRunes : Type 0
 HasNoOtherRunes = (bs : List ℕ) (rs : List Rune) → HasRunes bs rs → rs ≡ runes bs
+
+-- they are read from left to right
+abbrev pub AreReadInOrder : Type 0
+AreReadInOrder = (bs : List ℕ) → runes bs ≡ runes_read bs
 
 -- joined they are the bytes
 abbrev pub JoinsBack : Type 0

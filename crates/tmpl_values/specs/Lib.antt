@@ -5,10 +5,12 @@ pub mod Field
 pub mod Item
 pub mod Json
 pub mod Laws
+pub mod One
 pub mod Printable
 pub mod Put
 pub mod Quote
 pub mod Rune
+pub mod Runes
 pub mod Stage
 pub mod Text
 pub mod Truth

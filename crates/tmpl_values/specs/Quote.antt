@@ -5,7 +5,8 @@ use Rattle.std.specs.Prelude.{if◌then◌else◌}
 use Rattle.std.specs.List.{flat_map}
 use Rattle.std.specs.Option.{option_map_or}
 use Rattle.std.specs.Char.{encode_utf8, digit_char}
-use Rattle.tmpl_values.specs.Rune.{Rune, char, byte, runes}
+use Rattle.tmpl_values.specs.Rune.{Rune, char, byte}
+use Rattle.tmpl_values.specs.Runes.{runes}
 use Rattle.tmpl_values.specs.Printable.{printable}
 
 -- the codes with a letter of their own behind a backslash: the code, and the letter

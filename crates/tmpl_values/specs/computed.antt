@@ -4,4 +4,5 @@ pub mod Falls
 pub mod Put
 pub mod Quote
 pub mod Rune
+pub mod Runes
 pub mod Weight

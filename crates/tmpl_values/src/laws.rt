@@ -1,11 +1,12 @@
 //! The laws of runes and of data.
-ghost use Rattle.tmpl_values.specs.Laws.{HasNoOtherRunes, HasRisingKeys, HasTheseRunes, JoinsBack, NestsWithin};
+ghost use Rattle.tmpl_values.specs.Laws.{AreReadInOrder, HasNoOtherRunes, HasRisingKeys, HasTheseRunes, JoinsBack, NestsWithin};
 
-/// The law that bytes have one list of runes, which joined are the bytes.
-#[tactic(auto, using(crate::proofs::HasRunesLemmas::one_list))]
+/// The law that bytes have one list of runes, which can be read from left to right, and joined are the bytes.
+#[tactic(auto, using(crate::proofs::RunesLemmas::runes_of))]
 pub fn one_list_of_runes()
     ensures exists { HasTheseRunes }
     ensures one { HasNoOtherRunes }
+    ensures read { AreReadInOrder }
     ensures joined { JoinsBack }
 {}
 

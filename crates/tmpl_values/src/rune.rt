@@ -2,7 +2,8 @@
 ghost use Rattle.std.specs.Prelude.{◌≡◌, ◌+◌, ◌<◌, ◌≤◌, length, slice_index, MatchOption};
 ghost use Rattle.std.specs.Char.{len_utf8};
 ghost use Rattle.std.specs.Str.{continuation_len};
-ghost use Rattle.tmpl_values.specs.Rune.{char as char_rune, byte as byte_rune, first_rune};
+ghost use Rattle.tmpl_values.specs.Rune.{char as char_rune, byte as byte_rune};
+ghost use Rattle.tmpl_values.specs.computed.Rune.{first_rune};
 
 /// The character whose well-formed UTF-8 encoding stands at the front, if there is one.
 pub fn first_char(bytes: &[u8]) -> Option<char>

@@ -1,7 +1,7 @@
 -- Texts and numbers padded to the width of a form ("Printing" in the documentation of `fmt`: "Width is measured in
 -- units of Unicode code points, that is, runes").
 use Rattle.std.specs.Prelude.{ℕ, ◌+◌, ◌-◌, List, ◌++◌, length, replicate, if◌then◌else◌}
-use Rattle.tmpl_values.specs.Rune.{runes}
+use Rattle.tmpl_values.specs.Runes.{runes}
 use Rattle.tmpl_funcs.specs.printf.Form.{Form}
 
 -- a text with what it lacks to a width, counted in runes: spaces before it, or behind it with the

@@ -4,7 +4,7 @@ use Rattle.std.specs.Prelude.{ℕ, List, take, Option}
 use Rattle.std.specs.Option.{option_map_or}
 use Rattle.std.specs.List.{flat_map}
 use Rattle.tmpl_values.specs.Rune.{bytes_in}
-use Rattle.tmpl_values.specs.Rune.{runes}
+use Rattle.tmpl_values.specs.Runes.{runes}
 
 -- a text cut to a precision in runes
 abbrev pub truncated_to : Option ℕ → List ℕ → List ℕ

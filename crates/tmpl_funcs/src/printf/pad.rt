@@ -1,6 +1,6 @@
 //! Texts and numbers padded to a width.
 ghost use Rattle.std.specs.Prelude.{◌≡◌, ◌≤◌, ◌-◌, ◌++◌, OnOk, drop, length, replicate, take};
-ghost use Rattle.tmpl_values.specs.Rune.{runes};
+ghost use Rattle.tmpl_values.specs.Runes.{runes};
 ghost use Rattle.tmpl_funcs.specs.printf.Pad.{laid_out, padded};
 ghost use Rattle.tmpl_funcs.specs.computed.View.{form_seen};
 

@@ -1,7 +1,7 @@
 //! Texts counted and cut in runes.
 ghost use Rattle.std.specs.Prelude.{◌≡◌, ◌<◌, drop, length, suc};
-ghost use Rattle.tmpl_values.specs.Rune.{first_rune, runes};
-ghost use Rattle.tmpl_values.specs.computed.Rune.{tail_len};
+ghost use Rattle.tmpl_values.specs.Runes.{runes};
+ghost use Rattle.tmpl_values.specs.computed.Rune.{first_rune, tail_len};
 ghost use Rattle.tmpl_funcs.specs.printf.Rune.{truncated_to};
 
 use tmpl_values::first_char;

@@ -5,7 +5,7 @@ use Rattle.std.specs.List.{flat_map}
 use Rattle.std.specs.Char.{len_utf8}
 use lib.Utf8.{scalar}
 use Rattle.tmpl_values.specs.Rune.{Rune, char, byte, bytes_in}
-use Rattle.tmpl_values.specs.Rune.{first_rune}
+use Rattle.tmpl_values.specs.computed.Rune.{first_rune}
 use Rattle.tmpl_grammar.specs.computed.Integer.{number_in}
 use Rattle.tmpl_grammar.specs.Constant.Quoted.{code_of}
 

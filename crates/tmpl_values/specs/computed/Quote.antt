@@ -4,7 +4,7 @@ use Rattle.std.specs.Char.{encode_utf8}
 use Rattle.std.specs.List.{flat_map}
 use Rattle.std.specs.Option.{option_map_or}
 use Rattle.tmpl_values.specs.Quote.{hexes, spelling}
-use Rattle.tmpl_values.specs.Rune.{runes}
+use Rattle.tmpl_values.specs.Runes.{runes}
 
 -- a character by this letter, if it has one
 abbrev pub rune_spelling : (ℕ → Bool) → ℕ → Option ℕ → List ℕ

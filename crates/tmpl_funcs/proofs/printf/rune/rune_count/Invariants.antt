@@ -1,5 +1,5 @@
 use Rattle.std.proofs.Common.{◌≡◌, ◌+◌, ◌≤◌, length}
-use Rattle.tmpl_values.specs.Rune.{runes}
+use Rattle.tmpl_values.specs.Runes.{runes}
 use Rattle.tmpl_funcs.proofs.printf.rune.rune_count.Given as goal
 
 abbrev pub invariant-loop-rest : goal.invariant-loop-rest

@@ -2,8 +2,9 @@ use Rattle.std.proofs.Common.{arith, ◌≡◌, ℕ, ◌<◌, List, [], ◌∷�
 use Rattle.std.specs.Char.{IsScalar}
 use Rattle.std.proofs.lemmas.Str.{encode_ascii, len_utf8_ascii}
 use lib.Utf8.{low_scalar}
-use Rattle.tmpl_values.specs.Rune.{char, first_rune}
-use Rattle.tmpl_values.proofs.RuneLemmas.{first_rune-encode}
+use Rattle.tmpl_values.specs.Rune.{char}
+use Rattle.tmpl_values.specs.computed.Rune.{first_rune}
+use Rattle.tmpl_values.specs.computed.Runes.{first_rune-encode}
 use Rattle.tmpl_grammar.specs.computed.Quoted.{Spelled, rune_part}
 use Rattle.tmpl_grammar.proofs.constant.quoted.rune_part.Goals as goal
 
