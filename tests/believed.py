@@ -1,6 +1,7 @@
 """Looks at the definitions that a reader has to believe: those that the contracts of `tool` and of the C library come to by the names that
-they and these import. Specs outside `computed/` may import nothing from `proofs/`, nothing from `computed/` but in files of the name Laws,
-and of a library no type of the code that is not public.
+they and these import. Specs outside `computed/` may import nothing from `proofs/`, of a library no type of the code that is not public, and
+from `computed/`, but in files of the name Laws, only what is of a type `One ..`: that there is one value of which a relation holds, and no
+other. Of such a definition the type is believed and the relation in it, and not how the value is found, which the checker looks at.
 docs/BELIEVED.md has to name the files of what is believed, and no others. Then the lines of it are counted, without blank lines,
 comments and imports, by crate. They may not be more than stand in MOST: a crate that needs more has to say so here."""
 import re
@@ -76,6 +77,14 @@ class Spec:
             for name in names_of(block):
                 self.names[name] = number
 
+    def lines_of(self, number):
+        """The lines of a block that are believed: of what there is just one of, its type."""
+        block = self.blocks[number]
+        return type_of(block) if self.is_computed() and is_only_one(block) else block
+
+    def is_computed(self):
+        return "computed" in self.module.split(".")
+
     def take_import(self, line):
         whole = re.match(r"(?:pub )?use (?:Rattle\.)?([\w.]+?)(?:\.\{(.*)\}| as (\S+))?$", line.strip())
         if not whole:
@@ -90,6 +99,18 @@ class Spec:
         for name in (names or "").split(","):
             old, _, new = name.strip().partition(" as ")
             self.imports[new or old] = (*target.groups(), old)
+
+
+def type_of(block):
+    """The lines that say the type of a definition."""
+    name = names_of(block)[0]
+    end = next((number for number, line in enumerate(block) if line.startswith(("unfolding ", f"{name} ")) and " : " not in line), len(block))
+    return block[:end]
+
+
+def is_only_one(block):
+    """Whether a definition says that there is one value of which something holds, and no other."""
+    return re.search(r"→ One \S+$|→ One \([^()]*\)$", "\n".join(type_of(block))) is not None
 
 
 def names_of(block):
@@ -109,15 +130,24 @@ def read_specs():
     return {(spec.crate, spec.module): spec for spec in specs}
 
 
-def wrong_imports(spec):
+def wrong_imports(spec, specs):
     """What a believed spec may not import."""
     parts = spec.module.split(".")
     if parts[0] == "computed":
         return []
     own = [path for path in spec.used if path.startswith("tmpl")]
-    proofs = [path for path in own if ".proofs." in path]
-    computed = [path for path in own if ".specs.computed" in path and "Laws" not in parts]
-    return [f"{spec.path.relative_to(harness.TOP)} imports {path}" for path in proofs + computed + [it for it in own if is_hidden(it)]]
+    wrong = [path for path in own if ".proofs." in path or is_hidden(path)]
+    if "Laws" not in parts:
+        named = [".".join((crate, "specs", module)) for crate, module in spec.aliases.values()]
+        wrong += [path for path in named if ".computed" in path]
+        wrong += [f"{crate}.specs.{module}.{name}" for crate, module, name in spec.imports.values()
+                  if "computed" in module.split(".") and not gives_one(specs[crate, module], name)]
+    return [f"{spec.path.relative_to(harness.TOP)} imports {path}" for path in wrong]
+
+
+def gives_one(spec, name):
+    """Whether this definition of a file is one of type `One ..`."""
+    return name in spec.names and is_only_one(spec.blocks[spec.names[name]])
 
 
 def is_hidden(path):
@@ -171,7 +201,7 @@ def believed(specs, items):
         number = spec.names[name]
         if (crate, module, number) not in blocks:
             blocks.add((crate, module, number))
-            todo += references(spec, "\n".join(spec.blocks[number]))
+            todo += references(spec, "\n".join(spec.lines_of(number)))
     return blocks
 
 
@@ -189,20 +219,23 @@ def wrong_page(files):
 
 def main():
     specs = read_specs()
-    wrong = [line for spec in specs.values() for line in wrong_imports(spec)]
+    wrong = [line for spec in specs.values() for line in wrong_imports(spec, specs)]
     blocks = believed(specs, ROOTS)
-    wrong += wrong_page({(crate, module) for crate, module, _ in blocks})
+    wrong += wrong_page({(crate, module) for crate, module, _ in blocks if not specs[crate, module].is_computed()})
     lines = {}
-    for crate, module, number in blocks:
-        lines[crate] = lines.get(crate, 0) + len(specs[crate, module].blocks[number])
-        if "computed" in module.split("."):
-            wrong.append(f"{crate}: {module} is believed, by {specs[crate, module].blocks[number][0]}")
+    for crate, module, number in sorted(blocks):
+        spec = specs[crate, module]
+        lines[crate] = lines.get(crate, 0) + len(spec.lines_of(number))
+        if spec.is_computed():
+            print(f"{crate}: of {module} only a type is believed, {' '.join(spec.lines_of(number)[0].split()[2:])}")
+            if not is_only_one(spec.blocks[number]):
+                wrong.append(f"{crate}: {module} is believed, by {spec.blocks[number][0]}")
     for crate, count in sorted(lines.items()):
         print(f"{crate}: {count} lines are believed")
         if count > MOST.get(crate, 0):
             wrong.append(f"{crate}: {count} lines are believed, at most {MOST.get(crate, 0)} may be")
     print(f"{sum(lines.values())} lines of {len(blocks)} definitions are believed")
-    of_tool = [specs[crate, module].blocks[number] for crate, module, number in believed(specs, TOOL)]
+    of_tool = [specs[crate, module].lines_of(number) for crate, module, number in believed(specs, TOOL)]
     print(f"{sum(map(len, of_tool))} lines of {len(of_tool)} definitions for the contract of `tool` alone")
     for line in wrong:
         print(f"FAILED {line}")

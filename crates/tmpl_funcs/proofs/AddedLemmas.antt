@@ -10,7 +10,7 @@ use Rattle.tmpl_values.specs.View.{val_of}
 use Rattle.tmpl_values.specs.declared.value.Cell.{Cell}
 use Rattle.tmpl_funcs.specs.View.{values_of}
 use Rattle.tmpl_funcs.specs.printf.Form.{Form, WrittenForm, form_of, is_plain}
-use Rattle.tmpl_funcs.specs.printf.Reading.{form_at}
+use Rattle.tmpl_funcs.specs.computed.Scan.{form_at}
 use Rattle.tmpl_funcs.specs.printf.Spelling.{form_bytes}
 use Rattle.tmpl_funcs.specs.computed.Directive.{printed}
 use Rattle.tmpl_funcs.specs.printf.Format.{formatted}

@@ -7,8 +7,8 @@ use Rattle.std.specs.Char.{is_ascii_digit}
 use Rattle.std.specs.List.{prefix_len}
 use Rattle.std.proofs.lemmas.List.{take_all, take-append-drop}
 use Rattle.tmpl_funcs.specs.printf.Form.{WrittenForm, form_of, is_flag}
-use Rattle.tmpl_funcs.specs.printf.Directive.{is_verb}
-use Rattle.tmpl_funcs.specs.printf.Reading.{verb_of, form_at, verb_behind}
+use Rattle.tmpl_funcs.specs.computed.Scan.{verb_of, form_at, verb_behind}
+use Rattle.tmpl_funcs.specs.computed.OneReading.{letter-verb_of}
 use Rattle.tmpl_funcs.specs.printf.Spelling.{pointed, form_bytes}
 use Rattle.tmpl_funcs.specs.computed.View.{form_seen}
 use Rattle.tmpl_funcs.specs.computed.Reading.{form_if, form_by, width_behind, precision_behind, IsRead}
@@ -19,14 +19,6 @@ pub IsRead-along : {asked asked' : Option WrittenForm} {all all' : List ℕ} (re
     → asked ≡ asked' → all ≡ all' → IsRead asked' all' read
 IsRead-along {asked} {asked'} {all} {all'} read h e w =
     subst (λ (bs : List ℕ). IsRead asked' bs read) w (subst (λ (o : Option WrittenForm). IsRead o all read) e h)
-
--- the letter of a verb is that letter
-pub letter-verb_of : (b v : ℕ) → verb_of b ≡ Some v → (v ≡ b) × (is_verb v ≡ true)
-letter-verb_of b v is = by (is_verb b) refl is
-  where
-    by : (t : Bool) → is_verb b ≡ t → (if t then Some b else None) ≡ Some v → (v ≡ b) × (is_verb v ≡ true)
-    by true t e = let same : b ≡ v = cc in (sym same, ap is_verb (sym same) ∙ t)
-    by false t e = cc
 
 module _ (flags width : List ℕ) (p : Option (List ℕ)) (b : ℕ) (bs : List ℕ) (v : ℕ) (form : Form) (is : v ≡ b) where
   form_if-made : (t : Bool) → Some (form_seen form) ≡ option_map form_of (form_if t flags width p v)

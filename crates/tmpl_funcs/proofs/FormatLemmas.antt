@@ -11,7 +11,9 @@ use Rattle.tmpl_values.specs.Value.{Value}
 use Rattle.tmpl_funcs.specs.printf.Form.{WrittenForm, Segment, literal, percent, form, form_of, is_plain}
 use Rattle.tmpl_funcs.specs.printf.Spelling.{pointed, form_bytes, segment_bytes}
 use Rattle.std.specs.Option.{option_map_or}
-use Rattle.tmpl_funcs.specs.printf.Reading.{form_at, first_segment, segment_len, segments_after, reading}
+use Rattle.tmpl_funcs.specs.printf.Reading.{reading}
+use Rattle.tmpl_funcs.specs.computed.Scan.{form_at, first_segment, segments_read}
+use Rattle.tmpl_funcs.specs.computed.OneReading.{one_reading, read-first, first_segment-plain, first_segment-form}
 use Rattle.tmpl_funcs.specs.computed.Reading.{rest_len, with_segment}
 use Rattle.tmpl_funcs.specs.computed.Directive.{printed}
 use Rattle.tmpl_funcs.specs.printf.Format.{texts, formatted}
@@ -21,35 +23,10 @@ use Rattle.tmpl_funcs.specs.computed.Format.{both}
 abbrev filled : Option (List Segment) → List Value → Option (List ℕ)
 filled segments vs = option_and_then (λ ps. texts ps vs) segments
 
-pub segments-skip : (n : ℕ) (bs : List ℕ) → segments_after n bs ≡ segments_after 0 (drop n bs)
-segments-skip zero bs = refl
-segments-skip (suc n) [] = refl
-segments-skip (suc n) (b ∷ bs) = segments-skip n bs
-
--- a segment has as many bytes as its spelling
-pointed-len : (p : Option (List ℕ)) (v : ℕ) → length (pointed p ++ v ∷ []) ≡ 1 + option_map_or (λ digits. 1 + length digits) p 0
-pointed-len None v = refl
-pointed-len (Some ds) v = omega (arith, length-append ds (v ∷ []))
-
-segment_len-is : (p : Segment) → segment_len p ≡ length (segment_bytes p)
-segment_len-is (literal run) = refl
-segment_len-is percent = refl
-segment_len-is (form f) =
-    let tail : List ℕ = pointed f.precision ++ f.verb ∷ [] in
-    omega (arith, length-append f.flags (f.width ++ tail), length-append f.width tail, pointed-len f.precision f.verb)
-
--- the first segment before those behind it, as one is read
-pub segments-before : (o : Option Segment) (bs : List ℕ)
-    → option_and_then (λ p. option_map (λ ps. p ∷ ps) (segments_after (segment_len p - 1) bs)) o ≡ with_segment o (segments_after (rest_len o) bs)
-segments-before None bs = refl
-segments-before (Some p) bs = ap (λ n. option_map (λ ps. p ∷ ps) (segments_after (n - 1) bs)) (segment_len-is p)
-
 -- the first segment, and those behind it
 pub reading-first : (b : ℕ) (bs : List ℕ) (p : Option Segment) → first_segment (b ∷ bs) ≡ p → reading (b ∷ bs) ≡ with_segment p (reading (drop (rest_len p) bs))
-unfolding reading
-reading-first b bs p is =
-    segments-before (first_segment (b ∷ bs)) bs ∙ ap (λ q. with_segment q (segments_after (rest_len q) bs)) is
-    ∙ ap (with_segment p) (segments-skip (rest_len p) bs)
+unfolding reading one_reading
+reading-first b bs p is = read-first b bs p is
 
 formatted-first : (b : ℕ) (bs : List ℕ) (vs : List Value) (p : Option Segment) → first_segment (b ∷ bs) ≡ p
     → formatted (b ∷ bs) vs ≡ filled (with_segment p (reading (drop (rest_len p) bs))) vs
@@ -82,13 +59,6 @@ filled-form f (Some ps) v vs = refl
 filled-form_alone : (f : WrittenForm) (ps : Option (List Segment)) → filled (with_segment (Some (form f)) ps) [] ≡ None
 filled-form_alone f None = refl
 filled-form_alone f (Some ps) = refl
-
-pub first_segment-plain : (b : ℕ) (bs : List ℕ) → is_plain b ≡ true → first_segment (b ∷ bs) ≡ Some (literal (take_while is_plain (b ∷ bs)))
-first_segment-plain b bs h = rw h refl
-
-pub first_segment-form : (b : ℕ) (bs : List ℕ) (f : Option WrittenForm) → is_plain b ≡ true → form_at (b ∷ bs) ≡ f
-    → first_segment (37 ∷ b ∷ bs) ≡ option_map form f
-first_segment-form b bs f h is = let e : (b == 37) ≡ false = not-true (b == 37) h in rw e (ap (option_map form) is)
 
 is_plain-first : (b : ℕ) (bs : List ℕ) (t : Bool) → is_plain b ≡ t → 0 < cond t (1 + prefix_len is_plain bs) 0 → is_plain b ≡ true
 is_plain-first b bs true is h = is
@@ -155,11 +125,11 @@ module _ (bs : List ℕ) (some : 0 < length bs) (plain : is_plain (get_or bs 0 0
 
 -- nothing is left
 pub formatted-nil : formatted [] [] ≡ Some []
-unfolding formatted reading
+unfolding formatted reading one_reading segments_read
 formatted-nil = refl
 
 -- values are left
 pub formatted-over : (vs : List Value) → 0 < length vs → formatted [] vs ≡ None
-unfolding formatted reading
+unfolding formatted reading one_reading segments_read
 formatted-over [] some = absurd (omega arith)
 formatted-over (v ∷ vs) some = refl

@@ -2,7 +2,6 @@ pub mod AddedLemmas
 pub mod EscapeLemmas
 pub mod FormLemmas
 pub mod FormatLemmas
-pub mod FrontLemmas
 pub mod IndexLemmas
 pub mod JoinLemmas
 pub mod NumberLemmas

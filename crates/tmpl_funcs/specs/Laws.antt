@@ -8,19 +8,24 @@ use Rattle.tmpl_funcs.specs.declared.fault.CallFault.TheVariants.{WrongCount}
 use Rattle.tmpl_funcs.specs.printf.Form.{Segment}
 use Rattle.tmpl_funcs.specs.printf.Spelling.{IsReading}
 use Rattle.tmpl_funcs.specs.printf.Reading.{reading}
+use Rattle.tmpl_funcs.specs.computed.Scan.{segments_read}
 
 -- a number of arguments that a function does not take is refused before anything else
 abbrev pub CountsFirst : Type 0
 CountsFirst = (f : Func) (vs : List Value) → takes f (length vs) ≡ false → called f vs ≡ Err WrongCount
 
--- what the function reads is a reading
+-- what a format is read as is a reading
 abbrev pub ReadsSoundly : List ℕ → Type 0
 ReadsSoundly format = (ps : List Segment) → reading format ≡ Some ps → IsReading format ps
 
--- it reads each reading
+-- it is read as each reading
 abbrev pub ReadsAll : List ℕ → Type 0
 ReadsAll format = (ps : List Segment) → IsReading format ps → reading format ≡ Some ps
 
 -- there is one reading at most
 abbrev pub HasOneReading : List ℕ → Type 0
 HasOneReading format = (ps qs : List Segment) → IsReading format ps → IsReading format qs → ps ≡ qs
+
+-- a format can be read from left to right
+abbrev pub ReadsInOrder : List ℕ → Type 0
+ReadsInOrder format = reading format ≡ segments_read format

@@ -3,7 +3,10 @@ pub mod Class
 pub mod Directive
 pub mod Escape
 pub mod Format
+pub mod Front
 pub mod Index
 pub mod Join
+pub mod OneReading
 pub mod Reading
+pub mod Scan
 pub mod View

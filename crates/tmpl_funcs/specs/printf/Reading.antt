@@ -1,60 +1,8 @@
--- The reading of a format from left to right: the one that `IsReading` admits.
-use Rattle.std.specs.Prelude.{ℕ, zero, suc, ◌+◌, ◌-◌, ◌&&◌, ◌==◌, nat_le, Bool, true, List, [], ◌∷◌, length, drop}
-use Rattle.std.specs.Prelude.{slice_get, slice_index, Option, Some, None}
-use Rattle.std.specs.Prelude.{option_map, option_and_then, if◌then◌else◌}
-use Rattle.std.specs.Char.{is_ascii_digit}
-use Rattle.std.specs.List.{prefix_len, take_while}
-use Rattle.std.specs.Option.{option_map_or}
-use Rattle.tmpl_funcs.specs.printf.Form.{WrittenForm, Segment, literal, percent, form, is_plain, is_flag}
-use Rattle.tmpl_funcs.specs.printf.Form.{takes_precision}
-use Rattle.tmpl_funcs.specs.printf.Directive.{is_verb}
+-- What a format is read as: the one thing that `IsReadAs` admits.
+use Rattle.std.specs.Prelude.{ℕ, List, Option}
+use Rattle.tmpl_funcs.specs.printf.Form.{Segment}
+use Rattle.tmpl_funcs.specs.computed.OneReading.{one_reading}
 
--- the letter, where a verb has it
-abbrev pub verb_of : ℕ → Option ℕ
-verb_of b = if is_verb b then Some b else None
-
--- what stands behind the longest front whose bytes pass a test
-abbrev pub behind : (ℕ → Bool) → List ℕ → List ℕ
-behind p bs = drop (prefix_len p bs) bs
-
--- the form of these parts, where the letter of a verb stands next: width and precision have at most four digits, and
--- the verb may have the precision
-abbrev pub verb_behind : List ℕ → List ℕ → Option (List ℕ) → List ℕ → Option WrittenForm
-verb_behind flags width precision bs =
-    option_and_then (λ verb.
-    if nat_le (length width) 4 && option_map_or (λ ds. nat_le (length ds) 4 && takes_precision verb) precision true
-    then Some (record { flags = flags; width = width; precision = precision; verb = verb })
-    else None) (option_and_then verb_of (slice_get bs 0))
-
--- the form at the front of what stands behind a `%`: flags, a width, and a precision if a point stands next
-unfoldable pub form_at : List ℕ → Option WrittenForm
-form_at bs =
-    let sized = behind is_flag bs in
-    let pointed = behind is_ascii_digit sized in
-    let read = verb_behind (take_while is_flag bs) (take_while is_ascii_digit sized) in
-    let digits = drop 1 pointed in
-    if slice_index pointed 0 == 46
-    then read (Some (take_while is_ascii_digit digits)) (behind is_ascii_digit digits) else read None pointed
-
--- the segment at the front of bytes that are not empty
-abbrev pub first_segment : List ℕ → Option Segment
-first_segment bs =
-    if is_plain (slice_index bs 0) then Some (literal (take_while is_plain bs))
-    else (if slice_index bs 1 == 37 then Some percent else option_map form (form_at (drop 1 bs)))
-
--- how many bytes a segment has
-abbrev pub segment_len : Segment → ℕ
-segment_len (literal run) = length run
-segment_len percent = 2
-segment_len (form f) = 2 + length f.flags + length f.width + option_map_or (λ digits. 1 + length digits) f.precision 0
-
--- the segments after so many bytes that belong to the segment before
-abbrev pub segments_after : ℕ → List ℕ → Option (List Segment)
-segments_after n [] = Some []
-segments_after (suc n) (b ∷ bs) = segments_after n bs
-segments_after zero (b ∷ bs) =
-    option_and_then (λ p. option_map (λ ps. p ∷ ps) (segments_after (segment_len p - 1) bs)) (first_segment (b ∷ bs))
-
--- the segments of a format, read from left to right; none where it is no format
+-- the segments of a format; none where it is no format
 unfoldable pub reading : List ℕ → Option (List Segment)
-reading format = segments_after 0 format
+reading format = (one_reading format).it

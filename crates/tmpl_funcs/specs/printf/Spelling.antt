@@ -1,15 +1,15 @@
--- How formats are spelled, and by which segments: what the law of one reading speaks of.
-use Rattle.std.specs.Prelude.{◌≡◌, ℕ, ◌==◌, not, nat_le, Bool, true, List, [], ◌∷◌, ◌++◌, length, Option, Some, None}
+-- How formats are spelled, and by which segments.
+use Rattle.std.specs.Prelude.{◌≡◌, ℕ, ◌==◌, not, nat_le, Bool, true, List, [], ◌∷◌, ◌++◌, length, Option, Some, None, IfSome}
 use Rattle.std.specs.Char.{is_ascii_digit}
 use Rattle.std.specs.List.{flat_map, list_all}
+use Rattle.std.specs.Option.{option_map_or}
 use Rattle.tmpl_funcs.specs.printf.Directive.{is_verb}
 use Rattle.tmpl_funcs.specs.printf.Form.{WrittenForm, Segment, literal, percent, form, is_plain, is_flag}
 use Rattle.tmpl_funcs.specs.printf.Form.{takes_precision}
 
 -- the precision, behind a point
 abbrev pub pointed : Option (List ℕ) → List ℕ
-pointed None = []
-pointed (Some digits) = 46 ∷ digits
+pointed precision = option_map_or (λ digits. 46 ∷ digits) precision []
 
 -- how a form is spelled behind its `%`
 abbrev pub form_bytes : WrittenForm → List ℕ
@@ -32,9 +32,8 @@ begins_above_0 (d ∷ ds) = not (d == 48)
 
 -- a precision of few digits, which may be none, before a verb that may have it; or no precision
 abbrev pub IsPrecision : Option (List ℕ) → ℕ → Type 0
-IsPrecision None verb = Unit {0}
-IsPrecision (Some digits) verb =
-    (list_all is_ascii_digit digits ≡ true) × (is_short digits ≡ true) × (takes_precision verb ≡ true)
+IsPrecision precision verb = IfSome precision (λ digits. (list_all is_ascii_digit digits ≡ true)
+    × (is_short digits ≡ true) × (takes_precision verb ≡ true))
 
 -- a form: any flags, a width of at most four digits of which the first is not 0, a precision, and a verb
 pub record IsForm (f : WrittenForm) : Type 0 where
@@ -45,12 +44,10 @@ pub record IsForm (f : WrittenForm) : Type 0 where
   pub precision : IsPrecision f.precision f.verb
   pub verb : is_verb f.verb ≡ true
 
--- a segment is well formed; a run has bytes, and none of them is `%`
-abbrev pub IsSegment : Segment → Type 0
-IsSegment (literal []) = ⊥
-IsSegment (literal (b ∷ bs)) = list_all is_plain (b ∷ bs) ≡ true
-IsSegment percent = Unit {0}
-IsSegment (form f) = IsForm f
+-- a run has bytes, and none of them is `%`
+abbrev pub IsRun : List ℕ → Type 0
+IsRun [] = ⊥
+IsRun (b ∷ bs) = list_all is_plain (b ∷ bs) ≡ true
 
 -- the next segment, if there is one, is no run
 abbrev pub IsNoRun : List Segment → Type 0
@@ -60,7 +57,7 @@ IsNoRun _ = Unit {0}
 -- the segments are well formed, and a run goes on as far as it can
 abbrev pub AreSegments : List Segment → Type 0
 AreSegments [] = Unit {0}
-AreSegments (literal run ∷ ps) = IsSegment (literal run) × IsNoRun ps × AreSegments ps
+AreSegments (literal run ∷ ps) = IsRun run × IsNoRun ps × AreSegments ps
 AreSegments (percent ∷ ps) = AreSegments ps
 AreSegments (form f ∷ ps) = IsForm f × AreSegments ps
 
@@ -68,3 +65,8 @@ AreSegments (form f ∷ ps) = IsForm f × AreSegments ps
 pub record IsReading (format : List ℕ) (ps : List Segment) : Type 0 where
   pub spells : format ≡ flat_map segment_bytes ps
   pub segments : AreSegments ps
+
+-- what a format is read as: its segments, or nothing where no segments spell it
+abbrev pub IsReadAs : List ℕ → Option (List Segment) → Type 0
+IsReadAs format None = (ps : List Segment) → IsReading format ps → ⊥
+IsReadAs format (Some ps) = IsReading format ps

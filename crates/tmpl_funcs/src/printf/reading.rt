@@ -1,7 +1,7 @@
 //! The reading of a form.
 ghost use Rattle.std.specs.Prelude.{◌≡◌, ◌≤◌, ◌++◌, length, option_map, Some};
 ghost use Rattle.tmpl_funcs.specs.printf.Form.{form_of, number_in};
-ghost use Rattle.tmpl_funcs.specs.printf.Reading.{form_at, verb_behind, verb_of};
+ghost use Rattle.tmpl_funcs.specs.computed.Scan.{form_at, verb_behind, verb_of};
 ghost use Rattle.tmpl_funcs.specs.printf.Spelling.{pointed};
 ghost use Rattle.tmpl_funcs.specs.computed.Reading.{form_by, precision_behind, width_behind, IsRead};
 ghost use Rattle.tmpl_funcs.specs.computed.View.{form_seen, letter_of};

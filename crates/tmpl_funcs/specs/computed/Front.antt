@@ -1,11 +1,11 @@
--- For the law `one_format_reading`: the longest front whose bytes pass a test.
+-- The longest front whose bytes pass a test, for what is scanned.
 use Rattle.std.proofs.Common.{◌≡◌, ℕ, suc, ◌+◌, Bool, true, false, List, [], ◌∷◌, ◌++◌, length, refl, arith}
 use Rattle.std.specs.List.{prefix_len, take_while, list_all}
 use Rattle.std.proofs.Math.Seq.{take-append_seam, drop-append_seam}
 use Rattle.std.proofs.lemmas.Bool.{and_parts}
 use Rattle.std.proofs.lemmas.List.{take-append-drop}
 use Rattle.std.proofs.lemmas.List.Sums.{take_while-cons}
-use Rattle.tmpl_funcs.specs.printf.Reading.{behind}
+use Rattle.tmpl_funcs.specs.computed.Scan.{behind}
 
 -- the first byte, if there is one, passes
 abbrev pub begins : (ℕ → Bool) → List ℕ → Bool
