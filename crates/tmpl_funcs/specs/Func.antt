@@ -3,6 +3,7 @@ use Rattle.std.specs.Prelude.{ℕ, pos, Bool, true, false, not, ◌&&◌, nat_le
 use Rattle.std.specs.Prelude.{Some, None, option_map, ok_or, Result, Ok, Err, if◌then◌else◌}
 use Rattle.std.specs.List.{join_with_byte}
 use Rattle.std.specs.Option.{option_map_or}
+use Rattle.std.specs.Str.{byte}
 use Rattle.tmpl_values.specs.Value.{Value, boolean, number, string}
 use Rattle.tmpl_values.specs.Compare.{is_nothing, equality, order}
 use Rattle.tmpl_values.specs.Item.{size_of}
@@ -49,7 +50,7 @@ row_of Index =
 row_of Slice = row (codes "slice") 1 (Some 3) false slice_of
 row_of Print = row (codes "print") 0 None true (λ vs. Ok (string (joined vs)))
 row_of Println =
-    row (codes "println") 0 None true (λ vs. Ok (string (join_with_byte 32 (map inner_text vs) ++ codes "\n")))
+    row (codes "println") 0 None true (λ vs. Ok (string (join_with_byte (byte " ") (map inner_text vs) ++ codes "\n")))
 row_of Printf = row (codes "printf") 1 None true (of_first printf_of)
 row_of Html = row (codes "html") 0 None true (λ vs. Ok (string (flat_map html_byte (joined (map as_text vs)))))
 row_of Urlquery = row (codes "urlquery") 0 None true (λ vs. Ok (string (flat_map query_byte (joined (map as_text vs)))))

@@ -14,7 +14,7 @@ is_string v = is_some (bytes_of v)
 abbrev pub joined : List Value → List ℕ
 joined [] = []
 joined (v ∷ []) = inner_text v
-joined (v ∷ w ∷ ws) = inner_text v ++ ((if is_string v || is_string w then [] else 32 ∷ []) ++ joined (w ∷ ws))
+joined (v ∷ w ∷ ws) = inner_text v ++ ((if is_string v || is_string w then [] else codes " ") ++ joined (w ∷ ws))
 
 -- a value in which nothing counts as the string `<no value>` (this project's own rule)
 abbrev pub as_text : Value → Value

@@ -1,5 +1,5 @@
--- The runes of a text: each is a character, by its well-formed UTF-8, or else one byte at which no character begins. That
--- a text need not be UTF-8 is our own rule.
+-- The runes of a text: each is a character, by its well-formed UTF-8, or else one byte at which no character begins.
+-- That a text need not be UTF-8 is our own rule.
 use Rattle.std.specs.Prelude.{◌≡◌, ℕ, true, List, [], ◌∷◌, ◌++◌}
 use Rattle.std.specs.Char.{encode_utf8}
 use lib.Utf8.{scalar}

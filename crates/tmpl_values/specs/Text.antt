@@ -2,6 +2,7 @@
 use Rattle.std.specs.Prelude.{ℕ, List, [], ◌∷◌, ◌++◌, Bool, codes, if◌then◌else◌}
 use Rattle.std.specs.List.{join_with_byte}
 use Rattle.std.specs.Fmt.{signed_decimal}
+use Rattle.std.specs.Str.{byte}
 use Rattle.tmpl_values.specs.Value.{Value, boolean, number, string, sequence, mapping, Items, no_item}
 use Rattle.tmpl_values.specs.Value.{item, Entries, no_entry, entry}
 use Rattle.tmpl_values.specs.Compare.{is_nothing}
@@ -17,8 +18,8 @@ abbrev mutual
   inner_text (boolean b) = truth_text b
   inner_text (number n) = signed_decimal n
   inner_text (string s) = s
-  inner_text (sequence vs) = codes "[" ++ (join_with_byte 32 (item_texts vs) ++ codes "]")
-  inner_text (mapping es) = codes "map[" ++ (join_with_byte 32 (entry_texts es) ++ codes "]")
+  inner_text (sequence vs) = codes "[" ++ (join_with_byte (byte " ") (item_texts vs) ++ codes "]")
+  inner_text (mapping es) = codes "map[" ++ (join_with_byte (byte " ") (entry_texts es) ++ codes "]")
   inner_text _ = codes "<nil>"
 
   pub item_texts : Items → List (List ℕ)

@@ -5,6 +5,7 @@ use Rattle.std.specs.Borrow.{Bor}
 use Rattle.std.specs.Char.{is_ascii_digit}
 use Rattle.std.specs.List.{take_while}
 use Rattle.std.specs.Option.{option_map_or}
+use Rattle.std.specs.Str.{byte}
 use Rattle.tmpl_funcs.specs.printf.Form.{WrittenForm, Segment, form_of, takes_precision}
 use Rattle.tmpl_funcs.specs.computed.Scan.{behind, verb_behind}
 use Rattle.tmpl_funcs.specs.printf.Spelling.{form_bytes, segment_bytes, is_short}
@@ -13,7 +14,7 @@ use Rattle.tmpl_funcs.specs.declared.printf.form.Form as held
 
 -- the number that decimal digits write when they follow those of n
 abbrev pub number_after : ℕ → List ℕ → ℕ
-number_after = fold (λ n d. 10 * n + (d - 48))
+number_after = fold (λ n d. 10 * n + (d - byte "0"))
 
 -- the precision is short, and the verb may have it
 abbrev pub is_precision : Option (List ℕ) → ℕ → Bool
@@ -32,7 +33,7 @@ form_by flags width precision verb =
 -- the form whose precision, if it has one, stands next
 abbrev pub precision_behind : List ℕ → List ℕ → List ℕ → Option WrittenForm
 precision_behind flags width bs =
-    if slice_index bs 0 == 46
+    if slice_index bs 0 == byte "."
     then verb_behind flags width (Some (take_while is_ascii_digit (drop 1 bs))) (behind is_ascii_digit (drop 1 bs))
     else verb_behind flags width None bs
 

@@ -5,6 +5,7 @@ use Rattle.std.specs.Prelude.{option_map, option_and_then, if◌then◌else◌}
 use Rattle.std.specs.Char.{is_ascii_digit}
 use Rattle.std.specs.List.{prefix_len, take_while}
 use Rattle.std.specs.Option.{option_map_or}
+use Rattle.std.specs.Str.{byte}
 use Rattle.tmpl_funcs.specs.printf.Form.{WrittenForm, Segment, literal, percent, form, is_plain, is_flag}
 use Rattle.tmpl_funcs.specs.printf.Form.{takes_precision}
 use Rattle.tmpl_funcs.specs.printf.Directive.{is_verb}
@@ -33,14 +34,14 @@ form_at bs =
     let pointed = behind is_ascii_digit sized in
     let read = verb_behind (take_while is_flag bs) (take_while is_ascii_digit sized) in
     let digits = drop 1 pointed in
-    if slice_index pointed 0 == 46
+    if slice_index pointed 0 == byte "."
     then read (Some (take_while is_ascii_digit digits)) (behind is_ascii_digit digits) else read None pointed
 
 -- the segment at the front of bytes that are not empty
 abbrev pub first_segment : List ℕ → Option Segment
 first_segment bs =
     if is_plain (slice_index bs 0) then Some (literal (take_while is_plain bs))
-    else (if slice_index bs 1 == 37 then Some percent else option_map form (form_at (drop 1 bs)))
+    else (if slice_index bs 1 == byte "%" then Some percent else option_map form (form_at (drop 1 bs)))
 
 -- how many bytes a segment has
 abbrev pub segment_len : Segment → ℕ

@@ -1,7 +1,7 @@
 -- What a form of `printf` prints of a value ("Printing" in the documentation of `fmt`). Which flags
 -- a verb takes, and that any other is refused, is this project's own rule.
 use Rattle.std.specs.Prelude.{ℕ, ℤ, pos, nat_abs, int_lt, int_le, ◌/◌, ◌%◌, ◌&&◌, ◌||◌, ◌==◌, not, Bool, true, false}
-use Rattle.std.specs.Prelude.{List, [], ◌∷◌, find, Option, Some, None, option_map, option_and_then, is_some}
+use Rattle.std.specs.Prelude.{List, [], ◌∷◌, codes, find, Option, Some, None, option_map, option_and_then, is_some}
 use Rattle.std.specs.Prelude.{if◌then◌else◌}
 use Rattle.std.specs.List.{flat_map}
 use Rattle.std.specs.Char.{encode_utf8}
@@ -24,7 +24,7 @@ text_form f text = if not (f.plus || (f.zero || f.space)) then option_map (padde
 
 -- the sign of a number: `-`, or with the flags `+` and space what these ask for
 abbrev pub sign : Form → ℤ → List ℕ
-sign f n = if int_lt n (pos 0) then 45 ∷ [] else (if f.plus then 43 ∷ [] else (if f.space then 32 ∷ [] else []))
+sign f n = if int_lt n (pos 0) then codes "-" else (if f.plus then codes "+" else (if f.space then codes " " else []))
 
 -- a number in a base
 abbrev pub number_form : ℕ → Bool → Form → ℤ → List ℕ

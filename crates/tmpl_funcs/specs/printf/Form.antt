@@ -23,11 +23,11 @@ pub data Segment : Type 0 where
 
 -- the byte stands for itself
 abbrev pub is_plain : ℕ → Bool
-is_plain b = not (b == 37)
+is_plain b = not (b == byte "%")
 
 -- the byte is one of the flags `-`, `+`, `0` and space
 abbrev pub is_flag : ℕ → Bool
-is_flag b = b == 45 || (b == 43 || (b == 48 || b == 32))
+is_flag b = b == byte "-" || (b == byte "+" || (b == byte "0" || b == byte " "))
 
 -- the verb of a letter may have a precision: `%s` alone
 abbrev pub takes_precision : ℕ → Bool
@@ -35,7 +35,7 @@ takes_precision letter = letter == byte "s"
 
 -- the number that decimal digits write
 abbrev pub number_in : List ℕ → ℕ
-number_in ds = fold (λ n d. 10 * n + (d - 48)) 0 ds
+number_in ds = fold (λ n d. 10 * n + (d - byte "0")) 0 ds
 
 -- what a form asks for, with the letter of its verb
 pub record Form : Type 0 where
@@ -50,10 +50,10 @@ pub record Form : Type 0 where
 -- a flag may stand more than once, and no width is a width of 0
 abbrev pub form_of : WrittenForm → Form
 form_of f = record {
-  minus = list_any (λ b. b == 45) f.flags;
-  plus = list_any (λ b. b == 43) f.flags;
-  zero = list_any (λ b. b == 48) f.flags;
-  space = list_any (λ b. b == 32) f.flags;
+  minus = list_any (λ b. b == byte "-") f.flags;
+  plus = list_any (λ b. b == byte "+") f.flags;
+  zero = list_any (λ b. b == byte "0") f.flags;
+  space = list_any (λ b. b == byte " ") f.flags;
   width = number_in f.width;
   precision = option_map number_in f.precision;
   verb = f.verb;

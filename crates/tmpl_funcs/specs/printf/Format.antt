@@ -2,6 +2,7 @@
 -- order, and that too few and too many arguments are refused, is this project's own rule.
 use Rattle.std.specs.Prelude.{ℕ, List, [], ◌∷◌, ◌++◌, Option, Some, None, Result}
 use Rattle.std.specs.Prelude.{ok_or, option_and_then, option_map}
+use Rattle.std.specs.Str.{byte}
 use Rattle.tmpl_values.specs.Value.{Value, string}
 use Rattle.tmpl_values.specs.Item.{bytes_of}
 use Rattle.tmpl_values.specs.Stage.{and_then}
@@ -16,7 +17,7 @@ use Rattle.tmpl_funcs.specs.declared.fault.CallFault.TheVariants.{WrongKind, For
 abbrev pub texts : List Segment → List Value → Option (List ℕ)
 texts [] [] = Some []
 texts (literal run ∷ ps) vs = option_map (λ t. run ++ t) (texts ps vs)
-texts (percent ∷ ps) vs = option_map (λ t. 37 ∷ t) (texts ps vs)
+texts (percent ∷ ps) vs = option_map (λ t. byte "%" ∷ t) (texts ps vs)
 texts (form f ∷ ps) (v ∷ vs) =
     option_and_then (λ s. option_map (λ t. s ++ t) (texts ps vs)) (printed_by (form_of f) v)
 texts _ _ = None

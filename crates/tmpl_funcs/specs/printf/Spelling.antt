@@ -1,15 +1,17 @@
 -- How formats are spelled, and by which segments.
-use Rattle.std.specs.Prelude.{◌≡◌, ℕ, ◌==◌, not, nat_le, Bool, true, List, [], ◌∷◌, ◌++◌, length, Option, Some, None, IfSome}
+use Rattle.std.specs.Prelude.{◌≡◌, ℕ, ◌==◌, not, nat_le, Bool, true, List, [], ◌∷◌, ◌++◌, length, codes}
+use Rattle.std.specs.Prelude.{Option, Some, None, IfSome}
 use Rattle.std.specs.Char.{is_ascii_digit}
 use Rattle.std.specs.List.{flat_map, list_all}
 use Rattle.std.specs.Option.{option_map_or}
+use Rattle.std.specs.Str.{byte}
 use Rattle.tmpl_funcs.specs.printf.Directive.{is_verb}
 use Rattle.tmpl_funcs.specs.printf.Form.{WrittenForm, Segment, literal, percent, form, is_plain, is_flag}
 use Rattle.tmpl_funcs.specs.printf.Form.{takes_precision}
 
 -- the precision, behind a point
 abbrev pub pointed : Option (List ℕ) → List ℕ
-pointed precision = option_map_or (λ digits. 46 ∷ digits) precision []
+pointed precision = option_map_or (λ digits. byte "." ∷ digits) precision []
 
 -- how a form is spelled behind its `%`
 abbrev pub form_bytes : WrittenForm → List ℕ
@@ -18,8 +20,8 @@ form_bytes f = f.flags ++ (f.width ++ (pointed f.precision ++ f.verb ∷ []))
 -- how a segment is spelled
 abbrev pub segment_bytes : Segment → List ℕ
 segment_bytes (literal run) = run
-segment_bytes percent = 37 ∷ 37 ∷ []
-segment_bytes (form f) = 37 ∷ form_bytes f
+segment_bytes percent = codes "%%"
+segment_bytes (form f) = codes "%" ++ form_bytes f
 
 -- the digits are few enough
 abbrev pub is_short : List ℕ → Bool
@@ -28,7 +30,7 @@ is_short digits = nat_le (length digits) 4
 -- the first digit, if there is one, is not 0
 abbrev pub begins_above_0 : List ℕ → Bool
 begins_above_0 [] = true
-begins_above_0 (d ∷ ds) = not (d == 48)
+begins_above_0 (d ∷ ds) = not (d == byte "0")
 
 -- a precision of few digits, which may be none, before a verb that may have it; or no precision
 abbrev pub IsPrecision : Option (List ℕ) → ℕ → Type 0
