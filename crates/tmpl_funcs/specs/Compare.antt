@@ -1,10 +1,10 @@
 -- The comparisons ("Functions", at `eq` to `ge`).
 use Rattle.std.specs.Prelude.{Bool, true, false, List, [], ◌∷◌, Option, Some, option_map, option_and_then, Result}
-use Rattle.std.specs.Prelude.{Err, ok_or, if◌then◌else◌}
+use Rattle.std.specs.Prelude.{ok_or, if◌then◌else◌}
 use Rattle.tmpl_values.specs.Value.{Value, boolean}
 use Rattle.tmpl_values.specs.Compare.{equality, order}
 use Rattle.tmpl_funcs.specs.declared.fault.CallFault.{CallFault}
-use Rattle.tmpl_funcs.specs.declared.fault.CallFault.TheVariants.{WrongCount, NotComparable}
+use Rattle.tmpl_funcs.specs.declared.fault.CallFault.TheVariants.{NotComparable}
 
 -- whether the first value equals one of the others, compared in order up to the first equal one
 abbrev pub equal_to_one : Value → List Value → Option Bool
@@ -15,12 +15,6 @@ equal_to_one v (w ∷ ws) = option_and_then (λ equal. if equal then Some true e
 abbrev pub at_most : Value → Value → Option Bool
 at_most v w = option_and_then (λ below. if below then Some true else equality v w) (order v w)
 
--- whether the first argument equals one of the others; values that can't be compared are a fault
-abbrev pub eq_of : List Value → Result Value CallFault
-eq_of (v ∷ w ∷ ws) = ok_or (option_map boolean (equal_to_one v (w ∷ ws))) NotComparable
-eq_of _ = Err WrongCount
-
--- a comparison of two arguments
-abbrev pub of_two : (Value → Value → Option Bool) → List Value → Result Value CallFault
-of_two f (v ∷ w ∷ []) = ok_or (option_map boolean (f v w)) NotComparable
-of_two f _ = Err WrongCount
+-- the answer of a comparison; values that can't be compared are a fault
+abbrev pub compared : Option Bool → Result Value CallFault
+compared answer = ok_or (option_map boolean answer) NotComparable

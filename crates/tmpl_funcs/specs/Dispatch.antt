@@ -3,6 +3,7 @@ use Rattle.std.specs.Prelude.{◌≡◌, true, List, length, Result, Ok, Err}
 use Rattle.tmpl_values.specs.Value.{Value}
 use Rattle.tmpl_values.specs.View.{val_of}
 use Rattle.tmpl_values.specs.declared.value.Val.{Val}
+use Rattle.tmpl_funcs.specs.Arguments.{given_for}
 use Rattle.tmpl_funcs.specs.Func.{row_of, takes, makes_text}
 use Rattle.tmpl_funcs.specs.declared.func.Func.{Func}
 use Rattle.tmpl_funcs.specs.declared.fault.CallFault.{CallFault}
@@ -11,7 +12,7 @@ use Rattle.tmpl_funcs.specs.declared.fault.CallError.TheVariants as error
 
 -- what a function gives for arguments: the table's answer
 abbrev pub called : Func → List Value → Result Value CallFault
-called f = (row_of f).gives
+called f = given_for (row_of f).arguments
 
 -- the answer is the table's. Want of memory comes only from a function that makes a text, and not before the number of
 -- arguments was found right

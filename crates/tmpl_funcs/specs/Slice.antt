@@ -1,13 +1,14 @@
 -- A part of a string or a sequence ("Functions", at `slice`: "`slice x 1 2` is, in Go syntax,
 -- x[1:2], while `slice x` is x[:], `slice x 1` is x[1:]"). That no part goes past the length is
 -- this project's own rule.
-use Rattle.std.specs.Prelude.{ℕ, ℤ, pos, ◌&&◌, nat_le, List, [], ◌∷◌, Option, Some, None, option_map}
+use Rattle.std.specs.Prelude.{ℕ, ℤ, pos, ◌&&◌, nat_le, Option, Some, None, option_map}
 use Rattle.std.specs.Prelude.{Result, Ok, Err, if◌then◌else◌}
+use Rattle.std.specs.Option.{option_map_or}
 use Rattle.tmpl_values.specs.Value.{Value, mapping}
 use Rattle.tmpl_values.specs.Item.{part_of, size_of}
 use Rattle.tmpl_funcs.specs.Index.{number_of}
 use Rattle.tmpl_funcs.specs.declared.fault.CallFault.{CallFault}
-use Rattle.tmpl_funcs.specs.declared.fault.CallFault.TheVariants.{WrongCount, WrongKind, OutOfRange}
+use Rattle.tmpl_funcs.specs.declared.fault.CallFault.TheVariants.{WrongKind, OutOfRange}
 
 -- how long a string or a sequence is; nothing else has parts
 abbrev pub extent : Value → Option ℕ
@@ -20,9 +21,7 @@ part v (Some n) (Some (pos i)) (Some (pos j)) = if nat_le i j && nat_le j n then
 part v (Some n) (Some _) (Some _) = Err OutOfRange
 part v _ _ _ = Err WrongKind
 
--- the first argument between the others; without them it begins at 0 and ends at its end
-abbrev pub slice_of : List Value → Result Value CallFault
-slice_of (v ∷ []) = part v (extent v) (Some (pos 0)) (option_map pos (extent v))
-slice_of (v ∷ i ∷ []) = part v (extent v) (number_of i) (option_map pos (extent v))
-slice_of (v ∷ i ∷ j ∷ []) = part v (extent v) (number_of i) (number_of j)
-slice_of _ = Err WrongCount
+-- a value between two others; without them it begins at 0 and ends at its end
+abbrev pub sliced : Value → Option Value → Option Value → Result Value CallFault
+sliced v from to = part v (extent v) (option_map_or number_of from (Some (pos 0)))
+    (option_map_or number_of to (option_map pos (extent v)))

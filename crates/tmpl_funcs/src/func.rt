@@ -1,6 +1,7 @@
 //! The functions: one table.
 ghost use Rattle.std.specs.Prelude.{◌≡◌, ◌≢◌, IfSome, IfNone, nat_le, true};
 ghost use Rattle.std.specs.Option.{option_map_or};
+ghost use Rattle.tmpl_funcs.specs.Arguments.{counts};
 ghost use Rattle.tmpl_funcs.specs.Func.{makes_text, name_of, row_of, takes};
 ghost use Rattle.tmpl_funcs.specs.declared.func.Func.{Func};
 
@@ -96,8 +97,8 @@ impl Func {
     /// Its row of the table. What it gives for arguments stands in `call`.
     fn row(self) -> Row
         ensures name { result.name.now ≡ (row_of self).name }
-        ensures least { result.least ≡ (row_of self).least }
-        ensures most { result.most ≡ (row_of self).most }
+        ensures least { result.least ≡ (counts (row_of self).arguments).0 }
+        ensures most { result.most ≡ (counts (row_of self).arguments).1 }
         ensures makes_text { result.makes_text ≡ (row_of self).makes_text }
     {
         match self {

@@ -3,7 +3,7 @@ ghost use Rattle.tmpl_funcs.specs.Laws.{CountsFirst, HasOneReading, ReadsAll, Re
 
 /// The law that a call with a number of arguments that the function does not take is refused for that, whatever the
 /// arguments are.
-#[tactic(auto, using(crate::proofs::TableLemmas::counts))]
+#[tactic(auto, using(crate::proofs::TableLemmas::counts_first))]
 pub fn count_first()
     ensures { CountsFirst }
 {}

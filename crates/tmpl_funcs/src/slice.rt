@@ -4,7 +4,8 @@ ghost use Rattle.tmpl_values.specs.View.{is_made, val_of};
 ghost use Rattle.tmpl_funcs.specs.View.{values_of};
 ghost use Rattle.tmpl_funcs.specs.Answer.{IsBorrowed};
 ghost use Rattle.tmpl_funcs.specs.computed.Answer.{IsAnswer};
-ghost use Rattle.tmpl_funcs.specs.Slice.{extent, part, slice_of};
+ghost use Rattle.tmpl_funcs.specs.Arguments.{given_for, one_to_three};
+ghost use Rattle.tmpl_funcs.specs.Slice.{extent, part, sliced};
 
 use crate::fault::CallFault;
 use crate::index::number;
@@ -13,7 +14,8 @@ use tmpl_values::{Cell, Val};
 /// A value from the first bound to before the second, which default to its ends. It shares the
 /// bytes or items.
 pub(crate) fn slice<'a>(value: Val<'a>, bounds: &[Cell<'_>]) -> Result<Val<'a>, CallFault>
-    ensures table { IsAnswer (slice_of (val_of value.entry ∷ values_of bounds.now)) result }
+    ensures table { IsAnswer (given_for (one_to_three sliced)
+        (val_of value.entry ∷ values_of bounds.now)) result }
     ensures borrowed { is_made value.entry ≡ false → IsBorrowed result }
 {
     let size = extent(&value);
