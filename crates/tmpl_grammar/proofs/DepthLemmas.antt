@@ -7,7 +7,8 @@ use Rattle.tmpl_lex.specs.Piece.{Token}
 use Rattle.tmpl_grammar.specs.Tree as tree
 use Rattle.tmpl_grammar.specs.Tree.{Operand, Operands, Pipeline}
 use Rattle.tmpl_grammar.specs.Operand.{IsOperand}
-use Rattle.tmpl_grammar.specs.Pipeline.{IsBlank, IsChain, IsChained, SpellsOperand, SpellsMore, SpellsCommand, SpellsLater, SpellsPipeline}
+use Rattle.tmpl_grammar.specs.Pipeline.{IsBlank, SpellsPipeline}
+use Rattle.tmpl_grammar.proofs.PartsLemmas.{pipeline-parts, ChainParts, ChainedParts, OperandParts, MoreParts, CommandParts, LaterParts, PipelineParts}
 use Rattle.tmpl_grammar.specs.Depth.{depth_of_operand, depth_of_operands, depth_of_pipeline}
 use Rattle.tmpl_grammar.specs.computed.Depth.{depth_behind, deepest}
 
@@ -43,7 +44,7 @@ blank-nests : (ws ts : List Token) (d : ℕ) → IsBlank ws → Nests d ts → N
 blank-nests [] ts d b h = h
 blank-nests (w ∷ ws) ts d b h = of-kind w (ws ++ ts) d kind.Space b.0 (λ n. refl) (blank-nests ws ts d b.1 h)
 
-chain-nests : (names : List (List ℕ)) (ts : List Token) → IsChain names ts → Nests 0 ts
+chain-nests : (names : List (List ℕ)) (ts : List Token) → ChainParts names ts → Nests 0 ts
 chain-nests [] ts c = rw c none-nests
 chain-nests (n ∷ names) ts (t, us, is, field, begins, name, rest) =
     rw is (of-kind t us 0 kind.Field field (λ n. refl) (chain-nests names us rest))
@@ -51,7 +52,7 @@ chain-nests (n ∷ names) ts (t, us, is, field, begins, name, rest) =
 operand-apart : (t : Token) (o : Operand) → IsOperand t o → (n : ℕ) → depth_behind t.kind n ≡ n
 operand-apart t o is n = grind arith
 
-chained-nests : (o : Operand) (names : List (List ℕ)) (ts : List Token) → IsChained o names ts → Nests 0 ts
+chained-nests : (o : Operand) (names : List (List ℕ)) (ts : List Token) → ChainedParts o names ts → Nests 0 ts
 chained-nests o names ts (t, us, is, at, chain) = rw is (one-nests t us 0 (operand-apart t o at) (chain-nests names us chain))
 
 -- parentheses around tokens, and a chain behind them
@@ -64,32 +65,32 @@ group-nests l r ts us d left right h k n vs =
     omega (arith, whole, at_left, at_right, h (suc n) (r ∷ (us ++ vs)), k n vs, least n vs)
 
 mutual
-  operand-nests : (o : Operand) (ts : List Token) → SpellsOperand o ts → Nests (depth_of_operand o) ts
+  operand-nests : (o : Operand) (ts : List Token) → OperandParts o ts → Nests (depth_of_operand o) ts
   operand-nests (tree.fields (n ∷ ns)) ts s = chained-nests (tree.fields (n ∷ [])) ns ts s
   operand-nests (tree.variable name names) ts s = chained-nests (tree.variable name []) names ts s
   operand-nests (tree.group commands names) ts (l, inner, r, us, is, left, right, p, chain) =
       rw is (group-nests l r inner us (depth_of_pipeline commands) left right (pipeline-nests commands inner p) (chain-nests names us chain))
   operand-nests o ts s = chained-nests o [] ts s
 
-  more-nests : (os : Operands) (ts : List Token) → SpellsMore os ts → Nests (depth_of_operands os) ts
+  more-nests : (os : Operands) (ts : List Token) → MoreParts os ts → Nests (depth_of_operands os) ts
   more-nests tree.no_operand ts s = subst (Nests 0) (append-nil ts) (blank-nests ts [] 0 s none-nests)
   more-nests (tree.operand o os) ts (w, ws, a, b, is, blank, spells, rest) =
       rw is (blank-nests (w ∷ ws) (a ++ b) _ blank (both-nest a b _ _ (operand-nests o a spells) (more-nests os b rest)))
 
-  command-nests : (os : Operands) (ts : List Token) → SpellsCommand os ts → Nests (depth_of_operands os) ts
+  command-nests : (os : Operands) (ts : List Token) → CommandParts os ts → Nests (depth_of_operands os) ts
   command-nests tree.no_operand ts s = absurd s
   command-nests (tree.operand o os) ts (ws, a, b, is, blank, spells, rest) =
       rw is (blank-nests ws (a ++ b) _ blank (both-nest a b _ _ (operand-nests o a spells) (more-nests os b rest)))
 
-  later-nests : (cs : Pipeline) (ts : List Token) → SpellsLater cs ts → Nests (depth_of_pipeline cs) ts
+  later-nests : (cs : Pipeline) (ts : List Token) → LaterParts cs ts → Nests (depth_of_pipeline cs) ts
   later-nests tree.no_command ts s = rw s none-nests
   later-nests (tree.command os cs) ts (bar, a, b, is, bars, may, spells, rest) =
       rw is (of-kind bar (a ++ b) _ kind.Pipe bars (λ n. refl) (both-nest a b _ _ (command-nests os a spells) (later-nests cs b rest)))
 
-  pipeline-nests : (cs : Pipeline) (ts : List Token) → SpellsPipeline cs ts → Nests (depth_of_pipeline cs) ts
+  pipeline-nests : (cs : Pipeline) (ts : List Token) → PipelineParts cs ts → Nests (depth_of_pipeline cs) ts
   pipeline-nests tree.no_command ts s = absurd s
   pipeline-nests (tree.command os cs) ts (a, b, is, spells, rest) =
       rw is (both-nest a b _ _ (command-nests os a spells) (later-nests cs b rest))
 
 pub pipeline-depth : (cs : Pipeline) (ts : List Token) → SpellsPipeline cs ts → depth_of_pipeline cs ≡ deepest 0 ts
-pipeline-depth cs ts s = grind (arith, append-nil ts, pipeline-nests cs ts s 0 [])
+pipeline-depth cs ts s = let nests = pipeline-nests cs ts (pipeline-parts cs ts s) 0 [] in grind (arith, append-nil ts, nests)

@@ -15,6 +15,7 @@ pub mod LimitLemmas
 pub mod ListLemmas
 pub mod NeedLemmas
 pub mod OptionLemmas
+pub mod PartsLemmas
 pub mod PipelineLemmas
 pub mod PrintableActionLemmas
 pub mod PrintableConstantLemmas

@@ -3,7 +3,8 @@ use Rattle.std.proofs.Common.{arith, ◌≡◌, ◌∙◌, ◌≤◌, ℕ, suc, 
 use Rattle.tmpl_lex.specs.Piece.{Token}
 use Rattle.tmpl_grammar.specs.Tree as tree
 use Rattle.tmpl_grammar.specs.Tree.{Operand, Operands, Pipeline, Binding, unbound, declare_pair, Header}
-use Rattle.tmpl_grammar.specs.Pipeline.{IsChained, SpellsOperand, SpellsMore, SpellsCommand, SpellsLater, SpellsPipeline}
+use Rattle.tmpl_grammar.specs.Pipeline.{SpellsPipeline}
+use Rattle.tmpl_grammar.proofs.PartsLemmas.{pipeline-parts, ChainedParts, OperandParts, MoreParts, CommandParts, LaterParts, PipelineParts}
 use Rattle.tmpl_grammar.specs.Header.{is_range, Then, SpellsHeader}
 use Rattle.tmpl_grammar.specs.Action.{Action, pipeline_action, opening, else_branch, template_action, block_action, SpellsGiven, SpellsAction}
 use Rattle.tmpl_grammar.specs.Need.{called_or_alone, need_of_operand, need_of_arguments, need_of_command, need_of_commands}
@@ -29,40 +30,43 @@ command-least piped (tree.operand o os) = by-first (λ n. 1 ≤ n) o (max 1 (nee
 
 -- ---- each value has a token
 
-one-token : (o : Operand) (names : List (List ℕ)) (ts : List Token) → IsChained o names ts → 1 ≤ length ts
+one-token : (o : Operand) (names : List (List ℕ)) (ts : List Token) → ChainedParts o names ts → 1 ≤ length ts
 one-token o names ts h = grind arith
 
 joined : (ts us vs : List Token) → ts ≡ us ++ vs → length ts ≡ length us + length vs
 joined ts us vs e = ap length e ∙ length-append us vs
 
 mutual
-  operand-within : (o : Operand) (ts : List Token) → SpellsOperand o ts → need_of_operand o ≤ length ts
+  operand-within : (o : Operand) (ts : List Token) → OperandParts o ts → need_of_operand o ≤ length ts
   operand-within (tree.fields (n ∷ ns)) ts s = one-token (tree.fields (n ∷ [])) ns ts s
   operand-within (tree.variable name names) ts s = one-token (tree.variable name []) names ts s
   operand-within (tree.group commands names) ts s =
-      omega (arith, pipeline-within commands s.1 s.7, joined ts (s.0 ∷ s.1) (s.2 ∷ s.3) s.4)
+      omega (arith, parts-within commands s.1 s.7, joined ts (s.0 ∷ s.1) (s.2 ∷ s.3) s.4)
   operand-within o ts s = one-token o [] ts s
 
-  arguments-within : (held : ℕ) (os : Operands) (ts : List Token) → SpellsMore os ts → need_of_arguments held os ≤ held + length ts
+  arguments-within : (held : ℕ) (os : Operands) (ts : List Token) → MoreParts os ts → need_of_arguments held os ≤ held + length ts
   arguments-within held tree.no_operand ts s = omega arith
   arguments-within held (tree.operand o os) ts s =
       let here = operand-within o s.2 s.6 in
       omega (arith, here, arguments-within (suc held) os s.3 s.7, joined ts (s.0 ∷ s.1) (s.2 ++ s.3) s.4, length-append s.2 s.3)
 
-  command-within : (piped : ℕ) (os : Operands) (ts : List Token) → SpellsCommand os ts → need_of_command piped os ≤ piped + length ts
+  command-within : (piped : ℕ) (os : Operands) (ts : List Token) → CommandParts os ts → need_of_command piped os ≤ piped + length ts
   command-within piped tree.no_operand ts s = absurd s
   command-within piped (tree.operand o os) ts s =
       grind (arith, operand-least o, operand-within o s.1 s.5, arguments-within piped os s.2 s.6, joined ts s.0 (s.1 ++ s.2) s.3, length-append s.1 s.2)
 
-  later-within : (cs : Pipeline) (ts : List Token) → SpellsLater cs ts → need_of_commands 1 cs ≤ 1 + length ts
+  later-within : (cs : Pipeline) (ts : List Token) → LaterParts cs ts → need_of_commands 1 cs ≤ 1 + length ts
   later-within tree.no_command ts s = omega arith
   later-within (tree.command os cs) ts s =
       omega (arith, command-within 1 os s.1 s.6, later-within cs s.2 s.7, joined ts (s.0 ∷ s.1) s.2 s.3)
 
-  pipeline-within : (cs : Pipeline) (ts : List Token) → SpellsPipeline cs ts → need_of_commands 0 cs ≤ length ts
-  pipeline-within tree.no_command ts s = absurd s
-  pipeline-within (tree.command os cs) ts s =
+  parts-within : (cs : Pipeline) (ts : List Token) → PipelineParts cs ts → need_of_commands 0 cs ≤ length ts
+  parts-within tree.no_command ts s = absurd s
+  parts-within (tree.command os cs) ts s =
       omega (arith, command-least 0 os, command-within 0 os s.0 s.3, later-within cs s.1 s.4, joined ts s.0 s.1 s.2)
+
+pipeline-within : (cs : Pipeline) (ts : List Token) → SpellsPipeline cs ts → need_of_commands 0 cs ≤ length ts
+pipeline-within cs ts s = parts-within cs ts (pipeline-parts cs ts s)
 
 -- ---- and so has each variable
 

@@ -7,7 +7,8 @@ use Rattle.tmpl_grammar.specs.Tree.{Operand, Operands, Pipeline, Binding, unboun
 use Rattle.tmpl_grammar.specs.Action.{Action, pipeline_action, opening, else_branch, define_action, template_action, block_action, IsQuoted, SpellsAction}
 use Rattle.tmpl_grammar.specs.Header.{is_range, IsVariable, Then, SpellsHeader}
 use Rattle.tmpl_grammar.specs.Depth.{depth_of, depth_of_pipeline, most_deep}
-use Rattle.tmpl_grammar.specs.Pipeline.{IsChain, SpellsOperand, SpellsMore, SpellsCommand, SpellsLater, SpellsPipeline}
+use Rattle.tmpl_grammar.specs.Pipeline.{SpellsPipeline}
+use Rattle.tmpl_grammar.proofs.PartsLemmas.{pipeline-parts, ChainParts, OperandParts, MoreParts, CommandParts, LaterParts, PipelineParts}
 use Rattle.tmpl_grammar.specs.Operand as operand
 use Rattle.tmpl_grammar.specs.Operand.{IsOperand}
 use Rattle.tmpl_grammar.specs.Printable.{AreFieldNames, OfOperand, OfMore, OfCommand, OfLater, OfCommands, OfPipeline, OfVariable}
@@ -28,12 +29,12 @@ read-parts : (ts us : List Token) → AreRead (ts ++ us) → AreRead ts × AreRe
 read-parts [] us h = (tt, h)
 read-parts (t ∷ ts) us h = let more = read-parts ts us h.1 in ((h.0, more.0), more.1)
 
-of-chain : (ns : List (List ℕ)) (ts : List Token) → AreRead ts → IsChain ns ts → AreFieldNames ns
+of-chain : (ns : List (List ℕ)) (ts : List Token) → AreRead ts → ChainParts ns ts → AreFieldNames ns
 of-chain [] ts r s = tt
 of-chain (n ∷ ns) ts r s = let h = subst AreRead s.2 r in grind (arith, h.0, of-chain ns s.1 h.1 s.6)
 
 mutual
-  of-operand : (o : Operand) (ts : List Token) → AreRead ts → SpellsOperand o ts → OfOperand o
+  of-operand : (o : Operand) (ts : List Token) → AreRead ts → OperandParts o ts → OfOperand o
   of-operand (tree.fields []) ts r s = let h = subst AreRead s.2 r in of-token s.0 (tree.fields []) h.0 s.3
   of-operand (tree.fields (n ∷ ns)) ts r s =
       let h = subst AreRead s.2 r in
@@ -46,33 +47,36 @@ mutual
   of-operand (tree.group commands names) ts r s =
       let h = (subst AreRead s.4 r).1 in
       let parts = read-parts s.1 (s.2 ∷ s.3) h in
-      (of-commands commands s.1 parts.0 s.7, of-chain names s.3 parts.1.1 s.8)
+      (of-parts commands s.1 parts.0 s.7, of-chain names s.3 parts.1.1 s.8)
   of-operand _ ts r s = tt
 
-  of-more : (os : Operands) (ts : List Token) → AreRead ts → SpellsMore os ts → OfMore os
+  of-more : (os : Operands) (ts : List Token) → AreRead ts → MoreParts os ts → OfMore os
   of-more tree.no_operand ts r s = tt
   of-more (tree.operand o os) ts r s =
       let h = (subst AreRead s.4 r).1 in
       let parts = read-parts s.2 s.3 (read-parts s.1 (s.2 ++ s.3) h).1 in
       (of-operand o s.2 parts.0 s.6, of-more os s.3 parts.1 s.7)
 
-  of-command : (os : Operands) (ts : List Token) → AreRead ts → SpellsCommand os ts → OfCommand os
+  of-command : (os : Operands) (ts : List Token) → AreRead ts → CommandParts os ts → OfCommand os
   of-command tree.no_operand ts r s = s
   of-command (tree.operand o os) ts r s =
       let parts = read-parts s.1 s.2 (read-parts s.0 (s.1 ++ s.2) (subst AreRead s.3 r)).1 in
       (of-operand o s.1 parts.0 s.5, of-more os s.2 parts.1 s.6)
 
-  of-later : (cs : Pipeline) (ts : List Token) → AreRead ts → SpellsLater cs ts → OfLater cs
+  of-later : (cs : Pipeline) (ts : List Token) → AreRead ts → LaterParts cs ts → OfLater cs
   of-later tree.no_command ts r s = tt
   of-later (tree.command os cs) ts r s =
       let parts = read-parts s.1 s.2 (subst AreRead s.3 r).1 in
       (s.5, of-command os s.1 parts.0 s.6, of-later cs s.2 parts.1 s.7)
 
-  pub of-commands : (cs : Pipeline) (ts : List Token) → AreRead ts → SpellsPipeline cs ts → OfCommands cs
-  of-commands tree.no_command ts r s = s
-  of-commands (tree.command os cs) ts r s =
+  of-parts : (cs : Pipeline) (ts : List Token) → AreRead ts → PipelineParts cs ts → OfCommands cs
+  of-parts tree.no_command ts r s = s
+  of-parts (tree.command os cs) ts r s =
       let parts = read-parts s.0 s.1 (subst AreRead s.2 r) in
       (of-command os s.0 parts.0 s.3, of-later cs s.1 parts.1 s.4)
+
+pub of-commands : (cs : Pipeline) (ts : List Token) → AreRead ts → SpellsPipeline cs ts → OfCommands cs
+of-commands cs ts r s = of-parts cs ts r (pipeline-parts cs ts s)
 
 -- ---- actions
 

@@ -10,7 +10,8 @@ use Rattle.tmpl_grammar.specs.Tree as tree
 use Rattle.tmpl_grammar.specs.Tree.{Operand, Operands, Pipeline, Binding, unbound, declare, assign, Header, declare_pair}
 use Rattle.tmpl_grammar.specs.Action.{Action, pipeline_action, opening, else_branch, define_action, template_action, block_action, IsQuoted, SpellsGiven}
 use Rattle.tmpl_grammar.specs.Action.{SpellsAction}
-use Rattle.tmpl_grammar.specs.Pipeline.{IsBlank, IsChain, SpellsOperand, SpellsMore, SpellsCommand, SpellsLater, SpellsPipeline}
+use Rattle.tmpl_grammar.specs.Pipeline.{IsBlank, SpellsPipeline}
+use Rattle.tmpl_grammar.proofs.PartsLemmas.{pipeline-whole, ChainParts, OperandParts, MoreParts, CommandParts, LaterParts, PipelineParts}
 use Rattle.tmpl_grammar.specs.Header.{is_range, Then, IsVariable, IsSign, SpellsHeader}
 use Rattle.tmpl_grammar.specs.Constant.{IsConstant}
 use Rattle.tmpl_grammar.specs.Operand as operand
@@ -25,7 +26,7 @@ use Rattle.tmpl_grammar.proofs.HeaderLemmas.{Bound, binding-whole}
 
 -- ---- operands of one token
 
-spells-chain : (ns : List (List ℕ)) → AreFieldNames ns → IsChain ns (chain_tokens ns)
+spells-chain : (ns : List (List ℕ)) → AreFieldNames ns → ChainParts ns (chain_tokens ns)
 spells-chain [] h = refl
 spells-chain (n ∷ ns) h = (token kind.Field (46 ∷ n), chain_tokens ns, refl, refl, h.0.0, refl, spells-chain ns h.1)
 
@@ -39,23 +40,23 @@ quoted-constant bs h =
 
 -- what stands behind a command: perhaps white space, and bars and commands
 abbrev Follows : Pipeline → Type 0
-Follows cs = (ws : List Token) × (us : List Token) × (later_tokens cs ≡ ws ++ us) × IsBlank ws × SpellsLater cs us
+Follows cs = (ws : List Token) × (us : List Token) × (later_tokens cs ≡ ws ++ us) × IsBlank ws × LaterParts cs us
 
 -- commands, where white space may stand behind the first
-joined : (os : Operands) (cs : Pipeline) → ((ws : List Token) → IsBlank ws → SpellsCommand os (command_tokens os ++ ws)) → Follows cs
-    → SpellsPipeline (tree.command os cs) (command_tokens os ++ later_tokens cs)
+joined : (os : Operands) (cs : Pipeline) → ((ws : List Token) → IsBlank ws → CommandParts os (command_tokens os ++ ws)) → Follows cs
+    → PipelineParts (tree.command os cs) (command_tokens os ++ later_tokens cs)
 joined os cs spells (ws, us, is, blank, later) =
     (command_tokens os ++ ws, us, ap (λ us. command_tokens os ++ us) is ∙ sym (append_assoc (command_tokens os) ws us), spells ws blank, later)
 
 -- a pipeline behind one more space
-spaced : (cs : Pipeline) (ts : List Token) → SpellsPipeline cs ts → SpellsPipeline cs (space ∷ ts)
+spaced : (cs : Pipeline) (ts : List Token) → PipelineParts cs ts → PipelineParts cs (space ∷ ts)
 spaced tree.no_command ts s = s
 spaced (tree.command tree.no_operand cs) ts s = absurd s.3
 spaced (tree.command (tree.operand o os) cs) ts (a, b, is, (ws, c, d, at, blank, first, more), later) =
     (space ∷ a, b, ap (λ ts. space ∷ ts) is, (space ∷ ws, c, d, ap (λ us. space ∷ us) at, (refl, blank), first, more), later)
 
 mutual
-  spells-operand : (o : Operand) → OfOperand o → SpellsOperand o (operand_tokens o)
+  spells-operand : (o : Operand) → OfOperand o → OperandParts o (operand_tokens o)
   spells-operand tree.dot h = (token kind.Dot (46 ∷ []), [], refl, operand.dot, refl)
   spells-operand (tree.fields []) h = absurd h
   spells-operand (tree.fields (n ∷ ns)) h = (token kind.Field (46 ∷ n), chain_tokens ns, refl, operand.field refl h.0.0, spells-chain ns h.1)
@@ -69,13 +70,13 @@ mutual
       (_, pipeline_tokens commands, _, chain_tokens names, refl, refl, refl, spells-commands commands h.0, spells-chain names h.1)
 
   -- with white space behind it
-  spells-more : (os : Operands) (ws : List Token) → OfMore os → IsBlank ws → SpellsMore os (more_tokens os ++ ws)
+  spells-more : (os : Operands) (ws : List Token) → OfMore os → IsBlank ws → MoreParts os (more_tokens os ++ ws)
   spells-more tree.no_operand ws h w = w
   spells-more (tree.operand o os) ws h w =
       let whole = ap (λ ts. space ∷ ts) (append_assoc (operand_tokens o) (more_tokens os) ws) in
       (space, [], operand_tokens o, more_tokens os ++ ws, whole, (refl, tt), spells-operand o h.0, spells-more os ws h.1 w)
 
-  spells-command : (os : Operands) (ws : List Token) → OfCommand os → IsBlank ws → SpellsCommand os (command_tokens os ++ ws)
+  spells-command : (os : Operands) (ws : List Token) → OfCommand os → IsBlank ws → CommandParts os (command_tokens os ++ ws)
   spells-command tree.no_operand ws h w = h
   spells-command (tree.operand o os) ws h w =
       ([], operand_tokens o, more_tokens os ++ ws, append_assoc (operand_tokens o) (more_tokens os) ws, tt, spells-operand o h.0, spells-more os ws h.1 w)
@@ -88,7 +89,7 @@ mutual
       let s = spaced (tree.command os cs) _ (joined os cs (λ ws w. spells-command os ws h.1 w) (follows cs h.2)) in
       (space ∷ [], bar ∷ space ∷ pipeline_tokens (tree.command os cs), refl, (refl, tt), (bar, s.0, s.1, ap (λ ts. bar ∷ ts) s.2, refl, h.0, s.3, s.4))
 
-  spells-commands : (cs : Pipeline) → OfCommands cs → SpellsPipeline cs (pipeline_tokens cs)
+  spells-commands : (cs : Pipeline) → OfCommands cs → PipelineParts cs (pipeline_tokens cs)
   spells-commands tree.no_command h = h
   spells-commands (tree.command os cs) h = joined os cs (λ ws w. spells-command os ws h.0 w) (follows cs h.1)
 
@@ -101,7 +102,7 @@ led ws t us blank is rest = (ws, t, us, refl, blank, is, rest)
 
 -- a pipeline behind white space
 spaced-pipeline : (cs : Pipeline) → OfPipeline cs → SpellsPipeline cs (space ∷ pipeline_tokens cs)
-spaced-pipeline cs h = spaced cs (pipeline_tokens cs) (spells-commands cs h.0)
+spaced-pipeline cs h = pipeline-whole cs (space ∷ pipeline_tokens cs) (spaced cs (pipeline_tokens cs) (spells-commands cs h.0))
 
 -- a variable, and a sign and a pipeline behind it
 signed : (name : List ℕ) (p : Pipeline) (sign : Token) → 0 < length name → OfPipeline p
@@ -132,7 +133,7 @@ named h r = led (space ∷ []) _ _ (refl, tt) (quoted-constant _ h) r
 
 pub spells-tokens : (a : Action) → OfAction a → SpellsAction a (action_tokens a)
 spells-tokens (pipeline_action h) of =
-    binding-whole false h.binding _ _ of.0 (spells-bound h.binding h.pipeline of.1 of.2 [] tt (spells-commands h.pipeline (let o = of.2 in o.0)))
+    binding-whole false h.binding _ _ of.0 (spells-bound h.binding h.pipeline of.1 of.2 [] tt (pipeline-whole h.pipeline (pipeline_tokens h.pipeline) (spells-commands h.pipeline (let o = of.2 in o.0))))
 spells-tokens (opening c h) of = led [] _ _ tt (refl, refl) (spells-header (is_range c) h of)
 spells-tokens (else_branch br h) of = led [] _ _ tt (refl, refl) (led (space ∷ []) _ _ (refl, tt) (refl, refl) (spells-header false h of))
 spells-tokens (define_action name) of = led [] _ _ tt (refl, refl) (named of tt)

@@ -19,7 +19,8 @@ use Rattle.tmpl_grammar.specs.computed.Operand.{operand_at}
 use Rattle.tmpl_grammar.specs.computed.Parser as parser
 use Rattle.tmpl_grammar.specs.computed.Parser.{Parser, Partial, settled, more_commands, may_stand, kept_if, linked, linked_by, step, step_by}
 use Rattle.tmpl_grammar.specs.computed.Parser.{steps, finished, finished_with, commands_after}
-use Rattle.tmpl_grammar.specs.Pipeline.{IsBlank, IsChain, IsChained, may_be_later, SpellsOperand, SpellsMore, SpellsCommand, SpellsLater, SpellsPipeline}
+use Rattle.tmpl_grammar.specs.Pipeline.{IsBlank, may_be_later, SpellsPipeline}
+use Rattle.tmpl_grammar.proofs.PartsLemmas.{is-one, pipeline-whole, ChainParts, ChainedParts, OperandParts, MoreParts, CommandParts, LaterParts, PipelineParts}
 use Rattle.tmpl_grammar.proofs.IsOperandLemmas.{operand-admitted}
 use Rattle.tmpl_grammar.proofs.SpelledLemmas.{parser_at, operand_list, command_list, operands-back, commands-back, more-whole, later-is, stands-anywhere}
 
@@ -28,7 +29,7 @@ use Rattle.tmpl_grammar.proofs.SpelledLemmas.{parser_at, operand_list, command_l
 -- perhaps white space, and perhaps more operands
 abbrev SpellsApart : Operands → List Token → Type 0
 SpellsApart tree.no_operand ts = IsBlank ts
-SpellsApart (tree.operand o os) ts = SpellsCommand (tree.operand o os) ts
+SpellsApart (tree.operand o os) ts = CommandParts (tree.operand o os) ts
 
 -- these operands may stand behind those of the command, of which there is one at least then
 abbrev MayFollow : List Operands → List Operand → Operands → Type 0
@@ -39,20 +40,20 @@ MayFollow cs (o ∷ os) tree.no_operand = Unit {0}
 -- with any such operands and any later commands behind them, the tokens are a pipeline
 abbrev Begins : List Operands → List Operand → List Token → Type 0
 Begins cs os ts =
-    (ms : Operands) (later : Pipeline) (us vs : List Token) → SpellsApart ms us → MayFollow cs os ms → SpellsLater later vs
-    → SpellsPipeline (commands_from (cs ++ operands_from (os ++ operand_list ms) ∷ command_list later)) (ts ++ (us ++ vs))
+    (ms : Operands) (later : Pipeline) (us vs : List Token) → SpellsApart ms us → MayFollow cs os ms → LaterParts later vs
+    → PipelineParts (commands_from (cs ++ operands_from (os ++ operand_list ms) ∷ command_list later)) (ts ++ (us ++ vs))
 
 -- so they are, and perhaps an operand that has nothing behind it
 abbrev Reads : List Operands → List Operand → Option Operand → List Token → Type 0
 Reads cs os None ts = Begins cs os ts
 Reads cs os (Some o) ts =
-    (a : List Token) × (b : List Token) × (ts ≡ a ++ b) × Begins cs os a × SpellsOperand o b × (may_stand cs os o ≡ true)
+    (a : List Token) × (b : List Token) × (ts ≡ a ++ b) × Begins cs os a × OperandParts o b × (may_stand cs os o ≡ true)
 
 -- with any later commands behind them, the tokens are a pipeline
 abbrev Ends : List Operands → List Token → Type 0
-Ends cs ts = (later : Pipeline) (vs : List Token) → SpellsLater later vs → SpellsPipeline (commands_from (cs ++ command_list later)) (ts ++ vs)
+Ends cs ts = (later : Pipeline) (vs : List Token) → LaterParts later vs → PipelineParts (commands_from (cs ++ command_list later)) (ts ++ vs)
 
-whole-command : (cs : List Operands) (ms : Operands) (us : List Token) → SpellsApart ms us → MayFollow cs [] ms → SpellsCommand ms us
+whole-command : (cs : List Operands) (ms : Operands) (us : List Token) → SpellsApart ms us → MayFollow cs [] ms → CommandParts ms us
 whole-command cs ms us h k = grind arith
 
 begins-start : Begins [] [] []
@@ -67,12 +68,12 @@ module _ (t : Token) (is : t.kind ≡ kind.Space) (cs : List Operands) (os : Lis
       spaced tree.no_operand s = (is, s)
       spaced (tree.operand p ps) (ws, a, b, at, blank, spells, rest) = (t ∷ ws, a, b, ap (λ us. t ∷ us) at, (is, blank), spells, rest)
 
-  begins-operand : (o : Operand) (a b : List Token) → Begins cs os a → SpellsOperand o b → may_stand cs os o ≡ true
+  begins-operand : (o : Operand) (a b : List Token) → Begins cs os a → OperandParts o b → may_stand cs os o ≡ true
       → Begins cs (os ++ o ∷ []) ((a ++ b) ++ t ∷ [])
   begins-operand o a b f spells stands ms later us vs s may l =
       simp append_assoc (simp append_assoc at (f (tree.operand o ms) later (b ++ t ∷ us) vs ([], b, t ∷ us, refl, tt, spells, apart ms s) stands l))
     where
-      apart : (ms : Operands) → SpellsApart ms us → SpellsMore ms (t ∷ us)
+      apart : (ms : Operands) → SpellsApart ms us → MoreParts ms (t ∷ us)
       apart tree.no_operand s = (is, s)
       apart (tree.operand p ps) (ws, a, b, at, blank, spells, rest) = (t, ws, a, b, ap (λ us. t ∷ us) at, (is, blank), spells, rest)
 
@@ -103,7 +104,7 @@ completes cs os (Some o) = rw (more-whole cs os o) (record {
   later = begins-later cs (operands_from (os ++ o ∷ []));
 })
 
-ends-whole : (cs : List Operands) (ts : List Token) → Ends cs ts → SpellsPipeline (commands_from cs) ts
+ends-whole : (cs : List Operands) (ts : List Token) → Ends cs ts → PipelineParts (commands_from cs) ts
 ends-whole cs ts f = simp append-nil at (f tree.no_command [] refl)
 
 begins-barred : (t : Token) (cs : List Operands) (ts : List Token) → t.kind ≡ kind.Pipe → ((ms : Operands) → MayFollow cs [] ms → may_be_later ms ≡ true)
@@ -114,27 +115,18 @@ begins-barred t cs ts is later_may f ms later us vs s may l =
 
 -- ---- operands
 
--- a token that is an operand, of a chain of at least one field
-abbrev IsOne : Operand → Type 0
-IsOne (tree.fields []) = ⊥
-IsOne _ = Unit {0}
-
-is-one : (t : Token) (o : Operand) → IsOperand t o → IsOne o × ((ts : List Token) → IsChained o [] ts → SpellsOperand o ts)
-is-one _ _ (operand.a_constant (constant.number is)) = (tt, λ ts c. c)
-is-one _ _ _ = (tt, λ ts c. c)
-
 module _ (t : Token) (is : t.kind ≡ kind.Field) (begins : begins_name (name_in t) ≡ true) where
-  chain-more : (ns : List (List ℕ)) (ts : List Token) → IsChain ns ts → IsChain (ns ++ name_in t ∷ []) (ts ++ t ∷ [])
+  chain-more : (ns : List (List ℕ)) (ts : List Token) → ChainParts ns ts → ChainParts (ns ++ name_in t ∷ []) (ts ++ t ∷ [])
   chain-more [] ts c = (t, [], ap (λ us. us ++ t ∷ []) c, is, begins, refl, refl)
   chain-more (n ∷ ns) ts (s, us, at, field, first, name, rest) =
       (s, us ++ t ∷ [], ap (λ xs. xs ++ t ∷ []) at, field, first, name, chain-more ns us rest)
 
-  chained-more : (o : Operand) (ns : List (List ℕ)) (ts : List Token) → IsChained o ns ts → IsChained o (ns ++ name_in t ∷ []) (ts ++ t ∷ [])
+  chained-more : (o : Operand) (ns : List (List ℕ)) (ts : List Token) → ChainedParts o ns ts → ChainedParts o (ns ++ name_in t ∷ []) (ts ++ t ∷ [])
   chained-more o ns ts (s, us, at, one, rest) = (s, us ++ t ∷ [], ap (λ xs. xs ++ t ∷ []) at, one, chain-more ns us rest)
 
   -- with one field more it may stand anywhere
-  linked-spells : (o : Operand) (ts : List Token) → SpellsOperand o ts
-      → IfSome (linked o (name_in t)) (λ p. SpellsOperand p (ts ++ t ∷ []) × (begins_later p ≡ true))
+  linked-spells : (o : Operand) (ts : List Token) → OperandParts o ts
+      → IfSome (linked o (name_in t)) (λ p. OperandParts p (ts ++ t ∷ []) × (begins_later p ≡ true))
   linked-spells (tree.fields []) ts s = absurd (is-one s.0 (tree.fields []) s.3).0
   linked-spells (tree.fields (n ∷ ns)) ts s = (chained-more (tree.fields (n ∷ [])) ns ts s, refl)
   linked-spells (tree.variable x ns) ts s = (chained-more (tree.variable x []) ns ts s, refl)
@@ -190,7 +182,7 @@ module _ (t : Token) (ls : List Partial) (cs : List Operands) (os : List Operand
   placed-read (Some p) o is r = tt
 
   link-read : (o : Operand) → HasRead ls cs os (Some o) ts
-      → (p : Option Operand) → ((us : List Token) → SpellsOperand o us → IfSome p (λ p. SpellsOperand p (us ++ t ∷ []) × (begins_later p ≡ true)))
+      → (p : Option Operand) → ((us : List Token) → OperandParts o us → IfSome p (λ p. OperandParts p (us ++ t ∷ []) × (begins_later p ≡ true)))
       → Read (option_map (parser.ending_with (parser_at ls cs os (Some o))) p) (ts ++ t ∷ [])
   link-read o r None linked = tt
   link-read o r (Some p) linked = within ls cs cs os os (Some o) (Some p) (t ∷ []) (λ us r.
@@ -212,7 +204,7 @@ close-read t [] cs os ts last is o d r = tt
 close-read t (l ∷ ls) cs os ts last is None d r = tt
 close-read t (l ∷ ls) cs os ts last is (Some done) d (a, u, b, at, left, outer, r) =
     let group : Operand = tree.group (commands_from done) [] in
-    let spells : SpellsOperand group (u ∷ b ++ t ∷ []) = (u, b, t, [], refl, left, is, ends-whole done b (d.ends b r), refl) in
+    let spells : OperandParts group (u ∷ b ++ t ∷ []) = (u, b, t, [], refl, left, is, ends-whole done b (d.ends b r), refl) in
     rw (at, append_assoc a (u ∷ b) (t ∷ []))
     (within ls l.commands l.commands l.operands l.operands None (Some group) (u ∷ b ++ t ∷ [])
     (λ us f. (us, u ∷ b ++ t ∷ [], refl, f, spells, stands-anywhere l.commands l.operands group refl)) a outer)
@@ -229,7 +221,7 @@ step-read t _ is ls cs os last ts r = placed-read t ls cs os ts last (operand_at
 -- ---- all of them
 
 finished-read : (ls : List Partial) (cs : List Operands) (os : List Operand) (last : Option Operand) (ts : List Token)
-    → HasRead ls cs os last ts → IfSome (finished_with ls (more_commands cs (settled last os))) (λ all. SpellsPipeline (commands_from all) ts)
+    → HasRead ls cs os last ts → IfSome (finished_with ls (more_commands cs (settled last os))) (λ all. PipelineParts (commands_from all) ts)
 finished-read [] cs os last ts r =
     IfSome_then (more_commands cs (settled last os)) (completes cs os last) (λ all c. ends-whole all ts (c.ends ts r))
 finished-read (l ∷ ls) cs os last ts r = tt
@@ -240,7 +232,7 @@ one-read None t ts r = tt
 one-read (Some h) t ts r = step-read t t.kind refl h.outer h.inner.commands h.inner.operands h.last ts r
 
 steps-read : (o : Option Parser) (ts rest : List Token) → Read o ts
-    → IfSome (option_and_then finished (steps o rest)) (λ all. SpellsPipeline (commands_from all) (ts ++ rest))
+    → IfSome (option_and_then finished (steps o rest)) (λ all. PipelineParts (commands_from all) (ts ++ rest))
 unfolding finished
 steps-read None ts [] r = tt
 steps-read (Some h) ts [] r = rw (append-nil ts) (finished-read h.outer h.inner.commands h.inner.operands h.last ts r)
@@ -249,4 +241,4 @@ steps-read o ts (t ∷ rest) r =
 
 -- what is read is spelled
 pub read-spells : (ts : List Token) → IfSome (commands_after parser.start ts) (λ all. SpellsPipeline (commands_from all) ts)
-read-spells ts = steps-read (Some parser.start) [] ts begins-start
+read-spells ts = IfSome_then (commands_after parser.start ts) (steps-read (Some parser.start) [] ts begins-start) (λ all s. pipeline-whole (commands_from all) ts s)

@@ -12,7 +12,8 @@ use Rattle.tmpl_grammar.specs.computed.Operand.{begins_later}
 use Rattle.tmpl_grammar.specs.computed.Operand.{operand_at}
 use Rattle.tmpl_grammar.specs.computed.Parser as parser
 use Rattle.tmpl_grammar.specs.computed.Parser.{Parser, Partial, settled, more_commands, closed, may_stand, kept_if, linked, linked_by, step, step_by, steps}
-use Rattle.tmpl_grammar.specs.Pipeline.{IsBlank, IsChain, IsChained, may_be_later, SpellsOperand, SpellsMore, SpellsCommand, SpellsLater, SpellsPipeline}
+use Rattle.tmpl_grammar.specs.Pipeline.{IsBlank, may_be_later, SpellsPipeline}
+use Rattle.tmpl_grammar.proofs.PartsLemmas.{pipeline-parts, ChainParts, ChainedParts, OperandParts, MoreParts, CommandParts, LaterParts, PipelineParts}
 use Rattle.tmpl_grammar.proofs.IsOperandLemmas.{computes-operand}
 
 abbrev pub parser_at : List Partial → List Operands → List Operand → Option Operand → Parser
@@ -76,18 +77,18 @@ link-step : (f : List (List ℕ) → Operand) → Chains f
 link-step f can ls cs os ns t is begins = simp (step-at kind.Field t (parser_at ls cs os (Some (f ns))) is, begins, can ns (name_in t))
 
 chain-steps : (f : List (List ℕ) → Operand) → Chains f
-    → (ls : List Partial) (cs : List Operands) (os : List Operand) (names ns : List (List ℕ)) (ts : List Token) → IsChain names ts
+    → (ls : List Partial) (cs : List Operands) (os : List Operand) (names ns : List (List ℕ)) (ts : List Token) → ChainParts names ts
     → steps (Some (parser_at ls cs os (Some (f ns)))) ts ≡ Some (parser_at ls cs os (Some (f (ns ++ names))))
 chain-steps f can ls cs os [] ns ts c = simp (c, append-nil)
 chain-steps f can ls cs os (n ∷ names) ns ts (t, us, is, field, begins, name, rest) =
     simp (is, link-step f can ls cs os ns t field begins, chain-steps f can ls cs os names (ns ++ name_in t ∷ []) us rest, append_assoc) (simp name)
 
-one-steps : (o : Operand) (ls : List Partial) (cs : List Operands) (os : List Operand) (ts : List Token) → IsChained o [] ts
+one-steps : (o : Operand) (ls : List Partial) (cs : List Operands) (os : List Operand) (ts : List Token) → ChainedParts o [] ts
     → may_stand cs os o ≡ true → steps (Some (parser_at ls cs os None)) ts ≡ Some (parser_at ls cs os (Some o))
 one-steps o ls cs os ts (t, us, is, at, rest) may = simp (is, rest, placed-step t o ls cs os at may)
 
 chained-steps : (f : List (List ℕ) → Operand) → Chains f
-    → (ns names : List (List ℕ)) (ls : List Partial) (cs : List Operands) (os : List Operand) (ts : List Token) → IsChained (f ns) names ts
+    → (ns names : List (List ℕ)) (ls : List Partial) (cs : List Operands) (os : List Operand) (ts : List Token) → ChainedParts (f ns) names ts
     → may_stand cs os (f ns) ≡ true → steps (Some (parser_at ls cs os None)) ts ≡ Some (parser_at ls cs os (Some (f (ns ++ names))))
 chained-steps f can ns names ls cs os ts (t, us, is, at, rest) may =
     simp (is, placed-step t (f ns) ls cs os at may, chain-steps f can ls cs os names ns us rest)
@@ -137,7 +138,7 @@ close-step : (h : Parser) (l : Partial) (ls : List Partial) (cs : List Operands)
 close-step h l ls cs t is outer whole = simp (step-at kind.RightParenthesis t h is, whole, outer)
 
 mutual
-  operand-read : (o : Operand) (ts : List Token) → SpellsOperand o ts → (ls : List Partial) (cs : List Operands) (os : List Operand)
+  operand-read : (o : Operand) (ts : List Token) → OperandParts o ts → (ls : List Partial) (cs : List Operands) (os : List Operand)
       → may_stand cs os o ≡ true → steps (Some (parser_at ls cs os None)) ts ≡ Some (parser_at ls cs os (Some o))
   operand-read (tree.fields (n ∷ ns)) ts s ls cs os may =
       chained-steps tree.fields (λ ns n. refl) (n ∷ []) ns ls cs os ts s (stands-anywhere cs os (tree.fields (n ∷ [])) refl)
@@ -145,7 +146,7 @@ mutual
       chained-steps (tree.variable x) (λ ns n. refl) [] names ls cs os ts s (stands-anywhere cs os (tree.variable x []) refl)
   operand-read (tree.group commands names) ts (l, inner, r, us, is, left, right, p, chain) ls cs os may =
       let partial : Partial = record { commands = cs; operands = os } in
-      let e = pipeline-read commands inner p (partial ∷ ls) in
+      let e = parts-read commands inner p (partial ∷ ls) in
       simp (
         is,
         step-at kind.LeftParenthesis l (parser_at ls cs os None) left,
@@ -157,7 +158,7 @@ mutual
       )
   operand-read o ts s ls cs os may = one-steps o ls cs os ts s may
 
-  more-read : (ms : Operands) (ts : List Token) → SpellsMore ms ts
+  more-read : (ms : Operands) (ts : List Token) → MoreParts ms ts
       → (ls : List Partial) (cs : List Operands) (os : List Operand) (o : Operand)
       → Ended (parser_at ls cs os (Some o)) ts ls (cs ++ operands_from (os ++ o ∷ operand_list ms) ∷ [])
   more-read tree.no_operand ts s ls cs os o = blank-ended ls cs os o ts s
@@ -166,7 +167,7 @@ mutual
       (ended-along a (operand-read p a spells ls cs (os ++ o ∷ []) (stands-behind cs os o p)) (more-read ps b rest ls cs (os ++ o ∷ []) p)))
 
   -- .. where its first operand may stand
-  command-read : (os : Operands) (ts : List Token) → SpellsCommand os ts → (ls : List Partial) (cs : List Operands)
+  command-read : (os : Operands) (ts : List Token) → CommandParts os ts → (ls : List Partial) (cs : List Operands)
       → ((o : Operand) (ms : Operands) → os ≡ tree.operand o ms → may_stand cs [] o ≡ true) → Ended (parser_at ls cs [] None) ts ls (cs ++ os ∷ [])
   command-read tree.no_operand ts s ls cs may = absurd s
   command-read (tree.operand o ms) ts (ws, a, b, is, blank, spells, rest) ls cs may =
@@ -174,7 +175,7 @@ mutual
       rw (is, sym (operands-back ms)) (ended-along ws (blank-steps ls cs [] ws blank)
       (ended-along a (operand-read o a spells ls cs [] first) (more-read ms b rest ls cs [] o)))
 
-  later-read : (later : Pipeline) (ts : List Token) → SpellsLater later ts → (h : Parser) (ls : List Partial) (cs : List Operands)
+  later-read : (later : Pipeline) (ts : List Token) → LaterParts later ts → (h : Parser) (ls : List Partial) (cs : List Operands)
       → h.outer ≡ ls → closed h ≡ Some cs → Ended h ts ls (cs ++ command_list later)
   later-read tree.no_command ts s h ls cs outer whole =
       rw (s, append-nil cs) (record { end = h; to = refl; outer_is = outer; closed_is = whole })
@@ -183,8 +184,11 @@ mutual
       rw (is, sym (append_assoc cs (os ∷ []) (command_list later))) (ended-along (bar ∷ []) (bar-step h ls cs bar bars outer whole)
       (ended-along a r.to (later-read later b rest r.end ls _ r.outer_is r.closed_is)))
 
-  pub pipeline-read : (cs : Pipeline) (ts : List Token) → SpellsPipeline cs ts → (ls : List Partial) → Ended (parser_at ls [] [] None) ts ls (command_list cs)
-  pipeline-read tree.no_command ts s ls = absurd s
-  pipeline-read (tree.command os later) ts (a, b, is, spells, rest) ls =
+  parts-read : (cs : Pipeline) (ts : List Token) → PipelineParts cs ts → (ls : List Partial) → Ended (parser_at ls [] [] None) ts ls (command_list cs)
+  parts-read tree.no_command ts s ls = absurd s
+  parts-read (tree.command os later) ts (a, b, is, spells, rest) ls =
       let r = command-read os a spells ls [] (λ o ms e. refl) in
       rw is (ended-along a r.to (later-read later b rest r.end ls _ r.outer_is r.closed_is))
+
+pub pipeline-read : (cs : Pipeline) (ts : List Token) → SpellsPipeline cs ts → (ls : List Partial) → Ended (parser_at ls [] [] None) ts ls (command_list cs)
+pipeline-read cs ts s ls = parts-read cs ts (pipeline-parts cs ts s) ls

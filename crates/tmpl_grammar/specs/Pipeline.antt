@@ -14,15 +14,10 @@ IsBlank [] = Unit {0}
 IsBlank (t ∷ ts) = (t.kind ≡ kind.Space) × IsBlank ts
 
 -- fields of these names, with nothing between them
-abbrev pub IsChain : List (List ℕ) → List Token → Type 0
-IsChain [] ts = ts ≡ []
-IsChain (n ∷ ns) ts =
-    (t : Token) × (us : List Token) × (ts ≡ t ∷ us) × (t.kind ≡ kind.Field) × (begins_name (name_in t) ≡ true)
-    × (name_in t ≡ n) × IsChain ns us
-
--- a token that is an operand of its own, and a chain
-abbrev pub IsChained : Operand → List (List ℕ) → List Token → Type 0
-IsChained o names ts = (t : Token) × (us : List Token) × (ts ≡ t ∷ us) × IsOperand t o × IsChain names us
+pub data IsChain : List (List ℕ) → List Token → Type 0 where
+  no_field : IsChain [] []
+  field : {t : Token} {names : List (List ℕ)} {ts : List Token} → t.kind ≡ kind.Field
+      → begins_name (name_in t) ≡ true → IsChain names ts → IsChain (name_in t ∷ names) (t ∷ ts)
 
 -- a later command begins with no constant, `nil` or dot
 abbrev pub may_be_later : Operands → Bool
@@ -32,40 +27,37 @@ may_be_later (tree.operand (tree.function f) os) = true
 may_be_later (tree.operand (tree.group commands names) os) = true
 may_be_later os = false
 
-abbrev mutual
-  -- an operand
-  pub SpellsOperand : Operand → List Token → Type 0
-  SpellsOperand (tree.fields (n ∷ ns)) ts = IsChained (tree.fields (n ∷ [])) ns ts
-  SpellsOperand (tree.variable name names) ts = IsChained (tree.variable name []) names ts
-  SpellsOperand (tree.group commands names) ts =
-      (l : Token) × (inner : List Token) × (r : Token) × (us : List Token) × (ts ≡ l ∷ inner ++ r ∷ us)
-      × (l.kind ≡ kind.LeftParenthesis) × (r.kind ≡ kind.RightParenthesis) × SpellsPipeline commands inner
-      × IsChain names us
-  SpellsOperand o ts = IsChained o [] ts
+mutual
+  -- an operand: one token; a field or a variable and a chain; or a pipeline in parentheses and a chain
+  pub data SpellsOperand : Operand → List Token → Type 0 where
+    single : {t : Token} {o : Operand} → IsOperand t o → SpellsOperand o (t ∷ [])
+    of_fields : {t : Token} {n : List ℕ} {names : List (List ℕ)} {ts : List Token}
+        → IsOperand t (tree.fields (n ∷ [])) → IsChain names ts → SpellsOperand (tree.fields (n ∷ names)) (t ∷ ts)
+    of_variable : {t : Token} {name : List ℕ} {names : List (List ℕ)} {ts : List Token}
+        → IsOperand t (tree.variable name []) → IsChain names ts → SpellsOperand (tree.variable name names) (t ∷ ts)
+    of_group : {l : Token} (r : Token) {commands : Pipeline} {names : List (List ℕ)} {inner ts : List Token}
+        → l.kind ≡ kind.LeftParenthesis → SpellsPipeline commands inner → r.kind ≡ kind.RightParenthesis
+        → IsChain names ts → SpellsOperand (tree.group commands names) (l ∷ inner ++ r ∷ ts)
 
   -- operands, each behind white space, and perhaps white space
-  pub SpellsMore : Operands → List Token → Type 0
-  SpellsMore tree.no_operand ts = IsBlank ts
-  SpellsMore (tree.operand o os) ts =
-      (w : Token) × (ws : List Token) × (a : List Token) × (b : List Token) × (ts ≡ w ∷ ws ++ (a ++ b))
-      × IsBlank (w ∷ ws) × SpellsOperand o a × SpellsMore os b
+  pub data SpellsMore : Operands → List Token → Type 0 where
+    no_operand : {ws : List Token} → IsBlank ws → SpellsMore tree.no_operand ws
+    next_operand : {w : Token} (ws : List Token) {ts us : List Token} {o : Operand} {os : Operands} → IsBlank (w ∷ ws)
+        → SpellsOperand o ts → SpellsMore os us → SpellsMore (tree.operand o os) (w ∷ ws ++ (ts ++ us))
 
   -- one or more operands
-  pub SpellsCommand : Operands → List Token → Type 0
-  SpellsCommand tree.no_operand ts = ⊥
-  SpellsCommand (tree.operand o os) ts =
-      (ws : List Token) × (a : List Token) × (b : List Token) × (ts ≡ ws ++ (a ++ b)) × IsBlank ws × SpellsOperand o a
-      × SpellsMore os b
+  pub data SpellsCommand : Operands → List Token → Type 0 where
+    operands : (ws : List Token) {ts us : List Token} {o : Operand} {os : Operands} → IsBlank ws → SpellsOperand o ts
+        → SpellsMore os us → SpellsCommand (tree.operand o os) (ws ++ (ts ++ us))
 
   -- commands, each behind a bar
-  pub SpellsLater : Pipeline → List Token → Type 0
-  SpellsLater tree.no_command ts = ts ≡ []
-  SpellsLater (tree.command os cs) ts =
-      (bar : Token) × (a : List Token) × (b : List Token) × (ts ≡ bar ∷ a ++ b) × (bar.kind ≡ kind.Pipe)
-      × (may_be_later os ≡ true) × SpellsCommand os a × SpellsLater cs b
+  pub data SpellsLater : Pipeline → List Token → Type 0 where
+    no_command : SpellsLater tree.no_command []
+    next_command : {bar : Token} {ts us : List Token} {os : Operands} {cs : Pipeline} → bar.kind ≡ kind.Pipe
+        → may_be_later os ≡ true → SpellsCommand os ts → SpellsLater cs us
+        → SpellsLater (tree.command os cs) (bar ∷ ts ++ us)
 
   -- one or more commands
-  pub SpellsPipeline : Pipeline → List Token → Type 0
-  SpellsPipeline tree.no_command ts = ⊥
-  SpellsPipeline (tree.command os cs) ts =
-      (a : List Token) × (b : List Token) × (ts ≡ a ++ b) × SpellsCommand os a × SpellsLater cs b
+  pub data SpellsPipeline : Pipeline → List Token → Type 0 where
+    commands : {ts us : List Token} {os : Operands} {cs : Pipeline} → SpellsCommand os ts → SpellsLater cs us
+        → SpellsPipeline (tree.command os cs) (ts ++ us)
