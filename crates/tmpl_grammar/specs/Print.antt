@@ -22,21 +22,21 @@ use Rattle.tmpl_grammar.specs.Keyword.{control_spelling}
 -- ---- the tokens of a pipeline
 
 abbrev pub space : Token
-space = token kind.Space (32 ∷ [])
+space = token kind.Space (codes " ")
 
 abbrev pub word : List ℕ → Token
 word bs = token kind.Word bs
 
 abbrev pub variable_token : List ℕ → Token
-variable_token name = token kind.Variable (36 ∷ name)
+variable_token name = token kind.Variable (codes "$" ++ name)
 
 abbrev pub chain_tokens : List (List ℕ) → List Token
-chain_tokens names = map (λ n. token kind.Field (46 ∷ n)) names
+chain_tokens names = map (λ n. token kind.Field (codes "." ++ n)) names
 
 -- operands parted by one space, commands by space, bar, space; whole constants in decimal, texts quoted
 abbrev mutual
   pub operand_tokens : Operand → List Token
-  operand_tokens tree.dot = token kind.Dot (46 ∷ []) ∷ []
+  operand_tokens tree.dot = token kind.Dot (codes ".") ∷ []
   operand_tokens (tree.fields names) = chain_tokens names
   operand_tokens (tree.variable name names) = variable_token name ∷ chain_tokens names
   operand_tokens (tree.bool_constant b) = word (truth_text b) ∷ []
@@ -45,8 +45,8 @@ abbrev mutual
   operand_tokens tree.nil = word (codes "nil") ∷ []
   operand_tokens (tree.function f) = word (name_of f) ∷ []
   operand_tokens (tree.group commands names) =
-      token kind.LeftParenthesis (40 ∷ [])
-      ∷ (pipeline_tokens commands ++ token kind.RightParenthesis (41 ∷ []) ∷ chain_tokens names)
+      token kind.LeftParenthesis (codes "(")
+      ∷ (pipeline_tokens commands ++ token kind.RightParenthesis (codes ")") ∷ chain_tokens names)
 
   pub more_tokens : Operands → List Token
   more_tokens tree.no_operand = []
@@ -59,7 +59,7 @@ abbrev mutual
   pub later_tokens : Pipeline → List Token
   later_tokens tree.no_command = []
   later_tokens (tree.command os cs) =
-      space ∷ token kind.Pipe (124 ∷ []) ∷ space ∷ (command_tokens os ++ later_tokens cs)
+      space ∷ token kind.Pipe (codes "|") ∷ space ∷ (command_tokens os ++ later_tokens cs)
 
   pub pipeline_tokens : Pipeline → List Token
   pipeline_tokens tree.no_command = []
@@ -70,11 +70,11 @@ abbrev mutual
 -- the variables of a header and their sign, each with a space behind it
 abbrev pub binding_tokens : Binding → List Token
 binding_tokens unbound = []
-binding_tokens (declare name) = variable_token name ∷ space ∷ token kind.Declare (58 ∷ 61 ∷ []) ∷ space ∷ []
-binding_tokens (assign name) = variable_token name ∷ space ∷ token kind.Assign (61 ∷ []) ∷ space ∷ []
+binding_tokens (declare name) = variable_token name ∷ space ∷ token kind.Declare (codes ":=") ∷ space ∷ []
+binding_tokens (assign name) = variable_token name ∷ space ∷ token kind.Assign (codes "=") ∷ space ∷ []
 binding_tokens (declare_pair key name) =
-    variable_token key ∷ token kind.Comma (44 ∷ []) ∷ space ∷ variable_token name ∷ space
-    ∷ token kind.Declare (58 ∷ 61 ∷ []) ∷ space ∷ []
+    variable_token key ∷ token kind.Comma (codes ",") ∷ space ∷ variable_token name ∷ space
+    ∷ token kind.Declare (codes ":=") ∷ space ∷ []
 
 abbrev pub header_tokens : Header → List Token
 header_tokens h = binding_tokens h.binding ++ pipeline_tokens h.pipeline

@@ -5,6 +5,7 @@ use Rattle.std.specs.Prelude.{◌≡◌, ◌==◌, ◌||◌, ◌+◌, ◌≤◌,
 use Rattle.std.specs.Prelude.{Result, Ok, Err, length, map, slice_get, AllPairs}
 use Rattle.std.specs.List.{after_last, fold}
 use Rattle.std.specs.Borrow.{Bor}
+use Rattle.std.specs.Str.{byte}
 use Rattle.tmpl_lex.specs.Text.{newlines}
 use Rattle.tmpl_syntax.specs.Tree.{Nodes, Definition}
 use Rattle.tmpl_syntax.specs.Language.{Language, every_action, go_1_22}
@@ -18,7 +19,7 @@ use Rattle.tmpl_syntax.specs.declared.fault.ParseFault.{ParseFault}
 
 -- the part of a path after its last `/`
 abbrev pub base_name : List ℕ → List ℕ
-base_name path = after_last (λ b. b == 47) path
+base_name path = after_last (λ b. b == byte "/") path
 
 -- the most bytes that a file may have
 abbrev pub most_bytes : ℕ

@@ -15,9 +15,9 @@ pub data AreParted (base : ℕ) : List ℕ → List ℕ → Type 0 where
 -- the base that a letter behind a leading zero names
 abbrev pub base_named : ℕ → Option ℕ
 base_named b =
-    if b == 120 || b == 88 then Some 16
-    else (if b == 111 || b == 79 then Some 8
-    else (if b == 98 || b == 66 then Some 2 else None))
+    if b == byte "x" || b == byte "X" then Some 16
+    else (if b == byte "o" || b == byte "O" then Some 8
+    else (if b == byte "b" || b == byte "B" then Some 2 else None))
 
 -- a number without its sign: a decimal one, one of octal digits behind a zero, or of the base that is named there
 pub data IsMagnitude : List ℕ → ℕ → Type 0 where
