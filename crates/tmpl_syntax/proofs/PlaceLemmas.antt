@@ -8,7 +8,7 @@ use Rattle.std.proofs.lemmas.List.{take-take, drop-take}
 use Rattle.std.proofs.lemmas.Option.{get_or_from_slice_get, slice_get_within}
 use Rattle.std.proofs.lemmas.List.Sums.{sum_by-take-drop, count_by_more_yes, count_by_more_no}
 use Rattle.tmpl_grammar.specs.declared.action.Branch.{Branch}
-use Rattle.tmpl_syntax.specs.Place.Open.{opens, ends, IsOpen, IsLast, IsElseOf, HasElse, is_template, IsBody, OfOneTemplate}
+use Rattle.tmpl_syntax.specs.Place.Open.{opens, ends, IsOpen, IsLast, IsElseOf, HasElse, is_template, IsLastBody, OfOneTemplate}
 use Rattle.tmpl_syntax.specs.Place.Opening.{Opening}
 use Rattle.tmpl_syntax.specs.Place.Role.{Names, opener, else_part, closer, Role}
 use Rattle.tmpl_syntax.specs.Place.Body.{IsLoop, IsLevel, of_opening, of_else_branch, Levels, none, one, other}
@@ -187,6 +187,11 @@ opened_new xs i c p at = open-by xs i (i + 1) c p at (omega arith) (λ n from to
 abbrev pub last_new : (xs : List Role) (i : ℕ) (c : Opening) (p : Names) → slice_get xs i ≡ Some (opener c p) → IsLast xs i (i + 1)
 last_new xs i c p at = record { is_open = opened_new xs i c p at; last = λ k lt o. let le = o.before in omega arith }
 
+-- an opening at j, open at i, whose body is a template of its own
+pub record IsBody (xs : List Role) (j i : ℕ) : Type 0 where
+  pub is_open : IsOpen xs j i
+  pub own : is_template is_open.opened ≡ true
+
 -- at two places the bodies of the same defines and blocks are open
 pub record Alike (xs : List Role) (a b : ℕ) : Type 0 where
   pub to : (k : ℕ) → IsBody xs k a → IsBody xs k b
@@ -195,15 +200,33 @@ pub record Alike (xs : List Role) (a b : ℕ) : Type 0 where
 pub move-body : (xs : List Role) (k a b : ℕ) → IsBody xs k a → IsOpen xs k b → IsBody xs k b
 move-body xs k a b h o = record { is_open = o; own = subst (λ c. is_template c ≡ true) (same-opening xs k h.is_open.opened o.opened h.is_open.at o.at) h.own }
 
-pub one-moves : (xs : List Role) (k a b : ℕ) → Alike xs a b → OfOneTemplate xs k a → OfOneTemplate xs k b
-one-moves xs k a b e h = λ j. (λ o. e.to j ((h j).0 o), λ o. (h j).1 (e.back j o))
+pub alike-back : (xs : List Role) (a b : ℕ) → Alike xs a b → Alike xs b a
+alike-back xs a b e = record { to = e.back; back = e.to }
+
+-- what is the body of no template
+no-own : (xs : List Role) (k i : ℕ) (o : IsOpen xs k i) → (IsBody xs k i → ⊥) → is_template o.opened ≡ false
+no-own xs k i o never = by (is_template o.opened) refl
+  where
+    by : (t : Bool) → is_template o.opened ≡ t → is_template o.opened ≡ false
+    by false e = e
+    by true e = absurd (never (record { is_open = o; own = e }))
+
+not-own : (xs : List Role) (k i : ℕ) → ((o : IsOpen xs k i) → is_template o.opened ≡ false) → IsBody xs k i → ⊥
+not-own xs k i never h = let t : true ≡ false = sym h.own ∙ never h.is_open in cc
+
+-- the last body is the last where the same bodies are open
+last-moves : (xs : List Role) (a b : ℕ) → Alike xs a b → (j : ℕ) → IsLastBody xs j a → IsLastBody xs j b
+last-moves xs a b e j l =
+    let moved = e.to j (record { is_open = l.is_open; own = l.own }) in
+    record { is_open = moved.is_open; own = moved.own; last = λ k lt o. no-own xs k b o (λ h. not-own xs k a (l.last k lt) (e.back k h)) }
 
 -- places where the same bodies are open are of one template
 pub one-alike : (xs : List Role) (a b : ℕ) → Alike xs a b → OfOneTemplate xs a b
-one-alike xs a b e = λ j. (e.to j, e.back j)
+one-alike xs a b e = λ j. (last-moves xs a b e j, last-moves xs b a (alike-back xs a b e) j)
 
-pub alike-back : (xs : List Role) (a b : ℕ) → Alike xs a b → Alike xs b a
-alike-back xs a b e = record { to = e.back; back = e.to }
+pub one-moves : (xs : List Role) (k a b : ℕ) → Alike xs a b → OfOneTemplate xs k a → OfOneTemplate xs k b
+one-moves xs k a b e h =
+    let moved = one-alike xs a b e in λ j. (λ o. (moved j).0 ((h j).0 o), λ o. (h j).1 ((moved j).1 o))
 
 pub alike-even : (xs : List Role) (a b : ℕ) → Even xs a b → Alike xs a b
 alike-even xs a b e = record { to = λ k h. move-body xs k a b h (e.keeps k h.is_open); back = λ k h. move-body xs k b a h (e.only k h.is_open) }
@@ -225,9 +248,16 @@ pub alike-opened : (xs : List Role) (i : ℕ) (c : Opening) (p : Names) → slic
     → Alike xs i (i + 1)
 alike-opened xs i c p at nt = alike-last xs i (i + 1) (last_new xs i c p at) nt
 
--- no place before the body of a define or block is of its template
+-- no place before the body of a define or block is of its template: the last one that is open would be open there
+body-late : (xs : List Role) (k i : ℕ) → OfOneTemplate xs k i → (n q : ℕ) → i ≤ q + n → k ≤ q → IsBody xs q i → ⊥
+body-late xs k i same zero q far from h = let lt = h.is_open.before in omega arith
+body-late xs k i same (suc n) q far from h =
+    let last : (r : ℕ) → q < r → (o : IsOpen xs r i) → is_template o.opened ≡ false =
+    λ r qr o. no-own xs r i o (body-late xs k i same n r (omega arith) (omega arith)) in
+    let lt = ((same q).1 (record { is_open = h.is_open; own = h.own; last = last })).is_open.before in omega arith
+
 pub template-apart : (xs : List Role) (j k i : ℕ) → IsBody xs j i → k ≤ j → OfOneTemplate xs k i → ⊥
-template-apart xs j k i b le same = let lt = ((same j).1 b).is_open.before in omega arith
+template-apart xs j k i b le same = body-late xs k i same i j (omega arith) le b
 
 -- levels
 

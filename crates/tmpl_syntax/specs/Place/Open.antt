@@ -43,12 +43,13 @@ abbrev pub is_template : Opening → Bool
 is_template (opened.control c) = false
 is_template c = true
 
--- an opening at j, open at i, whose body is a template of its own
-pub record IsBody (xs : List Role) (j i : ℕ) : Type 0 where
+-- the last opening that is open at i of those whose body is a template of its own
+pub record IsLastBody (xs : List Role) (j i : ℕ) : Type 0 where
   pub is_open : IsOpen xs j i
   pub own : is_template is_open.opened ≡ true
+  pub last : (k : ℕ) → j < k → (o : IsOpen xs k i) → is_template o.opened ≡ false
 
--- the template of a place is that of the last such opening that is open there, else the file's: two places are of one
--- template if the same ones are open at both
+-- the template of a place is that of this opening, else the file's: two places are of one template if it is the same
+-- at both
 abbrev pub OfOneTemplate : List Role → ℕ → ℕ → Type 0
-OfOneTemplate xs k i = (j : ℕ) → IsBody xs j k ↔ IsBody xs j i
+OfOneTemplate xs k i = (j : ℕ) → IsLastBody xs j k ↔ IsLastBody xs j i
