@@ -1,6 +1,6 @@
 -- For `one_verdict`: what the tests of frames and names say of an item.
 use Rattle.std.proofs.Common.{arith, ◌≡◌, ◌≢◌, ℕ, ◌≤◌, true, false, not, ◌&&◌, leb, List, [], ◌∷◌, refl, sym, ap, ◌∙◌}
-use Rattle.std.proofs.Common.{subst, take, Bool, Option, Some, None, ◌⊎◌, inl, inr}
+use Rattle.std.proofs.Common.{subst, take, length, Bool, Option, Some, None, ◌⊎◌, inl, inr}
 use Rattle.std.specs.Prelude.{slice_get, Contains}
 use Rattle.std.specs.Bool.{Decides}
 use Rattle.std.proofs.lemmas.Bool.{and_parts, le-leb, leb-true}
@@ -9,9 +9,9 @@ use Rattle.tmpl_grammar.specs.declared.action.Branch.{Branch}
 use Rattle.tmpl_syntax.specs.computed.Frames.{Frame, top, in_loop, levels, takes_else, is_placed, is_nested, is_known, knows, is_too_deep, names_at, Known}
 use Rattle.tmpl_syntax.specs.Place.Open.{IsOpen, IsLast, IsElseOf, HasElse}
 use Rattle.tmpl_syntax.specs.Place.Scope.{IsInScope}
-use Rattle.tmpl_syntax.specs.Place.Body.{joins, TakesElse, IsLoop, IsMisplaced, names_in, Levels, opens_level, most_levels}
+use Rattle.tmpl_syntax.specs.Place.Body.{joins, TakesElse, IsLoop, IsMisplaced, names_in, AreLevels, opens_level, most_levels}
 use Rattle.tmpl_syntax.proofs.NameLemmas.{Clears, clears, in-nothing, knows-clears}
-use Rattle.tmpl_syntax.proofs.PlaceLemmas.{same-opening, one-last, even-here, levels-unique, no-else, InLoop}
+use Rattle.tmpl_syntax.proofs.PlaceLemmas.{same-opening, one-last, even-here, levels-listed, levels-most, no-else, InLoop}
 use Rattle.tmpl_syntax.proofs.ScopeLemmas.{to-scope, from-scope, at-place, at-place-back, else-sees, else-seen}
 use Rattle.tmpl_syntax.proofs.StandLemmas.{Here, Stands, here-of, looped}
 use Rattle.tmpl_syntax.proofs.StepLemmas.{joins-own, joins-no-range}
@@ -22,7 +22,7 @@ use Rattle.tmpl_syntax.specs.Place.Role.{Name, Names, plain, opener, else_part, 
 
 -- a level more where as many stand as may, or parentheses that nest too deep
 pub data IsTooDeep (xs : List Role) (i : ℕ) (x : Role) : Type 0 where
-  in_levels : {n : ℕ} → opens_level x ≡ true → Levels xs i i n → most_levels ≤ n → IsTooDeep xs i x
+  in_levels : {ks : List ℕ} → opens_level x ≡ true → AreLevels xs i i ks → most_levels ≤ length ks → IsTooDeep xs i x
   in_parentheses : {b : Option Branch} → x ≡ nested b → IsTooDeep xs i x
 
 -- a name used or assigned that is not in scope
@@ -77,11 +77,11 @@ deep xs i a t names h = Decides-like (is_too_deep a t) to back
   where
     to : ((b : Option Branch) × (a ≡ nested b)) ⊎ ((opens_level a ≡ true) × (most_levels ≤ levels t)) → IsTooDeep xs i a
     to (inl n) = in_parentheses n.1
-    to (inr l) = in_levels l.0 h.levels_are l.1
+    to (inr l) = let all = levels-listed h.levels_are i (omega arith) in in_levels l.0 all.2 (rw all.1 l.1)
 
     back : IsTooDeep xs i a → ((b : Option Branch) × (a ≡ nested b)) ⊎ ((opens_level a ≡ true) × (most_levels ≤ levels t))
     back (in_parentheses {b = b} is) = inl (b, is)
-    back (in_levels is count le) = inr (is, subst (λ k. most_levels ≤ k) (levels-unique count h.levels_are) le)
+    back (in_levels is are le) = inr (is, omega (arith, le, levels-most h.levels_are (omega arith) are))
 
 -- ---- names
 

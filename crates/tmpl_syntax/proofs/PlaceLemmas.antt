@@ -1,6 +1,6 @@
 -- For `one_verdict`: what is open moves with the place, and with it templates, levels and loops.
 use Rattle.std.proofs.Common.{arith, ◌≡◌, ◌≢◌, ℕ, ◌+◌, ◌-◌, ◌<◌, ◌≤◌, Bool, true, false, cond, List, refl, sym, ap, ◌∙◌, subst, take, drop, add-zero, Option}
-use Rattle.std.proofs.Common.{Some, ⊎_elim, zero, suc, add-one, None, ◌⊎◌, inl, inr}
+use Rattle.std.proofs.Common.{[], ◌∷◌, length, Some, ⊎_elim, zero, suc, add-one, None, ◌⊎◌, inl, inr}
 use Rattle.std.specs.Prelude.{slice_get, slice_range, is_some}
 use Rattle.std.specs.List.{count_by}
 use Rattle.std.proofs.lemmas.Bool.{cases_order, cases_lt}
@@ -11,7 +11,7 @@ use Rattle.tmpl_grammar.specs.declared.action.Branch.{Branch}
 use Rattle.tmpl_syntax.specs.Place.Open.{opens, ends, IsOpen, IsLast, IsElseOf, HasElse, is_template, IsLastBody, OfOneTemplate}
 use Rattle.tmpl_syntax.specs.Place.Opening.{Opening}
 use Rattle.tmpl_syntax.specs.Place.Role.{Names, opener, else_part, closer, Role}
-use Rattle.tmpl_syntax.specs.Place.Body.{IsLoop, IsLevel, of_opening, of_else_branch, Levels, none, one, other}
+use Rattle.tmpl_syntax.specs.Place.Body.{IsLoop, IsLevel, of_opening, of_else_branch, AreLevels, none, level}
 use Rattle.tmpl_syntax.specs.computed.Frames.{level_of, else_levels}
 use Rattle.tmpl_syntax.specs.Place.Opening as opened
 
@@ -266,8 +266,30 @@ level-moves xs k a b f (of_opening o nt) = let n = f k (omega arith) o in of_ope
 level-moves xs k a b f (of_else_branch {j = j} t o nt) =
     let lt = t.belongs.is_open.before in let n = f j (omega arith) o in of_else_branch t n (λ e. nt (sym (same-opening xs j n.opened o.opened n.at o.at) ∙ e))
 
+-- of the places before m, n are levels at i
+pub data Levels (xs : List Role) (i : ℕ) : ℕ → ℕ → Type 0 where
+  no_level : Levels xs i 0 0
+  one : {m n : ℕ} → Levels xs i m n → IsLevel xs m i → Levels xs i (suc m) (suc n)
+  other : {m n : ℕ} → Levels xs i m n → (IsLevel xs m i → ⊥) → Levels xs i (suc m) n
+
+-- the levels, the last one first
+pub levels-listed : {xs : List Role} {i m n : ℕ} → Levels xs i m n → (k : ℕ) → m ≤ k → (ks : List ℕ) × (length ks ≡ n) × AreLevels xs i k ks
+levels-listed no_level k le = ([], refl, none)
+levels-listed (one {m = m} r h) k le = let more = levels-listed r m (omega arith) in (m ∷ more.0, ap suc more.1, level (omega arith) h more.2)
+levels-listed (other r h) k le = levels-listed r k (omega arith)
+
+-- there are no more of them
+pub levels-most : {xs : List Role} {i m n k : ℕ} {ks : List ℕ} → Levels xs i m n → k ≤ m → AreLevels xs i k ks → length ks ≤ n
+levels-most r le none = omega arith
+levels-most no_level le (level lt h more) = omega arith
+levels-most (one {m = m} r g) le (level {k = k} lt h more) = let rest = levels-most r (omega arith) more in omega (arith, rest)
+levels-most {xs = xs} {i = i} (other {m = m} r never) le (level {k = k} {ks = ks} lt h more) = ⊎_elim
+    (λ below. levels-most r (omega arith) (level {m = suc k} {k = k} {ks = ks} (omega arith) h more))
+    (λ ge. let same : k ≡ m = omega arith in absurd (never (subst (λ q. IsLevel xs q i) same h)))
+    (cases_lt k m)
+
 pub levels-unique : {xs : List Role} {i m n p : ℕ} → Levels xs i m n → Levels xs i m p → n ≡ p
-levels-unique none none = refl
+levels-unique no_level no_level = refl
 levels-unique (one r h) (one s g) = ap suc (levels-unique r s)
 levels-unique (one r h) (other s g) = absurd (g h)
 levels-unique (other r h) (one s g) = absurd (h g)
@@ -275,7 +297,7 @@ levels-unique (other r h) (other s g) = levels-unique r s
 
 pub levels-move : {xs : List Role} {a m n : ℕ} → (b : ℕ) → ((k : ℕ) → k < m → IsLevel xs k a → IsLevel xs k b)
     → ((k : ℕ) → k < m → IsLevel xs k b → IsLevel xs k a) → Levels xs a m n → Levels xs b m n
-levels-move b to back none = none
+levels-move b to back no_level = no_level
 levels-move {m = suc m} b to back (one r h) = one (levels-move b (λ k lt. to k (omega arith)) (λ k lt. back k (omega arith)) r) (to m (omega arith) h)
 levels-move {m = suc m} b to back (other r h) =
     other (levels-move b (λ k lt. to k (omega arith)) (λ k lt. back k (omega arith)) r) (λ l. h (back m (omega arith) l))

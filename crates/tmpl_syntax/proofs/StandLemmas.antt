@@ -6,10 +6,10 @@ use Rattle.std.specs.Bool.{Decides}
 use Rattle.std.proofs.lemmas.Bool.{cases_lt}
 use Rattle.std.proofs.lemmas.Bool.Decides.{Decides-like, Decides-not, Decides-or}
 use Rattle.tmpl_syntax.specs.Place.Open.{IsOpen, IsLast, HasElse, is_template}
-use Rattle.tmpl_syntax.specs.Place.Body.{IsLoop, Levels}
+use Rattle.tmpl_syntax.specs.Place.Body.{IsLoop}
 use Rattle.tmpl_syntax.specs.computed.Frames.{Frame, top, loops, in_loop, levels, is_known, entered, Known, with_inner, closed_if, closed_names, with_names}
 use Rattle.tmpl_syntax.proofs.NameLemmas.{IsWithin, with-longer, take-with, with-Decides}
-use Rattle.tmpl_syntax.proofs.PlaceLemmas.{IsBody, ups, downs, same-opening, cut, Same, alike-last, loop-in, loop-out}
+use Rattle.tmpl_syntax.proofs.PlaceLemmas.{IsBody, Levels, ups, downs, same-opening, cut, Same, alike-last, loop-in, loop-out}
 use Rattle.tmpl_syntax.proofs.PlaceLemmas.{one-alike, opened_new, template-apart, levels-same, levels-opened, InLoop, else_before, else-same}
 use Rattle.tmpl_syntax.proofs.ScopeLemmas.{Brought, Sees, brought-same, brought-same-back, brought-late, sees-opened}
 use Rattle.tmpl_syntax.specs.Place.Opening.{Opening}

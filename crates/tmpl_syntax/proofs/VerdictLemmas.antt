@@ -6,7 +6,7 @@ use Rattle.std.proofs.lemmas.Bool.{cases_order, cases_lt}
 use Rattle.std.proofs.lemmas.Option.{slice_get_within, slice_get-get_or}
 use Rattle.tmpl_syntax.specs.Fault.{Reason, rank}
 use Rattle.tmpl_syntax.specs.Place.Body as body
-use Rattle.tmpl_syntax.specs.Place.Body.{Applies, misplaced, undeclared, IsMisplaced, none, NoneRefused, names_in}
+use Rattle.tmpl_syntax.specs.Place.Body.{Applies, misplaced, undeclared, IsMisplaced, NoneRefused, names_in}
 use Rattle.tmpl_syntax.specs.computed.Frames.{Verdict, fine, refused, left_open, Judged}
 use Rattle.tmpl_syntax.specs.Place.Role.{Role, plain, opener, else_part, closer, jump, nested, flawed}
 use Rattle.std.specs.Prelude.{slice_get}
@@ -14,7 +14,7 @@ use Rattle.tmpl_syntax.specs.Fault as reason
 use Rattle.tmpl_syntax.specs.computed.Frames.{Frame, top, is_placed, is_too_deep, names_at, frames_after, at_end, Known, with_inner}
 use Rattle.tmpl_syntax.specs.computed.Frames.{known_after, none_known, fault_at, first_fault, knows, unless_fault, verdict_from, verdict_of}
 use Rattle.tmpl_syntax.proofs.NameLemmas.{Clears, faultless, in-nothing}
-use Rattle.tmpl_syntax.proofs.PlaceLemmas.{same-piece}
+use Rattle.tmpl_syntax.proofs.PlaceLemmas.{no_level, same-piece}
 use Rattle.std.specs.Bool.{Decides}
 use Rattle.std.proofs.lemmas.Bool.Decides.{not_from_Decides}
 use Rattle.tmpl_syntax.proofs.StandLemmas.{Stands, here-of}
@@ -122,7 +122,7 @@ sound-start xs = record {
   stands = (
     λ j o. let b = o.before in omega arith,
     record {
-      levels_are = none;
+      levels_are = no_level;
       sees = λ n. (λ e. cc, λ b. let lt = b.before in absurd (omega arith));
     },
   );

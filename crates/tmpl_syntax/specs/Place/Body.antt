@@ -1,5 +1,5 @@
 -- The first refused action of a file, and why it is refused.
-use Rattle.std.specs.Prelude.{◌≡◌, ℕ, suc, ◌<◌, ◌≤◌, Bool, true, false, List}
+use Rattle.std.specs.Prelude.{◌≡◌, ℕ, ◌<◌, ◌≤◌, Bool, true, false, List, [], ◌∷◌}
 use Rattle.std.specs.Prelude.{length, slice_get, Option, Some, None, Contains}
 use Rattle.tmpl_grammar.specs.declared.action.Branch.{Branch}
 use Rattle.tmpl_grammar.specs.declared.action.Branch.TheVariants.{If as if_branch, With as with_branch}
@@ -46,11 +46,10 @@ pub data IsLevel (xs : List Role) (k i : ℕ) : Type 0 where
   of_else_branch : {b : Branch × Names} {j : ℕ} → IsElseOf xs (Some b) j k → (o : IsOpen xs j i)
       → (o.opened ≡ opened.define → ⊥) → IsLevel xs k i
 
--- of the places before m, n are levels at i
-pub data Levels (xs : List Role) (i : ℕ) : ℕ → ℕ → Type 0 where
-  none : Levels xs i 0 0
-  one : {m n : ℕ} → Levels xs i m n → IsLevel xs m i → Levels xs i (suc m) (suc n)
-  other : {m n : ℕ} → Levels xs i m n → (IsLevel xs m i → ⊥) → Levels xs i (suc m) n
+-- these places before m, the last one first, are levels at i
+pub data AreLevels (xs : List Role) (i : ℕ) : ℕ → List ℕ → Type 0 where
+  none : {m : ℕ} → AreLevels xs i m []
+  level : {m k : ℕ} {ks : List ℕ} → k < m → IsLevel xs k i → AreLevels xs i k ks → AreLevels xs i m (k ∷ ks)
 
 -- the names in an action
 abbrev pub names_in : Role → Names
@@ -75,8 +74,8 @@ most_levels = 500
 pub data Applies (xs : List Role) (i : ℕ) : Reason → Type 0 where
   flawed : {why : Reason} → slice_get xs i ≡ Some (role.flawed why) → Applies xs i why
   misplaced : {x : Role} → slice_get xs i ≡ Some x → IsMisplaced xs i x → Applies xs i reason.out_of_place
-  in_levels : {x : Role} {n : ℕ} → slice_get xs i ≡ Some x → opens_level x ≡ true → Levels xs i i n → most_levels ≤ n
-      → Applies xs i reason.nested_too_deeply
+  in_levels : {x : Role} {ks : List ℕ} → slice_get xs i ≡ Some x → opens_level x ≡ true → AreLevels xs i i ks
+      → most_levels ≤ length ks → Applies xs i reason.nested_too_deeply
   in_parentheses : {b : Option Branch} → slice_get xs i ≡ Some (nested b) → Applies xs i reason.nested_too_deeply
   undeclared : {x : Role} (name : Name) → slice_get xs i ≡ Some x → Contains (names_in x).uses name
       → (IsInScope xs i name → ⊥) → Applies xs i reason.undeclared_variable
