@@ -1,12 +1,12 @@
 -- For `one_verdict`, `check` and `more_branches`: each list has one verdict, the one that is found in one pass: up to each
 -- place nothing is refused, and the stack is what is open.
-use Rattle.std.proofs.Common.{arith, ◌≡◌, ℕ, ◌<◌, List, length, refl, subst, ⊎_elim, ◌+◌, true, false, [], ◌∷◌, Some, None, zero, suc, drop, get_or}
+use Rattle.std.proofs.Common.{arith, ◌≡◌, ℕ, ◌<◌, ◌≤◌, List, length, length-append, ◌++◌, refl, subst, ⊎_elim, ◌+◌, true, false, [], ◌∷◌, Some, None, zero, suc, drop, get_or}
 use Rattle.std.proofs.Common.{Option, Bool, ◌≢◌, ◌⊎◌, inl, inr, ap, sym, ◌∙◌}
 use Rattle.std.proofs.lemmas.Bool.{cases_order, cases_lt}
 use Rattle.std.proofs.lemmas.Option.{slice_get_within, slice_get-get_or}
-use Rattle.tmpl_syntax.specs.Fault.{Reason, rank}
+use Rattle.tmpl_syntax.specs.Fault.{Reason, in_turn}
 use Rattle.tmpl_syntax.specs.Place.Body as body
-use Rattle.tmpl_syntax.specs.Place.Body.{Applies, misplaced, undeclared, IsMisplaced, NoneRefused, names_in}
+use Rattle.tmpl_syntax.specs.Place.Body.{IsBefore, IsFirstRefused, Applies, misplaced, undeclared, IsMisplaced, NoneRefused, names_in}
 use Rattle.tmpl_syntax.specs.computed.Frames.{Verdict, fine, refused, left_open, Judged}
 use Rattle.tmpl_syntax.specs.Place.Role.{Role, plain, opener, else_part, closer, jump, nested, flawed}
 use Rattle.std.specs.Prelude.{slice_get}
@@ -74,6 +74,12 @@ says-one xs i x sound reason.nested_too_deeply s = inr (inl (s, refl))
 says-one xs i x sound reason.undeclared_variable s = inr (inr (s, refl))
 says-one xs i x sound r s = absurd s
 
+-- where a reason stands in the order
+abbrev rank : Reason → ℕ
+rank reason.out_of_place = 0
+rank reason.nested_too_deeply = 1
+rank why = 2
+
 -- the reason of a rank
 abbrev at-rank : ℕ → Reason
 at-rank zero = reason.out_of_place
@@ -94,9 +100,48 @@ same-said xs i x f g a b e = ranked xs i x f (says-one xs i x (λ w e. cc) f a) 
 same-rank : (xs : List Role) (i : ℕ) (f g : Reason) → Applies xs i f → Applies xs i g → rank f ≡ rank g → f ≡ g
 same-rank xs i f g a b e = let h = holder xs i f a in same-said xs i h.0 f g h.2 (said xs i h.0 h.1 g b) e
 
+-- a reason that is asked for before another has a lower rank
+before-lower : (r why : Reason) → IsBefore r why → rank r < rank why
+before-lower r why ([], [], rest, e) = let first : reason.out_of_place ≡ r = cc in let second : reason.nested_too_deeply ≡ why = cc in
+    omega (arith, ap rank first, ap rank second)
+before-lower r why ([], b ∷ [], rest, e) = let first : reason.out_of_place ≡ r = cc in let third : reason.undeclared_variable ≡ why = cc in
+    omega (arith, ap rank first, ap rank third)
+before-lower r why ([], b ∷ c ∷ bs, rest, e) = absurd (omega (arith, ap length e, length-append bs (why ∷ rest)))
+before-lower r why (a ∷ [], [], rest, e) = let second : reason.nested_too_deeply ≡ r = cc in let third : reason.undeclared_variable ≡ why = cc in
+    omega (arith, ap rank second, ap rank third)
+before-lower r why (a ∷ [], b ∷ bs, rest, e) = absurd (omega (arith, ap length e, length-append bs (why ∷ rest)))
+before-lower r why (a ∷ b ∷ front, bs, rest, e) =
+    absurd (omega (arith, ap length e, length-append front (r ∷ (bs ++ why ∷ rest)), length-append bs (why ∷ rest)))
+
+rank-most : (r : Reason) → rank r ≤ 2
+rank-most reason.out_of_place = omega arith
+rank-most reason.nested_too_deeply = omega arith
+rank-most r = omega arith
+
+-- of two reasons that an item may have, the one of the lower rank is asked for before the other
+lower-before : (r why : Reason) → r ≡ at-rank (rank r) → why ≡ at-rank (rank why) → rank r < rank why → IsBefore r why
+lower-before r why e g lt = rw (e, g) (by (rank r) (rank why) (rank-most why) lt)
+  where
+    by : (m n : ℕ) → n ≤ 2 → m < n → IsBefore (at-rank m) (at-rank n)
+    by zero zero h lt = absurd (omega arith)
+    by zero (suc zero) h lt = ([], [], reason.undeclared_variable ∷ [], refl)
+    by zero (suc (suc n)) h lt = ([], reason.nested_too_deeply ∷ [], [], refl)
+    by (suc zero) zero h lt = absurd (omega arith)
+    by (suc zero) (suc zero) h lt = absurd (omega arith)
+    by (suc zero) (suc (suc n)) h lt = (reason.out_of_place ∷ [], [], [], refl)
+    by (suc (suc m)) n h lt = absurd (omega arith)
+
+-- no reason of a lower rank applies where this one is the first
+none-lower : (xs : List Role) (i : ℕ) (why : Reason) → IsFirstRefused xs i why → (r : Reason) → rank r < rank why → Applies xs i r → ⊥
+none-lower xs i why f r lt a = let h = holder xs i why f.0 in by h.0 h.2 (said xs i h.0 h.1 r a)
+  where
+    by : (x : Role) → Says xs i x why → Says xs i x r → ⊥
+    by (flawed w) s t = let e = ap rank (sym s ∙ t) in omega arith
+    by x s t = f.1 r (lower-before r why (ranked xs i x r (says-one xs i x (λ w e. cc) r t)) (ranked xs i x why (says-one xs i x (λ w e. cc) why s)) lt) a
+
 same-fault : (xs : List Role) (i : ℕ) (f g : Reason) → Judged xs (refused i f) → Judged xs (refused i g) → f ≡ g
-same-fault xs i f g a b = ⊎_elim (λ e. same-rank xs i f g a.0 b.0 e) (λ o. ⊎_elim (λ lt. absurd (b.1 f lt a.0))
-    (λ gt. absurd (a.1 g gt b.0)) o) (cases_order (rank f) (rank g))
+same-fault xs i f g a b = ⊎_elim (λ e. same-rank xs i f g a.0 b.0 e) (λ o. ⊎_elim (λ lt. absurd (none-lower xs i g b f lt a.0))
+    (λ gt. absurd (none-lower xs i f a g gt b.0)) o) (cases_order (rank f) (rank g))
 
 same-refused : (xs : List Role) (i j : ℕ) (f g : Reason) → Judged xs (refused i f) → Judged xs (refused j g) → refused i f ≡ refused j g
 same-refused xs i j f g a b = ⊎_elim
@@ -204,7 +249,7 @@ module _ (xs : List Role) where
             (λ ge. let g : k ≡ i = omega arith in clear f (subst (λ n. Applies xs n f) g a))
             (cases_lt k i);
       })
-      go (Some f) e t = (t.0, t.1, s.none_refused)
+      go (Some f) e t = (t.0, λ r h. t.1 r (before-lower r f h), s.none_refused)
 
   judged-from : (n i : ℕ) (known : Known) (fs : List Frame) → i + n ≡ length xs → Sound xs i known fs → Judged xs (verdict_from i fs known (drop i xs))
   judged-from zero i known fs e s = rw (drop_all i xs (omega arith)) (sound-end xs i known fs (omega arith) s)

@@ -1,5 +1,5 @@
 -- Why a file is refused, and the kinds by which the parser says so.
-use Rattle.std.specs.Prelude.{ℕ, Option, Some, None}
+use Rattle.std.specs.Prelude.{List, [], ◌∷◌, Option, Some, None}
 use Rattle.tmpl_syntax.specs.declared.fault.ParseKind.{ParseKind}
 use Rattle.tmpl_syntax.specs.declared.fault.ParseKind.TheVariants as kind
 
@@ -15,11 +15,9 @@ pub data Reason : Type 0 where
   open_at_end : Reason
   second_definition : Reason
 
--- the order in which the reasons of an action that is read are asked for
-abbrev pub rank : Reason → ℕ
-rank out_of_place = 0
-rank nested_too_deeply = 1
-rank why = 2
+-- the reasons of an action that is read, in the order in which they are asked for
+abbrev pub in_turn : List Reason
+in_turn = out_of_place ∷ nested_too_deeply ∷ undeclared_variable ∷ []
 
 -- the reason that a kind names; want of memory is none
 abbrev pub reason_of : ParseKind → Option Reason

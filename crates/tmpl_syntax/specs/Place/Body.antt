@@ -1,5 +1,5 @@
 -- The first refused action of a file, and why it is refused.
-use Rattle.std.specs.Prelude.{◌≡◌, ℕ, ◌<◌, ◌≤◌, Bool, true, false, List, [], ◌∷◌}
+use Rattle.std.specs.Prelude.{◌≡◌, ℕ, ◌<◌, ◌≤◌, Bool, true, false, List, [], ◌∷◌, ◌++◌}
 use Rattle.std.specs.Prelude.{length, slice_get, Option, Some, None, Contains}
 use Rattle.tmpl_grammar.specs.declared.action.Branch.{Branch}
 use Rattle.tmpl_grammar.specs.declared.action.Branch.TheVariants.{If as if_branch, With as with_branch}
@@ -7,7 +7,7 @@ use Rattle.tmpl_syntax.specs.Place.Opening.{Opening}
 use Rattle.tmpl_syntax.specs.Place.Opening as opened
 use Rattle.tmpl_grammar.specs.declared.tree.Control.TheVariants.{If, With, Range}
 use Rattle.tmpl_syntax.specs.Fault as reason
-use Rattle.tmpl_syntax.specs.Fault.{Reason, rank}
+use Rattle.tmpl_syntax.specs.Fault.{Reason, in_turn}
 use Rattle.tmpl_syntax.specs.Place.Role as role
 use Rattle.tmpl_syntax.specs.Place.Role.{Name, Names, names_given, Role, plain, opener, else_part, closer, jump, nested}
 use Rattle.tmpl_syntax.specs.Place.Open.{IsOpen, IsLast, IsElseOf, HasElse, OfOneTemplate}
@@ -80,6 +80,11 @@ pub data Applies (xs : List Role) (i : ℕ) : Reason → Type 0 where
   undeclared : {x : Role} (name : Name) → slice_get xs i ≡ Some x → Contains (names_in x).uses name
       → (IsInScope xs i name → ⊥) → Applies xs i reason.undeclared_variable
 
+-- a reason is asked for before another
+abbrev pub IsBefore : Reason → Reason → Type 0
+IsBefore r why = (front : List Reason) × (between : List Reason) × (rest : List Reason)
+    × (in_turn ≡ front ++ r ∷ (between ++ why ∷ rest))
+
 abbrev pub NoneRefused : List Role → ℕ → Type 0
 NoneRefused xs i = (k : ℕ) (r : Reason) → k < i → Applies xs k r → ⊥
 
@@ -89,7 +94,7 @@ IsFine xs = NoneRefused xs (length xs) × ((j : ℕ) → IsOpen xs j (length xs)
 
 -- the item at i is the first to which a reason applies, and this is the first reason that does
 abbrev pub IsFirstRefused : List Role → ℕ → Reason → Type 0
-IsFirstRefused xs i why = Applies xs i why × ((r : Reason) → rank r < rank why → Applies xs i r → ⊥) × NoneRefused xs i
+IsFirstRefused xs i why = Applies xs i why × ((r : Reason) → IsBefore r why → Applies xs i r → ⊥) × NoneRefused xs i
 
 -- none is refused, but something is open at the end
 abbrev pub IsLeftOpen : List Role → Type 0
