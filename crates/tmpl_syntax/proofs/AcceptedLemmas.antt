@@ -22,8 +22,8 @@ use Rattle.tmpl_syntax.specs.Place.Open.{is_template}
 use Rattle.tmpl_syntax.specs.Place.Body.{joins, most_levels}
 use Rattle.tmpl_syntax.specs.computed.Frames.{fine, Judged}
 use Rattle.tmpl_syntax.specs.computed.Frames.{opened_names, closed_if, none_known, verdict_of}
-use Rattle.tmpl_syntax.specs.Spelling.{a_text, an_action, a_break, a_continue, a_template, Leads, nothing, a_node, a_control, a_define, a_block}
-use Rattle.tmpl_syntax.specs.Spelling.{Closes, an_end, an_else, an_else_branch}
+use Rattle.tmpl_syntax.specs.Spelling.{a_text, an_action, a_break, a_continue, a_template}
+use Rattle.tmpl_syntax.proofs.LeadsLemmas.{Leads, nothing, a_node, a_control, a_define, a_block, Closes, an_end, an_else, an_else_branch, led}
 use Rattle.tmpl_syntax.specs.Print.Printed.{Said, said_text, said, node_said, nodes_said}
 use Rattle.tmpl_syntax.specs.computed.Print.{else_said}
 use Rattle.tmpl_syntax.specs.Print.Laws.{Says, says_nothing, says_text, says, AcceptsBack}
@@ -145,7 +145,7 @@ pub spells_formed : SpellsFormed
 unfolding verdict_of
 spells_formed items ds own judged spells =
     let v = one-verdict (roles_of items) (verdict_of (roles_of items)) fine (judged-all (roles_of items)) judged in
-    let fit = leads-formed spells [] none_known [] (λ x. refl) (sym (passes-fine (roles_of items) 0 [] none_known) ∙ ap is_fine v) in
+    let fit = leads-formed (led spells) [] none_known [] (λ x. refl) (sym (passes-fine (roles_of items) 0 [] none_known) ∙ ap is_fine v) in
     (fit.2 tt, fit.0)
 
 -- ---- a printed list

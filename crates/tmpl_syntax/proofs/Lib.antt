@@ -9,6 +9,7 @@ pub mod JudgeLemmas
 pub mod KeptLemmas
 pub mod LanguageExamples
 pub mod LargerLemmas
+pub mod LeadsLemmas
 pub mod NameLemmas
 pub mod NamedLemmas
 pub mod NeedLemmas

@@ -12,7 +12,8 @@ use Rattle.tmpl_syntax.specs.Set.{Template}
 use Rattle.tmpl_syntax.specs.Language.{Language}
 use Rattle.tmpl_syntax.specs.Item.{Item, item, action_item, IsItem, read}
 use Rattle.std.specs.List.{AllZip}
-use Rattle.tmpl_syntax.specs.Spelling.{a_text, Leads, nothing, a_node, a_control, a_define, a_block, Closes, an_end, an_else, an_else_branch}
+use Rattle.tmpl_syntax.specs.Spelling.{a_text}
+use Rattle.tmpl_syntax.proofs.LeadsLemmas.{Leads, nothing, a_node, a_control, a_define, a_block, Closes, an_end, an_else, an_else_branch, led}
 use Rattle.tmpl_syntax.specs.Need.{need_of_parts, need_of_nodes, NeedAtMost, most_need}
 use Rattle.tmpl_syntax.specs.Parse.{all_defined, template_in}
 use Rattle.tmpl_syntax.specs.Laws.{NeedsAtMostBytes, NeedsAtMost}
@@ -91,7 +92,7 @@ all-within file n (d ∷ ds) own w le = let here = w.0 in (omega (arith, here), 
 
 pub need-within : NeedsAtMostBytes
 need-within language file bytes items ds own has spells =
-    let spelled = leads-within spells in
+    let spelled = leads-within (led spells) in
     let read = items-within language has.0 items has.2 in
     let cut = weight-within has.1 in
     all-within file (length bytes) ds own (spelled.1 (length bytes) (omega (arith, read, cut)) tt) (omega (arith, spelled.0, read, cut))

@@ -8,7 +8,8 @@ use Rattle.tmpl_syntax.specs.Tree.{Nodes, none, then, control_node, Definition}
 use Rattle.tmpl_syntax.specs.Language.{Language}
 use Rattle.tmpl_syntax.specs.Item.{Item, item, text_item, action_item, IsItem, a_text as text_read, read}
 use Rattle.std.specs.List.{AllZip}
-use Rattle.tmpl_syntax.specs.Spelling.{a_text, Leads, nothing, a_node, a_control, a_define, a_block, Closes, an_end, an_else, an_else_branch}
+use Rattle.tmpl_syntax.specs.Spelling.{a_text}
+use Rattle.tmpl_syntax.proofs.LeadsLemmas.{Leads, nothing, a_node, a_control, a_define, a_block, Closes, an_end, an_else, an_else_branch, led}
 use Rattle.tmpl_grammar.specs.declared.action.Branch.{Branch}
 use Rattle.tmpl_grammar.specs.declared.action.Branch.TheVariants as branch
 use Rattle.tmpl_syntax.specs.Print.Join.{IsText}
@@ -102,5 +103,5 @@ mutual
 
 pub keeps-printable : KeepsPrintable
 keeps-printable language bytes items ds own h has spells =
-    let k = leads-of spells (of-items language has.0 items has.2 (cuts-of has.1 h)) in
+    let k = leads-of (led spells) (of-items language has.0 items has.2 (cuts-of has.1 h)) in
     (λ path. k.2 path tt, k.0)

@@ -6,8 +6,8 @@ use Rattle.tmpl_grammar.specs.Action.{end_action, plain_else, define_action, Act
 use Rattle.tmpl_syntax.specs.Tree.{NodeKind, text, action, control_node, break_node, continue_node, template_node, Nodes, none, then, Definition}
 use Rattle.tmpl_syntax.specs.Item.{Item, item, action_item, text_item, a_text as text_read, read, IsItem, HasItems}
 use Rattle.tmpl_syntax.specs.Set.{Template}
-use Rattle.tmpl_syntax.specs.Spelling.{definition, a_text, an_action, a_break, a_continue, a_template, Leads, nothing, a_node, a_control, a_define, Closes}
-use Rattle.tmpl_syntax.specs.Spelling.{an_end, an_else, Spells}
+use Rattle.tmpl_syntax.specs.Spelling.{definition, a_text, an_action, a_break, a_continue, a_template, Spells}
+use Rattle.tmpl_syntax.proofs.LeadsLemmas.{Leads, nothing, a_node, a_control, a_define, Closes, an_end, an_else, led, spelled}
 use Rattle.tmpl_syntax.specs.Print.Printed.{Said, said_text, said, node_said, nodes_said, template_said, unlined_node, unlined}
 use Rattle.tmpl_syntax.specs.computed.Print.{else_said}
 use Rattle.tmpl_syntax.specs.Print.Printed.{opening_behind, parting, file_of}
@@ -88,7 +88,7 @@ pub spells-alike : (ns : Nodes) (xs : List Item) → Says (nodes_said ns) xs →
 spells-alike ns xs s = all (nodes-leads ns [] xs (rw append-nil s))
   where
     all : LeadsNodes ns [] xs → (ms : Nodes) × Spells xs [] ms × (unlined ms ≡ unlined ns)
-    all (ms, alike, _, leads, says_nothing) = (ms, leads [], alike)
+    all (ms, alike, _, leads, says_nothing) = (ms, spelled (leads []), alike)
 
 -- ---- a set
 
@@ -98,7 +98,7 @@ SpellsSet ts xs =
     (ds : List Definition) × (own : Nodes) × Spells xs ds own × (map unlined_definition ds ≡ map unlined_template ts) × (unlined own ≡ newline_nodes ts)
 
 pub set-leads : (ts : List Template) (xs : List Item) → Says (flat_map template_said ts) xs → SpellsSet ts xs
-set-leads [] _ says_nothing = ([], none, nothing, refl, refl)
+set-leads [] _ says_nothing = ([], none, spelled nothing, refl, refl)
 set-leads (t ∷ ts) _ (says {line = line} s) = first _ (nodes-leads t.1.nodes _ _ (rw append_assoc at s)) (set-leads ts)
   where
     first : (xs : List Item) → LeadsNodes t.1.nodes (said end_action ∷ said_text (codes "\n") ∷ flat_map template_said ts) xs
@@ -106,7 +106,7 @@ set-leads (t ∷ ts) _ (says {line = line} s) = first _ (nodes-leads t.1.nodes _
         → SpellsSet (t ∷ ts) (item line (action_item (define_action t.0)) ∷ xs)
     first _ (ms, alike, _, leads, says (says_text {line = at} s)) more =
         let (ds, own, spells, same, newlines) = more _ s in
-        (definition line t.0 ms ∷ ds, then at (text (codes "\n")) own, a_define (leads ds) (a_node a_text spells), cc, cc)
+        (definition line t.0 ms ∷ ds, then at (text (codes "\n")) own, spelled (a_define (leads ds) (a_node a_text (led spells))), cc, cc)
 
 are-parts : (ss : List Said) → AreSaid ss → AreParts (map part_of ss)
 are-parts [] h = tt

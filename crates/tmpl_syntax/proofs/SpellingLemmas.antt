@@ -16,8 +16,8 @@ use Rattle.tmpl_syntax.specs.computed.Frames.{Verdict, fine}
 use Rattle.tmpl_syntax.proofs.StepLemmas.{joins-own}
 use Rattle.tmpl_syntax.proofs.VerdictLemmas.{one-verdict, judged-all}
 use Rattle.tmpl_grammar.specs.declared.action.Branch.{Branch}
-use Rattle.tmpl_syntax.specs.Spelling.{IsNode, a_text, an_action, a_break, a_continue, a_template, Leads, nothing, a_node, a_control, a_define, a_block}
-use Rattle.tmpl_syntax.specs.Spelling.{Closes, an_end, an_else, an_else_branch, Spells}
+use Rattle.tmpl_syntax.specs.Spelling.{IsNode, a_text, an_action, a_break, a_continue, a_template, Spells}
+use Rattle.tmpl_syntax.proofs.LeadsLemmas.{Leads, nothing, a_node, a_control, a_define, a_block, Closes, an_end, an_else, an_else_branch, led, spelled}
 use Rattle.tmpl_syntax.specs.computed.Build as build
 use Rattle.tmpl_syntax.specs.computed.Build.{no_parts, first_of, rest_of, with_node_before, put_before, control_before, definition_before, else_before}
 use Rattle.tmpl_syntax.specs.computed.Build.{branch_before, end_before, parts_with, parts_before, nodes_from, definitions_from}
@@ -119,7 +119,7 @@ rest-from (x ∷ xs) i known fs e =
 -- an accepted file's items spell the definitions and nodes that are built from them
 pub spells-fine : (items : List Item) → verdict_of (roles_of items) ≡ fine → Spells items (definitions_from items) (nodes_from items)
 unfolding verdict_of nodes_from definitions_from
-spells-fine items e = rest-from items 0 none_known [] e
+spells-fine items e = spelled (rest-from items 0 none_known [] e)
 
 pub spells-where-fine : SpellsWhereFine
 spells-where-fine items j = spells-fine items (one-verdict (roles_of items) (verdict_of (roles_of items)) fine (judged-all (roles_of items)) j)
@@ -161,7 +161,7 @@ mutual
 pub spells-built : (items : List Item) (ds : List Definition) (ns : Nodes) → Spells items ds ns → (definitions_from items ≡ ds) × (nodes_from items ≡ ns)
 unfolding nodes_from definitions_from
 spells-built items ds ns d =
-    let e = leads-built d none [] refl in (ap (λ (p : build.Parts). p.definitions) e, ap (λ (p : build.Parts). p.inner.nodes) e)
+    let e = leads-built (led d) none [] refl in (ap (λ (p : build.Parts). p.definitions) e, ap (λ (p : build.Parts). p.inner.nodes) e)
 
 pub one-spelling : SpellsAtMostOne
 one-spelling items ds es ns ms d e =
