@@ -22,13 +22,13 @@ use Rattle.tmpl_syntax.specs.Formed.{is_among, are_among, declared_to, else_scop
 use Rattle.tmpl_syntax.proofs.FormedLemmas.{control-formed, or-left, or-right}
 use Rattle.tmpl_meaning.specs.Fault.{Cause, Fault}
 use Rattle.tmpl_meaning.specs.Meaning.{Calls, End, Next, Rules, Run, Setting, after, after_turn, assigned, bound, broke, continued, calls_within}
-use Rattle.tmpl_meaning.specs.Meaning.{done, faulted, meanings, over, scope, setting_of, shown, spend, stepped, turns, visited, with_bound}
+use Rattle.tmpl_meaning.specs.Meaning.{done, faulted, meanings, scope, setting_of, shown, spend, stepped, turns, visited, with_bound}
 use Rattle.tmpl_meaning.specs.Meaning.{with_pipeline, with_value}
 use Rattle.tmpl_meaning.specs.Pipeline.{Environment, Given, commands_value}
 use Rattle.tmpl_meaning.specs.Laws.{FindsItsOwn, FindsNames, IsOver, EndsInRange, StaysInScope, scope_past, with_older}
-use Rattle.tmpl_meaning.proofs.PartLemmas.{choosing, controlling, handing, left_by, oldest, on_end, on_turn, one_of, run_called, scoped, spend_if, turn}
-use Rattle.tmpl_meaning.proofs.PartLemmas.{uncalled, with_given}
-use Rattle.tmpl_meaning.proofs.PartLemmas.{without_key}
+use Rattle.tmpl_meaning.proofs.PartLemmas.{choosing, controlling, handing, left_by, oldest, on_end, on_turn, one_of, over, run_called, scoped, spend_if, turn}
+use Rattle.tmpl_meaning.proofs.PartLemmas.{over, uncalled, with_given}
+use Rattle.tmpl_meaning.proofs.PartLemmas.{over, without_key}
 use Rattle.tmpl_meaning.proofs.PlaceLemmas.{names, pipeline-same}
 
 -- ---- lists of names

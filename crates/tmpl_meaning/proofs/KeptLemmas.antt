@@ -14,9 +14,9 @@ use Rattle.tmpl_syntax.specs.Tree.{NodeKind, Nodes, Tree, text, action, control_
 use Rattle.tmpl_syntax.specs.Set.{Template, tree_named}
 use Rattle.tmpl_meaning.specs.Fault.{Cause}
 use Rattle.tmpl_meaning.specs.Pipeline.{Environment, Place, commands_value}
-use Rattle.tmpl_meaning.specs.Meaning.{Calls, End, Next, Rules, Run, Setting, broke, calls_within, done, faulted, meanings, over, scope}
+use Rattle.tmpl_meaning.specs.Meaning.{Calls, End, Next, Rules, Run, Setting, broke, calls_within, done, faulted, meanings, scope}
 use Rattle.tmpl_meaning.specs.Meaning.{setting_of, shown, spend, stepped, turns, visited, with_bound, with_pipeline, with_value}
-use Rattle.tmpl_meaning.proofs.PartLemmas.{apart, choosing, controlling, handing, on_end, on_turn, one_of, run_called, spend_if, turn, uncalled, without_key}
+use Rattle.tmpl_meaning.proofs.PartLemmas.{apart, choosing, controlling, handing, on_end, on_turn, one_of, over, run_called, spend_if, turn, uncalled, without_key}
 
 -- each pipeline of a node, and of nodes, is such
 abbrev mutual

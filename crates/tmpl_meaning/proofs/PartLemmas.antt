@@ -12,8 +12,9 @@ use Rattle.tmpl_syntax.specs.Tree.{Tree}
 use Rattle.tmpl_syntax.specs.Set.{Template}
 use Rattle.tmpl_meaning.specs.Fault.{Cause, call_failed, calls_too_deep, no_template, steps_spent}
 use Rattle.tmpl_meaning.specs.Pipeline.{Environment, Given, given}
-use Rattle.tmpl_meaning.specs.Meaning.{Calls, End, Next, Ran, Rules, Run, Setting, after, after_turn, calls_within, controlled, done, fault_of}
-use Rattle.tmpl_meaning.specs.Meaning.{faulted, faulted_at, meanings, scope, setting_of, spend, with_bound, with_pipeline, with_value}
+use Rattle.tmpl_meaning.specs.Meaning.{Calls, End, Next, Ran, Rules, Run, Setting, after, after_turn, calls_within, done, fault_of}
+use Rattle.tmpl_meaning.specs.Meaning as meaning
+use Rattle.tmpl_meaning.specs.Meaning.{Parts, faulted, faulted_at, meanings, scope, setting_of, spend, with_bound, with_pipeline, with_value}
 
 -- ---- pipelines
 
@@ -52,6 +53,16 @@ one_of b body other r = (if b then body else other) r
 
 abbrev pub choosing : Setting → ℕ → Header → Value → (Value → Next) → Next → Next
 choosing s line h d body other = with_pipeline s line h.pipeline d (λ v r. one_of (truth v) (body v) other (with_bound h.binding (without_key v) r))
+
+-- the parts of a control, one by one
+abbrev pub parts_of : Binding → (Value → Next) → Next → Parts
+parts_of b body other = record { binding = b; body = body; other = other }
+
+abbrev pub over : Setting → ℕ → Binding → (Value → Next) → Next → Option (List Element) → Next
+over s line b body other es = meaning.over s line (parts_of b body other) es
+
+abbrev pub controlled : Setting → ℕ → Control → Binding → Value → (Value → Next) → Next → Value → Next
+controlled s line c b d body other = meaning.controlled s line c (parts_of b body other) d
 
 abbrev pub controlling : Setting → ℕ → Control → Header → Value → (Value → Next) → Next → Next
 controlling s line c h d body other = with_pipeline s line h.pipeline d (controlled s line c h.binding d body other)

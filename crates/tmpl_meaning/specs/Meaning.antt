@@ -124,18 +124,27 @@ abbrev pub visited : Binding → Value → Option (List Element)
 visited (declare_pair key name) v = pairs v
 visited b v = elements v
 
--- a range over the elements, or its other part where there are none
-abbrev pub over : Setting → ℕ → Binding → (Value → Next) → Next → Option (List Element) → Next
-over s line b body other None r = (r, faulted_at s line not_a_range)
-over s line b body other (Some []) r = other r
-over s line b body other (Some (e ∷ es)) r = turns s line b body (e ∷ es) r
+-- what stands in a control: the variables in its header, its body with a dot, and its other part
+pub record Parts : Type 0 where
+  pub binding : Binding
+  pub body : Value → Next
+  pub other : Next
 
--- a control with the value of its pipeline, by its body with a dot and its other part: an `if` or a `with` is the body
--- where the value is not empty, which a `with` has as its dot, else the other part
-abbrev pub controlled : Setting → ℕ → Control → Binding → Value → (Value → Next) → Next → Value → Next
-controlled s line control.If b d body other v r = (if truth v then body d else other) (with_bound b (nothing, v) r)
-controlled s line control.With b d body other v r = (if truth v then body v else other) (with_bound b (nothing, v) r)
-controlled s line control.Range b d body other v r = over s line b body other (visited b v) r
+-- an `if` or a `with` that has this value: its body with a dot where the value is not empty, else its other part
+abbrev pub chosen : Parts → Value → Value → Next
+chosen p d v r = (if truth v then p.body d else p.other) (with_bound p.binding (nothing, v) r)
+
+-- a range over the elements, or its other part where there are none
+abbrev pub over : Setting → ℕ → Parts → Option (List Element) → Next
+over s line p None r = (r, faulted_at s line not_a_range)
+over s line p (Some []) r = p.other r
+over s line p (Some (e ∷ es)) r = turns s line p.binding p.body (e ∷ es) r
+
+-- a control with this dot and the value of its pipeline, which the body of a `with` has as its dot
+abbrev pub controlled : Setting → ℕ → Control → Parts → Value → Value → Next
+controlled s line control.If p d v r = chosen p d v r
+controlled s line control.With p d v r = chosen p v v r
+controlled s line control.Range p d v r = over s line p (visited p.binding v) r
 
 abbrev mutual
   -- a node with this dot, once its step is taken; its variables last to the end of a control; a template that it calls
@@ -144,7 +153,8 @@ abbrev mutual
   stepped s line (text bytes) d = λ r. (record r { text = r.text ++ bytes }, done)
   stepped s line (action h) d = with_pipeline s line h.pipeline d (shown h.binding)
   stepped s line (control_node c h body other) d =
-      scope (with_pipeline s line h.pipeline d (controlled s line c h.binding d (meanings s body) (meanings s other d)))
+      let parts : Parts = record { binding = h.binding; body = meanings s body; other = meanings s other d } in
+      scope (with_pipeline s line h.pipeline d (controlled s line c parts d))
   stepped s line break_node d = λ r. (r, broke)
   stepped s line continue_node d = λ r. (r, continued)
   stepped s line (template_node name given) d = with_value s line (s.calls name)

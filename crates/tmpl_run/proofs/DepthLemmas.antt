@@ -14,9 +14,9 @@ use Rattle.tmpl_syntax.specs.Set.{Template, number_of, tree_named}
 use Rattle.tmpl_syntax.proofs.NamedLemmas.{Named, numbered, unnumbered}
 use Rattle.tmpl_meaning.specs.Fault as fault
 use Rattle.tmpl_meaning.specs.Pipeline.{commands_value}
-use Rattle.tmpl_meaning.specs.Meaning.{Calls, Cause, Next, Rules, Run, Setting, after, after_turn, calls_within, meanings, over, scope}
+use Rattle.tmpl_meaning.specs.Meaning.{Calls, Cause, Next, Rules, Run, Setting, after, after_turn, calls_within, meanings, scope}
 use Rattle.tmpl_meaning.specs.Meaning.{setting_of, shown, spend, stepped, turns, visited, with_bound, with_pipeline, with_value}
-use Rattle.tmpl_meaning.proofs.PartLemmas.{apart, controlling, handing, one_of, ran_of, run_called, scoped, spend_if, started, uncalled, without_key}
+use Rattle.tmpl_meaning.proofs.PartLemmas.{apart, controlling, handing, one_of, over, ran_of, run_called, scoped, spend_if, started, uncalled, without_key}
 use Rattle.tmpl_code.specs.Calls.{IsChain, NodeNames, NodesName}
 use Rattle.tmpl_run.specs.Laws.{DepthByChains}
 use Rattle.tmpl_run.specs.State.{starting_dot}

@@ -12,8 +12,8 @@ use Rattle.tmpl_syntax.specs.Tree.{Nodes}
 use Rattle.tmpl_syntax.specs.Need.{need_of_nodes}
 use Rattle.tmpl_meaning.specs.Pipeline.{Environment}
 use Rattle.tmpl_meaning.specs.Meaning as meaning
-use Rattle.tmpl_meaning.specs.Meaning.{Calls, End, Next, Run, after_turn, bound, meanings, over, scope, turns, visited, with_bound}
-use Rattle.tmpl_meaning.proofs.PartLemmas.{controlling, on_turn, scoped, spend_if}
+use Rattle.tmpl_meaning.specs.Meaning.{Calls, End, Next, Run, after_turn, bound, meanings, scope, turns, visited, with_bound}
+use Rattle.tmpl_meaning.proofs.PartLemmas.{controlling, on_turn, over, scoped, spend_if}
 use Rattle.tmpl_code.specs.Instruction as code
 use Rattle.tmpl_code.specs.Layout.{Layout, bound_on, declared_in, declares_key, slot_named, first_layout}
 use Rattle.tmpl_code.specs.Code.{Above, Code, Ended, NodesAt, SetDotAt, TurnAt}
