@@ -9,7 +9,7 @@ use Rattle.std.proofs.lemmas.List.{length-take}
 use Rattle.std.proofs.lemmas.List.Sums.{prefix_len-le-length}
 use Rattle.tmpl_values.specs.Value.{Value}
 use Rattle.tmpl_funcs.specs.printf.Form.{WrittenForm, Segment, literal, percent, form, form_of, is_plain}
-use Rattle.tmpl_funcs.specs.printf.Spelling.{pointed, form_bytes, segment_bytes}
+use Rattle.tmpl_funcs.specs.printf.Spelling.{form_bytes}
 use Rattle.std.specs.Option.{option_map_or}
 use Rattle.tmpl_funcs.specs.printf.Reading.{reading}
 use Rattle.tmpl_funcs.specs.computed.Scan.{form_at, first_segment, segments_read}

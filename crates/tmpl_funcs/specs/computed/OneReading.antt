@@ -3,6 +3,7 @@ use Rattle.std.proofs.Common.{◌≡◌, ◌∙◌, ℕ, zero, suc, ◌+◌, ◌
 use Rattle.std.proofs.Common.{◌++◌, length, drop, get_or, IfSome, Option, Some, None, option_map, option_and_then, if◌then◌else◌, length-append, refl, sym, ap, subst, arith, append_assoc}
 use Rattle.std.specs.Char.{is_ascii_digit}
 use Rattle.std.specs.Option.{option_map_or}
+use Rattle.std.specs.Prelude.{slice_get}
 use Rattle.std.specs.List.{flat_map, prefix_len, take_while, list_all}
 use Rattle.std.proofs.Math.Seq.{drop-append_seam}
 use Rattle.std.proofs.lemmas.Bool.{false≢true, not-true}
@@ -13,13 +14,61 @@ use Rattle.std.proofs.lemmas.Option.{IfSome_then}
 use Rattle.tmpl_values.specs.One.{One}
 use Rattle.tmpl_funcs.specs.printf.Directive.{is_verb}
 use Rattle.tmpl_funcs.specs.printf.Form.{WrittenForm, Segment, literal, percent, form, is_plain, is_flag, takes_precision}
-use Rattle.tmpl_funcs.specs.printf.Spelling.{pointed, form_bytes, segment_bytes, is_short, begins_above_0}
-use Rattle.tmpl_funcs.specs.printf.Spelling.{IsPrecision, IsForm, IsNoRun, AreSegments, IsReading, IsReadAs}
-use Rattle.tmpl_funcs.specs.computed.Scan.{verb_of, behind, verb_behind, form_at, first_segment, segment_len, segments_after, segments_read}
+use Rattle.tmpl_funcs.specs.printf.Spelling.{pointed, form_bytes, is_short, begins_above_0}
+use Rattle.tmpl_funcs.specs.printf.Spelling as spelling
+use Rattle.tmpl_funcs.specs.printf.Spelling.{IsPrecision, IsForm, IsReading, IsReadAs}
+use Rattle.tmpl_funcs.specs.computed.Scan.{verb_of, behind, verb_behind, form_at, first_segment, segment_bytes, segment_len, segments_after, segments_read}
 use Rattle.tmpl_funcs.specs.computed.Reading.{is_precision, form_if, form_by, precision_behind, rest_len, with_segment}
 use Rattle.tmpl_funcs.specs.computed.Front.{begins, take_while-append, behind-append, list_all-take_while, begins-behind}
 use Rattle.tmpl_funcs.specs.computed.Front.{take_while-behind, take_while-passing}
 use Rattle.std.proofs.lemmas.Bool.{and_parts}
+
+-- ---- segments, and how they are spelled
+
+-- a run has bytes, and none of them is `%`
+abbrev IsRun : List ℕ → Type 0
+IsRun [] = ⊥
+IsRun (b ∷ bs) = list_all is_plain (b ∷ bs) ≡ true
+
+-- the next segment, if there is one, is no run
+abbrev IsNoRun : List Segment → Type 0
+IsNoRun (literal run ∷ ps) = ⊥
+IsNoRun _ = Unit {0}
+
+-- the segments are well formed, and a run goes on as far as it can
+abbrev AreSegments : List Segment → Type 0
+AreSegments [] = Unit {0}
+AreSegments (literal run ∷ ps) = IsRun run × IsNoRun ps × AreSegments ps
+AreSegments (percent ∷ ps) = AreSegments ps
+AreSegments (form f ∷ ps) = IsForm f × AreSegments ps
+
+no_run : (rest : List ℕ) (ps : List Segment) → IfSome (slice_get rest 0) (λ c. c ≡ 37) → IsReading rest ps → IsNoRun ps
+no_run _ _ stop spelling.at_end = tt
+no_run _ _ stop (spelling.a_run {b = b} {run = run} plain next more) =
+    let t : true ≡ false = sym (and_parts (is_plain b) (list_all is_plain run) plain).0 ∙ ap is_plain stop in cc
+no_run _ _ stop (spelling.a_percent more) = tt
+no_run _ _ stop (spelling.a_form is more) = tt
+
+spelled : (format : List ℕ) (ps : List Segment) → IsReading format ps → (format ≡ flat_map segment_bytes ps) × AreSegments ps
+spelled _ _ spelling.at_end = (refl, tt)
+spelled _ _ (spelling.a_run {b = b} {run = run} {rest = rest} {ps = ps} plain stop more) =
+    let k = spelled rest ps more in (ap (λ t. b ∷ run ++ t) k.0, (plain, no_run rest ps stop more, k.1))
+spelled _ _ (spelling.a_percent {rest = rest} {ps = ps} more) = let k = spelled rest ps more in (ap (λ t. 37 ∷ 37 ∷ t) k.0, k.1)
+spelled _ _ (spelling.a_form {f = f} {rest = rest} {ps = ps} is more) =
+    let k = spelled rest ps more in (ap (λ t. 37 ∷ (form_bytes f ++ t)) k.0, (is, k.1))
+
+stops : (ps : List Segment) → IsNoRun ps → IfSome (slice_get (flat_map segment_bytes ps) 0) (λ c. c ≡ 37)
+stops [] never = tt
+stops (literal run ∷ ps) never = absurd never
+stops (percent ∷ ps) never = refl
+stops (form f ∷ ps) never = refl
+
+read : (ps : List Segment) → AreSegments ps → IsReading (flat_map segment_bytes ps) ps
+read [] are = spelling.at_end
+read (literal [] ∷ ps) are = absurd are.0
+read (literal (b ∷ run) ∷ ps) are = spelling.a_run are.0 (stops ps are.1) (read ps are.2)
+read (percent ∷ ps) are = spelling.a_percent (read ps are)
+read (form f ∷ ps) are = spelling.a_form are.0 (read ps are.1)
 
 -- ---- the first segment
 
@@ -344,11 +393,12 @@ segments_after-sound (b ∷ bs) zero =
 pub reading-sound : (format : List ℕ) (ps : List Segment) → segments_read format ≡ Some ps → IsReading format ps
 unfolding segments_read
 reading-sound format ps h =
-    let sound = subst (λ o. IfSome o (IsSound format)) h (segments_after-sound format 0) in record { spells = sound.spells; segments = sound.segments }
+    let sound = subst (λ o. IfSome o (IsSound format)) h (segments_after-sound format 0) in
+    subst (λ t. IsReading t ps) (sym sound.spells) (read ps sound.segments)
 
 -- it reads each reading
 pub reading-complete : (format : List ℕ) (ps : List Segment) → IsReading format ps → segments_read format ≡ Some ps
-reading-complete format ps is = ap segments_read is.spells ∙ reading-found ps is.segments
+reading-complete format ps is = let k = spelled format ps is in ap segments_read k.0 ∙ reading-found ps k.1
 
 -- what is read is what the relation admits
 pub read-holds : (format : List ℕ) (o : Option (List Segment)) → segments_read format ≡ o → IsReadAs format o

@@ -7,8 +7,8 @@ use Rattle.std.specs.List.{take_while}
 use Rattle.std.specs.Option.{option_map_or}
 use Rattle.std.specs.Str.{byte}
 use Rattle.tmpl_funcs.specs.printf.Form.{WrittenForm, Segment, form_of, takes_precision}
-use Rattle.tmpl_funcs.specs.computed.Scan.{behind, verb_behind}
-use Rattle.tmpl_funcs.specs.printf.Spelling.{form_bytes, segment_bytes, is_short}
+use Rattle.tmpl_funcs.specs.computed.Scan.{behind, segment_bytes, verb_behind}
+use Rattle.tmpl_funcs.specs.printf.Spelling.{form_bytes, is_short}
 use Rattle.tmpl_funcs.specs.computed.View.{form_seen}
 use Rattle.tmpl_funcs.specs.declared.printf.form.Form as held
 

@@ -1,5 +1,5 @@
 -- A format read from left to right.
-use Rattle.std.specs.Prelude.{ℕ, zero, suc, ◌+◌, ◌-◌, ◌&&◌, ◌==◌, nat_le, Bool, true, List, [], ◌∷◌, length, drop}
+use Rattle.std.specs.Prelude.{ℕ, zero, suc, ◌+◌, ◌-◌, ◌&&◌, ◌==◌, nat_le, Bool, true, List, [], ◌∷◌, ◌++◌, codes, length, drop}
 use Rattle.std.specs.Prelude.{slice_get, slice_index, Option, Some, None}
 use Rattle.std.specs.Prelude.{option_map, option_and_then, if◌then◌else◌}
 use Rattle.std.specs.Char.{is_ascii_digit}
@@ -9,6 +9,7 @@ use Rattle.std.specs.Str.{byte}
 use Rattle.tmpl_funcs.specs.printf.Form.{WrittenForm, Segment, literal, percent, form, is_plain, is_flag}
 use Rattle.tmpl_funcs.specs.printf.Form.{takes_precision}
 use Rattle.tmpl_funcs.specs.printf.Directive.{is_verb}
+use Rattle.tmpl_funcs.specs.printf.Spelling.{form_bytes}
 
 -- the letter, where a verb has it
 abbrev pub verb_of : ℕ → Option ℕ
@@ -59,3 +60,9 @@ segments_after zero (b ∷ bs) =
 -- the segments of a format, read from left to right; none where it is no format
 unfoldable pub segments_read : List ℕ → Option (List Segment)
 segments_read format = segments_after 0 format
+
+-- how a segment is spelled
+abbrev pub segment_bytes : Segment → List ℕ
+segment_bytes (literal run) = run
+segment_bytes percent = codes "%%"
+segment_bytes (form f) = codes "%" ++ form_bytes f

@@ -1,8 +1,8 @@
 -- How formats are spelled, and by which segments.
 use Rattle.std.specs.Prelude.{◌≡◌, ℕ, ◌==◌, not, nat_le, Bool, true, List, [], ◌∷◌, ◌++◌, length, codes}
-use Rattle.std.specs.Prelude.{Option, Some, None, IfSome}
+use Rattle.std.specs.Prelude.{Option, Some, None, IfSome, slice_get}
 use Rattle.std.specs.Char.{is_ascii_digit}
-use Rattle.std.specs.List.{flat_map, list_all}
+use Rattle.std.specs.List.{list_all}
 use Rattle.std.specs.Option.{option_map_or}
 use Rattle.std.specs.Str.{byte}
 use Rattle.tmpl_funcs.specs.printf.Directive.{is_verb}
@@ -16,12 +16,6 @@ pointed precision = option_map_or (λ digits. byte "." ∷ digits) precision []
 -- how a form is spelled behind its `%`
 abbrev pub form_bytes : WrittenForm → List ℕ
 form_bytes f = f.flags ++ (f.width ++ (pointed f.precision ++ f.verb ∷ []))
-
--- how a segment is spelled
-abbrev pub segment_bytes : Segment → List ℕ
-segment_bytes (literal run) = run
-segment_bytes percent = codes "%%"
-segment_bytes (form f) = codes "%" ++ form_bytes f
 
 -- the digits are few enough
 abbrev pub is_short : List ℕ → Bool
@@ -46,27 +40,16 @@ pub record IsForm (f : WrittenForm) : Type 0 where
   pub precision : IsPrecision f.precision f.verb
   pub verb : is_verb f.verb ≡ true
 
--- a run has bytes, and none of them is `%`
-abbrev pub IsRun : List ℕ → Type 0
-IsRun [] = ⊥
-IsRun (b ∷ bs) = list_all is_plain (b ∷ bs) ≡ true
-
--- the next segment, if there is one, is no run
-abbrev pub IsNoRun : List Segment → Type 0
-IsNoRun (literal run ∷ ps) = ⊥
-IsNoRun _ = Unit {0}
-
--- the segments are well formed, and a run goes on as far as it can
-abbrev pub AreSegments : List Segment → Type 0
-AreSegments [] = Unit {0}
-AreSegments (literal run ∷ ps) = IsRun run × IsNoRun ps × AreSegments ps
-AreSegments (percent ∷ ps) = AreSegments ps
-AreSegments (form f ∷ ps) = IsForm f × AreSegments ps
-
--- the segments of a format: spelled one after another they are the format
-pub record IsReading (format : List ℕ) (ps : List Segment) : Type 0 where
-  pub spells : format ≡ flat_map segment_bytes ps
-  pub segments : AreSegments ps
+-- the format consists of these segments, one after the other: a run has bytes, none of which is `%`, and goes on as far
+-- as it can
+pub data IsReading : List ℕ → List Segment → Type 0 where
+  at_end : IsReading [] []
+  a_run : {b : ℕ} {run rest : List ℕ} {ps : List Segment} → list_all is_plain (b ∷ run) ≡ true
+      → IfSome (slice_get rest 0) (λ c. c ≡ byte "%") → IsReading rest ps
+      → IsReading (b ∷ run ++ rest) (literal (b ∷ run) ∷ ps)
+  a_percent : {rest : List ℕ} {ps : List Segment} → IsReading rest ps → IsReading (codes "%%" ++ rest) (percent ∷ ps)
+  a_form : {f : WrittenForm} {rest : List ℕ} {ps : List Segment} → IsForm f → IsReading rest ps
+      → IsReading (codes "%" ++ (form_bytes f ++ rest)) (form f ∷ ps)
 
 -- what a format is read as: its segments, or nothing where no segments spell it
 abbrev pub IsReadAs : List ℕ → Option (List Segment) → Type 0
