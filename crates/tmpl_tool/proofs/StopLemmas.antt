@@ -17,7 +17,7 @@ use Rattle.tmpl_tool.specs.Help.{asks_help}
 use Rattle.tmpl_tool.specs.Source.{Asked, Bytes, Files}
 use Rattle.tmpl_tool.specs.Outcome.{Says}
 use Rattle.tmpl_tool.specs.Tool as tool
-use Rattle.tmpl_tool.specs.Tool.{Failing, Follows, MadeOf, Parse, Stop, answer_of, asked_by, data_found, data_wanted, file_reads}
+use Rattle.tmpl_tool.specs.Tool.{Failing, Follows, MadeOf, Observed, Parse, Stop, answer_of, asked_by, data_found, data_wanted, file_reads}
 use Rattle.tmpl_tool.specs.Tool.{loaded, no_read, stop_answer, stop_if, tool_answer, tool_reads}
 use Rattle.tmpl_values.specs.Stage.{and_then}
 use Rattle.tmpl_tool.specs.Inputs.{Counts, StopsAt, inputs_of, inputs_reads, said_of, stop_seen}
@@ -118,11 +118,19 @@ module _ (parse : Parse) (files : Files) (w : Wanted) where
   stops_after Made (Some (tool.unread n)) (k, h, made) = (k, rw (after_inputs (nat_eq k), h) refl, made)
   stops_after Made (Some s) h = (rw (after_inputs no_read, h.0) refl, h.1)
 
+-- what is observed, one by one
+abbrev observed : ℕ → ℕ → Option (List Bytes) → Option (List Bytes) → Sunk → Sunk → ℕ → Observed
+observed was is before after out err code =
+    record { failed_before = was; failed_after = is; asked_before = before; asked_after = after; out = out; err = err; code = code }
+
 module _ (err : Sunk) (code : ℕ) where
-  module _ (parse : Parse) (t : Told) (was is : ℕ) (Made : List Bytes → Type 0) (w : Wanted) (files : Files) where
+  module _ (parse : Parse) (t : Told) (was is : ℕ) (before after : Option (List Bytes)) (w : Wanted) (files : Files) where
+    abbrev Made : List Bytes → Type 0
+    Made = Asked before after
+
     -- what is read, and what comes of it
     abbrev Comes : Type 0
-    Comes = Follows (λ fails. answer_of (after_words parse files w fails)) (inputs_reads parse files w) was is Made (sunk t t) err code
+    Comes = Follows (inputs_reads parse files w) (λ fails. answer_of (after_words parse files w fails)) (observed was is before after (sunk t t) err code)
 
     stops_at : (s : Stop) → is ≡ was → (after_words parse files w no_read ≡ Err s) × Made (inputs_reads parse files w no_read)
         → code ≡ (stop_answer s).status → Says (stop_answer s).line err → (stop_answer s).text ≡ [] → Comes
@@ -143,20 +151,20 @@ module _ (err : Sunk) (code : ℕ) where
         → code ≡ (said_of (stop_seen s)).status → Says (said_of (stop_seen s)).line err → Comes
     stops (stop.NotFound m) counts h status says = stops_at (tool.not_found m.now) counts h status says refl
     stops (stop.Failed m) counts (k, h, made) status says =
-        inr (counts, (k, rw h refl, made, rw h (inl (nothing_put t, status, says))))
+        inr (k, (counts, rw h refl, made, rw h (inl (nothing_put t, status, says))))
     stops (stop.Template f) counts h status says = refusal f (reason_of f.kind) counts h status says
     stops (stop.NotJson m) counts h status says = stops_at (tool.flawed m.now not_json) counts h status says refl
     stops (stop.NotWhole m) counts h status says = stops_at (tool.flawed m.now not_whole) counts h status says refl
     stops stop.OutOfMemory counts h status says = refused_memory counts h status says
 
-  module _ (parse : Parse) (out : Sunk) (was is : ℕ) (Made : List Bytes → Type 0) (w : Wanted) (files : Files) where
+  module _ (parse : Parse) (out : Sunk) (was is : ℕ) (before after : Option (List Bytes)) (w : Wanted) (files : Files) where
     -- the words are accepted, and the program goes on
     pub accepted : (words : List Bytes) → asked_by words ≡ Ok w
-        → Follows (λ fails. answer_of (after_words parse files w fails)) (inputs_reads parse files w) was is Made out err code
-        → Follows (tool_answer parse words files) (tool_reads parse words files) was is Made out err code
+        → Follows (inputs_reads parse files w) (λ fails. answer_of (after_words parse files w fails)) (observed was is before after out err code)
+        → Follows (tool_reads parse words files) (tool_answer parse words files) (observed was is before after out err code)
     accepted words asked h =
-        subst (λ r. Follows (λ fails. answer_of (and_then r (λ w. after_words parse files w fails)))
-        (λ fails. option_map_or (λ w. inputs_reads parse files w fails) (result_ok r) []) was is Made out err code) (sym asked) h
+        subst (λ r. Follows (λ fails. option_map_or (λ w. inputs_reads parse files w fails) (result_ok r) [])
+        (λ fails. answer_of (and_then r (λ w. after_words parse files w fails))) (observed was is before after out err code)) (sym asked) h
 
 -- words that are taken
 pub asks : (words : List Bytes) (w : Wanted) → wanted words ≡ Some w → asks_help words ≡ false → asked_by words ≡ Ok w

@@ -21,7 +21,7 @@ use Rattle.tmpl_funcs.specs.declared.fault.CallFault.{CallFault}
 use Rattle.tmpl_funcs.specs.declared.fault.CallFault.TheVariants as call
 use Rattle.tmpl_tool.specs.Help.{asks_help}
 use Rattle.tmpl_tool.specs.Words.{Wanted, wanted}
-use Rattle.tmpl_tool.specs.Source.{Bytes, Files}
+use Rattle.tmpl_tool.specs.Source.{Asked, Bytes, Files}
 use Rattle.tmpl_tool.specs.Outcome.{Answer, Outcome, line}
 
 -- ---- template files
@@ -212,18 +212,33 @@ tool_reads parse words files fails = option_map_or (λ w. file_reads parse files
 
 -- ---- what is observed
 
+-- of the source how many reads failed before the call and after it, and what was asked for till then, where that is
+-- told; the sinks, and the status
+pub record Observed : Type 0 where
+  pub failed_before : ℕ
+  pub failed_after : ℕ
+  pub asked_before : Option (List Bytes)
+  pub asked_after : Option (List Bytes)
+  pub out : Sunk
+  pub err : Sunk
+  pub code : ℕ
+
 -- the reads that were made are a beginning of these
 abbrev pub MadeOf : (List Bytes → Type 0) → List Bytes → Type 0
 MadeOf Made names = (front : List Bytes) × (rest : List Bytes) × (front ++ rest ≡ names) × Made front
 
--- they are these, or memory was refused, and they are a beginning of them
-abbrev pub MadeUnless : (List Bytes → Type 0) → ℕ → List Bytes → Type 0
-MadeUnless Made code names = Made names ⊎ ((code ≡ 7) × MadeOf Made names)
+-- no read failed: these reads were made, or memory was refused, and a beginning of them was; and this comes of it
+abbrev pub NoneFailed : List Bytes → Answer → Observed → Type 0
+NoneFailed reads answer o = (o.failed_after ≡ o.failed_before)
+    × (Asked o.asked_before o.asked_after reads ⊎ ((o.code ≡ 7) × MadeOf (Asked o.asked_before o.asked_after) reads))
+    × Outcome answer o.out o.err o.code
 
--- no read failed, or one did, at which the command stops; what was read, and what comes of it
-abbrev pub Follows : (Failing → Answer) → (Failing → List Bytes) → ℕ → ℕ → (List Bytes → Type 0) → Sunk → Sunk → ℕ
-    → Type 0
-Follows answers reads was is Made out err code =
-    ((is ≡ was) × MadeUnless Made code (reads no_read) × Outcome (answers no_read) out err code)
-    ⊎ ((is ≡ was + 1) × ((k : ℕ) × ((answers (nat_eq k)).unread ≡ true) × Made (reads (nat_eq k))
-    × Outcome (answers (nat_eq k)) out err code))
+-- a read failed, at which the command stops: these reads were made, and this comes of it
+abbrev pub OneFailed : List Bytes → Answer → Observed → Type 0
+OneFailed reads answer o = (o.failed_after ≡ o.failed_before + 1) × (answer.unread ≡ true)
+    × Asked o.asked_before o.asked_after reads × Outcome answer o.out o.err o.code
+
+-- one of the two
+abbrev pub Follows : (Failing → List Bytes) → (Failing → Answer) → Observed → Type 0
+Follows reads answers o = NoneFailed (reads no_read) (answers no_read) o
+    ⊎ ((k : ℕ) × OneFailed (reads (nat_eq k)) (answers (nat_eq k)) o)

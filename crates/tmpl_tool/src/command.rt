@@ -4,7 +4,6 @@ ghost use Rattle.std.specs.Result.{result_err};
 ghost use Rattle.std.specs.String.{string_bytes};
 ghost use Rattle.tmpl_meaning.specs.Sink.{sunk};
 ghost use Rattle.tmpl_tool.specs.Outcome.{Counted, Once, Outcome};
-ghost use Rattle.tmpl_tool.specs.Source.{Asked};
 ghost use Rattle.tmpl_tool.specs.Tool.{Follows, IsParse, Parse, asked_by, stop_answer, tool_answer, tool_reads};
 
 use crate::answer::answer;
@@ -60,11 +59,15 @@ pub fn tool<S: Source, O: Sink, E: Sink>(
         result.code) }
     ensures told { (parse : Parse) → IsParse parse → IfSome (S.contents source.old) (λ files.
         let bytes = map (λ word. string_bytes word) words.now in
-        Follows (tool_answer parse bytes files) (tool_reads parse bytes files)
-        (S.failures source.old) (S.failures source.new) (Asked (S.asked source.old) (S.asked source.new))
-        (sunk (O.so_far out.old) (O.so_far out.new))
-        (sunk (E.so_far err.old) (E.so_far err.new))
-        result.code) }
+        Follows (tool_reads parse bytes files) (tool_answer parse bytes files) (record {
+          failed_before = S.failures source.old;
+          failed_after = S.failures source.new;
+          asked_before = S.asked source.old;
+          asked_after = S.asked source.new;
+          out = sunk (O.so_far out.old) (O.so_far out.new);
+          err = sunk (E.so_far err.old) (E.so_far err.new);
+          code = result.code;
+        })) }
 {
     tool_keeping(alloc, NameHash::fixed(), words, source, out, err).status
 }
@@ -93,11 +96,15 @@ pub fn tool_keeping<S: Source, O: Sink, E: Sink>(
         result.status.code) }
     ensures told { (parse : Parse) → IsParse parse → IfSome (S.contents source.old) (λ files.
         let bytes = map (λ word. string_bytes word) words.now in
-        Follows (tool_answer parse bytes files) (tool_reads parse bytes files)
-        (S.failures source.old) (S.failures source.new) (Asked (S.asked source.old) (S.asked source.new))
-        (sunk (O.so_far out.old) (O.so_far out.new))
-        (sunk (E.so_far err.old) (E.so_far err.new))
-        result.status.code) }
+        Follows (tool_reads parse bytes files) (tool_answer parse bytes files) (record {
+          failed_before = S.failures source.old;
+          failed_after = S.failures source.new;
+          asked_before = S.asked source.old;
+          asked_after = S.asked source.new;
+          out = sunk (O.so_far out.old) (O.so_far out.new);
+          err = sunk (E.so_far err.old) (E.so_far err.new);
+          code = result.status.code;
+        })) }
 {
     if asks_help(words) {
         return stopped(put_out(USAGE, out, err));

@@ -32,7 +32,12 @@ returns-in-Ok-read_inputs-clause-told g c parse is =
     let same : option_map (λ d. value_of d.now) c.as_ref.result ≡ option_map value_of inputs.data = search rules in
     if_told _ (g.S.Source.contents c.args.source.now) (λ files told.
     let reads = of_told _ _ files told (c.in-Ok-read_inputs.ensures.reads parse is) in
-    accepted _ c.answer.result.code parse _ _ _ _ w files words (asks words w c.in-Ok.ensures helps)
+    let source = g.S.Source.failures in
+    let asked = g.S.Source.asked in
+    let out = sunk (g.O.Sink.so_far c.args.out.now) (g.O.Sink.so_far c.answer.new.out) in
+    let err = sunk (g.E.Sink.so_far c.args.err.now) (g.E.Sink.so_far c.answer.new.err) in
+    accepted err c.answer.result.code parse out (source c.args.source.now) (source c.read_inputs.new.source) (asked c.args.source.now)
+    (asked c.read_inputs.new.source) w files words (asks words w c.in-Ok.ensures helps)
     (inl (
       c.in-Ok-read_inputs.ensures.counts,
       inl reads.1,
@@ -45,8 +50,15 @@ returns-in-Ok-clause-told g c parse is =
     let helps : asks_help words ≡ false = search rules in
     let w = seen c.in-Ok.request in
     if_told _ (g.S.Source.contents c.args.source.now) (λ files told.
-    accepted _ c.stopped-in-Err.result.status.code parse _ _ _ _ w files words (asks words w c.in-Ok.ensures helps)
-    (stops _ c.stopped-in-Err.result.status.code parse _ _ _ _ w files c.in-Err.stop c.in-Err.ensures.counts
+    let source = g.S.Source.failures in
+    let asked = g.S.Source.asked in
+    let out = g.O.Sink.so_far c.args.out.now in
+    let err = sunk (g.E.Sink.so_far c.args.err.now) (g.E.Sink.so_far c.refuse.new.err) in
+    let code = c.stopped-in-Err.result.status.code in
+    accepted err code parse (sunk out out) (source c.args.source.now) (source c.read_inputs.new.source) (asked c.args.source.now)
+    (asked c.read_inputs.new.source) w files words (asks words w c.in-Ok.ensures helps)
+    (stops err code parse out (source c.args.source.now) (source c.read_inputs.new.source) (asked c.args.source.now)
+    (asked c.read_inputs.new.source) w files c.in-Err.stop c.in-Err.ensures.counts
     (stops_after parse files w _ (stop_seen c.in-Err.stop) (of_told _ _ files told (c.in-Err.ensures.reads parse is)))
     (ap (λ (s : Status). s.code) c.stopped-in-Err.ensures ∙ c.refuse.ensures.code) c.refuse.ensures.line))
 
