@@ -8,25 +8,25 @@ use Rattle.tmpl_meaning.specs.Meaning.{Rules, Run, calls_within, setting_of, ste
 use Rattle.tmpl_meaning.specs.Laws.{NodeAdds, NodesAdd}
 use Rattle.tmpl_meaning.proofs.KeptLemmas.{CallsKeep, Keeps, NodeHas, NodesHave, calls-kept, nodes-kept, spend-kept, stepped-kept}
 
-abbrev Adds : Run → Run → Type 0
+abbrev pub Adds : Run → Run → Type 0
 Adds r q = (more : List ℕ) × (q.text ≡ r.text ++ more)
 
 -- whatever the pipelines are
-abbrev Any : Pipeline → Type 0
+abbrev pub Any : Pipeline → Type 0
 Any p = Unit {0}
 
 mutual
-  any-node : (n : NodeKind) → NodeHas Any n
+  pub any-node : (n : NodeKind) → NodeHas Any n
   any-node (control_node c h body other) = (tt, any-nodes body, any-nodes other)
   any-node (template_node name None) = tt
   any-node (template_node name (Some p)) = tt
   any-node _ = tt
 
-  any-nodes : (ns : Nodes) → NodesHave Any ns
+  pub any-nodes : (ns : Nodes) → NodesHave Any ns
   any-nodes tree.none = tt
   any-nodes (tree.then line n ns) = (any-node n, any-nodes ns)
 
-adds : Keeps Adds Any
+pub adds : Keeps Adds Any
 adds = record {
   same = λ r. ([], sym (append-nil r.text));
   on = λ r q u x y. (x.0 ++ y.0, y.1 ∙ ap (λ l. l ++ y.0) x.1 ∙ append_assoc r.text x.0 y.0);
@@ -36,7 +36,7 @@ adds = record {
   pipes = λ p s fine r. ([], sym (append-nil r.text));
 }
 
-calls-add : (rules : Rules) (set : List Template) (depth : ℕ) → CallsKeep adds (calls_within rules set depth)
+pub calls-add : (rules : Rules) (set : List Template) (depth : ℕ) → CallsKeep adds (calls_within rules set depth)
 calls-add rules set depth = calls-kept adds rules set (λ name t is. any-nodes t.nodes) depth
 
 pub node-adds : NodeAdds

@@ -54,11 +54,11 @@ module _ {Then : Run → Run → Type 0} {Fine : Pipeline → Type 0} (k : Keeps
       by true = k.same r
       by false = k.on r (record r { left = r.left - 1 }) _ (k.spends r (r.left - 1)) (h _)
 
-  end-kept : (r : Run) (end : End) (q : Run) (go : Next) → Then r q → Kept go → Then r (on_end end q go).0
+  pub end-kept : (r : Run) (end : End) (q : Run) (go : Next) → Then r q → Kept go → Then r (on_end end q go).0
   end-kept r done q go h g = k.on r q _ h (g q)
   end-kept r _ q go h g = h
 
-  turn-kept : (r : Run) (end : End) (q : Run) (go : Next) → Then r q → Kept go → Then r (on_turn end q go).0
+  pub turn-kept : (r : Run) (end : End) (q : Run) (go : Next) → Then r q → Kept go → Then r (on_turn end q go).0
   turn-kept r broke q go h g = h
   turn-kept r (faulted f) q go h g = h
   turn-kept r _ q go h g = k.on r q _ h (g q)
@@ -93,7 +93,7 @@ module _ {Then : Run → Run → Type 0} {Fine : Pipeline → Type 0} (k : Keeps
       pipeline-kept s line h.pipeline d (λ v r. one_of (truth v) (body v) other (with_bound h.binding (without_key v) r)) fine
       (λ v. bound-kept h.binding (without_key v) (one_of (truth v) (body v) other) (one-kept (truth v) (body v) other (f v) g))
 
-  turns-kept : (s : Setting) (line : ℕ) (b : Binding) (body : Value → Next) → ((v : Value) → Kept (body v)) → (es : List Element)
+  pub turns-kept : (s : Setting) (line : ℕ) (b : Binding) (body : Value → Next) → ((v : Value) → Kept (body v)) → (es : List Element)
       → Kept (turns s line b body es)
   turns-kept s line b body h [] r = k.same r
   turns-kept s line b body h (e ∷ es) r =

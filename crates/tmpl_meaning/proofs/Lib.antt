@@ -1,8 +1,12 @@
 pub mod AddLemmas
+pub mod AlikeLemmas
+pub mod CutLemmas
 pub mod Examples
 pub mod FormedLemmas
 pub mod JoinLemmas
 pub mod KeptLemmas
+pub mod LawExamples
+pub mod LimitLemmas
 pub mod PartLemmas
 pub mod PlaceLemmas
 pub mod PutLemmas

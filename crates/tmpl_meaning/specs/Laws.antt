@@ -1,18 +1,24 @@
--- The law that `and` and `or` are those of the function table, the law that a run only adds to its text, and what never
--- comes in a run of a formed tree.
-use Rattle.std.specs.Prelude.{◌≡◌, ℕ, Bool, true, false, List, [], ◌∷◌, ◌++◌, length, map, Option, Ok, option_to_list}
+-- The law that `and` and `or` are those of the function table, the law that a run only adds to its text, what never
+-- comes in a run of a formed tree, and what limits, files and lines do to a run.
+use Rattle.std.specs.Prelude.{◌≡◌, ◌≤◌, ℕ, Bool, true, false, List, [], ◌∷◌, ◌++◌, length, map, Option}
+use Rattle.std.specs.Prelude.{Some, Ok, MatchOption, option_map, option_to_list}
 use Rattle.tmpl_values.specs.Value.{Value, nothing}
 use Rattle.tmpl_funcs.specs.Func.{takes}
 use Rattle.tmpl_funcs.specs.declared.func.Func.{Func}
 use Rattle.tmpl_funcs.specs.declared.func.Func.TheVariants.{And, Or}
 use Rattle.tmpl_grammar.specs.Tree.{Operands}
-use Rattle.tmpl_syntax.specs.Set.{Template}
+use Rattle.tmpl_syntax.specs.Set.{Template, tree_named}
+use Rattle.tmpl_syntax.specs.Kept.{IsSet}
+use Rattle.tmpl_syntax.specs.Parse.{Parses, base_name}
 use Rattle.tmpl_syntax.specs.Tree as tree
 use Rattle.tmpl_syntax.specs.Tree.{NodeKind, Nodes, Tree}
 use Rattle.tmpl_syntax.specs.Place.Role.{Name}
 use Rattle.tmpl_syntax.specs.Formed.{are_formed, scope_behind}
-use Rattle.tmpl_meaning.specs.Meaning.{End, Next, Rules, Run, Setting, broke, calls_within, continued, done, meaning}
-use Rattle.tmpl_meaning.specs.Meaning.{meanings, setting_of}
+use Rattle.tmpl_syntax.specs.Print.Printed.{printed_set, unlined}
+use Rattle.tmpl_syntax.specs.Print.Laws.{unlined_template}
+use Rattle.tmpl_meaning.specs.Fault.{Cause, Fault, calls_too_deep, steps_spent}
+use Rattle.tmpl_meaning.specs.Meaning.{End, Next, Ran, Rules, Run, Setting, broke, calls_within, continued, done}
+use Rattle.tmpl_meaning.specs.Meaning.{meaning, meanings, ran, setting_of}
 use Rattle.tmpl_meaning.specs.Pipeline.{Environment, Place, applied, junction, operand_values}
 
 -- `or`, or else `and`
@@ -92,3 +98,70 @@ EndsInRange = (rules : Rules) (set : List Template) (depth : ℕ) (name : List �
     (ns : Nodes) (scope : List Name) (levels : ℕ) (d : Value) (r : Run)
     → are_formed ns scope false levels ≡ true → HasScope scope r
     → IsOver (meanings (within rules set depth name t) ns d r).1
+
+-- ---- limits
+
+-- a text begins another
+abbrev pub Begins : List ℕ → List ℕ → Type 0
+Begins front text = (rest : List ℕ) × (text ≡ front ++ rest)
+
+-- the cause is no limit that was met
+abbrev pub IsNoLimit : Cause → Type 0
+IsNoLimit (steps_spent limit) = ⊥
+IsNoLimit (calls_too_deep limit) = ⊥
+IsNoLimit cause = Unit {0}
+
+-- a run comes to its end, or to a fault that is no limit's
+abbrev pub IsWithinLimits : Ran → Type 0
+IsWithinLimits r = MatchOption r.fault (Unit {0}) (λ f. IsNoLimit f.cause)
+
+-- a run is another one, or that one as far as a limit let it come: its text begins the other text, and if no limit ends
+-- it, it is the same in all
+pub record IsCutOf (short long : Ran) : Type 0 where
+  pub begins : Begins short.text long.text
+  pub same : IsWithinLimits short → short ≡ long
+
+-- so is a run of any template to one with more steps and a greater depth, or as many and as great
+abbrev pub LimitsOnlyCut : Type 0
+LimitsOnlyCut =
+    (rules : Rules) (steps depth : ℕ) (set : List Template) (name : List ℕ) (t : Tree) (input : Option Value)
+    → rules.step_limit ≤ steps → rules.depth_limit ≤ depth
+    → IsCutOf (ran rules set name t input)
+    (ran (record rules { step_limit = steps; depth_limit = depth }) set name t input)
+
+-- ---- files and lines
+
+-- a fault without its file and line: the name of the template, and the cause
+abbrev pub unplaced_fault : Fault → List ℕ × Cause
+unplaced_fault f = (f.template, f.cause)
+
+-- what a run comes to, without the file and the line of its fault
+pub record Unplaced : Type 0 where
+  pub text : List ℕ
+  pub fault : Option (List ℕ × Cause)
+  pub made_text : Bool
+
+abbrev pub unplaced : Ran → Unplaced
+unplaced r = record {
+  text = r.text;
+  fault = option_map unplaced_fault r.fault;
+  made_text = r.made_text;
+}
+
+-- trees that are alike apart from files and lines, in sets that are so, come to the same but for the file and the line
+-- of a fault, over all data and by all rules
+abbrev pub AlikeRunAlike : Type 0
+AlikeRunAlike =
+    (rules : Rules) (set other : List Template) (name : List ℕ) (t u : Tree) (input : Option Value)
+    → map unlined_template set ≡ map unlined_template other → unlined t.nodes ≡ unlined u.nodes
+    → unplaced (ran rules set name t input) ≡ unplaced (ran rules other name u input)
+
+-- where what is printed of a set is accepted, with no set there, as a file that has the base name of one of its
+-- templates, each of them comes to the same but for the file and the line of a fault
+abbrev pub PrintedRunsAlike : Type 0
+PrintedRunsAlike =
+    (rules : Rules) (ts new : List Template) (file name : List ℕ) (own t : Tree) (input : Option Value)
+    → IsSet ts → tree_named (base_name file) ts ≡ Some own → Parses [] file (printed_set ts) (Ok new)
+    → tree_named name ts ≡ Some t
+    → (u : Tree) × (tree_named name new ≡ Some u)
+    × (unplaced (ran rules new name u input) ≡ unplaced (ran rules ts name t input))

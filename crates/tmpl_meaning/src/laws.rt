@@ -1,5 +1,7 @@
-//! The laws of `and` and `or`, of the text of a run, and of what never comes in one.
-ghost use Rattle.tmpl_meaning.specs.Laws.{EndsInRange, FindsNames, JoinsByTable, NodeAdds, NodesAdd, StaysInScope};
+//! The laws of `and` and `or`, of the text of a run and its limits, of files and lines, and of what never comes in a
+//! run.
+ghost use Rattle.tmpl_meaning.specs.Laws.{AlikeRunAlike, EndsInRange, FindsNames, JoinsByTable, LimitsOnlyCut};
+ghost use Rattle.tmpl_meaning.specs.Laws.{NodeAdds, NodesAdd, PrintedRunsAlike, StaysInScope};
 
 /// The law that an `and` or an `or` all of whose operands have values gives what the function table says of these.
 #[tactic(auto, using(crate::proofs::JoinLemmas::joins))]
@@ -23,4 +25,22 @@ pub fn formed_runs()
     ensures finds { FindsNames }
     ensures ends { EndsInRange }
     ensures stays { StaysInScope }
+{}
+
+/// The law that limits do nothing but cut a run off: with fewer steps, or a smaller depth, the text is a beginning of
+/// what it is with more; and where no limit ends the run, it is the same, its fault with it.
+pub fn limits_only_cut()
+    ensures { LimitsOnlyCut }
+{}
+
+/// The law that trees and sets which are alike apart from files and lines come to the same, over all data and by all
+/// rules: to the same text, and to a fault of the same template and cause.
+pub fn alike_run_alike()
+    ensures { AlikeRunAlike }
+{}
+
+/// The law that what is printed of a set renders the same: where it is accepted as a file of the base name of one of
+/// its templates, each of them comes to the same text, and to a fault of the same template and cause.
+pub fn printed_runs_alike()
+    ensures { PrintedRunsAlike }
 {}

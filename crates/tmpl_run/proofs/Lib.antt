@@ -18,3 +18,5 @@ pub mod ShownLemmas
 pub mod GoingLemmas
 pub mod StartLemmas
 pub mod RunLemmas
+pub mod BoundLemmas
+pub mod TurnExamples

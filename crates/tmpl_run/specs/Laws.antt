@@ -1,7 +1,8 @@
 -- Laws of the machine.
-use Rattle.std.specs.Prelude.{◌≡◌, ◌<◌, ◌≤◌, ◌⊎◌, ℕ, true, List, ◌++◌, length, Option, Some, slice_get}
+use Rattle.std.specs.Prelude.{◌≡◌, ◌<◌, ◌≤◌, ◌⊎◌, ℕ, ◌+◌, ◌*◌, true, List, length, Option, Some, slice_get}
 use Rattle.tmpl_values.specs.Value.{Value}
 use Rattle.tmpl_syntax.specs.Set.{Template}
+pub use Rattle.tmpl_meaning.specs.Laws.{Begins}
 use Rattle.tmpl_meaning.specs.Meaning.{Ran, Rules, ran}
 use Rattle.tmpl_code.specs.Calls.{IsChain}
 use Rattle.tmpl_code.specs.Code.{Starts}
@@ -9,7 +10,7 @@ use Rattle.tmpl_code.specs.MakesText.{set_makes_text}
 use Rattle.tmpl_code.specs.Room.{Suffices}
 use Rattle.tmpl_run.specs.State.{Plan, State, starting, starting_dot}
 use Rattle.tmpl_run.specs.Machine.{goes, next_of}
-use Rattle.tmpl_run.specs.Ends.{Ends}
+use Rattle.tmpl_run.specs.Ends.{Ends, RunsTo}
 
 -- the code is that of the templates
 abbrev pub IsPlanLinked : Plan → Type 0
@@ -55,9 +56,16 @@ Lessens s t =
 abbrev pub EachTurnLessens : Type 0
 EachTurnLessens = (plan : Plan) (s t : State) → next_of plan s ≡ goes t → Lessens s t
 
--- a text begins another
-abbrev pub Begins : List ℕ → List ℕ → Type 0
-Begins a b = (more : List ℕ) × (b ≡ a ++ more)
+-- for each step that may be taken, and once more, twice as many turns as the code has instructions
+abbrev pub most_turns : Plan → ℕ
+most_turns plan = 2 * length plan.code * (plan.rules.step_limit + 1)
+
+-- a run that starts at a template, and comes to an end, comes to it in so many turns at most; `ComesToMeaning` says
+-- when it does
+abbrev pub TurnsAreBounded : Type 0
+TurnsAreBounded =
+    (plan : Plan) (size number start : ℕ) (dot : Value) (end : Ran)
+    → Ends plan size (starting plan number start dot) end → RunsTo plan size (most_turns plan) (starting plan number start dot) end
 
 -- what was put out so far begins the text of the end
 abbrev pub OnlyAdds : Type 0

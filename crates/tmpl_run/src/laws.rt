@@ -1,6 +1,6 @@
 //! Laws of the machine that the definitions describe.
 ghost use Rattle.tmpl_run.specs.Laws.{ComesToMeaning, DepthByChains, EachTurnLessens, HasOneEnd};
-ghost use Rattle.tmpl_run.specs.Laws.{MarkStays, OnlyAdds, StaysWithin, TextIsNamed};
+ghost use Rattle.tmpl_run.specs.Laws.{MarkStays, OnlyAdds, StaysWithin, TextIsNamed, TurnsAreBounded};
 
 /// The law that the code of a set comes to the meaning of each of its templates, on a stack with the cells that each
 /// chain of its calls needs.
@@ -36,6 +36,12 @@ pub fn mark_stays()
 /// The law that a run ends: each turn takes a step, or closes a template, or goes forward in the code.
 pub fn each_turn_lessens()
     ensures { EachTurnLessens }
+{}
+
+/// The law that a run takes a bounded number of turns: for each step that it may take, and once more, twice as many as
+/// the code has instructions.
+pub fn bounded_turns()
+    ensures { TurnsAreBounded }
 {}
 
 /// The law that a run which makes text is of a set that names a function which makes one.

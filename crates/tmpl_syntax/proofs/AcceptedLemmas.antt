@@ -150,14 +150,14 @@ spells_formed items ds own judged spells =
 
 -- ---- a printed list
 
-abbrev role_said : Said → Role
+abbrev pub role_said : Said → Role
 role_said (said_text t) = plain (names_given None)
 role_said (said a) = (act_of a)
 
-abbrev roles_said : List Said → List Role
+abbrev pub roles_said : List Said → List Role
 roles_said ss = map role_said ss
 
-says-roles : {ss : List Said} {xs : List Item} → Says ss xs → roles_of xs ≡ roles_said ss
+pub says-roles : {ss : List Said} {xs : List Item} → Says ss xs → roles_of xs ≡ roles_said ss
 says-roles says_nothing = refl
 says-roles (says_text s) = ap (λ rs. plain (names_given None) ∷ rs) (says-roles s)
 says-roles (says {a = a} s) = ap (λ rs. (act_of a) ∷ rs) (says-roles s)
@@ -167,7 +167,7 @@ control_frame c around n start part =
     record { opening = opened.control c; has_else = false; around = around; levels = n; start = start; part = part }
 
 -- what formed nodes say passes where what is said behind them does
-abbrev Passes : Nodes → Type 0
+abbrev pub Passes : Nodes → Type 0
 Passes ns =
     (fs : List Frame) (known : Known) (scope : List Name) (ss : List Said) → Alike known.inner scope
     → are_formed ns scope (in_loop (top fs)) (levels (top fs)) ≡ true
@@ -218,7 +218,7 @@ mutual
   node-passes break_node fs known scope ss a e more = alone-passes fs known scope (roles_said ss) a 0 a_break ∙ both_true e more
   node-passes continue_node fs known scope ss a e more = alone-passes fs known scope (roles_said ss) a 0 a_continue ∙ both_true e more
 
-  nodes-passes : (ns : Nodes) → Passes ns
+  pub nodes-passes : (ns : Nodes) → Passes ns
   nodes-passes none fs known scope ss a e more = more
   nodes-passes (then line n ns) fs known scope ss a e more =
       let p = and_parts (is_formed n scope (in_loop (top fs)) (levels (top fs))) _ e in

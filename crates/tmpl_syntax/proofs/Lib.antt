@@ -27,3 +27,6 @@ pub mod StandLemmas
 pub mod StepLemmas
 pub mod VerdictLemmas
 pub mod ViewLemmas
+pub mod SameSetLemmas
+pub mod PrintedFileLemmas
+pub mod PrintedFileExamples

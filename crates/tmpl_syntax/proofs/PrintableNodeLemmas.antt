@@ -1,5 +1,5 @@
 -- For `printable`: what a file spells can be printed, its definitions and the nodes of its own template.
-use Rattle.std.proofs.Common.{arith, ◌≡◌, refl, ℕ, List, [], ◌∷◌, ◌++◌, map}
+use Rattle.std.proofs.Common.{◌≡◌, refl, ℕ, List, [], ◌∷◌, ◌++◌, map}
 use Rattle.tmpl_lex.specs.Piece.{Piece}
 use Rattle.tmpl_grammar.specs.Tree.{Header}
 use Rattle.tmpl_grammar.specs.Action.{opening, else_branch, end_action, control_in}

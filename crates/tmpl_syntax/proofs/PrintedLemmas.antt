@@ -1,5 +1,5 @@
 -- For `printed_back` and `set_back`: the pieces of what is printed are read as what its nodes say, and this spells the same nodes, apart from lines.
-use Rattle.std.proofs.Common.{◌≡◌, ℕ, false, List, [], ◌∷◌, ◌++◌, refl, ap, subst, append_assoc, append-nil, map, sym, codes, arith, ◌≤◌, Option, Some, None}
+use Rattle.std.proofs.Common.{◌≡◌, ℕ, false, List, [], ◌∷◌, ◌++◌, refl, ap, subst, append_assoc, append-nil, map, codes, arith, ◌≤◌, Option, Some, None}
 use Rattle.tmpl_grammar.specs.Tree.{Header}
 use Rattle.tmpl_grammar.specs.declared.tree.Control.{Control}
 use Rattle.tmpl_grammar.specs.Action.{end_action, plain_else, define_action, Action, pipeline_action, opening, else_branch, template_action, block_action}
@@ -138,7 +138,7 @@ said-joined before (said_text t ∷ ss) = ap (λ bs. parting before ++ (t ++ bs)
 said-joined before (said a ∷ ss) = ap (λ bs. opening_behind before ++ (bytes_of (action_tokens a) ++ (codes "}}" ++ bs))) (said-joined None ss)
 
 -- a file of what is said has items that say it
-has-said : (ss : List Said) → AreSaid ss → (xs : List Item) × HasItems every_action (file_of None ss) xs × Says ss xs
+pub has-said : (ss : List Said) → AreSaid ss → (xs : List Item) × HasItems every_action (file_of None ss) xs × Says ss xs
 has-said ss h =
     let c = cut-back (map part_of ss) (are-parts ss h) [] (absent-nil 123 123) 1 in
     let (xs, are, say) = items-said ss c.pieces h c.same in
@@ -155,7 +155,7 @@ reads_same ns h =
 newline-is-text : IsText (codes "\n")
 newline-is-text = record { some = omega arith; clear = absent-cons 123 123 10 [] refl (absent-nil 123 123) }
 
-set-is-said : (ts : List Template) → ArePrintable ts → AreSaid (flat_map template_said ts)
+pub set-is-said : (ts : List Template) → ArePrintable ts → AreSaid (flat_map template_said ts)
 set-is-said [] h = tt
 set-is-said (t ∷ ts) h = said-append (template_said t) (flat_map template_said ts)
     (h.0, said-append (nodes_said t.1.nodes) (said end_action ∷ said_text (codes "\n") ∷ []) h.1 (tt, (newline-is-text, tt))) (set-is-said ts h.2)

@@ -44,7 +44,7 @@ IsRefusedAt items line why =
     (i : ℕ) × (what : ItemKind) × Judged (roles_of items) (refused i why) × (slice_get items i ≡ Some (item line what))
 
 -- a file's templates are added one by one
-fold-defined : (file : List ℕ) (ds : List Definition) (set : List Template) → defined_each set (map (template_in file) ds)
+pub fold-defined : (file : List ℕ) (ds : List Definition) (set : List Template) → defined_each set (map (template_in file) ds)
     ≡ fold (λ (ts : List Template) (d : Definition). defined ts d.name (record { file = file; nodes = d.nodes })) set ds
 fold-defined file [] set = refl
 fold-defined file (d ∷ ds) set = fold-defined file ds (defined set d.name (record { file = file; nodes = d.nodes }))

@@ -4,7 +4,8 @@ ghost use Rattle.tmpl_syntax.specs.Laws.{SpellsWhereFine, SpellsAtMostOne, Spell
 ghost use Rattle.tmpl_syntax.specs.Laws.{RefusesAsParsed, AcceptsInLarger, HasOutcome, HasOneOutcome};
 ghost use Rattle.tmpl_syntax.specs.Laws.{NeedsAtMost, NeedsAtMostBytes};
 ghost use Rattle.tmpl_syntax.specs.Print.Join.{CutsBack};
-ghost use Rattle.tmpl_syntax.specs.Print.Laws.{AcceptsBack, KeepsPrintable, ReadsSame, SetReadsSame};
+ghost use Rattle.tmpl_syntax.specs.Print.Laws.{AcceptsBack, AcceptsPrinted, KeepsPrintable};
+ghost use Rattle.tmpl_syntax.specs.Print.Laws.{PrintsAlike, ReadsSame, SetReadsSame};
 
 /// The law that each file has one list of items: its bytes are cut into one list of pieces, and each piece
 /// is read as one item. So it is in every language, whichever of the actions it has.
@@ -86,4 +87,13 @@ pub fn accepted_back()
 #[tactic(auto, using(crate::proofs::PrintedLemmas::set_reads_same))]
 pub fn set_back()
     ensures { SetReadsSame }
+{}
+
+/// The law that what is printed of a set is accepted, as a file of any path, unless it is longer than a file may be;
+/// where there was no set, it then makes the same templates in the same order, apart from files and lines, and, where
+/// none of them has the base name of the file, one more of this name, which is blank. And sets that are alike apart
+/// from files and lines are printed as the same bytes.
+pub fn set_accepted()
+    ensures accepted { AcceptsPrinted }
+    ensures same { PrintsAlike }
 {}

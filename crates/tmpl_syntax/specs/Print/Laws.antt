@@ -1,9 +1,10 @@
 -- Laws of printed trees.
-use Rattle.std.specs.Prelude.{◌≡◌, ℕ, List, [], ◌∷◌, map, codes}
+use Rattle.std.specs.Prelude.{◌≡◌, ◌≤◌, ℕ, List, [], ◌∷◌, ◌++◌, length, map, MatchOption, codes}
 use Rattle.tmpl_values.specs.Bytes.{AreBytes}
 use Rattle.tmpl_syntax.specs.Tree.{Nodes, none, then, text, Definition}
-use Rattle.tmpl_syntax.specs.Set.{Template}
-use Rattle.tmpl_syntax.specs.Parse.{template_in}
+use Rattle.tmpl_syntax.specs.Set.{Template, tree_named}
+use Rattle.tmpl_syntax.specs.Kept.{IsSet}
+use Rattle.tmpl_syntax.specs.Parse.{base_name, most_bytes, template_in, IsAccepted}
 use Rattle.tmpl_grammar.specs.Action.{Action}
 use Rattle.tmpl_syntax.specs.Language.{Language, every_action}
 use Rattle.tmpl_syntax.specs.Item.{Item, item, text_item, action_item, HasItems}
@@ -77,3 +78,30 @@ pub record SetBack (bytes : List ℕ) (ts : List Template) : Type 0 where
 
 abbrev pub SetReadsSame : Type 0
 SetReadsSame = (ts : List Template) → ArePrintable ts → SetBack (printed_set ts) ts
+
+-- ---- a printed set as a file
+
+-- where a template has the base name of this file, these are the same templates in the same order, apart from files and
+-- lines; where none has it, there is one more, which is last: that of the file, of newlines alone
+abbrev pub IsSameSet : List ℕ → List Template → List Template → Type 0
+IsSameSet file ts new =
+    MatchOption (tree_named (base_name file) ts)
+    (map unlined_template new ≡ map unlined_template ts ++ (base_name file, newline_nodes ts) ∷ [])
+    (λ tree. map unlined_template new ≡ map unlined_template ts)
+
+-- the set that a file makes where there was none
+pub record IsAcceptedAs (file bytes : List ℕ) (ts : List Template) : Type 0 where
+  pub set : List Template
+  pub accepted : IsAccepted every_action [] file bytes set
+  pub same : IsSameSet file ts set
+
+-- what is printed of a set is accepted, as a file of any path, unless it is longer than a file may be
+abbrev pub AcceptsPrinted : Type 0
+AcceptsPrinted =
+    (ts : List Template) (file : List ℕ) → IsSet ts → length (printed_set ts) ≤ most_bytes
+    → IsAcceptedAs file (printed_set ts) ts
+
+-- sets that are alike apart from files and lines are printed as the same bytes
+abbrev pub PrintsAlike : Type 0
+PrintsAlike =
+    (ts us : List Template) → map unlined_template us ≡ map unlined_template ts → printed_set us ≡ printed_set ts
