@@ -1,9 +1,10 @@
 //! An engine: templates that a host adds once and renders as often as it likes.
 ghost use Rattle.std.specs.Prelude.{◌≡◌, ◌<◌, ◌^◌, ◌-◌, []};
+ghost use Rattle.tmpl_syntax.specs.Set.{first_hasher, known_hasher};
 ghost use Rattle.tmpl_syntax.specs.View.{set_view};
 ghost use Rattle.tmpl_syntax.specs.Parse.{IsReading};
 ghost use Rattle.tmpl_engine.specs.Render.{Renders};
-ghost use Rattle.tmpl_engine.specs.View.{templates_of};
+ghost use Rattle.tmpl_engine.specs.View.{hash_of, templates_of};
 
 use crate::error::RenderError;
 use crate::rendering::render;
@@ -20,9 +21,10 @@ pub struct Engine {
 }
 
 impl Engine {
-    /// An engine of no templates.
+    /// An engine of no templates, whose names are hashed by keys that everyone knows.
     pub fn new(alloc: Global) -> Engine
-        ensures { templates_of result ≡ [] }
+        ensures empty { templates_of result ≡ [] }
+        ensures hash { first_hasher (hash_of result) ≡ known_hasher }
     {
         Engine {
             set: Set::new(alloc),
@@ -32,7 +34,8 @@ impl Engine {
     /// An engine of no templates, whose names are hashed so. Where templates come from strangers, give keys that these
     /// cannot know, so that they cannot make it slow.
     pub fn with_hash(alloc: Global, names: NameHash) -> Engine
-        ensures { templates_of result ≡ [] }
+        ensures empty { templates_of result ≡ [] }
+        ensures hash { hash_of result ≡ names }
     {
         Engine {
             set: Set::with_hash(alloc, names),
@@ -52,7 +55,8 @@ impl Engine {
         file: &'f str,
         bytes: &[u8],
     ) -> Result<(), ParseFault<'f>>
-        ensures { IsReading (templates_of self.old) file.entry bytes.now (templates_of self.new) result }
+        ensures reading { IsReading (templates_of self.old) file.entry bytes.now (templates_of self.new) result }
+        ensures hash { hash_of self.new ≡ hash_of self.old }
     {
         parse_file(alloc, &mut self.set, file, bytes)
     }
@@ -68,7 +72,8 @@ impl Engine {
         file: &'f str,
         bytes: Vec<u8>,
     ) -> Result<(), ParseFault<'f>>
-        ensures { IsReading (templates_of self.old) file.entry bytes.items (templates_of self.new) result }
+        ensures reading { IsReading (templates_of self.old) file.entry bytes.items (templates_of self.new) result }
+        ensures hash { hash_of self.new ≡ hash_of self.old }
     {
         parse_owned(alloc, &mut self.set, file, bytes)
     }

@@ -1,9 +1,11 @@
 -- For the invariant of `Set`: each tree of a set is kept as files are added.
 use Rattle.std.proofs.Common.{◌≡◌, ◌≤◌, length, ℕ, zero, suc, slice_get, Bool, true, false, List, [], ◌∷◌, Option, Some, None, Ok, refl}
-use Rattle.std.proofs.Common.{sym, subst, cond, if◌then◌else◌, Bor, map}
+use Rattle.std.proofs.Common.{◌∙◌, sym, subst, cond, if◌then◌else◌, Bor, map}
 use Rattle.std.specs.Prelude.{IfSome, find}
 use Rattle.std.specs.Option.{option_map}
 use Rattle.std.specs.Str.{bytes_eq}
+use Rattle.core.specs.Bool.{Decides, one_answer}
+use Rattle.std.proofs.lemmas.Slice.Eq.{bytes_eq-Decides}
 use Rattle.tmpl_values.specs.Bytes.{AreBytes}
 use Rattle.tmpl_syntax.specs.Tree.{Nodes, Tree, Definition}
 use Rattle.tmpl_syntax.specs.View.{tree_of}
@@ -14,7 +16,7 @@ use Rattle.tmpl_syntax.specs.Place.Role.{roles_of}
 use Rattle.tmpl_syntax.specs.computed.Frames.{Verdict, fine, Judged}
 use Rattle.tmpl_syntax.specs.Set.{Template, tree_named, is_blank, defined, defined_each}
 use Rattle.tmpl_syntax.specs.computed.Set.{has_name, chosen}
-use Rattle.tmpl_syntax.specs.Kept.{IsKept, AreKept}
+use Rattle.tmpl_syntax.specs.Kept.{AreKept, HaveOwnNames, IsKept}
 use Rattle.tmpl_syntax.specs.Parse.{base_name, most_bytes, all_defined, template_in}
 use Rattle.tmpl_syntax.specs.computed.Parse.{last_line}
 use Rattle.tmpl_syntax.specs.Formed.{IsFormed, AreFormed}
@@ -109,4 +111,42 @@ pub each-kept : (set ts : List Template) → AreKept set → AreKept ts → AreK
 each-kept set [] h k = h
 each-kept set (t ∷ ts) h k = each-kept (defined set t.0 t.1) ts (defined-kept set t.0 t.1 h k.0 k.1) k.2
 
-pub ruleset kept = (each-kept, file-kept)
+-- ---- names
+
+-- two names are the same whichever is looked at first
+same-both : (a b : List ℕ) → bytes_eq a b ≡ false → bytes_eq b a ≡ false
+same-both a b differ = one_answer (bytes_eq b a) (bytes_eq a b) (bytes_eq-Decides b a) flipped ∙ differ
+  where
+    flipped : Decides (bytes_eq a b) (b ≡ a)
+    flipped = (λ e. sym ((bytes_eq-Decides a b).0 e), λ e. (bytes_eq-Decides a b).1 (sym e))
+
+-- a name that no template has, and that is not the new one's, is none after a definition either
+unnamed : (n : List ℕ) (ts : List Template) (name : List ℕ) (tree : Tree) → bytes_eq n name ≡ false → tree_named n ts ≡ None
+    → tree_named n (defined ts name tree) ≡ None
+unnamed n [] name tree other none = rw other refl
+unnamed n (t ∷ ts) name tree other none = by (bytes_eq n t.0) refl none (unnamed n ts name tree other)
+  where
+    split : (c : Bool) → bytes_eq n t.0 ≡ false → tree_named n ts ≡ None → tree_named n (defined ts name tree) ≡ None
+        → tree_named n (if c then (t.0, chosen t.1 tree) ∷ ts else t ∷ defined ts name tree) ≡ None
+    split true is none more = rw is none
+    split false is none more = rw is more
+
+    by : (b : Bool) → bytes_eq n t.0 ≡ b → option_map (λ (u : Template). u.1) (cond b (Some t) (find (has_name n) ts)) ≡ None
+        → (tree_named n ts ≡ None → tree_named n (defined ts name tree) ≡ None) → tree_named n (defined (t ∷ ts) name tree) ≡ None
+    by true is h more = cc
+    by false is h more = split (bytes_eq name t.0) is h (more h)
+
+defined-own : (ts : List Template) (name : List ℕ) (tree : Tree) → HaveOwnNames ts → HaveOwnNames (defined ts name tree)
+defined-own [] name tree h = (refl, tt)
+defined-own (t ∷ ts) name tree h = go (bytes_eq name t.0) refl (defined-own ts name tree h.1)
+  where
+    go : (b : Bool) → bytes_eq name t.0 ≡ b → HaveOwnNames (defined ts name tree)
+        → HaveOwnNames (if b then (t.0, chosen t.1 tree) ∷ ts else t ∷ defined ts name tree)
+    go true is more = h
+    go false is more = (unnamed t.0 ts name tree (same-both name t.0 is) h.0, more)
+
+pub each-own : (set ts : List Template) → HaveOwnNames set → HaveOwnNames (defined_each set ts)
+each-own set [] h = h
+each-own set (t ∷ ts) h = each-own (defined set t.0 t.1) ts (defined-own set t.0 t.1 h)
+
+pub ruleset kept = (file-kept)

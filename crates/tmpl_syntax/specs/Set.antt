@@ -44,3 +44,7 @@ defined_each set ts = fold (λ before t. defined before t.0 t.1) set ts
 -- what a set writes each name to, from its two keys
 abbrev pub first_hasher : NameHash → DefaultHasher
 first_hasher h = with_keys h.first h.second
+
+-- that of the keys that everyone knows
+abbrev pub known_hasher : DefaultHasher
+known_hasher = with_keys 0 0

@@ -11,6 +11,7 @@ use Rattle.tmpl_syntax.specs.declared.tree.NodeKind.TheOpen.{Node-F, ControlNode
 use Rattle.tmpl_syntax.specs.declared.tree.ControlNode as held_control
 use Rattle.tmpl_syntax.specs.declared.tree.ControlNode.{fold-ControlNode}
 use Rattle.tmpl_syntax.specs.declared.tree.Tree as held_tree
+use Rattle.tmpl_syntax.specs.declared.name_hash.NameHash.{NameHash}
 use Rattle.tmpl_syntax.specs.declared.set.Set.{Set}
 use Rattle.tmpl_syntax.specs.declared.set.Names.{Names}
 
@@ -48,9 +49,16 @@ tree_of t = record { file = t.file.value; nodes = nodes_in t.nodes.items }
 abbrev pub template_of : Vec ℕ Global × held_tree.Tree → Template
 template_of e = (e.0.items, tree_of e.1)
 
--- a set is held as these entries
+-- the templates that entries hold
+unfoldable pub entries_view : List (Vec ℕ Global × held_tree.Tree) → List Template
+entries_view entries = map template_of entries
+
+-- a set is held as entries and how their names are hashed
 unfoldable pub set_view : Set → List Template
-set_view entries = map template_of entries
+set_view s = entries_view s.0
+
+abbrev pub hash_view : Set → NameHash
+hash_view s = s.1
 
 -- the names that are left to give
 abbrev pub names_left : Names → List (List ℕ)

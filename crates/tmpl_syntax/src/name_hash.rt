@@ -1,7 +1,7 @@
 //! How names are hashed.
 ghost use Rattle.std.specs.Prelude.{◌≡◌};
 ghost use Rattle.core.specs.Hash.DefaultHasher.{with_keys};
-ghost use Rattle.tmpl_syntax.specs.Set.{first_hasher};
+ghost use Rattle.tmpl_syntax.specs.Set.{first_hasher, known_hasher};
 
 use core::hash::keyed_hasher;
 use std::hash::{BuildHasher, DefaultHasher};
@@ -20,7 +20,7 @@ pub struct NameHash {
 impl NameHash {
     /// By keys that everyone knows.
     pub fn fixed() -> NameHash
-        ensures { first_hasher result ≡ with_keys 0 0 }
+        ensures { first_hasher result ≡ known_hasher }
     {
         NameHash::keyed(0, 0)
     }

@@ -1,7 +1,7 @@
 //! Reading a file into the set.
 ghost use Rattle.std.specs.Prelude.{◌≡◌, ◌≤◌, ◌==◌, IfOk, length, map, not};
 ghost use Rattle.std.specs.List.{suffix_len};
-ghost use Rattle.tmpl_syntax.specs.View.{set_view, template_of};
+ghost use Rattle.tmpl_syntax.specs.View.{hash_view, set_view, template_of};
 ghost use Rattle.tmpl_syntax.specs.computed.View.{definition_of, item_of};
 ghost use Rattle.tmpl_syntax.specs.Parse as spec;
 ghost use Rattle.tmpl_syntax.specs.Parse.{IsAsBefore, IsReading, template_in};
@@ -57,6 +57,7 @@ pub fn parse_file<'f>(
     ensures reading { IsReading (set_view set.old) file.entry bytes.now (set_view set.new) result }
     ensures value { IsParse (set_view set.old) file.entry bytes.now (set_view set.new) result }
     ensures before { IsAsBefore (set_view set.old) file.entry bytes.now (set_view set.new) result }
+    ensures hash { hash_view set.new ≡ hash_view set.old }
 {
     with_file(file, add_copy(alloc, set, file, bytes))
 }
@@ -77,6 +78,7 @@ pub fn parse_owned<'f>(
     ensures reading { IsReading (set_view set.old) file.entry bytes.items (set_view set.new) result }
     ensures value { IsParse (set_view set.old) file.entry bytes.items (set_view set.new) result }
     ensures before { IsAsBefore (set_view set.old) file.entry bytes.items (set_view set.new) result }
+    ensures hash { hash_view set.new ≡ hash_view set.old }
 {
     with_file(file, add_file(alloc, set, file, bytes))
 }
@@ -94,7 +96,8 @@ fn with_file(file: &str, added: Result<(), Refusal>) -> Result<(), ParseFault<'_
 /// Adds the templates of a file to the set, and copies its bytes unless they are too many.
 #[tactic(auto, using(crate::proofs::FileLemmas::long))]
 fn add_copy(alloc: Global, set: &mut Set, file: &str, bytes: &[u8]) -> Result<(), Refusal>
-    ensures { IsAdded (set_view set.old) file.now bytes.now (set_view set.new) result }
+    ensures added { IsAdded (set_view set.old) file.now bytes.now (set_view set.new) result }
+    ensures hash { hash_view set.new ≡ hash_view set.old }
 {
     if bytes.len() > MOST_BYTES {
         return Err(TOO_LONG);
@@ -105,7 +108,8 @@ fn add_copy(alloc: Global, set: &mut Set, file: &str, bytes: &[u8]) -> Result<()
 /// Adds the templates of a file of these bytes to the set.
 #[tactic(auto, using(crate::proofs::FileLemmas::long))]
 fn add_file(alloc: Global, set: &mut Set, file: &str, bytes: Vec<u8>) -> Result<(), Refusal>
-    ensures { IsAdded (set_view set.old) file.now bytes.items (set_view set.new) result }
+    ensures added { IsAdded (set_view set.old) file.now bytes.items (set_view set.new) result }
+    ensures hash { hash_view set.new ≡ hash_view set.old }
 {
     if bytes.len() > MOST_BYTES {
         return Err(TOO_LONG);
@@ -133,7 +137,8 @@ fn add_items(
 ) -> Result<(), Refusal>
     requires read { map item_of items.items ≡ items_of bytes.now }
     requires within { length bytes.now ≤ 16777216 }
-    ensures { IsAdded (set_view set.old) file.now bytes.now (set_view set.new) result }
+    ensures added { IsAdded (set_view set.old) file.now bytes.now (set_view set.new) result }
+    ensures hash { hash_view set.new ≡ hash_view set.old }
 {
     let hash = set.name_hash();
     check(alloc, hash, items.as_slice(), bytes)?;

@@ -25,9 +25,9 @@ pub(crate) struct Page<'t> {
 
 /// A set as one template file: each template as a definition with a newline behind it, in the order of the set.
 ///
-/// Read as a file, unless it is longer than one may be, it makes the same templates in the same order, apart from files
-/// and lines; where none has the base name of that file, there is one more of this name, which is blank.
-#[tactic(auto, using(crate::proofs::PageLemmas::pages), unfolding(crate::specs::View::set_view))]
+/// Read as a file, unless it is longer than one may be, it makes the same templates in the same order, apart from files and
+/// lines; where none has the base name of that file, there is one more of this name, which is blank.
+#[tactic(auto, using(crate::proofs::PageLemmas::pages), unfolding(crate::specs::View::entries_view, crate::specs::View::set_view))]
 pub fn print_set(alloc: Global, set: &Set) -> Result<Vec<u8>, AllocError>
     ensures printed { IfOk result (λ v. v.items ≡ printed_set (set_view set.now)) }
     ensures read_back { IfOk result (λ v. SetBack v.items (set_view set.now)) }

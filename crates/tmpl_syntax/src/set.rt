@@ -2,10 +2,11 @@
 ghost use Rattle.std.specs.Prelude.{◌≡◌, ◌≤◌, ◌<◌, ◌+◌, ◌&&◌, [], IfSome, OnOk, OnErr, Some};
 ghost use Rattle.std.specs.Prelude.{is_some, length, map, option_map, slice_get};
 ghost use Rattle.std.specs.Iterator.{YieldsFirstRef, item_count};
-ghost use Rattle.indexmap.specs.IndexMap.{spare};
-ghost use Rattle.tmpl_syntax.specs.View.{set_view, names_left, template_of, tree_of};
+ghost use Rattle.indexmap.specs.IndexMap.{hasher_of, spare};
+ghost use Rattle.tmpl_syntax.specs.View.{entries_view, hash_view, names_left, set_view, template_of, tree_of};
 ghost use Rattle.tmpl_syntax.specs.Kept.{AreKept, IsKept};
-ghost use Rattle.tmpl_syntax.specs.Set.{defined, defined_each, is_blank, number_of, tree_named};
+ghost use Rattle.tmpl_syntax.specs.Set.{defined, defined_each, first_hasher, is_blank, known_hasher, number_of};
+ghost use Rattle.tmpl_syntax.specs.Set.{tree_named};
 
 use crate::blank::is_blank;
 use crate::name_hash::NameHash;
@@ -33,34 +34,39 @@ impl Model for Set {
     ghost use Rattle.std.specs.Prelude.{ℕ, List, [], Vec};
     ghost use Rattle.std.specs.declared.alloc.Global.{Global};
     ghost use Rattle.tmpl_syntax.specs.declared.tree.Tree.{Tree};
+    ghost use Rattle.tmpl_syntax.specs.declared.name_hash.NameHash.{NameHash};
 
-    ghost Value = { List (Vec ℕ Global × Tree) };
+    ghost Value = { List (Vec ℕ Global × Tree) × NameHash };
 
     ghost use Rattle.std.specs.Coded.{codes};
     ghost use Rattle.tmpl_syntax.specs.contracts.tree.Tree as held;
+    ghost use Rattle.tmpl_syntax.specs.contracts.name_hash.NameHash as hash;
 
-    ghost coded = { Prim.hlevel (codes, held.the_row.coded) };
+    ghost coded = { Prim.hlevel (codes, held.the_row.coded, hash.the_row.coded) };
 
-    ghost use Rattle.tmpl_syntax.specs.View.{set_view};
-    ghost use Rattle.tmpl_syntax.specs.Kept.{AreKept};
+    ghost use Rattle.indexmap.specs.IndexMap.{hasher_of};
+    ghost use Rattle.tmpl_syntax.specs.View.{entries_view};
+    ghost use Rattle.tmpl_syntax.specs.Kept.{IsSet};
 
-    ghost view = { λ s. s.templates.entries };
+    ghost view = { λ s. (s.templates.entries, hasher_of s.templates) };
 
-    ghost invariant = { λ s. AreKept (set_view s.templates.entries) };
+    ghost invariant = { λ s. IsSet (entries_view s.templates.entries) };
 }
 
 impl Set {
     /// A set of no templates, whose names are hashed by keys that everyone knows.
     pub fn new(alloc: Global) -> Set
-        ensures { set_view result ≡ [] }
+        ensures empty { set_view result ≡ [] }
+        ensures hash { first_hasher (hash_view result) ≡ known_hasher }
     {
         Set::with_hash(alloc, NameHash::fixed())
     }
 
     /// A set of no templates, whose names are hashed so.
-    #[tactic(auto, using(crate::proofs::SetLemmas::views), unfolding(crate::specs::View::set_view))]
+    #[tactic(auto, using(crate::proofs::SetLemmas::views), unfolding(crate::specs::View::entries_view, crate::specs::View::set_view))]
     pub fn with_hash(alloc: Global, names: NameHash) -> Set
-        ensures { set_view result ≡ [] }
+        ensures empty { set_view result ≡ [] }
+        ensures hash { hash_view result ≡ names }
     {
         Set {
             templates: IndexMap::with_hasher(alloc, names),
@@ -76,7 +82,7 @@ impl Set {
     }
 
     /// How many templates there are.
-    #[tactic(auto, using(crate::proofs::SetLemmas::views), unfolding(crate::specs::View::set_view))]
+    #[tactic(auto, using(crate::proofs::SetLemmas::views), unfolding(crate::specs::View::entries_view, crate::specs::View::set_view))]
     pub fn len(&self) -> usize
         ensures { result ≡ length (set_view self.now) }
     {
@@ -91,7 +97,7 @@ impl Set {
     }
 
     /// The name and the tree of the template of this number.
-    #[tactic(auto, using(crate::proofs::SetLemmas::views), unfolding(crate::specs::View::set_view))]
+    #[tactic(auto, using(crate::proofs::SetLemmas::views), unfolding(crate::specs::View::entries_view, crate::specs::View::set_view))]
     pub fn template(&self, number: usize) -> (&[u8], &Tree)
         requires { number < length (set_view self.now) }
         ensures value { slice_get (set_view self.now) number ≡ Some (result.0.now, tree_of result.1.now) }
@@ -104,18 +110,21 @@ impl Set {
     }
 
     /// How the names are hashed.
-    pub(crate) fn name_hash(&self) -> NameHash {
+    pub(crate) fn name_hash(&self) -> NameHash
+        ensures { result ≡ hash_view self.now }
+    {
         *self.templates.hasher()
     }
 
     /// Adds templates, one by one: a new name goes last, and a name that is there keeps its place and gets
     /// the new body, unless that is blank. All of them are added, or the set is as it was.
-    #[tactic(auto, using(crate::proofs::KeptLemmas::kept))]
+    #[tactic(auto, using(crate::proofs::KeptLemmas::kept), unfolding(crate::specs::View::set_view))]
     pub(crate) fn define_all(&mut self, templates: Vec<(Vec<u8>, Tree)>) -> Result<(), AllocError>
         requires { AreKept (map template_of templates.items) }
         ensures ok { OnOk result (set_view self.new
             ≡ defined_each (set_view self.old) (map template_of templates.items)) }
         ensures err { OnErr result (set_view self.new ≡ set_view self.old) }
+        ensures hash { hash_view self.new ≡ hash_view self.old }
     {
         // there is room for each before the first is added
         self.templates.reserve(templates.len())?;
@@ -124,7 +133,7 @@ impl Set {
     }
 
     /// The names, in the order in which they were first defined.
-    #[tactic(auto, using(crate::proofs::SetLemmas::views), unfolding(crate::specs::View::set_view))]
+    #[tactic(auto, using(crate::proofs::SetLemmas::views), unfolding(crate::specs::View::entries_view, crate::specs::View::set_view))]
     pub fn names(&self) -> Names<'_>
         ensures { names_left result ≡ map (λ t. t.0) (set_view self.now) }
     {
@@ -150,11 +159,12 @@ impl<'s> Iterator for Names<'s> {
 }
 
 /// Adds templates, one by one, for each of which there is room.
-#[tactic(auto, using(crate::proofs::SetLemmas::views), unfolding(crate::specs::View::set_view))]
+#[tactic(auto, using(crate::proofs::SetLemmas::views), unfolding(crate::specs::View::entries_view, crate::specs::View::set_view))]
 fn define_each(set: &mut IndexMap<Vec<u8>, Tree, NameHash>, templates: Vec<(Vec<u8>, Tree)>)
     requires { length templates.items ≤ spare set.old }
-    ensures { set_view set.new.entries
-        ≡ defined_each (set_view set.old.entries) (map template_of templates.items) }
+    ensures defined { entries_view set.new.entries
+        ≡ defined_each (entries_view set.old.entries) (map template_of templates.items) }
+    ensures hash { hasher_of set.new ≡ hasher_of set.old }
 {
     for (name, tree) in templates {
         define(set, name, tree);
@@ -162,11 +172,12 @@ fn define_each(set: &mut IndexMap<Vec<u8>, Tree, NameHash>, templates: Vec<(Vec<
 }
 
 /// Adds a template, for which there is room.
-#[tactic(auto, using(crate::proofs::SetLemmas::views), unfolding(crate::specs::View::set_view))]
+#[tactic(auto, using(crate::proofs::SetLemmas::views), unfolding(crate::specs::View::entries_view, crate::specs::View::set_view))]
 fn define(set: &mut IndexMap<Vec<u8>, Tree, NameHash>, name: Vec<u8>, tree: Tree)
     requires { 0 < spare set.old }
-    ensures defined { set_view set.new.entries ≡ defined (set_view set.old.entries) name.items (tree_of tree) }
+    ensures defined { entries_view set.new.entries ≡ defined (entries_view set.old.entries) name.items (tree_of tree) }
     ensures room { spare set.old ≤ spare set.new + 1 }
+    ensures hash { hasher_of set.new ≡ hasher_of set.old }
 {
     if !keeps(set, name.as_slice(), &tree) {
         // an insertion where there is room takes no memory
@@ -175,9 +186,9 @@ fn define(set: &mut IndexMap<Vec<u8>, Tree, NameHash>, name: Vec<u8>, tree: Tree
 }
 
 /// Whether a definition leaves the set as it is: a blank one of a name that is there.
-#[tactic(auto, using(crate::proofs::SetLemmas::views), unfolding(crate::specs::View::set_view))]
+#[tactic(auto, using(crate::proofs::SetLemmas::views), unfolding(crate::specs::View::entries_view, crate::specs::View::set_view))]
 fn keeps(set: &IndexMap<Vec<u8>, Tree, NameHash>, name: &[u8], tree: &Tree) -> bool
-    ensures { result ≡ (is_blank (tree_of tree.now).nodes && is_some (tree_named name.now (set_view set.now.entries))) }
+    ensures { result ≡ (is_blank (tree_of tree.now).nodes && is_some (tree_named name.now (entries_view set.now.entries))) }
 {
     is_blank(tree.nodes.as_slice()) && set.contains_key(name)
 }

@@ -1,6 +1,6 @@
 //! Each FILE in turn, read and then parsed.
 ghost use Rattle.std.specs.Prelude.{◌≡◌, ◌<◌, ◌^◌, ◌-◌, ◌∷◌, [], map};
-ghost use Rattle.tmpl_syntax.specs.View.{set_view};
+ghost use Rattle.tmpl_syntax.specs.View.{hash_view, set_view};
 ghost use Rattle.tmpl_syntax.specs.computed.Parse.{parsed};
 ghost use Rattle.tmpl_tool.specs.Tool.{file_reads, loaded, with_file};
 ghost use Rattle.tmpl_tool.specs.Inputs.{Adds, ComesOfFiles, Counts};
@@ -24,6 +24,7 @@ pub(crate) fn load_files<'a, S: Source>(
         (λ files fails. loaded parsed files fails 0 (set_view set.old) (map (λ s. s.now) names.now))
         (λ files fails. file_reads parsed files fails 0 (set_view set.old) (map (λ s. s.now) names.now))
         (λ u. set_view set.new) result }
+    ensures hash { hash_view set.new ≡ hash_view set.old }
 {
     for name in names {
         load_file(alloc, set, source, *name)?;
@@ -44,6 +45,7 @@ fn load_file<'a, S: Source>(
     ensures loads { ComesOfFiles (S.contents source.old) (S.asked source.old) (S.asked source.new)
         (λ files fails. with_file parsed files (fails 0) (set_view set.old) name.entry.now)
         (λ files fails. name.entry.now ∷ []) (λ u. set_view set.new) result }
+    ensures hash { hash_view set.new ≡ hash_view set.old }
 {
     match source.read_up_to(alloc, name, MOST_BYTES as u64) {
         Ok(bytes) => add_file(alloc, set, name, bytes),
@@ -55,7 +57,8 @@ fn load_file<'a, S: Source>(
 
 /// Adds the templates of a file of these bytes.
 fn add_file<'a>(alloc: Global, set: &mut Set, name: &'a str, bytes: Vec<u8>) -> Result<(), Stop<'a>>
-    ensures { Adds (parsed (set_view set.old) name.entry.now bytes.items) name.entry.now (set_view set.new) result }
+    ensures adds { Adds (parsed (set_view set.old) name.entry.now bytes.items) name.entry.now (set_view set.new) result }
+    ensures hash { hash_view set.new ≡ hash_view set.old }
 {
     match parse_owned(alloc, set, name, bytes) {
         Ok(()) => Ok(()),

@@ -32,7 +32,7 @@ returns-in_err-load_files-clause-reads g c =
     _)) (
     let stop = c.in_err-load_files.field-0.0 in
     if_told _ (g.S.Source.contents c.args.source.now) (λ files told.
-    let stops = loads_as Made files _ _ _ [] (Err stop) c.with_hash-set.ensures c.as_slice.ensures.value
+    let stops = loads_as Made files _ _ _ [] (Err stop) c.with_hash-set.ensures.empty c.as_slice.ensures.value
     (of_told _ _ files told c.in_err-load_files.ensures.loads) in
     err_up (ComesOf Made (inputs_of parsed files w) (inputs_reads parsed files w) inputs_seen) c.from_residual.result _ c.from_residual.ensures.1
     (load_stops files w Made (stop_seen stop) stops)))
@@ -48,7 +48,7 @@ returns-in_err-data-clause-reads g c =
     let set = set_view c.load_files.new.set in
     let stop = c.in_err-data.field-0.0 in
     if_told _ (g.S.Source.contents c.args.source.now) (λ files told.
-    let loads = loads_as (Asked before between) files _ _ _ set (Ok tt) c.with_hash-set.ensures c.as_slice.ensures.value
+    let loads = loads_as (Asked before between) files _ _ _ set (Ok tt) c.with_hash-set.ensures.empty c.as_slice.ensures.value
     (of_told _ _ files told c.in_ok-load_files.ensures.loads) in
     let stops = of_told _ _ files (c.in_ok-load_files.ensures.contents ∙ told) c.in_err-data.ensures.reads in
     err_up (ComesOf (Asked before after) (inputs_of parsed files w) (inputs_reads parsed files w) inputs_seen) c.from_residual-in_err-data.result _
@@ -64,7 +64,7 @@ returns-clause-reads g c parse is =
     let between = g.S.Source.asked c.load_files.new.source in
     let after = g.S.Source.asked c.read_data.new.source in
     if_told _ (g.S.Source.contents c.args.source.now) (λ files told.
-    let loads = loads_as (Asked before between) files _ _ _ set (Ok tt) c.with_hash-set.ensures c.as_slice.ensures.value
+    let loads = loads_as (Asked before between) files _ _ _ set (Ok tt) c.with_hash-set.ensures.empty c.as_slice.ensures.value
     (of_told _ _ files told c.in_ok-load_files.ensures.loads) in
     let found = of_told _ _ files (c.in_ok-load_files.ensures.contents ∙ told) c.in_ok-data.ensures.reads in
     for_each (λ (p : Parse). (inputs_of p files w no_read ≡ Ok (set, input)) × Asked before after (inputs_reads p files w no_read))
@@ -78,7 +78,7 @@ returns-then-request-clause-reads g c parse is =
     let before = g.S.Source.asked c.args.source.now in
     let between = g.S.Source.asked c.load_files.new.source in
     if_told _ (g.S.Source.contents c.args.source.now) (λ files told.
-    let loads = loads_as (Asked before between) files _ _ _ set (Ok tt) c.with_hash-set.ensures c.as_slice.ensures.value
+    let loads = loads_as (Asked before between) files _ _ _ set (Ok tt) c.with_hash-set.ensures.empty c.as_slice.ensures.value
     (of_told _ _ files told c.in_ok-load_files.ensures.loads) in
     for_each (λ (p : Parse). (inputs_of p files w no_read ≡ Ok (set, None)) × Asked before between (inputs_reads p files w no_read))
     (printed_next files w before between between set loads.0 loads.1 (search rules) (asked-nothing between))

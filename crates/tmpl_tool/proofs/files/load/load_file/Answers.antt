@@ -15,4 +15,4 @@ returns-in-Ok-clause-loads g c =
     if_told _ (g.S.Source.contents c.args.source.now) (λ files told.
     file_comes (Asked (g.S.Source.asked c.args.source.now) (g.S.Source.asked c.read_up_to.new.self)) files set name bytes new
     (subst (λ (o : Option Files). TellsFront most_bytes o name bytes) told c.in-Ok.ensures.read.1) c.in-Ok.ensures.asked
-    c.add_file.result c.add_file.ensures)
+    c.add_file.result c.add_file.ensures.adds)

@@ -42,6 +42,7 @@ loop-name-preserved g c =
     record {
       contents = told.contents ∙ inv.contents;
       failures = told.counts ∙ inv.failures;
+      hash = told.hash ∙ inv.hash;
       comes = if_told _ (g.S.Source.contents c.args.source.now) (λ files is.
           let loads = of_told _ _ files (inv.contents ∙ is) told.loads in
           one_more before between after files start (map (λ s. s.now) names) i set _ (map (λ s. s.now) (drop (i + 1) names))
