@@ -75,9 +75,12 @@ impl<'s> Program<'s> {
         }
     }
 
-    /// How many cells a stack must have for every run, where so many templates may be inside one another.
+    /// How many cells are enough for every run, where this many templates may be inside one another: the depth times
+    /// what the template needs that needs most.
+    #[tactic(auto, using(crate::proofs::BoundLemmas::room_suffices))]
     pub fn room(&self, depth: u32) -> u64
-        ensures { result ≡ room depth (set_view self.now.set.now) }
+        ensures value { result ≡ room depth (set_view self.now.set.now) }
+        ensures enough { (first : ℕ) → Suffices depth (set_view self.now.set.now) first result }
     {
         depth as u64 * self.need as u64
     }
