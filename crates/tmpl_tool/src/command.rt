@@ -1,10 +1,13 @@
 //! The command over a source and two sinks.
-ghost use Rattle.std.specs.Prelude.{◌≡◌, ◌<◌, ◌^◌, ◌-◌, IfSome, map};
-ghost use Rattle.std.specs.Result.{result_err};
+ghost use Rattle.std.specs.Prelude.{◌≡◌, ◌≢◌, ◌<◌, ◌^◌, ◌-◌, IfSome, None, Ok, map, true};
+ghost use Rattle.std.specs.Result.{result_err, result_ok};
 ghost use Rattle.std.specs.String.{string_bytes};
+ghost use Rattle.tmpl_syntax.specs.View.{hash_view};
 ghost use Rattle.tmpl_meaning.specs.Sink.{sunk};
+ghost use Rattle.tmpl_tool.specs.Help.{asks_help};
+ghost use Rattle.tmpl_tool.specs.Inputs.{inputs_of, inputs_seen};
 ghost use Rattle.tmpl_tool.specs.Outcome.{Counted, Once, Outcome};
-ghost use Rattle.tmpl_tool.specs.Tool.{Follows, IsParse, Parse, asked_by, stop_answer, tool_answer, tool_reads};
+ghost use Rattle.tmpl_tool.specs.Tool.{Follows, IsParse, Parse, asked_by, no_read, stop_answer, tool_answer, tool_reads};
 
 use crate::answer::answer;
 use crate::files::inputs::{Inputs, read_inputs};
@@ -52,6 +55,7 @@ pub fn tool<S: Source, O: Sink, E: Sink>(
     ensures reads { Once (S.failures source.old) (S.failures source.new) }
     ensures counts { Counted (O.so_far out.old).failures (O.so_far out.new).failures result.code }
     ensures cuts { Once (E.so_far err.old).failures (E.so_far err.new).failures }
+    ensures help { asks_help (map (λ word. string_bytes word) words.now) ≡ true → result.code ≢ 7 }
     ensures unasked { IfSome (result_err (asked_by (map (λ word. string_bytes word) words.now))) (λ stop.
         (source.new ≡ source.old) × Outcome (stop_answer stop)
         (sunk (O.so_far out.old) (O.so_far out.new))
@@ -89,6 +93,7 @@ pub fn tool_keeping<S: Source, O: Sink, E: Sink>(
     ensures reads { Once (S.failures source.old) (S.failures source.new) }
     ensures counts { Counted (O.so_far out.old).failures (O.so_far out.new).failures result.status.code }
     ensures cuts { Once (E.so_far err.old).failures (E.so_far err.new).failures }
+    ensures help { asks_help (map (λ word. string_bytes word) words.now) ≡ true → result.status.code ≢ 7 }
     ensures unasked { IfSome (result_err (asked_by (map (λ word. string_bytes word) words.now))) (λ stop.
         (source.new ≡ source.old) × Outcome (stop_answer stop)
         (sunk (O.so_far out.old) (O.so_far out.new))
@@ -105,6 +110,10 @@ pub fn tool_keeping<S: Source, O: Sink, E: Sink>(
           err = sunk (E.so_far err.old) (E.so_far err.new);
           code = result.status.code;
         })) }
+    ensures inputs { IfSome result.inputs (λ inputs. (hash_view inputs.set ≡ names)
+        × ((parse : Parse) → IsParse parse → IfSome (S.contents source.old) (λ files.
+        IfSome (result_ok (asked_by (map (λ word. string_bytes word) words.now))) (λ w.
+        inputs_of parse files w no_read ≡ Ok (inputs_seen inputs))))) }
 {
     if asks_help(words) {
         return stopped(put_out(USAGE, out, err));
@@ -124,7 +133,8 @@ pub fn tool_keeping<S: Source, O: Sink, E: Sink>(
 
 /// An end before all was read.
 fn stopped(status: Status) -> Ended
-    ensures { result.status ≡ status }
+    ensures status { result.status ≡ status }
+    ensures inputs { result.inputs ≡ None }
 {
     Ended {
         status,

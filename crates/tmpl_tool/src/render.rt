@@ -1,5 +1,5 @@
 //! The template looked up and run, and its text put out.
-ghost use Rattle.std.specs.Prelude.{◌≡◌, ◌<◌, ◌^◌, ◌-◌, Option, option_map};
+ghost use Rattle.std.specs.Prelude.{◌≡◌, ◌≢◌, ◌<◌, ◌^◌, ◌-◌, Option, option_map};
 ghost use Rattle.std.specs.Option.{ok_or};
 ghost use Rattle.tmpl_values.specs.View.{value_of};
 ghost use Rattle.tmpl_syntax.specs.View.{set_view};
@@ -24,8 +24,9 @@ use tmpl_values::Data;
 pub(crate) fn put_out<O: Sink, E: Sink>(text: &[u8], out: &mut O, err: &mut E) -> Status
     requires out { (O.so_far out.old).failures < 2 ^ 64 - 1 }
     requires err { (E.so_far err.old).failures < 2 ^ 64 - 1 }
-    ensures { Gives (only_text text.now)
+    ensures gives { Gives (only_text text.now)
         (sunk (O.so_far out.old) (O.so_far out.new)) (sunk (E.so_far err.old) (E.so_far err.new)) result.code }
+    ensures spared { result.code ≢ 7 }
 {
     match put_all(out, text) {
         Ok(()) => Status { code: 0 },

@@ -1,11 +1,12 @@
-use Rattle.std.proofs.Common.{◌≡◌, ◌∙◌, [], ap, refl, sym, map, rules, false, true, inl, inr}
+use Rattle.std.proofs.Common.{◌≡◌, ◌∙◌, [], ap, refl, sym, subst, map, rules, false, true, inl, inr, IfSome, Ok}
+use Rattle.std.specs.Result.{result_ok}
 use Rattle.std.specs.String.{string_bytes}
 use Rattle.std.specs.Option.{option_map}
 use Rattle.tmpl_values.specs.View.{value_of}
 use Rattle.tmpl_meaning.specs.Sink.{sunk}
 use Rattle.tmpl_meaning.proofs.ToldLemmas.{if_told, of_told}
 use Rattle.tmpl_tool.specs.Help.{asks_help}
-use Rattle.tmpl_tool.specs.Inputs.{stop_seen}
+use Rattle.tmpl_tool.specs.Inputs.{inputs_of, inputs_seen, stop_seen}
 use Rattle.tmpl_tool.specs.Tool.{no_read, tool_answer, tool_reads}
 use Rattle.tmpl_tool.specs.declared.status.Status.{Status}
 use Rattle.tmpl_tool.specs.View.{seen}
@@ -21,7 +22,7 @@ returns-then-asks_help-clause-told g c parse is =
     let helps : asks_help words ≡ true = search rules in
     let asked = g.S.Source.asked c.args.source.now in
     if_told _ (g.S.Source.contents c.args.source.now) (λ files told.
-    inl (refl, inl (rw helps (asked-nothing asked)), rw (c.stopped.ensures, gives_help parse words files no_read helps) c.put_out.ensures.outcome))
+    inl (refl, inl (rw helps (asked-nothing asked)), rw (c.stopped.ensures.status, gives_help parse words files no_read helps) c.put_out.ensures.gives.outcome))
 
 pub returns-in-Ok-read_inputs-clause-told : goal.returns-in-Ok-read_inputs-clause-told
 returns-in-Ok-read_inputs-clause-told g c parse is =
@@ -44,6 +45,18 @@ returns-in-Ok-read_inputs-clause-told g c parse is =
       rw (after_inputs parse files w no_read, reads.0, sym same) c.answer.ensures.outcome,
     )))
 
+pub returns-in-Ok-read_inputs-clause-inputs : goal.returns-in-Ok-read_inputs-clause-inputs
+returns-in-Ok-read_inputs-clause-inputs g c =
+    let words = map (λ word. string_bytes word) c.args.words.now in
+    let helps : asks_help words ≡ false = search rules in
+    let w = seen c.in-Ok.request in
+    let inputs = c.in-Ok-read_inputs.inputs in (
+      c.in-Ok-read_inputs.ensures.hash,
+      λ parse is. if_told _ (g.S.Source.contents c.args.source.now) (λ files told.
+          let reads = of_told _ _ files told (c.in-Ok-read_inputs.ensures.reads parse is) in
+          subst (λ r. IfSome (result_ok r) (λ v. inputs_of parse files v no_read ≡ Ok (inputs_seen inputs))) (sym (asks words w c.in-Ok.ensures helps)) reads.0),
+    )
+
 pub returns-in-Ok-clause-told : goal.returns-in-Ok-clause-told
 returns-in-Ok-clause-told g c parse is =
     let words = map (λ word. string_bytes word) c.args.words.now in
@@ -60,7 +73,7 @@ returns-in-Ok-clause-told g c parse is =
     (stops err code parse out (source c.args.source.now) (source c.read_inputs.new.source) (asked c.args.source.now)
     (asked c.read_inputs.new.source) w files c.in-Err.stop c.in-Err.ensures.counts
     (stops_after parse files w _ (stop_seen c.in-Err.stop) (of_told _ _ files told (c.in-Err.ensures.reads parse is)))
-    (ap (λ (s : Status). s.code) c.stopped-in-Err.ensures ∙ c.refuse.ensures.code) c.refuse.ensures.line))
+    (ap (λ (s : Status). s.code) c.stopped-in-Err.ensures.status ∙ c.refuse.ensures.code) c.refuse.ensures.line))
 
 pub returns-clause-told : goal.returns-clause-told
 returns-clause-told g c parse is =
@@ -69,7 +82,7 @@ returns-clause-told g c parse is =
     let asked = g.S.Source.asked c.args.source.now in
     if_told _ (g.S.Source.contents c.args.source.now) (λ files told.
     let status : c.stopped-in-Err-OutOfMemory.result.status.code ≡ 7 =
-    ap (λ (s : Status). s.code) c.stopped-in-Err-OutOfMemory.ensures ∙ c.out_of_memory.ensures.code in
+    ap (λ (s : Status). s.code) c.stopped-in-Err-OutOfMemory.ensures.status ∙ c.out_of_memory.ensures.code in
     inl (
       refl,
       inr (status, ([], tool_reads parse words files no_read, refl, asked-nothing asked)),
