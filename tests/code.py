@@ -13,6 +13,7 @@ import sweep
 PROBE = f"{harness.TOP}/crates/tmpl_probe/out/tmpl_probe"
 
 # a template file of the name m, and the code of what it defines
+OUT_OF_MEMORY = 7  # the status of the probe where memory is refused
 ROWS = [
     (
         "x",
@@ -257,11 +258,11 @@ def listed(folder, template, more, keep):
 
 
 def judge(shim, folder, template, code):
-    """Compares the list, also with each allocation refused in turn: then there is the same list, or none and status 1."""
+    """Compares the list, also with each allocation refused in turn: then there is the same list, or none and the status of want of memory."""
     wanted = "".join(line.strip() + "\n" for line in code.splitlines())
 
     def wrong(got, refused):
-        if got == (0, wanted) or refused and got == (1, ""):
+        if got == (0, wanted) or refused and got == (OUT_OF_MEMORY, ""):
             return []
         return [f"    status {got[0]}, and not the list that was wanted:", got[1]]
 

@@ -6,6 +6,7 @@ import struct
 import subprocess
 import sys
 import tempfile
+from typing import NamedTuple, Optional
 
 import harness
 import sweep
@@ -51,12 +52,22 @@ CALLS = [
     (["--data", "float", "long"], "", "tmpl: float: number not whole or out of range\n", 5),
 ]
 FULL = ["--data", "data", "m"]  # the words of calls whose output fails
+OUT_OF_MEMORY = 7  # the status of the probe where memory is refused outside the call
 REFUSED = [["--data", "data", "m"], ["--data", "data", "made"], ["--print", "m"], ["m", "twice"], ["--data", "bad", "m"]]
 
 
+class Came(NamedTuple):
+    """The output and the errors of calls, the kilobytes that their process took, the blocks that were left, and its status."""
+
+    out: bytes
+    err: bytes
+    size: int
+    left: Optional[int]
+    status: int
+
+
 def often(folder, words, times, shim=None, refused=0, out=subprocess.PIPE):
-    """The output and the errors of so many calls, and the kilobytes that the process took; under the shim the blocks that were
-    left at its end, too."""
+    """What came of a process of so many calls: under the shim also the blocks that were left at its end."""
     environment, keep, (read, write) = dict(os.environ), (), os.pipe()
     if shim:
         keep = (write,)
@@ -71,8 +82,8 @@ def often(folder, words, times, shim=None, refused=0, out=subprocess.PIPE):
                 stdout=told if out == subprocess.PIPE else out,
                 stderr=said,
             )
-            _, _, usage = os.wait4(process.pid, 0)
-            process.returncode = 0
+            _, ended, usage = os.wait4(process.pid, 0)
+            process.returncode = os.waitstatus_to_exitcode(ended)
             told.seek(0)
             said.seek(0)
             texts = told.read(), said.read()
@@ -80,7 +91,7 @@ def often(folder, words, times, shim=None, refused=0, out=subprocess.PIPE):
         os.close(write)
         with os.fdopen(read, "rb") as it:
             left = it.read()
-    return (*texts, usage.ru_maxrss, struct.unpack("l", left)[0] if left else None)
+    return Came(*texts, usage.ru_maxrss, struct.unpack("l", left)[0] if left else None, process.returncode)
 
 
 def judge(shim, folder, words, text, line, status):
@@ -88,16 +99,16 @@ def judge(shim, folder, words, text, line, status):
     name = f"tmpl {' '.join(words)}"
     end = f"status {status}\n".encode()
     wrong = []
-    _, _, few, none = often(folder, words, 0, shim)
+    none = often(folder, words, 0, shim).left
     for times in (1, MANY):
-        out, err, _, left = often(folder, words, times, shim)
-        if text is not None and out != text.encode() * times:
-            wrong.append(f"    {times} calls put out {len(out)} bytes")
-        if line is not None and err != (line.encode() + end) * times or err.count(end) != times:
-            wrong.append(f"    {times} calls said {err[:100]!r}")
-        if left is None or left != none:
-            wrong.append(f"    {times} calls left {left} blocks, {none} without them")
-    few, many = (often(folder, words, times)[2] for times in (FEW, MANY))
+        came = often(folder, words, times, shim)
+        if came.status or text is not None and came.out != text.encode() * times:
+            wrong.append(f"    {times} calls put out {len(came.out)} bytes, and the process ended with {came.status}")
+        if line is not None and came.err != (line.encode() + end) * times or came.err.count(end) != times:
+            wrong.append(f"    {times} calls said {came.err[:100]!r}")
+        if came.left is None or came.left != none:
+            wrong.append(f"    {times} calls left {came.left} blocks, {none} without them")
+    few, many = (often(folder, words, times).size for times in (FEW, MANY))
     if many > few + SLACK:
         wrong.append(f"    {MANY} calls took {many} kB, {FEW} calls {few} kB")
     return name, 1, wrong
@@ -106,25 +117,28 @@ def judge(shim, folder, words, text, line, status):
 def judge_full(shim, folder):
     """The same where each write of the output fails."""
     with open("/dev/full", "wb") as full:
-        _, _, _, none = often(folder, FULL, 0, shim, out=full)
-        _, err, _, left = often(folder, FULL, MANY, shim, out=full)
-    wrong = [] if err == b"tmpl: write failed\nstatus 6\n" * MANY else [f"    they said {err[:100]!r}"]
-    return "a full device", 1, wrong + [f"    left {left} blocks, {none} without calls"] * (left != none)
+        none = often(folder, FULL, 0, shim, out=full).left
+        came = often(folder, FULL, MANY, shim, out=full)
+    wrong = [] if came.err == b"tmpl: write failed\nstatus 6\n" * MANY else [f"    they said {came.err[:100]!r}"]
+    return "a full device", 1, wrong + [f"    left {came.left} blocks, {none} without calls"] * (came.left is None or came.left != none)
 
 
 def judge_refused(shim, folder, words):
-    """The same where one allocation is refused, for each of them."""
-    _, _, _, none = often(folder, words, 0, shim)
+    """The same where one allocation is refused, for each of them. The call answers that memory was refused, or the probe ends so before
+    it, up to the first number that is no allocation: then the call does what it ever does."""
+    none, usual = often(folder, words, 0, shim).left, often(folder, words, 1, shim)
     wrong, ends, number = [], 0, 0
     while number < sweep.MOST:
         number += 1
-        _, err, _, left = often(folder, words, 1, shim, number)
-        if err.endswith(b"tmpl: out of memory\nstatus 7\n"):
+        came = often(folder, words, 1, shim, number)
+        if came.status == 0 and came.err.endswith(b"tmpl: out of memory\nstatus 7\n"):
             ends += 1
-            if left != none:
-                wrong.append(f"    with allocation {number} refused {left} blocks were left, {none} without the call")
-        elif number > 1 and b"OutOfMemory" not in err and ends:
-            break
+            if came.left is None or came.left != none:
+                wrong.append(f"    with allocation {number} refused {came.left} blocks were left, {none} without the call")
+        elif came.status != OUT_OF_MEMORY:
+            wrong += [] if came[:2] == usual[:2] else [f"    with allocation {number} refused it came to {came.status}, {came.err[:100]!r}"]
+            if ends:
+                break
     return f"tmpl {' '.join(words)}, refused", ends, wrong if ends > 9 else ["    hardly an allocation was refused"]
 
 

@@ -61,10 +61,15 @@ static const struct row rows[] = {
 enum { ROWS = sizeof rows / sizeof *rows };
 
 struct told {
-    int status;
+    int status, is_lent;
     char out[128], line[128];
     tmpl_buffer text, said;
 };
+
+/* Whether the buffers are still those that were lent, as large as they were. */
+static int are_lent(const struct told *told, size_t size, size_t line_size) {
+    return told->text.bytes == told->out && told->text.size == size && told->said.bytes == told->line && told->said.size == line_size;
+}
 
 static void render(const struct row *row, size_t size, size_t line_size, struct told *told) {
     tmpl_settings settings = {.print = (uint8_t)row->print};
@@ -72,9 +77,21 @@ static void render(const struct row *row, size_t size, size_t line_size, struct 
     told->text = (tmpl_buffer){told->out, size, 99, 99};
     told->said = (tmpl_buffer){told->line, line_size, 99, 99};
     told->status = tmpl_render(&settings, &file, 1, "t", 1, row->data, strlen(row->data), &told->text, &told->said);
+    told->is_lent = are_lent(told, size, line_size);
 }
 
-/* The same by what is kept: the file is added, the data read, and both rendered twice; or what stopped it. All is freed, twice. */
+/* Reads data into what has data, and into what was emptied by a read of no bytes: what was there before is freed. */
+static int read_again(const struct row *row, tmpl_data *data, tmpl_buffer *said) {
+    static const char *const before[] = {"[\"first\"]", "{\"k\":\"second\"}", "", "[]"};
+    for (size_t i = 0; i < sizeof before / sizeof *before; i++) {
+        int status = tmpl_data_read(data, before[i], strlen(before[i]), said);
+        if (status != TMPL_OK) return status;
+    }
+    return tmpl_data_read(data, row->data, strlen(row->data), said);
+}
+
+/* The same by what is kept: the file is added, the data read after others, and both rendered twice; or what stopped it. All is freed,
+   twice. */
 static void keep(const struct row *row, size_t size, size_t line_size, struct told *told) {
     tmpl_settings settings = {.print = (uint8_t)row->print};
     tmpl_file file = {"t", 1, row->template, strlen(row->template)};
@@ -83,9 +100,12 @@ static void keep(const struct row *row, size_t size, size_t line_size, struct to
     told->text = (tmpl_buffer){told->out, size, 0, 0};
     told->said = (tmpl_buffer){told->line, line_size, 99, 99};
     told->status = tmpl_set_add(&set, &file, &told->said);
-    if (told->status == TMPL_OK && !row->print) told->status = tmpl_data_read(&data, row->data, strlen(row->data), &told->said);
+    told->is_lent = are_lent(told, size, line_size);
+    if (told->status == TMPL_OK && !row->print) told->status = read_again(row, &data, &told->said);
+    told->is_lent &= are_lent(told, size, line_size);
     for (int i = 0; told->status == TMPL_OK && i < 2; i++)
         told->status = tmpl_render_set(&settings, &set, &data, "t", 1, &told->text, &told->said);
+    told->is_lent &= are_lent(told, size, line_size);
     for (int i = 0; i < 2; i++) tmpl_set_free(&set), tmpl_data_free(&data);
 }
 
@@ -101,13 +121,13 @@ static int holds(const tmpl_buffer *it, const char *text) {
 
 static int is_right(const struct row *row, const struct told *told) {
     int fits = strlen(row->text) <= told->text.size;
-    return told->status == (fits ? row->status : TMPL_FULL) && holds(&told->text, row->text)
+    return told->is_lent && told->status == (fits ? row->status : TMPL_FULL) && holds(&told->text, row->text)
         && holds(&told->said, fits ? row->line : "tmpl: write failed\n");
 }
 
 /* Memory was refused: a beginning of the text, and the line of that. */
 static int is_refused(const struct row *row, const struct told *told) {
-    return told->status == TMPL_MEMORY && begins(&told->text, row->text) && holds(&told->said, "tmpl: out of memory\n");
+    return told->is_lent && told->status == TMPL_MEMORY && begins(&told->text, row->text) && holds(&told->said, "tmpl: out of memory\n");
 }
 
 typedef void way(const struct row *row, size_t size, size_t line_size, struct told *told);

@@ -1,6 +1,7 @@
 """Holds what is made of the documents against them: the man pages, the completions and the usage line. The pages and the
 completions must be those that man/make.py and completions/make.py make; `man` must find nothing to warn of, where it is there;
-the program must put out the usage line of docs/COMMAND.md; and each shell that is there must offer the options of that line,
+the program must put out the usage line of docs/COMMAND.md; the defaults and the limits of the definitions must be those that the
+documents say; and each shell that is there must offer the options of that line,
 the words of an option that takes one of several, and files. TMPL=PATH names another build."""
 import json
 import os
@@ -39,6 +40,38 @@ def made():
 def usage():
     wanted = (0, f"usage: {completions.usage()}\n")
     yield "the usage line", wanted, output(harness.PROGRAM, "--help")
+
+
+# the definitions that have numbers of options and limits, and how each has them
+NUMBERS = {
+    "crates/tmpl_tool/specs/Words.antt": {
+        "depth": (r"depth_limit = number_in (\d+) (\d+) (\d+) ", ["default", "least", "most"]),
+        "steps": (r"step_limit = number_in (\d+) (\d+) (\d+) ", ["default", "least", "most"]),
+        "depth, by clap": (r'codes "depth"\) \(vp.Signed \(pos (\d+)\) \(pos (\d+)\)\)', ["least", "most"]),
+        "steps, by clap": (r'codes "steps"\) \(vp.Unsigned (\d+) (\d+)\)', ["least", "most"]),
+    },
+    "crates/tmpl_c/specs/Lent.antt": {
+        "depth": (r"depth_limit = limit (\d+) (\d+) s.depth", ["default", "most"]),
+        "steps": (r"step_limit = limit (\d+) (\d+) s.steps", ["default", "most"]),
+    },
+}
+
+
+def told(option):
+    """The default, the least and the most number of an option, as docs/COMMAND.md has them."""
+    with open(f"{harness.TOP}/docs/COMMAND.md", encoding="utf-8") as it:
+        row = re.search(rf"^\| `--{option} N` \|.* (\d+) to (\d+)\b.*\| (\d+) \|$", it.read(), re.MULTILINE)
+    return {"least": row[1], "most": row[2], "default": row[3]}
+
+
+def numbers():
+    """A number that were changed in a definition and in the code alike would be proved, and no row has so many steps."""
+    for path, its in NUMBERS.items():
+        with open(f"{harness.TOP}/{path}", encoding="utf-8") as it:
+            text = it.read()
+        for name, (pattern, names) in its.items():
+            row = told(name.partition(",")[0])
+            yield f"{name} in {path}", [tuple(row[it] for it in names)], [it if isinstance(it, tuple) else (it,) for it in re.findall(pattern, text)]
 
 
 def pages():
@@ -149,7 +182,7 @@ def main():
             with open(f"{folder}/{name}", "w", encoding="utf-8"):
                 pass
         shells = {"bash": in_bash, "zsh": in_zsh, "fish": in_fish}
-        cases = [*made(), *usage(), *pages()]
+        cases = [*made(), *usage(), *numbers(), *pages()]
         for shell in filter(shutil.which, shells):
             cases += shells[shell](folder)
         cases += editors(folder)

@@ -306,6 +306,7 @@ def judge_batch(batch):
 # ---- calls
 
 REFUSED = b"memory was refused\n"
+OUT_OF_MEMORY = 7  # the status of the probe where memory is refused outside the call
 BEFORE = b'{{define "a"}}one{{end}}{{define "b"}}two{{end}}own'
 AFTER = b'{{define "c"}}new{{end}}{{define "b"}}changed{{end}}last'
 WITH_IN_RANGE = b"{{range .}}{{with .k}}{{if eq . 2}}{{break}}{{end}}{{.}}{{end}};{{end}}{{len .}}"
@@ -355,10 +356,16 @@ CALLS = [
 ]
 
 
+def is_spared(ample, status, out, err):
+    """Whether a run came to what it does with ample memory, or to a beginning of that at want of memory outside the call."""
+    return (status, out, err) == (0, ample, b"") or (status == OUT_OF_MEMORY and ample.startswith(out) and not err)
+
+
 def judge_call(shim, runner, name, files, ample, behind, is_refused):
-    """Makes a call with ample memory, and with each allocation refused in turn: then it comes to nothing, where that is before the call
-    or behind it, or the call answers so and leaves all as it was, or it is as with ample memory. Where a function is called all
-    allocations behind it are refused too, since a text for which there was no room may still grow as it needs."""
+    """Makes a call with ample memory, and with each allocation refused in turn: then the probe ends for want of memory, where that is
+    before the call or after it, and has put out a beginning of what it does with ample memory; or the call answers so and leaves all as
+    it was; or all is as with ample memory. Nothing else is right. Where a function is called all allocations after the refused one are
+    refused too, since a text for which there was no room may still grow as it needs."""
     runner.lay(b"files", listed([(b"", it) for it in files]))
     more = {**harness.ENVIRONMENT, "LD_PRELOAD": shim, "FAIL_EACH": str(runner.told), **({"FAIL_REST": "1"} if name == "call" else {})}
     got = runner.run_by(b"tmpl_probe", [b"make", name.encode(), b"files"], runner.actions, more)
@@ -368,7 +375,7 @@ def judge_call(shim, runner, name, files, ample, behind, is_refused):
         runs += 1
         if (status, out, err) == (0, REFUSED + behind, b""):
             answers += 1
-        elif (status, out, err) != (0, ample, b"") and not (status == 1 and ample.startswith(out)):
+        elif not is_spared(ample, status, out, err):
             wrong.append(f"    with allocation {number} refused it came to {status}, {out!r}, {err!r}")
     if (answers > 0) != is_refused:
         wrong.append(f"    it answered {answers} times that memory was refused")

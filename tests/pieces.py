@@ -1,6 +1,6 @@
 """Runs compiled templates by the probe, which lends the function `run` a stack and a piece, and compares the text
 and how each run ended. First every row that comes to a run, over exactly as many cells as are enough, with pieces of some sizes,
-and whether it takes memory where no function makes a text. Then templates by hand: rooms; sinks that take little a put, and
+and over exactly the room of its set; and whether it takes memory where no function makes a text. Then templates by hand: rooms; sinks that take little a put, and
 that fail, where no put may follow the failed one; how many allocations a run makes, and each of them refused, over arrays."""
 import os
 import sys
@@ -17,7 +17,7 @@ PIECES = (1, 2, 4, 4096)
 ALL = 2**64 - 1  # as many bytes as there are
 DONE = b"status 0\n"
 OUT_OF_MEMORY = b"tmpl: out of memory\nstatus 7\n"
-NOT_RUN = (b"", b"Error: Kind(OutOfMemory)\n")  # what the probe says where memory is refused before a run
+NOT_RUN = (7, b"", b"")  # what the probe comes to where memory is refused before a run
 
 WITH_IN_RANGE = "{{range .}}{{with .k}}{{if eq . 2}}{{break}}{{end}}{{.}}{{end}};{{end}}{{len .}}"
 
@@ -151,9 +151,9 @@ SPARED = [
 ]
 
 
-def words(asked, piece=4096, most=ALL, left=ALL, fails="always", spare=0, times=1):
-    """What the probe reads behind `run` and `fixed`: what is lent, and the words of a command."""
-    return [*map(str, (piece, most, left)), fails, str(spare), str(times), "tmpl", *asked]
+def words(asked, piece=4096, most=ALL, left=ALL, fails="always", cells="enough", times=1):
+    """What the probe reads after `run` and `fixed`: what is lent, and the words of a command."""
+    return [*map(str, (piece, most, left)), fails, cells, str(times), "tmpl", *asked]
 
 
 def probe(folder, it, stdin=None, more=None, keep=()):
@@ -214,16 +214,17 @@ def ending(row, got):
 
 
 def judge_row(row):
-    """Runs a row with each size of a piece, over exactly as many cells as are enough."""
+    """Runs a row with each size of a piece, over exactly as many cells as are enough, and over exactly those of the room."""
+    ways = [(piece, "enough") for piece in PIECES] + [(PIECES[-1], "room")]
     with tempfile.TemporaryDirectory() as folder:
         row.lay(folder)
-        for piece in PIECES:
+        for piece, cells in ways:
             row.lay_pipes(folder)
-            got = probe(folder, ["run", *words(row.words, piece=piece)], row.stdin)
+            got = probe(folder, ["run", *words(row.words, piece=piece, cells=cells)], row.stdin)
             wrong = differences(got, (0, row.out, ending(row, got[2])))
             if wrong:
-                return row.name, 1, [f"    with a piece of {piece}", *wrong]
-    return row.name, len(PIECES), []
+                return row.name, 1, [f"    with a piece of {piece}, and as many cells as are {cells}", *wrong]
+    return row.name, len(ways), []
 
 
 def makes_text(row):
@@ -298,7 +299,7 @@ def judge_refused(shim, template, text, count, kept, data=None):
 
     def wrong(got, refused):
         status, out, errors = got
-        if refused and (status, out) == (1, b"") and errors in NOT_RUN:
+        if refused and got == NOT_RUN:
             return []
         if refused and (status, errors) == (0, OUT_OF_MEMORY) and text.encode().startswith(out):
             told.append(out)

@@ -82,6 +82,17 @@ def printed(rows):
         yield it
 
 
+def refused(rows):
+    """Each row whose words are refused or of which a FILE is missing, with the option to print: it comes to the same, since that is
+    looked at before what is printed."""
+    for row in rows:
+        paths = harness.parted(row.words)[1] if row.status == 3 else []
+        if row.status == 2 or row.err in [b"tmpl: %b: no such file\n" % path for path in paths]:
+            it = copy.copy(row)
+            it.name, it.words = f"{row.name}, printed", [b"--print", *row.words]
+            yield it
+
+
 def start():
     global RUNNER
     RUNNER = harness.Runner()
@@ -96,7 +107,7 @@ def main():
     with tempfile.TemporaryDirectory() as folder:
         SHIM = f"{folder}/fail_alloc.so"
         build_shim("fail_alloc.c", SHIM)
-        for name, its in (("rows", rows), ("printed sets", list(printed(rows)))):
+        for name, its in (("rows", rows), ("printed sets", [*printed(rows), *refused(rows)])):
             right, wrong, runs = harness.tally(harness.in_processes(sweep_row, its, start, 10))
             passed, failed = passed + right, failed + wrong
             failed += harness.too_few(f"allocations of {len(its)} {name} were refused, one in each run", runs, LEAST[name])

@@ -62,15 +62,20 @@ fn words(alloc: Global, reader: &mut Reader<'_>) -> Option<Vec<String>> {
     Some(words)
 }
 
-/// Files, each behind its name.
-pub(crate) fn files<'a>(alloc: Global, reader: &mut Reader<'a>) -> Option<Vec<File<'a>>> {
+/// Files, each after its name; none where memory is refused.
+fn files<'a>(alloc: Global, reader: &mut Reader<'a>) -> Option<Vec<File<'a>>> {
     let mut files = Vec::new(alloc);
     for _ in 0..reader.number()? {
-        let name = reader.text()?;
-        let bytes = reader.bytes()?;
-        files.push(File { name, bytes }).ok()?;
+        files.push(file(reader)?).ok()?;
     }
     Some(files)
+}
+
+/// The next file, after its name.
+pub(crate) fn file<'a>(reader: &mut Reader<'a>) -> Option<File<'a>> {
+    let name = reader.text()?;
+    let bytes = reader.bytes()?;
+    Some(File { name, bytes })
 }
 
 fn limits(reader: &mut Reader<'_>) -> Option<Limits> {

@@ -10,9 +10,9 @@
 //! `room DEPTH`, and the words of a command, puts out how many cells the set of its files needs at this depth, and
 //! whether it makes text; behind no words the set is empty.
 //!
-//! `run PIECE MOST LEFT FAILS SPARE TIMES`, and the words of a command, runs the template that they ask for, with a
+//! `run PIECE MOST LEFT FAILS CELLS TIMES`, and the words of a command, runs the template that they ask for, with a
 //! piece of so many bytes, to a sink that takes so many bytes a put and so many in all until it fails, `once` or
-//! `always`, over so many cells more than there have to be, and so many times. The text goes to standard output, and
+//! `always`, over as many cells as are `enough` or as the `room` of the set has, and so many times. The text goes to standard output, and
 //! the line and the status of each run to standard error. `fixed` does the same over arrays: a stack of 64 cells, and
 //! at most 4,096 bytes of text.
 //!
@@ -21,6 +21,9 @@
 //! `cases FILE` runs the command over files, output and errors in memory, as the cases that the file holds say: first
 //! how many bytes of output there is room for and how many cases there are, then each case. `make NAME FILE` makes the
 //! public call of that name over the files that the file holds. What came of them goes to standard output.
+//!
+//! The status is 0 where the part was done, 3 where it was not, since the words or a file do not say what with or a
+//! call is refused for another cause than memory, and 7 where memory was refused outside the call that is looked at.
 #![tactic(auto)]
 
 mod calls;
@@ -42,8 +45,15 @@ use crate::parts::with_file;
 use crate::running::{put_room, run_words};
 use crate::single::make_call;
 use crate::sweep::run_cases;
+use std::io::ErrorKind;
 use std::process::ExitCode;
 use std::{env, io};
+
+/// The status where a part was not done.
+const NOT_DONE: u8 = 3;
+
+/// The status where memory was refused.
+const OUT_OF_MEMORY: u8 = 7;
 
 /// Does the part that is named, as far as the words behind it say what with.
 fn do_part(rt: &HostRuntime, part: &str, words: &[String]) -> io::Result<bool> {
@@ -58,14 +68,20 @@ fn do_part(rt: &HostRuntime, part: &str, words: &[String]) -> io::Result<bool> {
     }
 }
 
+/// Does the part that the words name; whether they say what with.
+fn do_words(rt: &HostRuntime) -> io::Result<bool> {
+    let words: Vec<String> = env::args(rt)?.collect(rt.alloc())?;
+    match words.as_slice() {
+        [_, part, more @ ..] => do_part(rt, part.as_str(), more),
+        _ => Ok(false),
+    }
+}
+
 fn main(rt: HostRuntime) -> io::Result<ExitCode> {
-    let words: Vec<String> = env::args(&rt)?.collect(rt.alloc())?;
-    let [_, part, more @ ..] = words.as_slice() else {
-        return Ok(ExitCode::from(2));
-    };
-    if do_part(&rt, part.as_str(), more)? {
-        Ok(ExitCode::SUCCESS)
-    } else {
-        Ok(ExitCode::FAILURE)
+    match do_words(&rt) {
+        Ok(true) => Ok(ExitCode::SUCCESS),
+        Ok(false) => Ok(ExitCode::from(NOT_DONE)),
+        Err(error) if error.kind() == ErrorKind::OutOfMemory => Ok(ExitCode::from(OUT_OF_MEMORY)),
+        Err(error) => Err(error),
     }
 }

@@ -1,6 +1,7 @@
 //! Parts of the work with one file, which put out how long they took, or what came of them.
 use crate::calls::{call_often, share_often};
 use crate::listing::put_listing;
+use crate::single::{data_of, set_of};
 use std::alloc::Global;
 use std::io::{self, BufWriter, Write};
 use std::rt::Clock;
@@ -51,8 +52,8 @@ fn call_over(
     name: &str,
     count: &str,
 ) -> io::Result<bool> {
-    let (Ok(held), Some(func), Ok(count)) = (
-        Data::from_json(alloc, bytes),
+    let (Some(held), Some(func), Ok(count)) = (
+        data_of(alloc, bytes)?,
         Func::named(name.as_bytes()),
         count.parse::<u64>(),
     ) else {
@@ -95,14 +96,11 @@ fn compile_set(
     bytes: &[u8],
     is_timed: bool,
 ) -> io::Result<bool> {
-    let mut set = Set::new(alloc);
-    if parse_file(alloc, &mut set, file, bytes).is_err() {
-        return Ok(false);
-    }
-    let begun = Instant::now(rt)?;
-    let Ok(program) = compile(alloc, &set) else {
+    let Some(set) = set_of(alloc, file, bytes)? else {
         return Ok(false);
     };
+    let begun = Instant::now(rt)?;
+    let program = compile(alloc, &set)?;
     if is_timed {
         put_elapsed(rt, begun)?;
     } else {
@@ -115,13 +113,10 @@ fn compile_set(
 /// Compiles a template, and puts out its code.
 fn list(alloc: Global, file: &str, bytes: &[u8], writer: impl Write + Drop) -> io::Result<bool> {
     let mut writer = writer;
-    let mut set = Set::new(alloc);
-    if parse_file(alloc, &mut set, file, bytes).is_err() {
-        return Ok(false);
-    }
-    let Ok(program) = compile(alloc, &set) else {
+    let Some(set) = set_of(alloc, file, bytes)? else {
         return Ok(false);
     };
+    let program = compile(alloc, &set)?;
     put_listing(&mut writer, &program)?;
     writer.flush()?;
     Ok(true)

@@ -11,8 +11,10 @@ use std::io::{self, Write};
 use tmpl_code::{Entry, Program, compile};
 use tmpl_engine::RenderError;
 use tmpl_run::run;
-use tmpl_syntax::{NameHash, Set};
-use tmpl_tool::{Inputs, Request, Status, asked_name, read_inputs, request_of, tell_end};
+use tmpl_syntax::{NameHash, ParseKind, Set};
+use tmpl_tool::{
+    Inputs, Refused, Request, Status, Stop, asked_name, read_inputs, request_of, tell_end,
+};
 use tmpl_values::{Cell, Data, Val};
 
 /// The cells of a stack that is an array.
@@ -27,8 +29,8 @@ struct Loan {
     /// The bytes of the piece.
     piece: usize,
     limits: Limits,
-    /// The cells of the stack beyond those that are enough.
-    spare: usize,
+    /// Whether the stack has all cells of the room of the set, and not just as many as are enough.
+    has_room: bool,
     /// How many runs.
     times: u64,
 }
@@ -45,7 +47,7 @@ struct Job<'a, 'j> {
 
 /// What six words say of the loan, if they are numbers where there have to be some.
 fn loan_in(words: &[String; 6]) -> Option<Loan> {
-    let [piece, most, left, fails, spare, times] = words;
+    let [piece, most, left, fails, cells, times] = words;
     Some(Loan {
         piece: piece.as_str().parse::<usize>().ok()?,
         limits: Limits {
@@ -53,17 +55,28 @@ fn loan_in(words: &[String; 6]) -> Option<Loan> {
             left: left.as_str().parse::<usize>().ok()?,
             once: fails.as_str() == "once",
         },
-        spare: spare.as_str().parse::<usize>().ok()?,
+        has_room: cells.as_str() == "room",
         times: times.as_str().parse::<u64>().ok()?,
     })
 }
 
-/// What the words of a command ask for and the files that they name hold, if they are taken and accepted.
-fn load<'a>(rt: &HostRuntime, words: &'a [String]) -> Option<(Request<'a>, Inputs)> {
-    let alloc = rt.alloc();
-    let request = request_of(alloc, words).ok()?;
-    let inputs = read_inputs(alloc, NameHash::fixed(), &request, &mut Disk::new(rt)).ok()?;
-    Some((request, inputs))
+/// What the words of a command ask for, if they are taken.
+fn request_in<'a>(rt: &HostRuntime, words: &'a [String]) -> io::Result<Option<Request<'a>>> {
+    match request_of(rt.alloc(), words) {
+        Ok(request) => Ok(Some(request)),
+        Err(Refused::Words) => Ok(None),
+        Err(Refused::OutOfMemory) => Err(AllocError)?,
+    }
+}
+
+/// What the files hold that a command names, if they are accepted.
+fn load(rt: &HostRuntime, request: &Request<'_>) -> io::Result<Option<Inputs>> {
+    match read_inputs(rt.alloc(), NameHash::fixed(), request, &mut Disk::new(rt)) {
+        Ok(inputs) => Ok(Some(inputs)),
+        Err(Stop::OutOfMemory) => Err(AllocError)?,
+        Err(Stop::Template(fault)) if fault.kind == ParseKind::OutOfMemory => Err(AllocError)?,
+        Err(_) => Ok(None),
+    }
 }
 
 /// Puts out the room, at the depth that the first word says, of the set that the words of a command behind it name, and
@@ -78,16 +91,17 @@ pub(crate) fn put_room(rt: &HostRuntime, words: &[String]) -> io::Result<bool> {
     if words.is_empty() {
         return put_room_of(rt, depth, &Set::new(rt.alloc()));
     }
-    match load(rt, words) {
-        Some((_, inputs)) => put_room_of(rt, depth, &inputs.set),
+    let Some(request) = request_in(rt, words)? else {
+        return Ok(false);
+    };
+    match load(rt, &request)? {
+        Some(inputs) => put_room_of(rt, depth, &inputs.set),
         None => Ok(false),
     }
 }
 
 fn put_room_of(rt: &HostRuntime, depth: u32, set: &Set) -> io::Result<bool> {
-    let Ok(program) = compile(rt.alloc(), set) else {
-        return Ok(false);
-    };
+    let program = compile(rt.alloc(), set)?;
     let room = program.room(depth);
     let makes_text = program.makes_text();
     println!(rt; "{room} {makes_text}")?;
@@ -100,7 +114,10 @@ pub(crate) fn run_words(rt: &HostRuntime, words: &[String], in_arrays: bool) -> 
     let Some((lent, asked)) = words.split_first_chunk::<6>() else {
         return Ok(false);
     };
-    let (Some(loan), Some((request, inputs))) = (loan_in(lent), load(rt, asked)) else {
+    let (Some(loan), Some(request)) = (loan_in(lent), request_in(rt, asked)?) else {
+        return Ok(false);
+    };
+    let Some(inputs) = load(rt, &request)? else {
         return Ok(false);
     };
     match inputs.set.number(asked_name(&request)) {
@@ -135,13 +152,18 @@ fn run_template(
     }
 }
 
-/// Runs over as many cells as are enough and those beyond them.
+/// Runs over as many cells as are enough, or over all cells of the room.
 fn run_in_vecs(rt: &HostRuntime, job: &Job<'_, '_>) -> io::Result<bool>
     requires { job.now.entry.number < length (set_view job.now.program.now.set.now) }
 {
     let alloc = rt.alloc();
-    let least = job.program.cells(job.request.options.depth);
-    let mut cells = blank_cells(alloc, (least as usize).saturating_add(job.loan.spare))?;
+    let depth = job.request.options.depth;
+    let count = if job.loan.has_room {
+        job.program.room(depth)
+    } else {
+        job.program.cells(depth)
+    };
+    let mut cells = blank_cells(alloc, count as usize)?;
     let mut piece = vec![in alloc; 0u8; job.loan.piece]?;
     run_often(
         alloc,

@@ -1,7 +1,7 @@
 //! Calls of the library one by one, over files. Each puts out what was asked for, or that memory was refused.
 ghost use Rattle.std.specs.Prelude.{◌<◌, ◌-◌, ◌^◌};
 
-use crate::case::files;
+use crate::case::file;
 use crate::reader::Reader;
 use std::alloc::{AllocError, Global};
 use std::fs;
@@ -26,18 +26,29 @@ pub(crate) fn make_call(rt: &HostRuntime, words: &[String]) -> io::Result<bool> 
     let alloc = rt.alloc();
     let mut writer = rt.stdout();
     let held = fs::read(rt, file.as_str())?;
-    let Some(files) = files(alloc, &mut Reader::new(held.as_slice())) else {
-        return Ok(false);
-    };
-    match files.as_slice() {
-        [one] => make_of_one(alloc, name, one.bytes, &mut writer),
-        [one, two] => match name {
-            "parse" => parse_behind(alloc, one.bytes, two.bytes, &mut writer),
-            "call" => call_function(alloc, one.bytes, two.bytes, &mut writer),
-            "render" => render(alloc, false, one.bytes, two.bytes, &mut writer),
-            "renderer" => render(alloc, true, one.bytes, two.bytes, &mut writer),
-            _ => Ok(false),
-        },
+    let mut reader = Reader::new(held.as_slice());
+    match (reader.number(), file(&mut reader), file(&mut reader)) {
+        (Some(1), Some(one), None) => make_of_one(alloc, name, one.bytes, &mut writer),
+        (Some(2), Some(one), Some(two)) => {
+            make_of_two(alloc, name, one.bytes, two.bytes, &mut writer)
+        }
+        _ => Ok(false),
+    }
+}
+
+/// Makes a call over the bytes of two files.
+fn make_of_two(
+    alloc: Global,
+    name: &str,
+    one: &[u8],
+    two: &[u8],
+    writer: &mut impl Write,
+) -> io::Result<bool> {
+    match name {
+        "parse" => parse_after(alloc, one, two, writer),
+        "call" => call_function(alloc, one, two, writer),
+        "render" => render(alloc, false, one, two, writer),
+        "renderer" => render(alloc, true, one, two, writer),
         _ => Ok(false),
     }
 }
@@ -107,9 +118,7 @@ fn cut_file(alloc: Global, bytes: &[u8], writer: &mut impl Write) -> io::Result<
 
 /// Reads the actions of a file, and puts out how many have a reading.
 fn read_actions(alloc: Global, bytes: &[u8], writer: &mut impl Write) -> io::Result<bool> {
-    let Ok(pieces) = cut(alloc, bytes) else {
-        return Ok(false);
-    };
+    let pieces = cut(alloc, bytes)?;
     let mut count = 0u64;
     for piece in &pieces {
         if let Piece::Action { tokens, .. } = piece {
@@ -153,11 +162,30 @@ fn copy(alloc: Global, bytes: &[u8], writer: &mut impl Write) -> io::Result<bool
     }
 }
 
+/// The data of bytes, before the call that is looked at; none where they are refused.
+pub(crate) fn data_of(alloc: Global, json: &[u8]) -> io::Result<Option<Data>> {
+    match Data::from_json(alloc, json) {
+        Ok(data) => Ok(Some(data)),
+        Err(DataFault::OutOfMemory) => Err(AllocError)?,
+        Err(DataFault::NotJson | DataFault::NotWhole) => Ok(None),
+    }
+}
+
+/// The set of a file, before the call that is looked at; none where it is refused.
+pub(crate) fn set_of(alloc: Global, file: &str, bytes: &[u8]) -> io::Result<Option<Set>> {
+    let mut set = Set::new(alloc);
+    match parse_file(alloc, &mut set, file, bytes) {
+        Ok(()) => Ok(Some(set)),
+        Err(fault) if fault.kind == ParseKind::OutOfMemory => Err(AllocError)?,
+        Err(_) => Ok(None),
+    }
+}
+
 /// Adds the text of data to a text, and puts it out.
 fn text(alloc: Global, bytes: &[u8], writer: &mut impl Write) -> io::Result<bool> {
-    match Data::from_json(alloc, bytes) {
-        Ok(data) => put(writer, text_of(alloc, &Val::of(&data))),
-        Err(_) => Ok(false),
+    match data_of(alloc, bytes)? {
+        Some(data) => put(writer, text_of(alloc, &Val::of(&data))),
+        None => Ok(false),
     }
 }
 
@@ -189,7 +217,7 @@ fn call_function(
     arguments: &[u8],
     writer: &mut impl Write,
 ) -> io::Result<bool> {
-    let (Some(func), Ok(held)) = (Func::named(name), Data::from_json(alloc, arguments)) else {
+    let (Some(func), Some(held)) = (Func::named(name), data_of(alloc, arguments)?) else {
         return Ok(false);
     };
     let Val::List(items) = Val::of(&held) else {
@@ -220,7 +248,7 @@ fn render(
         Err(fault) if fault.kind == ParseKind::OutOfMemory => return put(writer, Err(AllocError)),
         Err(_) => return Ok(false),
     }
-    let Ok(data) = Data::from_json(alloc, json) else {
+    let Some(data) = data_of(alloc, json)? else {
         return Ok(false);
     };
     let mut sink = WriterSink::new(&mut *writer);
@@ -257,10 +285,9 @@ fn render_to<'a, S: Sink>(
 
 /// Parses a file, and makes the call of this name over the set of its templates.
 fn with_set(alloc: Global, name: &str, bytes: &[u8], writer: &mut impl Write) -> io::Result<bool> {
-    let mut set = Set::new(alloc);
-    if parse_file(alloc, &mut set, "m", bytes).is_err() {
+    let Some(set) = set_of(alloc, "m", bytes)? else {
         return Ok(false);
-    }
+    };
     match name {
         "print" => put(writer, print_set(alloc, &set)),
         "tree" => match set.get(b"m") {
@@ -295,17 +322,16 @@ fn compile_set(alloc: Global, set: &Set, writer: &mut impl Write) -> io::Result<
     Ok(true)
 }
 
-/// Parses a file behind another, puts out what comes of it, and then each name of the set and its tree as a file.
-fn parse_behind(
+/// Parses a file after another, puts out what comes of it, and then each name of the set and its tree as a file.
+fn parse_after(
     alloc: Global,
     before: &[u8],
     after: &[u8],
     writer: &mut impl Write,
 ) -> io::Result<bool> {
-    let mut set = Set::new(alloc);
-    if parse_file(alloc, &mut set, "m", before).is_err() {
+    let Some(mut set) = set_of(alloc, "m", before)? else {
         return Ok(false);
-    }
+    };
     match parse_file(alloc, &mut set, "after", after) {
         Ok(()) => writer.write_all(b"accepted\n")?,
         Err(fault) if fault.kind == ParseKind::OutOfMemory => writer.write_all(REFUSED)?,
