@@ -5,3 +5,4 @@ mod HandleWalks
 mod LawLemmas
 mod LentLemmas
 mod LooseLemmas
+mod SeenLemmas

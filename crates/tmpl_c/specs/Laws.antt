@@ -1,5 +1,6 @@
 -- Laws of the library: its stages, and that it answers as the command does.
-use Rattle.std.specs.Prelude.{◌≡◌, ◌≢◌, ◌⊎◌, Bool, true, false, List, [], ◌∷◌, ◌++◌, Option, Some, None, Ok, Err, codes}
+use Rattle.std.specs.Prelude.{◌≡◌, ◌≢◌, ◌⊎◌, ℕ, Bool, true, false, List, [], ◌∷◌, ◌++◌, Option, Some, None, Result, Ok, Err}
+use Rattle.std.specs.Prelude.{codes, take}
 use Rattle.std.specs.Str.{is_utf8}
 use Rattle.tmpl_values.specs.Json.{Flaw}
 use Rattle.tmpl_values.specs.Value.{Value}
@@ -11,9 +12,11 @@ use Rattle.tmpl_tool.specs.Outcome.{Answer}
 use Rattle.tmpl_tool.specs.Source.{Bytes, Files}
 use Rattle.tmpl_tool.specs.Tool.{Parse, Stop, asked_by, asked_name, bad_words, flawed, no_read, printed, refused}
 use Rattle.tmpl_tool.specs.Tool.{run_answer, stop_answer, tool_answer, unnamed}
-use Rattle.tmpl_tool.specs.Words.{Wanted}
-use Rattle.tmpl_c.specs.Held.{held_answer}
-use Rattle.tmpl_c.specs.Lent.{data_lent, each_added, lent_answer, render_answer, with_lent}
+use Rattle.tmpl_tool.specs.Words.{Wanted, wanted_in}
+use Rattle.tmpl_c.specs.Filled.{Rendered, Seen}
+use Rattle.tmpl_c.specs.Held.{Keeps, held_answer}
+use Rattle.tmpl_c.specs.Lent.{data_lent, each_added, lent_answer, render_answer, rules_in, with_lent}
+use Rattle.tmpl_c.specs.declared.settings.Settings.{Settings}
 
 -- ---- the stages
 
@@ -111,3 +114,29 @@ abbrev pub AddsInTurn : Type 0
 AddsInTurn = (parse : Parse) (before : List (Bytes × Bytes)) (f : Bytes × Bytes)
     → (set : List Template) → each_added parse [] before ≡ Ok set
     → each_added parse [] (before ++ f ∷ []) ≡ with_lent parse set f
+
+-- with status 0 what was offered is what is kept
+abbrev pub KeepsOffered : Type 1
+KeepsOffered = {T : Type 0} (offered : T) (old new : T) (room : ℕ) (err : Seen)
+    → Keeps (Ok offered) old new room err 0 → new ≡ offered
+
+-- with any other what was kept is kept
+abbrev pub KeepsAsBefore : Type 1
+KeepsAsBefore = {T : Type 0} (offered : Result T Stop) (old new : T) (room : ℕ) (err : Seen) (code : ℕ)
+    → Keeps offered old new room err code → code ≢ 0 → new ≡ old
+
+-- ---- what a caller sees
+
+-- with status 0 the memory holds the whole text, and that is the answer's status
+abbrev pub HoldsWhole : Type 0
+HoldsWhole = (a : Answer) (room line_room : ℕ) (out err : Seen) → Rendered a room out line_room err 0
+    → (take out.taken out.memory ≡ a.text) × (a.status ≡ 0)
+
+-- with any status it holds a beginning of it
+abbrev pub HoldsFront : Type 0
+HoldsFront = (a : Answer) (room line_room : ℕ) (out err : Seen) (code : ℕ) → Rendered a room out line_room err code
+    → (rest : Bytes) × (a.text ≡ take out.taken out.memory ++ rest)
+
+-- settings of all zeros are the options of a command whose words name none
+abbrev pub HasDefaults : Type 0
+HasDefaults = (s : Settings) → s.steps ≡ 0 → s.depth ≡ 0 → s.missing_key ≡ 0 → rules_in s ≡ (wanted_in []).rules

@@ -1,4 +1,4 @@
-//! The engine for C: one call over memory that the caller lends, which keeps nothing.
+//! The engine for C: one call over memory that the caller lends, and calls for a set and data that the caller keeps.
 #![tactic(auto)]
 
 ghost use Rattle.std.specs.Prelude.{◌≡◌, None, codes, eqb};
@@ -22,7 +22,7 @@ mod settings;
 
 pub use buffer::Buffer;
 pub use data_handle::DataHandle;
-pub use laws::{as_command, kept, stages};
+pub use laws::{as_command, kept, seen_by_caller, stages};
 pub use lent::File;
 pub use set_handle::SetHandle;
 pub use settings::Settings;
@@ -47,6 +47,8 @@ pub extern "C" fn tmpl_render(
     ensures outcome { (parse : Parse) → IsParse parse → Rendered
         (render_answer parse (rules_in settings.now) (eqb settings.now.print 1) (pairs_of files.now) name.now input.now)
         (room out.old) (seen out.new) (room err.old) (seen err.new) result }
+    ensures lent { (out.new.bytes.ghost_name ≡ out.old.bytes.ghost_name)
+        × (err.new.bytes.ghost_name ≡ err.old.bytes.ghost_name) }
 {
     let told = render::fill(alloc, settings, files, name, input, out.bytes, err.bytes);
     out.taken = told.text.taken;
@@ -65,8 +67,9 @@ pub extern "C" fn tmpl_set_add(
     file: &File<'_>,
     err: &mut Buffer<'_>,
 ) -> u8
-    ensures { (parse : Parse) → IsParse parse → Keeps (with_lent parse (templates_in set.old.held) (pair_of file.now))
+    ensures outcome { (parse : Parse) → IsParse parse → Keeps (with_lent parse (templates_in set.old.held) (pair_of file.now))
         (templates_in set.old.held) (templates_in set.new.held) (room err.old) (seen err.new) result }
+    ensures lent { err.new.bytes.ghost_name ≡ err.old.bytes.ghost_name }
 {
     let said = keep::add(alloc, set, file, err.bytes);
     err.taken = said.line.taken;
@@ -91,8 +94,9 @@ pub extern "C" fn tmpl_data_read(
     input: &[u8],
     err: &mut Buffer<'_>,
 ) -> u8
-    ensures { Keeps (data_lent (codes "data") input.now) (value_in kept.old.held) (value_in kept.new.held)
+    ensures outcome { Keeps (data_lent (codes "data") input.now) (value_in kept.old.held) (value_in kept.new.held)
         (room err.old) (seen err.new) result }
+    ensures lent { err.new.bytes.ghost_name ≡ err.old.bytes.ghost_name }
 {
     let said = keep::read(alloc, kept, input, err.bytes);
     err.taken = said.line.taken;
@@ -124,6 +128,8 @@ pub extern "C" fn tmpl_render_set(
         (held_answer (rules_in settings.now) (eqb settings.now.print 1) (templates_in set.old.held) name.now
         (value_in kept.old.held))
         (room out.old) (seen out.new) (room err.old) (seen err.new) result }
+    ensures lent { (out.new.bytes.ghost_name ≡ out.old.bytes.ghost_name)
+        × (err.new.bytes.ghost_name ≡ err.old.bytes.ghost_name) }
     ensures set { set.new.held ≡ set.old.held }
     ensures kept { kept.new.held ≡ kept.old.held }
 {

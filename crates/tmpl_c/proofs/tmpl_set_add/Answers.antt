@@ -6,8 +6,8 @@ use Rattle.tmpl_c.specs.Lent.{pair_of, with_lent}
 use Rattle.tmpl_c.specs.computed.Extents.{extent_seen}
 use Rattle.tmpl_c.proofs.tmpl_set_add.Goals as goal
 
-pub returns : goal.returns
-returns c parse is =
+pub returns-clause-outcome : goal.returns-clause-outcome
+returns-clause-outcome c parse is =
     let old = templates_in c.args.set.now.held in
     let new = templates_in c.add-said.new.kept.held in
     let said = c.add-said.result in

@@ -1,0 +1,32 @@
+-- For the law on what a caller sees: what lent memory holds after a render, and the settings of all zeros.
+use Rattle.std.proofs.Common.{◌≡◌, ◌∙◌, ◌++◌, ℕ, Bool, true, false, List, [], length, arith, refl, sym, ap, inl, inr, append_assoc}
+use Rattle.std.specs.Prelude.{leb, take, drop, if◌then◌else◌}
+use Rattle.std.proofs.lemmas.List.{take-append-drop, take_all}
+use Rattle.tmpl_tool.specs.Outcome.{Answer}
+use Rattle.tmpl_tool.specs.Source.{Bytes}
+use Rattle.tmpl_c.specs.Filled.{Fills, Seen, fits}
+use Rattle.tmpl_c.specs.Laws.{HasDefaults, HoldsFront, HoldsWhole}
+
+pub holds_whole : HoldsWhole
+holds_whole a room line_room out err (inl h) = by (fits room a) refl h.2
+  where
+    by : (b : Bool) → leb (length a.text) room ≡ b → 0 ≡ (if b then a.status else 6) → (take out.taken out.memory ≡ a.text) × (a.status ≡ 0)
+    by true is e = (h.0.0.memory ∙ take_all room a.text (omega (arith, is)), sym e)
+    by false is e = cc
+holds_whole a room line_room out err (inr h) = let wrong = h.2 in cc
+
+-- what there is room for, and the rest
+parts : (bytes : Bytes) (room : ℕ) (s : Seen) → Fills bytes room s → bytes ≡ take s.taken s.memory ++ drop room bytes
+parts bytes room s h = sym (take-append-drop room bytes) ∙ ap (λ (front : Bytes). front ++ drop room bytes) (sym h.0.memory)
+
+pub holds_front : HoldsFront
+holds_front a room line_room out err code (inl h) = (drop room a.text, parts a.text room out h.0)
+holds_front a room line_room out err code (inr ((front, rest, is, fills), line, status)) = (
+  drop room front ++ rest,
+  is ∙ ap (λ (bytes : Bytes). bytes ++ rest) (parts front room out fills) ∙ append_assoc (take out.taken out.memory) (drop room front) rest,
+)
+
+pub has_defaults : HasDefaults
+has_defaults s steps depth mode = rw (steps, depth, mode) refl
+
+pub ruleset seen = (holds_whole, holds_front, has_defaults)
