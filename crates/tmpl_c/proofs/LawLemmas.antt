@@ -102,14 +102,14 @@ pub adds_in_turn : AddsInTurn
 adds_in_turn parse before f set loads = rw (each_part parse [] before (f ∷ []), loads) (or_no_more (with_lent parse set f))
 
 pub keeps_offered : KeepsOffered
-keeps_offered offered old new room err (inl h) = let same = h.0 in cc
-keeps_offered offered old new room err (inr (inl h)) = let wrong = h.1 in cc
-keeps_offered offered old new room err (inr (inr h)) = let wrong = h.2 in cc
+keeps_offered T offered old new room err (inl h) = let same = h.0 in cc
+keeps_offered T offered old new room err (inr (inl h)) = let wrong = h.1 in cc
+keeps_offered T offered old new room err (inr (inr h)) = let wrong = h.2 in cc
 
 pub keeps_as_before : KeepsAsBefore
-keeps_as_before offered old new room err code (inl h) not = absurd (not h.2)
-keeps_as_before offered old new room err code (inr (inl h)) not = h.2
-keeps_as_before offered old new room err code (inr (inr h)) not = h.0
+keeps_as_before T offered old new room err code (inl h) not = absurd (not h.2)
+keeps_as_before T offered old new room err code (inr (inl h)) not = h.2
+keeps_as_before T offered old new room err code (inr (inr h)) not = h.0
 
 pub ruleset stages = (refuses_name, stops_at_file, prints, stops_at_data, stops_at_template, runs)
 

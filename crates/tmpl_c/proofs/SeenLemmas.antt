@@ -1,6 +1,7 @@
 -- For the law on what a caller sees: what lent memory holds after a render, and the settings of all zeros.
 use Rattle.std.proofs.Common.{◌≡◌, ◌∙◌, ◌++◌, ℕ, Bool, true, false, List, [], length, arith, refl, sym, ap, inl, inr, append_assoc}
 use Rattle.std.specs.Prelude.{leb, take, drop, if◌then◌else◌}
+use Rattle.std.proofs.lemmas.Bool.{leb-true}
 use Rattle.std.proofs.lemmas.List.{take-append-drop, take_all}
 use Rattle.tmpl_tool.specs.Outcome.{Answer}
 use Rattle.tmpl_tool.specs.Source.{Bytes}
@@ -11,7 +12,7 @@ pub holds_whole : HoldsWhole
 holds_whole a room line_room out err (inl h) = by (fits room a) refl h.2
   where
     by : (b : Bool) → leb (length a.text) room ≡ b → 0 ≡ (if b then a.status else 6) → (take out.taken out.memory ≡ a.text) × (a.status ≡ 0)
-    by true is e = (h.0.0.memory ∙ take_all room a.text (omega (arith, is)), sym e)
+    by true is e = (h.0.0.memory ∙ take_all room a.text (leb-true (length a.text) room is), sym e)
     by false is e = cc
 holds_whole a room line_room out err (inr h) = let wrong = h.2 in cc
 

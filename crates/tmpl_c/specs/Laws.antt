@@ -117,12 +117,12 @@ AddsInTurn = (parse : Parse) (before : List (Bytes × Bytes)) (f : Bytes × Byte
 
 -- with status 0 what was offered is what is kept
 abbrev pub KeepsOffered : Type 1
-KeepsOffered = {T : Type 0} (offered : T) (old new : T) (room : ℕ) (err : Seen)
+KeepsOffered = (T : Type 0) (offered old new : T) (room : ℕ) (err : Seen)
     → Keeps (Ok offered) old new room err 0 → new ≡ offered
 
 -- with any other what was kept is kept
 abbrev pub KeepsAsBefore : Type 1
-KeepsAsBefore = {T : Type 0} (offered : Result T Stop) (old new : T) (room : ℕ) (err : Seen) (code : ℕ)
+KeepsAsBefore = (T : Type 0) (offered : Result T Stop) (old new : T) (room : ℕ) (err : Seen) (code : ℕ)
     → Keeps offered old new room err code → code ≢ 0 → new ≡ old
 
 -- ---- what a caller sees

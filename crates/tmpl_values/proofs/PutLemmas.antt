@@ -1,6 +1,8 @@
 -- For what puts several texts, as `put_quoted`: puts one after another are one put of the joined text.
 use Rattle.std.proofs.Common.{◌≡◌, ◌∙◌, ℕ, List, [], ◌++◌, Option, Some, None, Result, Ok, Err, refl, sym, ap, append_assoc, append-nil, arith, subst}
+use Rattle.std.specs.Prelude.{OnErr, length, take}
 use Rattle.std.specs.Result.{IsErr}
+use Rattle.std.proofs.Math.Seq.{take-append_seam}
 use Rattle.tmpl_values.specs.Put.{Puts, appended, IsPut}
 use Rattle.tmpl_values.specs.computed.Put.{Took}
 
@@ -46,3 +48,13 @@ IsPut-stop {r = Err f} {old = old} {a = a} b err h =
 
 pub IsPut-along : {F : Type 0} {r : Result (Unit {0}) F} {old new : Puts} {a b : List ℕ} → IsPut r old new a → a ≡ b → IsPut r old new b
 IsPut-along {F} {r} {old} {new} h e = subst (IsPut r old new) e h
+
+-- where a put fails that takes told bytes, these begin with those that were there
+pub kept_front : {F : Type 0} (r : Result (Unit {0}) F) (p q : Puts) (old new text : List ℕ) → p.bytes ≡ Some old → q.bytes ≡ Some new → IsPut r p q text
+    → OnErr r (take (length old) new ≡ old)
+kept_front (Ok u) p q old new text was is h = tt
+kept_front (Err e) p q old new text was is h =
+    let begins = h.bytes in
+    let both : Some new ≡ Some (old ++ begins.0) = sym is ∙ begins.3 ∙ ap (λ o. appended o begins.0) was in
+    let same : new ≡ old ++ begins.0 = cc in
+    ap (take (length old)) same ∙ take-append_seam old begins.0

@@ -1,5 +1,5 @@
 //! A vector of bytes as what takes bytes.
-ghost use Rattle.std.specs.Prelude.{◌≡◌, ◌++◌, OnOk};
+ghost use Rattle.std.specs.Prelude.{◌≡◌, ◌++◌, OnErr, OnOk, length, take};
 ghost use Rattle.tmpl_values.specs.Quote.{quote};
 ghost use Rattle.tmpl_values.specs.Text.{text_of};
 ghost use Rattle.tmpl_values.specs.View.{val_of};
@@ -39,17 +39,22 @@ impl Put for Growing<'_> {
     }
 }
 
-/// Adds the text that a value has as an action behind what stands in the vector.
+/// Adds the text that a value has as an action after what stands in the vector, which stays also where memory is
+/// refused.
+#[tactic(auto, using(crate::proofs::PutLemmas::kept_front))]
 pub fn add_text(value: &Val<'_>, bytes: &mut Vec<u8>) -> Result<(), AllocError>
-    ensures { OnOk result (bytes.new.items ≡ bytes.old.items ++ text_of (val_of value.now)) }
+    ensures added { OnOk result (bytes.new.items ≡ bytes.old.items ++ text_of (val_of value.now)) }
+    ensures kept { OnErr result (take (length bytes.old.items) bytes.new.items ≡ bytes.old.items) }
 {
     let mut growing = Growing { bytes, failures: 0 };
     put_text(value, &mut growing)
 }
 
-/// Adds the quote of a text behind what stands in the vector.
+/// Adds the quote of a text after what stands in the vector, which stays also where memory is refused.
+#[tactic(auto, using(crate::proofs::PutLemmas::kept_front))]
 pub fn add_quote(text: &[u8], bytes: &mut Vec<u8>) -> Result<(), AllocError>
-    ensures { OnOk result (bytes.new.items ≡ bytes.old.items ++ quote text.now) }
+    ensures added { OnOk result (bytes.new.items ≡ bytes.old.items ++ quote text.now) }
+    ensures kept { OnErr result (take (length bytes.old.items) bytes.new.items ≡ bytes.old.items) }
 {
     let mut growing = Growing { bytes, failures: 0 };
     put_quoted(text, &mut growing)
