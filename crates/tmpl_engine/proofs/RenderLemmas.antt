@@ -17,6 +17,7 @@ use Rattle.tmpl_run.specs.Run.{IsRun}
 use Rattle.tmpl_run.specs.declared.fault.RunError.{RunError}
 use Rattle.tmpl_run.specs.declared.fault.RunError.TheVariants as run
 use Rattle.tmpl_engine.specs.Error.{error_of}
+use Rattle.tmpl_engine.specs.Laws.{LeavesSink}
 use Rattle.tmpl_engine.specs.Render.{IsRender, IsRunOf, Renders, ran_named}
 use Rattle.tmpl_engine.specs.declared.error.RenderError.{RenderError}
 use Rattle.tmpl_engine.specs.declared.error.RenderError.TheVariants.{NoTemplate}
@@ -63,3 +64,11 @@ pub unnamed_by : (options : Options) (ts : List Template) (name : List ℕ) (giv
     → None ≡ number_of name ts → Renders options ts name given t t (Err NoTemplate)
 unnamed_by options ts name given t =
     unnamed_render (rules_of options) ts name (option_map (λ d. value_of d.now) given) t
+
+-- ---- the law
+
+pub leaves-sink : LeavesSink
+leaves-sink None before after h = (refl, h.1)
+leaves-sink (Some r) before after h = absurd h
+
+pub ruleset laws = (leaves-sink)

@@ -4,11 +4,13 @@
 mod cells;
 mod engine;
 mod error;
+mod laws;
 mod rendering;
 mod writer;
 
 pub use engine::Engine;
 pub use error::RenderError;
+pub use laws::leaves_sink;
 pub use rendering::{Renderer, render, render_through};
 pub use tmpl_run::{MissingKey, Options, RunFault, RunFaultKind, Sink, SinkFault};
 pub use tmpl_syntax::{NameHash, ParseFault, ParseKind, Set};
