@@ -1,6 +1,6 @@
 """What strangers choose must get its line and status, and cost little: files that do not end or are far too long, lines of
 many programs on one error stream, what nests as deep as it may on a small stack of the machine, and names that a known hash
-does not tell apart. TMPL=PATH names another build."""
+does not tell apart; the keys of the hash are drawn from the system. TMPL=PATH names another build."""
 import os
 import resource
 import subprocess
@@ -18,7 +18,7 @@ STACK = 512 << 10  # bytes
 ALIKE = (20000, 40000, 80000)  # definitions
 TWICE = 2  # times as long as with other names they may take
 NOISE = 0.1  # seconds
-LEAST = 37  # cases
+LEAST = 39  # cases
 FEW = 64 << 20  # bytes of memory that a refused file may take
 SOME = 300 << 20
 TOO_LONG = "file longer than 16777216 bytes"
@@ -148,12 +148,28 @@ def colliding(folder):
         )
 
 
+def drawn(folder):
+    """The keys by which names are hashed are 16 random bytes of the system; where it has none to give the answer is the same."""
+    shim = f"{folder}/draw_keys.so"
+    harness.build_shim("draw_keys.c", shim)
+    with open(f"{folder}/m", "w") as file:
+        file.write("{{$x := 1}}{{template `t` $x}}{{define `t`}}{{.}}{{end}}")
+    for name, more in (("random bytes", {}), ("no random bytes", {"KEYS_FAIL": "1"})):
+        reader, writer = os.pipe()
+        environment = {**os.environ, "LD_PRELOAD": shim, "KEYS_FD": str(writer), **more}
+        done = subprocess.run([harness.PROGRAM, "m"], cwd=folder, env=environment, pass_fds=[writer], stdout=subprocess.PIPE, stderr=subprocess.PIPE)
+        os.close(writer)
+        with open(reader, "rb") as pipe:
+            asked = len(pipe.read())
+        yield f"keys of {name}", (0, b"1", b"", True), (done.returncode, done.stdout, done.stderr, asked == 16 or more and asked > 0)
+
+
 def main():
     if not harness.is_built():
         return 1
     passed, failed = 0, []
     with tempfile.TemporaryDirectory(dir=harness.MEMORY) as folder:
-        for test in (endless, shared, stacked, colliding):
+        for test in (endless, shared, stacked, colliding, drawn):
             for name, wanted, got in test(folder):
                 if wanted == got:
                     passed += 1
