@@ -6,15 +6,19 @@ runs two threads, and runs under valgrind where that is there. The header is com
 pkg-config, the wheel for Python is unpacked and used, and the programs of docs/EMBEDDING.md for C and Python are run. With --bindings it
 runs those for Go and Rust, and the tests of these two bindings, where Go and Cargo are installed, and nothing else."""
 import base64
+import gc
 import hashlib
 import json
 import os
+import pickle
 import re
+import resource
 import shutil
 import subprocess
 import sys
 import tempfile
 import zipfile
+from concurrent.futures import ThreadPoolExecutor
 
 import harness
 
@@ -166,7 +170,7 @@ def guarded(size):
     """Memory of so many bytes, with a guard behind it."""
     lent = tmpl._Lent(size)
     lent.memory = tmpl.ctypes.create_string_buffer(b"\xa5" * size + GUARD, size + len(GUARD))
-    lent.buffer.bytes = tmpl.ctypes.cast(lent.memory, tmpl.ctypes.c_char_p)
+    lent.buffer.bytes = tmpl.ctypes.addressof(lent.memory)
     return lent
 
 
@@ -196,6 +200,46 @@ def judge_sizes(call):
             wrong.append(f"    room for {size} and {line_size}: {status} {out.memory.raw!r} {err.memory.raw!r}")
         count += 1
     return f"{call.row.name}, each size", count, wrong
+
+
+THREADS = 8
+RENDERS = 1000  # of each thread
+
+
+def render_often(templates, number):
+    """How many renders of a thread gave another text than that of its own data."""
+    return sum(templates.render(data={"n": number, "k": turn}) != f"{number} {turn}" for turn in range(RENDERS))
+
+
+def grown_by(count):
+    """The kilobytes by which the process grows by so many large texts, while the cyclic collector is off."""
+    gc.disable()
+    try:
+        before = resource.getrusage(resource.RUSAGE_SELF).ru_maxrss
+        for _ in range(count):
+            tmpl.render_bytes({"m": "{{range 300000}}0123456789{{end}}"})
+        return resource.getrusage(resource.RUSAGE_SELF).ru_maxrss - before
+    finally:
+        gc.enable()
+
+
+def judge_wrapper():
+    """What the wrapper for Python owes besides texts: threads that share templates, errors that pass between processes, and memory
+    that is given back as soon as a text is."""
+    templates = tmpl.Templates({"m": "{{.n}} {{.k}}"})
+    with ThreadPoolExecutor(THREADS) as pool:
+        wrong = sum(pool.map(lambda number: render_often(templates, number), range(THREADS)))
+    yield "8 threads over one set", THREADS * RENDERS, [f"    {wrong} renders were wrong"] if wrong else []
+    try:
+        templates.render("none")
+        yield "an error that is pickled", 1, ["    there was none"]
+    except tmpl.TemplateError as error:
+        again = pickle.loads(pickle.dumps(error))
+        same = (again.status, again.line, again.text, str(again)) == (4, 'tmpl: no template "none"', b"", 'tmpl: no template "none"')
+        yield "an error that is pickled", 1, [] if same else [f"    {again!r}"]
+    grown_by(2)
+    more = grown_by(20)
+    yield "the memory of large texts", 1, [f"    it grew by {more} kB"] if more > 4096 else []
 
 
 def judge_names():
@@ -411,7 +455,7 @@ def main(words):
         told = harness.tally(map(judge_sizes, small))
         failed += told[1] + harness.too_few("calls with room of some size", told[2], LEAST_SIZES)
         passed += told[0]
-        results = [*judge_names(), *judge_refusals(), *judge_c(folder), *judge_header(folder)]
+        results = [*judge_names(), *judge_refusals(), *judge_wrapper(), *judge_c(folder), *judge_header(folder)]
         results += [judge_names_of(f"{OUT}/libtmpl.so"), judge_names_of(f"{OUT}/libtmpl.a")]
         results += [judge_wheel(folder)]
         results += [judge_program(folder, *it) for it in programs() if it[0] in ("c", "python")]

@@ -11,6 +11,7 @@ import "C"
 
 import (
 	"io"
+	"strings"
 	"unsafe"
 )
 
@@ -36,7 +37,7 @@ type Options struct {
 	Print      bool // print the set, and run nothing
 }
 
-// Error says why a render did not end well: the status of the command, and its line.
+// Error says why a render did not end well: the status of the command, and its line without the newline.
 type Error struct {
 	Status int
 	Line   string
@@ -56,7 +57,8 @@ func lent(bytes []byte) *C.char {
 	return (*C.char)(at)
 }
 
-func taken(b *C.tmpl_buffer) []byte { return C.GoBytes(unsafe.Pointer(b.bytes), C.int(b.taken)) }
+// taken is the output in memory of C, which may be longer than what a C.int counts.
+func taken(b *C.tmpl_buffer) []byte { return unsafe.Slice((*byte)(unsafe.Pointer(b.bytes)), int(b.taken)) }
 
 // grown gives the buffer as much memory as its output needs.
 func grown(b *C.tmpl_buffer) bool {
@@ -99,7 +101,7 @@ func Render(w io.Writer, files []File, name string, data []byte, options Options
 			return err
 		}
 		if status != 0 {
-			return &Error{int(status), string(taken(&line))}
+			return &Error{int(status), strings.TrimSuffix(string(taken(&line)), "\n")}
 		}
 		return nil
 	}

@@ -34,7 +34,7 @@ func TestLong(t *testing.T) {
 func TestFault(t *testing.T) {
 	got, err := rendered("before {{.a.b}}", `{"a": 1}`, Options{})
 	var told *Error
-	if got != "before " || !errors.As(err, &told) || told.Status != 1 || told.Line != "tmpl: m:1: in \"m\": no field \"b\" here\n" {
+	if got != "before " || !errors.As(err, &told) || told.Status != 1 || told.Line != "tmpl: m:1: in \"m\": no field \"b\" here" {
 		t.Error(got, err)
 	}
 }
@@ -42,7 +42,7 @@ func TestFault(t *testing.T) {
 func TestOptions(t *testing.T) {
 	_, err := rendered("{{.name}}", "{}", Options{MissingKey: Fault})
 	var told *Error
-	if !errors.As(err, &told) || told.Line != "tmpl: m:1: in \"m\": no entry for key \"name\"\n" {
+	if !errors.As(err, &told) || told.Line != "tmpl: m:1: in \"m\": no entry for key \"name\"" {
 		t.Error(err)
 	}
 	got, err := rendered("{{ .name|len }}", "", Options{Print: true})

@@ -3,6 +3,7 @@ is looked for under the path LIBTMPL, beside this file, and where the system has
 import ctypes
 import json
 import os
+import threading
 
 OK, FAULT, NOT_TEXT, REFUSED, DATA, FULL, MEMORY = 0, 1, 2, 4, 5, 6, 7
 MISSING_KEY = {"default": 0, "invalid": 1, "zero": 2, "error": 3}
@@ -13,8 +14,11 @@ class TemplateError(Exception):
     """A render that did not end well: its `status` (FAULT, NOT_TEXT, REFUSED, DATA), its `line`, and the `text` before the fault."""
 
     def __init__(self, status, line, text=b""):
-        super().__init__(line)
+        super().__init__(status, line, text)  # so that it can be pickled
         self.status, self.line, self.text = status, line, text
+
+    def __str__(self):
+        return self.line
 
 
 class _File(ctypes.Structure):
@@ -26,7 +30,7 @@ class _Settings(ctypes.Structure):
 
 
 class _Buffer(ctypes.Structure):
-    _fields_ = [("bytes", ctypes.c_char_p), ("size", ctypes.c_size_t), ("taken", ctypes.c_size_t), ("needed", ctypes.c_size_t)]
+    _fields_ = [("bytes", ctypes.c_void_p), ("size", ctypes.c_size_t), ("taken", ctypes.c_size_t), ("needed", ctypes.c_size_t)]
 
 
 class _Kept(ctypes.Structure):
@@ -69,7 +73,8 @@ class _Lent:
 
     def __init__(self, size):
         self.memory = ctypes.create_string_buffer(max(size, 1))
-        self.buffer = _Buffer(ctypes.cast(self.memory, ctypes.c_char_p), size, 0, 0)
+        # a cast would keep the memory in a cycle, which only the cyclic collector frees
+        self.buffer = _Buffer(ctypes.addressof(self.memory), size, 0, 0)
 
     def output(self):
         return self.memory[: self.buffer.taken]
@@ -120,30 +125,33 @@ def render(files, name=None, data=None, **options):
 class Templates:
     """Template files that are parsed once, and rendered as often as you like: `Templates(files).render(name, data)`.
 
-    `files` are as those of `render`. Data is read anew where its JSON differs from that of the render before. One object is for one
-    thread. Its memory is given back with it, or by `close`."""
+    `files` are as those of `render`. Data is read anew where its JSON differs from that of the render before. Any number of threads may
+    use one object: its calls wait for one another. Its memory is given back with it, or by `close`."""
 
     def __init__(self, files=()):
         self._set, self._data, self._read, self._first = _Kept(), _Kept(), None, None
+        self._lock = threading.Lock()
         for path, what in files.items() if hasattr(files, "items") else files:
             self.add(path, what)
 
     def add(self, path, what):
         """Adds the templates of one more file, or raises TemplateError and leaves them as they are."""
         path, what = _encoded(path), _encoded(what)
-        _whole(lambda size, line_size: self.add_into(path, what, line_size))
-        self._first = path.rpartition(b"/")[2] if self._first is None else self._first
+        with self._lock:
+            _whole(lambda size, line_size: self.add_into(path, what, line_size))
+            self._first = path.rpartition(b"/")[2] if self._first is None else self._first
 
     def render_bytes(self, name=None, data=None, missing_key="default", depth=0, steps=0, printed=False):
         """What `render` gives, as bytes."""
         settings = _Settings(steps, depth, MISSING_KEY[missing_key], int(printed))
-        name = _encoded((self._first or b"") if name is None else name)
         read = _json(data)
-        if read != self._read and not printed:
-            self._read = None
-            _whole(lambda size, line_size: self.read_into(read, line_size))
-            self._read = read
-        return _whole(lambda size, line_size: self.render_into(name, settings, size, line_size))
+        with self._lock:
+            name = _encoded((self._first or b"") if name is None else name)
+            if read != self._read and not printed:
+                self._read = None
+                _whole(lambda size, line_size: self.read_into(read, line_size))
+                self._read = read
+            return _whole(lambda size, line_size: self.render_into(name, settings, size, line_size))
 
     def render(self, name=None, data=None, **options):
         """The text of the template of this name: by default that of the first file. Options and errors are those of `render`."""
@@ -166,9 +174,10 @@ class Templates:
 
     def close(self):
         """Frees templates and data. It has none then."""
-        _LIBRARY.tmpl_set_free(self._set)
-        _LIBRARY.tmpl_data_free(self._data)
-        self._read = None
+        with self._lock:
+            _LIBRARY.tmpl_set_free(self._set)
+            _LIBRARY.tmpl_data_free(self._data)
+            self._read = None
 
     def __del__(self):
         self.close()
