@@ -66,13 +66,13 @@ fn words(alloc: Global, reader: &mut Reader<'_>) -> Option<Vec<String>> {
 fn files<'a>(alloc: Global, reader: &mut Reader<'a>) -> Option<Vec<File<'a>>> {
     let mut files = Vec::new(alloc);
     for _ in 0..reader.number()? {
-        files.push(file(reader)?).ok()?;
+        files.push(next_file(reader)?).ok()?;
     }
     Some(files)
 }
 
 /// The next file, after its name.
-pub(crate) fn file<'a>(reader: &mut Reader<'a>) -> Option<File<'a>> {
+pub(crate) fn next_file<'a>(reader: &mut Reader<'a>) -> Option<File<'a>> {
     let name = reader.text()?;
     let bytes = reader.bytes()?;
     Some(File { name, bytes })

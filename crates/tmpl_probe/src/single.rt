@@ -1,7 +1,7 @@
 //! Calls of the library one by one, over files. Each puts out what was asked for, or that memory was refused.
 ghost use Rattle.std.specs.Prelude.{◌<◌, ◌-◌, ◌^◌};
 
-use crate::case::file;
+use crate::case::next_file;
 use crate::reader::Reader;
 use std::alloc::{AllocError, Global};
 use std::fs;
@@ -27,7 +27,7 @@ pub(crate) fn make_call(rt: &HostRuntime, words: &[String]) -> io::Result<bool> 
     let mut writer = rt.stdout();
     let held = fs::read(rt, file.as_str())?;
     let mut reader = Reader::new(held.as_slice());
-    match (reader.number(), file(&mut reader), file(&mut reader)) {
+    match (reader.number(), next_file(&mut reader), next_file(&mut reader)) {
         (Some(1), Some(one), None) => make_of_one(alloc, name, one.bytes, &mut writer),
         (Some(2), Some(one), Some(two)) => {
             make_of_two(alloc, name, one.bytes, two.bytes, &mut writer)
