@@ -6,7 +6,7 @@ use Rattle.tmpl_syntax.specs.Set.{Template}
 use Rattle.tmpl_meaning.specs.Meaning.{Fault, Ran}
 use Rattle.tmpl_tool.specs.Source.{Bytes, Files}
 use Rattle.tmpl_tool.specs.Laws.{GivesHelp, Prints, RefusesWords, Runs, StopsAtData, StopsAtDataRead, StopsAtFile, StopsAtName, StopsAtRead}
-use Rattle.tmpl_tool.specs.Laws.{TellsFailedWrite, TellsRefusedMemory}
+use Rattle.tmpl_tool.specs.Laws.{TellsFailedWrite, TellsReads, TellsRefusedMemory}
 use Rattle.tmpl_tool.specs.Tool as tool
 use Rattle.tmpl_tool.specs.Tool.{Failing, Parse, Stop, answer_of, asked_by, loaded, with_file}
 use Rattle.tmpl_values.specs.Stage.{and_then}
@@ -88,6 +88,11 @@ tells_refused_memory parse words files fails out err code (inr (inl cut)) is = a
     six e = omega (arith, e)
 tells_refused_memory parse words files fails out err code (inr (inr refused)) is = (refused.0, refused.2)
 
+pub tells_reads : TellsReads
+tells_reads reads answers o (inl (none, inl asked, out)) not same = asked
+tells_reads reads answers o (inl (none, inr (seven, front), out)) not same = absurd (not seven)
+tells_reads reads answers o (inr (k, one)) not same = absurd (omega (arith, one.0, same))
+
 pub ruleset stages = (
   gives_help,
   refuses_words,
@@ -100,4 +105,4 @@ pub ruleset stages = (
   runs,
 )
 
-pub ruleset ends = (tells_failed_write, tells_refused_memory)
+pub ruleset ends = (tells_failed_write, tells_refused_memory, tells_reads)

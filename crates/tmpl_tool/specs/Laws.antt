@@ -9,10 +9,10 @@ use Rattle.tmpl_meaning.specs.Meaning.{ran}
 use Rattle.tmpl_meaning.specs.Sink.{Begun, Cut, Sunk}
 use Rattle.tmpl_tool.specs.Help.{asks_help}
 use Rattle.tmpl_tool.specs.Words.{HasModeNames, Modes, Wanted, tool_app, wanted, words_fault, words_rows}
-use Rattle.tmpl_tool.specs.Source.{Bytes, Files}
+use Rattle.tmpl_tool.specs.Source.{Asked, Bytes, Files}
 use Rattle.tmpl_tool.specs.Outcome.{Answer, Outcome, Says, memory_line, write_line}
-use Rattle.tmpl_tool.specs.Tool.{Failing, IsParse, Parse, Stop, asked_by, asked_name, bad_words, data_found, help}
-use Rattle.tmpl_tool.specs.Tool.{loaded, printed, run_answer, stop_answer, tool_answer, unnamed, unread, with_file}
+use Rattle.tmpl_tool.specs.Tool.{Failing, Follows, IsParse, Observed, Parse, Stop, asked_by, asked_name, bad_words, data_found, help}
+use Rattle.tmpl_tool.specs.Tool.{loaded, no_read, printed, run_answer, stop_answer, tool_answer, unnamed, unread, with_file}
 
 -- a function accepts and refuses each file by the rules
 abbrev pub HasParse : Type 0
@@ -105,3 +105,8 @@ TellsRefusedMemory =
     → Outcome (tool_answer parse words files fails) out err code → code ≡ 7
     → let a = tool_answer parse words files fails in
     Begun (if a.made_text then a.text else []) out × Says memory_line err
+
+-- where memory is not refused and no read fails, the reads are all that the command comes to
+abbrev pub TellsReads : Type 0
+TellsReads = (reads : Failing → List Bytes) (answers : Failing → Answer) (o : Observed) → Follows reads answers o
+    → o.code ≢ 7 → o.failed_after ≡ o.failed_before → Asked o.asked_before o.asked_after (reads no_read)

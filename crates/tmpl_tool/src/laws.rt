@@ -1,7 +1,7 @@
 //! The laws of the command: its words, what parses its files, its stages, and its ends.
 ghost use Rattle.tmpl_tool.specs.Laws.{GivesHelp, HasOneParse, HasParse, LiesAnywhere, Prints, RefusesWords, Runs};
 ghost use Rattle.tmpl_tool.specs.Laws.{StopsAtData, StopsAtDataRead, StopsAtFile, StopsAtName, StopsAtRead};
-ghost use Rattle.tmpl_tool.specs.Laws.{TellsFailedWrite, TellsRefusedMemory};
+ghost use Rattle.tmpl_tool.specs.Laws.{TellsFailedWrite, TellsReads, TellsRefusedMemory};
 
 /// The law that clap's definition of the words does not depend on where the four words of `--missingkey` lie in memory,
 /// so that it may be stated at any one place.
@@ -30,9 +30,11 @@ pub fn stages()
     ensures run { Runs }
 {}
 
-/// The laws of the ends that are not the function's: a write that failed, and refused memory.
+/// The laws of the ends that are not the function's, a write that failed and refused memory, and that all files are read
+/// in any other.
 #[tactic(auto, using(crate::proofs::StageLemmas::ends))]
 pub fn ends()
     ensures write { TellsFailedWrite }
     ensures memory { TellsRefusedMemory }
+    ensures reads { TellsReads }
 {}
