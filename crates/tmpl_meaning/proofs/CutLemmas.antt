@@ -18,7 +18,8 @@ use Rattle.tmpl_meaning.specs.Fault.{Cause, calls_too_deep, steps_spent}
 use Rattle.tmpl_meaning.specs.Laws.{Begins, IsNoLimit}
 use Rattle.tmpl_meaning.specs.Pipeline.{Environment, commands_value}
 use Rattle.tmpl_meaning.specs.Meaning.{Calls, End, Next, Rules, Run, Setting, after, after_turn, broke, calls_within, continued, done, faulted, faulted_at}
-use Rattle.tmpl_meaning.specs.Meaning.{meanings, over, scope, setting_of, shown, spend, stepped, turns, visited, with_bound, with_pipeline, with_value}
+use Rattle.tmpl_meaning.specs.Meaning.{meanings, scope, setting_of, shown, spend, stepped, turns, visited, with_bound, with_pipeline, with_value}
+use Rattle.tmpl_meaning.proofs.PartLemmas.{over}
 use Rattle.tmpl_meaning.proofs.AddLemmas.{adds, any-node, any-nodes, calls-add}
 use Rattle.tmpl_meaning.proofs.KeptLemmas.{CallsKeep, Kept, end-kept, nodes-kept, stepped-kept, turn-kept, turns-kept}
 use Rattle.tmpl_meaning.proofs.PartLemmas.{apart, choosing, controlling, handing, on_end, on_turn, one_of, returned, run_called, scoped}
