@@ -7,7 +7,7 @@ use Rattle.tmpl_funcs.specs.declared.fault.CallFault.TheVariants.{WrongCount}
 abbrev pub Answer : Type 0
 Answer = Result Value CallFault
 
--- the arguments that a function takes, with what it gives for so many
+-- the arguments that a function takes, with what it gives for them
 pub data Arguments : Type 0 where
   any : (List Value → Answer) → Arguments
   one : (Value → Answer) → Arguments

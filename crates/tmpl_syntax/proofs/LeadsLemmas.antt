@@ -1,4 +1,4 @@
--- For the lemmas of what items spell: the first items of a list spell nodes, and what is left behind them.
+-- For the lemmas of what items spell: the first items of a list spell nodes, and what is left after them.
 use Rattle.std.proofs.Common.{◌≡◌, ◌∙◌, ℕ, List, [], ◌∷◌, ◌++◌, Option, Some, refl, sym, ap, subst, append_assoc, append-nil}
 use Rattle.tmpl_grammar.specs.Tree.{Pipeline, Header}
 use Rattle.tmpl_grammar.specs.Action.{pipeline_action, opening, plain_else, else_branch, end_action, break_action}

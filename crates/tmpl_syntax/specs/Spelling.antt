@@ -42,12 +42,12 @@ mutual
         → Spells (item line (action_item (block_action name p)) ∷ (xs ++ ys)) (definition line name body ∷ (ds ++ es))
         (then line (template_node name (Some p)) ns)
 
-  -- .. with an `end` behind them
+  -- .. with an `end` after them
   pub data SpellsBody : List Item → List Definition → Nodes → Type 0 where
     ended : {xs : List Item} {ds : List Definition} {ns : Nodes} (line : ℕ) → Spells xs ds ns
         → SpellsBody (xs ++ item line (action_item end_action) ∷ []) ds ns
 
-  -- the rest of a control behind its body, to its `end`, spells the nodes of its else part
+  -- the rest of a control after its body, to its `end`, spells the nodes of its else part
   pub data SpellsElse : List Item → List Definition → Nodes → Type 0 where
     an_end : {line : ℕ} → SpellsElse (item line (action_item end_action) ∷ []) [] none
     an_else : {line : ℕ} {xs : List Item} {ds : List Definition} {other : Nodes} → SpellsBody xs ds other
