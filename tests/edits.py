@@ -2,7 +2,12 @@
 done on a copy of the repository, where they take the place of those of must-fail/, over what earlier runs kept in out/.
 
     edits.py [NAME..]     tries the edits of these crates, or of all; RT_JOBS=N takes N crates side by side, else one
-    edits.py --apply      only looks whether each edit of edits/ and of must-fail/ still applies to its file"""
+    edits.py --apply      only looks whether each edit of edits/ and of must-fail/ still applies to its file, and, where its crate has
+                          changed since all its edits were tried, has the compiler's front end read each of edits/ over the libraries
+                          that `rt ci` left, so that one which no longer compiles is found
+
+When all edits of a crate were refused, a checksum of its source and of its edits is written to tests/edits.tried."""
+import hashlib
 import os
 import re
 import shutil
@@ -15,6 +20,7 @@ import harness
 
 FOLDERS = ("edits", "must-fail")
 REFUSED = ": refused, as it must be"
+TRIED = f"{harness.TESTS}/edits.tried"
 
 
 def edits_in(folder):
@@ -73,6 +79,71 @@ def attempt(room, name):
     return refused, len(wanted) - refused
 
 
+def checksum(name):
+    """Of the source of a crate, and of its edits."""
+    told = hashlib.sha256()
+    for folder in ("src", "edits"):
+        for place, folders, files in os.walk(f"{harness.TOP}/crates/{name}/{folder}"):
+            folders.sort()
+            for file in sorted(files):
+                with open(f"{place}/{file}", "rb") as it:
+                    told.update(os.path.relpath(f"{place}/{file}", harness.TOP).encode() + b"\0" + it.read() + b"\0")
+    return told.hexdigest()
+
+
+def tried():
+    """The checksums of the crates, by name, at which all their edits were refused."""
+    if not os.path.exists(TRIED):
+        return {}
+    with open(TRIED, encoding="ascii") as it:
+        return dict(line.split() for line in it)
+
+
+def record(names):
+    """Writes down that all edits of these crates were refused."""
+    told = {**tried(), **{name: checksum(name) for name in names}}
+    with open(TRIED, "w", encoding="ascii") as it:
+        it.writelines(f"{name} {told[name]}\n" for name in sorted(told))
+
+
+def compiles(crate, edit):
+    """What the compiler's front end says against a crate with this edit; nothing where it takes it."""
+    with open(f"{crate}/must-fail/{edit}", encoding="utf-8") as it:
+        lines = it.read().splitlines()
+    path = f"{crate}/{lines[0].partition(': ')[2]}"
+    with open(path, encoding="utf-8") as it:
+        before = text = it.read()
+    olds = [line[len("old: ") :] for line in lines[1:] if line.startswith("old: ")]
+    news = [line[len("new: ") :] for line in lines[1:] if line.startswith("new: ")]
+    for old, new in zip(olds, news):
+        text = text.replace(old, new, 1)
+    with open(path, "w", encoding="utf-8") as it:
+        it.write(text)
+    said = rt(crate, "check", "--only", "")
+    with open(path, "w", encoding="utf-8") as it:
+        it.write(before)
+    return re.findall(r"^src/\S+ error.*$", said, re.MULTILINE)[:3]
+
+
+def read_changed(room, crates):
+    """Has the front end read the edits of crates that changed since all of theirs were tried: how many it takes and how many not."""
+    passed = failed = 0
+    told = tried()
+    changed = [it for it in crates if edits_in(f"{harness.TOP}/crates/{it}/edits") and told.get(it) != checksum(it)]
+    for name in crates if changed else []:
+        libraries = f"{harness.TOP}/crates/{name}/out/rlib"
+        if os.path.isdir(libraries):
+            shutil.copytree(libraries, f"{room}/crates/{name}/out/rlib")
+    for name in changed:
+        crate = f"{room}/crates/{name}"
+        take_edits(crate, "edits")
+        for edit in edits_in(f"{crate}/must-fail"):
+            said = compiles(crate, edit)
+            print(*[f"BAD EDIT crates/{name}/edits/{edit}: {it}" for it in said], sep="\n", end="\n" * bool(said), flush=True)
+            passed, failed = passed + (not said), failed + bool(said)
+    return passed, failed
+
+
 def attempt_all(room, every, crates):
     """Tries the edits of these crates, RT_JOBS crates side by side."""
     jobs = int(os.environ.get("RT_JOBS") or 1)
@@ -99,11 +170,15 @@ def main(words):
             shutil.copy(f"{harness.TOP}/{name}", room)
         kinds = FOLDERS if only_apply else FOLDERS[:1]
         counted = [apply(room, crates, it) for it in kinds]
-        if not only_apply:
+        if only_apply:
+            counted.append(read_changed(room, crates))
+        else:
             bad = counted[0][1]
-            counted = [(0, bad), *attempt_all(room, every, crates)]
+            came = attempt_all(room, every, crates)
+            counted = [(0, bad), *came]
             if bad:
                 print(f"BAD EDIT: {bad} can't be applied, as told at the start")
+            record(name for name, (refused, others) in zip(crates, came) if refused and not others)
     return harness.closing(*map(sum, zip(*counted)))
 
 
