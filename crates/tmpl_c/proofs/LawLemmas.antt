@@ -14,7 +14,7 @@ use Rattle.tmpl_values.specs.Stage.{and_then}
 use Rattle.tmpl_tool.specs.Tool.{stop_answer, stop_if, with_file}
 use Rattle.tmpl_tool.proofs.StageLemmas.{and_then-and_then}
 use Rattle.tmpl_c.specs.Laws.{AddsInTurn, AnswersAsCommand, AnswersButForName, LendsData, LendsFiles, Prints, RefusesName, Runs, SameBut, StopsAtData}
-use Rattle.tmpl_c.specs.Laws.{KeepsAsBefore, KeepsOffered, RendersAsKept, StopsAtFile, StopsAtTemplate}
+use Rattle.tmpl_c.specs.Laws.{IsKeptAsBefore, IsKeptAsOffered, KeepsAsBefore, KeepsOffered, RendersAsKept, StopsAtFile, StopsAtTemplate}
 use Rattle.tmpl_c.specs.Lent.{data_lent, each_added, with_lent}
 
 -- the files before a file, and those from it on
@@ -101,18 +101,24 @@ or_no_more (Err stop) = refl
 pub adds_in_turn : AddsInTurn
 adds_in_turn parse before f set loads = rw (each_part parse [] before (f ∷ []), loads) (or_no_more (with_lent parse set f))
 
+as_offered : {T : Type 0} → IsKeptAsOffered T
+as_offered offered old new room err (inl h) = let same = h.0 in cc
+as_offered offered old new room err (inr (inl h)) = let wrong = h.1 in cc
+as_offered offered old new room err (inr (inr h)) = let wrong = h.2 in cc
+
 pub keeps_offered : KeepsOffered
-keeps_offered T offered old new room err (inl h) = let same = h.0 in cc
-keeps_offered T offered old new room err (inr (inl h)) = let wrong = h.1 in cc
-keeps_offered T offered old new room err (inr (inr h)) = let wrong = h.2 in cc
+keeps_offered = (as_offered, as_offered)
+
+as_before : {T : Type 0} → IsKeptAsBefore T
+as_before offered old new room err code (inl h) not = absurd (not h.2)
+as_before offered old new room err code (inr (inl h)) not = h.2
+as_before offered old new room err code (inr (inr h)) not = h.0
 
 pub keeps_as_before : KeepsAsBefore
-keeps_as_before T offered old new room err code (inl h) not = absurd (not h.2)
-keeps_as_before T offered old new room err code (inr (inl h)) not = h.2
-keeps_as_before T offered old new room err code (inr (inr h)) not = h.0
+keeps_as_before = (as_before, as_before)
 
 pub ruleset stages = (refuses_name, stops_at_file, prints, stops_at_data, stops_at_template, runs)
 
 pub ruleset as_command = (answers_as_command, answers_but_for_name)
 
-pub ruleset kept = (renders_as_kept, adds_in_turn, keeps_offered, keeps_as_before)
+pub ruleset kept = (renders_as_kept, adds_in_turn)

@@ -30,4 +30,4 @@ holds_front a room line_room out err code (inr ((front, rest, is, fills), line, 
 pub has_defaults : HasDefaults
 has_defaults s steps depth mode = rw (steps, depth, mode) refl
 
-pub ruleset seen = (holds_whole, holds_front, has_defaults)
+pub ruleset seen = (holds_whole, has_defaults)

@@ -116,14 +116,21 @@ AddsInTurn = (parse : Parse) (before : List (Bytes × Bytes)) (f : Bytes × Byte
     → each_added parse [] (before ++ f ∷ []) ≡ with_lent parse set f
 
 -- with status 0 what was offered is what is kept
-abbrev pub KeepsOffered : Type 1
-KeepsOffered = (T : Type 0) (offered old new : T) (room : ℕ) (err : Seen)
-    → Keeps (Ok offered) old new room err 0 → new ≡ offered
+abbrev pub IsKeptAsOffered : (T : Type 0) → Type 0
+IsKeptAsOffered T = (offered old new : T) (room : ℕ) (err : Seen) → Keeps (Ok offered) old new room err 0 → new ≡ offered
+
+-- .. templates as data
+abbrev pub KeepsOffered : Type 0
+KeepsOffered = IsKeptAsOffered (List Template) × IsKeptAsOffered (Option Value)
 
 -- with any other what was kept is kept
-abbrev pub KeepsAsBefore : Type 1
-KeepsAsBefore = (T : Type 0) (offered : Result T Stop) (old new : T) (room : ℕ) (err : Seen) (code : ℕ)
+abbrev pub IsKeptAsBefore : (T : Type 0) → Type 0
+IsKeptAsBefore T = (offered : Result T Stop) (old new : T) (room : ℕ) (err : Seen) (code : ℕ)
     → Keeps offered old new room err code → code ≢ 0 → new ≡ old
+
+-- .. templates as data
+abbrev pub KeepsAsBefore : Type 0
+KeepsAsBefore = IsKeptAsBefore (List Template) × IsKeptAsBefore (Option Value)
 
 -- ---- what a caller sees
 

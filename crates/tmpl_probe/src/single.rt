@@ -27,7 +27,11 @@ pub(crate) fn make_call(rt: &HostRuntime, words: &[String]) -> io::Result<bool> 
     let mut writer = rt.stdout();
     let held = fs::read(rt, file.as_str())?;
     let mut reader = Reader::new(held.as_slice());
-    match (reader.number(), next_file(&mut reader), next_file(&mut reader)) {
+    match (
+        reader.number(),
+        next_file(&mut reader),
+        next_file(&mut reader),
+    ) {
         (Some(1), Some(one), None) => make_of_one(alloc, name, one.bytes, &mut writer),
         (Some(2), Some(one), Some(two)) => {
             make_of_two(alloc, name, one.bytes, two.bytes, &mut writer)
