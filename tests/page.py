@@ -127,7 +127,8 @@ def judge_typing(page):
     wrong += page.comes(", yours")
     page.put("name", "")
     page.click("as-set")
-    wrong += page.comes('{{define "end"}}, yours{{end}}\n{{define "template"}}Dear {{.name}}{{template "end" .}}{{end}}\n')
+    set_of = '{{define "template"}}Dear {{.name}}{{template "end" .}}{{end}}', '{{define "end"}}, yours{{end}}', '{{define "end.tmpl"}}{{end}}'
+    wrong += page.comes("".join(f"{it}\n" for it in set_of))
     page.click("as-text")
     page.put("data", '{"name": 1.5}')
     wrong += page.comes("", "tmpl: data: number not whole or out of range")

@@ -133,6 +133,7 @@ def of_node(folder, skip):
         at = copied(folder)
         skip("npm is not there, so nothing was packed for it")
     yield counted("the binding", *ran("node", f"{OURS}/binding.mjs", at))
+    yield counted("the binding, stopped", *ran("node", "--stack-size=100", f"{OURS}/trap.mjs", at))
     yield judge_calls(folder, at)
     yield judge_program(folder)
     if shutil.which("tsc"):

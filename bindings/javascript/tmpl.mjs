@@ -75,7 +75,7 @@ function settingsOf({ missingKey = "default", depth = 1000, steps = STEPS, print
 
 // ---- the module
 
-/** An instance of the module, and another one after a trap, which leaves the memory as it was then. */
+/** An instance of the module. What stops a call where it should not leaves the memory as it was then, so another one takes its place. */
 class Host {
     #module;
     #room = ROOM;
@@ -89,20 +89,26 @@ class Host {
         return this.exports;
     }
 
-    call(name, ...words) {
+    /** Does what may throw errors of ours. Any other, as that the stack is at its end, is a trap. */
+    guarded(what) {
         try {
-            return this.instance()[name](...words);
+            return what();
         } catch (cause) {
+            if ([TemplateError, MemoryError, TrapError].some((it) => cause instanceof it)) throw cause;
             this.exports = undefined;
             throw new TrapError(cause);
         }
+    }
+
+    call(name, ...words) {
+        return this.guarded(() => this.instance()[name](...words));
     }
 
     /** Lends memory in parts of these sizes for one call. */
     lend(sizes, call) {
         const lent = new Lent(this, sizes);
         try {
-            return call(lent);
+            return this.guarded(() => call(lent));
         } finally {
             lent.give();
         }
@@ -219,7 +225,7 @@ class Templates {
     #lent; // the set and the data; none before the first file, and once they are freed
     #free;
     #files = [];
-    #read; // the JSON of the data that is there
+    #read; // the JSON of the data that is there, where it is known
 
     constructor(host, files) {
         this.#host = host;
@@ -229,7 +235,7 @@ class Templates {
     add(path, what) {
         const file = [encoded(path).slice(), encoded(what).slice()];
         this.#settle();
-        this.#parse(file);
+        this.#parse(this.#lent, file);
         this.#files.push(file);
     }
 
@@ -259,27 +265,32 @@ class Templates {
     /** Has the files in the instance that there is: none was there before the first one, and a trap takes all. */
     #settle() {
         if (this.#lent?.isThere()) return;
-        this.#lent = new Lent(this.#host, [KEPT, KEPT]);
-        this.#lent.words(0, 0, 0);
-        this.#read = new Uint8Array();
-        this.#free = freeing(this.#host, this.#lent);
+        const lent = new Lent(this.#host, [KEPT, KEPT]), free = freeing(this.#host, lent);
+        try {
+            lent.words(0, 0, 0);
+            for (const it of this.#files) this.#parse(lent, it);
+        } catch (error) {
+            free();
+            throw error;
+        }
+        [this.#lent, this.#free, this.#read] = [lent, free, new Uint8Array()];
         forgotten.unregister(this);
-        forgotten.register(this, this.#free, this);
-        this.#files.forEach((it) => this.#parse(it));
+        forgotten.register(this, free, this);
     }
 
-    #parse([path, what]) {
+    #parse(kept, [path, what]) {
         this.#host.lend([FILE, path.length, what.length], (lent) => {
             lent.words(0, lent.at[1], path.length, lent.at[2], what.length);
             lent.put(1, path);
             lent.put(2, what);
-            this.#told("tmpl_set_add", this.#lent.pointer(0), lent.pointer(0));
+            this.#told("tmpl_set_add", kept.pointer(0), lent.pointer(0));
         });
     }
 
     /** Reads data in the place of other data. Where it is refused, the other stays. */
     #readAnew(json) {
-        if (isSame(json, this.#read)) return;
+        if (this.#read && isSame(json, this.#read)) return;
+        this.#read = undefined;
         this.#host.lend([json.length], (lent) => {
             lent.put(0, json);
             this.#told("tmpl_data_read", this.#lent.pointer(1), lent.pointer(0), BigInt(json.length));

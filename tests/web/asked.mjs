@@ -34,13 +34,13 @@ function cameOf(render) {
     }
 }
 
-/** What comes of a call, and of two by templates that are kept, of which a file that is refused leaves none. */
+/** What comes of a call, and of two by templates that are kept, to which a file that is refused is not added. */
 function* answersTo({ files, name, data, options }) {
     yield cameOf(() => engine.renderBytes(files, name, data, options));
     const kept = engine.templates();
-    for (let time = 0; time < 2; time++) {
+    for (let time = 0, added = 0; time < 2; time++) {
         yield cameOf(() => {
-            if (time === 0) for (const file of files) kept.add(...file);
+            for (; added < files.length; added++) kept.add(...files[added]);
             return kept.renderBytes(name, data, options);
         });
     }

@@ -1,5 +1,5 @@
 // binding.mjs TMPL: tries what the binding in the folder TMPL does beyond the calls of the rows: in which forms it takes files, data and
-// the module, what it refuses, what it keeps, and what it does where memory ends or the module is stopped.
+// the module, what it refuses, what it keeps, and what it does where memory ends. trap.mjs tries what it does where it is stopped.
 import { readFileSync } from "node:fs";
 import { pathToFileURL } from "node:url";
 import { isDeepStrictEqual } from "node:util";
@@ -75,7 +75,7 @@ tries("kept: the bytes are others now", () => kept.render("a", lent), "one 2");
 tries("kept: the first file's name", () => kept.render(undefined, 3), "one 3");
 tries("kept: a file after it", () => kept.add("c", '{{define "a"}}three {{.}}{{end}}'), undefined);
 tries("kept: it replaces the first", () => kept.render("a", 1), "three 1");
-tries("kept: the printed set", () => kept.render("", undefined, { printed: true }), '{{define "a"}}three {{.}}{{end}}\n');
+tries("kept: the printed set", () => kept.render("", undefined, { printed: true }), '{{define "a"}}three {{.}}{{end}}\n{{define "c"}}{{end}}\n');
 tries("kept: freed", () => kept.close(), undefined);
 tries("kept: freed twice", () => kept.close(), undefined);
 tries("kept: nothing is there", () => kept.render("a", 1), ["TemplateError", 'tmpl: no template "a"', 4, ""]);
@@ -118,9 +118,9 @@ tries("memory ends in a file that is kept", () => others.add("b", "{{.}}".repeat
 tries("memory ends in data that is kept", () => others.render("a", Array.from({ length: 100_000 }, (_, it) => it)), ends);
 tries("what is kept stays", () => others.render("a", [1, 2, 3]), "3");
 tries("after it all is well", () => small.render(hello, "hello.tmpl", ada), greeted);
-check("the memory is no larger", small.render({ m: "x".repeat(1_000_000) }).length, 1_000_000);
+tries("all of the memory is there again", () => small.render({ m: "x".repeat(300_000) }).length, 300_000);
 
-// Where the host has no more stack a call is stopped within the module, and the next one has another instance.
+// At the end of the host's stack, which comes at each place of a call: the next one, with more of it, is as any other.
 const again = engine.templates({ a: "{{define `r`}}{{if .}}({{template `r` index . 0}}){{end}}{{end}}{{template `r` .}}" });
 const nested = JSON.parse("[".repeat(100) + "]".repeat(100)), seen = new Set();
 again.render("a", [[[]]]);
@@ -132,8 +132,8 @@ function deep() {
         return again.render("a", nested);
     }
 }
-check("there was a trap, and what is kept is there after it", deep(), `${"(".repeat(99)}${")".repeat(99)}`);
-check("it was told as one", seen.has("TrapError") && !seen.has("TemplateError"), true);
+check("at the end of the stack", deep(), `${"(".repeat(99)}${")".repeat(99)}`);
+check("nothing else was told there", [...seen].filter((it) => !["RangeError", "TrapError"].includes(it)), []);
 check("the errors are errors", [TemplateError, MemoryError, TrapError].map((it) => it.prototype instanceof Error), [true, true, true]);
 
 // All memory of calls is given back: many calls of each kind need no more than the first ones.
@@ -147,7 +147,32 @@ for (let time = 0; time < 3000; time++) {
     cameOf(() => long.render({ a: `${text}{{index . 1000}}` }, "a", list));
     held.close();
 }
-check("all memory is given back", long.render({ m: "x".repeat(2_000_000) }).length, 2_000_000);
+tries("all memory is given back", () => long.render({ m: "x".repeat(2_000_000) }).length, 2_000_000);
+
+// Blocks that the heap lends, in a random order: none lies over another, each holds what was put there, and all of them come back.
+const { memory, memory_take, memory_give } = new WebAssembly.Instance(new WebAssembly.Module(limited(256))).exports;
+const most = 8_000_000, first = memory_take(BigInt(most)), blocks = [];
+memory_give(first);
+let state = 1, spoilt = 0;
+const drawn = (below) => (state = (state * 48271) % 2147483647) % below;
+for (let time = 0; time < 50_000; time++) {
+    if (drawn(5) < 3 || !blocks.length) {
+        const size = drawn(4) ? drawn(200) : drawn(20_000), at = memory_take(BigInt(size)), mark = time & 255;
+        if (at === 0n || at % 16n !== 0n) {
+            if (at) spoilt++;
+            continue;
+        }
+        new Uint8Array(memory.buffer, Number(at), size).fill(mark);
+        blocks.push({ at, size, mark });
+    } else {
+        const [{ at, size, mark }] = blocks.splice(drawn(blocks.length), 1);
+        if (!new Uint8Array(memory.buffer, Number(at), size).every((it) => it === mark)) spoilt++;
+        memory_give(at);
+    }
+}
+check("no block was spoilt by another", spoilt, 0);
+blocks.forEach(({ at }) => memory_give(at));
+check("all blocks are one again", memory_take(BigInt(most)), first);
 
 console.log(`${passed} passed, ${failed} failed`);
 process.exit(failed || !passed ? 1 : 0);
