@@ -32,6 +32,12 @@ CALLS = """(async (calls) => {
     }
     return wrong;
 })"""
+# pastes a text as data
+PASTE = """((text) => {
+    const clipboardData = new DataTransfer();
+    clipboardData.setData("text/plain", text);
+    document.getElementById("data").dispatchEvent(new ClipboardEvent("paste", { clipboardData, cancelable: true }));
+})"""
 MODES = ("default", "invalid", "zero", "error")
 
 
@@ -192,7 +198,7 @@ def judge_endless(page):
 
 
 def judge_much(page, folder):
-    """10 MB of data, as a file and as what was typed."""
+    """10 MB of data, as a file and pasted."""
     page.click("anew")
     number = 10_000_000 // len('"line 123456",\n')
     text = "[" + ",\n".join(f'"line {it:06}"' for it in range(number)) + "]"
@@ -203,11 +209,12 @@ def judge_much(page, folder):
     wrong = page.comes(f"{number} line 000007")
     wrong += page.is_so("document.getElementById('data').hidden && !document.getElementById('held').hidden")
     page.click("let-go")
-    page.browser.value(f"(() => {{ const it = document.getElementById('data'); it.value = {json.dumps(text)}; it.dispatchEvent(new Event('input')); }})()")
+    wrong += page.comes("", 'tmpl: template:1: in "template": len: wrong kind of argument')
+    page.browser.value(f"{PASTE}({json.dumps(text)})")
     wrong += page.comes(f"{number} line 000007")
     page.put("template", "{{range .}}{{.}}\n{{end}}")
     wrong += page.is_so(f"document.getElementById('told').textContent.includes('{number * 12:,} bytes')", 20)
-    return "10 MB of data", 4, wrong
+    return "10 MB of data", 5, wrong
 
 
 def judge_examples(page):

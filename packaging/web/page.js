@@ -3,10 +3,10 @@
 const SECONDS = 2; // that a run may take
 const PAUSE = 150; // milliseconds without a key before a run
 const SHOWN = 1 << 20; // bytes of output that are shown
-const TYPED = 1 << 18; // bytes of a data file that is put where it can be typed in; a larger one is held beside
+const TYPED = 1 << 18; // bytes of data that are put where one types; a field with more of them is slow, so they are held beside it
 const LINES = 20_000; // up to which each line of a template has its number
 const LINKED = 1 << 25; // characters that a link may stand for
-const HELD = "tmpl"; // where the browser keeps what was typed
+const KEPT = "tmpl"; // the name under which the browser keeps what was typed
 
 const at = (id) => document.getElementById(id);
 const encoder = new TextEncoder();
@@ -59,7 +59,7 @@ async function render(files, name, data, options) {
 const EMPTY = { files: [["template", ""]], data: "", name: "", missingKey: "default", depth: 1000, steps: 10_000_000, printed: false };
 const FIRST = { ...EMPTY, files: [["hello.tmpl", "Hello, {{.name}}!\n{{range $i, $it := .items}}{{$i}}. {{$it}}\n{{end}}"]],
     data: '{\n  "name": "Ada",\n  "items": ["a pen", "paper & ink"]\n}\n' };
-let state = FIRST, current = 0, before, bytes, answer;
+let state = FIRST, current = 0, before, held, answer;
 
 /** What a link or the browser held, as far as it has the right form. */
 function shaped(it) {
@@ -73,18 +73,18 @@ function shaped(it) {
 
 function keep() {
     try {
-        localStorage.setItem(HELD, JSON.stringify(state));
+        localStorage.setItem(KEPT, JSON.stringify(state));
     } catch {
         try {
-            localStorage.removeItem(HELD); // what is too large is not kept
+            localStorage.removeItem(KEPT); // what is too large is not kept
         } catch {} // this browser keeps nothing
     }
 }
 
 function kept() {
     try {
-        const held = localStorage.getItem(HELD);
-        return held ? shaped(JSON.parse(held)) : undefined;
+        const it = localStorage.getItem(KEPT);
+        return it ? shaped(JSON.parse(it)) : undefined;
     } catch {
         return undefined;
     }
@@ -165,9 +165,9 @@ function showState() {
     [at("data").value, at("name").value, at("missing-key").value] = [state.data, state.name, state.missingKey];
     [at("depth").value, at("steps").value] = [state.depth, state.steps];
     at(state.printed ? "as-set" : "as-text").checked = true;
-    at("held").hidden = !bytes;
-    at("data").hidden = Boolean(bytes);
-    at("held-name").textContent = bytes ? `${bytes.name}, ${bytes.length.toLocaleString("en")} bytes` : "";
+    at("held").hidden = !held;
+    at("data").hidden = Boolean(held);
+    at("held-name").textContent = held ? `${held.name}, ${held.bytes.length.toLocaleString("en")} bytes` : "";
     at("back").hidden = !before;
 }
 
@@ -213,7 +213,7 @@ function optionsOf({ missingKey, depth, steps, printed }) {
 async function run() {
     at("text").classList.add("old");
     const files = state.files.map(([path, what]) => [path, what]);
-    const data = bytes ? bytes.bytes : state.data.trim() ? encoder.encode(state.data) : undefined;
+    const data = held ? held.bytes : state.data.trim() ? encoder.encode(state.data) : undefined;
     const came = await render(files, state.name || undefined, data, optionsOf(state));
     if (came.status !== "ended") showAnswer(came);
 }
@@ -228,10 +228,23 @@ function typed() {
     }, PAUSE);
 }
 
-/** Puts another state in the place of what is there, which can be gone back to. */
-function replace(it) {
-    [before, state, bytes, current] = [{ state, bytes }, it, undefined, 0];
+/** Takes data that are not typed: as if they were, or held beside if they are many. */
+function takeData(name, bytes) {
+    const isLarge = bytes.length > TYPED;
+    held = isLarge ? { name, bytes } : undefined;
+    state.data = isLarge ? "" : decoder.decode(bytes);
     showState();
+}
+
+function takeState(it, name) {
+    [state, held, current] = [it, undefined, 0];
+    takeData(name, encoder.encode(it.data));
+}
+
+/** Puts another state in the place of what is there, which can be gone back to. */
+function replace(it, name) {
+    before = { state, held };
+    takeState(it, name);
     run();
 }
 
@@ -287,7 +300,7 @@ async function copy(id, text) {
 }
 
 async function share() {
-    if (bytes) return told("link", "The data file is too large");
+    if (held) return told("link", "The data is too large");
     const hash = await linkOf(state);
     history.replaceState(null, "", hash);
     await copy("link", location.href);
@@ -309,10 +322,22 @@ async function openTemplate([file]) {
 
 async function openData([file]) {
     if (!file) return;
-    const read = new Uint8Array(await file.arrayBuffer());
-    bytes = read.length > TYPED ? { name: file.name, length: read.length, bytes: read } : undefined;
-    state.data = bytes ? "" : decoder.decode(read);
-    showState();
+    takeData(file.name, new Uint8Array(await file.arrayBuffer()));
+    typed();
+}
+
+/** Has a file that is let fall on a field opened there. */
+function dropped(event, open) {
+    if (!event.dataTransfer.files.length) return;
+    event.preventDefault();
+    open(event.dataTransfer.files);
+}
+
+function pasted(event) {
+    const text = event.clipboardData.getData("text/plain");
+    if (text.length <= TYPED) return;
+    event.preventDefault();
+    takeData("pasted", encoder.encode(text));
     typed();
 }
 
@@ -359,12 +384,15 @@ function listen() {
     on("copy", "click", () => copy("copy", decoder.decode(answer?.text)));
     on("anew", "click", () => replace(structuredClone(EMPTY)));
     on("back", "click", () => {
-        [state, bytes, before] = [before.state, before.bytes, undefined];
+        [state, held, before] = [before.state, before.held, undefined];
         showState();
         typed();
     });
+    on("data", "paste", pasted);
+    on("data", "drop", (event) => dropped(event, openData));
+    on("template", "drop", (event) => dropped(event, openTemplate));
     on("let-go", "click", () => {
-        bytes = undefined;
+        held = undefined;
         showState();
         at("data").focus();
         typed();
@@ -376,7 +404,7 @@ function listen() {
     document.addEventListener("keydown", (event) => {
         if (event.key === "Enter" && (event.ctrlKey || event.metaKey)) run();
     });
-    window.addEventListener("hashchange", () => linked(location.hash).then((it) => it && replace(it)).catch(() => {}));
+    window.addEventListener("hashchange", () => linked(location.hash).then((it) => it && replace(it, "from the link")).catch(() => {}));
 }
 
 function showExamples() {
@@ -390,8 +418,7 @@ function showExamples() {
 async function start() {
     listen();
     showExamples();
-    state = (await linked(location.hash).catch(() => undefined)) ?? kept() ?? FIRST;
-    showState();
+    takeState((await linked(location.hash).catch(() => undefined)) ?? kept() ?? FIRST, "from before");
     await run();
 }
 

@@ -4,7 +4,7 @@ import { pathToFileURL } from "node:url";
 
 const { load, TrapError } = await import(pathToFileURL(`${process.argv[2]}/node.mjs`));
 const engine = await load(), deep = `${"{{if 1}}".repeat(450)}x${"{{end}}".repeat(450)}`;
-const kept = engine.templates({ a: "{{define `b`}}two {{.}}{{end}}one {{template `b` .}}" });
+const kept = engine.templates({ a: "{{define `b`}}two {{.}}{{end}}one {{template `b` .}}" }), other = engine.templates({ c: deep });
 let passed = 0, failed = 0;
 
 function check(what, isRight) {
@@ -24,7 +24,7 @@ function isTrap(call) {
 for (let time = 0; time < 20; time++) {
     check("a render is stopped", isTrap(() => engine.render({ m: deep })));
     check("kept templates are there after it", kept.render("a", time) === `one two ${time}`);
-    check("a file is stopped", isTrap(() => kept.add("c", deep)));
+    check("a render of kept templates is stopped", isTrap(() => other.render("c")));
     check("a file after it is added", (kept.add(`d${time}`, "three"), kept.render(`d${time}`) === "three"));
     check("the others are there", kept.render("a", [time]) === `one two [${time}]`);
     check("a render is as any other", engine.render({ m: "well" }) === "well");
