@@ -1,8 +1,8 @@
 """Tries the program and the C library in the places to which `make static` and `make aarch64` bring them. Each row of tests/rows goes
-through the static program, and through that for aarch64 by QEMU, as run.py has it; some go through the static one on a processor that has
-nothing beyond the first x86-64. In a root without any other file the static program renders an example. The rows that are calls, and
-20,000 changed ones, go through the library for aarch64, by asked.c: the text and the line of a changed one must be those of the library
-that is built here. The packages of both are made twice, and must have the same bytes.
+through the static program, as run.py has it; some go through it on a processor that has nothing beyond the first x86-64. In a root without
+any other file it renders an example. What is for aarch64 runs by QEMU: the rows that are calls, and 20,000 changed ones, go through the
+library, by asked.c, where the text and the line of a changed one must be those of the library that is built here; the other rows, and every
+eighth of those, go through the program. With --long all of them do. The packages of both are made twice, and must have the same bytes.
 
 What needs a program that is not installed is left out, and counted."""
 import json
@@ -20,7 +20,8 @@ import run
 
 PORTS = f"{harness.TOP}/packaging/out"
 CHANGED = 20_000
-SOME = 16  # every so many rows
+SOME = 16  # every so many rows go through the static program on an old processor
+CALLS = 8  # every so many rows that are calls go through the program for aarch64
 LEAST = 1500  # rows of a program
 HELLO = f"{harness.TOP}/examples/hello"
 IMAGE = re.compile(r"^```dockerfile\n(FROM scratch\n.*?)^```$", re.MULTILINE | re.DOTALL)
@@ -160,7 +161,14 @@ def judge_packages(port):
 # ---- all
 
 
-def parts(folder, skip):
+def of_arm(rows, is_long):
+    """The rows that go through the program for aarch64."""
+    calls = {it.name for it in rows if asked.library.call_of(it)}
+    some = {name for name in sorted(calls)[::CALLS]}
+    return [it for it in rows if is_long or it.name in some or it.name not in calls]
+
+
+def parts(folder, skip, is_long):
     """All results. What is left out is told to `skip`."""
     static, arm, rows, way = f"{PORTS}/static/tmpl", f"{PORTS}/aarch64/tmpl", harness.read_rows(), way_into_roots()
     yield judge_rows("the static program", static, rows)
@@ -182,11 +190,11 @@ def parts(folder, skip):
         skip("qemu-aarch64 is not there, so what is for aarch64 was not run: install qemu-user")
         return
     yield judge_packages("aarch64")
-    yield judge_rows("the program for aarch64", by_qemu(folder, "arm", "qemu-aarch64", arm), rows)
+    yield judge_rows("the program for aarch64", by_qemu(folder, "arm", "qemu-aarch64", arm), of_arm(rows, is_long))
     yield judge_library(folder)
 
 
-def main():
+def main(words):
     targets = ["static", *["aarch64"] * bool(shutil.which("aarch64-linux-gnu-gcc")), "lib"]
     status, said = ran("make", "-s", "-C", harness.TOP, *targets)
     if status:
@@ -194,11 +202,11 @@ def main():
         return harness.closing(0, 1)
     skipped = []
     with tempfile.TemporaryDirectory() as folder:
-        passed, failed, runs = harness.tally(parts(folder, skipped.append))
+        passed, failed, runs = harness.tally(parts(folder, skipped.append, words == ["--long"]))
     failed += harness.too_few("cases were run", runs, LEAST)
     print(*(f"skipped: {it}" for it in skipped), f"{len(skipped)} parts were skipped", sep="\n")
     return harness.closing(passed, failed)
 
 
 if __name__ == "__main__":
-    sys.exit(main())
+    sys.exit(main(sys.argv[1:]))
