@@ -79,6 +79,7 @@ function settingsOf({ missingKey = "default", depth = 1000, steps = STEPS, print
 class Host {
     #module;
     #room = ROOM;
+    #view = {};
 
     constructor(module) {
         this.#module = module;
@@ -87,6 +88,13 @@ class Host {
     instance() {
         this.exports ??= new WebAssembly.Instance(this.#module).exports;
         return this.exports;
+    }
+
+    /** The memory, as bytes and as words of 64 bits. As it grows it becomes another one. */
+    view() {
+        const { buffer } = this.instance().memory;
+        if (this.#view.buffer !== buffer) this.#view = { buffer, bytes: new Uint8Array(buffer), words: new BigUint64Array(buffer) };
+        return this.#view;
     }
 
     /** Does what may throw errors of ours. Any other, as that the stack is at its end, is a trap. */
@@ -120,7 +128,7 @@ class Host {
             const [status, text, said] = this.lend([BUFFER, BUFFER, room, lineRoom], (lent) => {
                 lent.words(0, lent.at[2], room, 0, 0);
                 lent.words(1, lent.at[3], lineRoom, 0, 0);
-                return [call(lent.pointer(0), lent.pointer(1)), lent.taken(0), lent.taken(1)];
+                return [call(lent.pointer(0), lent.pointer(1)), lent.taken(0, 2), lent.taken(1, 3)];
             });
             if (status === OK) return text.bytes;
             const line = decoder.decode(said.bytes).replace(/\n$/, "");
@@ -160,19 +168,19 @@ class Lent {
     }
 
     put(part, bytes) {
-        new Uint8Array(this.#exports.memory.buffer, this.at[part], bytes.length).set(bytes);
+        this.#host.view().bytes.set(bytes, this.at[part]);
     }
 
     /** Writes words of 64 bits to a part. */
     words(part, ...words) {
-        new BigUint64Array(this.#exports.memory.buffer, this.at[part], words.length).set(words.map(BigInt));
+        const { words: all } = this.#host.view(), first = this.at[part] / 8;
+        for (let number = 0; number < words.length; number++) all[first + number] = BigInt(words[number]);
     }
 
-    /** What a buffer took, and how many bytes there were for it. */
-    taken(part) {
-        const { buffer } = this.#exports.memory;
-        const [at, , taken, needed] = new BigUint64Array(buffer, this.at[part], 4);
-        return { bytes: new Uint8Array(buffer, Number(at), Number(taken)).slice(), needed: Number(needed) };
+    /** What a buffer over another part took, and how many bytes there were for it. */
+    taken(part, over) {
+        const { bytes, words } = this.#host.view(), first = this.at[part] / 8, begin = this.at[over];
+        return { bytes: bytes.slice(begin, begin + Number(words[first + 2])), needed: Number(words[first + 3]) };
     }
 }
 

@@ -17,7 +17,7 @@ async function byTmpl() {
 }
 
 async function byHandlebars() {
-    const handlebars = createRequire("/usr/share/nodejs/")("handlebars");
+    const handlebars = createRequire(import.meta.url)("/usr/share/nodejs/handlebars"); // where Debian's package has it
     const compiled = handlebars.compile(text.toString()), read = JSON.parse(data);
     return how ? () => compiled(read) : () => handlebars.compile(text.toString())(JSON.parse(data));
 }
