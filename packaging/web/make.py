@@ -77,7 +77,8 @@ def make_wasm(module, to):
     with tempfile.TemporaryDirectory() as folder:
         objects = [compiled(module, folder), *(compiled_c(it, folder) for it in ("heap", "wide"))]
         shown = [f"--export={it}" for it in (*calls(), *OURS)]
-        flags = ["--no-entry", "--gc-sections", "--fatal-warnings", "--strip-all", "--stack-first", "-z", f"stack-size={STACK}", f"--max-memory={MOST}"]
+        flags = ["--no-entry", "--gc-sections", "--fatal-warnings", "--strip-all"]
+        flags += ["--stack-first", "-z", f"stack-size={STACK}", f"--max-memory={MOST}"]
         ran(f"{TOOLS}/ld.lld", "-flavor", "wasm", "-mwasm64", *flags, *shown, *objects, "-o", f"{folder}/wide.wasm")
         enabled = [f"--enable-{it}" for it in ("memory64", *LOWERED)]
         ran("wasm-opt", *enabled, "--memory64-lowering", f"{folder}/wide.wasm", "-o", to)

@@ -1,6 +1,7 @@
 "use strict";
 
 const SECONDS = 2; // that a run may take
+const STOPPED = `stopped: the run had not ended after ${SECONDS} seconds`;
 const PAUSE = 150; // milliseconds without a key before a run
 const SHOWN = 1 << 20; // bytes of output that are shown
 const TYPED = 1 << 18; // bytes of data that are put where one types; a field with more of them is slow, so they are held beside it
@@ -45,7 +46,7 @@ async function render(files, name, data, options) {
         asked.onerror = ({ message }) => end({ status: "failed", line: `this browser cannot run it: ${message}` });
         asked.onmessage = ({ data: told }) => {
             if (!told.isBegun) return answered(told);
-            clock = setTimeout(() => end({ status: "stopped", line: `stopped: the run had not ended after ${SECONDS} seconds` }), SECONDS * 1000);
+            clock = setTimeout(() => end({ status: "stopped", line: STOPPED }), SECONDS * 1000);
         };
         asked.postMessage({ module, files, name, data, options });
     });
@@ -118,12 +119,14 @@ async function linked(hash) {
 // ---- what is shown
 
 const lineHeight = () => parseFloat(getComputedStyle(at("template")).lineHeight);
+const padding = () => parseFloat(getComputedStyle(at("template")).paddingTop);
 const baseOf = (path) => path.slice(path.lastIndexOf("/") + 1);
 
 function showTabs() {
     const tabs = state.files.map(([path], number) => {
         const tab = document.createElement("button");
-        Object.assign(tab, { type: "button", id: `tab-${number}`, textContent: path || "no name", tabIndex: number === current ? 0 : -1 });
+        Object.assign(tab, { type: "button", id: `tab-${number}`, textContent: path || "no name" });
+        tab.tabIndex = number === current ? 0 : -1;
         tab.setAttribute("role", "tab");
         tab.setAttribute("aria-selected", number === current);
         tab.setAttribute("aria-controls", "panel");
@@ -134,7 +137,7 @@ function showTabs() {
     at("panel").setAttribute("aria-labelledby", `tab-${current}`);
     at("remove").hidden = state.files.length === 1;
     at("name").placeholder = baseOf(state.files[0][0]);
-    at("names").replaceChildren(...state.files.map(([path]) => Object.assign(document.createElement("option"), { value: baseOf(path) })));
+    at("names").replaceChildren(...state.files.map(([path]) => new Option("", baseOf(path))));
 }
 
 function showNumbers() {
@@ -149,7 +152,7 @@ function follow() {
     at("numbers").scrollTop = scrollTop;
     const fault = faultOf(answer);
     at("mark").hidden = fault?.file !== current;
-    if (fault) at("mark").style.top = `${(fault.line - 1) * lineHeight() + parseFloat(getComputedStyle(at("template")).paddingTop) - scrollTop}px`;
+    if (fault) at("mark").style.top = `${padding() + (fault.line - 1) * lineHeight() - scrollTop}px`;
 }
 
 function showFile() {
@@ -181,8 +184,8 @@ function faultOf(came) {
 }
 
 function toldOf({ status, text, took }) {
-    const size = `${text.length.toLocaleString("en")} bytes`;
-    if (status === 0) return `${state.printed ? "Printed" : "Rendered"} ${size} in ${took.toFixed(1)} ms.${text.length > SHOWN ? " Only the first part is shown." : ""}`;
+    const size = `${text.length.toLocaleString("en")} bytes`, rest = text.length > SHOWN ? " Only the first part is shown." : "";
+    if (status === 0) return `${state.printed ? "Printed" : "Rendered"} ${size} in ${took.toFixed(1)} ms.${rest}`;
     return text.length ? `The ${size} before the fault are shown.` : "";
 }
 

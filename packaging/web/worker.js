@@ -4,7 +4,9 @@
 let engine;
 
 /** The line of what went wrong; its text is what was put out before. */
-const answerTo = (error) => ({ status: error.status ?? error.name, line: error.line ?? String(error), text: error.text ?? new Uint8Array() });
+function answerTo(error) {
+    return { status: error.status ?? error.name, line: error.line ?? String(error), text: error.text ?? new Uint8Array() };
+}
 
 async function answered({ module, files, name, data, options }) {
     try {
