@@ -63,8 +63,8 @@ def altered(draw, text, other):
     """A text with one change, which may take a piece of another text."""
     begin, end = piece(draw, text)
     at, to = piece(draw, other)
-    middle = draw.choice((b"", text[begin:end] * 2, bytes([draw.choice(BYTES)]), text[begin:end] + bytes([draw.choice(BYTES)]), other[at:to]))
-    return text[:begin] + middle + text[end:]
+    one, byte = text[begin:end], bytes([draw.choice(BYTES)])
+    return text[:begin] + draw.choice((b"", one * 2, byte, one + byte, other[at:to])) + text[end:]
 
 
 def changed(draw, call, other):

@@ -2,6 +2,7 @@
 `bench_ports.py [--dry]`, as bench.py. Go's own template engine is compiled to WebAssembly too (GOOS=js) and run in Node beside ours, and so
 is Handlebars, an engine in JavaScript, where Debian's package is there."""
 import gzip
+import json
 import os
 import shutil
 import subprocess
@@ -15,6 +16,7 @@ from go import compare
 PORTS = f"{harness.TOP}/packaging/out"
 BEGIN, END = "<!-- made by `make bench`, ports: begin -->\n", "<!-- made by `make bench`, ports: end -->\n"
 HANDLEBARS = "/usr/share/nodejs/handlebars"
+HELLO = b"Hello, {{.user.name}}!\n"
 # The templates of bench.renders that are timed in Node, in Handlebars' own language.
 OTHERS = {
     "`examples/hello`": b"Hello, {{user.name}}!\n",
@@ -35,7 +37,8 @@ def bench_sizes(figures):
     figures.part("Sizes, and packed by gzip")
     names = {
         "the program of `make`, stripped": None, "the static program": "static/tmpl", "the program for aarch64": "aarch64/tmpl",
-        "the C library for aarch64, `libtmpl.so`": "aarch64/libtmpl.so", "the module of WebAssembly": "web/tmpl.wasm", "the page": "web/tmpl.html",
+        "the C library for aarch64, `libtmpl.so`": "aarch64/libtmpl.so", "the module of WebAssembly": "web/tmpl.wasm",
+        "the page": "web/tmpl.html",
     }
     with tempfile.TemporaryDirectory() as folder:
         for what, name in names.items():
@@ -52,12 +55,13 @@ def bench_static(figures, folder):
     go, static = bench.go_renderer(folder), f"{PORTS}/static/tmpl"
     figures.part("The static program, by whole processes" + (f", beside {bench.go_name()}" if go else ""))
     data = bench.write(f"{folder}/user", [b'{"user":{"name":"Ada"},"n":7}'])
-    for what, pieces, most in (("`examples/hello`", [b"Hello, {{.user.name}}!\n"], 0.3), ("100 definitions and a call of each", bench.definitions(100), 0.4)):
+    cases = [("`examples/hello`", [HELLO], 0.3), ("100 definitions and a call of each", bench.definitions(100), 0.4)]
+    for what, pieces, most in cases:
         file = bench.write(f"{folder}/template", pieces)
         runs = [[static, "--data", data, file], [harness.PROGRAM, "--data", data, file], *([[go, "render", file, data]] if go else [])]
         ours, linked, *theirs = bench.medians(101, *runs)
-        beside = f"Go {bench.with_memory(theirs[0])}; the program of `make` {bench.shown(linked[0])}" if theirs else f"the program of `make` {bench.shown(linked[0])}"
-        figures.row(what, bench.with_memory(ours), beside, ours[0] / theirs[0][0] if theirs else None, None, most)
+        beside = [f"the program of `make` {bench.shown(linked[0])}", *(f"Go {bench.with_memory(it)}" for it in theirs)]
+        figures.row(what, bench.with_memory(ours), "; ".join(beside), ours[0] / theirs[0][0] if theirs else None, None, most)
 
 
 def go_module(folder):
@@ -66,7 +70,8 @@ def go_module(folder):
     if not shutil.which(go):
         return None, None
     root = subprocess.run([go, "env", "GOROOT"], stdout=subprocess.PIPE, check=True, text=True).stdout.strip()
-    runner = next((it for it in (f"{root}/lib/wasm/wasm_exec_node.js", f"{root}/misc/wasm/wasm_exec_node.js") if os.path.exists(it)), None)
+    places = (f"{root}/{it}/wasm/wasm_exec_node.js" for it in ("lib", "misc"))  # of newer and of older ones
+    runner = next(filter(os.path.exists, places))
     module = f"{folder}/go.wasm"
     environment = {**os.environ, "GOOS": "js", "GOARCH": "wasm", "GO111MODULE": "off"}
     subprocess.run([go, "build", "-ldflags=-s -w", "-o", module, f"{harness.TESTS}/go/main.go"], env=environment, check=True)
@@ -84,7 +89,7 @@ def staged(folder):
 def bench_first(figures, folder, ours, go):
     """The first text, by whole processes of Node, less what Node itself takes to start."""
     node = shutil.which("node")
-    template, data = bench.write(f"{folder}/template", [b"Hello, {{.user.name}}!\n"]), bench.write(f"{folder}/user", [b'{"user":{"name":"Ada"}}'])
+    template, data = bench.write(f"{folder}/template", [HELLO]), bench.write(f"{folder}/user", [b'{"user":{"name":"Ada"}}'])
     other = bench.write(f"{folder}/other", [OTHERS["`examples/hello`"]])
     empty = bench.write(f"{folder}/empty.mjs", [b""])
     speed = [node, f"{harness.TESTS}/web/speed.mjs"]
@@ -104,10 +109,12 @@ def bench_web(figures, folder):
     ours, speed = staged(folder), f"{folder}/speed"
     library = f"{harness.TOP}/bindings/out/libtmpl.a"
     subprocess.run(["cc", "-O2", f"-I{harness.TOP}/bindings/c", f"{harness.TESTS}/speed.c", library, "-o", speed], check=True)
-    figures.part(f"In Node {subprocess.run(['node', '--version'], stdout=subprocess.PIPE, text=True).stdout.strip()[1:]}: the least, the median of 31 renders")
+    version = subprocess.run(["node", "--version"], stdout=subprocess.PIPE, text=True, check=True).stdout.strip()[1:]
+    figures.part(f"In Node {version}: the least, the median of 31 renders")
     if go:
-        figures.row("the size of the module, and packed", f"{size(f'{ours}/tmpl.wasm')}, {packed(f'{ours}/tmpl.wasm')}", f"Go {size(module)}, {packed(module)}",
-                    None, os.path.getsize(f"{ours}/tmpl.wasm") / os.path.getsize(module))
+        wasm = f"{ours}/tmpl.wasm"
+        factor = os.path.getsize(wasm) / os.path.getsize(module)
+        figures.row("the size of the module, and packed", f"{size(wasm)}, {packed(wasm)}", f"Go {size(module)}, {packed(module)}", None, factor)
     bench_first(figures, folder, ours, go)
     for name, pieces, held, *_ in bench.renders(folder):
         if name not in OTHERS:
@@ -124,6 +131,14 @@ def bench_web(figures, folder):
             figures.row(f"{name}, {how}", spelled["tmpl"], beside, told["tmpl"][1] / told["Go"][1] if go else None)
 
 
+def peers(folder):
+    found = [bench.go_name()] if bench.go_renderer(folder) else []
+    if os.path.isdir(HANDLEBARS):
+        with open(f"{HANDLEBARS}/package.json", encoding="utf-8") as it:
+            found.append(f"Handlebars {json.load(it)['version']}")
+    return ", ".join(found) or "none"
+
+
 def main(words):
     targets = ["static", "web", "lib", *["aarch64"] * bool(shutil.which("aarch64-linux-gnu-gcc"))]
     subprocess.run(["make", "-s", "-C", harness.TOP, *targets], check=True)
@@ -135,7 +150,7 @@ def main(words):
         bench_static(figures, folder)
         if shutil.which("node"):
             bench_web(figures, folder)
-        lines = [bench.head(bench.peers(folder)), "", *bench.HEADINGS, *figures.rows]
+        lines = [bench.head(peers(folder)), "", *bench.HEADINGS, *figures.rows]
     if "--dry" in words:
         print(*lines, sep="\n")
     else:

@@ -32,8 +32,8 @@ class Chromium:
                 os.dup2(it, to)
 
         words = [found(), *FLAGS, *sandbox, f"--user-data-dir={folder}/profile", "about:blank"]
-        environment = {**os.environ, "HOME": folder}
-        self.process = subprocess.Popen(words, close_fds=False, preexec_fn=place, env=environment, stdin=subprocess.DEVNULL, stdout=subprocess.DEVNULL, stderr=subprocess.DEVNULL)
+        how = dict.fromkeys(("stdin", "stdout", "stderr"), subprocess.DEVNULL)
+        self.process = subprocess.Popen(words, close_fds=False, preexec_fn=place, env={**os.environ, "HOME": folder}, **how)
         os.close(read), os.close(write)
         self.session = None
         target = next(it for it in self.ask("Target.getTargets")["targetInfos"] if it["type"] == "page")
@@ -104,9 +104,9 @@ class Chromium:
             time.sleep(0.02)
         return bool(is_so)
 
-    def press(self, key, code=0, text=None):
+    def press(self, key, code=0):
         for kind in ("keyDown", "keyUp"):
-            self.ask("Input.dispatchKeyEvent", type=kind, key=key, code=key, windowsVirtualKeyCode=code, **({"text": text} if text and kind == "keyDown" else {}))
+            self.ask("Input.dispatchKeyEvent", type=kind, key=key, code=key, windowsVirtualKeyCode=code)
 
     def type(self, text):
         self.ask("Input.insertText", text=text)

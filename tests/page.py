@@ -1,7 +1,7 @@
-"""Tries the page that `make web` makes, in a Chromium without a window, from its file: the rows that are calls, of up to 64 kB; what is typed,
-file by file, and by keys alone; each example; the line of a fault and its mark; an endless template; 10 MB of data; a link, which another
-page opens; what is kept; that nothing is fetched or sent; that each control has a name; and that a narrow page needs no scrolling to the
-side. And it is loaded from a server. web.py calls it. `page.py FOLDER` draws the page there: light, dark, with a fault and on a phone."""
+"""Tries the page that `make web` makes, in a Chromium without a window, from its file: the rows that are calls, of up to 64 kB; what is
+typed, file by file, and by keys alone; each example; the line of a fault and its mark; an endless template; 10 MB of data; a link, which
+another page opens; what is kept; that nothing is fetched or sent; that each control has a name; and that a narrow page needs no scrolling
+to the side. And it is loaded from a server. web.py calls it. `page.py FOLDER` draws the page there: light, dark, with a fault and on a phone."""
 import base64
 import functools
 import http.server
@@ -28,9 +28,17 @@ CALLS = """(async (calls) => {
     for (const [number, it] of calls.entries()) {
         const files = it.files.map((file) => file.map(bytes));
         const came = await tmpl.render(files, bytes(it.name), it.data ? bytes(it.data) : undefined, it.options);
-        if (came.status !== it.status || came.line !== it.line || spelled(came.text) !== it.text) wrong.push([number, came.status, came.line]);
+        const isRight = came.status === it.status && came.line === it.line && spelled(came.text) === it.text;
+        if (!isRight) wrong.push([number, came.status, came.line]);
     }
     return wrong;
+})"""
+# how far below the top of the template the mark is
+MARK = "['mark', 'template'].map((it) => document.getElementById(it).getBoundingClientRect().top).reduce((mark, top) => mark - top)"
+CHOOSE = """(([name, value, kind]) => {
+    const it = document.getElementById(name);
+    it.value = value;
+    it.dispatchEvent(new Event(kind));
 })"""
 # pastes a text as data
 PASTE = """((text) => {
@@ -56,6 +64,26 @@ def as_json(call):
     }
 
 
+OWN = ("file:", "blob:", "data:", "about:", "http://127.0.0.1:")  # addresses of the page and its parts
+REFUSED = "void ((globalThis.refused = []), addEventListener('securitypolicyviolation', (it) => refused.push(it.effectiveDirective)))"
+SENDERS = ["fetch", "Image", "WebSocket", "EventSource", "script", "iframe"]
+# tries to send something in one of these ways
+SEND = """((how) => new Promise((end) => {
+    const done = { onload: () => end("sent"), onopen: () => end("sent"), onerror: () => end("refused") };
+    const address = "https://example.org/?secret";
+    try {
+        if (how === "fetch") fetch(address).then(done.onload, done.onerror);
+        else if (how === "WebSocket") Object.assign(new WebSocket(address.replace("https", "wss")), done);
+        else if (how === "EventSource") Object.assign(new EventSource(address), done);
+        else if (how === "Image") Object.assign(new Image(), done, { src: address });
+        else document.body.append(Object.assign(document.createElement(how), how === "iframe" ? {} : done, { src: address }));
+        if (how === "iframe") setTimeout(() => end(refused.includes("frame-src") ? "refused" : "sent"), 500); // it loads a page of errors
+    } catch {
+        end("refused");
+    }
+}))"""
+
+
 class Page:
     """The page as a person uses it."""
 
@@ -73,6 +101,10 @@ class Page:
             self.browser.type(text)
         else:
             self.browser.press("Delete", 46)
+
+    def choose(self, name, value, kind="change"):
+        """Chooses one of a list."""
+        self.browser.value(f"{CHOOSE}({json.dumps([name, value, kind])})")
 
     def click(self, name):
         self.browser.value(f"document.getElementById('{name}').click()")
@@ -123,8 +155,7 @@ def judge_typing(page):
     page.put("template", 'one\ntwo\n{{define "end"}}, yours{{end}}{{end}}')
     wrong += page.comes("", "tmpl: end.tmpl:3: out of place")
     wrong += page.is_so("!document.getElementById('mark').hidden && document.getElementById('tab-1').classList.contains('wrong')")
-    mark = "document.getElementById('mark').getBoundingClientRect().top - document.getElementById('template').getBoundingClientRect().top"
-    wrong += page.is_so(f"Math.abs({mark} - 8 - 2 * parseFloat(getComputedStyle(document.getElementById('template')).lineHeight)) < 2")
+    wrong += page.is_so(f"Math.abs({MARK} - 8 - 2 * parseFloat(getComputedStyle(document.getElementById('template')).lineHeight)) < 2")
     page.click("go")
     wrong += page.is_so("document.activeElement.id === 'template' && document.getElementById('template').selectionStart === 8")
     page.put("template", '{{define "end"}}, yours{{end}}')
@@ -133,14 +164,15 @@ def judge_typing(page):
     wrong += page.comes(", yours")
     page.put("name", "")
     page.click("as-set")
-    set_of = '{{define "template"}}Dear {{.name}}{{template "end" .}}{{end}}', '{{define "end"}}, yours{{end}}', '{{define "end.tmpl"}}{{end}}'
-    wrong += page.comes("".join(f"{it}\n" for it in set_of))
+    printed = '{{define "template"}}Dear {{.name}}{{template "end" .}}{{end}}\n'
+    printed += '{{define "end"}}, yours{{end}}\n{{define "end.tmpl"}}{{end}}\n'
+    wrong += page.comes(printed)
     page.click("as-text")
     page.put("data", '{"name": 1.5}')
     wrong += page.comes("", "tmpl: data: number not whole or out of range")
     wrong += page.is_so("document.getElementById('data').getAttribute('aria-invalid') === 'true'")
     page.put("data", "{}")
-    page.browser.value("(() => { const it = document.getElementById('missing-key'); it.value = 'error'; it.dispatchEvent(new Event('input')); })()")
+    page.choose("missing-key", "error", "input")
     wrong += page.comes("Dear ", 'tmpl: template:1: in "template": no entry for key "name"')
     return "typing", 12, wrong
 
@@ -222,7 +254,7 @@ def judge_examples(page):
     wrong, rows = [], harness.read_examples()
     for row in rows:
         name = row.name.partition(": ")[2]
-        page.browser.value(f"(() => {{ const it = document.getElementById('example'); it.value = '{name}'; it.dispatchEvent(new Event('change')); }})()")
+        page.choose("example", name)
         wrong += page.comes(row.out.decode())
     page.click("back")
     return "the examples", len(rows), wrong
@@ -231,10 +263,11 @@ def judge_examples(page):
 def judge_names(page):
     """Each control has a name that is read out."""
     nodes = page.browser.ask("Accessibility.getFullAXTree")["nodes"]
-    of = lambda node, what: node.get(what, {}).get("value", "")
-    focusable = [it for it in nodes if not it.get("ignored") and any(p["name"] == "focusable" and p["value"]["value"] for p in it.get("properties", []))]
-    wrong = [f"    {of(it, 'role')} has no name" for it in focusable if of(it, "role") != "RootWebArea" and not of(it, "name")]
-    roles = {of(it, "role") for it in nodes if not it.get("ignored")}
+    nodes = [it for it in nodes if not it.get("ignored")]
+    role, name = (lambda node, what=what: node.get(what, {}).get("value", "") for what in ("role", "name"))
+    focusable = [it for it in nodes if any(at["name"] == "focusable" and at["value"]["value"] for at in it.get("properties", []))]
+    wrong = [f"    {role(it)} has no name" for it in focusable if role(it) != "RootWebArea" and not name(it)]
+    roles = set(map(role, nodes))
     wrong += [f"    there is no {it}" for it in ("main", "tab", "tabpanel", "tablist", "status", "heading") if it not in roles]
     return "the names of controls", len(focusable), wrong
 
@@ -251,21 +284,15 @@ def judge_narrow(page):
 
 def judge_policy(page):
     """The page can send nothing, and fetched nothing but itself."""
-    tries = {
-        "fetch": "fetch('https://example.org/').then(() => 'sent', () => 'refused')",
-        "an image": "new Promise((end) => { const it = new Image(); it.onload = () => end('sent'); it.onerror = () => end('refused'); it.src = 'https://example.org/i.png'; })",
-        "a socket": "new Promise((end) => { try { const it = new WebSocket('wss://example.org/'); it.onopen = () => end('sent'); it.onerror = () => end('refused'); } catch { end('refused'); } })",
-        "a script": "new Promise((end) => { const it = document.createElement('script'); it.onload = () => end('sent'); it.onerror = () => end('refused'); it.src = 'https://example.org/s.js'; document.head.append(it); })",
-    }
-    said = "JSON.stringify((globalThis.refused ??= [], addEventListener('securitypolicyviolation', (it) => refused.push(it.effectiveDirective))))"
-    page.browser.value(said)
-    wrong = [f"    {what}: {came}" for what, it in tries.items() if (came := page.browser.value(it)) != "refused"]
+    told = page.browser.events
+    sent = [it["params"]["request"]["url"] for it in told if it.get("method") == "Network.requestWillBeSent"]
+    wrong = [f"    it fetched {it[:100]}" for it in sent if not it.startswith(OWN)]
+    logged = [it["params"]["entry"] for it in told if it.get("method") == "Log.entryAdded"]
+    wrong += [f"    it logged {it}" for it in logged if it["level"] == "error"]
+    page.browser.value(f"{REFUSED}")
+    wrong += [f"    {it}: it is not refused" for it in SENDERS if page.browser.value(f"{SEND}({json.dumps(it)})") != "refused"]
     wrong += page.is_so("new Set(refused).size >= 3")
-    sent = [it["params"]["request"]["url"] for it in page.browser.events if it.get("method") == "Network.requestWillBeSent"]
-    wrong += [f"    it fetched {it[:100]}" for it in sent if not it.startswith(("file:", "blob:", "data:", "http://127.0.0.1:", "about:", "https://example.org/"))]
-    faults = [it["params"]["entry"]["text"] for it in page.browser.events if it.get("method") == "Log.entryAdded" and it["params"]["entry"]["level"] == "error"]
-    wrong += [f"    it logged {it}" for it in faults if "Content Security Policy" not in it and "favicon" not in it]
-    return "nothing is sent", len(tries), wrong
+    return "nothing is sent", len(SENDERS), wrong
 
 
 class Quiet(http.server.SimpleHTTPRequestHandler):
@@ -310,14 +337,15 @@ def look(to):
     with tempfile.TemporaryDirectory() as folder, chromium.Chromium(folder) as browser:
         page = Page(browser)
         page.open()
-        for name, how in (("light", {}), ("dark", {"is_dark": True}), ("phone", {"width": 375, "height": 800}), ("phone-dark", {"width": 375, "height": 800, "is_dark": True})):
+        dark, phone = {"is_dark": True}, {"width": 375, "height": 800}
+        for name, how in (("light", {}), ("dark", dark), ("phone", phone), ("phone-dark", {**phone, **dark})):
             browser.look(f"{to}/{name}.png", **how)
-        page.browser.value("(() => { const it = document.getElementById('example'); it.value = 'library'; it.dispatchEvent(new Event('change')); })()")
+        page.choose("example", "library")
         page.comes(next(it for it in harness.read_examples() if it.name.endswith("library")).out.decode())
         browser.look(f"{to}/example.png")
         page.put("template", "{{range .}}\n{{if}}\n{{end}}")
         page.is_so("!document.getElementById('mark').hidden")
-        for name, how in (("fault", {}), ("fault-dark", {"is_dark": True}), ("fault-phone", {"width": 375, "height": 800})):
+        for name, how in (("fault", {}), ("fault-dark", dark), ("fault-phone", phone)):
             browser.look(f"{to}/{name}.png", **how)
 
 

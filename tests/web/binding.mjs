@@ -33,7 +33,8 @@ const hello = { "hello.tmpl": "Hello, {{.name}}!" }, greeted = "Hello, Ada!", ad
 const utf8 = new TextEncoder();
 tries("files as an object", () => engine.render(hello, "hello.tmpl", ada), greeted);
 tries("files as a Map", () => engine.render(new Map(Object.entries(hello)), "hello.tmpl", ada), greeted);
-tries("files as pairs of bytes", () => engine.render([[utf8.encode("a/hello.tmpl"), utf8.encode("Hello, {{.name}}!")]], "hello.tmpl", ada), greeted);
+const pairs = Object.entries(hello).map(([path, what]) => [utf8.encode(`a/${path}`), utf8.encode(what)]);
+tries("files as pairs of bytes", () => engine.render(pairs, "hello.tmpl", ada), greeted);
 tries("the name of the first file is its last part", () => engine.render([["a/b", "one"], ["c", "two"]]), "one");
 tries("a later file replaces", () => engine.render([["a", "one"], ["b/a", "two"]]), "two");
 tries("no file", () => engine.render({}), ["TemplateError", 'tmpl: no template ""', 4, ""]);
@@ -41,31 +42,41 @@ tries("data as bytes are JSON", () => engine.render({ m: "{{.}}" }, "m", utf8.en
 tries("a text is data", () => engine.render({ m: "{{.}}" }, "m", "[1,2]"), "[1,2]");
 tries("null is data", () => engine.render({ m: "{{if .}}yes{{else}}{{.}}{{end}}" }, "m", null), "<no value>");
 tries("no data", () => engine.render({ m: "{{.a}}" }, "m"), "<no value>");
-tries("a number that is not whole", () => engine.render({ m: "x" }, "m", [1.5]), ["TemplateError", "tmpl: data: number not whole or out of range", 5, ""]);
+const broken = ["TemplateError", "tmpl: data: number not whole or out of range", 5, ""];
+tries("a number that is not whole", () => engine.render({ m: "x" }, "m", [1.5]), broken);
 tries("a mark of the order of bytes stays", () => engine.render({ m: "\ufeff{{.}}" }, "m", "\ufeff"), "\ufeff\ufeff");
 tries("bytes that are no text", () => engine.render({ m: Uint8Array.of(0xff, 0x61) }, "m"), "\ufffda");
 tries("bytes that are no text, as bytes", () => [...engine.renderBytes({ m: Uint8Array.of(0xff, 0x61) }, "m")], [0xff, 0x61]);
-tries("the text before a fault", () => engine.render({ m: "before {{index . 7}}" }, "m", [1]), ["TemplateError", 'tmpl: m:1: in "m": index: out of range', 1, "before "]);
-tries("the name of a file is no UTF-8", () => engine.render([[Uint8Array.of(0xff), ""]]), ["TemplateError", "tmpl: arguments refused; see tmpl --help", 2, ""]);
-tries("a line longer than the room for it", () => cameOf(() => engine.render({ m: `{{template "${"x".repeat(9000)}"}}` }))[1].length, 9000 + 'tmpl: m:1: in "m": no template ""'.length);
+const beyond = ["TemplateError", 'tmpl: m:1: in "m": index: out of range', 1, "before "];
+tries("the text before a fault", () => engine.render({ m: "before {{index . 7}}" }, "m", [1]), beyond);
+const nameless = ["TemplateError", "tmpl: arguments refused; see tmpl --help", 2, ""];
+tries("the name of a file is no UTF-8", () => engine.render([[Uint8Array.of(0xff), ""]]), nameless);
+const long = "x".repeat(9000);
+tries("a line longer than the room for it", () => engine.render({ m: `{{template "${long}"}}` }),
+    ["TemplateError", `tmpl: m:1: in "m": no template "${long}"`, 1, ""]);
 tries("a text longer than the room for it", () => engine.render({ m: "{{range 300000}}{{.}} {{end}}" }).length, 1988890);
 
 // ---- options
 
-tries("a missing key", () => engine.render(hello, "hello.tmpl", {}, { missingKey: "error" }), ["TemplateError", 'tmpl: hello.tmpl:1: in "hello.tmpl": no entry for key "name"', 1, "Hello, "]);
-tries("a mode that is not there", () => engine.render(hello, "hello.tmpl", {}, { missingKey: "eror" }), ["RangeError", "missingKey is eror"]);
-tries("no steps", () => engine.render(hello, "hello.tmpl", {}, { steps: 0 }), ["RangeError", "steps is 0"]);
-tries("too deep", () => engine.render(hello, "hello.tmpl", {}, { depth: 100_001 }), ["RangeError", "depth is 100001"]);
-tries("steps as a bigint", () => engine.render({ m: "{{range 9}}{{end}}" }, "m", {}, { steps: 5n }), ["TemplateError", 'tmpl: m:1: in "m": more than 5 steps', 1, ""]);
-tries("steps are bounded", () => engine.render({ m: "{{range 100000000}}{{end}}" }), ["TemplateError", 'tmpl: m:1: in "m": more than 10000000 steps', 1, ""]);
-tries("the printed set", () => engine.render({ m: "{{ .a }}" }, undefined, undefined, { printed: true }), '{{define "m"}}{{.a}}{{end}}\n');
+const greet = (options) => () => engine.render(hello, "hello.tmpl", {}, options);
+tries("a missing key", greet({ missingKey: "error" }),
+    ["TemplateError", 'tmpl: hello.tmpl:1: in "hello.tmpl": no entry for key "name"', 1, "Hello, "]);
+tries("a mode that is not there", greet({ missingKey: "eror" }), ["RangeError", "missingKey is eror"]);
+tries("no steps", greet({ steps: 0 }), ["RangeError", "steps is 0"]);
+tries("too deep", greet({ depth: 100_001 }), ["RangeError", "depth is 100001"]);
+const spent = (steps) => ["TemplateError", `tmpl: m:1: in "m": more than ${steps} steps`, 1, ""];
+tries("steps as a bigint", () => engine.render({ m: "{{range 9}}{{end}}" }, "m", {}, { steps: 5n }), spent(5));
+tries("steps are bounded", () => engine.render({ m: "{{range 100000000}}{{end}}" }), spent(10_000_000));
+const printed = { printed: true };
+tries("the printed set", () => engine.render({ m: "{{ .a }}" }, undefined, undefined, printed), '{{define "m"}}{{.a}}{{end}}\n');
 
 // ---- templates that are kept
 
 const kept = engine.templates({ a: "one {{.}}" });
-tries("kept: a file is refused", () => kept.add("b", '{{define "a"}}two{{end}}{{'), ["TemplateError", "tmpl: b:1: unclosed or unreadable action", 4, ""]);
+const unread = (path) => ["TemplateError", `tmpl: ${path}:1: unclosed or unreadable action`, 4, ""];
+tries("kept: a file is refused", () => kept.add("b", '{{define "a"}}two{{end}}{{'), unread("b"));
 tries("kept: the set is as it was", () => kept.render("a", 1), "one 1");
-tries("kept: data is refused", () => kept.render("a", [1.5]), ["TemplateError", "tmpl: data: number not whole or out of range", 5, ""]);
+tries("kept: data is refused", () => kept.render("a", [1.5]), broken);
 tries("kept: the same data again", () => kept.render("a", 1), "one 1");
 tries("kept: no data", () => kept.render("a"), "one <no value>");
 const lent = Uint8Array.of(0x31);
@@ -75,12 +86,12 @@ tries("kept: the bytes are others now", () => kept.render("a", lent), "one 2");
 tries("kept: the first file's name", () => kept.render(undefined, 3), "one 3");
 tries("kept: a file after it", () => kept.add("c", '{{define "a"}}three {{.}}{{end}}'), undefined);
 tries("kept: it replaces the first", () => kept.render("a", 1), "three 1");
-tries("kept: the printed set", () => kept.render("", undefined, { printed: true }), '{{define "a"}}three {{.}}{{end}}\n{{define "c"}}{{end}}\n');
+tries("kept: the printed set", () => kept.render("", undefined, printed), '{{define "a"}}three {{.}}{{end}}\n{{define "c"}}{{end}}\n');
 tries("kept: freed", () => kept.close(), undefined);
 tries("kept: freed twice", () => kept.close(), undefined);
 tries("kept: nothing is there", () => kept.render("a", 1), ["TemplateError", 'tmpl: no template "a"', 4, ""]);
 tries("kept: filled again", () => (kept.add("a", "four {{.}}"), kept.render()), "four <no value>");
-tries("kept: a refused file among the first", () => engine.templates({ a: "{{" }), ["TemplateError", "tmpl: a:1: unclosed or unreadable action", 4, ""]);
+tries("kept: a refused file among the first", () => engine.templates({ a: "{{" }), unread("a"));
 
 // ---- the module
 
@@ -95,15 +106,20 @@ check("it imports nothing", WebAssembly.Module.imports(new WebAssembly.Module(by
 
 /** The module with so many pages of memory at most, in the place of its own limit, which takes three bytes. */
 function limited(pages) {
-    const made = Buffer.from(bytes), number = (at) => { let it = 0, shift = 0; do { it |= (made[at] & 0x7f) << shift; shift += 7; } while (made[at++] & 0x80); return [it, at]; };
-    for (let at = 8; at < made.length; ) {
-        const kind = made[at], [size, begin] = number(at + 1);
-        if (kind === 5) { // one memory, with a limit, of so many pages at first
-            const [, place] = number(begin + 2);
-            made.set([(pages & 0x7f) | 0x80, ((pages >> 7) & 0x7f) | 0x80, pages >> 14], place);
+    const made = Buffer.from(bytes);
+    let at = 8;
+    function number() {
+        for (let it = 0, shift = 0; ; shift += 7) {
+            it |= (made[at] & 0x7f) << shift;
+            if (!(made[at++] & 0x80)) return it;
         }
-        at = begin + size;
     }
+    while (made[at++] !== 5) { // that is the section of memories
+        const size = number();
+        at += size;
+    }
+    for (let skipped = 0; skipped < 4; skipped++) number(); // its size, one memory, with a limit, of so many pages at first
+    made.set([(pages & 0x7f) | 0x80, ((pages >> 7) & 0x7f) | 0x80, pages >> 14], at);
     return made;
 }
 
@@ -137,17 +153,17 @@ check("nothing else was told there", [...seen].filter((it) => !["RangeError", "T
 check("the errors are errors", [TemplateError, MemoryError, TrapError].map((it) => it.prototype instanceof Error), [true, true, true]);
 
 // All memory of calls is given back: many calls of each kind need no more than the first ones.
-const long = await load(limited(256));
+const roomy = await load(limited(256));
 for (let time = 0; time < 3000; time++) {
     const [text, list] = ["{{.}} ".repeat(time % 50), Array.from({ length: time % 97 }, (_, it) => `${it}`.repeat(time % 31))];
-    const held = long.templates({ a: text, b: text });
+    const held = roomy.templates({ a: text, b: text });
     cameOf(() => held.render("a", list));
     cameOf(() => held.add("c", "{{"));
     cameOf(() => held.render("b", "x".repeat(time)));
-    cameOf(() => long.render({ a: `${text}{{index . 1000}}` }, "a", list));
+    cameOf(() => roomy.render({ a: `${text}{{index . 1000}}` }, "a", list));
     held.close();
 }
-tries("all memory is given back", () => long.render({ m: "x".repeat(2_000_000) }).length, 2_000_000);
+tries("all memory is given back", () => roomy.render({ m: "x".repeat(2_000_000) }).length, 2_000_000);
 
 // Blocks that the heap lends, in a random order: none lies over another, each holds what was put there, and all of them come back.
 const { memory, memory_take, memory_give } = new WebAssembly.Instance(new WebAssembly.Module(limited(256))).exports;
