@@ -14,6 +14,10 @@ SOURCES = crates.txt HANDLES $(shell find $(wildcard crates/*/src crates/*/specs
 HELLO = ../../examples/hello
 OBJCOPY ?= objcopy
 QUOTES = $(addprefix examples/quotes/,quotes.tmpl data.tmpl texts.tmpl)
+# where packaging/ports.mk puts what is built for other places
+STATIC = packaging/out/static/tmpl
+ARM = packaging/out/aarch64
+WEB = packaging/out/web
 # the first line of each recipe that needs the toolchain
 NEEDS_RT = command -v rt > /dev/null || { echo "rt is missing: it is the command of the toolchain of Rattle, with which the \
 program is proved and built. Put it on the PATH, or install a package that was made where it is." >&2; false; }
@@ -38,7 +42,8 @@ test:
 		"python3 tests/fronts.py" "python3 tests/print.py" "python3 tests/draws.py" "python3 tests/calls.py" \
 		"python3 tests/kept.py" "python3 tests/code.py" "python3 tests/pieces.py" "python3 tests/writes.py" \
 		"python3 tests/sweep.py" "python3 tests/memory.py" "python3 tests/counts.py" "python3 tests/strangers.py" \
-		"python3 tests/made.py" "python3 tests/quotes.py" "python3 tests/documents.py" "python3 tests/library.py"
+		"python3 tests/made.py" "python3 tests/quotes.py" "python3 tests/documents.py" "python3 tests/library.py" \
+		"python3 tests/ports.py" "python3 tests/web.py"
 
 # proves the engine as a C library and builds it: bindings/out/libtmpl.a and libtmpl.so
 lib: $(STATIC_LIBRARY) $(SHARED_LIBRARY)
@@ -58,9 +63,10 @@ edits:
 	@$(NEEDS_RT)
 	python3 tests/edits.py $${CRATE:+"$$CRATE"}
 
-# times the program and the C library beside others
+# times the program, the C library and what is built for other places beside others
 bench: $(PROGRAM) $(PROBE) lib
 	python3 tests/bench.py
+	python3 tests/bench_ports.py
 
 # fuzzes the C library by coverage, 10,000,000 inputs, and holds what was kept against meaning.py; it needs clang with libFuzzer
 fuzz: $(PROGRAM) $(PROVED_LIBRARY)
@@ -102,14 +108,18 @@ uninstall:
 		include/tmpl.h lib/libtmpl.a lib/libtmpl.so lib/$(SONAME) lib/pkgconfig/tmpl.pc
 	rm -rf "$$DESTDIR$$PREFIX/share/tmpl" "$$DESTDIR$$PREFIX/share/doc/tmpl"
 
-# packs what `make install` copies as a tar, with its SHA-256, and what `make install-lib` copies where the library is built
-dist: $(PROGRAM)
+# packs what `make install` copies, and the C library where it is built, as a tar with its SHA-256; the same of the ports
+dist: $(PROGRAM) $(STATIC)
 	@$(NEEDS_RT)
 	python3 packaging/make.py tar
+	python3 packaging/make.py tar static
+	! $(MAKE) -q aarch64 || python3 packaging/make.py tar aarch64
 
-# packs the same as a Debian package; then installs it into a root of its own, runs it and removes it
-deb: $(PROGRAM)
-	package=$$(python3 packaging/make.py deb) && echo "$$package" && packaging/try.sh "$$package"
+# packs the static program, and that for aarch64 where it is built, as Debian packages; installs each into a root of its own and runs it
+deb: $(STATIC)
+	@$(NEEDS_RT)
+	for port in static $$(! $(MAKE) -q aarch64 || echo aarch64); do \
+		package=$$(python3 packaging/make.py deb $$port) && echo "$$package" && packaging/try.sh "$$package" || exit 1; done
 
 # packs the binding for Python with the C library as a wheel; then installs it into a folder of its own, runs it and removes it
 wheel: lib
@@ -117,8 +127,8 @@ wheel: lib
 
 # lists the targets
 help:
-	@awk '/^# / { said = substr($$0, 3) } /^[a-z-]+:/ && said { split($$1, name, ":"); \
-		printf "make %-13s %s\n", name[1], said } !/^#/ { said = "" }' Makefile
+	@awk '/^# / { said = substr($$0, 3) } /^[a-z0-9-]+:/ && said { split($$1, name, ":"); \
+		printf "make %-13s %s\n", name[1], said } !/^#/ { said = "" }' $(MAKEFILE_LIST)
 
 $(PROGRAM): $(SOURCES)
 	@$(NEEDS_RT)
@@ -137,17 +147,27 @@ $(PROVED_LIBRARY): $(SOURCES)
 	cd crates/tmpl_c && rt lib >&2
 	@touch $@
 
-# one object in which no name but those of the header can be seen, with the heap
+# one object of what is proved and the heap, in which no name but those of the header can be seen, as an archive
+define one_object
+$(CC) -O2 -fPIC -Wall -Wextra -c bindings/c/heap.c -o $(@D)/heap.o
+$(LD) -r -o $(@D)/tmpl.o --whole-archive $< --no-whole-archive $(@D)/heap.o
+$(OBJCOPY) --wildcard --keep-global-symbol='tmpl_*' $(@D)/tmpl.o
+rm -f $@ && $(AR) rcs $@ $(@D)/tmpl.o
+endef
+
+define shared_object
+$(CC) -shared -o $@ -Wl,--whole-archive $< -Wl,--no-whole-archive -Wl,-soname,$(SONAME) \
+	-Wl,--version-script=bindings/c/tmpl.map -Wl,-z,defs
+endef
+
 $(STATIC_LIBRARY): $(PROVED_LIBRARY) bindings/c/heap.c
-	mkdir -p bindings/out
-	$(CC) -O2 -fPIC -Wall -Wextra -c bindings/c/heap.c -o bindings/out/heap.o
-	$(LD) -r -o bindings/out/tmpl.o --whole-archive $(PROVED_LIBRARY) --no-whole-archive bindings/out/heap.o
-	$(OBJCOPY) --wildcard --keep-global-symbol='tmpl_*' bindings/out/tmpl.o
-	rm -f $@ && $(AR) rcs $@ bindings/out/tmpl.o
+	mkdir -p $(@D)
+	$(one_object)
 
 $(SHARED_LIBRARY): $(STATIC_LIBRARY) bindings/c/tmpl.map
-	$(CC) -shared -o $@ -Wl,--whole-archive $(STATIC_LIBRARY) -Wl,--no-whole-archive -Wl,-soname,$(SONAME) \
-		-Wl,--version-script=bindings/c/tmpl.map -Wl,-z,defs
+	$(shared_object)
 	ln -sf libtmpl.so bindings/out/$(SONAME)
+
+include packaging/ports.mk
 
 .PHONY: build demo test lib test-bindings install-lib check edits bench fuzz compare install uninstall dist deb wheel help

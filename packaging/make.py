@@ -1,10 +1,15 @@
 """Packs the program that is built, with man pages, completions, templates for quoting and documents: `make.py tar` as a tar with its
-SHA-256, and with the C library and its header where these are built, as the name says then; `make.py deb` as a Debian package. `make.py wheel` packs the
-binding for Python with the C library. All go to `packaging/out`, and are named by the commit, the tar also by the logic that the program
-is proved with. `make dist`, `make deb` and `make wheel` call it once what they pack is proved. The same tree gives the same bytes."""
+SHA-256, and with the C library and its header where these are built, as the name says then. `make.py tar static` and `make.py tar aarch64`
+pack so the static program, and the one for aarch64 with its library; `make.py deb static` and `make.py deb aarch64` pack these two programs
+as Debian packages, which then need no other. `make.py wheel` packs the binding for Python with the C library, and `make.py npm` that for
+JavaScript with the module of WebAssembly. All go to `packaging/out`, and are named by the commit, the tars also by the logic that the
+program is proved with. `make dist`, `make deb`, `make wheel` and `make npm` call it once what they pack is built. The same tree gives the
+same bytes."""
 import base64
+import collections
 import gzip
 import hashlib
+import json
 import os
 import re
 import shutil
@@ -18,15 +23,21 @@ import zipfile
 HERE = os.path.dirname(os.path.abspath(__file__))
 TOP = os.path.dirname(HERE)
 OUT = f"{HERE}/out"
-LIBC = "2.34"  # the oldest C library on which the program runs
-OLDEST = 2, 17  # the oldest for which there are wheels
+OLDEST = 2, 17  # the oldest C library for which there are wheels
+# A program besides the one that `make` builds, how a tar and Debian name where it runs, and whether a library is built with it.
+Port = collections.namedtuple("Port", "program system architecture has_library")
+PORTS = {
+    "static": Port(f"{OUT}/static/tmpl", "x86_64-linux-static", "amd64", False),
+    "aarch64": Port(f"{OUT}/aarch64/tmpl", "aarch64-linux", "arm64", True),
+}
 ABOUT = "renders templates in the language of Go's text/template"
 DESCRIPTION = f"""\
 Description: {ABOUT}
  tmpl renders templates in the language of Go's text/template (Go 1.22)
  with data from a JSON file. What it answers depends on its command line
  and its files alone, by a written definition, and a checker proves that
- the program follows it. The processor must have x86-64-v2.
+ the program follows it. It is linked statically, for each processor of
+ the architecture.
 """
 COPYRIGHT = """\
 Format: https://www.debian.org/doc/packaging-manuals/copyright-format/1.0/
@@ -76,6 +87,11 @@ def version():
     return f"0~git{day}.{number}" + "+changed" * bool(is_changed)
 
 
+def parted_version():
+    """The day, the number and the mark of a change, of which others make versions by their own rules."""
+    return re.fullmatch(r"0~git(\d+)\.([0-9a-f]+)(\+changed)?", version()).groups()
+
+
 def seconds():
     """When the commit was made: the time of each file."""
     return int(told("git", "log", "-1", "--format=%ct"))
@@ -94,10 +110,13 @@ def make(*words):
     return ["make", "--no-print-directory", "-s", *words]
 
 
-def place(folder, prefix):
-    """Installs into a folder, under a prefix, as `make install` does."""
+def place(folder, prefix, port):
+    """Installs into a folder, under a prefix, as `make install` does; with the program of a port, if that is asked for."""
     subprocess.run(make("install", f"DESTDIR={folder}", f"PREFIX={prefix}"), cwd=TOP, check=True)
     program = f"{folder}{prefix}/bin/tmpl"
+    if port:  # the linker stripped it
+        shutil.copy(PORTS[port].program, program)
+        return
     if not shutil.which("strip"):
         sys.exit("strip is not there: install binutils")
     subprocess.run(["strip", "--strip-all", "--remove-section=.comment", program], check=True)
@@ -108,9 +127,11 @@ def has_library():
     return not subprocess.run([*make("lib"), "-q"], cwd=TOP, stderr=subprocess.DEVNULL, check=False).returncode
 
 
-def place_library(folder, prefix):
+def place_library(folder, prefix, port):
     """The same with the C library, its header and what pkg-config reads."""
     subprocess.run(make("install-lib", f"DESTDIR={folder}", f"PREFIX={prefix}"), cwd=TOP, check=True)
+    for name in ("libtmpl.a", "libtmpl.so") if port else ():
+        shutil.copy(f"{OUT}/{port}/{name}", os.path.realpath(f"{folder}{prefix}/lib/{name}"))
     path = f"{folder}{prefix}/lib/pkgconfig/tmpl.pc"
     with open(path, encoding="utf-8") as it:
         text = it.read()
@@ -136,14 +157,15 @@ def owned_by_root(it):
     return it
 
 
-def tar():
+def tar(port=None):
     """The tar, and its sum beside it."""
-    is_whole = has_library()
-    name = f"tmpl-{version().replace('0~git', '')}-{logic()}-x86_64-linux{'-with-library' * is_whole}"
+    is_whole = PORTS[port].has_library if port else has_library()
+    system = PORTS[port].system if port else "x86_64-linux"
+    name = f"tmpl-{version().replace('0~git', '')}-{logic()}-{system}{'-with-library' * is_whole}"
     with tempfile.TemporaryDirectory() as room:
-        place(room, f"/{name}")
+        place(room, f"/{name}", port)
         if is_whole:
-            place_library(room, f"/{name}")
+            place_library(room, f"/{name}", port)
         settle(f"{room}/{name}")
         path = f"{OUT}/{name}.tar.gz"
         with open(path, "wb") as it, gzip.GzipFile("", "wb", 9, it, seconds()) as packed:
@@ -184,10 +206,11 @@ def as_debian(room):
     os.remove(changes)
 
 
-def deb():
+def deb(port):
     """The Debian package."""
+    architecture = PORTS[port].architecture
     with tempfile.TemporaryDirectory() as room:
-        place(room, "/usr")
+        place(room, "/usr", port)
         as_debian(room)
         files = sorted(os.path.join(at, it) for at, _, its in os.walk(room) for it in its)
         size = sum(-(-os.path.getsize(it) // 1024) for it in files)
@@ -196,14 +219,13 @@ def deb():
         with open(f"{room}/DEBIAN/md5sums", "w", encoding="utf-8") as it:
             it.writelines(sums)
         fields = {
-            **{"Package": "tmpl", "Version": version(), "Architecture": "amd64", "Section": "text", "Priority": "optional"},
-            **{"Maintainer": maker(), "Depends": f"libc6 (>= {LIBC})"},
-            "Installed-Size": str(size),
+            **{"Package": "tmpl", "Version": version(), "Architecture": architecture, "Section": "text", "Priority": "optional"},
+            **{"Maintainer": maker(), "Installed-Size": str(size)},
         }
         with open(f"{room}/DEBIAN/control", "w", encoding="utf-8") as it:
             it.write("".join(f"{name}: {value}\n" for name, value in fields.items()) + DESCRIPTION)
         settle(room)
-        path = f"{OUT}/tmpl_{version()}_amd64.deb"
+        path = f"{OUT}/tmpl_{version()}_{architecture}.deb"
         environment = {**os.environ, "SOURCE_DATE_EPOCH": str(seconds())}
         words = ["dpkg-deb", "--root-owner-group", "-Zxz", "--build", room, path]
         subprocess.run(words, env=environment, stdout=subprocess.DEVNULL, check=True)
@@ -229,7 +251,7 @@ def platform_of(library):
 
 def wheel():
     """The binding for Python with the C library, as pip installs it."""
-    day, number, changed = re.fullmatch(r"0~git(\d+)\.([0-9a-f]+)(\+changed)?", version()).groups()
+    day, number, changed = parted_version()
     name = f"0.dev{day}+{number}{'.changed' * bool(changed)}"
     about = f"tmpl-{name}.dist-info"
     page = bytes_of(f"{TOP}/bindings/python/README.md")
@@ -250,14 +272,31 @@ def wheel():
     return path
 
 
+def npm():
+    """The module of WebAssembly with the binding for JavaScript, as npm installs it."""
+    source = f"{TOP}/bindings/javascript"
+    with tempfile.TemporaryDirectory() as room:
+        for name in ("tmpl.mjs", "node.mjs", "tmpl.d.ts", "README.md"):
+            shutil.copy(f"{source}/{name}", room)
+        shutil.copy(f"{OUT}/web/tmpl.wasm", room)
+        day, number, changed = parted_version()
+        about = json.loads(bytes_of(f"{source}/package.json"))
+        about["version"] = f"0.0.0-{day}.g{number}{'.changed' * bool(changed)}"
+        with open(f"{room}/package.json", "w", encoding="utf-8") as it:
+            json.dump(about, it, indent=2)
+        words = ["npm", "pack", "--silent", "--offline", "--ignore-scripts", f"--cache={room}/.cache", f"--pack-destination={OUT}"]
+        packed = subprocess.run(words, cwd=room, stdout=subprocess.PIPE, check=True, text=True).stdout.split()
+    return f"{OUT}/{packed[-1]}"
+
+
 def main(words):
-    kinds = {"tar": tar, "deb": deb, "wheel": wheel}
-    if len(words) != 1 or words[0] not in kinds:
-        sys.exit("usage: make.py tar|deb|wheel")
+    kinds = {"tar": tar, "deb": deb, "wheel": wheel, "npm": npm}
+    if words not in [["tar"], ["wheel"], ["npm"], *([kind, port] for kind in ("tar", "deb") for port in PORTS)]:
+        sys.exit("usage: make.py tar | tar static|aarch64 | deb static|aarch64 | wheel | npm")
     if not shutil.which("git") or subprocess.run(["git", "rev-parse"], cwd=TOP, stderr=subprocess.DEVNULL, check=False).returncode:
         sys.exit("packages are named by the commit: this is no checkout of Git, or Git is not there")
     os.makedirs(OUT, exist_ok=True)
-    print(kinds[words[0]]())
+    print(kinds[words[0]](*words[1:]))
 
 
 if __name__ == "__main__":

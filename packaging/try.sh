@@ -1,6 +1,6 @@
 #!/usr/bin/env bash
 # Installs a Debian package into a root of its own, runs what it placed, removes it, and looks whether a file is left.
-# Without the rights of root it does so by fakeroot.
+# Without the rights of root it does so by fakeroot, and what is for aarch64 it runs by QEMU.
 set -euo pipefail
 package=$(realpath "$1")
 if [ "$(id -u)" != 0 ] && [ -z "${FAKEROOTKEY:-}" ]; then
@@ -10,21 +10,24 @@ room=$(mktemp -d)
 trap 'rm -rf "$room"' EXIT
 dpkg="dpkg --root=$room --force-not-root --force-bad-path --log=/dev/null"
 mkdir -p "$room/var/lib/dpkg/updates" "$room/var/lib/dpkg/info"
-# the C library, as the lists of a machine that has the oldest that will do
-printf '%s\n' "Package: libc6" "Status: install ok installed" "Architecture: amd64" "Maintainer: none <none@example.org>" \
-    "Version: 2.34" "Description: as if it were there" > "$room/var/lib/dpkg/status"
-: > "$room/var/lib/dpkg/info/libc6.list"
+: > "$room/var/lib/dpkg/status"
+architecture=$(dpkg-deb --field "$package" Architecture)
+tmpl=usr/bin/tmpl
+if [ "$architecture" != "$(dpkg --print-architecture)" ]; then
+    printf '%s\n' "$(dpkg --print-architecture)" "$architecture" > "$room/var/lib/dpkg/arch"
+    tmpl="qemu-aarch64 usr/bin/tmpl"
+fi
 $dpkg --install "$package" > /dev/null
 cd "$room"
 printf 'Hello, {{.name}}!\n' > hello.tmpl
 printf '{"name":"Ada"}' > data.json
-test "$(usr/bin/tmpl --data data.json hello.tmpl)" = 'Hello, Ada!'
+test "$($tmpl --data data.json hello.tmpl)" = 'Hello, Ada!'
 printf '"it'\''s"' > text.json
 printf '{{template "sh" .}}' > quote.tmpl
-test "$(usr/bin/tmpl --data text.json quote.tmpl usr/share/tmpl/quotes/quotes.tmpl)" = "'it'\\''s'"
+test "$($tmpl --data text.json quote.tmpl usr/share/tmpl/quotes/quotes.tmpl)" = "'it'\\''s'"
 MANWIDTH=80 man -l usr/share/man/man1/tmpl.1.gz > page && grep -q SYNOPSIS page
 (source usr/share/bash-completion/completions/tmpl && complete -p tmpl > /dev/null)
-$dpkg --purge tmpl > /dev/null
+$dpkg --purge "tmpl:$architecture" > /dev/null
 left=$(find usr -type f 2> /dev/null || true)
 if [ -n "$left" ]; then
     echo "it left $left" >&2

@@ -28,6 +28,7 @@ PROBE = calls.PROBE
 SMALL_ACTIONS = b"{{if .a}}{{$x := .b}}{{$x}}{{else}}{{range .c}}{{.}}{{end}}{{end}}\n"
 PAGE = f"{harness.TOP}/docs/SPEED.md"
 BEGIN, END = "<!-- made by `make bench`: begin -->\n", "<!-- made by `make bench`: end -->\n"
+HEADINGS = ["| What | `tmpl` | Beside | Time | Memory | Wanted, at most |", "|---|---|---|---|---|---|"]
 
 
 # ---- what was measured
@@ -77,7 +78,7 @@ class Figures:
         worst, what = max(self.rises)
         self.part("Growth")
         self.row(f"a byte more, beside one in a file of a quarter of the size; the most of {len(self.rises)}", what, "", worst, None, 2)
-        return ["| What | `tmpl` | Beside | Time | Memory | Wanted, at most |", "|---|---|---|---|---|---|", *self.rows]
+        return [*HEADINGS, *self.rows]
 
 
 # ---- processes
@@ -531,12 +532,18 @@ def commit():
     return said.stdout.strip() or "unknown"
 
 
-def publish(lines):
-    """Writes the table between its two marks."""
+def head(beside):
+    """The line over a table: when and where it was measured."""
+    day = datetime.datetime.now(datetime.timezone.utc)
+    return f"Measured on {day:%-d %B %Y} of the tree `{commit()}`, on {machine()}, beside {beside}."
+
+
+def publish(lines, begin=BEGIN, end=END):
+    """Writes a table between its two marks."""
     with open(PAGE, encoding="utf-8") as it:
-        head, rest = it.read().split(BEGIN)
+        before, rest = it.read().split(begin)
     with open(PAGE, "w", encoding="utf-8") as it:
-        it.write(head + BEGIN + "".join(f"{line}\n" for line in lines) + END + rest.split(END)[1])
+        it.write(before + begin + "".join(f"{line}\n" for line in lines) + end + rest.split(end)[1])
 
 
 def main(words):
@@ -550,9 +557,7 @@ def main(words):
         beside = peers(folder)
         for bench in (bench_renders, bench_library, bench_program, bench_cut, bench_reading, bench_compiling, bench_calls, bench_data, bench_growth):
             bench(figures, folder)
-    day = datetime.datetime.now(datetime.timezone.utc)
-    head = f"Measured on {day:%-d %B %Y} of the tree `{commit()}`, on {machine()}, beside {beside}."
-    lines = [head, "", *figures.table()]
+    lines = [head(beside), "", *figures.table()]
     if "--dry" in words:
         print(*lines, sep="\n")
     else:

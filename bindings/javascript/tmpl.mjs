@@ -1,0 +1,313 @@
+// Templates of the language of Go's text/template over data in JSON, by tmpl.wasm, which is looked for beside this file:
+// `(await load()).render(files, name, data)`. tmpl.d.ts says what each call takes and gives.
+
+const OK = 0, FULL = 6, MEMORY = 7; // statuses of the C library, whose calls the module has
+const MISSING_KEY = { default: 0, invalid: 1, zero: 2, error: 3 };
+const STEPS = 10_000_000; // what a run may take where nothing is said of it
+const ROOM = 1 << 16; // bytes of text that are lent first
+const LINE = 1 << 12; // bytes of a line that are lent first
+const FILE = 32, SETTINGS = 16, BUFFER = 32, KEPT = 8; // bytes of the structs of tmpl.h, whose pointers have 64 bits
+
+const encoder = new TextEncoder();
+const decoder = new TextDecoder("utf-8", { ignoreBOM: true });
+
+export class TemplateError extends Error {
+    constructor(status, line, text) {
+        super(line);
+        Object.assign(this, { name: "TemplateError", status, line, text });
+    }
+}
+
+export class MemoryError extends Error {
+    constructor(line) {
+        super(line);
+        Object.assign(this, { name: "MemoryError", line });
+    }
+}
+
+export class TrapError extends Error {
+    constructor(cause) {
+        super(`the module stopped: ${cause}`, { cause });
+        this.name = "TrapError";
+    }
+}
+
+export async function load(source = new URL("./tmpl.wasm", import.meta.url)) {
+    return new Engine(new Host(await compiled(await source)));
+}
+
+async function compiled(source) {
+    if (source instanceof WebAssembly.Module) return source;
+    if (ArrayBuffer.isView(source) || source instanceof ArrayBuffer) return WebAssembly.compile(source);
+    const response = source instanceof Response ? source : await fetch(source);
+    if (!response.ok) throw new Error(`${response.url}: status ${response.status}`);
+    return WebAssembly.compile(await response.arrayBuffer());
+}
+
+// ---- what is given, as bytes
+
+const encoded = (it) => (typeof it === "string" ? encoder.encode(it) : it);
+const baseOf = (path) => path.subarray(path.lastIndexOf(0x2f) + 1);
+
+/** The files as pairs of bytes, in order. */
+function pairsOf(files) {
+    const pairs = Symbol.iterator in files ? [...files] : Object.entries(files);
+    return pairs.map(([path, what]) => [encoded(path), encoded(what)]);
+}
+
+/** The bytes of the data: bytes as they are, none of what is undefined, and the JSON of anything else. */
+const jsonOf = (data) => (data instanceof Uint8Array ? data : encoder.encode(JSON.stringify(data) ?? ""));
+
+function isSame(one, other) {
+    if (one.length !== other.length) return false;
+    for (let at = 0; at < one.length; at++) if (one[at] !== other[at]) return false;
+    return true;
+}
+
+/** The two words of the settings of tmpl.h. */
+function settingsOf({ missingKey = "default", depth = 1000, steps = STEPS, printed = false } = {}) {
+    if (!Object.hasOwn(MISSING_KEY, missingKey)) throw new RangeError(`missingKey is ${missingKey}`);
+    if (!(depth >= 1 && depth <= 100_000)) throw new RangeError(`depth is ${depth}`);
+    if (!(steps >= 1 && steps <= 2n ** 62n)) throw new RangeError(`steps is ${steps}`);
+    const flags = MISSING_KEY[missingKey] | (printed ? 1 << 8 : 0);
+    return [BigInt(steps), (BigInt(flags) << 32n) | BigInt(depth)];
+}
+
+// ---- the module
+
+/** An instance of the module. What stops a call where it should not leaves the memory as it was then, so another one takes its place. */
+class Host {
+    #module;
+    #room = ROOM;
+    #view = {};
+
+    constructor(module) {
+        this.#module = module;
+    }
+
+    instance() {
+        this.exports ??= new WebAssembly.Instance(this.#module).exports;
+        return this.exports;
+    }
+
+    /** The memory, as bytes and as words of 64 bits. As it grows it becomes another one. */
+    view() {
+        const { buffer } = this.instance().memory;
+        if (this.#view.buffer !== buffer) this.#view = { buffer, bytes: new Uint8Array(buffer), words: new BigUint64Array(buffer) };
+        return this.#view;
+    }
+
+    /** Does what may throw errors of ours. Any other, as that the stack is at its end, is a trap. */
+    guarded(what) {
+        try {
+            return what();
+        } catch (cause) {
+            if ([TemplateError, MemoryError, TrapError].some((it) => cause instanceof it)) throw cause;
+            this.exports = undefined;
+            throw new TrapError(cause);
+        }
+    }
+
+    call(name, ...words) {
+        return this.guarded(() => this.instance()[name](...words));
+    }
+
+    /** Lends memory in parts of these sizes for one call. */
+    lend(sizes, call) {
+        const lent = new Lent(this, sizes);
+        try {
+            return this.guarded(() => call(lent));
+        } finally {
+            lent.give();
+        }
+    }
+
+    /** The text of a call that takes buffers for text and line. It is made again with more room where one of them does not fit. */
+    whole(call, size = 0) {
+        for (let room = Math.max(this.#room, size), lineRoom = LINE; ; ) {
+            const [status, text, said] = this.lend([BUFFER, BUFFER, room, lineRoom], (lent) => {
+                lent.words(0, lent.at[2], room, 0, 0);
+                lent.words(1, lent.at[3], lineRoom, 0, 0);
+                return [call(lent.pointer(0), lent.pointer(1)), lent.taken(0, 2), lent.taken(1, 3)];
+            });
+            if (status === OK) return text.bytes;
+            const line = decoder.decode(said.bytes).replace(/\n$/, "");
+            if (status === MEMORY) throw new MemoryError(line);
+            if (status !== FULL && said.needed <= lineRoom) throw new TemplateError(status, line, text.bytes);
+            [room, lineRoom] = [Math.max(room, text.needed), Math.max(lineRoom, said.needed)];
+            this.#room = room;
+        }
+    }
+}
+
+/** One block of the module's memory, with parts at multiples of 8. */
+class Lent {
+    #host;
+    #exports;
+
+    constructor(host, sizes) {
+        let size = 0;
+        const places = sizes.map((it) => [size, (size += Math.ceil(it / 8) * 8)][0]);
+        const block = host.call("memory_take", BigInt(size));
+        if (!block) throw new MemoryError("tmpl: out of memory");
+        [this.#host, this.#exports] = [host, host.exports];
+        this.at = places.map((it) => Number(block) + it);
+    }
+
+    /** Whether no trap was since. */
+    isThere() {
+        return this.#host.exports === this.#exports;
+    }
+
+    give() {
+        if (this.isThere()) this.#host.call("memory_give", BigInt(this.at[0]));
+    }
+
+    pointer(part) {
+        return BigInt(this.at[part]);
+    }
+
+    put(part, bytes) {
+        this.#host.view().bytes.set(bytes, this.at[part]);
+    }
+
+    /** Writes words of 64 bits to a part. */
+    words(part, ...words) {
+        const { words: all } = this.#host.view(), first = this.at[part] / 8;
+        for (let number = 0; number < words.length; number++) all[first + number] = BigInt(words[number]);
+    }
+
+    /** What a buffer over another part took, and how many bytes there were for it. */
+    taken(part, over) {
+        const { bytes, words } = this.#host.view(), first = this.at[part] / 8, begin = this.at[over];
+        return { bytes: bytes.slice(begin, begin + Number(words[first + 2])), needed: Number(words[first + 3]) };
+    }
+}
+
+// ---- what others call
+
+class Engine {
+    #host;
+
+    constructor(host) {
+        this.#host = host;
+        host.instance();
+    }
+
+    renderBytes(files, name, data, options) {
+        const pairs = pairsOf(files), settings = settingsOf(options), json = jsonOf(data);
+        const run = encoded(name ?? (pairs.length ? baseOf(pairs[0][0]) : ""));
+        const texts = [run, json, ...pairs.flat()], sizes = texts.map((it) => it.length);
+        return this.#host.lend([SETTINGS, FILE * pairs.length, ...sizes], (lent) => {
+            const spans = sizes.map((size, number) => [lent.pointer(number + 2), BigInt(size)]);
+            texts.forEach((it, number) => lent.put(number + 2, it));
+            lent.words(0, ...settings);
+            lent.words(1, ...spans.slice(2).flat());
+            const words = [lent.pointer(0), lent.pointer(1), BigInt(pairs.length), ...spans[0], ...spans[1]];
+            return this.#host.whole((out, err) => this.#host.call("tmpl_render", ...words, out, err), 2 * json.length);
+        });
+    }
+
+    render(files, name, data, options) {
+        return decoder.decode(this.renderBytes(files, name, data, options));
+    }
+
+    templates(files = []) {
+        return new Templates(this.#host, files);
+    }
+}
+
+/** Gives back what is kept for an object that nobody has any more. */
+const forgotten = new FinalizationRegistry((free) => free());
+
+/** Frees a set and its data, and what was lent for them. */
+const freeing = (host, lent) => () => {
+    if (!lent.isThere()) return;
+    host.call("tmpl_set_free", lent.pointer(0));
+    host.call("tmpl_data_free", lent.pointer(1));
+    lent.give();
+};
+
+class Templates {
+    #host;
+    #lent; // the set and the data; none before the first file, and once they are freed
+    #free;
+    #files = [];
+    #read; // the JSON of the data that is there, where it is known
+
+    constructor(host, files) {
+        this.#host = host;
+        for (const it of pairsOf(files)) this.add(...it);
+    }
+
+    add(path, what) {
+        const file = [encoded(path).slice(), encoded(what).slice()];
+        this.#settle();
+        this.#parse(this.#lent, file);
+        this.#files.push(file);
+    }
+
+    renderBytes(name, data, options) {
+        const settings = settingsOf(options), json = jsonOf(data);
+        const run = encoded(name ?? (this.#files.length ? baseOf(this.#files[0][0]) : ""));
+        this.#settle();
+        if (!options?.printed) this.#readAnew(json);
+        return this.#host.lend([SETTINGS, run.length], (lent) => {
+            lent.words(0, ...settings);
+            lent.put(1, run);
+            const words = [lent.pointer(0), this.#lent.pointer(0), this.#lent.pointer(1), lent.pointer(1), BigInt(run.length)];
+            return this.#host.whole((out, err) => this.#host.call("tmpl_render_set", ...words, out, err), 2 * json.length);
+        });
+    }
+
+    render(name, data, options) {
+        return decoder.decode(this.renderBytes(name, data, options));
+    }
+
+    close() {
+        this.#free?.();
+        forgotten.unregister(this);
+        [this.#lent, this.#free, this.#files] = [undefined, undefined, []];
+    }
+
+    /** Has the files in the instance that there is: none was there before the first one, and a trap takes all. */
+    #settle() {
+        if (this.#lent?.isThere()) return;
+        const lent = new Lent(this.#host, [KEPT, KEPT]), free = freeing(this.#host, lent);
+        try {
+            lent.words(0, 0, 0);
+            for (const it of this.#files) this.#parse(lent, it);
+        } catch (error) {
+            free();
+            throw error;
+        }
+        [this.#lent, this.#free, this.#read] = [lent, free, new Uint8Array()];
+        forgotten.unregister(this);
+        forgotten.register(this, free, this);
+    }
+
+    #parse(kept, [path, what]) {
+        this.#host.lend([FILE, path.length, what.length], (lent) => {
+            lent.words(0, lent.at[1], path.length, lent.at[2], what.length);
+            lent.put(1, path);
+            lent.put(2, what);
+            this.#told("tmpl_set_add", kept.pointer(0), lent.pointer(0));
+        });
+    }
+
+    /** Reads data in the place of other data. Where it is refused, the other stays. */
+    #readAnew(json) {
+        if (this.#read && isSame(json, this.#read)) return;
+        this.#read = undefined;
+        this.#host.lend([json.length], (lent) => {
+            lent.put(0, json);
+            this.#told("tmpl_data_read", this.#lent.pointer(1), lent.pointer(0), BigInt(json.length));
+        });
+        this.#read = json.slice();
+    }
+
+    /** A call that puts out no text. */
+    #told(name, ...words) {
+        this.#host.whole((_, err) => this.#host.call(name, ...words, err));
+    }
+}

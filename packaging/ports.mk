@@ -1,0 +1,67 @@
+# What is proved, for more places: a static program for each processor of x86-64, program and library for aarch64, and a module of
+# WebAssembly. It is compiled and linked once more, and nothing is proved once more.
+FOR_ARM = --target=aarch64-unknown-linux-gnu
+# the first line of each recipe that needs a compiler for aarch64, or binaryen
+NEEDS_ARM = command -v aarch64-linux-gnu-gcc > /dev/null || { echo "aarch64-linux-gnu-gcc is missing: install gcc-aarch64-linux-gnu \
+and libc6-dev-arm64-cross" >&2; false; }
+NEEDS_WASM_OPT = command -v wasm-opt > /dev/null || { echo "wasm-opt is missing: install binaryen" >&2; false; }
+
+# links the program statically, for each processor of x86-64: packaging/out/static/tmpl
+static: $(STATIC)
+
+# builds the program, statically, and the C library for Linux on aarch64, in packaging/out/aarch64
+aarch64: $(addprefix $(ARM)/,tmpl libtmpl.a libtmpl.so)
+
+# builds the engine as a module of WebAssembly, packaging/out/web/tmpl.wasm, and a page that renders by it, tmpl.html
+web: $(WEB)/tmpl.wasm $(WEB)/tmpl.html
+
+# packs the module of WebAssembly with its binding for JavaScript, as npm installs it
+npm: $(WEB)/tmpl.wasm
+	python3 packaging/make.py npm
+
+$(STATIC): $(PROGRAM) packaging/build.py
+	@$(NEEDS_RT)
+	mkdir -p $(@D)
+	python3 packaging/build.py tmpl $(@D)/tmpl.o --cpu=x86-64
+	kit=$$(dirname "$$(rt doc)") && \
+		$(CC) -static -s -Wl,--gc-sections -o $@ $(@D)/tmpl.o "$$kit/c/libos_c.a" "$$kit/c/liblibc_c.a"
+
+$(ARM)/%: private CC = aarch64-linux-gnu-gcc
+$(ARM)/%: private LD = aarch64-linux-gnu-ld
+$(ARM)/%: private AR = aarch64-linux-gnu-ar
+$(ARM)/%: private OBJCOPY = aarch64-linux-gnu-objcopy
+
+$(ARM)/tmpl: $(PROGRAM) packaging/build.py packaging/aarch64/os.c bindings/c/heap.c
+	@$(NEEDS_RT)
+	@$(NEEDS_ARM)
+	mkdir -p $(@D)
+	python3 packaging/build.py tmpl $(@D)/program.o $(FOR_ARM)
+	$(CC) -O2 -Wall -Wextra -static -s -Wl,--gc-sections -Wl,--wrap=main -o $@ $(@D)/program.o packaging/aarch64/os.c bindings/c/heap.c
+
+$(ARM)/libtmpl_c.a: $(PROVED_LIBRARY) packaging/build.py
+	@$(NEEDS_RT)
+	@$(NEEDS_ARM)
+	mkdir -p $(@D)
+	python3 packaging/build.py tmpl_c $@ $(FOR_ARM)
+
+$(ARM)/libtmpl.a: $(ARM)/libtmpl_c.a bindings/c/heap.c
+	$(one_object)
+
+$(ARM)/libtmpl.so: $(ARM)/libtmpl.a bindings/c/tmpl.map
+	$(shared_object)
+
+$(WEB)/tmpl_c.bc: $(PROVED_LIBRARY) packaging/build.py
+	@$(NEEDS_RT)
+	mkdir -p $(@D)
+	python3 packaging/build.py --module tmpl_c $@
+
+$(WEB)/tmpl.wasm: $(WEB)/tmpl_c.bc $(addprefix packaging/web/,make.py heap.c wide.c) bindings/c/tmpl.h
+	@$(NEEDS_RT)
+	@$(NEEDS_WASM_OPT)
+	python3 packaging/web/make.py wasm $< $@
+
+$(WEB)/tmpl.html: $(WEB)/tmpl.wasm $(addprefix packaging/web/,make.py page.html page.css page.js worker.js) bindings/javascript/tmpl.mjs
+	@$(NEEDS_RT)
+	python3 packaging/web/make.py page $< $@
+
+.PHONY: static aarch64 web npm
