@@ -14,6 +14,10 @@ SOURCES = crates.txt HANDLES $(shell find $(wildcard crates/*/src crates/*/specs
 HELLO = ../../examples/hello
 OBJCOPY ?= objcopy
 QUOTES = $(addprefix examples/quotes/,quotes.tmpl data.tmpl texts.tmpl)
+# what is copied, but for whole folders
+COPIED = bin/tmpl share/man/man1/tmpl.1 share/man/man7/tmpl-language.7 share/bash-completion/completions/tmpl \
+	share/zsh/site-functions/_tmpl share/fish/vendor_completions.d/tmpl.fish include/tmpl.h lib/libtmpl.a lib/libtmpl.so \
+	lib/$(SONAME) lib/pkgconfig/tmpl.pc
 # the first line of each recipe that needs the toolchain
 NEEDS_RT = command -v rt > /dev/null || { echo "rt is missing: it is the command of the toolchain of Rattle, with which the \
 program is proved and built. Put it on the PATH, or install a package that was made where it is." >&2; false; }
@@ -71,19 +75,19 @@ compare: $(PROGRAM)
 	python3 tests/go/compare.py
 
 # copies the program, man pages, completions, templates for quoting, documents and examples to PREFIX, /usr/local if it is not set
-install: $(PROGRAM)
+install: $(PROGRAM) install-documents
 	install -D -m 755 $(PROGRAM) "$$DESTDIR$$PREFIX/bin/tmpl"
 	! command -v strip > /dev/null || strip "$$DESTDIR$$PREFIX/bin/tmpl"
-	install -D -m 644 -t "$$DESTDIR$$PREFIX/share/man/man1" man/tmpl.1
-	install -D -m 644 -t "$$DESTDIR$$PREFIX/share/man/man7" man/tmpl-language.7
+	! command -v $(OBJCOPY) > /dev/null || { note=$$(mktemp) && python3 packaging/pages.py --build > "$$note" && \
+		$(OBJCOPY) --remove-section .tmpl.build --add-section ".tmpl.build=$$note" "$$DESTDIR$$PREFIX/bin/tmpl" && rm "$$note"; }
 	install -D -m 644 completions/tmpl.bash "$$DESTDIR$$PREFIX/share/bash-completion/completions/tmpl"
 	install -D -m 644 -t "$$DESTDIR$$PREFIX/share/zsh/site-functions" completions/_tmpl
 	install -D -m 644 -t "$$DESTDIR$$PREFIX/share/fish/vendor_completions.d" completions/tmpl.fish
 	install -D -m 644 -t "$$DESTDIR$$PREFIX/share/tmpl/quotes" $(QUOTES)
-	install -D -m 644 -t "$$DESTDIR$$PREFIX/share/doc/tmpl" README.md CHANGELOG.md
-	install -D -m 644 -t "$$DESTDIR$$PREFIX/share/doc/tmpl/docs" docs/*.md
-	find examples editors -type f | while read -r file; do \
-		install -D -m 644 "$$file" "$$DESTDIR$$PREFIX/share/doc/tmpl/$$file" || exit 1; done
+
+# copies the documents, the man pages and the examples alone, with links to what is installed, and the folder that PREFIX names
+install-documents:
+	python3 packaging/pages.py "$$DESTDIR$$PREFIX" "$${SHOWN_PREFIX:-$$PREFIX}"
 
 # copies the C library, its header and what pkg-config reads to PREFIX
 install-lib: lib
@@ -95,12 +99,11 @@ install-lib: lib
 	python3 -c 'import os, sys; sys.stdout.write(sys.stdin.read().replace("@PREFIX@", os.environ["PREFIX"]))' \
 		< bindings/c/tmpl.pc.in > "$$DESTDIR$$PREFIX/lib/pkgconfig/tmpl.pc"
 
-# removes what `make install` and `make install-lib` copied
+# removes what `make install` and `make install-lib` copied, and the folders that are empty then
 uninstall:
-	cd "$$DESTDIR$$PREFIX" && rm -f bin/tmpl share/man/man1/tmpl.1 share/man/man7/tmpl-language.7 \
-		share/bash-completion/completions/tmpl share/zsh/site-functions/_tmpl share/fish/vendor_completions.d/tmpl.fish \
-		include/tmpl.h lib/libtmpl.a lib/libtmpl.so lib/$(SONAME) lib/pkgconfig/tmpl.pc
-	rm -rf "$$DESTDIR$$PREFIX/share/tmpl" "$$DESTDIR$$PREFIX/share/doc/tmpl"
+	cd "$$DESTDIR$$PREFIX" && rm -f $(COPIED) && rm -rf share/tmpl share/doc/tmpl && for file in $(COPIED) share/doc/tmpl; do \
+		folder=$${file#*/}; case $$folder in */*) (cd "$${file%%/*}" && rmdir -p "$${folder%/*}") 2> /dev/null || true;; esac; done
+	cd "$$DESTDIR$$PREFIX" && case "$$PWD" in /usr | /usr/local) ;; *) rmdir bin include lib share 2> /dev/null || true;; esac
 
 # packs what `make install` copies as a tar, with its SHA-256, and what `make install-lib` copies where the library is built
 dist: $(PROGRAM)
@@ -150,4 +153,4 @@ $(SHARED_LIBRARY): $(STATIC_LIBRARY) bindings/c/tmpl.map
 		-Wl,--version-script=bindings/c/tmpl.map -Wl,-z,defs
 	ln -sf libtmpl.so bindings/out/$(SONAME)
 
-.PHONY: build demo test lib test-bindings install-lib check edits bench fuzz compare install uninstall dist deb wheel help
+.PHONY: build demo test lib test-bindings install-lib check edits bench fuzz compare install install-documents uninstall dist deb wheel help

@@ -3,7 +3,7 @@ tests/rows that need no words and no files of the system go through one call eac
 text, line and status must be those of the row, but that lines call the data `data`. So must those of two renders of a set and data that
 are kept. Rows with short texts and lines are called with room of each size. tests/library.c refuses each allocation of calls in turn,
 runs two threads, and runs under valgrind where that is there. The header is compiled as C and as C++, what is installed is used by
-pkg-config, the wheel for Python is unpacked and used, and the programs of docs/EMBEDDING.md for C and Python are run. With --bindings it
+pkg-config, the wheel for Python is unpacked and used, and the programs of docs/EMBEDDING.md and README.md for C and Python are run. With --bindings it
 runs those for Go and Rust, and the tests of these two bindings, where Go and Cargo are installed, and nothing else."""
 import base64
 import gc
@@ -366,9 +366,12 @@ def judge_names_of(path):
 
 
 def programs():
-    """The programs of docs/EMBEDDING.md: language, text, and what they put out."""
-    with open(f"{harness.TOP}/docs/EMBEDDING.md", encoding="utf-8") as it:
-        return BLOCK.findall(it.read())
+    """The programs of docs/EMBEDDING.md and README.md: language, text, and what they put out."""
+    found = []
+    for page in ("docs/EMBEDDING.md", "README.md"):
+        with open(f"{harness.TOP}/{page}", encoding="utf-8") as it:
+            found += BLOCK.findall(it.read())
+    return found
 
 
 def judge_program(folder, language, text, wanted):
@@ -378,7 +381,7 @@ def judge_program(folder, language, text, wanted):
     got = run(home, text)
     lines = sum(bool(line.strip()) for line in text.splitlines())
     wrong = [] if got == (0, wanted) else [f"    got {got}"]
-    return f"docs/EMBEDDING.md: {language}", 1, wrong + [f"    {lines} lines"] * (lines > 15)
+    return f"a program that the documents show: {language}", 1, wrong + [f"    {lines} lines"] * (lines > 15)
 
 
 def written(path, text):
