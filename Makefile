@@ -11,7 +11,6 @@ SHARED_LIBRARY = bindings/out/libtmpl.so
 SONAME = libtmpl.so.0
 # what proofs and programs are made of, with the folders, so that a file which is gone counts too
 SOURCES = crates.txt HANDLES $(shell find $(wildcard crates/*/src crates/*/specs crates/*/proofs))
-HELLO = ../../examples/hello
 OBJCOPY ?= objcopy
 QUOTES = $(addprefix examples/quotes/,quotes.tmpl data.tmpl texts.tmpl)
 # what is copied, but for whole folders
@@ -25,14 +24,11 @@ program is proved and built. Put it on the PATH, or install a package that was m
 # proves the program and the crates that it uses, over what earlier runs kept in out/, and builds it
 build: $(PROGRAM)
 
-# builds the program without proofs, and renders examples/hello
+# builds the program without proofs, renders examples/hello, and keeps it as crates/tmpl/out/tmpl-unproved
 demo:
 	@$(NEEDS_RT)
 	@echo "Building without proofs, which takes a minute or two .." >&2
-	@mkdir -p crates/tmpl/out
-	@cd crates/tmpl && { rt try --data hello.tmpl=$(HELLO)/hello.tmpl --data data.json=$(HELLO)/data.json \
-		-- --data data.json hello.tmpl < /dev/null 2> out/demo.log || { cat out/demo.log >&2; false; }; }
-	@echo "This build is not proved and was not kept: \`make\` proves the program and builds it." >&2
+	@python3 packaging/demo.py
 
 # the gate: every proof from nothing, then the tests over the program that it left, as each of the two compilers built it
 test:

@@ -1,7 +1,7 @@
 """Places the documents and the man pages as an installed program has them: `pages.py ROOT PREFIX`, where ROOT is the folder that stands
 for PREFIX, such as `$DESTDIR$PREFIX`. What they say of PREFIX, which is /usr/local in the repository, is said of this one. A link to
 what is not installed becomes its text, and the foot of each man page says from which commit and by which logic the program was made.
-`pages.py --build` prints this as one line, which `make install` also puts into the program, where nothing reads it."""
+`pages.py --build` prints this as one line, which is the file BUILD, and which `make install` also puts into the program, as a section that is not loaded."""
 import glob
 import os
 import re
@@ -44,7 +44,7 @@ def footer():
 
 def build():
     kit, logic = toolchain()
-    return f"tmpl {version() or 'of no commit'}, proved by the logic {logic or 'that is not told'} of {kit or 'a toolchain that is not told'}"
+    return f"tmpl {version() or 'of no commit'} proved by the logic {logic or 'that is not told'} of {kit or 'a toolchain that is not told'}"
 
 
 def files():
@@ -71,7 +71,7 @@ def placed(text, path, names, prefix):
 
 
 def of_prefix(text, prefix):
-    return text.replace("/usr/local/share/tmpl", f"{prefix}/share/tmpl")
+    return text.replace("/usr/local/share/", f"{prefix}/share/")
 
 
 def write(path, held):
@@ -90,6 +90,7 @@ def place(root, prefix):
         if name.endswith(".md"):
             held = placed(held.decode(), name, known, prefix).encode()
         write(f"{root}/share/doc/tmpl/{name}", held)
+    write(f"{root}/share/doc/tmpl/BUILD", f"{build()}\n".encode())
     for name, folder in MANUALS.items():
         with open(f"{TOP}/{name}", encoding="utf-8") as it:
             text = it.read().replace('"" Rilphong', f'"" "{footer()}"', 1)
