@@ -7,7 +7,7 @@ A comment before a block says what else is done with it; a block without one tha
 
 - `<!-- needs: NAME .. -->` names programs. Where one is not there all blocks of that heading are left out, and it says so.
 - `<!-- save: NAME -->`: the block is a file, which is written under this name before what follows is run.
-- `<!-- file: PATH -->`: the block shows the whole of this file, and they must be equal.
+- `<!-- file: PATH -->`: the block shows the whole of this file, and they must be equal; it is written under its base name too.
 - `<!-- tried by: PATH -->`: this test tries it, and what a block `text` directly after it says that it puts out.
 - `<!-- not run: WHY -->`: it is not run.
 
@@ -110,8 +110,8 @@ def steps(its):
     """What is run of the blocks of a heading: commands, each with what it puts out."""
     found = []
     for it, how in its:
-        if it.kind == "save":
-            found.append(written(it.said, it.text))
+        if it.kind in ("save", "file"):
+            found.append(written(os.path.basename(it.said), it.text))
         elif how == "run, output":
             found[-1] = (found[-1][0], it.text)
         elif how.startswith("run"):
