@@ -101,7 +101,7 @@ uninstall:
 		folder=$${file#*/}; case $$folder in */*) (cd "$${file%%/*}" && rmdir -p "$${folder%/*}") 2> /dev/null || true;; esac; done
 	cd "$$DESTDIR$$PREFIX" && case "$$PWD" in /usr | /usr/local) ;; *) rmdir bin include lib share 2> /dev/null || true;; esac
 
-# packs what `make install` copies as a tar, with its SHA-256, and what `make install-lib` copies where the library is built
+# packs what `make install` copies as a tar, and what `make install-lib` copies where the library is built
 dist: $(PROGRAM)
 	@$(NEEDS_RT)
 	python3 packaging/make.py tar

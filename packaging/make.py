@@ -1,7 +1,7 @@
-"""Packs the program that is built, with man pages, completions, templates for quoting and documents: `make.py tar` as a tar with its
-SHA-256, and with the C library and its header where these are built, as the name says then; `make.py deb` as a Debian package. `make.py wheel` packs the
-binding for Python with the C library. All go to `packaging/out`, and are named by the commit, the tar also by the logic that the program
-is proved with. `make dist`, `make deb` and `make wheel` call it once what they pack is proved. The same tree gives the same bytes."""
+"""Packs the program that is built, with man pages, completions, templates for quoting and documents: `make.py tar` as a tar, and with
+the C library and its header where these are built, as the name says then; `make.py deb` as a Debian package. `make.py wheel` packs the
+binding for Python with the C library. Each has a bill of materials. All go to `packaging/out`, beside the file SHA256SUMS of them all,
+of which SHA256SUMS.asc may be a signature. They are named by the commit, the tar also by the logic that the program is proved with. `make dist`, `make deb` and `make wheel` call it once what they pack is proved. The same tree gives the same bytes."""
 import base64
 import gzip
 import hashlib
@@ -14,6 +14,9 @@ import tarfile
 import tempfile
 import time
 import zipfile
+
+import bill
+import pages
 
 HERE = os.path.dirname(os.path.abspath(__file__))
 TOP = os.path.dirname(HERE)
@@ -69,13 +72,6 @@ def told(*words):
     return subprocess.run(words, cwd=TOP, stdout=subprocess.PIPE, check=True).stdout.decode().strip()
 
 
-def version():
-    """The date and the number of the commit, and whether the tree is not just that one."""
-    day, number = told("git", "log", "-1", "--format=%cd %h", "--date=format:%Y%m%d", "--abbrev=12").split()
-    is_changed = told("git", "status", "--porcelain", "--untracked-files=no")
-    return f"0~git{day}.{number}" + "+changed" * bool(is_changed)
-
-
 def seconds():
     """When the commit was made: the time of each file."""
     return int(told("git", "log", "-1", "--format=%ct"))
@@ -85,22 +81,18 @@ def maker():
     return told("git", "log", "-1", "--format=%an <%ae>")
 
 
-def logic():
-    """The logic that the toolchain proves with."""
-    return re.search(r"logic ([0-9a-f]+)", told("rt", "version"))[1]
-
-
 def make(*words):
     return ["make", "--no-print-directory", "-s", *words]
 
 
-def place(folder, prefix):
-    """Installs into a folder, under a prefix, as `make install` does."""
-    subprocess.run(make("install", f"DESTDIR={folder}", f"PREFIX={prefix}"), cwd=TOP, check=True)
+def place(folder, prefix, shown):
+    """Installs into a folder, under a prefix, as `make install` does, with pages that show another prefix; and the bill beside them."""
+    subprocess.run(make("install", f"DESTDIR={folder}", f"PREFIX={prefix}", f"SHOWN_PREFIX={shown}"), cwd=TOP, check=True)
     program = f"{folder}{prefix}/bin/tmpl"
     if not shutil.which("strip"):
         sys.exit("strip is not there: install binutils")
     subprocess.run(["strip", "--strip-all", "--remove-section=.comment", program], check=True)
+    bill.write("tmpl", f"{folder}{prefix}", ["bin/tmpl"], "share/doc/tmpl/tmpl.spdx.json", seconds(), LIBC)
 
 
 def has_library():
@@ -137,11 +129,11 @@ def owned_by_root(it):
 
 
 def tar():
-    """The tar, and its sum beside it."""
+    """The tar."""
     is_whole = has_library()
-    name = f"tmpl-{version().replace('0~git', '')}-{logic()}-x86_64-linux{'-with-library' * is_whole}"
+    name = f"tmpl-{pages.version().replace('0~git', '')}-{pages.toolchain()[1]}-x86_64-linux{'-with-library' * is_whole}"
     with tempfile.TemporaryDirectory() as room:
-        place(room, f"/{name}")
+        place(room, f"/{name}", "/usr/local")
         if is_whole:
             place_library(room, f"/{name}")
         settle(f"{room}/{name}")
@@ -154,10 +146,19 @@ def tar():
                     made.add(at, inside, recursive=False, filter=owned_by_root)
                     for file in sorted(files):
                         made.add(f"{at}/{file}", f"{inside}/{file}", filter=owned_by_root)
-    total = hashlib.sha256(bytes_of(path)).hexdigest()
-    with open(f"{path}.sha256", "w", encoding="ascii") as it:
-        it.write(f"{total}  {name}.tar.gz\n")
     return path
+
+
+def add_up():
+    """Writes the sums of all packages that are there, and removes a signature of other sums."""
+    names = sorted(it for it in os.listdir(OUT) if it.endswith((".tar.gz", ".deb", ".whl", ".tgz")))
+    text = "".join(f"{hashlib.sha256(bytes_of(f'{OUT}/{it}')).hexdigest()}  {it}\n" for it in names).encode()
+    sums = f"{OUT}/SHA256SUMS"
+    if not os.path.exists(sums) or bytes_of(sums) != text:
+        with open(sums, "wb") as it:
+            it.write(text)
+        if os.path.exists(f"{sums}.asc"):
+            os.remove(f"{sums}.asc")
 
 
 def pack(path, to):
@@ -179,7 +180,7 @@ def as_debian(room):
         it.write(COPYRIGHT)
     changes = f"{share}/doc/tmpl/changelog"
     with open(changes, "w", encoding="utf-8") as it:
-        it.write(CHANGES.format(version=version(), maker=maker(), date=told("git", "log", "-1", "--format=%cD")))
+        it.write(CHANGES.format(version=pages.version(), maker=maker(), date=told("git", "log", "-1", "--format=%cD")))
     pack(changes, f"{changes}.gz")
     os.remove(changes)
 
@@ -187,7 +188,7 @@ def as_debian(room):
 def deb():
     """The Debian package."""
     with tempfile.TemporaryDirectory() as room:
-        place(room, "/usr")
+        place(room, "/usr", "/usr")
         as_debian(room)
         files = sorted(os.path.join(at, it) for at, _, its in os.walk(room) for it in its)
         size = sum(-(-os.path.getsize(it) // 1024) for it in files)
@@ -196,14 +197,14 @@ def deb():
         with open(f"{room}/DEBIAN/md5sums", "w", encoding="utf-8") as it:
             it.writelines(sums)
         fields = {
-            **{"Package": "tmpl", "Version": version(), "Architecture": "amd64", "Section": "text", "Priority": "optional"},
+            **{"Package": "tmpl", "Version": pages.version(), "Architecture": "amd64", "Section": "text", "Priority": "optional"},
             **{"Maintainer": maker(), "Depends": f"libc6 (>= {LIBC})"},
             "Installed-Size": str(size),
         }
         with open(f"{room}/DEBIAN/control", "w", encoding="utf-8") as it:
             it.write("".join(f"{name}: {value}\n" for name, value in fields.items()) + DESCRIPTION)
         settle(room)
-        path = f"{OUT}/tmpl_{version()}_amd64.deb"
+        path = f"{OUT}/tmpl_{pages.version()}_amd64.deb"
         environment = {**os.environ, "SOURCE_DATE_EPOCH": str(seconds())}
         words = ["dpkg-deb", "--root-owner-group", "-Zxz", "--build", room, path]
         subprocess.run(words, env=environment, stdout=subprocess.DEVNULL, check=True)
@@ -229,7 +230,7 @@ def platform_of(library):
 
 def wheel():
     """The binding for Python with the C library, as pip installs it."""
-    day, number, changed = re.fullmatch(r"0~git(\d+)\.([0-9a-f]+)(\+changed)?", version()).groups()
+    day, number, changed = re.fullmatch(r"0~git(\d+)\.([0-9a-f]+)(\+changed)?", pages.version()).groups()
     name = f"0.dev{day}+{number}{'.changed' * bool(changed)}"
     about = f"tmpl-{name}.dist-info"
     page = bytes_of(f"{TOP}/bindings/python/README.md")
@@ -241,6 +242,7 @@ def wheel():
         f"{about}/METADATA": METADATA.format(version=name, about=ABOUT).encode() + page,
         f"{about}/WHEEL": WHEEL.format(tag=tag).encode(),
     }
+    files[f"{about}/sboms/tmpl.spdx.json"] = bill.bill("tmpl_c", f"{TOP}/bindings/out", ["libtmpl.so"], seconds(), "{}.{}".format(*OLDEST)).encode()
     record = f"{about}/RECORD"
     files[record] = ("".join(recorded(*it) for it in files.items()) + f"{record},,\n").encode()
     path = f"{OUT}/tmpl-{name}-{tag}.whl"
@@ -257,7 +259,9 @@ def main(words):
     if not shutil.which("git") or subprocess.run(["git", "rev-parse"], cwd=TOP, stderr=subprocess.DEVNULL, check=False).returncode:
         sys.exit("packages are named by the commit: this is no checkout of Git, or Git is not there")
     os.makedirs(OUT, exist_ok=True)
-    print(kinds[words[0]]())
+    path = kinds[words[0]]()
+    add_up()
+    print(path)
 
 
 if __name__ == "__main__":
