@@ -121,7 +121,7 @@ help:
 
 $(PROGRAM): $(SOURCES)
 	@$(NEEDS_RT)
-	@echo "Proving the program: some 40 minutes of processor time from a fresh clone, seconds where little changed .." >&2
+	@echo "Proving the program: docs/CONTRIBUTING.md says how long that takes from a fresh clone; seconds where little changed .." >&2
 	cd crates/tmpl && rt run -- --help > /dev/null
 	@touch $@
 
@@ -132,7 +132,7 @@ $(PROBE): $(SOURCES)
 
 $(PROVED_LIBRARY): $(SOURCES)
 	@$(NEEDS_RT)
-	@echo "Proving the library: some 40 minutes of processor time from a fresh clone, seconds where little changed .." >&2
+	@echo "Proving the library: docs/CONTRIBUTING.md says how long that takes from a fresh clone; seconds where little changed .." >&2
 	cd crates/tmpl_c && rt lib >&2
 	@touch $@
 
