@@ -11,13 +11,16 @@ SHARED_LIBRARY = bindings/out/libtmpl.so
 SONAME = libtmpl.so.0
 # what proofs and programs are made of, with the folders, so that a file which is gone counts too
 SOURCES = crates.txt HANDLES $(shell find $(wildcard crates/*/src crates/*/specs crates/*/proofs))
-HELLO = ../../examples/hello
 OBJCOPY ?= objcopy
 QUOTES = $(addprefix examples/quotes/,quotes.tmpl data.tmpl texts.tmpl)
 # where packaging/ports.mk puts what is built for other places
 STATIC = packaging/out/static/tmpl
 ARM = packaging/out/aarch64
 WEB = packaging/out/web
+# what is copied, but for whole folders
+COPIED = bin/tmpl share/man/man1/tmpl.1 share/man/man7/tmpl-language.7 share/bash-completion/completions/tmpl \
+	share/zsh/site-functions/_tmpl share/fish/vendor_completions.d/tmpl.fish include/tmpl.h lib/libtmpl.a lib/libtmpl.so \
+	lib/$(SONAME) lib/pkgconfig/tmpl.pc
 # the first line of each recipe that needs the toolchain
 NEEDS_RT = command -v rt > /dev/null || { echo "rt is missing: it is the command of the toolchain of Rattle, with which the \
 program is proved and built. Put it on the PATH, or install a package that was made where it is." >&2; false; }
@@ -25,14 +28,11 @@ program is proved and built. Put it on the PATH, or install a package that was m
 # proves the program and the crates that it uses, over what earlier runs kept in out/, and builds it
 build: $(PROGRAM)
 
-# builds the program without proofs, and renders examples/hello
+# builds the program without proofs, renders examples/hello, and keeps it as crates/tmpl/out/tmpl-unproved
 demo:
 	@$(NEEDS_RT)
 	@echo "Building without proofs, which takes a minute or two .." >&2
-	@mkdir -p crates/tmpl/out
-	@cd crates/tmpl && { rt try --data hello.tmpl=$(HELLO)/hello.tmpl --data data.json=$(HELLO)/data.json \
-		-- --data data.json hello.tmpl < /dev/null 2> out/demo.log || { cat out/demo.log >&2; false; }; }
-	@echo "This build is not proved and was not kept: \`make\` proves the program and builds it." >&2
+	@python3 packaging/demo.py
 
 # the gate: every proof from nothing, then the tests over the program that it left, as each of the two compilers built it
 test:
@@ -77,19 +77,19 @@ compare: $(PROGRAM)
 	python3 tests/go/compare.py
 
 # copies the program, man pages, completions, templates for quoting, documents and examples to PREFIX, /usr/local if it is not set
-install: $(PROGRAM)
+install: $(PROGRAM) install-documents
 	install -D -m 755 $(PROGRAM) "$$DESTDIR$$PREFIX/bin/tmpl"
 	! command -v strip > /dev/null || strip "$$DESTDIR$$PREFIX/bin/tmpl"
-	install -D -m 644 -t "$$DESTDIR$$PREFIX/share/man/man1" man/tmpl.1
-	install -D -m 644 -t "$$DESTDIR$$PREFIX/share/man/man7" man/tmpl-language.7
+	! command -v $(OBJCOPY) > /dev/null || { note=$$(mktemp) && python3 packaging/pages.py --build > "$$note" && \
+		$(OBJCOPY) --remove-section .tmpl.build --add-section ".tmpl.build=$$note" "$$DESTDIR$$PREFIX/bin/tmpl" && rm "$$note"; }
 	install -D -m 644 completions/tmpl.bash "$$DESTDIR$$PREFIX/share/bash-completion/completions/tmpl"
 	install -D -m 644 -t "$$DESTDIR$$PREFIX/share/zsh/site-functions" completions/_tmpl
 	install -D -m 644 -t "$$DESTDIR$$PREFIX/share/fish/vendor_completions.d" completions/tmpl.fish
 	install -D -m 644 -t "$$DESTDIR$$PREFIX/share/tmpl/quotes" $(QUOTES)
-	install -D -m 644 -t "$$DESTDIR$$PREFIX/share/doc/tmpl" README.md CHANGELOG.md
-	install -D -m 644 -t "$$DESTDIR$$PREFIX/share/doc/tmpl/docs" docs/*.md
-	find examples editors -type f | while read -r file; do \
-		install -D -m 644 "$$file" "$$DESTDIR$$PREFIX/share/doc/tmpl/$$file" || exit 1; done
+
+# copies the documents, the man pages and the examples alone, with links to what is installed, and the folder that PREFIX names
+install-documents:
+	python3 packaging/pages.py "$$DESTDIR$$PREFIX" "$${SHOWN_PREFIX:-$$PREFIX}"
 
 # copies the C library, its header and what pkg-config reads to PREFIX
 install-lib: lib
@@ -101,14 +101,13 @@ install-lib: lib
 	python3 -c 'import os, sys; sys.stdout.write(sys.stdin.read().replace("@PREFIX@", os.environ["PREFIX"]))' \
 		< bindings/c/tmpl.pc.in > "$$DESTDIR$$PREFIX/lib/pkgconfig/tmpl.pc"
 
-# removes what `make install` and `make install-lib` copied
+# removes what `make install` and `make install-lib` copied, and the folders that are empty then
 uninstall:
-	cd "$$DESTDIR$$PREFIX" && rm -f bin/tmpl share/man/man1/tmpl.1 share/man/man7/tmpl-language.7 \
-		share/bash-completion/completions/tmpl share/zsh/site-functions/_tmpl share/fish/vendor_completions.d/tmpl.fish \
-		include/tmpl.h lib/libtmpl.a lib/libtmpl.so lib/$(SONAME) lib/pkgconfig/tmpl.pc
-	rm -rf "$$DESTDIR$$PREFIX/share/tmpl" "$$DESTDIR$$PREFIX/share/doc/tmpl"
+	cd "$$DESTDIR$$PREFIX" && rm -f $(COPIED) && rm -rf share/tmpl share/doc/tmpl && for file in $(COPIED) share/doc/tmpl; do \
+		folder=$${file#*/}; case $$folder in */*) (cd "$${file%%/*}" && rmdir -p "$${folder%/*}") 2> /dev/null || true;; esac; done
+	cd "$$DESTDIR$$PREFIX" && case "$$PWD" in /usr | /usr/local) ;; *) rmdir bin include lib share 2> /dev/null || true;; esac
 
-# packs what `make install` copies, and the C library where it is built, as a tar with its SHA-256; the same of the ports
+# packs what `make install` copies, and what `make install-lib` copies where the library is built, as a tar; the same of the ports
 dist: $(PROGRAM) $(STATIC)
 	@$(NEEDS_RT)
 	python3 packaging/make.py tar
@@ -132,7 +131,7 @@ help:
 
 $(PROGRAM): $(SOURCES)
 	@$(NEEDS_RT)
-	@echo "Proving the program: some 40 minutes of processor time from a fresh clone, seconds where little changed .." >&2
+	@echo "Proving the program: docs/CONTRIBUTING.md says how long that takes from a fresh clone; seconds where little changed .." >&2
 	cd crates/tmpl && rt run -- --help > /dev/null
 	@touch $@
 
@@ -143,7 +142,7 @@ $(PROBE): $(SOURCES)
 
 $(PROVED_LIBRARY): $(SOURCES)
 	@$(NEEDS_RT)
-	@echo "Proving the library: some 40 minutes of processor time from a fresh clone, seconds where little changed .." >&2
+	@echo "Proving the library: docs/CONTRIBUTING.md says how long that takes from a fresh clone; seconds where little changed .." >&2
 	cd crates/tmpl_c && rt lib >&2
 	@touch $@
 
@@ -170,4 +169,4 @@ $(SHARED_LIBRARY): $(STATIC_LIBRARY) bindings/c/tmpl.map
 
 include packaging/ports.mk
 
-.PHONY: build demo test lib test-bindings install-lib check edits bench fuzz compare install uninstall dist deb wheel help
+.PHONY: build demo test lib test-bindings install-lib check edits bench fuzz compare install install-documents uninstall dist deb wheel help

@@ -1,10 +1,10 @@
-"""Packs the program that is built, with man pages, completions, templates for quoting and documents: `make.py tar` as a tar with its
-SHA-256, and with the C library and its header where these are built, as the name says then. `make.py tar static` and `make.py tar aarch64`
-pack so the static program, and the one for aarch64 with its library; `make.py deb static` and `make.py deb aarch64` pack these two programs
-as Debian packages, which then need no other. `make.py wheel` packs the binding for Python with the C library, and `make.py npm` that for
-JavaScript with the module of WebAssembly. All go to `packaging/out`, and are named by the commit, the tars also by the logic that the
-program is proved with. `make dist`, `make deb`, `make wheel` and `make npm` call it once what they pack is built. The same tree gives the
-same bytes."""
+"""Packs the program that is built, with man pages, completions, templates for quoting and documents: `make.py tar` as a tar, and with the
+C library and its header where these are built, as the name says then. `make.py tar static` and `make.py tar aarch64` pack so the static
+program, and the one for aarch64 with its library; `make.py deb static` and `make.py deb aarch64` pack these two programs as Debian
+packages, which then need no other. `make.py wheel` packs the binding for Python with the C library, and `make.py npm` that for JavaScript
+with the module of WebAssembly. Each has a bill of materials. All go to `packaging/out`, beside the file SHA256SUMS of them all, of which
+SHA256SUMS.asc may be a signature. They are named by the commit, the tars also by the logic that the program is proved with. `make dist`,
+`make deb`, `make wheel` and `make npm` call it once what they pack is built. The same tree gives the same bytes."""
 import base64
 import collections
 import gzip
@@ -19,6 +19,9 @@ import tarfile
 import tempfile
 import time
 import zipfile
+
+import bill
+import pages
 
 HERE = os.path.dirname(os.path.abspath(__file__))
 TOP = os.path.dirname(HERE)
@@ -80,16 +83,9 @@ def told(*words):
     return subprocess.run(words, cwd=TOP, stdout=subprocess.PIPE, check=True).stdout.decode().strip()
 
 
-def version():
-    """The date and the number of the commit, and whether the tree is not just that one."""
-    day, number = told("git", "log", "-1", "--format=%cd %h", "--date=format:%Y%m%d", "--abbrev=12").split()
-    is_changed = told("git", "status", "--porcelain", "--untracked-files=no")
-    return f"0~git{day}.{number}" + "+changed" * bool(is_changed)
-
-
 def parted_version():
     """The day, the number and the mark of a change, of which others make versions by their own rules."""
-    return re.fullmatch(r"0~git(\d+)\.([0-9a-f]+)(\+changed)?", version()).groups()
+    return re.fullmatch(r"0~git(\d+)\.([0-9a-f]+)(\+changed)?", pages.version()).groups()
 
 
 def seconds():
@@ -101,18 +97,14 @@ def maker():
     return told("git", "log", "-1", "--format=%an <%ae>")
 
 
-def logic():
-    """The logic that the toolchain proves with."""
-    return re.search(r"logic ([0-9a-f]+)", told("rt", "version"))[1]
-
-
 def make(*words):
     return ["make", "--no-print-directory", "-s", *words]
 
 
-def place(folder, prefix, port):
-    """Installs into a folder, under a prefix, as `make install` does; with the program of a port, if that is asked for."""
-    subprocess.run(make("install", f"DESTDIR={folder}", f"PREFIX={prefix}"), cwd=TOP, check=True)
+def place(folder, prefix, shown, port=None):
+    """Installs into a folder, under a prefix, as `make install` does, with pages that show another prefix, and the bill beside them; with
+    the program of a port, if that is asked for."""
+    subprocess.run(make("install", f"DESTDIR={folder}", f"PREFIX={prefix}", f"SHOWN_PREFIX={shown}"), cwd=TOP, check=True)
     program = f"{folder}{prefix}/bin/tmpl"
     if port:  # the linker stripped it
         shutil.copy(PORTS[port].program, program)
@@ -120,6 +112,7 @@ def place(folder, prefix, port):
     if not shutil.which("strip"):
         sys.exit("strip is not there: install binutils")
     subprocess.run(["strip", "--strip-all", "--remove-section=.comment", program], check=True)
+    bill.write("tmpl", f"{folder}{prefix}", ["bin/tmpl"], "share/doc/tmpl/tmpl.spdx.json", seconds(), LIBC)
 
 
 def has_library():
@@ -158,12 +151,12 @@ def owned_by_root(it):
 
 
 def tar(port=None):
-    """The tar, and its sum beside it."""
+    """The tar."""
     is_whole = PORTS[port].has_library if port else has_library()
     system = PORTS[port].system if port else "x86_64-linux"
-    name = f"tmpl-{version().replace('0~git', '')}-{logic()}-{system}{'-with-library' * is_whole}"
+    name = f"tmpl-{pages.version().replace('0~git', '')}-{pages.toolchain()[1]}-{system}{'-with-library' * is_whole}"
     with tempfile.TemporaryDirectory() as room:
-        place(room, f"/{name}", port)
+        place(room, f"/{name}", "/usr/local", port)
         if is_whole:
             place_library(room, f"/{name}", port)
         settle(f"{room}/{name}")
@@ -176,10 +169,19 @@ def tar(port=None):
                     made.add(at, inside, recursive=False, filter=owned_by_root)
                     for file in sorted(files):
                         made.add(f"{at}/{file}", f"{inside}/{file}", filter=owned_by_root)
-    total = hashlib.sha256(bytes_of(path)).hexdigest()
-    with open(f"{path}.sha256", "w", encoding="ascii") as it:
-        it.write(f"{total}  {name}.tar.gz\n")
     return path
+
+
+def add_up():
+    """Writes the sums of all packages that are there, and removes a signature of other sums."""
+    names = sorted(it for it in os.listdir(OUT) if it.endswith((".tar.gz", ".deb", ".whl", ".tgz")))
+    text = "".join(f"{hashlib.sha256(bytes_of(f'{OUT}/{it}')).hexdigest()}  {it}\n" for it in names).encode()
+    sums = f"{OUT}/SHA256SUMS"
+    if not os.path.exists(sums) or bytes_of(sums) != text:
+        with open(sums, "wb") as it:
+            it.write(text)
+        if os.path.exists(f"{sums}.asc"):
+            os.remove(f"{sums}.asc")
 
 
 def pack(path, to):
@@ -201,7 +203,7 @@ def as_debian(room):
         it.write(COPYRIGHT)
     changes = f"{share}/doc/tmpl/changelog"
     with open(changes, "w", encoding="utf-8") as it:
-        it.write(CHANGES.format(version=version(), maker=maker(), date=told("git", "log", "-1", "--format=%cD")))
+        it.write(CHANGES.format(version=pages.version(), maker=maker(), date=told("git", "log", "-1", "--format=%cD")))
     pack(changes, f"{changes}.gz")
     os.remove(changes)
 
@@ -210,7 +212,7 @@ def deb(port):
     """The Debian package."""
     architecture = PORTS[port].architecture
     with tempfile.TemporaryDirectory() as room:
-        place(room, "/usr", port)
+        place(room, "/usr", "/usr", port)
         as_debian(room)
         files = sorted(os.path.join(at, it) for at, _, its in os.walk(room) for it in its)
         size = sum(-(-os.path.getsize(it) // 1024) for it in files)
@@ -219,13 +221,13 @@ def deb(port):
         with open(f"{room}/DEBIAN/md5sums", "w", encoding="utf-8") as it:
             it.writelines(sums)
         fields = {
-            **{"Package": "tmpl", "Version": version(), "Architecture": architecture, "Section": "text", "Priority": "optional"},
+            **{"Package": "tmpl", "Version": pages.version(), "Architecture": architecture, "Section": "text", "Priority": "optional"},
             **{"Maintainer": maker(), "Installed-Size": str(size)},
         }
         with open(f"{room}/DEBIAN/control", "w", encoding="utf-8") as it:
             it.write("".join(f"{name}: {value}\n" for name, value in fields.items()) + DESCRIPTION)
         settle(room)
-        path = f"{OUT}/tmpl_{version()}_{architecture}.deb"
+        path = f"{OUT}/tmpl_{pages.version()}_{architecture}.deb"
         environment = {**os.environ, "SOURCE_DATE_EPOCH": str(seconds())}
         words = ["dpkg-deb", "--root-owner-group", "-Zxz", "--build", room, path]
         subprocess.run(words, env=environment, stdout=subprocess.DEVNULL, check=True)
@@ -263,6 +265,7 @@ def wheel():
         f"{about}/METADATA": METADATA.format(version=name, about=ABOUT).encode() + page,
         f"{about}/WHEEL": WHEEL.format(tag=tag).encode(),
     }
+    files[f"{about}/sboms/tmpl.spdx.json"] = bill.bill("tmpl_c", f"{TOP}/bindings/out", ["libtmpl.so"], seconds(), "{}.{}".format(*OLDEST)).encode()
     record = f"{about}/RECORD"
     files[record] = ("".join(recorded(*it) for it in files.items()) + f"{record},,\n").encode()
     path = f"{OUT}/tmpl-{name}-{tag}.whl"
@@ -296,7 +299,9 @@ def main(words):
     if not shutil.which("git") or subprocess.run(["git", "rev-parse"], cwd=TOP, stderr=subprocess.DEVNULL, check=False).returncode:
         sys.exit("packages are named by the commit: this is no checkout of Git, or Git is not there")
     os.makedirs(OUT, exist_ok=True)
-    print(kinds[words[0]](*words[1:]))
+    path = kinds[words[0]](*words[1:])
+    add_up()
+    print(path)
 
 
 if __name__ == "__main__":

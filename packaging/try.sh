@@ -25,6 +25,9 @@ test "$($tmpl --data data.json hello.tmpl)" = 'Hello, Ada!'
 printf '"it'\''s"' > text.json
 printf '{{template "sh" .}}' > quote.tmpl
 test "$($tmpl --data text.json quote.tmpl usr/share/tmpl/quotes/quotes.tmpl)" = "'it'\\''s'"
+grep -ao 'tmpl 0~git.* proved by .*' usr/bin/tmpl | cmp - usr/share/doc/tmpl/BUILD
+python3 -c 'import json; json.load(open("usr/share/doc/tmpl/tmpl.spdx.json"))'
+grep -q '/usr/share/tmpl/quotes' usr/share/doc/tmpl/docs/COMMAND.md
 MANWIDTH=80 man -l usr/share/man/man1/tmpl.1.gz > page && grep -q SYNOPSIS page
 (source usr/share/bash-completion/completions/tmpl && complete -p tmpl > /dev/null)
 $dpkg --purge "tmpl:$architecture" > /dev/null

@@ -1,20 +1,25 @@
-"""Runs what the documents show: each block `console` of each document, in order, those below one heading `##` in one folder and
-one shell. A line that begins with `$ ` is a command, one with `> ` goes on with it, and the others are what it must put out, to its
-output and its errors. The program is `tmpl`, and `$QUOTES` the folder of the templates for quoting. TMPL=PATH names another build.
+"""Runs what the documents show: the blocks `console` and `sh` of each document, in order, those below one heading `##` in one folder
+and one shell. In a block `console` a line that begins with `$ ` is a command, one with `> ` goes on with it, and the others are what it
+must put out, to its output and its errors. A block `sh` is pasted whole, and puts out what the block `text` after it says, or nothing
+where no such block follows. The program is `tmpl`, and `$QUOTES` the folder of the templates for quoting. TMPL=PATH names another build.
 
-A comment before a block says what else is done with it; a block without one that is no `console` fails:
+A comment before a block says what else is done with it; a block without one that is neither fails:
 
 - `<!-- needs: NAME .. -->` names programs. Where one is not there all blocks of that heading are left out, and it says so.
-- `<!-- file: PATH -->`: the block shows the whole of this file, and they must be equal.
+- `<!-- save: NAME -->`: the block is a file, which is written under this name before what follows is run.
+- `<!-- file: PATH -->`: the block shows the whole of this file, and they must be equal; it is written under its base name too.
 - `<!-- tried by: PATH -->`: this test tries it, and what a block `text` directly after it says that it puts out.
 - `<!-- not run: WHY -->`: it is not run.
 
+Links are followed too: in the repository, and as `make install` places the documents, each must name a file or a heading that is there.
 `documents.py --list` lists the blocks, by document and line, with what is done with each, and runs nothing."""
+import base64
 import collections
 import glob
 import itertools
 import os
 import re
+import shlex
 import shutil
 import subprocess
 import sys
@@ -24,8 +29,9 @@ import harness
 
 LEAST = 80  # commands, where jq, yq and nginx are not there
 LEAST_SHOWN = 2  # files
+LEAST_LINKS = 150
 MARK = "\x1e"  # between what two commands put out
-COMMENT = re.compile(r"<!-- (needs|file|tried by|not run): (.*) -->")
+COMMENT = re.compile(r"<!-- (needs|save|file|tried by|not run): (.*) -->")
 DOCUMENTS = ["*.md", "docs/*.md", "*/README.md", "*/*/README.md"]
 # a block: its heading `##`, its line, its language, the comment before it as kind and text, and its own text
 Block = collections.namedtuple("Block", "heading line language kind said text")
@@ -70,10 +76,12 @@ def handled(document):
     before = ""
     for it in blocks(document):
         how = f"{it.kind} {it.said}".strip()
-        if it.language == "console" and it.kind in ("", "needs"):
+        if it.language in ("console", "sh") and it.kind in ("", "needs"):
             how = f"run {how}".strip()
         elif it.language == "text" and not it.kind and before.startswith("tried by"):
             how = before
+        elif it.language == "text" and not it.kind and before.startswith("run"):
+            how = "run, output"
         elif it.kind == "tried by" and not os.path.isfile(f"{harness.TOP}/{it.said}"):
             how = ""
         yield it, how
@@ -81,7 +89,7 @@ def handled(document):
 
 
 def commands(block):
-    """The commands of a block, each with what it puts out."""
+    """The commands of a block `console`, each with what it puts out."""
     found = []
     for line in block.splitlines():
         if line.startswith("$ "):
@@ -93,13 +101,31 @@ def commands(block):
     return [("\n".join(said), "\n".join(out)) for said, out in found]
 
 
+def written(name, text):
+    """The command that writes a file."""
+    return f"base64 -d > {shlex.quote(name)} <<'END'\n{base64.b64encode(text.encode()).decode()}\nEND", ""
+
+
+def steps(its):
+    """What is run of the blocks of a heading: commands, each with what it puts out."""
+    found = []
+    for it, how in its:
+        if it.kind in ("save", "file"):
+            found.append(written(os.path.basename(it.said), it.text))
+        elif how == "run, output":
+            found[-1] = (found[-1][0], it.text)
+        elif how.startswith("run"):
+            found += commands(it.text) if it.language == "console" else [(it.text.rstrip("\n"), "")]
+    return found
+
+
 def sections(document):
     """The headings of a document with their commands, and what they need."""
     for heading, its in itertools.groupby(handled(document), lambda found: found[0].heading):
-        ran = [it for it, how in its if how.startswith("run")]
-        needed = [name for it in ran if it.kind == "needs" for name in it.said.split()]
-        if ran:
-            yield heading, [command for it in ran for command in commands(it.text)], needed
+        its = list(its)
+        needed = [name for it, _ in its if it.kind == "needs" for name in it.said.split()]
+        if any(how.startswith("run") for _, how in its):
+            yield heading, steps(its), needed
 
 
 def differences(document, path, block):
@@ -136,6 +162,8 @@ def put_out(folder, said):
     os.makedirs(f"{folder}/bin")
     os.symlink(harness.PROGRAM, f"{folder}/bin/tmpl")
     os.symlink(f"{harness.TOP}/examples/quotes", f"{folder}/quotes")  # a path without spaces
+    os.makedirs(f"{folder}/share/tmpl")
+    os.symlink(f"{folder}/quotes", f"{folder}/share/tmpl/quotes")  # where an installed program has them
     os.makedirs(f"{folder}/room")
     shutil.copy(f"{harness.TOP}/examples/hello/hello.tmpl", f"{folder}/room")  # which docs/COMMAND.md shows
     script = "\n".join(f"{it}\nstatus=$?; printf '{MARK}'; (exit $status)" for it in said)
@@ -153,6 +181,45 @@ def check(name, said):
     for (command, wanted), came in zip(said, got):
         wrong = [f"    $ {command}", f"    got {came!r}", f"    wanted {wanted!r}"] if came != wanted.strip("\n") else []
         yield f"{name}: {command.splitlines()[0]}", 1, wrong
+
+
+# a link, outside of blocks and code, and what an address of the web begins with
+LINK = re.compile(r"(?<!\!)\[(?:[^\[\]]|\[[^\]]*\])*\]\(([^()\s]+)\)")
+ELSEWHERE = ("http://", "https://", "mailto:")
+
+
+def headings(text):
+    """The anchors of a document, as those who show Markdown make them of its headings."""
+    found = re.findall(r"^#+ (.*)$", re.sub(r"^```.*?^```", "", text, flags=re.MULTILINE | re.DOTALL), re.MULTILINE)
+    return {re.sub(r"[^\w\- ]", "", it.replace("`", "").lower()).replace(" ", "-") for it in found}
+
+
+def links(root, names):
+    """The links of these documents of a folder, each with what is wrong with it."""
+    for path in (f"{root}/{it}" for it in names):
+        with open(path, encoding="utf-8") as it:
+            text = it.read()
+        plain = re.sub(r"`[^`\n]*`", "", re.sub(r"^```.*?^```", "", text, flags=re.MULTILINE | re.DOTALL))
+        for to in LINK.findall(plain):
+            if to.startswith(ELSEWHERE):
+                continue
+            name, _, anchor = to.partition("#")
+            target = os.path.normpath(os.path.join(os.path.dirname(path), name)) if name else path
+            wrong = [] if os.path.exists(target) else [f"    {to} is not there"]
+            if anchor and not wrong and target.endswith(".md"):
+                with open(target, encoding="utf-8") as it:
+                    wrong = [] if anchor in headings(it.read()) else [f"    {to} names no heading"]
+            yield f"{os.path.relpath(path, root)}: the link {to}", 1, wrong
+
+
+def followed():
+    """The links in the repository, and of the documents as `make install` places them."""
+    yield from links(harness.TOP, documents())
+    with tempfile.TemporaryDirectory() as folder:
+        words = ["make", "-s", "install-documents", f"DESTDIR={folder}", "PREFIX=/usr"]
+        subprocess.run(words, cwd=harness.TOP, stdin=subprocess.DEVNULL, check=True)
+        placed = sorted(glob.glob(f"{folder}/**/*.md", recursive=True))
+        yield from links(folder, [os.path.relpath(it, folder) for it in placed])
 
 
 def main(words):
@@ -176,9 +243,11 @@ def main(words):
     told = harness.tally([it for document in documents() for it in shown(document)])
     failed += told[1] + harness.too_few("files were compared with what documents show of them", told[2], LEAST_SHOWN)
     handlings = harness.tally([it for document in documents() for it in strays(document)])
+    linked = harness.tally(followed())
+    failed += linked[1] + harness.too_few("links were followed", linked[2], LEAST_LINKS)
     others = sum(how.startswith("not run") for document in documents() for _, how in handled(document))
     print(f"{handlings[2]} blocks, {others} of them marked as not run")
-    return harness.closing(passed + told[0] + handlings[0], failed + handlings[1])
+    return harness.closing(passed + told[0] + linked[0] + handlings[0], failed + handlings[1])
 
 
 if __name__ == "__main__":

@@ -3,8 +3,8 @@ tests/rows that need no words and no files of the system go through one call eac
 text, line and status must be those of the row, but that lines call the data `data`. So must those of two renders of a set and data that
 are kept. Rows with short texts and lines are called with room of each size. tests/library.c refuses each allocation of calls in turn,
 runs two threads, and runs under valgrind where that is there. The header is compiled as C and as C++, what is installed is used by
-pkg-config, the wheel for Python is unpacked and used, and the programs of docs/EMBEDDING.md for C and Python are run. With --bindings it
-runs those for Go and Rust, and the tests of these two bindings, where Go and Cargo are installed, and nothing else."""
+pkg-config, the wheel for Python is unpacked and used, and the programs of docs/EMBEDDING.md and README.md for C and Python are run; so
+is examples/letters.py where Dask's scheduler is there. With --bindings it runs those for Go and Rust, and the tests of these two bindings, where Go and Cargo are installed, and nothing else."""
 import base64
 import gc
 import hashlib
@@ -366,9 +366,12 @@ def judge_names_of(path):
 
 
 def programs():
-    """The programs of docs/EMBEDDING.md: language, text, and what they put out."""
-    with open(f"{harness.TOP}/docs/EMBEDDING.md", encoding="utf-8") as it:
-        return BLOCK.findall(it.read())
+    """The programs of docs/EMBEDDING.md and README.md: language, text, and what they put out."""
+    found = []
+    for page in ("docs/EMBEDDING.md", "README.md"):
+        with open(f"{harness.TOP}/{page}", encoding="utf-8") as it:
+            found += BLOCK.findall(it.read())
+    return found
 
 
 def judge_program(folder, language, text, wanted):
@@ -378,7 +381,48 @@ def judge_program(folder, language, text, wanted):
     got = run(home, text)
     lines = sum(bool(line.strip()) for line in text.splitlines())
     wrong = [] if got == (0, wanted) else [f"    got {got}"]
-    return f"docs/EMBEDDING.md: {language}", 1, wrong + [f"    {lines} lines"] * (lines > 15)
+    return f"a program that the documents show: {language}", 1, wrong + [f"    {lines} lines"] * (lines > 15)
+
+
+# letters by Dask: how many, and what each is, by the rules
+LETTERS = 12000
+
+
+def letter(number):
+    balance = number * 7919 % 2000 - 1000
+    said = f"you owe us {-balance}" if balance < 0 else f"you have {balance}"
+    return f"Dear Customer {number},\n{said} euros.\n".encode()
+
+
+def with_dask():
+    """A Python that has Dask's scheduler; none where there is none."""
+    for python in (sys.executable, "/usr/bin/python3"):
+        found = os.path.exists(python) and subprocess.run([python, "-c", "import distributed"], stderr=subprocess.DEVNULL, check=False)
+        if found and found.returncode == 0:
+            return python
+    return None
+
+
+def letters_by_dask(folder):
+    """Runs examples/letters.py, also with a worker that is killed: every letter must be there, once, and be that of the rules."""
+    python = with_dask()
+    if not python:
+        print("examples/letters.py is left out, since Dask's scheduler is not there")
+        return
+    wanted = b"".join(letter(it) for it in range(LETTERS))
+    environment = {**os.environ, "LIBTMPL": f"{OUT}/libtmpl.so", "PYTHONPATH": f"{BINDINGS}/python"}
+    for options in ([], ["--kill"]):
+        home = tempfile.mkdtemp(prefix="letters-", dir=folder)
+        words = [python, f"{harness.TOP}/examples/letters.py", str(LETTERS), home, *options]
+        how = {"env": environment, "cwd": folder, "stdout": subprocess.PIPE, "stderr": subprocess.DEVNULL, "timeout": 120}
+        done = subprocess.run(words, check=False, **how)
+        text = b""
+        for name in sorted(it for it in os.listdir(home) if it.endswith(".txt")):
+            with open(f"{home}/{name}", "rb") as it:
+                text += it.read()
+        wrong = [] if done.returncode == 0 and text == wanted else [f"    status {done.returncode}, {len(text)} bytes of {len(wanted)}"]
+        wrong += [] if done.stdout.startswith(b"%d letters, " % LETTERS) else [f"    it says {done.stdout}"]
+        yield f"letters by Dask {' '.join(options)}".strip(), 1, wrong
 
 
 def written(path, text):
@@ -459,6 +503,7 @@ def main(words):
         results += [judge_names_of(f"{OUT}/libtmpl.so"), judge_names_of(f"{OUT}/libtmpl.a")]
         results += [judge_wheel(folder)]
         results += [judge_program(folder, *it) for it in programs() if it[0] in ("c", "python")]
+        results += letters_by_dask(folder)
         told = harness.tally(results)
         return harness.closing(passed + told[0], failed + told[1])
 

@@ -153,6 +153,7 @@ OTHERS = {
     "indent": (lambda it: re.sub(rb"(?m)^(?=[^\n])", b"    ", it), "4:"),
     "replace": (lambda it: it.replace("é".encode(), "<é>".encode()), "/é/<é>/"),
     "default": (lambda it: it or b"\"no'", "|\"no'|"),
+    "in turn": (lambda it: it.strip(b" \t\r\n").upper().replace(b"A", b"<Aa>").replace(b"\n", b"\r\n"), "|trim|upper|replace|A|<Aa>|replace|\n|\r\n||"),
 }
 # a number or texts that stand before the text, the text, and what is made of both
 FORMS = [
@@ -162,6 +163,16 @@ FORMS = [
     *[("replace", "/ab/x/aab", b"ax"), ("replace", b"/\x80/<>/a\x80\xff", b"a<>\xff"), ("replace", b"/\xff\xa9/e/\xff\xff\xa9", b"\xffe")],
     *[("default", "/a/", b"a"), ("default", "//", b""), ("default", "/a/0", b"0"), ("default", "/a/<nil>", b"a")],
     *[("default", "/a/b/c", b"b/c"), ("default", b"/\xff/", b"\xff")],
+    *[("in turn", "||", b""), ("in turn", "||a|b", b"a|b"), ("in turn", "|upper||", b""), ("in turn", "/upper/trim// a/b ", b"A/B")],
+    *[("in turn", "|lower|replace| |-|trunc|5|sh||It's A Day", b"'it'\\''s-'"), ("in turn", "|trunc|2||\u00e9\u00e9\u00e9", "\u00e9\u00e9".encode())],
+    *[("in turn", "|indent|2|yaml||a\n\nb", b'"  a\\n\\n  b"'), ("in turn", "|indent|0||a", b"a"), ("in turn", "|trim|| \n ", b"")],
+    *[("in turn", "|default|a b|upper||", b"A B"), ("in turn", "|trim|default|x|| ", b"x"), ("in turn", "|replace||x||abc", b"abc")],
+    *[("in turn", "|replace|aa|a|replace|a|||banaana", b"bnn"), ("in turn", "|upper|lower|| \u00c9aZ", " \u00c9az".encode())],
+    *[("in turn", f"|upper|{name}||it's", made) for name, made in (
+        *[("sh", b"'IT'\\''S'"), ("env", b'"IT\'S"'), ("sql", b"'IT''S'"), ("csv", b'"IT\'S"'), ("json", b'"IT\'S"')],
+        *[("toml", b'"IT\'S"'), ("yaml", b'"IT\'S"'), ("nginx", b'"IT\'S"'), ("systemd", b'"IT\'S"')],
+        *[("systemd command", b'"IT\'S"'), ("attribute", b'"IT&#39;S"')],
+    )],
 ]
 # what has no meaning, and the reason
 WRONG = {
@@ -169,7 +180,12 @@ WRONG = {
     "indent wants a number, a colon and a text": ["", "a", "4", ":a", "-4:a", "a:b"],
     "replace wants /old/new/ and a text": ["", "/", "/a/b"],
     "default wants /other/ and a text": ["", "/", "/a"],
+    "in turn wants |STEP|..|| and a text": ["", "|", "|upper", "|upper|", "|replace|a||", "|trunc||", "|default|a|b"],
+    "in turn quotes as its last step alone": ["|sh|upper||a", "|sh|sh||a"],
+    "in turn knows no such step": ["|shout||a", "| upper||a"],
 }
+# the template of a reason that does not begin with its name
+NAMED = {why: "in turn" for why in WRONG if why.startswith("in turn")}
 
 
 def rendered(name, text):
@@ -224,7 +240,7 @@ def cases():
         yield name, text, gives(made)
     for why, them in WRONG.items():
         for text in them:
-            yield why.partition(" ")[0], text, fault(why)
+            yield NAMED.get(why, why.partition(" ")[0]), text, fault(why)
 
 
 NGINX = b"""daemon off; master_process off; pid pid; error_log stderr crit; events {}

@@ -1,11 +1,14 @@
 """What strangers choose must get its line and status, and cost little: files that do not end or are far too long, lines of
 many programs on one error stream, what nests as deep as it may on a small stack of the machine, and names that a known hash
-does not tell apart; the keys of the hash are drawn from the system. TMPL=PATH names another build."""
+does not tell apart; the keys of the hash are drawn from the system; and standard input that has no name which the system opens, as a
+socket. TMPL=PATH names another build."""
 import os
 import resource
+import socket
 import subprocess
 import sys
 import tempfile
+import threading
 
 import harness
 
@@ -18,7 +21,7 @@ STACK = 512 << 10  # bytes
 ALIKE = (20000, 40000, 80000)  # definitions
 TWICE = 2  # times as long as with other names they may take
 NOISE = 0.1  # seconds
-LEAST = 39  # cases
+LEAST = 47  # cases
 FEW = 64 << 20  # bytes of memory that a refused file may take
 SOME = 300 << 20
 TOO_LONG = "file longer than 16777216 bytes"
@@ -164,12 +167,56 @@ def drawn(folder):
         yield f"keys of {name}", (0, b"1", b"", True), (done.returncode, done.stdout, done.stderr, asked == 16 or more and asked > 0)
 
 
+def from_socket(words, folder, given):
+    """What the program answers that has one end of a pair of sockets as its standard input, and the bytes that were left."""
+    ours, its = socket.socketpair()
+
+    def give():
+        try:
+            ours.sendall(given)
+            ours.shutdown(socket.SHUT_WR)
+        except (BrokenPipeError, ConnectionResetError):
+            pass  # it reads no further
+
+    giver = threading.Thread(target=give)
+    giver.start()
+    how = {"cwd": folder, "stdin": its, "stdout": subprocess.PIPE, "stderr": subprocess.PIPE, "timeout": harness.SECONDS}
+    done = subprocess.run([harness.PROGRAM, *words], **how)
+    its.close()
+    giver.join()
+    ours.close()
+    return done.returncode, done.stdout.decode(), done.stderr.decode()
+
+
+def inputs(folder):
+    """Standard input as it is handed on: a socket, the rest of a file, nothing."""
+    for name, text in (("m", "a {{.x}} b"), ("d", '{"x": 7}'), ("rest", 'a line\n{"x": 8}')):
+        with open(f"{folder}/{name}", "w", encoding="ascii") as file:
+            file.write(text)
+    many = b'{"x": "' + b"y" * 300000 + b'"}'
+    yield "data from a socket", (0, "a 7 b", ""), from_socket(["--data", "/dev/stdin", "m"], folder, b'{"x": 7}')
+    yield "300 kB from a socket", (0, f"a {'y' * 300000} b", ""), from_socket(["--data", "/dev/stdin", "m"], folder, many)
+    yield "a template from a socket", (0, "7!", ""), from_socket(["--data", "d", "/dev/stdin"], folder, b"{{.x}}!")
+    too_long = (4, "", f"tmpl: /dev/stdin:1: {TOO_LONG}\n")
+    yield "too long a template from a socket", too_long, from_socket(["/dev/stdin"], folder, b"x" * 16777218)
+    yield "a socket is read once", (5, "", "tmpl: /dev/stdin: not JSON\n"), from_socket(["--data", "/dev/stdin", "/dev/stdin"], folder, b"7")
+    yield "a socket by another name", (3, "", "tmpl: /dev/fd/0: read failed\n"), from_socket(["--data", "/dev/fd/0", "m"], folder, b"7")
+    how = {"cwd": folder, "stdout": subprocess.PIPE, "stderr": subprocess.PIPE, "timeout": harness.SECONDS}
+    words = [harness.PROGRAM, "--data", "/dev/stdin", "m"]
+    with open(f"{folder}/rest", "rb", buffering=0) as file:
+        file.read(len("a line\n"))
+        done = subprocess.run(words, stdin=file, **how)
+    yield "the rest of a file", (0, b"a 8 b", b""), (done.returncode, done.stdout, done.stderr)
+    done = subprocess.run(words, stdin=subprocess.DEVNULL, preexec_fn=lambda: os.close(0), **how)
+    yield "no standard input", (3, b"", b"tmpl: /dev/stdin: read failed\n"), (done.returncode, done.stdout, done.stderr)
+
+
 def main():
     if not harness.is_built():
         return 1
     passed, failed = 0, []
     with tempfile.TemporaryDirectory(dir=harness.MEMORY) as folder:
-        for test in (endless, shared, stacked, colliding, drawn):
+        for test in (endless, shared, stacked, colliding, drawn, inputs):
             for name, wanted, got in test(folder):
                 if wanted == got:
                     passed += 1

@@ -1,22 +1,26 @@
-//! The file system as a source, of which nothing is told but its failures, and random numbers.
+//! The file system and standard input as a source, of which nothing is told but its failures, and random numbers.
 ghost use Rattle.std.specs.Prelude.{◌≡◌, None};
 ghost use Rattle.tmpl.specs.Adapter.{answered, source_fault};
 
 use std::alloc::Global;
-use std::fs::{self, File};
-use std::io::{self, ErrorKind, Read};
+use std::fs::File;
+use std::io::{self, ErrorKind, Input, Read};
 use std::random::RandomSource;
 use std::rt::Files;
 use tmpl_tool::{Source, SourceFault};
 
-/// The file system.
+/// The name by which standard input is read. It is never opened by its name: the system refuses to open a socket so, and a
+/// file that another user opened.
+const STANDARD_INPUT: &str = "/dev/stdin";
+
+/// The file system, with standard input.
 #[derive(Drop)]
 pub(crate) struct FileSource<'a, R> {
     rt: &'a R,
     failures: u64,
 }
 
-impl<'a, R: Files + AllocGlobal> FileSource<'a, R> {
+impl<'a, R: Files + Input + AllocGlobal> FileSource<'a, R> {
     /// The file system of the runtime.
     pub(crate) fn new(rt: &'a R) -> FileSource<'a, R>
         ensures { result.failures ≡ 0 }
@@ -25,13 +29,13 @@ impl<'a, R: Files + AllocGlobal> FileSource<'a, R> {
     }
 }
 
-impl<'a, R: Files + AllocGlobal> Source for FileSource<'a, R> {
+impl<'a, R: Files + Input + AllocGlobal> Source for FileSource<'a, R> {
     ghost contents = { λ _. None };
 
     ghost failures = { λ s. s.failures };
 
-    fn read(&mut self, _alloc: Global, name: &str) -> Result<Vec<u8>, SourceFault> {
-        let read = answered(fs::read(self.rt, name));
+    fn read(&mut self, alloc: Global, name: &str) -> Result<Vec<u8>, SourceFault> {
+        let read = answered(read_front(alloc, self.rt, name, u64::MAX));
         if let Err(SourceFault::Failed) = read {
             self.failures += 1;
         }
@@ -47,10 +51,14 @@ impl<'a, R: Files + AllocGlobal> Source for FileSource<'a, R> {
     }
 }
 
-/// The first bytes of a file, so many if there are as many.
-fn read_front(alloc: Global, rt: &impl Files, name: &str, count: u64) -> io::Result<Vec<u8>> {
+/// The first bytes of a file, as many as are asked for if it has them.
+fn read_front<R: Files + Input>(alloc: Global, rt: &R, name: &str, count: u64) -> io::Result<Vec<u8>> {
     let mut bytes = Vec::new(alloc);
-    File::open(rt, name)?.take(count).read_to_end(&mut bytes)?;
+    if name == STANDARD_INPUT {
+        rt.reader().take(count).read_to_end(&mut bytes)?;
+    } else {
+        File::open(rt, name)?.take(count).read_to_end(&mut bytes)?;
+    }
     Ok(bytes)
 }
 
