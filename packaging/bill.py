@@ -1,5 +1,5 @@
 """The bill of materials of a package, in SPDX 2.3: what is packed, the crates that it is made of, the kit and the logic of its proofs,
-and the C library that it needs."""
+and the C library that it needs, or that is linked into it."""
 import hashlib
 import json
 import os
@@ -54,10 +54,11 @@ def bill(crate, root, paths, when, libc):
     packed = package("tmpl", version, comment=f"proved by the logic {logic}")
     ours = [package(it, version, comment="a crate of this repository") for it in parts if it in known]
     kits = [package(it, kit, comment="a crate of the kit, with those that it uses") for it in parts if it not in known]
-    tools = [package("rattle-kit", kit, comment=f"checker and compilers; logic {logic}"), package("glibc", f">= {libc}", comment="of the system")]
+    system = package("glibc", f">= {libc}", comment="of the system") if libc else package("glibc", "NOASSERTION", comment="linked in")
+    tools = [package("rattle-kit", kit, comment=f"checker and compilers; logic {logic}"), system]
     files = [file(root, it) for it in paths]
     relations = [("SPDXRef-DOCUMENT", "DESCRIBES", "SPDXRef-tmpl"), ("SPDXRef-rattle-kit", "BUILD_TOOL_OF", "SPDXRef-tmpl")]
-    relations += [("SPDXRef-tmpl", "DEPENDS_ON", "SPDXRef-glibc")]
+    relations += [("SPDXRef-tmpl", "DEPENDS_ON" if libc else "STATIC_LINK", "SPDXRef-glibc")]
     relations += [("SPDXRef-tmpl", "CONTAINS", it["SPDXID"]) for it in [*ours, *kits, *files]]
     told = {
         **{"spdxVersion": "SPDX-2.3", "dataLicense": "CC0-1.0", "SPDXID": "SPDXRef-DOCUMENT", "name": f"tmpl-{version}"},

@@ -26,12 +26,14 @@ import pages
 HERE = os.path.dirname(os.path.abspath(__file__))
 TOP = os.path.dirname(HERE)
 OUT = f"{HERE}/out"
+LIBC = "2.34"  # that the program which `make` builds needs
 OLDEST = 2, 17  # the oldest C library for which there are wheels
-# A program besides the one that `make` builds, how a tar and Debian name where it runs, and whether a library is built with it.
-Port = collections.namedtuple("Port", "program system architecture has_library")
+# A program besides the one that `make` builds, how a tar and Debian name where it runs, whether a library is built with it, and what
+# changes it.
+Port = collections.namedtuple("Port", "program system architecture has_library objcopy")
 PORTS = {
-    "static": Port(f"{OUT}/static/tmpl", "x86_64-linux-static", "amd64", False),
-    "aarch64": Port(f"{OUT}/aarch64/tmpl", "aarch64-linux", "arm64", True),
+    "static": Port(f"{OUT}/static/tmpl", "x86_64-linux-static", "amd64", False, "objcopy"),
+    "aarch64": Port(f"{OUT}/aarch64/tmpl", "aarch64-linux", "arm64", True, "aarch64-linux-gnu-objcopy"),
 }
 ABOUT = "renders templates in the language of Go's text/template"
 DESCRIPTION = f"""\
@@ -108,11 +110,14 @@ def place(folder, prefix, shown, port=None):
     program = f"{folder}{prefix}/bin/tmpl"
     if port:  # the linker stripped it
         shutil.copy(PORTS[port].program, program)
-        return
-    if not shutil.which("strip"):
+        note = f"{folder}{prefix}/share/doc/tmpl/BUILD"
+        subprocess.run([PORTS[port].objcopy, "--add-section", f".tmpl.build={note}", program], check=True)
+    elif shutil.which("strip"):
+        subprocess.run(["strip", "--strip-all", "--remove-section=.comment", program], check=True)
+    else:
         sys.exit("strip is not there: install binutils")
-    subprocess.run(["strip", "--strip-all", "--remove-section=.comment", program], check=True)
-    bill.write("tmpl", f"{folder}{prefix}", ["bin/tmpl"], "share/doc/tmpl/tmpl.spdx.json", seconds(), LIBC)
+    libc = None if port else LIBC
+    bill.write("tmpl", f"{folder}{prefix}", ["bin/tmpl"], "share/doc/tmpl/tmpl.spdx.json", seconds(), libc)
 
 
 def has_library():
