@@ -2,11 +2,12 @@
 done on a copy of the repository, where they take the place of those of must-fail/, over what earlier runs kept in out/.
 
     edits.py [NAME..]     tries the edits of these crates, or of all; RT_JOBS=N takes N crates side by side, else one
-    edits.py --apply      only looks whether each edit of edits/ and of must-fail/ still applies to its file, and, where its crate has
-                          changed since all its edits were tried, has the compiler's front end read each of edits/ over the libraries
-                          that `rt ci` left, so that one which no longer compiles is found
+    edits.py --apply      only looks whether each edit of edits/ and of must-fail/ still applies to its file, and, where the crate has
+                          changed since, has the compiler's front end read each of edits/ over the libraries that `rt ci` left, so that
+                          one which no longer compiles is found
 
-When all edits of a crate were refused, a checksum of its source and of its edits is written to tests/edits.tried."""
+When all edits of a crate were refused, or read and found to compile, a checksum of its source and of its edits is written to
+tests/edits.seen."""
 import hashlib
 import os
 import re
@@ -20,7 +21,7 @@ import harness
 
 FOLDERS = ("edits", "must-fail")
 REFUSED = ": refused, as it must be"
-TRIED = f"{harness.TESTS}/edits.tried"
+SEEN = f"{harness.TESTS}/edits.seen"
 
 
 def edits_in(folder):
@@ -91,18 +92,18 @@ def checksum(name):
     return told.hexdigest()
 
 
-def tried():
-    """The checksums of the crates, by name, at which all their edits were refused."""
-    if not os.path.exists(TRIED):
+def seen():
+    """The checksums of the crates, by name, at which all their edits were refused or read."""
+    if not os.path.exists(SEEN):
         return {}
-    with open(TRIED, encoding="ascii") as it:
+    with open(SEEN, encoding="ascii") as it:
         return dict(line.split() for line in it)
 
 
 def record(names):
-    """Writes down that all edits of these crates were refused."""
-    told = {**tried(), **{name: checksum(name) for name in names}}
-    with open(TRIED, "w", encoding="ascii") as it:
+    """Writes down that all edits of these crates were refused or read."""
+    told = {**seen(), **{name: checksum(name) for name in names}}
+    with open(SEEN, "w", encoding="ascii") as it:
         it.writelines(f"{name} {told[name]}\n" for name in sorted(told))
 
 
@@ -125,23 +126,29 @@ def compiles(crate, edit):
     return re.findall(r"^src/\S+ error.*$", said, re.MULTILINE)[:3]
 
 
+def read_edits(room, name):
+    """Has the front end read the edits of a crate: how many it takes and how many not."""
+    crate, passed, failed = f"{room}/crates/{name}", 0, 0
+    take_edits(crate, "edits")
+    for edit in edits_in(f"{crate}/must-fail"):
+        said = compiles(crate, edit)
+        print(*[f"BAD EDIT crates/{name}/edits/{edit}: {it}" for it in said], sep="\n", end="\n" * bool(said), flush=True)
+        passed, failed = passed + (not said), failed + bool(said)
+    return passed, failed
+
+
 def read_changed(room, crates):
-    """Has the front end read the edits of crates that changed since all of theirs were tried: how many it takes and how many not."""
-    passed = failed = 0
-    told = tried()
+    """Has the front end read the edits of those crates that changed since: how many it takes and how many not."""
+    told = seen()
     changed = [it for it in crates if edits_in(f"{harness.TOP}/crates/{it}/edits") and told.get(it) != checksum(it)]
     for name in crates if changed else []:
         libraries = f"{harness.TOP}/crates/{name}/out/rlib"
         if os.path.isdir(libraries):
             shutil.copytree(libraries, f"{room}/crates/{name}/out/rlib")
-    for name in changed:
-        crate = f"{room}/crates/{name}"
-        take_edits(crate, "edits")
-        for edit in edits_in(f"{crate}/must-fail"):
-            said = compiles(crate, edit)
-            print(*[f"BAD EDIT crates/{name}/edits/{edit}: {it}" for it in said], sep="\n", end="\n" * bool(said), flush=True)
-            passed, failed = passed + (not said), failed + bool(said)
-    return passed, failed
+    with ThreadPoolExecutor(int(os.environ.get("RT_JOBS") or 1)) as pool:
+        came = list(pool.map(lambda it: read_edits(room, it), changed))
+    record(name for name, (_, failed) in zip(changed, came) if not failed)
+    return tuple(map(sum, zip((0, 0), *came)))
 
 
 def attempt_all(room, every, crates):
