@@ -12,7 +12,7 @@ import harness
 FEWER, MORE = 1000, 2000  # how many there are of what is counted, where memory and writes are
 GROWTH = 2.5  # of what is taken from the one to the other
 PIECE = 4096  # bytes that the command puts out together
-LEAST = 140  # cases
+LEAST = 144  # cases
 
 MADE = '{{$x := print "%s"}}{{$y := $x}}{{with $x}}{{.}}|{{len .}}|{{slice . %d}}{{end}}|{{$y}}|{{template "t" $x}}{{$x = print $y}}{{$x}};'
 

@@ -17,7 +17,7 @@ import meaning
 import reading
 
 COUNT = 8000
-ROWS = 1200  # of which meaning.py tells at least
+ROWS = 1220  # of which meaning.py tells at least
 LARGE = 1 << 17  # bytes up to which a row is told
 DEEP = 10000  # and calls inside one another, each of which takes some of Python's own
 

@@ -14,6 +14,7 @@ import sweep
 
 PROBE = f"{harness.TOP}/crates/tmpl_probe/out/tmpl_probe"
 PIECES = (1, 2, 4, 4096)
+LEAST = 8900  # runs
 ALL = 2**64 - 1  # as many bytes as there are
 DONE = b"status 0\n"
 OUT_OF_MEMORY = b"tmpl: out of memory\nstatus 7\n"
@@ -331,7 +332,8 @@ def main():
         done += [pool.submit(judge, shim, *row) for judge in (judge_count, judge_refused) for row in ALLOCATIONS]
         done += [pool.submit(judge_refused, shim, template, text, 0, 0, data) for template, data, text in SPARED]
         passed, failed, runs = harness.tally(it.result() for it in done)
-    print(f"{len(rows)} rows come to a run, and {len(textless)} of the small ones make no text; {runs} runs were judged")
+    print(f"{len(rows)} rows come to a run, and {len(textless)} of the small ones make no text")
+    failed += harness.too_few("runs were judged", runs, LEAST)
     return harness.closing(passed, failed)
 
 

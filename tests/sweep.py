@@ -15,7 +15,7 @@ SMALL = 4096  # bytes in the files and the output of a row, but for worked ones
 WORKED = "worked: "
 MOST = 100000  # allocations of one run
 LITTLE = 150  # bytes in the files of a set that is printed
-LEAST = {"rows": 90000, "printed sets": 25000}  # allocations of all
+LEAST = {"rows": 91400, "printed sets": 55400}  # allocations of all
 
 
 def refusing(number, shim, once):

@@ -17,7 +17,7 @@ import harness
 FEW = 65536  # bytes up to which each write is refused in each way
 MANY = 1 << 17  # bytes beyond which only long writes are refused in the gate
 DEEP = b"100000"  # the depth whose cells take long to give back behind a refusal
-LEAST = 1200000  # refused writes
+LEAST = 1660000  # refused writes
 WAYS = ("by an error", "by an error for good", "by an interrupt", "by taking no byte")  # as fail_write.c has them
 MOST = {1: 1, 3: 2, 4096: 4}  # the most bytes that a write takes, and in how many ways it is refused where the text is long
 COUNT = struct.Struct("l")
