@@ -86,7 +86,7 @@ def refused(rows):
     """Each row whose words are refused or of which a FILE is missing, with the option to print: it comes to the same, since that is
     looked at before what is printed."""
     for row in rows:
-        paths = harness.parted(row.words)[1] if row.status == 3 else []
+        paths = harness.parted(row.words)[1] if row.status == 3 and b"--print" not in row.words else []
         if row.status == 2 or row.err in [b"tmpl: %b: no such file\n" % path for path in paths]:
             it = copy.copy(row)
             it.name, it.words = f"{row.name}, printed", [b"--print", *row.words]

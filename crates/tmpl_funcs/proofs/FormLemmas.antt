@@ -9,9 +9,9 @@ use Rattle.std.proofs.lemmas.List.{take_all, take-append-drop}
 use Rattle.tmpl_funcs.specs.printf.Form.{WrittenForm, form_of, is_flag}
 use Rattle.tmpl_funcs.specs.computed.Scan.{verb_of, form_at, verb_behind}
 use Rattle.tmpl_funcs.specs.computed.OneReading.{letter-verb_of}
-use Rattle.tmpl_funcs.specs.printf.Spelling.{pointed, form_bytes}
+use Rattle.tmpl_funcs.specs.printf.Spelling.{form_bytes}
 use Rattle.tmpl_funcs.specs.computed.View.{form_seen}
-use Rattle.tmpl_funcs.specs.computed.Reading.{form_if, form_by, width_behind, precision_behind, IsRead}
+use Rattle.tmpl_funcs.specs.computed.Reading.{form_if, form_by, pointed, width_behind, precision_behind, IsRead}
 use Rattle.tmpl_funcs.specs.declared.printf.form.Form.{Form}
 
 -- the same reading of the same bytes

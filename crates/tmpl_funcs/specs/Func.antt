@@ -1,5 +1,5 @@
 -- The functions of templates as one table ("Functions").
-use Rattle.std.specs.Prelude.{ℕ, pos, Bool, true, false, not, ◌&&◌, nat_le, List, ◌∷◌, ◌++◌, map, flat_map, codes, Option}
+use Rattle.std.specs.Prelude.{ℕ, pos, Bool, true, false, not, ◌&&◌, nat_le, List, ◌∷◌, ◌++◌, map, flat_map, codes}
 use Rattle.std.specs.Prelude.{Some, None, option_map, ok_or, Result, Ok, Err, if◌then◌else◌}
 use Rattle.std.specs.List.{join_with_byte}
 use Rattle.std.specs.Option.{option_map_or}

@@ -12,16 +12,34 @@ use Rattle.std.proofs.lemmas.List.{length-take}
 use Rattle.std.proofs.lemmas.List.Sums.{prefix_len-le-length, take_while-cons}
 use Rattle.std.proofs.lemmas.Option.{IfSome_then}
 use Rattle.tmpl_values.specs.One.{One}
-use Rattle.tmpl_funcs.specs.printf.Directive.{is_verb}
-use Rattle.tmpl_funcs.specs.printf.Form.{WrittenForm, Segment, literal, percent, form, is_plain, is_flag, takes_precision}
-use Rattle.tmpl_funcs.specs.printf.Spelling.{pointed, form_bytes, is_short, begins_above_0}
+use Rattle.tmpl_funcs.specs.printf.Form.{WrittenForm, Segment, literal, percent, form, is_plain, is_flag}
+use Rattle.tmpl_funcs.specs.printf.Spelling.{form_bytes}
 use Rattle.tmpl_funcs.specs.printf.Spelling as spelling
-use Rattle.tmpl_funcs.specs.printf.Spelling.{IsPrecision, IsForm, IsReading, IsReadAs}
-use Rattle.tmpl_funcs.specs.computed.Scan.{verb_of, behind, verb_behind, form_at, first_segment, segment_bytes, segment_len, segments_after, segments_read}
-use Rattle.tmpl_funcs.specs.computed.Reading.{is_precision, form_if, form_by, precision_behind, rest_len, with_segment}
+use Rattle.tmpl_funcs.specs.printf.Spelling.{IsForm, IsReading, IsReadAs}
+use Rattle.tmpl_funcs.specs.computed.Scan.{is_verb, takes_precision, verb_of, behind, verb_behind, form_at, first_segment, segment_bytes, segment_len, segments_after, segments_read}
+use Rattle.tmpl_funcs.specs.computed.Reading.{is_precision, is_short, pointed, form_if, form_by, precision_behind, rest_len, with_segment}
 use Rattle.tmpl_funcs.specs.computed.Front.{begins, take_while-append, behind-append, list_all-take_while, begins-behind}
 use Rattle.tmpl_funcs.specs.computed.Front.{take_while-behind, take_while-passing}
 use Rattle.std.proofs.lemmas.Bool.{and_parts}
+
+-- ---- the parts of a form
+
+abbrev IsPrecision : Option (List ℕ) → ℕ → Type 0
+IsPrecision precision verb = IfSome precision (λ digits. (list_all is_ascii_digit digits ≡ true)
+    × (is_short digits ≡ true) × (takes_precision verb ≡ true))
+
+-- the first digit, if there is one, is not 0
+abbrev begins_above_0 : List ℕ → Bool
+begins_above_0 [] = true
+begins_above_0 (d ∷ ds) = not (d == 48)
+
+above-told : (ds : List ℕ) → begins_above_0 ds ≡ true → IfSome (slice_get ds 0) (λ d. (d == 48) ≡ false)
+above-told [] h = tt
+above-told (d ∷ ds) h = not-true (d == 48) h
+
+above-tested : (ds : List ℕ) → IfSome (slice_get ds 0) (λ d. (d == 48) ≡ false) → begins_above_0 ds ≡ true
+above-tested [] h = refl
+above-tested (d ∷ ds) h = rw h refl
 
 -- ---- segments, and how they are spelled
 
@@ -188,7 +206,7 @@ form_at-form_bytes : (f : WrittenForm) (rest : List ℕ) → IsForm f → form_a
 unfolding form_at
 form_at-form_bytes f rest is =
     let tail : List ℕ = pointed f.precision ++ f.verb ∷ [] in
-    let stop = width-no_flag f.verb is.verb rest f.width f.precision is.width is.above in
+    let stop = width-no_flag f.verb is.verb rest f.width f.precision is.width (above-tested f.width is.above) in
     let digits = pointed-first f.verb is.verb rest is_ascii_digit false f.precision refl (letter-IsLetter f.verb is.verb).digit in
     rw (
       append_assoc f.flags (f.width ++ tail) rest,
@@ -318,7 +336,7 @@ form_at-sound bs =
         flags = ap (list_all is_flag) parts.flags_is ∙ list_all-take_while is_flag bs;
         width = ap (list_all is_ascii_digit) parts.width_is ∙ list_all-take_while is_ascii_digit tail;
         short = ap is_short parts.width_is ∙ parts.short;
-        above = ap begins_above_0 parts.width_is ∙ begins_above_0-digits tail (begins-behind is_flag bs);
+        above = above-told f.width (ap begins_above_0 parts.width_is ∙ begins_above_0-digits tail (begins-behind is_flag bs));
         precision = parts.precision;
         verb = parts.verb;
       },

@@ -1,20 +1,28 @@
 -- The reading of a form part by part, and what it comes to.
-use Rattle.std.specs.Prelude.{◌≡◌, ◌&&◌, ◌+◌, ◌-◌, ◌*◌, ◌==◌, List, ◌∷◌, ℕ, Bool, true, ◌++◌, drop, fold, length}
+use Rattle.std.specs.Prelude.{◌≡◌, ◌&&◌, ◌+◌, ◌-◌, ◌*◌, ◌==◌, nat_le, List, [], ◌∷◌, ℕ, Bool, true, ◌++◌, drop, fold, length}
 use Rattle.std.specs.Prelude.{slice_index, Option, Some, None, option_map, option_and_then, if◌then◌else◌}
 use Rattle.std.specs.Borrow.{Bor}
 use Rattle.std.specs.Char.{is_ascii_digit}
 use Rattle.std.specs.List.{take_while}
 use Rattle.std.specs.Option.{option_map_or}
 use Rattle.std.specs.Str.{byte}
-use Rattle.tmpl_funcs.specs.printf.Form.{WrittenForm, Segment, form_of, takes_precision}
-use Rattle.tmpl_funcs.specs.computed.Scan.{behind, segment_bytes, verb_behind}
-use Rattle.tmpl_funcs.specs.printf.Spelling.{form_bytes, is_short}
+use Rattle.tmpl_funcs.specs.printf.Form.{WrittenForm, Segment, form_of}
+use Rattle.tmpl_funcs.specs.computed.Scan.{behind, segment_bytes, takes_precision, verb_behind}
+use Rattle.tmpl_funcs.specs.printf.Spelling.{form_bytes}
 use Rattle.tmpl_funcs.specs.computed.View.{form_seen}
 use Rattle.tmpl_funcs.specs.declared.printf.form.Form as held
 
 -- the number that decimal digits write when they follow those of n
 abbrev pub number_after : ℕ → List ℕ → ℕ
 number_after = fold (λ n d. 10 * n + (d - byte "0"))
+
+-- the precision, behind a point
+abbrev pub pointed : Option (List ℕ) → List ℕ
+pointed precision = option_map_or (λ digits. byte "." ∷ digits) precision []
+
+-- the digits are few enough
+abbrev pub is_short : List ℕ → Bool
+is_short digits = nat_le (length digits) 4
 
 -- the precision is short, and the verb may have it
 abbrev pub is_precision : Option (List ℕ) → ℕ → Bool

@@ -1,15 +1,22 @@
 -- A format read from left to right.
 use Rattle.std.specs.Prelude.{ℕ, zero, suc, ◌+◌, ◌-◌, ◌&&◌, ◌==◌, nat_le, Bool, true, List, [], ◌∷◌, ◌++◌, codes, length, drop}
-use Rattle.std.specs.Prelude.{slice_get, slice_index, Option, Some, None}
+use Rattle.std.specs.Prelude.{slice_get, slice_index, is_some, Option, Some, None}
 use Rattle.std.specs.Prelude.{option_map, option_and_then, if◌then◌else◌}
 use Rattle.std.specs.Char.{is_ascii_digit}
 use Rattle.std.specs.List.{prefix_len, take_while}
 use Rattle.std.specs.Option.{option_map_or}
 use Rattle.std.specs.Str.{byte}
 use Rattle.tmpl_funcs.specs.printf.Form.{WrittenForm, Segment, literal, percent, form, is_plain, is_flag}
-use Rattle.tmpl_funcs.specs.printf.Form.{takes_precision}
-use Rattle.tmpl_funcs.specs.printf.Directive.{is_verb}
+use Rattle.tmpl_funcs.specs.printf.Directive.{printer}
 use Rattle.tmpl_funcs.specs.printf.Spelling.{form_bytes}
+
+-- a verb has this letter
+abbrev pub is_verb : ℕ → Bool
+is_verb letter = is_some (printer letter)
+
+-- the verb of a letter may have a precision: `%s` alone
+abbrev pub takes_precision : ℕ → Bool
+takes_precision letter = letter == byte "s"
 
 -- the letter, where a verb has it
 abbrev pub verb_of : ℕ → Option ℕ

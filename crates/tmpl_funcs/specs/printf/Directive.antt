@@ -1,7 +1,7 @@
 -- What a form of `printf` prints of a value ("Printing" in the documentation of `fmt`). Which flags
 -- a verb takes, and that any other is refused, is this project's own rule.
 use Rattle.std.specs.Prelude.{ℕ, ℤ, pos, nat_abs, int_lt, int_le, ◌/◌, ◌%◌, ◌&&◌, ◌||◌, ◌==◌, not, Bool, true, false}
-use Rattle.std.specs.Prelude.{List, [], ◌∷◌, codes, find, Option, Some, None, option_map, option_and_then, is_some}
+use Rattle.std.specs.Prelude.{List, [], ◌∷◌, codes, find, Option, Some, None, option_map, option_and_then}
 use Rattle.std.specs.Prelude.{if◌then◌else◌}
 use Rattle.std.specs.List.{flat_map}
 use Rattle.std.specs.Char.{encode_utf8}
@@ -73,9 +73,6 @@ verbs =
 -- what the verb of a letter prints, if there is one
 abbrev pub printer : ℕ → Option Prints
 printer letter = option_map (λ p. p.1) (find (λ p. letter == p.0) verbs)
-
-abbrev pub is_verb : ℕ → Bool
-is_verb letter = is_some (printer letter)
 
 -- what a form prints of a value
 abbrev pub printed_by : Form → Value → Option (List ℕ)

@@ -29,10 +29,6 @@ is_plain b = not (b == byte "%")
 abbrev pub is_flag : ℕ → Bool
 is_flag b = b == byte "-" || (b == byte "+" || (b == byte "0" || b == byte " "))
 
--- the verb of a letter may have a precision: `%s` alone
-abbrev pub takes_precision : ℕ → Bool
-takes_precision letter = letter == byte "s"
-
 -- the number that decimal digits write
 abbrev pub number_in : List ℕ → ℕ
 number_in ds = fold (λ n d. 10 * n + (d - byte "0")) 0 ds

@@ -2,8 +2,7 @@
 ghost use Rattle.std.specs.Prelude.{◌≡◌, ◌≤◌, ◌++◌, length, option_map, Some};
 ghost use Rattle.tmpl_funcs.specs.printf.Form.{form_of, number_in};
 ghost use Rattle.tmpl_funcs.specs.computed.Scan.{form_at, verb_behind, verb_of};
-ghost use Rattle.tmpl_funcs.specs.printf.Spelling.{pointed};
-ghost use Rattle.tmpl_funcs.specs.computed.Reading.{form_by, precision_behind, width_behind, IsRead};
+ghost use Rattle.tmpl_funcs.specs.computed.Reading.{form_by, pointed, precision_behind, width_behind, IsRead};
 ghost use Rattle.tmpl_funcs.specs.computed.View.{form_seen, letter_of};
 
 use super::class::Class;
