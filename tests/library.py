@@ -326,8 +326,8 @@ def judge_header(folder):
         got = ran("pkg-config", "--cflags", "--libs", "--define-variable=prefix=/opt/x", "tmpl", env=environment)
         yield "pkg-config", 1, [] if got == (0, "-I/opt/x/include -L/opt/x/lib -ltmpl \n") or got == (0, "-I/opt/x/include -L/opt/x/lib -ltmpl\n") else [f"    got {got}"]
     status, said = ran("make", "-s", "-C", harness.TOP, "uninstall", f"DESTDIR={root}", "PREFIX=/usr")
-    left = [name for _, _, names in os.walk(root) for name in names]
-    yield "make uninstall", 1, [f"    {said} {left}"] if status or left else []
+    left = [name for _, folders, names in os.walk(root) for name in folders + names]
+    yield "make uninstall", 1, [f"    {said} {left}"] if status or left != ["usr"] else []
 
 
 RECORDED = re.compile(r"(.+),sha256=(.+),(\d+)")
