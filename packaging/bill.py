@@ -34,7 +34,8 @@ def below(crate):
 
 def package(name, version, **more):
     told = {"SPDXID": f"SPDXRef-{name.replace('_', '-')}", "name": name, "versionInfo": version, "downloadLocation": "NOASSERTION"}
-    return {**told, "filesAnalyzed": False, "licenseConcluded": NO_LICENCE, "licenseDeclared": NO_LICENCE, "copyrightText": NO_LICENCE, **more}
+    licence = {"licenseConcluded": NO_LICENCE, "licenseDeclared": NO_LICENCE, "copyrightText": NO_LICENCE}
+    return {**told, "filesAnalyzed": False, **licence, **more}
 
 
 def file(root, path):
@@ -54,7 +55,8 @@ def bill(crate, root, paths, when, libc):
     packed = package("tmpl", version, comment=f"proved by the logic {logic}")
     ours = [package(it, version, comment="a crate of this repository") for it in parts if it in known]
     kits = [package(it, kit, comment="a crate of the kit, with those that it uses") for it in parts if it not in known]
-    tools = [package("rattle-kit", kit, comment=f"checker and compilers; logic {logic}"), package("glibc", f">= {libc}", comment="of the system")]
+    tools = [package("rattle-kit", kit, comment=f"checker and compilers; logic {logic}")]
+    tools += [package("glibc", f">= {libc}", comment="of the system")]
     files = [file(root, it) for it in paths]
     relations = [("SPDXRef-DOCUMENT", "DESCRIBES", "SPDXRef-tmpl"), ("SPDXRef-rattle-kit", "BUILD_TOOL_OF", "SPDXRef-tmpl")]
     relations += [("SPDXRef-tmpl", "DEPENDS_ON", "SPDXRef-glibc")]

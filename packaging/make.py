@@ -1,7 +1,8 @@
 """Packs the program that is built, with man pages, completions, templates for quoting and documents: `make.py tar` as a tar, and with
 the C library and its header where these are built, as the name says then; `make.py deb` as a Debian package. `make.py wheel` packs the
 binding for Python with the C library. Each has a bill of materials. All go to `packaging/out`, beside the file SHA256SUMS of them all,
-of which SHA256SUMS.asc may be a signature. They are named by the commit, the tar also by the logic that the program is proved with. `make dist`, `make deb` and `make wheel` call it once what they pack is proved. The same tree gives the same bytes."""
+of which SHA256SUMS.asc may be a signature. They are named by the commit, the tar also by the logic that the program is proved with.
+`make dist`, `make deb` and `make wheel` call it once what they pack is proved. The same tree gives the same bytes."""
 import base64
 import gzip
 import hashlib
@@ -242,7 +243,8 @@ def wheel():
         f"{about}/METADATA": METADATA.format(version=name, about=ABOUT).encode() + page,
         f"{about}/WHEEL": WHEEL.format(tag=tag).encode(),
     }
-    files[f"{about}/sboms/tmpl.spdx.json"] = bill.bill("tmpl_c", f"{TOP}/bindings/out", ["libtmpl.so"], seconds(), "{}.{}".format(*OLDEST)).encode()
+    oldest = "{}.{}".format(*OLDEST)
+    files[f"{about}/sboms/tmpl.spdx.json"] = bill.bill("tmpl_c", f"{TOP}/bindings/out", ["libtmpl.so"], seconds(), oldest).encode()
     record = f"{about}/RECORD"
     files[record] = ("".join(recorded(*it) for it in files.items()) + f"{record},,\n").encode()
     path = f"{OUT}/tmpl-{name}-{tag}.whl"

@@ -4,7 +4,8 @@ text, line and status must be those of the row, but that lines call the data `da
 are kept. Rows with short texts and lines are called with room of each size. tests/library.c refuses each allocation of calls in turn,
 runs two threads, and runs under valgrind where that is there. The header is compiled as C and as C++, what is installed is used by
 pkg-config, the wheel for Python is unpacked and used, and the programs of docs/EMBEDDING.md and README.md for C and Python are run; so
-is examples/letters.py where Dask's scheduler is there. With --bindings it runs those for Go and Rust, and the tests of these two bindings, where Go and Cargo are installed, and nothing else."""
+is examples/letters.py where Dask's scheduler is there. With --bindings it runs those for Go and Rust, and the tests of these two
+bindings, where Go and Cargo are installed, and nothing else."""
 import base64
 import gc
 import hashlib
