@@ -24,7 +24,8 @@ def templates():
 
 def letters(first, end):
     """Letters of these numbers."""
-    return b"".join(templates().render_bytes(data={"name": f"Customer {it}", "balance": it * 7919 % 2000 - 1000}) for it in range(first, end))
+    accounts = ({"name": f"Customer {it}", "balance": it * 7919 % 2000 - 1000} for it in range(first, end))
+    return b"".join(templates().render_bytes(data=it) for it in accounts)
 
 
 def part(first, end, folder):

@@ -34,7 +34,8 @@ def below(crate):
 
 def package(name, version, **more):
     told = {"SPDXID": f"SPDXRef-{name.replace('_', '-')}", "name": name, "versionInfo": version, "downloadLocation": "NOASSERTION"}
-    return {**told, "filesAnalyzed": False, "licenseConcluded": NO_LICENCE, "licenseDeclared": NO_LICENCE, "copyrightText": NO_LICENCE, **more}
+    licence = {"licenseConcluded": NO_LICENCE, "licenseDeclared": NO_LICENCE, "copyrightText": NO_LICENCE}
+    return {**told, "filesAnalyzed": False, **licence, **more}
 
 
 def file(root, path):

@@ -45,7 +45,8 @@ def running(pipe):
 def is_tmpl(path):
     """Whether a file is the program: it puts out its usage line."""
     try:
-        ran = subprocess.run([path, "--help"], stdin=subprocess.DEVNULL, stdout=subprocess.PIPE, stderr=subprocess.DEVNULL, timeout=60, check=False)
+        how = {"stdin": subprocess.DEVNULL, "stdout": subprocess.PIPE, "stderr": subprocess.DEVNULL, "timeout": 60}
+        ran = subprocess.run([path, "--help"], check=False, **how)
     except (OSError, subprocess.TimeoutExpired):
         return False
     return ran.returncode == 0 and ran.stdout.startswith(b"usage: tmpl ")
@@ -87,10 +88,8 @@ def main():
             errors.seek(0)
             sys.stderr.buffer.write(errors.read())
             return 1
-    if is_kept:
-        print(f"This build is not proved. It is kept as {os.path.relpath(KEPT, TOP)}; `make` proves the program and builds it.", file=sys.stderr)
-    else:
-        print("This build is not proved and could not be kept: `make` proves the program and builds it.", file=sys.stderr)
+    kept = f". It is kept as {os.path.relpath(KEPT, TOP)};" if is_kept else " and could not be kept:"
+    print(f"This build is not proved{kept} `make` proves the program and builds it.", file=sys.stderr)
     return 0
 
 

@@ -270,7 +270,8 @@ def wheel():
         f"{about}/METADATA": METADATA.format(version=name, about=ABOUT).encode() + page,
         f"{about}/WHEEL": WHEEL.format(tag=tag).encode(),
     }
-    files[f"{about}/sboms/tmpl.spdx.json"] = bill.bill("tmpl_c", f"{TOP}/bindings/out", ["libtmpl.so"], seconds(), "{}.{}".format(*OLDEST)).encode()
+    oldest = "{}.{}".format(*OLDEST)
+    files[f"{about}/sboms/tmpl.spdx.json"] = bill.bill("tmpl_c", f"{TOP}/bindings/out", ["libtmpl.so"], seconds(), oldest).encode()
     record = f"{about}/RECORD"
     files[record] = ("".join(recorded(*it) for it in files.items()) + f"{record},,\n").encode()
     path = f"{OUT}/tmpl-{name}-{tag}.whl"

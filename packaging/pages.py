@@ -1,7 +1,8 @@
 """Places the documents and the man pages as an installed program has them: `pages.py ROOT PREFIX`, where ROOT is the folder that stands
 for PREFIX, such as `$DESTDIR$PREFIX`. What they say of PREFIX, which is /usr/local in the repository, is said of this one. A link to
 what is not installed becomes its text, and the foot of each man page says from which commit and by which logic the program was made.
-`pages.py --build` prints this as one line, which is the file BUILD, and which `make install` also puts into the program, as a section that is not loaded."""
+`pages.py --build` prints this as one line, which is the file BUILD, and which `make install` also puts into the program, as a section
+that is not loaded."""
 import glob
 import os
 import re
@@ -44,7 +45,8 @@ def footer():
 
 def build():
     kit, logic = toolchain()
-    return f"tmpl {version() or 'of no commit'} proved by the logic {logic or 'that is not told'} of {kit or 'a toolchain that is not told'}"
+    untold = "that is not told"
+    return f"tmpl {version() or 'of no commit'} proved by the logic {logic or untold} of {kit or f'a toolchain {untold}'}"
 
 
 def files():

@@ -4,7 +4,8 @@ text, line and status must be those of the row, but that lines call the data `da
 are kept. Rows with short texts and lines are called with room of each size. tests/library.c refuses each allocation of calls in turn,
 runs two threads, and runs under valgrind where that is there. The header is compiled as C and as C++, what is installed is used by
 pkg-config, the wheel for Python is unpacked and used, and the programs of docs/EMBEDDING.md and README.md for C and Python are run; so
-is examples/letters.py where Dask's scheduler is there. With --bindings it runs those for Go and Rust, and the tests of these two bindings, where Go and Cargo are installed, and nothing else."""
+is examples/letters.py where Dask's scheduler is there. With --bindings it runs those for Go and Rust, and the tests of these two
+bindings, where Go and Cargo are installed, and nothing else."""
 import base64
 import gc
 import hashlib
@@ -326,8 +327,8 @@ def judge_header(folder):
         got = ran("pkg-config", "--cflags", "--libs", "--define-variable=prefix=/opt/x", "tmpl", env=environment)
         yield "pkg-config", 1, [] if got == (0, "-I/opt/x/include -L/opt/x/lib -ltmpl \n") or got == (0, "-I/opt/x/include -L/opt/x/lib -ltmpl\n") else [f"    got {got}"]
     status, said = ran("make", "-s", "-C", harness.TOP, "uninstall", f"DESTDIR={root}", "PREFIX=/usr")
-    left = [name for _, _, names in os.walk(root) for name in names]
-    yield "make uninstall", 1, [f"    {said} {left}"] if status or left else []
+    left = [name for _, folders, names in os.walk(root) for name in folders + names]
+    yield "make uninstall", 1, [f"    {said} {left}"] if status or left != ["usr"] else []
 
 
 RECORDED = re.compile(r"(.+),sha256=(.+),(\d+)")

@@ -52,7 +52,12 @@ impl<'a, R: Files + Input + AllocGlobal> Source for FileSource<'a, R> {
 }
 
 /// The first bytes of a file, as many as are asked for if it has them.
-fn read_front<R: Files + Input>(alloc: Global, rt: &R, name: &str, count: u64) -> io::Result<Vec<u8>> {
+fn read_front<R: Files + Input>(
+    alloc: Global,
+    rt: &R,
+    name: &str,
+    count: u64,
+) -> io::Result<Vec<u8>> {
     let mut bytes = Vec::new(alloc);
     if name == STANDARD_INPUT {
         rt.reader().take(count).read_to_end(&mut bytes)?;
