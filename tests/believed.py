@@ -32,7 +32,7 @@ MOST = {
     "tmpl_funcs": 231,
     "tmpl_lex": 101,
     "tmpl_grammar": 302,
-    "tmpl_syntax": 350,
+    "tmpl_syntax": 352,
     "tmpl_meaning": 223,
     "tmpl_tool": 243,
     "tmpl_c": 76,
