@@ -29,7 +29,7 @@ import harness
 
 LEAST = 80  # commands, where jq, yq and nginx are not there
 LEAST_SHOWN = 2  # files
-LEAST_LINKS = 150
+LEAST_LINKS = 205
 MARK = "\x1e"  # between what two commands put out
 COMMENT = re.compile(r"<!-- (needs|save|file|tried by|not run): (.*) -->")
 DOCUMENTS = ["*.md", "docs/*.md", "*/README.md", "*/*/README.md"]
