@@ -170,7 +170,7 @@ def put_out(folder, said):
     environment = {**os.environ, "PATH": f"{folder}/bin:{os.environ['PATH']}", "LC_ALL": "C.UTF-8", "HOME": folder}
     environment["QUOTES"] = f"{folder}/quotes"
     how = {"cwd": f"{folder}/room", "env": environment, "stdout": subprocess.PIPE, "stderr": subprocess.STDOUT}
-    ran = subprocess.run(["bash", "--norc"], input=script.encode(), timeout=harness.SECONDS, **how)
+    ran = subprocess.run(["bash", "--norc"], input=script.encode(), timeout=5 * harness.SECONDS, **how)
     return [it.strip("\n") for it in ran.stdout.decode(errors="replace").split(MARK)[:-1]]
 
 
