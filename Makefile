@@ -17,10 +17,15 @@ QUOTES = $(addprefix examples/quotes/,quotes.tmpl data.tmpl texts.tmpl)
 STATIC = packaging/out/static/tmpl
 ARM = packaging/out/aarch64
 WEB = packaging/out/web
+<<<<<<< HEAD
 # what is copied, but for whole folders
 COPIED = bin/tmpl share/man/man1/tmpl.1 share/man/man7/tmpl-language.7 share/bash-completion/completions/tmpl \
 	share/zsh/site-functions/_tmpl share/fish/vendor_completions.d/tmpl.fish include/tmpl.h lib/libtmpl.a lib/libtmpl.so \
 	lib/$(SONAME) lib/pkgconfig/tmpl.pc
+=======
+# whether what is for aarch64 is built
+HAS_ARM = $(MAKE) --no-print-directory -s -q aarch64
+>>>>>>> ports
 # the first line of each recipe that needs the toolchain
 NEEDS_RT = command -v rt > /dev/null || { echo "rt is missing: it is the command of the toolchain of Rattle, with which the \
 program is proved and built. Put it on the PATH, or install a package that was made where it is." >&2; false; }
@@ -112,12 +117,12 @@ dist: $(PROGRAM) $(STATIC)
 	@$(NEEDS_RT)
 	python3 packaging/make.py tar
 	python3 packaging/make.py tar static
-	! $(MAKE) -q aarch64 || python3 packaging/make.py tar aarch64
+	! $(HAS_ARM) || python3 packaging/make.py tar aarch64
 
 # packs the static program, and that for aarch64 where it is built, as Debian packages; installs each into a root of its own and runs it
 deb: $(STATIC)
 	@$(NEEDS_RT)
-	for port in static $$(! $(MAKE) -q aarch64 || echo aarch64); do \
+	for port in static $$(! $(HAS_ARM) || echo aarch64); do \
 		package=$$(python3 packaging/make.py deb $$port) && echo "$$package" && packaging/try.sh "$$package" || exit 1; done
 
 # packs the binding for Python with the C library as a wheel; then installs it into a folder of its own, runs it and removes it
