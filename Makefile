@@ -17,15 +17,12 @@ QUOTES = $(addprefix examples/quotes/,quotes.tmpl data.tmpl texts.tmpl)
 STATIC = packaging/out/static/tmpl
 ARM = packaging/out/aarch64
 WEB = packaging/out/web
-<<<<<<< HEAD
 # what is copied, but for whole folders
 COPIED = bin/tmpl share/man/man1/tmpl.1 share/man/man7/tmpl-language.7 share/bash-completion/completions/tmpl \
 	share/zsh/site-functions/_tmpl share/fish/vendor_completions.d/tmpl.fish include/tmpl.h lib/libtmpl.a lib/libtmpl.so \
 	lib/$(SONAME) lib/pkgconfig/tmpl.pc
-=======
 # whether what is for aarch64 is built
 HAS_ARM = $(MAKE) --no-print-directory -s -q aarch64
->>>>>>> ports
 # the first line of each recipe that needs the toolchain
 NEEDS_RT = command -v rt > /dev/null || { echo "rt is missing: it is the command of the toolchain of Rattle, with which the \
 program is proved and built. Put it on the PATH, or install a package that was made where it is." >&2; false; }
