@@ -148,10 +148,11 @@ $(PROVED_LIBRARY): $(SOURCES)
 	cd crates/tmpl_c && rt lib >&2
 	@touch $@
 
-# one object of what is proved and the heap, in which no name but those of the header can be seen, as an archive
+# one object of what is proved, the heap and the line that says which build it is, in which no name but those of the header can be seen, as an archive
 define one_object
 $(CC) -O2 -fPIC -Wall -Wextra -c bindings/c/heap.c -o $(@D)/heap.o
-$(LD) -r -o $(@D)/tmpl.o --whole-archive $< --no-whole-archive $(@D)/heap.o
+$(CC) -O2 -fPIC -Wall -Wextra -DTMPL_BUILD="\"$$(python3 packaging/pages.py --build)\"" -c bindings/c/version.c -o $(@D)/version.o
+$(LD) -r -o $(@D)/tmpl.o --whole-archive $< --no-whole-archive $(@D)/heap.o $(@D)/version.o
 $(OBJCOPY) --wildcard --keep-global-symbol='tmpl_*' $(@D)/tmpl.o
 rm -f $@ && $(AR) rcs $@ $(@D)/tmpl.o
 endef
@@ -161,7 +162,7 @@ $(CC) -shared -o $@ -Wl,--whole-archive $< -Wl,--no-whole-archive -Wl,-soname,$(
 	-Wl,--version-script=bindings/c/tmpl.map -Wl,-z,defs
 endef
 
-$(STATIC_LIBRARY): $(PROVED_LIBRARY) bindings/c/heap.c
+$(STATIC_LIBRARY): $(PROVED_LIBRARY) $(addprefix bindings/c/,heap.c version.c tmpl.h)
 	mkdir -p $(@D)
 	$(one_object)
 

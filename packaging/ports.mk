@@ -44,7 +44,7 @@ $(ARM)/libtmpl_c.a: $(PROVED_LIBRARY) packaging/build.py
 	mkdir -p $(@D)
 	python3 packaging/build.py tmpl_c $@ $(FOR_ARM)
 
-$(ARM)/libtmpl.a: $(ARM)/libtmpl_c.a bindings/c/heap.c
+$(ARM)/libtmpl.a: $(ARM)/libtmpl_c.a $(addprefix bindings/c/,heap.c version.c tmpl.h)
 	$(one_object)
 
 $(ARM)/libtmpl.so: $(ARM)/libtmpl.a bindings/c/tmpl.map

@@ -32,7 +32,7 @@ LEAST_CASES = 500  # of tests/library.c
 GUARD = b"\xa5" * 8  # behind lent memory
 SWITCHES = {b"--data", b"--missingkey", b"--name", b"--depth", b"--steps"}
 BLOCK = re.compile(r"^```(c|python|go|rust)\n(.*?)^```\n+(?:It puts out\n+)?```text\n(.*?)^```$", re.MULTILINE | re.DOTALL)
-NAMES = ["tmpl_data_free", "tmpl_data_read", "tmpl_render", "tmpl_render_set", "tmpl_set_add", "tmpl_set_free"]
+NAMES = ["tmpl_data_free", "tmpl_data_read", "tmpl_render", "tmpl_render_set", "tmpl_set_add", "tmpl_set_free", "tmpl_version"]
 WARNINGS = ["-Wall", "-Wextra", "-pedantic", "-Werror"]
 
 
@@ -363,6 +363,14 @@ def judge_names_of(path):
     return f"the names of {os.path.basename(path)}", 1, [] if sorted(names) == NAMES and not status else [f"    {names}"]
 
 
+def judge_version():
+    """That the library says which build it is, with the logic of this toolchain."""
+    logic = re.search(r"logic ([0-9a-f]+)", ran("rt", "version")[1])[1]
+    wanted = rf"tmpl (0~git\d+\.[0-9a-f]{{12}}(\+changed)?|of no commit) proved by the logic {logic} of \S.*"
+    said = tmpl.version()
+    return "which build it is", 1, [] if re.fullmatch(wanted, said) else [f"    it says {said}"]
+
+
 # ---- documents and bindings
 
 
@@ -501,7 +509,7 @@ def main(words):
         failed += told[1] + harness.too_few("calls with room of some size", told[2], LEAST_SIZES)
         passed += told[0]
         results = [*judge_names(), *judge_refusals(), *judge_wrapper(), *judge_c(folder), *judge_header(folder)]
-        results += [judge_names_of(f"{OUT}/libtmpl.so"), judge_names_of(f"{OUT}/libtmpl.a")]
+        results += [judge_names_of(f"{OUT}/libtmpl.so"), judge_names_of(f"{OUT}/libtmpl.a"), judge_version()]
         results += [judge_wheel(folder)]
         results += [judge_program(folder, *it) for it in programs() if it[0] in ("c", "python")]
         results += letters_by_dask(folder)

@@ -101,6 +101,10 @@ void tmpl_data_free(tmpl_data *data);
 uint8_t tmpl_render_set(const tmpl_settings *settings, tmpl_set *set, tmpl_data *data, const char *name,
                         size_t name_size, tmpl_buffer *out, tmpl_buffer *err);
 
+/* Which build of the library this is: the commit of its source, and the logic and the toolchain of the proofs, as one line
+ * that ends with a zero and is never freed. */
+const char *tmpl_version(void);
+
 #ifdef __cplusplus
 }
 #endif

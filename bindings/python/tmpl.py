@@ -53,6 +53,8 @@ def _library():
     it.tmpl_data_read.argtypes = [kept, *text, err]
     it.tmpl_set_free.argtypes = it.tmpl_data_free.argtypes = [kept]
     it.tmpl_render_set.argtypes = [ctypes.POINTER(_Settings), kept, kept, *text, *buffers]
+    it.tmpl_version.restype = ctypes.c_char_p
+    it.tmpl_version.argtypes = []
     return it
 
 
@@ -120,6 +122,11 @@ def render(files, name=None, data=None, **options):
     json.dumps takes. Options: missing_key ("default", "invalid", "zero", "error"), depth, steps (0 for the defaults), and printed=True
     for the printed set. Raises TemplateError, and MemoryError where memory is refused."""
     return render_bytes(files, name, data, **options).decode("utf-8", "replace")
+
+
+def version():
+    """Which build of the library this is: the commit of its source, and the logic and the toolchain of the proofs."""
+    return _LIBRARY.tmpl_version().decode()
 
 
 class Templates:
