@@ -266,6 +266,7 @@ def wheel():
     tag = f"py3-none-{platform_of(library)}"
     files = {
         "tmpl/__init__.py": bytes_of(f"{TOP}/bindings/python/tmpl.py"),
+        "tmpl/py.typed": b"",
         "tmpl/libtmpl.so": library,
         f"{about}/METADATA": METADATA.format(version=name, about=ABOUT).encode() + page,
         f"{about}/WHEEL": WHEEL.format(tag=tag).encode(),

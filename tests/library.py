@@ -20,6 +20,7 @@ import sys
 import tempfile
 import zipfile
 from concurrent.futures import ThreadPoolExecutor
+from decimal import Decimal
 
 import harness
 
@@ -222,6 +223,47 @@ def grown_by(count):
         return resource.getrusage(resource.RUSAGE_SELF).ru_maxrss - before
     finally:
         gc.enable()
+
+
+def raised(call):
+    """The error of a call: its kind, what it says, and where the data has a number that is refused."""
+    try:
+        return call()
+    except (tmpl.TemplateError, ValueError) as error:
+        return type(error).__name__, str(error), getattr(error, "where", None)
+
+
+REFUSED_NUMBER = "tmpl: data: number not whole or out of range"
+
+
+def judge_options():
+    """What the wrapper for Python makes of values with a fraction, of options that are none, of several data, and of a `with`."""
+    prices = {"names": ["a"], "prices": [1, {"net": 9.9, "gross": Decimal("11.80")}]}
+    text = {"m": "{{range .prices}}{{.}} {{end}}"}
+    with tmpl.Templates({"m": "{{.n}}"}) as templates:
+        many = list(templates.render_many("m", [{"n": 1}, {"n": "b"}, {"n": 2.5}], floats="text"))
+        half = templates.render_many("m", [{"n": 1}, {"n": 2.5}])
+        cases = [
+            ("several data", many, ["1", "b", "2.5"]),
+            ("the first of two data", next(half), "1"),
+            ("the second, which is refused", raised(lambda: next(half)), ("TemplateError", f"{REFUSED_NUMBER} (.n)", ".n")),
+            ("the data before is as it was", templates.render("m", {"n": 1}), "1"),
+        ]
+    of_options = [
+        ("a closed set", lambda: templates.render("m"), ("TemplateError", 'tmpl: no template "m"', None)),
+        ("floats as texts", lambda: tmpl.render(text, "m", prices, floats="text"), "1 map[gross:11.80 net:9.9] "),
+        ("a float", lambda: tmpl.render(text, "m", {"prices": [1, {"net": 9.9}]}), ("TemplateError", f"{REFUSED_NUMBER} (.prices.1.net)", ".prices.1.net")),
+        ("a large number beside a float", lambda: tmpl.render(text, "m", [1.5, 1 << 63], floats="text"), ("TemplateError", f"{REFUSED_NUMBER} (.1)", ".1")),
+        ("a float alone", lambda: tmpl.render(text, "m", 0.5), ("TemplateError", f"{REFUSED_NUMBER} (.)", ".")),
+        ("a number of bytes", lambda: tmpl.render(text, "m", b"[1.5]"), ("TemplateError", REFUSED_NUMBER, None)),
+        ("a mode that is none", lambda: tmpl.render(text, missing_key="empty"), ("ValueError", "missing_key is one of 'default', 'invalid', 'zero', 'error', not 'empty'", None)),
+        ("floats as nothing", lambda: tmpl.render(text, floats="whole"), ("ValueError", "floats is 'refuse' or 'text', not 'whole'", None)),
+    ]
+    limits = "depth is from 0 to 2^32 - 1, and steps from 0 to 2^64 - 1"
+    for name, value in (("depth", 1 << 32), ("depth", -1), ("steps", 1 << 64), ("steps", -1)):
+        of_options.append((f"{name} {value}", lambda it={name: value}: tmpl.render(text, **it), ("ValueError", limits, None)))
+    for name, got, wanted in [*cases, *((name, raised(call), wanted) for name, call, wanted in of_options)]:
+        yield f"the wrapper: {name}", 1, [] if got == wanted else [f"    got {got}"]
 
 
 def judge_wrapper():
@@ -508,7 +550,7 @@ def main(words):
         told = harness.tally(map(judge_sizes, small))
         failed += told[1] + harness.too_few("calls with room of some size", told[2], LEAST_SIZES)
         passed += told[0]
-        results = [*judge_names(), *judge_refusals(), *judge_wrapper(), *judge_c(folder), *judge_header(folder)]
+        results = [*judge_names(), *judge_refusals(), *judge_wrapper(), *judge_options(), *judge_c(folder), *judge_header(folder)]
         results += [judge_names_of(f"{OUT}/libtmpl.so"), judge_names_of(f"{OUT}/libtmpl.a"), judge_version()]
         results += [judge_wheel(folder)]
         results += [judge_program(folder, *it) for it in programs() if it[0] in ("c", "python")]

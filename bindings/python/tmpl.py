@@ -1,9 +1,16 @@
 """Templates of the language of Go's text/template over data in JSON: `render(files, name, data)`. By ctypes over libtmpl.so, which
 is looked for under the path LIBTMPL, beside this file, and where the system has its libraries."""
+from __future__ import annotations
+
 import ctypes
 import json
 import os
 import threading
+from decimal import Decimal
+from typing import Any, Iterable, Iterator, Mapping, Optional, Tuple, Union
+
+Text = Union[str, bytes]
+Files = Union[Mapping[Text, Text], Iterable[Tuple[Text, Text]]]
 
 OK, FAULT, NOT_TEXT, REFUSED, DATA, FULL, MEMORY = 0, 1, 2, 4, 5, 6, 7
 MISSING_KEY = {"default": 0, "invalid": 1, "zero": 2, "error": 3}
@@ -11,14 +18,15 @@ ROOM = 1 << 16  # bytes of text that are lent first
 
 
 class TemplateError(Exception):
-    """A render that did not end well: its `status` (FAULT, NOT_TEXT, REFUSED, DATA), its `line`, and the `text` before the fault."""
+    """A render that did not end well: its `status` (FAULT, NOT_TEXT, REFUSED, DATA), its `line`, and the `text` before the fault. Where
+    a number of a Python value is refused, `where` is its place, as in `.prices.0`; else it is None."""
 
-    def __init__(self, status, line, text=b""):
-        super().__init__(status, line, text)  # so that it can be pickled
-        self.status, self.line, self.text = status, line, text
+    def __init__(self, status: int, line: str, text: bytes = b"", where: Optional[str] = None):
+        super().__init__(status, line, text, where)  # so that it can be pickled
+        self.status, self.line, self.text, self.where = status, line, text, where
 
     def __str__(self):
-        return self.line
+        return f"{self.line} ({self.where})" if self.where else self.line
 
 
 class _File(ctypes.Structure):
@@ -70,6 +78,38 @@ def _json(data):
     return b"" if data is None else bytes(data) if isinstance(data, (bytes, bytearray)) else json.dumps(data).encode()
 
 
+def _value(data, floats):
+    """The data as that option has it."""
+    if floats not in ("refuse", "text"):
+        raise ValueError(f"floats is 'refuse' or 'text', not {floats!r}")
+    return _with_texts(data) if floats == "text" else data
+
+
+def _with_texts(data):
+    """The value with a text in the place of each float and each Decimal."""
+    if isinstance(data, (float, Decimal)):
+        return str(data)
+    if isinstance(data, dict):
+        return {key: _with_texts(it) for key, it in data.items()}
+    return [_with_texts(it) for it in data] if isinstance(data, (list, tuple)) else data
+
+
+def _refused_number(data, at=""):
+    """The place of the first number of a value that is not whole or is out of range, or None."""
+    if isinstance(data, float) or (isinstance(data, int) and not -(1 << 63) <= data < 1 << 63):
+        return at or "."
+    held = data.items() if isinstance(data, dict) else enumerate(data) if isinstance(data, (list, tuple)) else ()
+    return next(filter(None, (_refused_number(it, f"{at}.{key}") for key, it in held)), None)
+
+
+def _settings(missing_key, depth, steps, printed):
+    if missing_key not in MISSING_KEY:
+        raise ValueError(f"missing_key is one of {', '.join(map(repr, MISSING_KEY))}, not {missing_key!r}")
+    if not 0 <= depth < 1 << 32 or not 0 <= steps < 1 << 64:
+        raise ValueError("depth is from 0 to 2^32 - 1, and steps from 0 to 2^64 - 1")
+    return _Settings(steps, depth, MISSING_KEY[missing_key], bool(printed))
+
+
 class _Lent:
     """Memory for output."""
 
@@ -95,9 +135,10 @@ def render_into(files, name, data, settings, size, line_size):
     return status, out, err
 
 
-def _whole(call, size=ROOM):
-    """The text of a call that is given memory for text and line, and called again with more where one of them does not fit."""
-    line_size = ROOM
+def _whole(call, data=None):
+    """The text of a call that is given memory for text and line, and called again with more where one of them does not fit. `data` is
+    the value that it reads, if any."""
+    size = line_size = ROOM
     while True:
         status, out, err = call(size, line_size)
         if status == MEMORY:
@@ -105,26 +146,32 @@ def _whole(call, size=ROOM):
         if status == OK:
             return out.output()
         if status != FULL and not err.is_cut():
-            raise TemplateError(status, err.output().decode("utf-8", "replace").rstrip("\n"), out.output())
+            where = _refused_number(data) if status == DATA else None
+            raise TemplateError(status, err.output().decode("utf-8", "replace").rstrip("\n"), out.output(), where)
         size, line_size = max(size, out.buffer.needed), max(line_size, err.buffer.needed)
 
 
-def render_bytes(files, name=None, data=None, missing_key="default", depth=0, steps=0, printed=False):
+def render_bytes(
+    files: Files, name: Optional[Text] = None, data: Any = None, missing_key: str = "default", depth: int = 0, steps: int = 0,
+    printed: bool = False, floats: str = "refuse",
+) -> bytes:
     """What `render` gives, as bytes, which need be no text."""
-    settings, data = _Settings(steps, depth, MISSING_KEY[missing_key], int(printed)), _json(data)
-    return _whole(lambda size, line_size: render_into(files, name, data, settings, size, line_size))
+    settings, data = _settings(missing_key, depth, steps, printed), _value(data, floats)
+    read = _json(data)
+    return _whole(lambda size, line_size: render_into(files, name, read, settings, size, line_size), data)
 
 
-def render(files, name=None, data=None, **options):
+def render(files: Files, name: Optional[Text] = None, data: Any = None, **options: Any) -> str:
     """The text of the template of this name: by default that of the first file.
 
     `files` are pairs of a path and what the file holds, or a dict of them; `data` is JSON as bytes, None for no data, or a value that
-    json.dumps takes. Options: missing_key ("default", "invalid", "zero", "error"), depth, steps (0 for the defaults), and printed=True
-    for the printed set. Raises TemplateError, and MemoryError where memory is refused."""
+    json.dumps takes. Options: missing_key ("default", "invalid", "zero", "error"), depth, steps (0 for the defaults), printed=True
+    for the printed set, and floats="text", by which a float and a Decimal of a value are the text that `str` gives; else a float is
+    refused. Raises TemplateError, MemoryError where memory is refused, and ValueError for an option that is none."""
     return render_bytes(files, name, data, **options).decode("utf-8", "replace")
 
 
-def version():
+def version() -> str:
     """Which build of the library this is: the commit of its source, and the logic and the toolchain of the proofs."""
     return _LIBRARY.tmpl_version().decode()
 
@@ -133,36 +180,43 @@ class Templates:
     """Template files that are parsed once, and rendered as often as you like: `Templates(files).render(name, data)`.
 
     `files` are as those of `render`. Data is read anew where its JSON differs from that of the render before. Any number of threads may
-    use one object: its calls wait for one another. Its memory is given back with it, or by `close`."""
+    use one object: its calls wait for one another. Its memory is given back with it, by `close`, or at the end of a `with`."""
 
-    def __init__(self, files=()):
+    def __init__(self, files: Files = ()):
         self._set, self._data, self._read, self._first = _Kept(), _Kept(), None, None
         self._lock = threading.Lock()
         for path, what in files.items() if hasattr(files, "items") else files:
             self.add(path, what)
 
-    def add(self, path, what):
+    def add(self, path: Text, what: Text) -> None:
         """Adds the templates of one more file, or raises TemplateError and leaves them as they are."""
         path, what = _encoded(path), _encoded(what)
         with self._lock:
             _whole(lambda size, line_size: self.add_into(path, what, line_size))
             self._first = path.rpartition(b"/")[2] if self._first is None else self._first
 
-    def render_bytes(self, name=None, data=None, missing_key="default", depth=0, steps=0, printed=False):
+    def render_bytes(
+        self, name: Optional[Text] = None, data: Any = None, missing_key: str = "default", depth: int = 0, steps: int = 0,
+        printed: bool = False, floats: str = "refuse",
+    ) -> bytes:
         """What `render` gives, as bytes."""
-        settings = _Settings(steps, depth, MISSING_KEY[missing_key], int(printed))
+        settings, data = _settings(missing_key, depth, steps, printed), _value(data, floats)
         read = _json(data)
         with self._lock:
             name = _encoded((self._first or b"") if name is None else name)
             if read != self._read and not printed:
                 self._read = None
-                _whole(lambda size, line_size: self.read_into(read, line_size))
+                _whole(lambda size, line_size: self.read_into(read, line_size), data)
                 self._read = read
             return _whole(lambda size, line_size: self.render_into(name, settings, size, line_size))
 
-    def render(self, name=None, data=None, **options):
+    def render(self, name: Optional[Text] = None, data: Any = None, **options: Any) -> str:
         """The text of the template of this name: by default that of the first file. Options and errors are those of `render`."""
         return self.render_bytes(name, data, **options).decode("utf-8", "replace")
+
+    def render_many(self, name: Optional[Text], datas: Iterable[Any], **options: Any) -> Iterator[str]:
+        """The text for each of these data, one after the other. The first that does not end well raises its error."""
+        return (self.render(name, data, **options) for data in datas)
 
     def add_into(self, path, what, line_size):
         """One call: its status, and the memory that holds its line, as `render_into` gives it."""
@@ -179,12 +233,18 @@ class Templates:
         out, err = _Lent(size), _Lent(line_size)
         return _LIBRARY.tmpl_render_set(settings, self._set, self._data, name, len(name), out.buffer, err.buffer), out, err
 
-    def close(self):
+    def close(self) -> None:
         """Frees templates and data. It has none then."""
         with self._lock:
             _LIBRARY.tmpl_set_free(self._set)
             _LIBRARY.tmpl_data_free(self._data)
             self._read = None
+
+    def __enter__(self) -> Templates:
+        return self
+
+    def __exit__(self, *_: Any) -> None:
+        self.close()
 
     def __del__(self):
         self.close()
