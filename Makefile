@@ -159,8 +159,11 @@ endef
 
 define shared_object
 $(CC) -shared -o $@ -Wl,--whole-archive $< -Wl,--no-whole-archive -Wl,-soname,$(SONAME) \
-	-Wl,--version-script=bindings/c/tmpl.map -Wl,-z,defs
+	-Wl,--version-script=bindings/c/tmpl.map -Wl,-z,defs -Wl,-z,now $(NEEDED_PROCESSOR)
 endef
+
+# the mark by which the system's loader refuses older processors than those for which the toolchain compiles
+$(SHARED_LIBRARY): private NEEDED_PROCESSOR = -Wl,-z,x86-64-v2
 
 $(STATIC_LIBRARY): $(PROVED_LIBRARY) $(addprefix bindings/c/,heap.c version.c tmpl.h)
 	mkdir -p $(@D)

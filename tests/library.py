@@ -405,6 +405,13 @@ def judge_names_of(path):
     return f"the names of {os.path.basename(path)}", 1, [] if sorted(names) == NAMES and not status else [f"    {names}"]
 
 
+def judge_marks():
+    """That all names are found as it is loaded, and that loaders can refuse older processors than those it is compiled for."""
+    status, said = ran("readelf", "-dnW", f"{OUT}/libtmpl.so")
+    missing = [it for it in ("BIND_NOW", "x86 ISA needed: x86-64-v2") if it not in said]
+    return "what loaders read of it", 1, [f"    {status}: it lacks {missing}"] if status or missing else []
+
+
 def judge_version():
     """That the library says which build it is, with the logic of this toolchain."""
     logic = re.search(r"logic ([0-9a-f]+)", ran("rt", "version")[1])[1]
@@ -551,7 +558,7 @@ def main(words):
         failed += told[1] + harness.too_few("calls with room of some size", told[2], LEAST_SIZES)
         passed += told[0]
         results = [*judge_names(), *judge_refusals(), *judge_wrapper(), *judge_options(), *judge_c(folder), *judge_header(folder)]
-        results += [judge_names_of(f"{OUT}/libtmpl.so"), judge_names_of(f"{OUT}/libtmpl.a"), judge_version()]
+        results += [judge_names_of(f"{OUT}/libtmpl.so"), judge_names_of(f"{OUT}/libtmpl.a"), judge_version(), judge_marks()]
         results += [judge_wheel(folder)]
         results += [judge_program(folder, *it) for it in programs() if it[0] in ("c", "python")]
         results += letters_by_dask(folder)
