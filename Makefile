@@ -19,8 +19,8 @@ ARM = packaging/out/aarch64
 WEB = packaging/out/web
 # what is copied, but for whole folders
 COPIED = bin/tmpl share/man/man1/tmpl.1 share/man/man7/tmpl-language.7 share/bash-completion/completions/tmpl \
-	share/zsh/site-functions/_tmpl share/fish/vendor_completions.d/tmpl.fish include/tmpl.h lib/libtmpl.a lib/libtmpl.so \
-	lib/$(SONAME) lib/pkgconfig/tmpl.pc
+	share/zsh/site-functions/_tmpl share/fish/vendor_completions.d/tmpl.fish include/tmpl.h include/tmpl.hpp lib/libtmpl.a \
+	lib/libtmpl.so lib/$(SONAME) lib/pkgconfig/tmpl.pc
 # whether what is for aarch64 is built
 HAS_ARM = $(MAKE) --no-print-directory -s -q aarch64
 # the first line of each recipe that needs the toolchain
@@ -95,7 +95,7 @@ install-documents:
 
 # copies the C library, its header and what pkg-config reads to PREFIX
 install-lib: lib
-	install -D -m 644 -t "$$DESTDIR$$PREFIX/include" bindings/c/tmpl.h
+	install -D -m 644 -t "$$DESTDIR$$PREFIX/include" bindings/c/tmpl.h bindings/c/tmpl.hpp
 	install -D -m 644 -t "$$DESTDIR$$PREFIX/lib" $(STATIC_LIBRARY)
 	install -D -m 755 $(SHARED_LIBRARY) "$$DESTDIR$$PREFIX/lib/$(SONAME)"
 	ln -sf $(SONAME) "$$DESTDIR$$PREFIX/lib/libtmpl.so"

@@ -32,7 +32,7 @@ LEAST_SIZES = 30900  # calls for that
 LEAST_CASES = 500  # of tests/library.c
 GUARD = b"\xa5" * 8  # behind lent memory
 SWITCHES = {b"--data", b"--missingkey", b"--name", b"--depth", b"--steps"}
-BLOCK = re.compile(r"^```(c|python|go|rust)\n(.*?)^```\n+(?:It puts out\n+)?```text\n(.*?)^```$", re.MULTILINE | re.DOTALL)
+BLOCK = re.compile(r"^```(c|cpp|python|go|rust)\n(.*?)^```\n+(?:It puts out\n+)?```text\n(.*?)^```$", re.MULTILINE | re.DOTALL)
 NAMES = ["tmpl_data_free", "tmpl_data_read", "tmpl_render", "tmpl_render_set", "tmpl_set_add", "tmpl_set_free", "tmpl_version"]
 WARNINGS = ["-Wall", "-Wextra", "-pedantic", "-Werror"]
 
@@ -333,6 +333,35 @@ def judge_c(folder):
         print("valgrind is not there")
 
 
+CALLS_IN_CPP = [
+    "with data: 11 Hello, Ada!",
+    "without: 18 Hello, <no value>!",
+    'a missing key: 1 "tmpl: m:1: in "m": no entry for key "name"" after "Hello, "',
+    f"a long text: {1 + 30000 * 10 + 1} a{('0123456789' * 4)[:39]}",
+    'few steps: 1 "tmpl: m:1: in "m": more than 1 steps" after "Hello, "',
+    'no template: 4 "tmpl: no template """ after ""',
+    f'a long name: 4 "tmpl: no template "{"x" * 5000}"" after ""',
+    'refused: 4 "tmpl: n:1: unclosed or unreadable action" after ""',
+    'no name of a file: 2 "tmpl: arguments refused; see tmpl --help" after ""',
+    'no JSON: 5 "tmpl: data: number not whole or out of range" after ""',
+    "moved: 9 Ada again",
+    'printed: 37 {{define "n"}}{{.name}} again{{end}}',
+]
+
+
+def judge_cpp(folder):
+    """The header for C++: tests/library.cc over libtmpl.a, and under valgrind."""
+    words = [f"-I{BINDINGS}/c", f"{harness.TOP}/tests/library.cc", f"{OUT}/libtmpl.a"]
+    program, wrong = compiled(folder, "library-cpp", ["c++", "-std=c++17", "-g", *WARNINGS], *words)
+    status, said = (1, "") if wrong else ran(program)
+    lines = said.split("\n")
+    wrong += [f"    got {got[:200]}" for got, wanted in zip(lines, CALLS_IN_CPP) if got != wanted]
+    yield "tests/library.cc", len(CALLS_IN_CPP), wrong + [f"    {status}: {len(lines)} lines"] * ((status, len(lines)) != (0, len(CALLS_IN_CPP) + 2))
+    if shutil.which("valgrind") and not wrong:
+        status, said = ran("valgrind", "-q", "--error-exitcode=9", "--leak-check=full", program)
+        yield "tests/library.cc under valgrind", 1, [f"    {said}"] if status else []
+
+
 HEADER = r"""
 #include "tmpl.h"
 #include <stdio.h>
@@ -435,7 +464,7 @@ def programs():
 def judge_program(folder, language, text, wanted):
     """A program of the document, compiled and run."""
     home = tempfile.mkdtemp(prefix=f"{language}-", dir=folder)
-    run = {"c": run_c, "python": run_python, "go": run_go, "rust": run_rust}[language]
+    run = {"c": run_c, "cpp": run_cpp, "python": run_python, "go": run_go, "rust": run_rust}[language]
     got = run(home, text)
     lines = sum(bool(line.strip()) for line in text.splitlines())
     wrong = [] if got == (0, wanted) else [f"    got {got}"]
@@ -493,6 +522,13 @@ def run_c(home, text):
     written(f"{home}/hello.c", text)
     words = [f"-I{BINDINGS}/c", f"{home}/hello.c", f"-L{OUT}", "-ltmpl", f"-Wl,-rpath,{OUT}"]
     program, wrong = compiled(home, "hello", ["cc", *WARNINGS], *words)
+    return (1, wrong) if wrong else ran(program)
+
+
+def run_cpp(home, text):
+    written(f"{home}/hello.cc", text)
+    words = [f"-I{BINDINGS}/c", f"{home}/hello.cc", f"-L{OUT}", "-ltmpl", f"-Wl,-rpath,{OUT}"]
+    program, wrong = compiled(home, "hello", ["c++", "-std=c++17", *WARNINGS], *words)
     return (1, wrong) if wrong else ran(program)
 
 
@@ -557,10 +593,10 @@ def main(words):
         told = harness.tally(map(judge_sizes, small))
         failed += told[1] + harness.too_few("calls with room of some size", told[2], LEAST_SIZES)
         passed += told[0]
-        results = [*judge_names(), *judge_refusals(), *judge_wrapper(), *judge_options(), *judge_c(folder), *judge_header(folder)]
+        results = [*judge_names(), *judge_refusals(), *judge_wrapper(), *judge_options(), *judge_c(folder), *judge_cpp(folder), *judge_header(folder)]
         results += [judge_names_of(f"{OUT}/libtmpl.so"), judge_names_of(f"{OUT}/libtmpl.a"), judge_version(), judge_marks()]
         results += [judge_wheel(folder)]
-        results += [judge_program(folder, *it) for it in programs() if it[0] in ("c", "python")]
+        results += [judge_program(folder, *it) for it in programs() if it[0] in ("c", "cpp", "python")]
         results += letters_by_dask(folder)
         told = harness.tally(results)
         return harness.closing(passed + told[0], failed + told[1])
