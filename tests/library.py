@@ -550,7 +550,7 @@ def run_rust(home, text):
     return ran("cargo", "run", "--quiet", "--offline", cwd=home)
 
 
-TOOLS = {"go": ("go", ["go", "test", "./..."]), "rust": ("cargo", ["cargo", "test", "--quiet", "--offline"])}
+TOOLS = {"go": ("go", ["go", "test", "-race", "./..."]), "rust": ("cargo", ["cargo", "test", "--quiet", "--offline"])}
 
 
 def judge_bindings(folder):

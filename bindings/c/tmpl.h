@@ -77,7 +77,7 @@ uint8_t tmpl_render(const tmpl_settings *settings, const tmpl_file *files, size_
 /* Templates and data that are kept: parsed and read once, and rendered as often as you like.
  *
  * All zeros are an empty one, as in `tmpl_set set = {0};`. Leave what the pointer points to alone, make no copies, and
- * give one of them to one call at a time, all on one thread. Free it once you are done: its memory is the library's. One
+ * give one of them to one call at a time, of whatever thread. Free it once you are done: its memory is the library's. One
  * that was freed is an empty one again, so that freeing it twice does no harm. */
 typedef struct tmpl_set { void *held; } tmpl_set;   /* empty: no templates */
 typedef struct tmpl_data { void *held; } tmpl_data; /* empty: no data, and dot is nothing */

@@ -1,5 +1,5 @@
 // tmpl for C++17: template files that are parsed once and data that is read once, over tmpl.h. What does not end well is thrown:
-// `tmpl::error`, and `std::bad_alloc` where memory is refused. Each object is used by one thread. One that was moved from is only destroyed
+// `tmpl::error`, and `std::bad_alloc` where memory is refused. Each object is used by one call at a time. One that was moved from is only destroyed
 // or given another.
 #ifndef TMPL_HPP
 #define TMPL_HPP

@@ -3,7 +3,9 @@ package tmpl
 import (
 	"errors"
 	"fmt"
+	"io"
 	"strings"
+	"sync"
 	"testing"
 )
 
@@ -55,4 +57,64 @@ func TestNothing(t *testing.T) {
 	if err := Render(&strings.Builder{}, nil, "", nil, Options{}); err == nil || err.(*Error).Status != 4 {
 		t.Error(err)
 	}
+}
+
+func TestTemplates(t *testing.T) {
+	var pages Templates
+	defer pages.Close()
+	if err := pages.Add(File{Name: "m", Bytes: []byte("{{.n}} and {{.k}}")}); err != nil {
+		t.Fatal(err)
+	}
+	var told *Error
+	if err := pages.Add(File{Name: "n", Bytes: []byte("{{")}); !errors.As(err, &told) || told.Line != "tmpl: n:1: unclosed or unreadable action" {
+		t.Error(err)
+	}
+	err := pages.Execute(io.Discard, "m", []byte("[1.5]"), Options{})
+	if !errors.As(err, &told) || told.Status != 5 {
+		t.Error(err)
+	}
+	var out strings.Builder
+	if err := pages.Execute(&out, "", nil, Options{Print: true}); err != nil || out.String() != "{{define \"m\"}}{{.n}} and {{.k}}{{end}}\n" {
+		t.Error(out.String(), err)
+	}
+	pages.Close()
+	if err := pages.Execute(io.Discard, "m", nil, Options{}); !errors.As(err, &told) || told.Status != 4 {
+		t.Error(err)
+	}
+}
+
+func TestLongTemplates(t *testing.T) {
+	var pages Templates
+	if err := pages.Add(File{Name: "m", Bytes: []byte(`{{range 100000}}0123456789{{end}}`)}); err != nil {
+		t.Fatal(err)
+	}
+	var out strings.Builder
+	if err := pages.Execute(&out, "m", nil, Options{}); err != nil || out.String() != strings.Repeat("0123456789", 100000) {
+		t.Error(out.Len(), err)
+	}
+}
+
+// 8 goroutines over one set, each with data of its own.
+func TestGoroutines(t *testing.T) {
+	var pages Templates
+	defer pages.Close()
+	if err := pages.Add(File{Name: "m", Bytes: []byte("{{.n}} and {{.k}}")}); err != nil {
+		t.Fatal(err)
+	}
+	var all sync.WaitGroup
+	for n := 0; n < 8; n++ {
+		all.Add(1)
+		go func(n int) {
+			defer all.Done()
+			for k := 0; k < 12500; k++ {
+				var out strings.Builder
+				err := pages.Execute(&out, "m", []byte(fmt.Sprintf(`{"n": %d, "k": %d}`, n, k)), Options{})
+				if wanted := fmt.Sprintf("%d and %d", n, k); out.String() != wanted || err != nil {
+					t.Error(out.String(), wanted, err)
+					return
+				}
+			}
+		}(n)
+	}
+	all.Wait()
 }

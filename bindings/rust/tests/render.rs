@@ -48,3 +48,37 @@ fn renders_nothing_of_nothing() {
     assert_eq!(render(&[("m", b"")], "m", b"", &Settings::default()), Ok(Vec::new()));
     assert_eq!(render(&[], "", b"", &Settings::default()).unwrap_err().status, 4);
 }
+
+#[test]
+fn templates() {
+    let pages = tmpl::Templates::new();
+    let settings = tmpl::Settings::default();
+    pages.add("m", b"{{.n}} and {{.k}}").unwrap();
+    let refused = pages.add("n", b"{{").unwrap_err();
+    assert_eq!(refused.to_string(), "tmpl: n:1: unclosed or unreadable action");
+    assert_eq!(pages.render("m", b"[1.5]", &settings).unwrap_err().status, 5);
+    assert_eq!(pages.render("m", b"{\"n\": 1}", &settings).unwrap(), b"1 and <no value>");
+    let printed = tmpl::Settings { print: 1, ..settings };
+    assert_eq!(pages.render("", b"", &printed).unwrap(), b"{{define \"m\"}}{{.n}} and {{.k}}{{end}}\n");
+    pages.add("long", b"{{range 100000}}0123456789{{end}}").unwrap();
+    assert_eq!(pages.render("long", b"", &settings).unwrap(), b"0123456789".repeat(100_000));
+}
+
+// 8 threads over one set, each with data of its own
+#[test]
+fn threads() {
+    let pages = tmpl::Templates::new();
+    pages.add("m", b"{{.n}} and {{.k}}").unwrap();
+    std::thread::scope(|scope| {
+        for n in 0..8 {
+            let pages = &pages;
+            scope.spawn(move || {
+                for k in 0..12_500 {
+                    let data = format!("{{\"n\": {n}, \"k\": {k}}}");
+                    let text = pages.render("m", data.as_bytes(), &tmpl::Settings::default()).unwrap();
+                    assert_eq!(text, format!("{n} and {k}").as_bytes());
+                }
+            });
+        }
+    });
+}
