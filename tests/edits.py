@@ -126,9 +126,34 @@ def compiles(crate, edit):
     return re.findall(r"^src/\S+ error.*$", said, re.MULTILINE)[:3]
 
 
-def read_edits(room, name):
+def copied(room):
+    """Copies the repository, with links to the libraries that `rt ci` left in it: each crate's edits are read in a copy of their own, since
+    the crates above one that has an edit would be read over it."""
+    shutil.copytree(f"{harness.TOP}/crates", f"{room}/crates", ignore=shutil.ignore_patterns("out"))
+    for name in os.listdir(f"{room}/crates"):
+        libraries = f"{harness.TOP}/crates/{name}/out/rlib"
+        if os.path.isdir(libraries):
+            shutil.copytree(libraries, f"{room}/crates/{name}/out/rlib", copy_function=linked)
+    for name in ("crates.txt", "HANDLES"):
+        shutil.copy(f"{harness.TOP}/{name}", room)
+
+
+def linked(source, to):
+    try:
+        os.link(source, to)
+    except OSError:
+        shutil.copy2(source, to)
+
+
+def read_edits(name):
     """Has the front end read the edits of a crate: how many it takes and how many not."""
-    crate, passed, failed = f"{room}/crates/{name}", 0, 0
+    with tempfile.TemporaryDirectory(prefix="edits-") as room:
+        copied(room)
+        return read_edits_in(f"{room}/crates/{name}", name)
+
+
+def read_edits_in(crate, name):
+    passed = failed = 0
     take_edits(crate, "edits")
     for edit in edits_in(f"{crate}/must-fail"):
         said = compiles(crate, edit)
@@ -137,16 +162,12 @@ def read_edits(room, name):
     return passed, failed
 
 
-def read_changed(room, crates):
+def read_changed(crates):
     """Has the front end read the edits of those crates that changed since: how many it takes and how many not."""
     told = seen()
     changed = [it for it in crates if edits_in(f"{harness.TOP}/crates/{it}/edits") and told.get(it) != checksum(it)]
-    for name in crates if changed else []:
-        libraries = f"{harness.TOP}/crates/{name}/out/rlib"
-        if os.path.isdir(libraries):
-            shutil.copytree(libraries, f"{room}/crates/{name}/out/rlib")
     with ThreadPoolExecutor(int(os.environ.get("RT_JOBS") or 1)) as pool:
-        came = list(pool.map(lambda it: read_edits(room, it), changed))
+        came = list(pool.map(read_edits, changed))
     record(name for name, (_, failed) in zip(changed, came) if not failed)
     return tuple(map(sum, zip((0, 0), *came)))
 
@@ -178,7 +199,7 @@ def main(words):
         kinds = FOLDERS if only_apply else FOLDERS[:1]
         counted = [apply(room, crates, it) for it in kinds]
         if only_apply:
-            counted.append(read_changed(room, crates))
+            counted.append(read_changed(crates))
         else:
             bad = counted[0][1]
             came = attempt_all(room, every, crates)

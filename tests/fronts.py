@@ -24,7 +24,7 @@ FEW, SPREAD, LAST = 2000, 16, 4  # fronts of a longer one: the first, those behi
 RUN, EACH = 1000, 64  # bytes up to which all accepted fronts are run by meaning.py, and how few of them else
 ALONE = 100  # bytes of a file up to which each of its fronts is read alone too
 SPARE = 1 << 24  # bytes that one process may read, which it keeps, and trees of them
-LEAST = {"template": 380000, "data": 52700}  # fronts
+LEAST = {"template": 380000, "data": 26400}  # fronts
 RUNS = 25000  # fronts of templates that are accepted
 CLOSES = {b"[": b"]", b"{": b"}", b'"': b'"'}  # what ends a list, a map or a text of JSON
 OPTIONS = meaning.Options(depth=20, steps=1000)  # what a run may take
