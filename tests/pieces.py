@@ -14,11 +14,12 @@ import sweep
 
 PROBE = f"{harness.TOP}/crates/tmpl_probe/out/tmpl_probe"
 PIECES = (1, 2, 4, 4096)
-LEAST = 8900  # runs
+LEAST = 8470  # runs
 ALL = 2**64 - 1  # as many bytes as there are
 DONE = b"status 0\n"
 OUT_OF_MEMORY = b"tmpl: out of memory\nstatus 7\n"
 NOT_RUN = (7, b"", b"")  # what the probe comes to where memory is refused before a run
+NOT_READ = (3, b"", b"")  # and where it is refused for the bytes of a file: its source tells no cause
 
 WITH_IN_RANGE = "{{range .}}{{with .k}}{{if eq . 2}}{{break}}{{end}}{{.}}{{end}};{{end}}{{len .}}"
 
@@ -168,8 +169,8 @@ def probe(folder, it, stdin=None, more=None, keep=()):
 def differences(got, wanted):
     """What is not as wanted, under what was looked at."""
     names = ("status", "output", "ending")
-    pairs = zip(names, got, wanted)
-    return [f"    {name}: {harness.short(is_)}\n    wanted: {harness.short(want)}" for name, is_, want in pairs if is_ != want]
+    pairs = [it for it in zip(names, got, wanted) if it[1] != it[2]]
+    return [f"    {name}: {harness.short(str(is_))}\n    wanted: {harness.short(str(want))}" for name, is_, want in pairs]
 
 
 def lay(folder, template, data=None):
@@ -293,10 +294,10 @@ def judge_count(shim, template, text, count, _):
 
 
 def judge_refused(shim, template, text, count, kept, data=None):
-    """Refuses each allocation of a process that runs a template over arrays. Nothing is run, where it comes before; or the run
-    is as ever, or memory is told to be out and a beginning of the text was taken. The last comes of the owners at least, and
-    at most of all allocations of the run: a text whose room is refused may still grow as it needs."""
-    told = []
+    """Refuses each allocation of a process that runs a template over arrays. Nothing is run, where it comes before, or a file is not
+    read; or the run is as ever, or memory is told to be out and a beginning of the text was taken. The last comes of the owners at least,
+    and at most of all allocations of the run: a text whose room is refused may still grow as it needs."""
+    told, unread = [], []
 
     def wrong(got, refused):
         status, out, errors = got
@@ -304,6 +305,9 @@ def judge_refused(shim, template, text, count, kept, data=None):
             return []
         if refused and (status, errors) == (0, OUT_OF_MEMORY) and text.encode().startswith(out):
             told.append(out)
+            return []
+        if refused and got == NOT_READ:
+            unread.append(got)
             return []
         return differences(got, (0, text.encode(), DONE))
 
@@ -313,6 +317,8 @@ def judge_refused(shim, template, text, count, kept, data=None):
         runs, said = sweep.sweep(shim, lambda *how: probe(folder, it, None, *how), wrong)
     if not said and not kept <= len(told) <= count:
         said = [f"    memory was told to be out {len(told)} times, {kept} to {count} wanted"]
+    if not said and len(unread) != (1 if data is None else 2):
+        said = [f"    {len(unread)} files were not read"]
     return f"refused memory of {template!r}", runs, said
 
 
