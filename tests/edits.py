@@ -167,9 +167,11 @@ def read_changed(crates):
     told = seen()
     changed = [it for it in crates if edits_in(f"{harness.TOP}/crates/{it}/edits") and told.get(it) != checksum(it)]
     with ThreadPoolExecutor(int(os.environ.get("RT_JOBS") or 1)) as pool:
-        came = list(pool.map(read_edits, changed))
-    record(name for name, (_, failed) in zip(changed, came) if not failed)
-    return tuple(map(sum, zip((0, 0), *came)))
+        came = [(name, pool.submit(read_edits, name)) for name in changed]
+        for name, it in came:
+            if not it.result()[1]:
+                record([name])
+    return tuple(map(sum, zip((0, 0), *(it.result() for _, it in came))))
 
 
 def attempt_all(room, every, crates):
