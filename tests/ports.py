@@ -29,7 +29,8 @@ IMAGE = re.compile(r"^```dockerfile\n(FROM scratch\n.*?)^```$", re.MULTILINE | r
 
 def ran(*words, **how):
     """The status and all output of a program."""
-    it = subprocess.run(words, stdin=subprocess.DEVNULL, stdout=subprocess.PIPE, stderr=subprocess.STDOUT, **how)
+    given = {} if "input" in how else {"stdin": subprocess.DEVNULL}
+    it = subprocess.run(words, stdout=subprocess.PIPE, stderr=subprocess.STDOUT, **given, **how)
     return it.returncode, it.stdout.decode(errors="replace")
 
 
@@ -101,13 +102,12 @@ def judge_root(folder, way, program, what):
 
 
 def judge_image(folder, way, program):
-    """The image from nothing of docs/CONTAINERS.md, as a folder. Its /dev, which a container has from the system, holds what is put in."""
+    """The image from nothing of docs/CONTAINERS.md, as a folder, with the data as its standard input."""
     with open(f"{harness.TOP}/docs/CONTAINERS.md", encoding="utf-8") as it:
         lines = IMAGE.search(it.read())[1].splitlines()
     root = f"{folder}/image"
-    os.makedirs(f"{root}/dev")
+    os.makedirs(root)
     given = {"tmpl": program, "site.tmpl": written(f"{folder}/site.tmpl", "listen {{.port}};\n")}
-    written(f"{root}/dev/stdin", '{"port": 80}')
     for kind, rest in (it.split(" ", 1) for it in lines):
         if kind == "COPY":
             name, to = rest.split()
@@ -115,7 +115,7 @@ def judge_image(folder, way, program):
         elif kind == "WORKDIR":
             os.makedirs(f"{root}{rest}")
         elif kind == "ENTRYPOINT":
-            got = ran(*way, root, *json.loads(rest))
+            got = ran(*way, root, *json.loads(rest), input=b'{"port": 80}')
     return "the image of docs/CONTAINERS.md", 1, [] if got == (0, "listen 80;\n") else [f"    got {got}"]
 
 
