@@ -22,6 +22,7 @@ import harness
 FOLDERS = ("edits", "must-fail")
 REFUSED = ": refused, as it must be"
 SEEN = f"{harness.TESTS}/edits.seen"
+READ = "only=0 proved=0"  # what a check of no function says at its end
 
 
 def edits_in(folder):
@@ -123,7 +124,9 @@ def compiles(crate, edit):
     said = rt(crate, "check", "--only", "")
     with open(path, "w", encoding="utf-8") as it:
         it.write(before)
-    return re.findall(r"^src/\S+ error.*$", said, re.MULTILINE)[:3]
+    told = re.findall(r"^src/\S+ error.*$", said, re.MULTILINE)[:3]
+    # a check that was stopped, or that lacked a library, says nothing of the body
+    return told if told or READ in said else ["it was not read: " + " ".join(said.splitlines()[-1:])]
 
 
 def copied(room):
