@@ -114,35 +114,35 @@ formatted-run_added bs n vs old new is some within added = (
 )
 
 -- `%%` was added
-pub formatted-percent_added : (bs rest behind : List ℕ) (vs : List Value) (old new : List ℕ) → bs ≡ 37 ∷ rest → rest ≡ 37 ∷ behind → new ≡ old ++ 37 ∷ []
-    → (text : List ℕ) × (new ≡ old ++ text) × (formatted bs vs ≡ both (Some text) (formatted behind vs)) × (0 ≤ length vs) × (length behind < length bs)
-formatted-percent_added bs rest behind vs old new first second added = (
+pub formatted-percent_added : (bs rest after : List ℕ) (vs : List Value) (old new : List ℕ) → bs ≡ 37 ∷ rest → rest ≡ 37 ∷ after → new ≡ old ++ 37 ∷ []
+    → (text : List ℕ) × (new ≡ old ++ text) × (formatted bs vs ≡ both (Some text) (formatted after vs)) × (0 ≤ length vs) × (length after < length bs)
+formatted-percent_added bs rest after vs old new first second added = (
   37 ∷ [],
   added,
-  ap (λ f. formatted f vs) (first ∙ ap (λ r. 37 ∷ r) second) ∙ formatted-percent behind vs,
+  ap (λ f. formatted f vs) (first ∙ ap (λ r. 37 ∷ r) second) ∙ formatted-percent after vs,
   omega arith,
   omega (arith, ap length first, ap length second),
 )
 
--- nothing stands behind a `%`
+-- nothing stands after a `%`
 pub formatted-percent_lone : (bs rest : List ℕ) (vs : List Value) → bs ≡ 37 ∷ rest → length rest ≤ 0 → formatted bs vs ≡ None
 formatted-percent_lone bs rest vs first none = ap (λ f. formatted f vs) (first ∙ ap (λ r. 37 ∷ r) (nil_from_length rest (omega arith))) ∙ formatted-lone vs
 
--- the values of the cells behind so many, as a slice has them
-pub values_of-behind : (n : ℕ) (cells : List Cell) → values_of (take (length cells - n) (drop n cells)) ≡ drop n (values_of cells)
-values_of-behind n cells =
+-- the values of the cells after this many, as a slice has them
+pub values_of-after : (n : ℕ) (cells : List Cell) → values_of (take (length cells - n) (drop n cells)) ≡ drop n (values_of cells)
+values_of-after n cells =
     ap values_of (take_all (length cells - n) (drop n cells) (omega (arith, length-drop n cells))) ∙ sym (drop-map (λ c. val_of c.val) n cells)
 
-module _ (format rest behind : List ℕ) (cells : List Cell) (used taken : ℕ) (front text old mid new : List ℕ) where
+module _ (format rest after : List ℕ) (cells : List Cell) (used taken : ℕ) (front text old mid new : List ℕ) where
   -- one segment more was added
   pub formatted-segment : mid ≡ old ++ front → formatted format (values_of cells) ≡ both (Some front) (formatted rest (drop used (values_of cells)))
-      → new ≡ mid ++ text → formatted rest (drop used (values_of cells)) ≡ both (Some text) (formatted behind (drop taken (drop used (values_of cells))))
+      → new ≡ mid ++ text → formatted rest (drop used (values_of cells)) ≡ both (Some text) (formatted after (drop taken (drop used (values_of cells))))
       → (new ≡ old ++ (front ++ text)) × (formatted format (values_of cells) ≡ both (Some (front ++ text))
-      (formatted behind (drop (used + taken) (values_of cells))))
+      (formatted after (drop (used + taken) (values_of cells))))
   formatted-segment so_far all added more = (
     added ∙ ap (λ s. s ++ text) so_far ∙ append_assoc old front text,
-    all ∙ ap (both (Some front)) more ∙ both-both front text (formatted behind (drop taken (drop used (values_of cells)))) ∙
-        ap (λ vs. both (Some (front ++ text)) (formatted behind vs)) (drop-drop taken used (values_of cells)),
+    all ∙ ap (both (Some front)) more ∙ both-both front text (formatted after (drop taken (drop used (values_of cells)))) ∙
+        ap (λ vs. both (Some (front ++ text)) (formatted after vs)) (drop-drop taken used (values_of cells)),
   )
 
 module _ (format rest : List ℕ) (vs left : List Value) (front old new : List ℕ) (so_far : new ≡ old ++ front)
@@ -156,7 +156,7 @@ module _ (format rest : List ℕ) (vs left : List Value) (front old new : List �
   formatted-too_many : 0 < length left → formatted format vs ≡ None
   formatted-too_many some = rw (all, nil_from_length rest (omega arith), formatted-over left some) refl
 
--- a format of which nothing is left, over these cells, of which so many were used
+-- a format of which nothing is left, over these cells, of which this many were used
 pub formatted-end : (format rest : List ℕ) (cells : List Cell) (used : ℕ) (front old new : List ℕ) → new ≡ old ++ front
     → formatted format (values_of cells) ≡ both (Some front) (formatted rest (drop used (values_of cells))) → length rest ≤ 0 → used ≤ length cells
     → (used ≡ length cells → option_map (λ text. old ++ text) (formatted format (values_of cells)) ≡ Some new)

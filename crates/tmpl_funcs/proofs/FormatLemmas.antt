@@ -23,7 +23,7 @@ use Rattle.tmpl_funcs.specs.computed.Format.{both}
 abbrev filled : Option (List Segment) → List Value → Option (List ℕ)
 filled segments vs = option_and_then (λ ps. texts ps vs) segments
 
--- the first segment, and those behind it
+-- the first segment, and those after it
 pub reading-first : (b : ℕ) (bs : List ℕ) (p : Option Segment) → first_segment (b ∷ bs) ≡ p → reading (b ∷ bs) ≡ with_segment p (reading (drop (rest_len p) bs))
 unfolding reading one_reading
 reading-first b bs p is = read-first b bs p is
@@ -64,9 +64,9 @@ is_plain-first : (b : ℕ) (bs : List ℕ) (t : Bool) → is_plain b ≡ t → 0
 is_plain-first b bs true is h = is
 is_plain-first b bs false is h = absurd (omega arith)
 
-drop-behind : (n b : ℕ) (bs : List ℕ) → 0 < n → drop (n - 1) bs ≡ drop n (b ∷ bs)
-drop-behind zero b bs h = absurd (omega arith)
-drop-behind (suc n) b bs h = ap (λ k. drop k bs) {x = suc n - 1} {y = n} (omega arith)
+drop-after : (n b : ℕ) (bs : List ℕ) → 0 < n → drop (n - 1) bs ≡ drop n (b ∷ bs)
+drop-after zero b bs h = absurd (omega arith)
+drop-after (suc n) b bs h = ap (λ k. drop k bs) {x = suc n - 1} {y = n} (omega arith)
 
 -- a run at the front
 pub formatted-run : (bs : List ℕ) (n : ℕ) (vs : List Value) → n ≡ prefix_len is_plain bs → 0 < n
@@ -81,14 +81,14 @@ formatted-run (b ∷ bs) n vs is h =
     filled-literal run (reading (drop (length run - 1) bs)) vs ∙
     ap (λ k. both (Some (take k (b ∷ bs))) (filled (reading (drop (length run - 1) bs)) vs)) (sym is) ∙
     ap (λ k. both (Some (take n (b ∷ bs))) (filled (reading (drop (k - 1) bs)) vs)) long ∙
-    ap (λ r. both (Some (take n (b ∷ bs))) (filled (reading r) vs)) (drop-behind n b bs h)
+    ap (λ r. both (Some (take n (b ∷ bs))) (filled (reading r) vs)) (drop-after n b bs h)
 
 -- `%%` at the front
 pub formatted-percent : (bs : List ℕ) (vs : List Value) → formatted (37 ∷ 37 ∷ bs) vs ≡ both (Some (37 ∷ [])) (formatted bs vs)
 unfolding formatted
 formatted-percent bs vs = formatted-first 37 (37 ∷ bs) vs (Some percent) refl ∙ filled-percent (reading bs) vs
 
--- a `%` with nothing behind it
+-- a `%` with nothing after it
 pub formatted-lone : (vs : List Value) → formatted (37 ∷ []) vs ≡ None
 unfolding form_at
 formatted-lone vs = formatted-first 37 [] vs None refl

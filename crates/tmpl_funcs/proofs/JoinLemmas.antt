@@ -11,7 +11,7 @@ use Rattle.tmpl_funcs.specs.computed.Join.{shown, space_unless}
 use Rattle.tmpl_funcs.specs.declared.join.NothingText.{NothingText}
 use Rattle.tmpl_funcs.specs.declared.join.NothingText.TheVariants.{Nil}
 
--- the operands behind one that is a string or not
+-- the operands after one that is a string or not
 abbrev pub joined_by : Bool → List Value → List ℕ
 joined_by t [] = []
 joined_by t (v ∷ vs) = space_unless (t || is_string v) ++ (inner_text v ++ joined_by (is_string v) vs)

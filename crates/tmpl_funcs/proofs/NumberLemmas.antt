@@ -1,7 +1,7 @@
 -- For `number`, which reads a width: a number of four digits is small, so no sum wraps.
 use Rattle.std.proofs.Common.{ℕ, zero, suc, ◌+◌, ◌*◌, ◌<◌, ◌≤◌, arith}
 
--- the most that so many bytes write, whether they are digits or not
+-- the most that this many bytes write, whether they are digits or not
 abbrev pub most : ℕ → ℕ
 most zero = 0
 most (suc i) = 10 * most i + 207

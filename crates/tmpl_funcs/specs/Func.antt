@@ -64,7 +64,7 @@ row_of Ge = row (codes "ge") (two (λ v w. compared (option_map not (order v w))
 abbrev pub name_of : Func → List ℕ
 name_of f = (row_of f).name
 
--- the function takes so many arguments: no fewer than the least number, and no more than the greatest, if there is one
+-- the function takes this number of arguments: no fewer than the least number, and no more than the greatest, if there is one
 abbrev pub takes : Func → ℕ → Bool
 takes f n = let c = counts (row_of f).arguments in nat_le c.0 n && option_map_or (nat_le n) c.1 true
 

@@ -63,7 +63,7 @@ fn operand_capacity(value: &Val<'_>, escape: Option<Escape>) -> usize {
     }
 }
 
-/// For operands with one byte behind each.
+/// For operands with one byte after each.
 pub(crate) fn joined_capacity(operands: &[Cell<'_>], escape: Option<Escape>) -> usize {
     let mut capacity: usize = 0;
     for operand in operands {
@@ -74,7 +74,7 @@ pub(crate) fn joined_capacity(operands: &[Cell<'_>], escape: Option<Escape>) -> 
     capacity
 }
 
-/// No bytes yet, with memory for so many where it can be had; a text for which it can't still grows by need.
+/// No bytes yet, with memory for this many where it can be had; a text for which it can't still grows by need.
 pub(crate) fn reserve(alloc: Global, capacity: usize) -> Vec<u8>
     ensures { result.items ≡ [] }
 {
@@ -91,9 +91,9 @@ pub(crate) fn format_capacity(format: &[u8], operands: &[Cell<'_>]) -> usize {
     let mut rest = format;
     for operand in operands {
         match next_form(rest) {
-            Some((form, behind)) => {
+            Some((form, after)) => {
                 capacity = capacity.saturating_add(form_capacity(form, &operand.val));
-                rest = behind;
+                rest = after;
             }
             None => return capacity,
         }
@@ -101,14 +101,14 @@ pub(crate) fn format_capacity(format: &[u8], operands: &[Cell<'_>]) -> usize {
     capacity
 }
 
-/// The first form in a format, and what stands behind it.
+/// The first form in a format, and what stands after it.
 fn next_form(format: &[u8]) -> Option<(Form, &[u8])> {
     let mut rest = format;
     while rest.len() > 0 {
         match rest {
-            [b'%', b'%', behind @ ..] => rest = behind,
+            [b'%', b'%', after @ ..] => rest = after,
             [b'%', spelled @ ..] => return read_form(spelled),
-            [_, behind @ ..] => rest = behind,
+            [_, after @ ..] => rest = after,
             [] => return None,
         }
     }
@@ -121,7 +121,7 @@ fn form_capacity(form: Form, value: &Val<'_>) -> usize {
         .saturating_add(printed_capacity(value, form.verb.spread()))
 }
 
-/// For an operand, each byte of which becomes so many at the most if it is a text.
+/// For an operand, each byte of which becomes this many at the most if it is a text.
 fn printed_capacity(value: &Val<'_>, spread: usize) -> usize {
     match value {
         Val::Num(_) => BINARY,

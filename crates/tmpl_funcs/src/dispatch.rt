@@ -68,7 +68,7 @@ fn index_first<'a>(arguments: &mut [Cell<'a>]) -> Result<Val<'a>, CallFault>
         return Err(CallFault::WrongCount);
     }
     let item = take_first(arguments);
-    index(item, behind_first(arguments))
+    index(item, after_first(arguments))
 }
 
 /// The first argument between the others.
@@ -80,7 +80,7 @@ fn slice_first<'a>(arguments: &mut [Cell<'a>]) -> Result<Val<'a>, CallFault>
         return Err(CallFault::WrongCount);
     }
     let value = take_first(arguments);
-    slice(value, behind_first(arguments))
+    slice(value, after_first(arguments))
 }
 
 /// Takes the first value out of the cells.
@@ -92,8 +92,8 @@ fn take_first<'a>(arguments: &mut [Cell<'a>]) -> Val<'a>
     mem::replace(&mut arguments[0].val, Val::Nothing)
 }
 
-/// The cells behind the first.
-fn behind_first<'a, 'b>(arguments: &'b [Cell<'a>]) -> &'b [Cell<'a>]
+/// The cells after the first.
+fn after_first<'a, 'b>(arguments: &'b [Cell<'a>]) -> &'b [Cell<'a>]
     requires { 0 < length arguments.now }
     ensures { values_of result.now ≡ drop 1 (values_of arguments.now) }
 {

@@ -10,7 +10,7 @@ use tmpl_values::CompareFault;
 /// arguments, then the arguments in the order in which the function looks at them.
 #[derive(Clone, Copy, Debug, PartialEq, Eq)]
 pub enum CallFault {
-    /// The function does not take so many arguments.
+    /// The function does not take this number of arguments.
     WrongCount,
     /// It does not take an argument of that kind.
     WrongKind,

@@ -79,7 +79,7 @@ impl Func {
         self.row().name
     }
 
-    /// Whether it takes so many arguments. `slice` takes at most three, by our own profile.
+    /// Whether it takes this number of arguments. `slice` takes at most three, by our own profile.
     pub fn takes(self, count: u64) -> bool
         ensures { result ≡ takes self count }
     {

@@ -91,7 +91,7 @@ fn list_item<'a>(items: &'a [Data], place: Option<i64>) -> Result<Val<'a>, CallF
     Ok(Val::of(&items[i]))
 }
 
-/// The place that a number names among so many, counted from 0.
+/// The place that a number names among this many, counted from 0.
 fn place_among(place: Option<i64>, count: usize) -> Result<usize, CallFault>
     ensures { result ≡ place_among place count }
 {

@@ -17,7 +17,7 @@ use Rattle.tmpl_grammar.specs.Constant.{IsConstant}
 use Rattle.tmpl_grammar.specs.computed.Keyword.{spelling}
 use Rattle.tmpl_grammar.specs.computed.Reading.{header_in, spells_keyword, keyword_by, keyword_of, branch_of, text_in, quoted_before, quoted_at, with_name}
 use Rattle.tmpl_grammar.specs.computed.Reading.{named_action, define_by, call_with, template_by, block_by, else_keyword, else_by}
-use Rattle.tmpl_grammar.specs.computed.Reading.{action_by, action_behind, action_at, action_in}
+use Rattle.tmpl_grammar.specs.computed.Reading.{action_by, action_after, action_at, action_in}
 use Rattle.tmpl_grammar.specs.computed.Constant.{constant_by, constant_of}
 use Rattle.tmpl_grammar.specs.Laws.{IsAction, IsAdmitted, IsComputed}
 use Rattle.tmpl_grammar.specs.declared.tree.Control.TheVariants as control
@@ -55,7 +55,7 @@ known-word t = by t.kind refl
 word-other : (k : Keyword) (t : Token) → IsWord (spelling k) t → is_white t ≡ false
 word-other k t w = ap is_space_kind w.0
 
--- behind a keyword
+-- after a keyword
 keyed : (k : Keyword) {Rest : List Token → Type 0} {ts : List Token} {a : Action} (s : Then (IsWord (spelling k)) Rest ts) → action_by k s.2 ≡ Some a
     → action_in ts ≡ Some a
 unfolding action_in
@@ -79,7 +79,7 @@ pipeline-plain : (cs : Pipeline) (ts : List Token) → SpellsPipeline cs ts → 
 pipeline-plain cs ts s = by (next ts) (at-next ts)
   where
     by-keyword : (t : Token) (us ws : List Token) → ts ≡ ws ++ t ∷ us → (o : Option Keyword) → IfSome o (λ k. IsWord (spelling k) t)
-        → action_behind o us ts ≡ option_map pipeline_action (header_in false ts)
+        → action_after o us ts ≡ option_map pipeline_action (header_in false ts)
     by-keyword t us ws is None w = refl
     by-keyword t us ws is (Some k) w = none-stray cs ws us t (word-stray k t w) (subst (SpellsPipeline cs) is s)
 
@@ -161,7 +161,7 @@ module _ (ts : List Token) where
       by None m = led-then n w (no-next us m)
       by (Some p) m = by-keyword p.0 p.1 m (keyword_of p.0) (known-word p.0)
 
-  -- a keyword, a name in quotes, and what stands behind them
+  -- a keyword, a name in quotes, and what stands after them
   named-spelled : (k : Keyword) (made : List ℕ → List Token → Option Action) (t : Token) (us : List Token) → next ts ≡ Some (t, us) → IsWord (spelling k) t
       → ((name : List ℕ) (vs : List Token) → ((Rest : List Token → Type 0) → Rest vs → Then (IsWord (spelling k)) (Then (IsQuoted name) Rest) ts)
       → Spelled (made name vs)) → Spelled (named_action made us)
@@ -195,7 +195,7 @@ module _ (ts : List Token) where
   first-spelled None n = tt
   first-spelled (Some p) n = by (keyword_of p.0) (known-word p.0)
     where
-      by : (o : Option Keyword) → IfSome o (λ k. IsWord (spelling k) p.0) → Spelled (action_behind o p.1 ts)
+      by : (o : Option Keyword) → IfSome o (λ k. IsWord (spelling k) p.0) → Spelled (action_after o p.1 ts)
       by None w = bound-spelled false pipeline_action ts (λ h spelled. spelled)
       by (Some k) w = keyword-spelled k p.0 p.1 n w
 

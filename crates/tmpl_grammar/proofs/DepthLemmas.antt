@@ -10,9 +10,9 @@ use Rattle.tmpl_grammar.specs.Operand.{IsOperand}
 use Rattle.tmpl_grammar.specs.Pipeline.{IsBlank, SpellsPipeline}
 use Rattle.tmpl_grammar.proofs.PartsLemmas.{pipeline-parts, ChainParts, ChainedParts, OperandParts, MoreParts, CommandParts, LaterParts, PipelineParts}
 use Rattle.tmpl_grammar.specs.Depth.{depth_of_operand, depth_of_operands, depth_of_pipeline}
-use Rattle.tmpl_grammar.specs.computed.Depth.{depth_behind, deepest}
+use Rattle.tmpl_grammar.specs.computed.Depth.{depth_after, deepest}
 
--- tokens that close what they open, and open so many within
+-- tokens that close what they open, and open this many within
 abbrev Nests : ℕ → List Token → Type 0
 Nests d ts = (n : ℕ) (us : List Token) → deepest n (ts ++ us) ≡ max (n + d) (deepest n us)
 
@@ -20,8 +20,8 @@ least : (n : ℕ) (ts : List Token) → n ≤ deepest n ts
 least n [] = omega arith
 least n (t ∷ ts) = omega arith
 
--- a token behind which too many are open
-pub too-deep : (most n m : ℕ) (ts : List Token) (t : Token) (us : List Token) → ts ≡ t ∷ us → m ≡ depth_behind t.kind n → most < m
+-- a token after which too many are open
+pub too-deep : (most n m : ℕ) (ts : List Token) (t : Token) (us : List Token) → ts ≡ t ∷ us → m ≡ depth_after t.kind n → most < m
     → nat_le (deepest n ts) most ≡ false
 too-deep most n m ts t us is e h =
     grind (arith, nat_tests, least m us)
@@ -29,14 +29,14 @@ too-deep most n m ts t us is e h =
 none-nests : Nests 0 []
 none-nests n us = let low = least n us in omega (arith, low)
 
--- a token that is no parenthesis, and tokens behind it
-one-nests : (t : Token) (ts : List Token) (d : ℕ) → ((n : ℕ) → depth_behind t.kind n ≡ n) → Nests d ts → Nests d (t ∷ ts)
+-- a token that is no parenthesis, and tokens after it
+one-nests : (t : Token) (ts : List Token) (d : ℕ) → ((n : ℕ) → depth_after t.kind n ≡ n) → Nests d ts → Nests d (t ∷ ts)
 one-nests t ts d same h = grind arith
 
-of-kind : (t : Token) (ts : List Token) (d : ℕ) (k : TokenKind) → t.kind ≡ k → ((n : ℕ) → depth_behind k n ≡ n) → Nests d ts → Nests d (t ∷ ts)
-of-kind t ts d k is same = one-nests t ts d (λ n. ap (λ k. depth_behind k n) is ∙ same n)
+of-kind : (t : Token) (ts : List Token) (d : ℕ) (k : TokenKind) → t.kind ≡ k → ((n : ℕ) → depth_after k n ≡ n) → Nests d ts → Nests d (t ∷ ts)
+of-kind t ts d k is same = one-nests t ts d (λ n. ap (λ k. depth_after k n) is ∙ same n)
 
--- one list behind another
+-- one list after another
 both-nest : (ts us : List Token) (d e : ℕ) → Nests d ts → Nests e us → Nests (max d e) (ts ++ us)
 both-nest ts us d e h k n vs = grind (arith, append_assoc ts us vs, h n (us ++ vs), k n vs)
 
@@ -49,19 +49,19 @@ chain-nests [] ts c = rw c none-nests
 chain-nests (n ∷ names) ts (t, us, is, field, begins, name, rest) =
     rw is (of-kind t us 0 kind.Field field (λ n. refl) (chain-nests names us rest))
 
-operand-apart : (t : Token) (o : Operand) → IsOperand t o → (n : ℕ) → depth_behind t.kind n ≡ n
+operand-apart : (t : Token) (o : Operand) → IsOperand t o → (n : ℕ) → depth_after t.kind n ≡ n
 operand-apart t o is n = grind arith
 
 chained-nests : (o : Operand) (names : List (List ℕ)) (ts : List Token) → ChainedParts o names ts → Nests 0 ts
 chained-nests o names ts (t, us, is, at, chain) = rw is (one-nests t us 0 (operand-apart t o at) (chain-nests names us chain))
 
--- parentheses around tokens, and a chain behind them
+-- parentheses around tokens, and a chain after them
 group-nests : (l r : Token) (ts us : List Token) (d : ℕ) → l.kind ≡ kind.LeftParenthesis → r.kind ≡ kind.RightParenthesis → Nests d ts → Nests 0 us
     → Nests (1 + d) (l ∷ ts ++ r ∷ us)
 group-nests l r ts us d left right h k n vs =
     let whole = ap (deepest (suc n)) (append_assoc ts (r ∷ us) vs) in
-    let at_left = ap (λ k. deepest (depth_behind k n) ((ts ++ r ∷ us) ++ vs)) left in
-    let at_right = ap (λ k. deepest (depth_behind k (suc n)) (us ++ vs)) right ∙ ap (λ m. deepest m (us ++ vs)) (let e : suc n - 1 ≡ n = omega arith in e) in
+    let at_left = ap (λ k. deepest (depth_after k n) ((ts ++ r ∷ us) ++ vs)) left in
+    let at_right = ap (λ k. deepest (depth_after k (suc n)) (us ++ vs)) right ∙ ap (λ m. deepest m (us ++ vs)) (let e : suc n - 1 ≡ n = omega arith in e) in
     omega (arith, whole, at_left, at_right, h (suc n) (r ∷ (us ++ vs)), k n vs, least n vs)
 
 mutual

@@ -21,7 +21,7 @@ digits-all base (d ∷ ds) h =
     let both = and_parts (is_digit d base) (list_all (λ d. is_digit d base) ds) h in
     (ltb-true (digit_value d) base both.0, digits-all base ds both.1)
 
--- so many digits at the front are read
+-- this many digits at the front are read
 pub code-digits : (base count : ℕ) (ds rest : List ℕ) → AreDigits base count ds → code base count (ds ++ rest) ≡ Some (digits_value base ds)
 code-digits base count ds rest h = grind (arith, nat_tests, all-digits, length-append, take-append_seam)
 

@@ -66,7 +66,7 @@ escape-some quote s p h = grind (arith, nat_tests)
 
 -- ---- what is computed the relation admits
 
--- the bytes begin with those of one rune, and say it before whatever those behind them say
+-- the bytes begin with those of one rune, and say it before whatever those after them say
 pub record FirstPart (quote : ℕ) (bs : List ℕ) (p : Spelled) : Type 0 where
   pub spelling : List ℕ
   pub rest : List ℕ
@@ -99,7 +99,7 @@ lettered quote e b is = by (nat_eq b quote && nat_eq e quote) refl
         rw (eqb-true e quote both.1, eqb-true b quote both.0) the_quote
     by false h = a_letter (letter-named quote e b is h) (λ e34. no-mark quote e b is h e34)
 
--- so many digits behind these bytes
+-- this many digits after these bytes
 has-digits : (quote base count len : ℕ) (front : List ℕ) (made : ℕ → Rune) (test : ℕ → Bool) (bs : List ℕ) → 0 < len
     → ((ds : List ℕ) → length ds ≡ count → length (92 ∷ front ++ ds) ≡ len)
     → ((ds : List ℕ) → AreDigits base count ds → test (digits_value base ds) ≡ true → IsEscape quote (92 ∷ (front ++ ds)) (made (digits_value base ds)))
@@ -126,7 +126,7 @@ has-octal quote bs =
 has-hex : (quote : ℕ) (bs : List ℕ) → Begins quote (92 ∷ 120 ∷ bs) (option_and_then (as_byte 4) (code 16 2 bs))
 has-hex quote bs = has-digits quote 16 2 4 (120 ∷ []) byte (λ n. nat_lt n 256) bs (omega arith) (λ ds h. omega (arith, h)) (λ ds are e. two_digits are)
 
--- by so many digits of base 16 behind this first byte
+-- by this many digits of base 16 after this first byte
 has-char : (quote head count : ℕ) (bs : List ℕ)
     → ((ds : List ℕ) → AreDigits 16 count ds → scalar (digits_value 16 ds) ≡ true → IsEscape quote (92 ∷ head ∷ ds) (char (digits_value 16 ds)))
     → Begins quote (92 ∷ head ∷ bs) (option_and_then (as_char (2 + count)) (code 16 count bs))

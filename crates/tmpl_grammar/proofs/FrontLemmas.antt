@@ -34,7 +34,7 @@ variable-front name rest all stop = row.variable (record { passes = all; longest
 
 -- ---- a space
 
--- bytes that may stand behind a `{{`, a space or a bar: they begin no white space and no trim marker
+-- bytes that may stand after a `{{`, a space or a bar: they begin no white space and no trim marker
 pub data Solid : List ℕ → Type 0 where
   solid : {b : ℕ} {bs : List ℕ} → is_space b ≡ false → nat_eq b 45 ≡ false → Solid (b ∷ bs)
   minus : {d : ℕ} {bs : List ℕ} → is_ascii_digit d ≡ true → Solid (45 ∷ d ∷ bs)
@@ -51,7 +51,7 @@ solid-unmarked s = grind (arith, nat_tests)
 pub space-front : (rest : List ℕ) → Solid rest → IsFront space rest
 space-front rest s = row.space refl (at_byte (solid-stops s) (solid-undashed s))
 
--- ---- one list behind another
+-- ---- one list after another
 
 pub bytes-append : (ts us : List Token) (rest : List ℕ) → bytes_of (ts ++ us) ++ rest ≡ bytes_of ts ++ (bytes_of us ++ rest)
 bytes-append ts us rest = ap (λ bs. bs ++ rest) (flat_map-append (λ t. t.bytes) ts us) ∙ append_assoc (bytes_of ts) (bytes_of us) rest

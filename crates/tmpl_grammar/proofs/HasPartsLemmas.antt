@@ -53,7 +53,7 @@ parts-seam : (quote : ℕ) (s rest : List ℕ) (p : Rune) → 0 < length s → p
     → parts quote (s ++ rest) ≡ with_part p (parts quote rest)
 parts-seam quote s rest p low is = grind (arith, parts-first quote (s ++ rest) (p, length s), length-append s rest, drop-append_seam s rest)
 
--- the bytes that spell the first rune, which is read, and those behind them
+-- the bytes that spell the first rune, which is read, and those after them
 abbrev Leading : ℕ → List ℕ → Rune → List Rune → Type 0
 Leading quote bs r rs =
     (s : List ℕ) × (rest : List ℕ) × (bs ≡ s ++ rest) × (0 < length s) × (part_at quote (s ++ rest) ≡ Some (r, length s)) × SpellsRunes quote rest rs
@@ -114,14 +114,14 @@ parts-in (suc n) quote (b ∷ bs) h low =
   where
     go : ((rest : List ℕ) → length rest ≤ n → IfSome (parts quote rest) (SpellsRunes quote rest)) → (o : Option Spelled) → part_at quote (b ∷ bs) ≡ o
         → IfSome o (FirstPart quote (b ∷ bs)) → IfSome (parts quote (b ∷ bs)) (SpellsRunes quote (b ∷ bs))
-    go behind None is f = rw (parts-none quote (b ∷ bs) (omega arith) is) tt
-    go behind (Some p) is f =
+    go after None is f = rw (parts-none quote (b ∷ bs) (omega arith) is) tt
+    go after (Some p) is f =
         let n : length f.spelling ≡ p.1 = f.count in
         let some : 0 < length f.spelling = omega (arith, n, f.some) in
         let first : part_at quote (f.spelling ++ f.rest) ≡ Some (p.0, length f.spelling) = grind (arith, n, f.is) in
         rw (ap (parts quote) f.is ∙ parts-seam quote f.spelling f.rest p.0 some first)
         (mapped (λ (qs : List Rune). p.0 ∷ qs) (SpellsRunes quote (b ∷ bs)) (parts quote f.rest)
-        (behind f.rest (omega (arith, ap length f.is, length-append f.spelling f.rest, some))) (λ qs more. rw f.is (f.leads qs more)))
+        (after f.rest (omega (arith, ap length f.is, length-append f.spelling f.rest, some))) (λ qs more. rw f.is (f.leads qs more)))
 
 pub parts-admitted : (quote : ℕ) (bs : List ℕ) → IsMark quote → IfSome (parts quote bs) (SpellsRunes quote bs)
 parts-admitted quote bs m = parts-in (length bs) quote bs (omega arith) (mark-low quote m)

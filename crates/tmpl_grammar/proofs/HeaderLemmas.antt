@@ -21,7 +21,7 @@ use Rattle.tmpl_grammar.proofs.StrayLemmas.{IsStray, sign-stray, none-stray}
 pub variable-other : (name : List ℕ) (t : Token) → IsVariable name t → is_white t ≡ false
 variable-other name t v = ap is_space_kind v.0
 
--- the variable that comes first, and a sign behind it
+-- the variable that comes first, and a sign after it
 variable-is : (name : List ℕ) (k : TokenKind) {Rest : List Token → Type 0} {ts : List Token} → is_space_kind k ≡ false
     → (s : Then (IsVariable name) (Then (IsSign k) Rest) ts) → variable_front ts ≡ Some (record { name = name; next_kind = k; rest = s.6.2 })
 variable-is [] k other s = absurd (let low = s.5.2 in omega (arith, low))
@@ -75,11 +75,11 @@ binding-whole false (declare_pair key name) Rest ts may s = cc
 plain-front : (ts : List Token) (cs : Pipeline) → SpellsPipeline cs ts → front_in ts ≡ plain
 plain-front ts cs s = by (variable_front ts) (variable-tells ts)
   where
-    -- a sign behind another token is in no pipeline
+    -- a sign after another token is in no pipeline
     none : {A : Type 0} (x : VariableFront) → ((t : Token) → t.kind ≡ x.next_kind → IsStray t) → VariableAs ts (Some x) → A
     none x stray v =
-        let (ws, t, us, at, blank, is, (vs, sign, rest, behind, more, kind_is, any)) = v (λ us. Unit {0}) tt in
-        let whole = at ∙ ap (λ us. ws ++ t ∷ us) behind ∙ sym (append_assoc ws (t ∷ vs) (sign ∷ rest)) in
+        let (ws, t, us, at, blank, is, (vs, sign, rest, after, more, kind_is, any)) = v (λ us. Unit {0}) tt in
+        let whole = at ∙ ap (λ us. ws ++ t ∷ us) after ∙ sym (append_assoc ws (t ∷ vs) (sign ∷ rest)) in
         none-stray cs (ws ++ t ∷ vs) rest sign (stray sign kind_is) (subst (SpellsPipeline cs) whole s)
 
     by-kind : (name : List ℕ) (k : TokenKind) (us : List Token) → VariableAs ts (Some (record { name = name; next_kind = k; rest = us }))
@@ -93,7 +93,7 @@ plain-front ts cs s = by (variable_front ts) (variable-tells ts)
     by None v = refl
     by (Some p) v = by-kind p.name p.next_kind p.rest v
 
--- the tokens behind a binding
+-- the tokens after a binding
 split-bound : (b : Binding) (p : Pipeline) (ts : List Token) → Bound b (SpellsPipeline p) ts
     → (us : List Token) × (split ts ≡ (b, us)) × SpellsPipeline p us
 unfolding split
@@ -111,7 +111,7 @@ pub header-admitted : (in_range : Bool) (ts : List Token) → IfSome (header_in 
 unfolding split
 header-admitted in_range ts = by (variable_front ts) (variable-tells ts)
   where
-    -- a binding, and a pipeline behind it
+    -- a binding, and a pipeline after it
     bound : (b : Binding) (us : List Token) → ((R : List Token → Type 0) → R us → Bound b R ts)
         → IfSome (header_by in_range (b, us)) (λ h. SpellsHeader in_range h ts)
     bound b us f = allowed (may_bind in_range b) refl
@@ -127,16 +127,16 @@ header-admitted in_range ts = by (variable_front ts) (variable-tells ts)
     by-second key us v name kind.Declare vs w = bound (declare_pair key name) vs (λ R r. v (Then (IsVariable name) (Then (IsSign kind.Declare) R)) (w R r))
     by-second key us v name _ vs w = bound unbound ts (λ R r. r)
 
-    behind-comma : (key : List ℕ) (us : List Token) → VariableAs ts (Some (record { name = key; next_kind = kind.Comma; rest = us }))
+    after-comma : (key : List ℕ) (us : List Token) → VariableAs ts (Some (record { name = key; next_kind = kind.Comma; rest = us }))
         → (o : Option VariableFront) → VariableAs us o → IfSome (header_by in_range (split_by (second_variable key o) ts)) (λ h. SpellsHeader in_range h ts)
-    behind-comma key us v None w = bound unbound ts (λ R r. r)
-    behind-comma key us v (Some s) w = by-second key us v s.name s.next_kind s.rest w
+    after-comma key us v None w = bound unbound ts (λ R r. r)
+    after-comma key us v (Some s) w = by-second key us v s.name s.next_kind s.rest w
 
     by-kind : (name : List ℕ) (k : TokenKind) (us : List Token) → VariableAs ts (Some (record { name = name; next_kind = k; rest = us }))
         → IfSome (header_by in_range (split_by (front_by k name us) ts)) (λ h. SpellsHeader in_range h ts)
     by-kind name kind.Declare us v = bound (declare name) us v
     by-kind name kind.Assign us v = bound (assign name) us v
-    by-kind name kind.Comma us v = behind-comma name us v (variable_front us) (variable-tells us)
+    by-kind name kind.Comma us v = after-comma name us v (variable_front us) (variable-tells us)
     by-kind name _ us v = bound unbound ts (λ R r. r)
 
     by : (o : Option VariableFront) → VariableAs ts o → IfSome (header_by in_range (split_by (front_of_variable o) ts)) (λ h. SpellsHeader in_range h ts)

@@ -9,14 +9,14 @@ use Rattle.tmpl_grammar.specs.computed.Integer.{is_plain, signed, magnitude, int
 use Rattle.tmpl_grammar.specs.computed.Within.{within}
 use Rattle.tmpl_grammar.proofs.ListLemmas.{take-rest}
 
--- the number that digits write behind those of n
+-- the number that digits write after those of n
 abbrev number_if : Bool → ℕ → Option ℕ
 number_if b n = if b then Some n else None
 
 abbrev pub number_after : ℕ → ℕ → List ℕ → Option ℕ
 number_after base n ds = number_if (list_all (λ d. is_digit d base) ds) (digits_value_after base n ds)
 
--- what the bytes that are left write behind those of n
+-- what the bytes that are left write after those of n
 abbrev pub left : ℕ → ℕ → List ℕ → Option ℕ
 left base n bs = within (number_after base n (filter is_plain bs))
 
@@ -53,15 +53,15 @@ abbrev pub sign_byte : Bool → ℕ
 sign_byte true = 45
 sign_byte false = 43
 
-behind-sign : (negative : Bool) (bs : List ℕ) → integer (sign_byte negative ∷ bs) ≡ option_and_then (signed negative) (magnitude bs)
+after-sign : (negative : Bool) (bs : List ℕ) → integer (sign_byte negative ∷ bs) ≡ option_and_then (signed negative) (magnitude bs)
 unfolding integer
-behind-sign negative bs = grind (arith, nat_tests)
+after-sign negative bs = grind (arith, nat_tests)
 
 pub integer-signed : (negative : Bool) (bs : List ℕ) → 1 ≤ length bs → get_or bs 0 0 ≡ sign_byte negative
     → option_and_then (signed negative) (within (magnitude (take (length bs - 1) (drop 1 bs)))) ≡ integer bs
 integer-signed negative [] h is = absurd (omega arith)
 integer-signed negative (b ∷ bs) h is =
-    grind (arith, take-rest (b ∷ bs) 1 (length (b ∷ bs) - 1), signed-within negative (magnitude bs), behind-sign negative bs)
+    grind (arith, take-rest (b ∷ bs) 1 (length (b ∷ bs) - 1), signed-within negative (magnitude bs), after-sign negative bs)
 
 pub ruleset signs = (signed-within, integer-signed)
 

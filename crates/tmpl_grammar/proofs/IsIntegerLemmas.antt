@@ -8,7 +8,7 @@ use Rattle.std.proofs.lemmas.Bool.{eqb-true, eqb-false, and_parts, cond_both, le
 use Rattle.std.proofs.lemmas.Bool.Decides.{nat_tests}
 use Rattle.tmpl_grammar.specs.Constant.Integer.{AreParted, no_digit, digit, parted, base_named, IsMagnitude, decimal, octal, based, IsInteger, minus, plus}
 use Rattle.tmpl_grammar.specs.Constant.Integer.{unsigned}
-use Rattle.tmpl_grammar.specs.computed.Integer.{is_plain, underscores_part, parted_number, number_by, behind_zero, magnitude, signed, integer}
+use Rattle.tmpl_grammar.specs.computed.Integer.{is_plain, underscores_part, parted_number, number_by, after_zero, magnitude, signed, integer}
 use Rattle.tmpl_grammar.proofs.OptionLemmas.{chained}
 
 -- ---- digits
@@ -57,7 +57,7 @@ number-parted base bs P h = grind (arith, nat_tests, parted-admitted)
 named-low : (b base : ℕ) → base_named b ≡ Some base → base ≤ 16
 named-low b base e = grind (arith, nat_tests)
 
-octal-computed : {bs ds : List ℕ} → AreParted 8 bs ds → behind_zero bs ≡ Some (digits_value 8 ds)
+octal-computed : {bs ds : List ℕ} → AreParted 8 bs ds → after_zero bs ≡ Some (digits_value 8 ds)
 octal-computed no_digit = refl
 octal-computed (digit {d = d} is rest) =
     -- an octal digit names no base
@@ -80,7 +80,7 @@ decimal-admitted : (b : ℕ) (bs ds : List ℕ) → AreParted 10 (b ∷ bs) ds �
 decimal-admitted _ _ _ (digit is rest) other line = decimal other (digit is rest)
 decimal-admitted _ _ _ (parted rest) other line = absurd (line refl)
 
-zero-admitted : (bs : List ℕ) → IfSome (behind_zero bs) (IsMagnitude (48 ∷ bs))
+zero-admitted : (bs : List ℕ) → IfSome (after_zero bs) (IsMagnitude (48 ∷ bs))
 zero-admitted [] = octal no_digit
 zero-admitted (b ∷ bs) = go (base_named b) refl bs
   where

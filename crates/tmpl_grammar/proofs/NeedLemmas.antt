@@ -70,16 +70,16 @@ pipeline-within cs ts s = parts-within cs ts (pipeline-parts cs ts s)
 
 -- ---- and so has each variable
 
--- one token is before those behind it
-behind : {Is : Token → Type 0} {Rest : List Token → Type 0} {ts : List Token} → (s : Then Is Rest ts) → 1 + length s.2 ≤ length ts
-behind {ts = ts} s = omega (arith, joined ts s.0 (s.1 ∷ s.2) s.3)
+-- one token is before those after it
+after : {Is : Token → Type 0} {Rest : List Token → Type 0} {ts : List Token} → (s : Then Is Rest ts) → 1 + length s.2 ≤ length ts
+after {ts = ts} s = omega (arith, joined ts s.0 (s.1 ∷ s.2) s.3)
 
 bound-within : (b : Binding) (p : Pipeline) (ts : List Token) → Bound b (SpellsPipeline p) ts → declared_count b + need_of_pipeline p ≤ length ts
 bound-within unbound p ts s = let n = pipeline-within p ts s in omega (arith, n)
 bound-within (declare_pair key name) p ts s =
     let sign = s.6.6.6 in
-    omega (arith, behind s, behind s.6, behind s.6.6, behind sign, pipeline-within p sign.2 sign.6)
-bound-within _ p ts s = omega (arith, behind s, behind s.6, pipeline-within p s.6.2 s.6.6)
+    omega (arith, after s, after s.6, after s.6.6, after sign, pipeline-within p sign.2 sign.6)
+bound-within _ p ts s = omega (arith, after s, after s.6, pipeline-within p s.6.2 s.6.6)
 
 -- ---- actions
 
@@ -104,8 +104,8 @@ given-within given ts h = grind (arith, pipeline-within)
 
 pub action-within : (a : Action) (ts : List Token) → SpellsAction a ts → cells_of a ≤ 2 + length ts
 action-within (pipeline_action h) ts s = let n = header-within false h ts s in omega (arith, n)
-action-within (opening c h) ts s = omega (arith, behind s, header-within (is_range c) h s.2 s.6)
-action-within (else_branch br h) ts s = omega (arith, behind s, behind s.6, header-within false h s.6.2 s.6.6)
-action-within (template_action name given) ts s = omega (arith, behind s, behind s.6, given-within given s.6.2 s.6.6)
-action-within (block_action name p) ts s = omega (arith, behind s, behind s.6, pipeline-within p s.6.2 s.6.6)
+action-within (opening c h) ts s = omega (arith, after s, header-within (is_range c) h s.2 s.6)
+action-within (else_branch br h) ts s = omega (arith, after s, after s.6, header-within false h s.6.2 s.6.6)
+action-within (template_action name given) ts s = omega (arith, after s, after s.6, given-within given s.6.2 s.6.6)
+action-within (block_action name p) ts s = omega (arith, after s, after s.6, pipeline-within p s.6.2 s.6.6)
 action-within _ ts s = omega arith

@@ -33,7 +33,7 @@ abbrev mutual
       × ChainParts names us
   OperandParts o ts = ChainedParts o [] ts
 
-  -- operands, each behind white space, and perhaps white space
+  -- operands, each after white space, and perhaps white space
   pub MoreParts : Operands → List Token → Type 0
   MoreParts tree.no_operand ts = IsBlank ts
   MoreParts (tree.operand o os) ts =
@@ -47,7 +47,7 @@ abbrev mutual
       (ws : List Token) × (a : List Token) × (b : List Token) × (ts ≡ ws ++ (a ++ b)) × IsBlank ws × OperandParts o a
       × MoreParts os b
 
-  -- commands, each behind a bar
+  -- commands, each after a bar
   pub LaterParts : Pipeline → List Token → Type 0
   LaterParts tree.no_command ts = ts ≡ []
   LaterParts (tree.command os cs) ts =

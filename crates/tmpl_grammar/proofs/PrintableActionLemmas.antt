@@ -80,8 +80,8 @@ of-commands cs ts r s = of-parts cs ts r (pipeline-parts cs ts s)
 
 -- ---- actions
 
-behind : {Is : Token → Type 0} {Rest : List Token → Type 0} {ts : List Token} → (s : Then Is Rest ts) → AreRead ts → IsRead s.1 × AreRead s.2
-behind s r = (read-parts s.0 (s.1 ∷ s.2) (rw s.3 at r)).1
+after : {Is : Token → Type 0} {Rest : List Token → Type 0} {ts : List Token} → (s : Then Is Rest ts) → AreRead ts → IsRead s.1 × AreRead s.2
+after s r = (read-parts s.0 (s.1 ∷ s.2) (rw s.3 at r)).1
 
 of-variable : (name : List ℕ) (t : Token) → IsRead t → IsVariable name t → OfVariable name
 of-variable name t r v = grind arith
@@ -90,13 +90,13 @@ of-bound : (b : Binding) (p : Pipeline) (ts : List Token) → depth_of_pipeline 
     → Bound b (SpellsPipeline p) ts → OfBinding b × OfPipeline p
 of-bound unbound p ts d r s = (tt, (of-commands p ts r s, d))
 of-bound (declare_pair key name) p ts d r s =
-    let h = behind s r in
-    let k = behind s.6.6 (behind s.6 h.1).1 in
+    let h = after s r in
+    let k = after s.6.6 (after s.6 h.1).1 in
     let sign = s.6.6.6 in
-    ((of-variable key s.1 h.0 s.5, of-variable name s.6.6.1 k.0 s.6.6.5), (of-commands p sign.2 (behind sign k.1).1 sign.6, d))
+    ((of-variable key s.1 h.0 s.5, of-variable name s.6.6.1 k.0 s.6.6.5), (of-commands p sign.2 (after sign k.1).1 sign.6, d))
 of-bound _ p ts d r s =
-    let h = behind s r in
-    (of-variable _ s.1 h.0 s.5, (of-commands p s.6.2 (behind s.6 h.1).1 s.6.6, d))
+    let h = after s r in
+    (of-variable _ s.1 h.0 s.5, (of-commands p s.6.2 (after s.6 h.1).1 s.6.6, d))
 
 of-header : (in_range : Bool) (h : Header) (ts : List Token) → depth_of_pipeline h.pipeline ≤ most_deep → AreRead ts
     → SpellsHeader in_range h ts → OfHeader in_range h
@@ -105,18 +105,18 @@ of-header in_range h ts d r spelled =
     let bound = of-bound h.binding h.pipeline ts d r parts.1 in (parts.0, bound.0, bound.1)
 
 of-named : {Rest : List Token → Type 0} {ts : List Token} (name : List ℕ) → (s : Then (IsQuoted name) Rest ts) → AreRead ts → AreBytes name × AreRead s.2
-of-named name s r = let h = behind s r in (of-constant s.1 (tree.text_constant name) (let t = h.0 in t.bytes) s.5, h.1)
+of-named name s r = let h = after s r in (of-constant s.1 (tree.text_constant name) (let t = h.0 in t.bytes) s.5, h.1)
 
 pub of_action : (a : Action) (ts : List Token) → depth_of a ≤ most_deep → AreRead ts → SpellsAction a ts → OfAction a
 of_action (pipeline_action h) ts d r s = of-header false h ts d r s
-of_action (opening c h) ts d r s = of-header (is_range c) h s.2 d (behind s r).1 s.6
-of_action (else_branch br h) ts d r s = of-header false h s.6.2 d (behind s.6 (behind s r).1).1 s.6.6
-of_action (define_action name) ts d r s = (of-named name s.6 (behind s r).1).0
-of_action (template_action name None) ts d r s = ((of-named name s.6 (behind s r).1).0, tt)
+of_action (opening c h) ts d r s = of-header (is_range c) h s.2 d (after s r).1 s.6
+of_action (else_branch br h) ts d r s = of-header false h s.6.2 d (after s.6 (after s r).1).1 s.6.6
+of_action (define_action name) ts d r s = (of-named name s.6 (after s r).1).0
+of_action (template_action name None) ts d r s = ((of-named name s.6 (after s r).1).0, tt)
 of_action (template_action name (Some p)) ts d r s =
-    let n = of-named name s.6 (behind s r).1 in
+    let n = of-named name s.6 (after s r).1 in
     (n.0, (of-commands p s.6.2 n.1 s.6.6, d))
 of_action (block_action name p) ts d r s =
-    let n = of-named name s.6 (behind s r).1 in
+    let n = of-named name s.6 (after s r).1 in
     (n.0, (of-commands p s.6.2 n.1 s.6.6, d))
 of_action _ ts d r s = tt

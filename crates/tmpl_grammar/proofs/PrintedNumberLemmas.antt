@@ -19,7 +19,7 @@ use Rattle.tmpl_grammar.proofs.FrontLemmas.{IsFront, Solid, solid, minus}
 
 -- ---- the token
 
--- a token that stands at the front, and may stand behind a space
+-- a token that stands at the front, and may stand after a space
 pub record Stands (bs rest : List ℕ) : Type 0 where
   pub front : IsFront (token kind.Number bs) rest
   pub solid_is : Solid (bs ++ rest)

@@ -38,17 +38,17 @@ quoted-constant bs h =
 
 -- ---- pipelines
 
--- what stands behind a command: perhaps white space, and bars and commands
+-- what stands after a command: perhaps white space, and bars and commands
 abbrev Follows : Pipeline → Type 0
 Follows cs = (ws : List Token) × (us : List Token) × (later_tokens cs ≡ ws ++ us) × IsBlank ws × LaterParts cs us
 
--- commands, where white space may stand behind the first
+-- commands, where white space may stand after the first
 joined : (os : Operands) (cs : Pipeline) → ((ws : List Token) → IsBlank ws → CommandParts os (command_tokens os ++ ws)) → Follows cs
     → PipelineParts (tree.command os cs) (command_tokens os ++ later_tokens cs)
 joined os cs spells (ws, us, is, blank, later) =
     (command_tokens os ++ ws, us, ap (λ us. command_tokens os ++ us) is ∙ sym (append_assoc (command_tokens os) ws us), spells ws blank, later)
 
--- a pipeline behind one more space
+-- a pipeline after one more space
 spaced : (cs : Pipeline) (ts : List Token) → PipelineParts cs ts → PipelineParts cs (space ∷ ts)
 spaced tree.no_command ts s = s
 spaced (tree.command tree.no_operand cs) ts s = absurd s.3
@@ -69,7 +69,7 @@ mutual
   spells-operand (tree.group commands names) h =
       (_, pipeline_tokens commands, _, chain_tokens names, refl, refl, refl, spells-commands commands h.0, spells-chain names h.1)
 
-  -- with white space behind it
+  -- with white space after it
   spells-more : (os : Operands) (ws : List Token) → OfMore os → IsBlank ws → MoreParts os (more_tokens os ++ ws)
   spells-more tree.no_operand ws h w = w
   spells-more (tree.operand o os) ws h w =
@@ -81,7 +81,7 @@ mutual
   spells-command (tree.operand o os) ws h w =
       ([], operand_tokens o, more_tokens os ++ ws, append_assoc (operand_tokens o) (more_tokens os) ws, tt, spells-operand o h.0, spells-more os ws h.1 w)
 
-  -- a command behind white space
+  -- a command after white space
   follows : (cs : Pipeline) → OfLater cs → Follows cs
   follows tree.no_command h = ([], [], refl, tt, refl)
   follows (tree.command os cs) h =
@@ -100,17 +100,17 @@ led : {Is : Token → Type 0} {Rest : List Token → Type 0} (ws : List Token) (
     → Then Is Rest (ws ++ t ∷ us)
 led ws t us blank is rest = (ws, t, us, refl, blank, is, rest)
 
--- a pipeline behind white space
+-- a pipeline after white space
 spaced-pipeline : (cs : Pipeline) → OfPipeline cs → SpellsPipeline cs (space ∷ pipeline_tokens cs)
 spaced-pipeline cs h = pipeline-whole cs (space ∷ pipeline_tokens cs) (spaced cs (pipeline_tokens cs) (spells-commands cs h.0))
 
--- a variable, and a sign and a pipeline behind it
+-- a variable, and a sign and a pipeline after it
 signed : (name : List ℕ) (p : Pipeline) (sign : Token) → 0 < length name → OfPipeline p
     → (ws : List Token) → IsBlank ws → Then (IsVariable name) (Then (IsSign sign.kind) (SpellsPipeline p))
     (ws ++ token kind.Variable (36 ∷ name) ∷ space ∷ sign ∷ space ∷ pipeline_tokens p)
 signed name p sign h k ws w = led ws _ _ w (refl, refl, h) (led (space ∷ []) _ _ (refl, tt) refl (spaced-pipeline p k))
 
--- a header behind white space
+-- a header after white space
 spells-bound : (b : Binding) (p : Pipeline) → OfBinding b → OfPipeline p → (ws : List Token) → IsBlank ws → SpellsPipeline p (ws ++ pipeline_tokens p)
     → Bound b (SpellsPipeline p) (ws ++ (binding_tokens b ++ pipeline_tokens p))
 spells-bound unbound p h k ws w s = s
@@ -126,7 +126,7 @@ spells-header in_range h of =
 spells-given : (given : Option Pipeline) → OfGiven given → SpellsGiven given (given_tokens given)
 spells-given given h = grind (arith, spaced-pipeline)
 
--- a name in quotes, before what stands behind it
+-- a name in quotes, before what stands after it
 named : {name : List ℕ} {Rest : List Token → Type 0} {ts : List Token} → AreBytes name → Rest ts
     → Then (IsQuoted name) Rest (space ∷ token kind.String (quote name) ∷ ts)
 named h r = led (space ∷ []) _ _ (refl, tt) (quoted-constant _ h) r

@@ -35,12 +35,12 @@ use Rattle.tmpl_grammar.proofs.PrintedNumberLemmas.{number-stands}
 abbrev pub EndsToken : List ℕ → Type 0
 EndsToken rest = Stops is_number_byte rest
 
--- tokens that are read, and whose bytes may stand behind a space
+-- tokens that are read, and whose bytes may stand after a space
 pub record Reads (ts : List Token) (rest : List ℕ) : Type 0 where
   pub spells : Spells ts rest
   pub firm : Solid (bytes_of ts ++ rest)
 
--- a token, and those behind it
+-- a token, and those after it
 pub token-reads : {t : Token} (ts : List Token) (rest : List ℕ) → IsFront t (bytes_of ts ++ rest) → Solid (t.bytes ++ (bytes_of ts ++ rest)) → Spells ts rest
     → Reads (t ∷ ts) rest
 token-reads {t} ts rest f s l = record { spells = (f, l); firm = rw (append_assoc t.bytes (bytes_of ts) rest) s }
@@ -93,7 +93,7 @@ more-stops : (os : Operands) (rest : List ℕ) → EndsToken rest → EndsToken 
 more-stops tree.no_operand rest stop = stop
 more-stops (tree.operand o os) rest stop = refl
 
--- one list behind another
+-- one list after another
 reads-append : (ts us : List Token) (rest : List ℕ) → Reads ts (bytes_of us ++ rest) → Spells us rest → Reads (ts ++ us) rest
 reads-append ts us rest r l = record { spells = spells-append ts us rest r.spells l; firm = subst Solid (sym (bytes-append ts us rest)) r.firm }
 
@@ -143,7 +143,7 @@ mutual
 
 -- ---- actions
 
--- a variable, a sign, and a pipeline behind them
+-- a variable, a sign, and a pipeline after them
 signed-reads : (name : List ℕ) (k : TokenKind) (b : ℕ) (bs : List ℕ) (p : Pipeline) (rest : List ℕ) → IsNamed name → ((us : List ℕ) → IsToken k (b ∷ bs) us)
     → is_space b ≡ false → nat_eq b 45 ≡ false → OfPipeline p → EndsToken rest
     → Reads (variable_token name ∷ space ∷ token k (b ∷ bs) ∷ space ∷ pipeline_tokens p) rest
@@ -159,14 +159,14 @@ header-reads (declare_pair key name) p rest h k stop =
     let r = signed-reads name kind.Declare 58 (61 ∷ []) p rest h.1.1 (λ us. row.declare) refl refl k stop in
     token-reads _ rest (variable-front key _ h.0.1 refl) (solid refl refl) (row.comma, (space-front _ r.firm, r.spells))
 
--- a keyword, and tokens behind it and a space
+-- a keyword, and tokens after it and a space
 keyword-reads : (bs : List ℕ) (ts : List Token) (rest : List ℕ) → is_word bs ≡ true → Reads ts rest → Reads (word bs ∷ space ∷ ts) rest
 keyword-reads bs ts rest is r = word-reads bs (space ∷ ts) rest is refl (space-front _ r.firm, r.spells)
 
 control-word : (c : Control) → is_word (control_spelling c) ≡ true
 control-word c = grind (arith, nat_tests)
 
--- a name, and a pipeline behind it or nothing
+-- a name, and a pipeline after it or nothing
 given-reads : (name : List ℕ) (given : Option Pipeline) (rest : List ℕ) → OfGiven given → EndsToken rest
     → Reads (token kind.String (quote name) ∷ given_tokens given) rest
 given-reads name None rest h stop = string-reads name [] rest tt

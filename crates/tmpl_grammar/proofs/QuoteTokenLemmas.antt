@@ -1,4 +1,4 @@
--- For `printed_tokens`: a quote is one string token, whatever stands behind it.
+-- For `printed_tokens`: a quote is one string token, whatever stands after it.
 use Rattle.std.proofs.Common.{◌≡◌, ◌∙◌, ℕ, zero, suc, ◌/◌, ◌%◌, ◌<◌, Bool, true, false, nat_eq, List, [], ◌∷◌, ◌++◌, get_or, Option, Some, None, if◌then◌else◌}
 use Rattle.std.proofs.Common.{refl, sym, ap, arith, append-nil, not, ◌||◌, flat_map}
 use Rattle.std.specs.List.{list_all}

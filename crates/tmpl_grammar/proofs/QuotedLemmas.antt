@@ -13,7 +13,7 @@ pub parts-nil : (quote : ℕ) → parts quote [] ≡ Some []
 unfolding parts
 parts-nil quote = refl
 
--- the first part, and those behind it
+-- the first part, and those after it
 pub parts-first : (quote : ℕ) (bs : List ℕ) (p : Spelled) → 0 < length bs → part_at quote bs ≡ Some p → 0 < p.1 → p.1 ≤ length bs
     → parts quote bs ≡ with_part p.0 (parts quote (drop p.1 bs))
 unfolding parts
@@ -26,7 +26,7 @@ parts-none quote (b ∷ bs) h is = simp is
 
 -- ---- the text
 
--- a text behind another
+-- a text after another
 abbrev pub led : List ℕ → Option (List ℕ) → Option (List ℕ)
 led s o = option_map (λ t. s ++ t) o
 

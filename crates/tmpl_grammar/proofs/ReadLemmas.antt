@@ -31,25 +31,25 @@ abbrev SpellsApart : Operands → List Token → Type 0
 SpellsApart tree.no_operand ts = IsBlank ts
 SpellsApart (tree.operand o os) ts = CommandParts (tree.operand o os) ts
 
--- these operands may stand behind those of the command, of which there is one at least then
+-- these operands may stand after those of the command, of which there is one at least then
 abbrev MayFollow : List Operands → List Operand → Operands → Type 0
 MayFollow cs os (tree.operand o ms) = may_stand cs os o ≡ true
 MayFollow cs [] tree.no_operand = ⊥
 MayFollow cs (o ∷ os) tree.no_operand = Unit {0}
 
--- with any such operands and any later commands behind them, the tokens are a pipeline
+-- with any such operands and any later commands after them, the tokens are a pipeline
 abbrev Begins : List Operands → List Operand → List Token → Type 0
 Begins cs os ts =
     (ms : Operands) (later : Pipeline) (us vs : List Token) → SpellsApart ms us → MayFollow cs os ms → LaterParts later vs
     → PipelineParts (commands_from (cs ++ operands_from (os ++ operand_list ms) ∷ command_list later)) (ts ++ (us ++ vs))
 
--- so they are, and perhaps an operand that has nothing behind it
+-- so they are, and perhaps an operand that has nothing after it
 abbrev Reads : List Operands → List Operand → Option Operand → List Token → Type 0
 Reads cs os None ts = Begins cs os ts
 Reads cs os (Some o) ts =
     (a : List Token) × (b : List Token) × (ts ≡ a ++ b) × Begins cs os a × OperandParts o b × (may_stand cs os o ≡ true)
 
--- with any later commands behind them, the tokens are a pipeline
+-- with any later commands after them, the tokens are a pipeline
 abbrev Ends : List Operands → List Token → Type 0
 Ends cs ts = (later : Pipeline) (vs : List Token) → LaterParts later vs → PipelineParts (commands_from (cs ++ command_list later)) (ts ++ vs)
 
@@ -79,7 +79,7 @@ module _ (t : Token) (is : t.kind ≡ kind.Space) (cs : List Operands) (os : Lis
 
 -- ---- ends of commands
 
--- behind a whole command stands a later one
+-- after a whole command stands a later one
 begins-later : (cs : List Operands) (c ms : Operands) → MayFollow (cs ++ c ∷ []) [] ms → may_be_later ms ≡ true
 begins-later cs c tree.no_operand may = absurd may
 begins-later [] c (tree.operand p ps) may = later-is p ps ∙ may

@@ -93,9 +93,9 @@ chained-steps : (f : List (List ℕ) → Operand) → Chains f
 chained-steps f can ns names ls cs os ts (t, us, is, at, rest) may =
     simp (is, placed-step t (f ns) ls cs os at may, chain-steps f can ls cs os names ns us rest)
 
-stands-behind : (cs : List Operands) (os : List Operand) (p o : Operand) → may_stand cs (os ++ p ∷ []) o ≡ true
-stands-behind cs [] p o = grind arith
-stands-behind cs (q ∷ os) p o = grind arith
+stands-after : (cs : List Operands) (os : List Operand) (p o : Operand) → may_stand cs (os ++ p ∷ []) o ≡ true
+stands-after cs [] p o = grind arith
+stands-after cs (q ∷ os) p o = grind arith
 
 -- what begins a later command
 pub later-is : (o : Operand) (os : Operands) → may_be_later (tree.operand o os) ≡ begins_later o
@@ -164,7 +164,7 @@ mutual
   more-read tree.no_operand ts s ls cs os o = blank-ended ls cs os o ts s
   more-read (tree.operand p ps) ts (w, ws, a, b, is, blank, spells, rest) ls cs os o =
       rw (is, sym (append_assoc os (o ∷ []) (p ∷ operand_list ps))) (ended-along (w ∷ ws) (white-steps ls cs os o w ws blank)
-      (ended-along a (operand-read p a spells ls cs (os ++ o ∷ []) (stands-behind cs os o p)) (more-read ps b rest ls cs (os ++ o ∷ []) p)))
+      (ended-along a (operand-read p a spells ls cs (os ++ o ∷ []) (stands-after cs os o p)) (more-read ps b rest ls cs (os ++ o ∷ []) p)))
 
   -- .. where its first operand may stand
   command-read : (os : Operands) (ts : List Token) → CommandParts os ts → (ls : List Partial) (cs : List Operands)

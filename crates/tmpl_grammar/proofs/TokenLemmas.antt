@@ -1,4 +1,4 @@
--- For `one_action`: the first token that is no white space, and those behind it.
+-- For `one_action`: the first token that is no white space, and those after it.
 use Rattle.std.proofs.Common.{◌≡◌, ◌∙◌, true, false, List, [], ◌∷◌, ◌++◌, Option, Some, None, refl, ap, subst, one-add}
 use Rattle.std.proofs.lemmas.Bool.{and_parts}
 use Rattle.tmpl_lex.specs.declared.piece.TokenKind.{TokenKind}
@@ -8,7 +8,7 @@ use Rattle.tmpl_grammar.specs.computed.Token.{is_space_kind, is_white, is_blank,
 use Rattle.tmpl_grammar.specs.Pipeline.{IsBlank}
 use Rattle.tmpl_grammar.specs.Header.{Then}
 
--- all are white space, or this token stands behind white space, and those behind it
+-- all are white space, or this token stands after white space, and those after it
 abbrev pub AtNext : List Token → Option (Token × List Token) → Type 0
 AtNext ts None = IsBlank ts
 AtNext ts (Some p) = (ws : List Token) × (ts ≡ ws ++ p.0 ∷ p.1) × IsBlank ws
@@ -17,12 +17,12 @@ pub at-next : (ts : List Token) → AtNext ts (next ts)
 at-next [] = tt
 at-next (s ∷ ss) = by s.kind refl (at-next ss)
   where
-    behind : s.kind ≡ kind.Space → (o : Option (Token × List Token)) → AtNext ss o → AtNext (s ∷ ss) o
-    behind is None b = (is, b)
-    behind is (Some p) (ws, at, blank) = (s ∷ ws, ap (λ vs. s ∷ vs) at, (is, blank))
+    after : s.kind ≡ kind.Space → (o : Option (Token × List Token)) → AtNext ss o → AtNext (s ∷ ss) o
+    after is None b = (is, b)
+    after is (Some p) (ws, at, blank) = (s ∷ ws, ap (λ vs. s ∷ vs) at, (is, blank))
 
     by : (k : TokenKind) → s.kind ≡ k → AtNext ss (next ss) → AtNext (s ∷ ss) (next (s ∷ ss))
-    by kind.Space is more = simp (is, one-add) (behind is (next ss) more)
+    by kind.Space is more = simp (is, one-add) (after is (next ss) more)
     by _ is more = simp is ([], refl, tt)
 
 pub no-next : (ts : List Token) → next ts ≡ None → IsBlank ts
@@ -44,7 +44,7 @@ all-blank (t ∷ ts) e = let both = and_parts (is_white t) (is_blank ts) e in (w
     white kind.Space e = refl
     white k e = absurd (cc)
 
--- where such a token comes first, and such tokens stand behind it
+-- where such a token comes first, and such tokens stand after it
 pub first-is : {Is : Token → Type 0} {Rest : List Token → Type 0} {ts : List Token} → ((t : Token) → Is t → is_white t ≡ false) → (s : Then Is Rest ts)
     → next ts ≡ Some (s.1, s.2)
 first-is other (ws, t, us, at, blank, is, rest) = ap next at ∙ by ws blank

@@ -40,7 +40,7 @@ IsQuoted name t = IsConstant t (text_constant name)
 abbrev pub SpellsGiven : Option Pipeline → List Token → Type 0
 SpellsGiven given ts = MatchOption given (IsBlank ts) (λ p. SpellsPipeline p ts)
 
--- an action: a header alone, or a keyword and what stands behind it
+-- an action: a header alone, or a keyword and what stands after it
 abbrev pub SpellsAction : Action → List Token → Type 0
 SpellsAction (pipeline_action h) ts = SpellsHeader false h ts
 SpellsAction (opening c h) ts = Then (IsWord (control_spelling c)) (SpellsHeader (is_range c) h) ts

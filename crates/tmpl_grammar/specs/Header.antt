@@ -1,4 +1,4 @@
--- The grammar of a header ("Variables" in the documentation of Go's text/template): a pipeline, perhaps behind
+-- The grammar of a header ("Variables" in the documentation of Go's text/template): a pipeline, perhaps after
 -- variables. White space may stand between any two tokens, also where Go asks for it.
 use Rattle.std.specs.Prelude.{◌≡◌, ◌<◌, ℕ, Bool, true, false, List, ◌∷◌, ◌++◌, length}
 use Rattle.tmpl_lex.specs.declared.piece.TokenKind.{TokenKind}

@@ -26,7 +26,7 @@ IsPipeline ts p = SpellsPipeline p ts
 abbrev pub IsAction : List Token → Action → Type 0
 IsAction ts a = SpellsAction a ts
 
--- the tokens of a printed action may stand in an action, whatever stands behind it
+-- the tokens of a printed action may stand in an action, whatever stands after it
 abbrev pub PrintsTokens : Type 0
 PrintsTokens = (a : Action) → OfAction a → IsInside (action_tokens a)
 

@@ -6,7 +6,7 @@ use Rattle.tmpl_grammar.specs.Tree.{Operand, Operands, Pipeline}
 use Rattle.tmpl_grammar.specs.Tree.{Binding, unbound, declare, assign, declare_pair}
 
 -- a command, by its first operand: where that is a function what the call needs, and else what the operand needs alone,
--- since nothing that stands behind it is computed
+-- since nothing that stands after it is computed
 abbrev pub called_or_alone : Operand → ℕ → ℕ → ℕ
 called_or_alone (tree.function f) call alone = call
 called_or_alone o call alone = alone
@@ -24,13 +24,13 @@ abbrev mutual
   need_of_operand (tree.function f) = 1
   need_of_operand (tree.group commands names) = need_of_commands 0 commands
 
-  -- the arguments of a call, above so many values that are held already: each is held while those behind are computed,
+  -- the arguments of a call, above this many values that are held already: each is held while those after are computed,
   -- and all are held at the call
   pub need_of_arguments : ℕ → Operands → ℕ
   need_of_arguments held tree.no_operand = held
   need_of_arguments held (tree.operand o os) = max (held + need_of_operand o) (need_of_arguments (suc held) os)
 
-  -- a command to which so many values are piped, one or none: a call holds that below its arguments, and then one value
+  -- a command to which this many values are piped, one or none: a call holds that below its arguments, and then one value
   -- that it gives
   pub need_of_command : ℕ → Operands → ℕ
   need_of_command piped tree.no_operand = 1

@@ -39,7 +39,7 @@ mutual
         → l.kind ≡ kind.LeftParenthesis → SpellsPipeline commands inner → r.kind ≡ kind.RightParenthesis
         → IsChain names ts → SpellsOperand (tree.group commands names) (l ∷ inner ++ r ∷ ts)
 
-  -- operands, each behind white space, and perhaps white space
+  -- operands, each after white space, and perhaps white space
   pub data SpellsMore : Operands → List Token → Type 0 where
     no_operand : {ws : List Token} → IsBlank ws → SpellsMore tree.no_operand ws
     next_operand : {w : Token} (ws : List Token) {ts us : List Token} {o : Operand} {os : Operands} → IsBlank (w ∷ ws)
@@ -50,7 +50,7 @@ mutual
     operands : (ws : List Token) {ts us : List Token} {o : Operand} {os : Operands} → IsBlank ws → SpellsOperand o ts
         → SpellsMore os us → SpellsCommand (tree.operand o os) (ws ++ (ts ++ us))
 
-  -- commands, each behind a bar
+  -- commands, each after a bar
   pub data SpellsLater : Pipeline → List Token → Type 0 where
     no_command : SpellsLater tree.no_command []
     next_command : {bar : Token} {ts us : List Token} {os : Operands} {cs : Pipeline} → bar.kind ≡ kind.Pipe

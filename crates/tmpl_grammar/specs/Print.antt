@@ -67,7 +67,7 @@ abbrev mutual
 
 -- ---- the tokens of an action
 
--- the variables of a header and their sign, each with a space behind it
+-- the variables of a header and their sign, each with a space after it
 abbrev pub binding_tokens : Binding → List Token
 binding_tokens unbound = []
 binding_tokens (declare name) = variable_token name ∷ space ∷ token kind.Declare (codes ":=") ∷ space ∷ []
@@ -79,11 +79,11 @@ binding_tokens (declare_pair key name) =
 abbrev pub header_tokens : Header → List Token
 header_tokens h = binding_tokens h.binding ++ pipeline_tokens h.pipeline
 
--- a pipeline, behind a space
+-- a pipeline, after a space
 abbrev pub given_tokens : Option Pipeline → List Token
 given_tokens given = option_map_or (λ p. space ∷ pipeline_tokens p) given []
 
--- a keyword of this spelling, a name in quotes, and what stands behind it
+-- a keyword of this spelling, a name in quotes, and what stands after it
 abbrev pub named_tokens : List ℕ → List ℕ → List Token → List Token
 named_tokens keyword name ts = word keyword ∷ space ∷ token kind.String (quote name) ∷ ts
 
@@ -102,7 +102,7 @@ action_tokens (block_action name p) = named_tokens (codes "block") name (given_t
 
 -- ---- how they stand in a file
 
--- the tokens may stand in an action, whatever stands behind it: they are spelled before its `}}`, and begin with no
+-- the tokens may stand in an action, whatever stands after it: they are spelled before its `}}`, and begin with no
 -- left trim marker
 pub record IsInside (ts : List Token) : Type 0 where
   pub spells : (rest : List ℕ) → Spells ts (codes "}}" ++ rest)

@@ -8,7 +8,7 @@ use Rattle.tmpl_lex.specs.Piece.{Token}
 abbrev pub token : TokenKind → List ℕ → Token
 token k bs = record { kind = k; bytes = bs }
 
--- the name in a field or a variable, behind its first byte
+-- the name in a field or a variable, after its first byte
 abbrev pub name_in : Token → List ℕ
 name_in t = drop 1 t.bytes
 

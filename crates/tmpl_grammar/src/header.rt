@@ -1,4 +1,4 @@
-//! The reading of headers: a pipeline's tokens, perhaps behind variables.
+//! The reading of headers: a pipeline's tokens, perhaps after variables.
 ghost use Rattle.std.specs.Prelude.{◌≡◌, IfOk, map, option_map};
 ghost use Rattle.tmpl_lex.specs.View.{token_of};
 ghost use Rattle.tmpl_lex.specs.declared.piece.TokenKind.TheVariants as kind;
@@ -15,7 +15,7 @@ use std::alloc::{AllocError, Global};
 use tmpl_lex::{Token, TokenKind};
 use tmpl_values::Bytes;
 
-/// What comes first in a header, and the tokens behind it.
+/// What comes first in a header, and the tokens after it.
 #[derive(Clone, Copy)]
 enum Front<'t, 'b> {
     Plain,
@@ -27,7 +27,7 @@ enum Front<'t, 'b> {
     DeclarePair(&'b [u8], &'b [u8], &'t [Token<'b>]),
 }
 
-/// A variable that comes first: its name, the kind of the next token that is no white space, and the tokens behind
+/// A variable that comes first: its name, the kind of the next token that is no white space, and the tokens after
 /// that.
 #[derive(Clone, Copy)]
 struct VariableFront<'t, 'b> {
@@ -36,7 +36,7 @@ struct VariableFront<'t, 'b> {
     rest: &'t [Token<'b>],
 }
 
-/// The variable that comes first, of a name of at least one byte, and what stands behind it.
+/// The variable that comes first, of a name of at least one byte, and what stands after it.
 fn first_variable<'t, 'b>(tokens: &'t [Token<'b>]) -> Option<VariableFront<'t, 'b>>
     ensures { option_map variable_front_of result ≡ spec.variable_front (map token_of tokens.now) }
 {
@@ -47,7 +47,7 @@ fn first_variable<'t, 'b>(tokens: &'t [Token<'b>]) -> Option<VariableFront<'t, '
     }
 }
 
-/// A name of at least one byte, and what stands behind it.
+/// A name of at least one byte, and what stands after it.
 fn variable_named<'t, 'b>(name: &'b [u8], rest: &'t [Token<'b>]) -> Option<VariableFront<'t, 'b>>
     ensures { option_map variable_front_of result
         ≡ spec.variable_by kind.Variable name.now (spec.next (map token_of rest.now)) }
@@ -80,7 +80,7 @@ fn header_front<'t, 'b>(tokens: &'t [Token<'b>]) -> Front<'t, 'b>
     }
 }
 
-/// The second of two variables, behind the comma.
+/// The second of two variables, after the comma.
 fn second_name<'t, 'b>(key: &'b [u8], tokens: &'t [Token<'b>]) -> Front<'t, 'b>
     ensures { front_of result ≡ spec.second_variable key.now (spec.variable_front (map token_of tokens.now)) }
 {

@@ -41,7 +41,7 @@ impl Keyword {
         }
     }
 
-    /// The control with which an else part begins where this stands behind `else`, if one does.
+    /// The control with which an else part begins where this stands after `else`, if one does.
     pub(crate) fn branch(self) -> Option<Branch>
         ensures { result ≡ branch_of self }
     {

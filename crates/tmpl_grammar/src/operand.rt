@@ -54,7 +54,7 @@ fn without_front<'t, 'b>(tokens: &'t [Token<'b>]) -> &'t [Token<'b>]
     &tokens[front_len(tokens)..]
 }
 
-/// The first token that is no white space, and those behind it.
+/// The first token that is no white space, and those after it.
 pub(crate) fn next<'t, 'b>(tokens: &'t [Token<'b>]) -> Option<(Token<'b>, &'t [Token<'b>])>
     ensures { option_map next_of result ≡ white.next (map token_of tokens.now) }
 {
@@ -64,7 +64,7 @@ pub(crate) fn next<'t, 'b>(tokens: &'t [Token<'b>]) -> Option<(Token<'b>, &'t [T
     }
 }
 
-/// The name in a field or a variable, behind its first byte.
+/// The name in a field or a variable, after its first byte.
 pub(crate) fn name_in<'b>(token: &Token<'b>) -> &'b [u8]
     ensures { result.now ≡ spec.name_in (token_of token.now) }
 {

@@ -3,7 +3,7 @@ ghost use Rattle.std.specs.Prelude.{◌≡◌, ◌≤◌, IfOk, map, nat_le, opt
 ghost use Rattle.tmpl_lex.specs.View.{token_of};
 ghost use Rattle.tmpl_grammar.specs.Depth.{most_deep};
 ghost use Rattle.tmpl_grammar.specs.View.{command_of, pipeline_of};
-ghost use Rattle.tmpl_grammar.specs.computed.Depth.{deepest, depth_behind, limited_pipeline};
+ghost use Rattle.tmpl_grammar.specs.computed.Depth.{deepest, depth_after, limited_pipeline};
 ghost use Rattle.tmpl_grammar.specs.computed.Limited.{limited_commands, pruned_commands};
 ghost use Rattle.tmpl_grammar.specs.computed.Parser.{start};
 ghost use Rattle.tmpl_grammar.specs.computed.Reading as spec;
@@ -67,7 +67,7 @@ fn is_shallow(tokens: &[Token<'_>]) -> bool
 {
     let mut depth = 0;
     for token in tokens {
-        depth = depth_behind(token, depth);
+        depth = depth_after(token, depth);
         if depth > MOST_DEEP {
             return false;
         }
@@ -75,10 +75,10 @@ fn is_shallow(tokens: &[Token<'_>]) -> bool
     true
 }
 
-/// How many parentheses are open behind a token, where so many are before it.
-fn depth_behind(token: &Token<'_>, before: usize) -> usize
+/// How many parentheses are open after a token, where this many are before it.
+fn depth_after(token: &Token<'_>, before: usize) -> usize
     requires { before ≤ most_deep }
-    ensures { result ≡ depth_behind token.now.kind before }
+    ensures { result ≡ depth_after token.now.kind before }
 {
     match token.kind {
         TokenKind::LeftParenthesis => before + 1,

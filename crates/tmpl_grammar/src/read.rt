@@ -48,7 +48,7 @@ fn action(alloc: Global, tokens: &[Token<'_>]) -> Result<Option<Action>, AllocEr
     match next(tokens) {
         None => Ok(None),
         Some((first, rest)) => match keyword_in(first) {
-            Some(keyword) => action_behind(alloc, keyword, rest),
+            Some(keyword) => action_after(alloc, keyword, rest),
             None => match header(alloc, false, tokens)? {
                 Some(header) => Ok(Some(Action::Pipeline(header))),
                 None => Ok(None),
@@ -57,8 +57,8 @@ fn action(alloc: Global, tokens: &[Token<'_>]) -> Result<Option<Action>, AllocEr
     }
 }
 
-/// The action that begins with this keyword, behind which these tokens stand.
-fn action_behind(
+/// The action that begins with this keyword, after which these tokens stand.
+fn action_after(
     alloc: Global,
     keyword: Keyword,
     rest: &[Token<'_>],
@@ -78,7 +78,7 @@ fn action_behind(
     }
 }
 
-/// An action without a pipeline, behind which nothing may stand.
+/// An action without a pipeline, after which nothing may stand.
 fn alone(action: Action, rest: &[Token<'_>]) -> Option<Action>
     requires { limited_action (action_of action) ≡ action_of action }
     ensures { option_map action_of result
@@ -87,7 +87,7 @@ fn alone(action: Action, rest: &[Token<'_>]) -> Option<Action>
     if is_blank(rest) { Some(action) } else { None }
 }
 
-/// A control, behind whose keyword a header stands.
+/// A control, after whose keyword a header stands.
 fn opening(
     alloc: Global,
     control: Control,
@@ -102,7 +102,7 @@ fn opening(
     }
 }
 
-/// An `else`, behind which nothing, an `if` or a `with` stands.
+/// An `else`, after which nothing, an `if` or a `with` stands.
 fn else_action(alloc: Global, rest: &[Token<'_>]) -> Result<Option<Action>, AllocError>
     ensures { IfOk result (λ o. option_map action_of o
         ≡ option_map limited_action (spec.else_by (spec.next (map token_of rest.now)))) }
@@ -119,7 +119,7 @@ fn else_action(alloc: Global, rest: &[Token<'_>]) -> Result<Option<Action>, Allo
     }
 }
 
-/// An `else` with an `if` or a `with` behind it, behind which a header stands.
+/// An `else` with an `if` or a `with` after it, after which a header stands.
 fn else_branch(
     alloc: Global,
     branch: Branch,
@@ -134,7 +134,7 @@ fn else_branch(
     }
 }
 
-/// A `define`, behind which a name stands alone.
+/// A `define`, after which a name stands alone.
 fn define_action(alloc: Global, rest: &[Token<'_>]) -> Result<Option<Action>, AllocError>
     ensures { IfOk result (λ o. option_map action_of o
         ≡ option_map limited_action (spec.named_action spec.define_by (map token_of rest.now))) }
@@ -145,7 +145,7 @@ fn define_action(alloc: Global, rest: &[Token<'_>]) -> Result<Option<Action>, Al
     }
 }
 
-/// A `template`, behind which a name stands, and a pipeline or nothing.
+/// A `template`, after which a name stands, and a pipeline or nothing.
 fn template_action(alloc: Global, rest: &[Token<'_>]) -> Result<Option<Action>, AllocError>
     ensures { IfOk result (λ o. option_map action_of o
         ≡ option_map limited_action (spec.named_action spec.template_by (map token_of rest.now))) }
@@ -162,7 +162,7 @@ fn template_action(alloc: Global, rest: &[Token<'_>]) -> Result<Option<Action>, 
     }
 }
 
-/// A `block`, behind which a name and a pipeline stand.
+/// A `block`, after which a name and a pipeline stand.
 fn block_action(alloc: Global, rest: &[Token<'_>]) -> Result<Option<Action>, AllocError>
     ensures { IfOk result (λ o. option_map action_of o
         ≡ option_map limited_action (spec.named_action spec.block_by (map token_of rest.now))) }
@@ -176,7 +176,7 @@ fn block_action(alloc: Global, rest: &[Token<'_>]) -> Result<Option<Action>, All
     }
 }
 
-/// The name of a template, a string or raw string that comes first, and the tokens behind it.
+/// The name of a template, a string or raw string that comes first, and the tokens after it.
 fn quoted_name<'t, 'b>(
     alloc: Global,
     tokens: &'t [Token<'b>],

@@ -10,7 +10,7 @@ pub enum Operand {
     Dot,
     /// A chain of fields from dot, `.a.b`, by the names without their dots.
     Fields(Vec<Bytes>),
-    /// A variable, `$x`, by its name without the `$`, and the chain of fields behind it, if there is one.
+    /// A variable, `$x`, by its name without the `$`, and the chain of fields after it, if there is one.
     /// The variable of the empty name is the dot with which the template started.
     Variable {
         name: Bytes,
@@ -26,7 +26,7 @@ pub enum Operand {
     Nil,
     /// A function: what its command calls, or else a call without arguments.
     Function(Func),
-    /// A pipeline in parentheses, by its commands, and the chain of fields behind it, if there is one.
+    /// A pipeline in parentheses, by its commands, and the chain of fields after it, if there is one.
     Group {
         commands: Vec<Command>,
         fields: Vec<Bytes>,

@@ -10,9 +10,9 @@ use Rattle.tmpl_lex.specs.computed.Token.{Begun, front_token, token_from}
 use Rattle.tmpl_lex.specs.computed.Action.{Inside, inside, inside_after, with_token}
 
 -- more tokens before what is inside further on
-abbrev pub behind : List Token → Option Inside → Option Inside
-behind ts None = None
-behind ts (Some i) = Some (ts ++ i.0, i.1)
+abbrev pub after : List Token → Option Inside → Option Inside
+after ts None = None
+after ts (Some i) = Some (ts ++ i.0, i.1)
 
 inside_after-drop : (n : ℕ) (bs : List ℕ) → inside_after n bs ≡ inside_after 0 (drop n bs)
 inside_after-drop zero bs = refl
@@ -46,26 +46,26 @@ inside-token bs t e f = grind (arith, drop-sub_one, front_token-some, inside_aft
 
 -- ---- token by token
 
--- these tokens were read, and what is inside the rest comes behind them
+-- these tokens were read, and what is inside the rest comes after them
 pub record IsReadTo (all : List ℕ) (ts : List Token) (bs : List ℕ) : Type 0 where
-  pub same : inside all ≡ behind ts (inside bs)
+  pub same : inside all ≡ after ts (inside bs)
 
-behind-nil : (o : Option Inside) → behind [] o ≡ o
-behind-nil o = grind arith
+after-nil : (o : Option Inside) → after [] o ≡ o
+after-nil o = grind arith
 
 pub IsReadTo-start : (bs : List ℕ) (ts : List declared.Token) → ts ≡ [] → IsReadTo bs (map token_of ts) bs
-IsReadTo-start bs ts e = record { same = simp (e, behind-nil) }
+IsReadTo-start bs ts e = record { same = simp (e, after-nil) }
 
-behind-with_token : (ts : List Token) (t : Token) (o : Option Inside) → behind ts (with_token t o) ≡ behind (ts ++ t ∷ []) o
-behind-with_token ts t None = refl
-behind-with_token ts t (Some i) = ap (λ (us : List Token). Some (us, i.1)) (sym (append_assoc ts (t ∷ []) i.0))
+after-with_token : (ts : List Token) (t : Token) (o : Option Inside) → after ts (with_token t o) ≡ after (ts ++ t ∷ []) o
+after-with_token ts t None = refl
+after-with_token ts t (Some i) = ap (λ (us : List Token). Some (us, i.1)) (sym (append_assoc ts (t ∷ []) i.0))
 
 -- one token more was read
 pub IsReadTo-more : (all bs rest : List ℕ) (old new : List declared.Token) (t : declared.Token) → IsReadTo all (map token_of old) bs
     → None ≡ right_delimiter bs → Some (token_of t) ≡ front_token bs → new ≡ old ++ t ∷ [] → rest ≡ drop (length t.bytes.now) bs
     → IsReadTo all (map token_of new) rest
 IsReadTo-more all bs rest old new t so_far on here grown left = record {
-  same = so_far.same ∙ simp (inside-token bs (token_of t) on here, grown, map-append, left, behind-with_token);
+  same = so_far.same ∙ simp (inside-token bs (token_of t) on here, grown, map-append, left, after-with_token);
 }
 
 -- the action is closed

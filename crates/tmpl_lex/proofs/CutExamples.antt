@@ -15,9 +15,9 @@ record Example : Type 0 where
   file : String
   pieces : List Piece
 
--- a text `a` behind which nothing can be read
-abbrev unreadable_behind : String → Example
-unreadable_behind file = record { file = file; pieces = text 1 (codes "a") ∷ unreadable 1 ∷ [] }
+-- a text `a` after which nothing can be read
+abbrev unreadable_after : String → Example
+unreadable_after file = record { file = file; pieces = text 1 (codes "a") ∷ unreadable 1 ∷ [] }
 
 abbrev examples : List Example
 examples =
@@ -52,15 +52,15 @@ examples =
           action 1 (token kind.Space " " ∷ []) ∷ action 1 [] ∷ action 1 [] ∷ action 1 [] ∷ [];
     }
     -- the first `{{` counts, also of three or four braces, and no token begins with a brace
-    ∷ unreadable_behind "a{{{{b}}"
+    ∷ unreadable_after "a{{{{b}}"
     ∷ record { file = "{{{ }}"; pieces = unreadable 1 ∷ [] }
     -- the one byte of white space belongs to the left marker, so the second `-` begins no token
-    ∷ unreadable_behind "a {{- -}} b"
-    -- a comment that is not closed directly behind its first `*/`
-    ∷ unreadable_behind "a{{/*c*/ }}"
+    ∷ unreadable_after "a {{- -}} b"
+    -- a comment that is not closed directly after its first `*/`
+    ∷ unreadable_after "a{{/*c*/ }}"
     -- white space before a right marker is a token
     ∷ record { file = "{{.  -}} b"; pieces = action 1 (token kind.Dot "." ∷ token kind.Space " " ∷ []) ∷ text 1 (codes "b") ∷ [] }
-    -- a marker takes nothing behind a comment
+    -- a marker takes nothing after a comment
     ∷ record { file = "{{1 -}}{{/*c*/}} x"; pieces = action 1 (token kind.Number "1" ∷ []) ∷ text 1 (codes " x") ∷ [] }
     -- an action stands on the line of its `{{`, and a text on that of its first byte which is kept
     ∷ record {

@@ -10,16 +10,16 @@ use Rattle.tmpl_lex.specs.Piece.{Piece, action, unreadable}
 use Rattle.tmpl_lex.specs.Text.{newlines}
 use Rattle.tmpl_lex.specs.computed.Action.{Opened, comment, tokens, neither, opened}
 use Rattle.tmpl_lex.specs.computed.Cut.{with_rest, cut_within, cut_of}
-use Rattle.tmpl_lex.specs.computed.Part.{Rest, stretch, split_open, rest_behind, part_from, part_of, pieces_of, ends_at}
+use Rattle.tmpl_lex.specs.computed.Part.{Rest, stretch, split_open, rest_past, part_from, part_of, pieces_of, ends_at}
 use Rattle.tmpl_lex.specs.computed.Text.{texts}
-use Rattle.tmpl_lex.specs.computed.Trim.{End, left_marked, past_left, behind_marker}
+use Rattle.tmpl_lex.specs.computed.Trim.{End, left_marked, past_left, after_marker}
 use Rattle.tmpl_lex.proofs.PartLemmas.{absent-none, none-absent, absent-split, split-is}
 use Rattle.tmpl_lex.proofs.SpellsLemmas.{HasClosed, AtOpened, opened-closed, closed-opened, neither-closed, closed-neither}
 use Rattle.tmpl_lex.proofs.TextLemmas.{texts-made, texts-only}
 
 -- ---- what opens
 
--- the bytes behind a `{{`: its marker, and what stands behind that
+-- the bytes after a `{{`: its marker, and what stands after that
 pub record HasMarker (after : List ℕ) (left : Bool) (rest : List ℕ) : Type 0 where
   pub marker : List ℕ
   pub opens : Opens left (123 ∷ 123 ∷ marker) rest
@@ -41,7 +41,7 @@ marker-is (a ∷ w ∷ after) e =
 pub has-marker : (after : List ℕ) → HasMarker after (left_marked after) (past_left after)
 has-marker after = go (left_marked after) refl
   where
-    go : (t : Bool) → left_marked after ≡ t → HasMarker after t (behind_marker t after)
+    go : (t : Bool) → left_marked after ≡ t → HasMarker after t (after_marker t after)
     go true e = marker-is after e
     go false e = record {
       marker = [];
@@ -80,18 +80,18 @@ is-led {before = before} first (opens_marked {rest = rest} (left_marker {w = w} 
 abbrev CutsRest : Rest → List Piece → Type 0
 CutsRest r ps = Cuts r.trims r.line r.bytes ps
 
--- these pieces come before whatever the rest behind them is cut into
-pub record IsBefore (r : Rest) (ps : List Piece) (behind : Rest) : Type 0 where
+-- these pieces come before whatever the rest after them is cut into
+pub record IsBefore (r : Rest) (ps : List Piece) (beyond : Rest) : Type 0 where
   pub front : List ℕ
-  pub is : r.bytes ≡ front ++ behind.bytes
+  pub is : r.bytes ≡ front ++ beyond.bytes
   pub some : 2 ≤ length front
-  pub line : behind.line ≡ r.line + newlines front
-  pub cuts : (more : List Piece) → CutsRest behind more → CutsRest r (ps ++ more)
+  pub line : beyond.line ≡ r.line + newlines front
+  pub cuts : (more : List Piece) → CutsRest beyond more → CutsRest r (ps ++ more)
 
 -- .. or they are all there is
 abbrev pub IsPart : Rest → List Piece → Option Rest → Type 0
 IsPart r ps None = CutsRest r ps
-IsPart r ps (Some behind) = IsBefore r ps behind
+IsPart r ps (Some beyond) = IsBefore r ps beyond
 
 pub stretch-is : (bs front rest : List ℕ) → bs ≡ front ++ rest → stretch bs rest ≡ front
 stretch-is bs front rest e =
@@ -108,7 +108,7 @@ part-is r = go (split_open r.bytes) refl
 
     before-rest : (before after : List ℕ) → split_open r.bytes ≡ Some (before, after) → (e : End) (ps : List Piece)
         → HasClosed (r.line + newlines before) (past_left after) e ps
-        → IsBefore r (texts r.trims (left_marked after) r.line before ++ ps) (rest_behind r.bytes r.line e)
+        → IsBefore r (texts r.trims (left_marked after) r.line before ++ ps) (rest_past r.bytes r.line e)
     before-rest before after split e ps c =
         let s = split-is 123 123 r.bytes (before, after) split in
         let m = has-marker after in
@@ -128,7 +128,7 @@ part-is r = go (split_open r.bytes) refl
     at : (before after : List ℕ) → split_open r.bytes ≡ Some (before, after) → (o : Opened) → opened (past_left after) ≡ o
         → AtOpened (r.line + newlines before) (past_left after) o
         → IsPart r (texts r.trims (left_marked after) r.line before ++ pieces_of (r.line + newlines before) o)
-        (option_map (rest_behind r.bytes r.line) (ends_at o))
+        (option_map (rest_past r.bytes r.line) (ends_at o))
     at before after split (comment end) e c = before-rest before after split end [] c
     at before after split (tokens ts end) e c = before-rest before after split end (action (r.line + newlines before) ts ∷ []) c
     at before after split neither e c =
@@ -143,10 +143,10 @@ part-is r = go (split_open r.bytes) refl
     go None e = last (none-absent 123 123 r.bytes e) (texts-made r.trims false r.line r.bytes)
     go (Some p) e = at p.0 p.1 e (opened (past_left p.1)) refl (opened-closed (r.line + newlines p.0) (past_left p.1))
 
--- whatever bytes are cut into begins with the pieces of the part, and what its rest is cut into comes behind them
+-- whatever bytes are cut into begins with the pieces of the part, and what its rest is cut into comes after them
 abbrev IsOnly : List Piece → List Piece → Option Rest → Type 0
 IsOnly qs ps None = qs ≡ ps
-IsOnly qs ps (Some behind) = (more : List Piece) × CutsRest behind more × (qs ≡ ps ++ more)
+IsOnly qs ps (Some beyond) = (more : List Piece) × CutsRest beyond more × (qs ≡ ps ++ more)
 
 part-only : {right : Bool} {line : ℕ} {bs : List ℕ} {qs : List Piece} → Cuts right line bs qs
     → let p = part_of (record { trims = right; line = line; bytes = bs }) in IsOnly qs p.0 p.1

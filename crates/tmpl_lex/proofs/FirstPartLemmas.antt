@@ -1,4 +1,4 @@
--- For `first_part`: a part, and the rest behind it, are those that are computed. For `cut`: part by part all of a file is cut.
+-- For `first_part`: a part, and the rest after it, are those that are computed. For `cut`: part by part all of a file is cut.
 use Rattle.std.proofs.Common.{arith, ◌≡◌, ◌∙◌, ℕ, ◌+◌, ◌-◌, ◌<◌, ◌^◌, Bool, false, List, [], ◌∷◌, ◌++◌, Option, Some, None, IfSome, refl, sym, ap}
 use Rattle.std.proofs.Common.{length, take, append-nil, append_assoc, length-append, nat_eq, cond, option_map}
 use Rattle.std.proofs.lemmas.List.{take_all}
@@ -7,13 +7,13 @@ use Rattle.tmpl_lex.specs.declared.action.Opened as held_opened
 use Rattle.tmpl_lex.specs.declared.part.Rest as held
 use Rattle.tmpl_lex.specs.declared.piece.Token as held_token
 use Rattle.tmpl_lex.specs.Cut.{Cuts, last}
-use Rattle.tmpl_lex.specs.Part.{IsCutBy, IsLeft, IsLeftBehind}
+use Rattle.tmpl_lex.specs.Part.{IsCutBy, IsLeft, IsLeftAfter}
 use Rattle.tmpl_lex.specs.Piece.{Piece, action}
 use Rattle.tmpl_lex.specs.Place.{EndsWith}
 use Rattle.tmpl_lex.specs.Text.{text_piece, newlines}
 use Rattle.tmpl_lex.specs.computed.Action.{Opened, comment, tokens, neither, opened}
 use Rattle.tmpl_lex.specs.computed.Cut.{cut_of}
-use Rattle.tmpl_lex.specs.computed.Part.{split_open, pieces_of, ends_at, rest_behind, IsEndWithin}
+use Rattle.tmpl_lex.specs.computed.Part.{split_open, pieces_of, ends_at, rest_past, IsEndWithin}
 use Rattle.tmpl_lex.specs.computed.Text.{leading, without_leading, without_trailing, texts}
 use Rattle.tmpl_lex.specs.computed.Trim.{End, left_marked, past_left}
 use Rattle.tmpl_lex.specs.computed.View.{opened_of, rest_of}
@@ -29,7 +29,7 @@ pub texts-put : (right left : Bool) (line count : ℕ) (before taken kept text :
     → text_piece (line + count) text ≡ texts right left line before
 texts-put right left line count before taken kept text e f n t = simp (n, t, e, f)
 
--- with no marker behind it all is kept
+-- with no marker after it all is kept
 pub without_trailing-unmarked : (bs : List ℕ) → bs ≡ without_trailing false bs
 without_trailing-unmarked bs = sym (take_all (length bs - 0) bs (omega arith))
 
@@ -46,18 +46,18 @@ last-cuts right line count bs taken kept none t k n =
 pub ends-same : (ts us : List held_token.Token) (o : held_opened.Opened) → ends_at (opened_of ts o) ≡ ends_at (opened_of us o)
 ends-same ts us o = grind arith
 
--- the bytes end with what stands behind the end, if there is one
+-- the bytes end with what stands after the end, if there is one
 at-ends : (after : List ℕ) → IfSome (ends_at (opened (past_left after))) (λ e. EndsWith after e.rest)
 at-ends after = go (opened (past_left after)) (opened-closed 0 (past_left after))
   where
-    behind : (e : End) (ps : List Piece) → HasClosed 0 (past_left after) e ps → EndsWith after e.rest
-    behind e ps c =
+    beyond : (e : End) (ps : List Piece) → HasClosed 0 (past_left after) e ps → EndsWith after e.rest
+    beyond e ps c =
         let m = has-marker after in
         record { front = m.marker ++ c.body; is = m.is ∙ ap (λ l. m.marker ++ l) c.is ∙ sym (append_assoc m.marker c.body e.rest) }
 
     go : (o : Opened) → AtOpened 0 (past_left after) o → IfSome (ends_at o) (λ e. EndsWith after e.rest)
-    go (comment e) c = behind e [] c
-    go (tokens ts e) c = behind e (action 0 ts ∷ []) c
+    go (comment e) c = beyond e [] c
+    go (tokens ts e) c = beyond e (action 0 ts ∷ []) c
     go neither c = tt
 
 module _ (file : List ℕ) (rest : held.Rest) (left : IsLeft file rest) (before after : List ℕ) (split : Some (before, after) ≡ split_open rest.bytes.now) where
@@ -80,9 +80,9 @@ module _ (file : List ℕ) (rest : held.Rest) (left : IsLeft file rest) (before 
           let whole = length-append before (123 ∷ 123 ∷ after) in
           (omega (arith, parts), simp (stretch-is after at.front e.rest at.is) (omega (arith, left.lines, ap length is, whole, parts, a, b, fits)))
 
-  -- what is left behind an end is so also of the whole rest
+  -- what is left after an end is so also of the whole rest
   rest-same : (e : Option End) → IfSome e (λ e. EndsWith after e.rest)
-      → option_map (rest_behind after here) e ≡ option_map (rest_behind rest.bytes.now rest.line) e
+      → option_map (rest_past after here) e ≡ option_map (rest_past rest.bytes.now rest.line) e
   rest-same None at = refl
   rest-same (Some e) at =
       let front : List ℕ = before ++ 123 ∷ 123 ∷ at.front in
@@ -92,15 +92,15 @@ module _ (file : List ℕ) (rest : held.Rest) (left : IsLeft file rest) (before 
       omega (arith, sum_by-append one before (123 ∷ 123 ∷ at.front), sum_by-cons one 123 (123 ∷ at.front), sum_by-cons one 123 at.front) in
       simp (stretch-is after at.front e.rest at.is, stretch-is rest.bytes.now front e.rest whole, lines)
 
-  -- such a part, and the rest behind it, are cut as the whole is
+  -- such a part, and the rest after it, are cut as the whole is
   pub part-before : (o : Opened) → o ≡ opened (past_left after) → (ps : List Piece)
       → ps ≡ texts rest.trims (left_marked after) rest.line before ++ pieces_of here o → (r : Option held.Rest)
-      → option_map rest_of r ≡ option_map (rest_behind after here) (ends_at o) → IsCutBy rest ps r × IsLeftBehind file rest r
-  part-before o read ps pieces r behind =
-      let same = simp read at behind ∙ rest-same (ends_at (opened (past_left after))) (at-ends after) in
+      → option_map rest_of r ≡ option_map (rest_past after here) (ends_at o) → IsCutBy rest ps r × IsLeftAfter file rest r
+  part-before o read ps pieces r beyond =
+      let same = simp read at beyond ∙ rest-same (ends_at (opened (past_left after))) (at-ends after) in
       by r (rw (simp read at pieces, same) (rw (sym split) at (part-is (rest_of rest))))
     where
-      by : (r : Option held.Rest) → IsPart (rest_of rest) ps (option_map rest_of r) → IsCutBy rest ps r × IsLeftBehind file rest r
+      by : (r : Option held.Rest) → IsPart (rest_of rest) ps (option_map rest_of r) → IsCutBy rest ps r × IsLeftAfter file rest r
       by None b = (b, tt)
       by (Some r) b =
           let ends = left.ends in

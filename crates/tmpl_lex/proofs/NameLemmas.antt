@@ -1,4 +1,4 @@
--- For the printer of tmpl_grammar: the bytes of a field or variable behind the first are a name.
+-- For the printer of tmpl_grammar: the bytes of a field or variable after the first are a name.
 use Rattle.std.proofs.Common.{◌≡◌, ℕ, true, List, drop}
 use Rattle.std.specs.List.{list_all}
 use Rattle.tmpl_lex.specs.declared.piece.TokenKind.{TokenKind}
@@ -10,7 +10,7 @@ use Rattle.tmpl_lex.specs.Token.{IsToken, field, variable}
 abbrev pub IsNamed : List ℕ → Type 0
 IsNamed name = list_all is_name_byte name ≡ true
 
--- the bytes behind the first, by the kind of the token
+-- the bytes after the first, by the kind of the token
 abbrev pub OfKind : TokenKind → List ℕ → Type 0
 OfKind kind.Field bs = IsNamed bs
 OfKind kind.Variable bs = IsNamed bs

@@ -5,7 +5,7 @@ use Rattle.std.proofs.lemmas.Bool.{and_parts, false_from_ne_true}
 use Rattle.std.proofs.Math.Seq.{take-add}
 use lib.Seq.{drop-drop}
 use Rattle.memchr.specs.Find.{Nowhere, Passes, is_byte}
-use Rattle.tmpl_lex.specs.computed.Bytes.{split_pair, with_first, behind, split_from}
+use Rattle.tmpl_lex.specs.computed.Bytes.{split_pair, with_first, beyond, split_from}
 use Rattle.tmpl_lex.proofs.PartLemmas.{split-is}
 
 pub split_pair-short : (x y : ℕ) (bs : List ℕ) (i : ℕ) → length bs ≤ i + 1 → split_pair x y (drop i bs) ≡ None
@@ -24,42 +24,42 @@ split_pair-lengths x y bs before after e =
 
 -- ---- from one place of the first byte to the next
 
-behind-nil : (o : Option (List ℕ × List ℕ)) → behind [] o ≡ o
-behind-nil o = grind arith
+beyond-nil : (o : Option (List ℕ × List ℕ)) → beyond [] o ≡ o
+beyond-nil o = grind arith
 
-behind-behind : (a b : List ℕ) (o : Option (List ℕ × List ℕ)) → behind a (behind b o) ≡ behind (a ++ b) o
-behind-behind a b None = refl
-behind-behind a b (Some p) = ap (λ (t : List ℕ). Some (t, p.1)) (sym (append_assoc a b p.0))
+beyond-beyond : (a b : List ℕ) (o : Option (List ℕ × List ℕ)) → beyond a (beyond b o) ≡ beyond (a ++ b) o
+beyond-beyond a b None = refl
+beyond-beyond a b (Some p) = ap (λ (t : List ℕ). Some (t, p.1)) (sym (append_assoc a b p.0))
 
-with_first-behind : (a : ℕ) (t : List ℕ) (o : Option (List ℕ × List ℕ)) → with_first a (behind t o) ≡ behind (a ∷ t) o
-with_first-behind a t o = grind arith
+with_first-beyond : (a : ℕ) (t : List ℕ) (o : Option (List ℕ × List ℕ)) → with_first a (beyond t o) ≡ beyond (a ∷ t) o
+with_first-beyond a t o = grind arith
 
 -- the pair stands at no place before one up to which its first byte does not stand
 split_pair-passed : (x y : ℕ) (bs : List ℕ) (k : ℕ) → k ≤ length bs → Nowhere (Passes (is_byte x) bs) 0 k
-    → split_pair x y bs ≡ behind (take k bs) (split_pair x y (drop k bs))
-split_pair-passed x y bs zero within none = sym (behind-nil (split_pair x y bs))
+    → split_pair x y bs ≡ beyond (take k bs) (split_pair x y (drop k bs))
+split_pair-passed x y bs zero within none = sym (beyond-nil (split_pair x y bs))
 split_pair-passed x y [] (suc k) within none = absurd (omega arith)
 split_pair-passed x y (a ∷ []) (suc zero) within none = refl
 split_pair-passed x y (a ∷ []) (suc (suc k)) within none = absurd (omega arith)
 split_pair-passed x y (a ∷ b ∷ bs) (suc k) within none =
     simp (
       false_from_ne_true (nat_eq a x) (none 0 (omega arith) (omega arith)),
-      with_first-behind,
+      with_first-beyond,
       split_pair-passed x y (b ∷ bs) k (omega arith) (λ j low high. none (suc j) (omega arith) (omega arith)),
     )
 
 -- so it stands where it stands from there on
 pub split_from-passed : (x y : ℕ) (bs : List ℕ) (i k : ℕ) → k ≤ length (drop i bs) → Nowhere (Passes (is_byte x) (drop i bs)) 0 k
     → split_from x y i bs ≡ split_from x y (i + k) bs
-split_from-passed x y bs i k within none = simp (split_pair-passed x y (drop i bs) k within none, behind-behind, take-add, drop-drop)
+split_from-passed x y bs i k within none = simp (split_pair-passed x y (drop i bs) k within none, beyond-beyond, take-add, drop-drop)
 
 -- where the pair does not stand at a place, it stands where it stands from the next place on
 split_from-suc : (x y : ℕ) (bs : List ℕ) (i : ℕ) → suc i < length bs → (get_or bs i 0 ≡ x → get_or bs (suc i) 0 ≡ y → ⊥)
     → split_from x y i bs ≡ split_from x y (suc i) bs
 split_from-suc x y [] i h differ = absurd (omega arith)
 split_from-suc x y (a ∷ []) i h differ = absurd (omega arith)
-split_from-suc x y (a ∷ b ∷ bs) zero h differ = grind (arith, and_parts, behind-nil, with_first-behind)
-split_from-suc x y (a ∷ b ∷ bs) (suc i) h differ = grind (arith, split_from-suc x y (b ∷ bs) i (omega arith) differ, with_first-behind)
+split_from-suc x y (a ∷ b ∷ bs) zero h differ = grind (arith, and_parts, beyond-nil, with_first-beyond)
+split_from-suc x y (a ∷ b ∷ bs) (suc i) h differ = grind (arith, split_from-suc x y (b ∷ bs) i (omega arith) differ, with_first-beyond)
 
 pub split_from-next : (x y : ℕ) (bs : List ℕ) (i : ℕ) → i + 1 < length bs → (get_or bs i 0 ≡ x → get_or bs (i + 1) 0 ≡ y → ⊥)
     → split_from x y i bs ≡ split_from x y (i + 1) bs

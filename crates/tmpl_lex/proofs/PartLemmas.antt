@@ -51,7 +51,7 @@ absent-split x y (a ∷ []) after h = simp (absent-here x y a x [] h, absent-spl
 absent-split x y (a ∷ b ∷ before) after h =
     simp (absent-here x y a b (before ++ x ∷ []) h, absent-split x y (b ∷ before) after (absent-rest a (x ∷ y ∷ []) (b ∷ (before ++ x ∷ [])) h))
 
--- what stands before the first such pair, and behind it
+-- what stands before the first such pair, and after it
 pub record IsSplit (x y : ℕ) (bs before after : List ℕ) : Type 0 where
   pub is : bs ≡ before ++ x ∷ y ∷ after
   pub first : Absent (x ∷ y ∷ []) (before ++ x ∷ [])

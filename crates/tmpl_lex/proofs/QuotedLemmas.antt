@@ -29,12 +29,12 @@ through-some q (b ∷ bs) (suc k) h none here =
 -- ---- the next quote that no backslash escapes
 
 -- more bytes before what is found further on
-abbrev pub behind : List ℕ → Option (List ℕ) → Option (List ℕ)
-behind front None = None
-behind front (Some bs) = Some (front ++ bs)
+abbrev pub after : List ℕ → Option (List ℕ) → Option (List ℕ)
+after front None = None
+after front (Some bs) = Some (front ++ bs)
 
--- the first bytes hold no end, and behind them one is escaped or not
+-- the first bytes hold no end, and after them one is escaped or not
 pub record IsOpen (q : ℕ) (bs : List ℕ) (i : ℕ) (escaped : Bool) : Type 0 where
-  pub same : quoted q false bs ≡ behind (take i bs) (quoted q escaped (drop i bs))
+  pub same : quoted q false bs ≡ after (take i bs) (quoted q escaped (drop i bs))
 
 pub ruleset finds = (through-none, through-some)

@@ -1,4 +1,4 @@
--- For the law `one_cut`: what is computed behind a `{{` is what the relations say.
+-- For the law `one_cut`: what is computed after a `{{` is what the relations say.
 use Rattle.std.proofs.Common.{◌≡◌, ◌∙◌, ℕ, zero, suc, ◌-◌, Bool, true, false, List, [], ◌∷◌, ◌++◌, Option, IfSome, Some, None, refl, sym, ap}
 use Rattle.std.proofs.Common.{length, drop, append_assoc, arith, ◌<◌}
 use Rattle.std.proofs.Math.Seq.{drop-append_seam}

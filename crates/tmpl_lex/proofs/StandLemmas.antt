@@ -139,11 +139,11 @@ quoted-found q _ rest e n no_byte = simp (n, eq-eqb q q refl)
 quoted-found q _ rest e n (a_byte {b = b} {bs = bs} l s c h) = simp (l, s, c, quoted-found q bs rest e n h)
 quoted-found q _ rest e n (an_escape {b = b} {bs = bs} l h) = simp (e, l, and-false, quoted-found q bs rest e n h)
 
--- what was found: the bytes up to the quote, the quote, and what stands behind it
+-- what was found: the bytes up to the quote, the quote, and what stands after it
 data IsUpTo (Form : List ℕ → Type 0) (q : ℕ) : List ℕ → List ℕ → Type 0 where
   at_quote : (inside rest : List ℕ) → Form inside → IsUpTo Form q (inside ++ q ∷ [] ++ rest) (inside ++ q ∷ [])
 
--- one byte more: it is the quote, or what was found behind it goes on
+-- one byte more: it is the quote, or what was found after it goes on
 up-to-is : (F G : List ℕ → Type 0) (q b : ℕ) (bs : List ℕ) (t : Bool) → (t ≡ true → (b ≡ q) × G []) → (t ≡ false → (ys : List ℕ) → F ys → G (b ∷ ys))
     → (o : Option (List ℕ)) → IfSome o (IsUpTo F q bs) → IfSome (up_to t b o) (IsUpTo G q (b ∷ bs))
 up-to-is F G q b bs true end step o at = let here = end refl in rw here.0 (at_quote [] bs here.1)
@@ -151,32 +151,32 @@ up-to-is F G q b bs false end step None at = tt
 up-to-is F G q b _ false end step (Some _) (at_quote inside rest form) = at_quote (b ∷ inside) rest (step refl inside form)
 
 -- a backslash stands before the bytes, or none
-abbrev Behind : ℕ → Bool → List ℕ → Type 0
-Behind q false bs = IsQuoted q bs
-Behind q true [] = ⊥
-Behind q true (b ∷ bs) = (nat_eq b 10 ≡ false) × IsQuoted q bs
+abbrev QuotedAfter : ℕ → Bool → List ℕ → Type 0
+QuotedAfter q false bs = IsQuoted q bs
+QuotedAfter q true [] = ⊥
+QuotedAfter q true (b ∷ bs) = (nat_eq b 10 ≡ false) × IsQuoted q bs
 
-escape-behind : (q b : ℕ) (bs : List ℕ) → b ≡ 92 → Behind q true bs → IsQuoted q (b ∷ bs)
-escape-behind q b [] e h = absurd h
-escape-behind q b (c ∷ bs) e h = rw e (an_escape h.0 h.1)
+escape-after : (q b : ℕ) (bs : List ℕ) → b ≡ 92 → QuotedAfter q true bs → IsQuoted q (b ∷ bs)
+escape-after q b [] e h = absurd h
+escape-after q b (c ∷ bs) e h = rw e (an_escape h.0 h.1)
 
-quoted-is : (q : ℕ) (e : Bool) (bs : List ℕ) → IfSome (quoted q e bs) (IsUpTo (Behind q e) q bs)
+quoted-is : (q : ℕ) (e : Bool) (bs : List ℕ) → IfSome (quoted q e bs) (IsUpTo (QuotedAfter q e) q bs)
 quoted-is q e [] = tt
 quoted-is q e (b ∷ bs) = go (nat_eq b 10) refl e (λ s. quoted-is q s bs)
   where
-    step : nat_eq b 10 ≡ false → nat_eq b q ≡ false → (s : Bool) → nat_eq b 92 ≡ s → (ys : List ℕ) → Behind q s ys → IsQuoted q (b ∷ ys)
+    step : nat_eq b 10 ≡ false → nat_eq b q ≡ false → (s : Bool) → nat_eq b 92 ≡ s → (ys : List ℕ) → QuotedAfter q s ys → IsQuoted q (b ∷ ys)
     step el t false es ys f = a_byte el es t f
-    step el t true es ys f = escape-behind q b ys (eqb-true b 92 es) f
+    step el t true es ys f = escape-after q b ys (eqb-true b 92 es) f
 
-    go : (l : Bool) → nat_eq b 10 ≡ l → (e : Bool) → ((s : Bool) → IfSome (quoted q s bs) (IsUpTo (Behind q s) q bs))
-        → IfSome (unless l (up_to (nat_eq b q && not e) b (quoted q (nat_eq b 92 && not e) bs))) (IsUpTo (Behind q e) q (b ∷ bs))
+    go : (l : Bool) → nat_eq b 10 ≡ l → (e : Bool) → ((s : Bool) → IfSome (quoted q s bs) (IsUpTo (QuotedAfter q s) q bs))
+        → IfSome (unless l (up_to (nat_eq b q && not e) b (quoted q (nat_eq b 92 && not e) bs))) (IsUpTo (QuotedAfter q e) q (b ∷ bs))
     go true el e ih = tt
     go false el false ih =
-        rw (and-true (nat_eq b q), and-true (nat_eq b 92)) (up-to-is (Behind q (nat_eq b 92)) (IsQuoted q) q b bs (nat_eq b q)
+        rw (and-true (nat_eq b q), and-true (nat_eq b 92)) (up-to-is (QuotedAfter q (nat_eq b 92)) (IsQuoted q) q b bs (nat_eq b q)
         (λ t. (eqb-true b q t, no_byte)) (λ t. step el t (nat_eq b 92) refl) (quoted q (nat_eq b 92) bs) (ih (nat_eq b 92)))
     go false el true ih =
         rw (and-false (nat_eq b q), and-false (nat_eq b 92))
-        (up-to-is (IsQuoted q) (Behind q true) q b bs false (λ t. absurd (let k : ⊥ = cc in k)) (λ t ys f. (el, f)) (quoted q false bs) (ih false))
+        (up-to-is (IsQuoted q) (QuotedAfter q true) q b bs false (λ t. absurd (let k : ⊥ = cc in k)) (λ t ys f. (el, f)) (quoted q false bs) (ih false))
 
 raw-found : (q : ℕ) (bs rest : List ℕ) → Absent (q ∷ []) bs → through q (bs ++ q ∷ [] ++ rest) ≡ Some (bs ++ q ∷ [])
 raw-found q [] rest h = simp (eq-eqb q q refl)

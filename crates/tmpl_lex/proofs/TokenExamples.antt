@@ -24,7 +24,7 @@ before_a_marker = space refl (at_marker [] (closes_marked refl))
 in_a_marker : Row kind.Space " " "-}}" → ⊥
 in_a_marker h = let f = (found h).no_end in cc
 
--- a number takes each name byte and dot behind its first digit
+-- a number takes each name byte and dot after its first digit
 a_number : Row kind.Number "-1.x_" "-2"
 a_number = number {sign = codes "-"} 49 (inr (inr refl)) refl (record { passes = refl; longest = refl })
 
@@ -34,7 +34,7 @@ half_a_number h =
     let n : 2 ≡ 1 = ap (λ (t : Token). length t.bytes) (same_Some (token kind.Number "12") (token kind.Number "1") (found h).front) in
     omega (arith, n)
 
--- a field needs a name, and a dot has none behind it
+-- a field needs a name, and a dot has none after it
 a_field : Row kind.Field ".a" ".b"
 a_field = field (record { passes = refl; longest = refl })
 

@@ -13,7 +13,7 @@ is_space b = b == byte " " || b == byte "\t" || b == byte "\r" || b == byte "\n"
 abbrev pub is_name_byte : ℕ → Bool
 is_name_byte b = is_ascii_alphanumeric b || b == byte "_" || nat_le 128 b
 
--- a byte of a number behind its first digit: a byte of a name, or a dot
+-- a byte of a number after its first digit: a byte of a name, or a dot
 abbrev pub is_number_byte : ℕ → Bool
 is_number_byte b = is_name_byte b || b == byte "."
 

@@ -7,7 +7,7 @@ use Rattle.tmpl_lex.specs.Bytes.{is_space, BeginsNone}
 pub data IsLeftMarker : List ℕ → Type 0 where
   left_marker : {w : ℕ} → is_space w ≡ true → IsLeftMarker (codes "-" ++ w ∷ [])
 
--- what opens an action or comment, with a left trim marker or without one, and the bytes behind it: a marker behind the
+-- what opens an action or comment, with a left trim marker or without one, and the bytes after it: a marker after the
 -- `{{` belongs to it
 pub data Opens : Bool → List ℕ → List ℕ → Type 0 where
   opens : {rest : List ℕ} → BeginsNone IsLeftMarker rest → Opens false (codes "{{") rest

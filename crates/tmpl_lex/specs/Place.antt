@@ -3,11 +3,11 @@ use Rattle.std.specs.Prelude.{◌≡◌, ℕ, List, ◌++◌, length}
 use Rattle.tmpl_lex.specs.declared.piece.Piece as declared_piece
 use Rattle.tmpl_lex.specs.declared.piece.Piece.TheVariants as variant
 
--- these bytes stand in the file, with so many bytes before them
+-- these bytes stand in the file, with this many bytes before them
 pub record StandsAt (file : List ℕ) (start : ℕ) (bytes : List ℕ) : Type 0 where
   pub before : List ℕ
-  pub behind : List ℕ
-  pub parts : file ≡ before ++ bytes ++ behind
+  pub after : List ℕ
+  pub parts : file ≡ before ++ bytes ++ after
   pub count : length before ≡ start
 
 -- the file ends with this rest

@@ -20,7 +20,7 @@ text_piece line [] = []
 text_piece line (b ∷ bs) = text line (b ∷ bs) ∷ []
 
 -- the bytes between two actions or comments, of which the first stands on this line, with a right trim marker before
--- them or none and a left one behind them or none, and the piece that they are; its line is that of its first byte
+-- them or none and a left one after them or none, and the piece that they are; its line is that of its first byte
 pub data Texts : Bool → Bool → ℕ → List ℕ → List Piece → Type 0 where
   trimmed : {right left : Bool} {line : ℕ} {front : List ℕ} (kept end : List ℕ)
       → Trims right front (kept ++ end) → Trims left (reverse end) (reverse kept)

@@ -15,8 +15,8 @@ pub data EndsSpace : List ℕ → Type 0 where
   at_byte : {rest : List ℕ} → Stops is_space rest → BeginsNone (λ bs. bs ≡ codes "-}}") rest → EndsSpace rest
   at_marker : {marker : List ℕ} (rest : List ℕ) → Closes true marker → EndsSpace (marker ++ rest)
 
--- the bytes between two such quotes: none is a newline, and a quote or backslash stands only behind a backslash, which
--- escapes the byte behind it
+-- the bytes between two such quotes: none is a newline, and a quote or backslash stands only after a backslash, which
+-- escapes the byte after it
 pub data IsQuoted (quote : ℕ) : List ℕ → Type 0 where
   no_byte : IsQuoted quote []
   a_byte : {b : ℕ} {bs : List ℕ} → (b == byte "\n") ≡ false → (b == byte "\\") ≡ false → (b == quote) ≡ false
@@ -46,11 +46,11 @@ pub data IsToken : TokenKind → List ℕ → List ℕ → Type 0 where
   left_parenthesis : {rest : List ℕ} → IsToken kind.LeftParenthesis (codes "(") rest
   right_parenthesis : {rest : List ℕ} → IsToken kind.RightParenthesis (codes ")") rest
 
--- the bytes of tokens, one behind the other
+-- the bytes of tokens, one after the other
 abbrev pub bytes_of : List Token → List ℕ
 bytes_of ts = flat_map (λ t. t.bytes) ts
 
--- the tokens stand one behind the other, before these bytes
+-- the tokens stand one after the other, before these bytes
 abbrev pub Spells : List Token → List ℕ → Type 0
 Spells [] rest = Unit {0}
 Spells (t ∷ ts) rest = IsToken t.kind t.bytes (bytes_of ts ++ rest) × Spells ts rest

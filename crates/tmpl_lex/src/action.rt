@@ -1,4 +1,4 @@
-//! What begins behind a `{{`: a comment, an action, or neither.
+//! What begins after a `{{`: a comment, an action, or neither.
 ghost use Rattle.std.specs.Prelude.{◌≡◌, ◌≤◌, IfOk, option_map, length};
 ghost use Rattle.tmpl_lex.specs.computed.Action as computed;
 ghost use Rattle.tmpl_lex.specs.computed.View.{end_of, inside_of, opened_of};
@@ -9,7 +9,7 @@ use crate::token::front_token;
 use crate::trim::{End, right_delimiter};
 use std::alloc::AllocError;
 
-/// What begins behind a `{{` or its left trim marker.
+/// What begins after a `{{` or its left trim marker.
 #[derive(Clone, Copy)]
 pub(crate) enum Opened<'b> {
     /// A closed comment, and its end.
@@ -20,7 +20,7 @@ pub(crate) enum Opened<'b> {
     Neither,
 }
 
-/// Reads what begins behind a `{{` or its left trim marker, and its tokens in place of those that were there.
+/// Reads what begins after a `{{` or its left trim marker, and its tokens in place of those that were there.
 #[tactic(auto, unfolding(crate::specs::computed::Action::opened))]
 pub(crate) fn read_opened<'b>(
     tokens: &mut Vec<Token<'b>>,
@@ -37,7 +37,7 @@ pub(crate) fn read_opened<'b>(
     }
 }
 
-/// The end of the comment that the bytes begin with: directly behind the first `*/` after `/*`.
+/// The end of the comment that the bytes begin with: directly after the first `*/` after `/*`.
 #[tactic(auto, unfolding(crate::specs::computed::Action::comment_end))]
 fn comment_end(bytes: &[u8]) -> Option<End<'_>>
     ensures { option_map end_of result ≡ computed.comment_end bytes.now }

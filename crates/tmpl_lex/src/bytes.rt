@@ -22,7 +22,7 @@ pub(crate) fn is_name_byte(byte: u8) -> bool
     byte.is_ascii_alphanumeric() || byte == b'_' || byte >= 0x80
 }
 
-/// Whether this byte may stand in a number behind its first digit.
+/// Whether this byte may stand in a number after its first digit.
 fn is_number_byte(byte: u8) -> bool
     ensures { result ≡ spec.is_number_byte byte }
 {
@@ -45,7 +45,7 @@ pub(crate) fn name_len(bytes: &[u8]) -> usize
     bytes.iter().take_while(|b| is_name_byte(**b)).count()
 }
 
-/// How many bytes of a number there are at the front, behind its first digit.
+/// How many bytes of a number there are at the front, after its first digit.
 pub(crate) fn number_len(bytes: &[u8]) -> usize
     ensures value { result ≡ prefix_len spec.is_number_byte bytes.now }
     ensures within { result ≤ length bytes.now }
@@ -53,7 +53,7 @@ pub(crate) fn number_len(bytes: &[u8]) -> usize
     bytes.iter().take_while(|b| is_number_byte(**b)).count()
 }
 
-/// The bytes after so many.
+/// The bytes after this many.
 pub(crate) fn skip(bytes: &[u8], len: usize) -> &[u8]
     requires { len ≤ length bytes.now }
     ensures { result.now ≡ drop len bytes.now }

@@ -2,12 +2,12 @@
 ghost use Rattle.std.specs.Prelude.{◌≡◌, ◌++◌, ℕ, All, IfOk, OnOk, List, false, map};
 ghost use Rattle.tmpl_lex.specs.View.{piece_of};
 ghost use Rattle.tmpl_lex.specs.Cut as spec;
-ghost use Rattle.tmpl_lex.specs.Part.{pieces_behind, pieces_in};
+ghost use Rattle.tmpl_lex.specs.Part.{pieces_after, pieces_in};
 ghost use Rattle.tmpl_lex.specs.computed.Cut as computed;
 ghost use Rattle.tmpl_lex.specs.Place.{IsPlaced, StandsAt};
 ghost use Rattle.tmpl_lex.specs.Text.{text_piece};
 
-use crate::part::{Behind, Part, Rest, first_part};
+use crate::part::{AfterText, Part, Rest, first_part};
 use crate::piece::{Piece, Token};
 use std::alloc::{AllocError, Global};
 
@@ -53,7 +53,7 @@ fn push_part<'b>(
         → All (IsPlaced file) pieces.old.items → OnOk result (All (IsPlaced file) pieces.new.items) }
 {
     push_text(pieces, part.line, part.start, part.text)?;
-    push_behind(alloc, pieces, tokens, part.behind)
+    push_after(alloc, pieces, tokens, part.after)
 }
 
 /// Adds a text, unless it is empty.
@@ -74,24 +74,24 @@ fn push_text<'b>(
     Ok(())
 }
 
-/// Adds what stands behind a text, with a copy of its tokens, unless it is nothing.
-fn push_behind<'b>(
+/// Adds what stands after a text, with a copy of its tokens, unless it is nothing.
+fn push_after<'b>(
     alloc: Global,
     pieces: &mut Vec<Piece<'b>>,
     tokens: &[Token<'b>],
-    behind: Behind,
+    after: AfterText,
 ) -> Result<(), AllocError>
     ensures pieces { OnOk result (map piece_of pieces.new.items
-        ≡ map piece_of pieces.old.items ++ pieces_behind tokens.now behind) }
+        ≡ map piece_of pieces.old.items ++ pieces_after tokens.now after) }
     ensures placed { (file : List ℕ) → All (IsPlaced file) pieces.old.items
         → OnOk result (All (IsPlaced file) pieces.new.items) }
 {
-    match behind {
-        Behind::Nothing => Ok(()),
-        Behind::Action(line) => {
+    match after {
+        AfterText::Nothing => Ok(()),
+        AfterText::Action(line) => {
             let tokens = tokens.to_vec(alloc)?;
             Ok(pieces.push(Piece::Action { line, tokens })?)
         }
-        Behind::Unreadable(line) => Ok(pieces.push(Piece::Unreadable { line })?),
+        AfterText::Unreadable(line) => Ok(pieces.push(Piece::Unreadable { line })?),
     }
 }

@@ -15,5 +15,5 @@ mod trim;
 pub use bytes::is_space;
 pub use cutter::cut;
 pub use laws::{one_cut, one_token};
-pub use part::{Behind, Part, Rest, first_part};
+pub use part::{AfterText, Part, Rest, first_part};
 pub use piece::{Piece, Token, TokenKind};

@@ -1,11 +1,11 @@
-//! The parts of a file, one after the other: a text, and what stands behind it.
+//! The parts of a file, one after the other: a text, and what stands after it.
 ghost use Rattle.std.specs.Prelude.{◌≡◌, ◌≤◌, ◌<◌, ◌+◌, ◌^◌, ℕ, [], IfOk, List, None, Some, false, length, option_map};
-ghost use Rattle.tmpl_lex.specs.Part.{IsCutBy, IsLeft, IsLeftBehind, pieces_behind, pieces_in};
+ghost use Rattle.tmpl_lex.specs.Part.{IsCutBy, IsLeft, IsLeftAfter, pieces_after, pieces_in};
 ghost use Rattle.tmpl_lex.specs.Place.{StandsAt};
 ghost use Rattle.tmpl_lex.specs.Text as count;
 ghost use Rattle.tmpl_lex.specs.declared.piece.Token as held;
 ghost use Rattle.tmpl_lex.specs.computed.Part as computed;
-ghost use Rattle.tmpl_lex.specs.computed.Part.{IsEndWithin, ends_at, pieces_of, rest_behind, split_open};
+ghost use Rattle.tmpl_lex.specs.computed.Part.{IsEndWithin, ends_at, pieces_of, rest_past, split_open};
 ghost use Rattle.tmpl_lex.specs.computed.View.{end_of, opened_of, rest_of};
 
 use crate::action::{Opened, read_opened};
@@ -25,9 +25,9 @@ pub struct Rest<'b> {
     pub trims: bool,
 }
 
-/// What stands behind a text, up to the end of an action or a comment, or of the file.
+/// What stands after a text, up to the end of an action or a comment, or of the file.
 #[derive(Clone, Copy, Debug, PartialEq, Eq)]
-pub enum Behind {
+pub enum AfterText {
     /// Nothing of the file, or a comment.
     Nothing,
     /// An action whose `{{` is on this line.
@@ -44,8 +44,8 @@ pub struct Part<'b> {
     pub start: usize,
     /// The text, which may be empty.
     pub text: &'b [u8],
-    pub behind: Behind,
-    /// What is left behind it, if anything is to be cut there.
+    pub after: AfterText,
+    /// What is left after it, if anything is to be cut there.
     pub rest: Option<Rest<'b>>,
 }
 
@@ -79,7 +79,7 @@ pub fn first_part<'b>(
     requires { IsLeft file.now rest }
     ensures cuts { IfOk result (λ p. IsCutBy rest.entry (pieces_in tokens.new.items p) p.rest) }
     ensures placed { IfOk result (λ p. StandsAt file.now p.start p.text.now) }
-    ensures left { IfOk result (λ p. IsLeftBehind file.now rest.entry p.rest) }
+    ensures left { IfOk result (λ p. IsLeftAfter file.now rest.entry p.rest) }
 {
     match split_pair(rest.bytes, b'{', b'{') {
         Some((before, after)) => part_before(file, rest, before, after, tokens),
@@ -99,7 +99,7 @@ fn part_before<'b>(
     requires first { Some (before.now, after.now) ≡ split_open rest.bytes.now }
     ensures cuts { IfOk result (λ p. IsCutBy rest.entry (pieces_in tokens.new.items p) p.rest) }
     ensures placed { IfOk result (λ p. StandsAt file.now p.start p.text.now) }
-    ensures left { IfOk result (λ p. IsLeftBehind file.now rest.entry p.rest) }
+    ensures left { IfOk result (λ p. IsLeftAfter file.now rest.entry p.rest) }
 {
     let (taken, kept) = split_leading(before, rest.trims);
     let line = rest.line + newlines(taken);
@@ -111,7 +111,7 @@ fn part_before<'b>(
         line,
         start,
         text,
-        behind: behind_of(here, opened),
+        after: after_of(here, opened),
         rest: rest_after(after, here, opened),
     })
 }
@@ -122,35 +122,35 @@ fn last_part<'b>(file: &'b [u8], rest: Rest<'b>) -> Part<'b>
     requires last { None ≡ split_open rest.bytes.now }
     ensures cuts { (tokens : List held.Token) → IsCutBy rest.entry (pieces_in tokens result) result.rest }
     ensures placed { StandsAt file.now result.start result.text.now }
-    ensures left { IsLeftBehind file.now rest.entry result.rest }
+    ensures left { IsLeftAfter file.now rest.entry result.rest }
 {
     let (taken, text) = split_leading(rest.bytes, rest.trims);
     Part {
         line: rest.line + newlines(taken),
         start: file.len() - rest.bytes.len() + taken.len(),
         text,
-        behind: Behind::Nothing,
+        after: AfterText::Nothing,
         rest: None,
     }
 }
 
-/// What something behind a `{{` on this line is.
-fn behind_of(line: u64, opened: Opened<'_>) -> Behind
+/// What something after a `{{` on this line is.
+fn after_of(line: u64, opened: Opened<'_>) -> AfterText
     ensures { (tokens : List held.Token)
-        → pieces_behind tokens result ≡ pieces_of line (opened_of tokens opened.entry) }
+        → pieces_after tokens result ≡ pieces_of line (opened_of tokens opened.entry) }
 {
     match opened {
-        Opened::Comment(_) => Behind::Nothing,
-        Opened::Action(_) => Behind::Action(line),
-        Opened::Neither => Behind::Unreadable(line),
+        Opened::Comment(_) => AfterText::Nothing,
+        Opened::Action(_) => AfterText::Action(line),
+        Opened::Neither => AfterText::Unreadable(line),
     }
 }
 
-/// What is left behind something that these bytes, behind a `{{` on this line, begin with.
+/// What is left after something that these bytes, after a `{{` on this line, begin with.
 fn rest_after<'b>(after: &'b [u8], line: u64, opened: Opened<'b>) -> Option<Rest<'b>>
     requires { IsEndWithin after.now line (ends_at (opened_of [] opened)) }
     ensures { (tokens : List held.Token) → option_map rest_of result
-        ≡ option_map (rest_behind after.now line) (ends_at (opened_of tokens opened.entry)) }
+        ≡ option_map (rest_past after.now line) (ends_at (opened_of tokens opened.entry)) }
 {
     match opened {
         Opened::Comment(end) | Opened::Action(end) => Some(rest_at(after, line, end)),
@@ -158,11 +158,11 @@ fn rest_after<'b>(after: &'b [u8], line: u64, opened: Opened<'b>) -> Option<Rest
     }
 }
 
-/// What is left behind this end.
+/// What is left after this end.
 fn rest_at<'b>(after: &'b [u8], line: u64, end: End<'b>) -> Rest<'b>
     requires within { length end.rest.now ≤ length after.now }
     requires fits { line + count.newlines (computed.stretch after.now end.rest.now) < 2 ^ 64 }
-    ensures { rest_of result ≡ rest_behind after.now line (end_of end.entry) }
+    ensures { rest_of result ≡ rest_past after.now line (end_of end.entry) }
 {
     Rest {
         bytes: end.rest,

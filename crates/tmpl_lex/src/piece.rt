@@ -13,7 +13,7 @@ pub enum TokenKind {
     Number,
     /// A dot and a longest name, not empty.
     Field,
-    /// A dot with no name behind it.
+    /// A dot with no name after it.
     Dot,
     /// A `$` and a longest name, perhaps empty.
     Variable,

@@ -1,4 +1,4 @@
-//! What stands behind an opening quote, up to its closing one.
+//! What stands after an opening quote, up to its closing one.
 ghost use Rattle.std.specs.Prelude.{◌≡◌, ◌≤◌, ◌==◌, ◌&&◌, IfSome, false, length, not};
 ghost use Rattle.tmpl_lex.specs.computed.Quoted as spec;
 ghost use Rattle.tmpl_lex.specs.computed.View.{taken_of};

@@ -15,7 +15,7 @@ pub(crate) fn split_leading(text: &[u8], trims: bool) -> (&[u8], &[u8])
     text.split_at(taken)
 }
 
-/// The text without the white space that a left trim marker behind it takes, if there is one.
+/// The text without the white space that a left trim marker after it takes, if there is one.
 pub(crate) fn trim_end(text: &[u8], trims: bool) -> &[u8]
     ensures { result.now ≡ computed.without_trailing trims text.now }
 {

@@ -24,7 +24,7 @@ pub(crate) fn front_token(bytes: &[u8]) -> Option<Token<'_>>
     })
 }
 
-/// The kind of the token that begins with this byte, and how many of the bytes behind it are its own.
+/// The kind of the token that begins with this byte, and how many of the bytes after it are its own.
 fn measure(first: u8, rest: &[u8]) -> Option<(TokenKind, usize)>
     ensures value { begun_of rest.now result ≡ spec.begun first rest.now }
     ensures within { IfSome result (λ p. p.1 ≤ length rest.now) }
@@ -40,7 +40,7 @@ fn measure(first: u8, rest: &[u8]) -> Option<(TokenKind, usize)>
     }
 }
 
-/// The same behind a byte that is neither white space nor of a name.
+/// The same after a byte that is neither white space nor of a name.
 fn measure_marked(first: u8, rest: &[u8]) -> Option<(TokenKind, usize)>
     ensures value { begun_of rest.now result ≡ spec.marked first rest.now }
     ensures within { IfSome result (λ p. p.1 ≤ length rest.now) }
@@ -75,7 +75,7 @@ fn space_len(bytes: &[u8]) -> usize
     }
 }
 
-/// Behind a `+` or `-`: a number, if a digit stands there.
+/// After a `+` or `-`: a number, if a digit stands there.
 fn measure_signed(rest: &[u8]) -> Option<(TokenKind, usize)>
     ensures value { begun_of rest.now result ≡ spec.signed rest.now }
     ensures within { IfSome result (λ p. p.1 ≤ length rest.now) }
@@ -88,7 +88,7 @@ fn measure_signed(rest: &[u8]) -> Option<(TokenKind, usize)>
     }
 }
 
-/// Behind a dot: a field, if a name stands there.
+/// After a dot: a field, if a name stands there.
 fn measure_dotted(rest: &[u8]) -> (TokenKind, usize)
     ensures value { (result.0, take result.1 rest.now) ≡ spec.dotted (spec.name_run rest.now) }
     ensures within { result.1 ≤ length rest.now }
@@ -99,7 +99,7 @@ fn measure_dotted(rest: &[u8]) -> (TokenKind, usize)
     }
 }
 
-/// Behind a colon: the sign that declares, if `=` stands there.
+/// After a colon: the sign that declares, if `=` stands there.
 fn measure_declare(rest: &[u8]) -> Option<(TokenKind, usize)>
     ensures value { begun_of rest.now result ≡ spec.assigned rest.now }
     ensures within { IfSome result (λ p. p.1 ≤ length rest.now) }

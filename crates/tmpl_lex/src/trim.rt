@@ -5,7 +5,7 @@ ghost use Rattle.tmpl_lex.specs.computed.View.{end_of};
 
 use crate::bytes::is_space;
 
-/// The end of an action or comment: whether a right trim marker ends it, and the bytes behind it.
+/// The end of an action or comment: whether a right trim marker ends it, and the bytes after it.
 #[derive(Clone, Copy)]
 pub(crate) struct End<'b> {
     pub(crate) trims: bool,
@@ -22,7 +22,7 @@ pub(crate) fn has_left_marker(bytes: &[u8]) -> bool
     }
 }
 
-/// The bytes behind the left trim marker, where there is one.
+/// The bytes after the left trim marker, where there is one.
 pub(crate) fn skip_left_marker(bytes: &[u8]) -> &[u8]
     ensures { result.now ≡ spec.past_left bytes.now }
 {

@@ -50,7 +50,7 @@ tree_of ns = record { file = codes "f"; nodes = ns }
 abbrev rules : MissingKey → ℕ → ℕ → Rules
 rules mode steps depth = record { missing_key = mode; step_limit = steps; depth_limit = depth }
 
--- a run with so many steps over this dot
+-- a run with this many steps over this dot
 abbrev run : ℕ → Nodes → Value → Ran
 run steps ns d = ran (rules Default steps 1000) [] (codes "t") (tree_of ns) (Some d)
 
@@ -103,7 +103,7 @@ print-of-a-fault : runs (then 1 (calls (operand (function Print) (operand (field
     ≡ stops [] 1 (lacks_field b)
 print-of-a-fault = refl
 
--- {{and "" (print "a")}}: the call behind the deciding operand is none
+-- {{and "" (print "a")}}: the call after the deciding operand is none
 cut-off-by-and : runs (then 1 (calls (operand (function And) (operand (text_constant [])
     (operand (group (command (operand (function Print) (operand letter no_operand)) no_command) []) no_operand)))) none) nothing ≡ puts []
 cut-off-by-and = refl

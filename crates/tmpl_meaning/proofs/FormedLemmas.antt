@@ -18,7 +18,7 @@ use Rattle.tmpl_syntax.specs.Tree as tree
 use Rattle.tmpl_syntax.specs.Tree.{NodeKind, Nodes, Tree, text, action, control_node, break_node, continue_node, template_node}
 use Rattle.tmpl_syntax.specs.Set.{Template, tree_named}
 use Rattle.tmpl_syntax.specs.Place.Role.{Name, assigned_by, names_of, names_given, used_by}
-use Rattle.tmpl_syntax.specs.Formed.{is_among, are_among, declared_to, else_scope, is_looped, scope_behind, is_formed, are_formed}
+use Rattle.tmpl_syntax.specs.Formed.{is_among, are_among, declared_to, else_scope, is_looped, scope_after, is_formed, are_formed}
 use Rattle.tmpl_syntax.proofs.FormedLemmas.{control-formed, or-left, or-right}
 use Rattle.tmpl_meaning.specs.Fault.{Cause, Fault}
 use Rattle.tmpl_meaning.specs.Meaning.{Calls, End, Next, Rules, Run, Setting, after, after_turn, assigned, bound, broke, continued, calls_within}
@@ -33,7 +33,7 @@ use Rattle.tmpl_meaning.proofs.PlaceLemmas.{names, pipeline-same}
 
 -- ---- lists of names
 
--- names, and behind them `$`
+-- names, and after them `$`
 abbrev full : List Name → List Name
 full ns = ns ++ [] ∷ []
 
@@ -85,7 +85,7 @@ bound-same (assign []) e env older start k = assigned-same [] e.1 env older star
 bound-same (assign (c ∷ cs)) e env older start k = assigned-same (c ∷ cs) e.1 env older (and_parts (is_among (names env) (c ∷ cs)) true k).0
 bound-same _ e env older start k = refl
 
--- ---- what holds behind a part of a run
+-- ---- what holds after a part of a run
 
 -- older names stay: those there were are the last
 abbrev Longer : Environment → Environment → Type 0
@@ -109,7 +109,7 @@ abbrev Any : End → List Name → Type 0
 Any end ns = Unit {0}
 
 -- from a run with these names on older names stay, no break or continue comes out of what is in no range, older variables play no part, and this
--- holds behind it
+-- holds after it
 abbrev Leaves : Bool → List Name → (End → List Name → Type 0) → Next → Type 0
 Leaves loop ns P part = (r : Run) → names r.env ≡ ns
     → Longer r.env (part r).0.env × (loop ≡ false → IsOver (part r).1) × FindsItsOwn part r × P (part r).1 (names (part r).0.env)
@@ -155,7 +155,7 @@ module _ (loop : Bool) (ns : List Name) (P : End → List Name → Type 0) (faul
       every (Ok v) h = h v
       every (Err cause) h = tt
 
--- what goes on behind a part that is done
+-- what goes on after a part that is done
 after-leaves : (loop : Bool) (ns middle left : List Name) (part go : Next) → Leaves loop ns (Done middle) part → Leaves loop middle (Done left) go
     → Leaves loop ns (Done left) (λ q. after (part q) go)
 after-leaves loop ns middle left part go h g r is =
@@ -188,7 +188,7 @@ oldest-same env more older l =
     omega (arith, long, length-append more older, length-append env older) in
     rw skipped (drop-append-le (length more - length env) more older (omega (arith, long)))
 
--- the names behind a scope are those before it, however it ends
+-- the names after a scope are those before it, however it ends
 scope-leaves : (loop : Bool) (ns : List Name) (P : End → List Name → Type 0) (part : Next) → Leaves loop ns P part → Leaves loop ns (These ns) (scope part)
 scope-leaves loop ns P part h r is =
     let p = h r is in
@@ -214,13 +214,13 @@ known-in h ns e =
     (sym (list_all-append (is_among (full ns)) (assigned_by h.binding) (used_by h.pipeline)) ∙ all-full ns (names_of h).uses e) in
     record { start = start-full ns; assigns = p.0; uses = p.1 }
 
--- a part behind a binding
+-- a part after a binding
 bound-leaves : (loop : Bool) (ns : List Name) (P : End → List Name → Type 0) (b : Binding) (e : Element) (part : Next) → is_among ns [] ≡ true
     → are_among ns (assigned_by b) ≡ true → Leaves loop (declared_to b ns) P part → Leaves loop ns P (λ r. part (with_bound b e r))
 bound-leaves loop ns P b e part start assigns h r is =
-    let behind = bound-names b e r.env in
-    let k = h (with_bound b e r) (rw behind (ap (declared_to b) is)) in (
-      longer-on r.env (bound b e r.env) (part (with_bound b e r)).0.env (by b behind) k.0,
+    let beyond = bound-names b e r.env in
+    let k = h (with_bound b e r) (rw beyond (ap (declared_to b) is)) in (
+      longer-on r.env (bound b e r.env) (part (with_bound b e r)).0.env (by b beyond) k.0,
       k.1,
       λ older. ap (λ env. part (record r { env = env })) (bound-same b e r.env older (rw is start) (rw is assigns)) ∙ k.2 older,
       k.3,
@@ -253,7 +253,7 @@ choosing-leaves s line h d loop ns body other known p q =
     known.start known.uses (λ v. bound-leaves loop ns Any h.binding (without_key v) (one_of (truth v) (body v) other) known.start known.assigns
     (one_of-leaves loop (declared_to h.binding ns) (truth v) (body v) other (p v) q))
 
--- what goes on behind one element, whatever it ends in
+-- what goes on after one element, whatever it ends in
 after_turn-leaves : (ns : List Name) (part go : Next) → Leaves true ns (These ns) part → Leaves false ns (These ns) go
     → Leaves false ns (These ns) (λ q. after_turn (part q) go)
 after_turn-leaves ns part go h g r is =
@@ -326,7 +326,7 @@ else-full _ b ns = declared-full b ns
 module _ (s : Setting) (calls : CallsEnd s.calls) where
   mutual
     stepped-leaves : (line : ℕ) (n : NodeKind) (d : Value) (ns : List Name) (loop : Bool) (levels : ℕ) → is_formed n ns loop levels ≡ true
-        → Leaves loop (full ns) (Done (full (scope_behind n ns))) (stepped s line n d)
+        → Leaves loop (full ns) (Done (full (scope_after n ns))) (stepped s line n d)
     stepped-leaves line (text bytes) d ns loop levels e = λ r is. (([], refl), λ f. tt, λ older. refl, λ f. is)
     stepped-leaves line (action h) d ns loop levels e =
         let known = known-in h ns e in
@@ -356,11 +356,11 @@ module _ (s : Setting) (calls : CallsEnd s.calls) where
         → Leaves loop (full ns) (Done (full (scope_past ms ns))) (meanings s ms d)
     nodes-leave tree.none d ns loop levels e = at_once loop (full ns) (Done (full ns)) done (λ f. tt) (λ f. refl)
     nodes-leave (tree.then line n ms) d ns loop levels e =
-        let p = and_parts (is_formed n ns loop levels) (are_formed ms (scope_behind n ns) loop levels) e in
-        let behind = scope_behind n ns in
-        after-leaves loop (full ns) (full behind) (full (scope_past ms behind)) (spend s line (stepped s line n d)) (meanings s ms d)
-        (spend-leaves loop (full ns) (Done (full behind)) (λ f e. absurd e) s line (stepped s line n d) (stepped-leaves line n d ns loop levels p.0))
-        (nodes-leave ms d behind loop levels p.1)
+        let p = and_parts (is_formed n ns loop levels) (are_formed ms (scope_after n ns) loop levels) e in
+        let beyond = scope_after n ns in
+        after-leaves loop (full ns) (full beyond) (full (scope_past ms beyond)) (spend s line (stepped s line n d)) (meanings s ms d)
+        (spend-leaves loop (full ns) (Done (full beyond)) (λ f e. absurd e) s line (stepped s line n d) (stepped-leaves line n d ns loop levels p.0))
+        (nodes-leave ms d beyond loop levels p.1)
 
 -- ---- calls of a set
 

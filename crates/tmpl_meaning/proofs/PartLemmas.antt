@@ -26,7 +26,7 @@ decided b v rest = if b then given (Ok v) else rest
 
 -- ---- parts of a template
 
--- the oldest so many variables
+-- this many of the oldest variables
 abbrev pub oldest : ℕ → Environment → Environment
 oldest n env = drop (length env - n) env
 
@@ -78,7 +78,7 @@ left_by end = option_map_or faulted (fault_of end) done
 
 -- ---- calls
 
--- .. behind which the variables are these
+-- .. after which the variables are these
 abbrev pub returned : Environment → Run × End → Run × End
 returned env part = (record part.0 { env = env }, left_by part.1)
 

@@ -1,4 +1,4 @@
--- For the law `formed_runs`: a pipeline whose names are there gives the same with older variables behind these.
+-- For the law `formed_runs`: a pipeline whose names are there gives the same with older variables after these.
 use Rattle.std.proofs.Common.{◌≡◌, ◌∙◌, ◌+◌, ◌++◌, ◌||◌, Bool, true, false, ℕ, List, [], ◌∷◌, Option, Some, None, Ok, length, option_to_list, ap}
 use Rattle.std.proofs.Common.{refl, sym, map, if◌then◌else◌}
 use Rattle.std.proofs.lemmas.Bool.{false≢true, and_parts}

@@ -3,10 +3,10 @@ use Rattle.std.specs.Prelude.{ℕ, List}
 use Rattle.tmpl_funcs.specs.declared.func.Func.{Func}
 use Rattle.tmpl_funcs.specs.declared.fault.CallFault.{CallFault}
 
--- why a run stops: no step is left of so many; what is no function is given an argument; `nil` stands for a command;
+-- why a run stops: no step is left of this many; what is no function is given an argument; `nil` stands for a command;
 -- a value has no fields, and one of this name is asked for; a map has no entry of this name; a value is not what a
 -- range visits; a function refuses what it is given; there is no template of this name to call; calls are deeper than
--- so many templates
+-- this many templates
 pub data Cause : Type 0 where
   steps_spent : ℕ → Cause
   not_a_function : Cause

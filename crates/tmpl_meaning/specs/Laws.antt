@@ -13,7 +13,7 @@ use Rattle.tmpl_syntax.specs.Parse.{Parses, base_name}
 use Rattle.tmpl_syntax.specs.Tree as tree
 use Rattle.tmpl_syntax.specs.Tree.{NodeKind, Nodes, Tree}
 use Rattle.tmpl_syntax.specs.Place.Role.{Name}
-use Rattle.tmpl_syntax.specs.Formed.{are_formed, scope_behind}
+use Rattle.tmpl_syntax.specs.Formed.{are_formed, scope_after}
 use Rattle.tmpl_syntax.specs.Print.Printed.{printed_set, unlined}
 use Rattle.tmpl_syntax.specs.Print.Laws.{unlined_template}
 use Rattle.tmpl_meaning.specs.Fault.{Cause, Fault, calls_too_deep, steps_spent}
@@ -33,11 +33,11 @@ JoinsByTable = (is_or : Bool) (s : Place) (os : Operands) (piped : Option Value)
     → takes (joining is_or) (length (vs ++ option_to_list piped)) ≡ true
     → (junction is_or s nothing os piped).result ≡ (applied (joining is_or) (vs ++ option_to_list piped)).result
 
--- however far a run has come, the text behind this part of it begins with the text before
+-- however far a run has come, the text after this part of it begins with the text before
 abbrev pub OnlyAdds : Next → Type 0
 OnlyAdds part = (r : Run) → (more : List ℕ) × ((part r).0.text ≡ r.text ++ more)
 
--- a template of this name, in a set where so many calls may be made inside one another
+-- a template of this name, in a set where this many calls may be made inside one another
 abbrev pub within : Rules → List Template → ℕ → List ℕ → Tree → Setting
 within rules set depth name t = setting_of rules (calls_within rules set depth) name t
 
@@ -57,10 +57,10 @@ NodesAdd = (rules : Rules) (set : List Template) (depth : ℕ) (name : List ℕ)
 abbrev pub HasScope : List Name → Run → Type 0
 HasScope scope r = map (λ v. v.0) r.env ≡ scope ++ [] ∷ []
 
--- the scope behind nodes
+-- the scope after nodes
 abbrev pub scope_past : Nodes → List Name → List Name
 scope_past tree.none scope = scope
-scope_past (tree.then line n ns) scope = scope_past ns (scope_behind n scope)
+scope_past (tree.then line n ns) scope = scope_past ns (scope_after n scope)
 
 -- where formed nodes are done, the variables have the names in scope, if they had them before
 abbrev pub StaysInScope : Type 0
@@ -70,7 +70,7 @@ StaysInScope = (rules : Rules) (set : List Template) (depth : ℕ) (name : List 
     → (meanings (within rules set depth name t) ns d r).1 ≡ done
     → HasScope (scope_past ns scope) (meanings (within rules set depth name t) ns d r).0
 
--- a run with older variables behind its own
+-- a run with older variables after its own
 abbrev pub with_older : Environment → Run → Run
 with_older older r = record r { env = r.env ++ older }
 

@@ -94,7 +94,7 @@ with_pipeline s line p d go r =
     let g = commands_value (record { missing_key = s.rules.missing_key; dot = d; env = r.env }) p None in
     with_value s line g.result go (record r { made_text = r.made_text || g.made_text })
 
--- a part whose variables last to its end: behind it there are the oldest, as many as there were before it, so those
+-- a part whose variables last to its end: after it there are the oldest, as many as there were before it, so those
 -- declared in it are gone, and values assigned stay
 abbrev pub scope : Next → Next
 scope part r = let q = part r in (record q.0 { env = drop (length q.0.env - length r.env) q.0.env }, q.1)
@@ -179,8 +179,8 @@ fault_of end = None
 abbrev pub setting_of : Rules → Calls → List ℕ → Tree → Setting
 setting_of rules calls name t = record { rules = rules; file = t.file; template = name; calls = calls }
 
--- what names call in this set, where so many calls may be made inside one another: a template sees no variable but `$`,
--- which is the value that is handed to it; behind it the variables are those of its caller, and it is done where it has
+-- what names call in this set, where this many calls may be made inside one another: a template sees no variable but `$`,
+-- which is the value that is handed to it; after it the variables are those of its caller, and it is done where it has
 -- no fault
 abbrev pub calls_within : Rules → List Template → ℕ → Calls
 calls_within rules set zero name =

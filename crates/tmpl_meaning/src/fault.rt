@@ -20,7 +20,7 @@ pub enum RunFaultKind<'a> {
     Call(Func, CallFault),
     /// A call of a template of this name, of which there is none.
     NoTemplate(&'a [u8]),
-    /// A call inside so many templates, which is as many as there may be, the starting one counted.
+    /// A call inside as many templates as there may be, the starting one counted.
     CallsTooDeep(u32),
 }
 

@@ -7,7 +7,7 @@ use tmpl_values::Put;
 #[derive(Clone, Copy, Debug)]
 pub struct Full;
 
-/// Memory that takes texts behind the bytes before `end`, until one does not fit: of that it takes nothing.
+/// Memory that takes texts after the bytes before `end`, until one does not fit: of that it takes nothing.
 #[derive(Drop)]
 pub struct Fixed<'m> {
     pub bytes: &'m mut [u8],
@@ -32,9 +32,9 @@ impl Put for Fixed<'_> {
             self.failures += 1;
             return Err(Full);
         }
-        let behind = end + bytes.len();
-        self.bytes[end..behind].copy_from_slice(bytes);
-        self.end = behind;
+        let after = end + bytes.len();
+        self.bytes[end..after].copy_from_slice(bytes);
+        self.end = after;
         Ok(())
     }
 }

@@ -9,8 +9,8 @@ pub fn joins_by_table()
     ensures { JoinsByTable }
 {}
 
-/// The law that a part of a template only adds to the text: however far a run has come, the text behind a node, and
-/// behind nodes one after the other, begins with the text before.
+/// The law that a part of a template only adds to the text: however far a run has come, the text after a node, and
+/// after nodes one after the other, begins with the text before.
 pub fn adds_to_text()
     ensures node { NodeAdds }
     ensures nodes { NodesAdd }
@@ -20,7 +20,7 @@ pub fn adds_to_text()
 /// variables have the names in scope, as they do at the start of a template, the run is the same whatever older
 /// variables there are, and leaves them as they are; so it plays no part what is said of a name without a variable.
 /// Nodes in no body of a range, as those of a template, end neither at a `break` nor at a `continue`. And where nodes
-/// are done, the variables have the names in scope behind them.
+/// are done, the variables have the names in scope after them.
 pub fn formed_runs()
     ensures finds { FindsNames }
     ensures ends { EndsInRange }

@@ -6,7 +6,7 @@ use Rattle.std.proofs.Math.Seq.{take-append_seam}
 use Rattle.tmpl_values.specs.Put.{Puts, appended, IsPut}
 use Rattle.tmpl_values.specs.computed.Put.{Took}
 
--- bytes that may not be told, and others behind them
+-- bytes that may not be told, and others after them
 pub appended-append : (old : Option (List ℕ)) (a b : List ℕ) → appended (appended old a) b ≡ appended old (a ++ b)
 appended-append None a b = refl
 appended-append (Some t) a b = ap Some (append_assoc t a b)

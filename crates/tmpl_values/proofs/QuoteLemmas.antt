@@ -33,7 +33,7 @@ pub inside-plain : (p : ℕ → Bool) (bs : List ℕ) (c : ℕ) → 0 < length b
 inside-plain p bs c h is plain =
     inside-char p bs c h is ∙ ap (λ s. s ++ inside p (drop (len_utf8 c) bs)) (plain ∙ sym (take-first_rune bs c is))
 
--- a plain run and a plain character behind it are a plain run
+-- a plain run and a plain character after it are a plain run
 pub inside-plain_run : (p : ℕ → Bool) (bs : List ℕ) (n m : ℕ) → inside p bs ≡ take n bs ++ inside p (drop n bs)
     → inside p (drop n bs) ≡ take m (drop n bs) ++ inside p (drop m (drop n bs))
     → inside p bs ≡ take (n + m) bs ++ inside p (drop (n + m) bs)

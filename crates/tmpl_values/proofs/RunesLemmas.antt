@@ -30,7 +30,7 @@ pub are_runes : (bs : List ℕ) → AreBytes bs → AreRunes (runes bs)
 unfolding runes one_list
 are_runes bs h = are_read bs h
 
--- the first rune, and those behind it
+-- the first rune, and those after it
 pub runes-first : (bs : List ℕ) (r : Rune) → 0 < length bs → first_rune bs ≡ r → runes bs ≡ r ∷ runes (drop (suc (tail_len r)) bs)
 unfolding runes one_list
 runes-first bs r h is = read-first bs r h is

@@ -1,4 +1,4 @@
--- The elements that a range visits ("Actions", at `range`), each behind its index or key: the items of a sequence in
+-- The elements that a range visits ("Actions", at `range`), each after its index or key: the items of a sequence in
 -- order and those of a mapping by key; and, as Go 1.24 has it, the whole numbers from 0 to before a number. That
 -- nothing and null have none, and that no other value may be ranged over, are our own rules.
 use Rattle.std.specs.Prelude.{ℕ, pos, List, [], ◌∷◌, map, slice_get, Option, Some, None, if◌then◌else◌}
@@ -23,7 +23,7 @@ keyed no_entry = []
 keyed (entry k v es) = (string k, v) ∷ keyed es
 
 -- the elements of a value, if it may be ranged over: the whole numbers from 0 to before a number, each its own index;
--- the items of a sequence, each behind its place; the entries of a mapping; and none of nothing and null
+-- the items of a sequence, each after its place; the entries of a mapping; and none of nothing and null
 abbrev pub elements : Value → Option (List Element)
 elements (number n) = Some (map (λ i. (number (pos i), number (pos i))) (range_with_len 0 (int_gap (pos 0) n)))
 elements (sequence vs) = Some (map (λ p. (number (pos p.0), p.1)) (enumerate_from 0 (listed vs)))

@@ -11,7 +11,7 @@ use Rattle.tmpl_values.specs.Rune.{Rune}
 use Rattle.tmpl_values.specs.Runes.{runes}
 use Rattle.tmpl_values.specs.Printable.{printable}
 
--- the codes with a letter of their own behind a backslash: the code, and the letter; 7, 8, 11 and 12 are the control
+-- the codes with a letter of their own after a backslash: the code, and the letter; 7, 8, 11 and 12 are the control
 -- codes bell, backspace, vertical tab and form feed
 abbrev pub letters : List (ℕ × ℕ)
 letters =

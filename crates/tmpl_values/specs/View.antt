@@ -47,6 +47,6 @@ abbrev pub IsShared : Val → Result Val AllocError → Type 0
 IsShared v (Ok w) = (val_of w ≡ val_of v) × (is_made w ≡ is_made v)
 IsShared v (Err e) = is_made v ≡ true
 
--- the element at a place, behind its index or key
+-- the element at a place, after its index or key
 abbrev pub element_of : Val × Val → Value × Value
 element_of p = (val_of p.0, val_of p.1)

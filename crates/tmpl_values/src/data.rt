@@ -18,7 +18,7 @@ pub enum Data {
     Map(Table),
 }
 
-/// Among so many entries a key is found sooner by a look at each than by halves.
+/// Among this many entries a key is found sooner by a look at each than by halves.
 const FEW: usize = 8;
 
 /// The items of a list, in order.

@@ -6,7 +6,7 @@ ghost use Rattle.tmpl_values.specs.Put.{Puts, IsPut};
 ///
 /// Its meaning is the bytes put so far, which it may leave untold, and how many puts failed, which
 /// it always tells. One that puts through a `&mut` tells the ghost name of that reference too, and
-/// each put keeps it: so what stands behind the reference afterwards is known to be what was put.
+/// each put keeps it: so what stands after the reference afterwards is known to be what was put.
 pub trait Put {
     type Fault: Drop;
 

@@ -89,7 +89,7 @@ fn plain_char(bytes: &[u8]) -> Option<char>
     }
 }
 
-/// The bytes after so many.
+/// The bytes after this many.
 fn after(bytes: &[u8], n: usize) -> &[u8]
     requires { n ≤ length bytes.now }
     ensures { result.now ≡ drop n bytes.now }
@@ -97,7 +97,7 @@ fn after(bytes: &[u8], n: usize) -> &[u8]
     &bytes[n..]
 }
 
-/// The letter that stands for a character behind a backslash, if it has one.
+/// The letter that stands for a character after a backslash, if it has one.
 fn letter_of(c: char) -> Option<u8>
     ensures { result ≡ letter_of c letters }
 {

@@ -92,7 +92,7 @@ impl<'a> Val<'a> {
     }
 
     /// The index or key at a place, and the element: the items of a list in order, from 0 on,
-    /// those of a map by rising keys, and the whole numbers from 0 to before a number, each behind
+    /// those of a map by rising keys, and the whole numbers from 0 to before a number, each after
     /// itself ("Actions" in the documentation of `text/template`, at `range`; the numbers as Go
     /// 1.24 has them). A number below 1, and other kinds, have none.
     pub fn item(&self, i: u64) -> Option<(Val<'a>, Val<'a>)>
@@ -234,7 +234,7 @@ pub fn count_below(n: i64) -> u64
     if n < 0 { 0 } else { n as u64 }
 }
 
-/// The whole number at a place, if it is below this one, behind itself.
+/// The whole number at a place, if it is below this one, after itself.
 fn number_item<'a>(n: i64, i: u64) -> Option<(Val<'a>, Val<'a>)>
     ensures value { option_map element_of result ≡ item_at i (number n) }
     ensures borrowed { IfSome result (λ p. (is_made p.0 ≡ false) × (is_made p.1 ≡ false)) }
@@ -246,7 +246,7 @@ fn number_item<'a>(n: i64, i: u64) -> Option<(Val<'a>, Val<'a>)>
     }
 }
 
-/// The item at a place, behind its index.
+/// The item at a place, after its index.
 fn list_item<'a>(items: &'a [Data], i: usize) -> Option<(Val<'a>, Val<'a>)>
     ensures value { option_map element_of result ≡ item_at i (sequence (items_of items.now)) }
     ensures borrowed { IfSome result (λ p. (is_made p.0 ≡ false) × (is_made p.1 ≡ false)) }
@@ -258,7 +258,7 @@ fn list_item<'a>(items: &'a [Data], i: usize) -> Option<(Val<'a>, Val<'a>)>
     }
 }
 
-/// The value at a place, behind its key.
+/// The value at a place, after its key.
 fn map_item<'a>(entries: &'a [(Bytes, Data)], i: usize) -> Option<(Val<'a>, Val<'a>)>
     ensures value { option_map element_of result ≡ item_at i (mapping (entries_of entries.now)) }
     ensures borrowed { IfSome result (λ p. (is_made p.0 ≡ false) × (is_made p.1 ≡ false)) }

@@ -10,7 +10,7 @@ use Rattle.tmpl_funcs.specs.declared.fault.CallFault.TheVariants.{FormatRefused}
 
 -- two texts that are there, one after the other
 abbrev pub both : Option (List ℕ) → Option (List ℕ) → Option (List ℕ)
-both front behind = option_and_then (λ s. option_map (λ t. s ++ t) behind) front
+both front after = option_and_then (λ s. option_map (λ t. s ++ t) after) front
 
 -- a text that is there was added; or there is none, and the format was refused; or memory was
 abbrev pub IsAdded : Option (List ℕ) → List ℕ → List ℕ → Result (Unit {0}) CallError → Type 0
@@ -19,7 +19,7 @@ IsAdded asked old new (Err (error.Fault FormatRefused)) = asked ≡ None
 IsAdded asked old new (Err error.OutOfMemory) = Unit {0}
 IsAdded asked old new _ = ⊥
 
--- a segment at the front was added, and what stands behind it and the values behind those that it
+-- a segment at the front was added, and what stands after it and the values after those that it
 -- took come to the rest; or there is no text, and the format was refused; or memory was
 abbrev pub IsSegmentAdded : List ℕ → List Value → List ℕ → List ℕ
     → Result (Bor (List ℕ) × ℕ) CallError → Type 0

@@ -8,7 +8,7 @@ abbrev pub place_if : Bool → ℕ → Result ℕ CallFault
 place_if true i = Ok i
 place_if false i = Err OutOfRange
 
--- the place that a number names among so many, counted from 0
+-- the place that a number names among this many, counted from 0
 abbrev pub place_among : Option ℤ → ℕ → Result ℕ CallFault
 place_among None n = Err WrongKind
 place_among (Some (pos i)) n = place_if (nat_lt i n) i

@@ -16,10 +16,10 @@ use Rattle.tmpl_funcs.specs.printf.Form.{WrittenForm, Segment, literal, percent,
 use Rattle.tmpl_funcs.specs.printf.Spelling.{form_bytes}
 use Rattle.tmpl_funcs.specs.printf.Spelling as spelling
 use Rattle.tmpl_funcs.specs.printf.Spelling.{IsForm, IsReading, IsReadAs}
-use Rattle.tmpl_funcs.specs.computed.Scan.{is_verb, takes_precision, verb_of, behind, verb_behind, form_at, first_segment, segment_bytes, segment_len, segments_after, segments_read}
-use Rattle.tmpl_funcs.specs.computed.Reading.{is_precision, is_short, pointed, form_if, form_by, precision_behind, rest_len, with_segment}
-use Rattle.tmpl_funcs.specs.computed.Front.{begins, take_while-append, behind-append, list_all-take_while, begins-behind}
-use Rattle.tmpl_funcs.specs.computed.Front.{take_while-behind, take_while-passing}
+use Rattle.tmpl_funcs.specs.computed.Scan.{is_verb, takes_precision, verb_of, after, verb_after, form_at, first_segment, segment_bytes, segment_len, segments_after, segments_read}
+use Rattle.tmpl_funcs.specs.computed.Reading.{is_precision, is_short, pointed, form_if, form_by, precision_after, rest_len, with_segment}
+use Rattle.tmpl_funcs.specs.computed.Front.{begins, take_while-append, after-append, list_all-take_while, begins-after}
+use Rattle.tmpl_funcs.specs.computed.Front.{take_while-after, take_while-passing}
 use Rattle.std.proofs.lemmas.Bool.{and_parts}
 
 -- ---- the parts of a form
@@ -107,13 +107,13 @@ segment_len-is (form f) =
     let tail : List ℕ = pointed f.precision ++ f.verb ∷ [] in
     omega (arith, length-append f.flags (f.width ++ tail), length-append f.width tail, pointed-len f.precision f.verb)
 
--- the first segment before those behind it, as one is read
+-- the first segment before those after it, as one is read
 pub segments-before : (o : Option Segment) (bs : List ℕ)
     → option_and_then (λ p. option_map (λ ps. p ∷ ps) (segments_after (segment_len p - 1) bs)) o ≡ with_segment o (segments_after (rest_len o) bs)
 segments-before None bs = refl
 segments-before (Some p) bs = ap (λ n. option_map (λ ps. p ∷ ps) (segments_after (n - 1) bs)) (segment_len-is p)
 
--- the first segment, and those behind it
+-- the first segment, and those after it
 pub read-first : (b : ℕ) (bs : List ℕ) (p : Option Segment) → first_segment (b ∷ bs) ≡ p
     → segments_read (b ∷ bs) ≡ with_segment p (segments_read (drop (rest_len p) bs))
 unfolding segments_read
@@ -186,20 +186,20 @@ module _ (v : ℕ) (is_one : is_verb v ≡ true) (rest : List ℕ) where
       begins-front is_plain is_flag flags _ rest is_plain-flag flags_all
       (begins-front is_plain is_ascii_digit width _ rest is_plain-decimal all (pointed-first is_plain true p refl (letter-IsLetter v is_one).plain))
 
-  verb_behind-letter : (flags width : List ℕ) (p : Option (List ℕ)) → is_short width ≡ true → is_precision p v ≡ true
-      → verb_behind flags width p (v ∷ rest) ≡ Some (record { flags = flags; width = width; precision = p; verb = v })
-  verb_behind-letter flags width p short fits = rw (is_one, short, fits) refl
+  verb_after-letter : (flags width : List ℕ) (p : Option (List ℕ)) → is_short width ≡ true → is_precision p v ≡ true
+      → verb_after flags width p (v ∷ rest) ≡ Some (record { flags = flags; width = width; precision = p; verb = v })
+  verb_after-letter flags width p short fits = rw (is_one, short, fits) refl
 
-  precision_behind-pointed : (flags width : List ℕ) (p : Option (List ℕ)) → is_short width ≡ true → IsPrecision p v
-      → precision_behind flags width ((pointed p ++ v ∷ []) ++ rest) ≡ Some (record { flags = flags; width = width; precision = p; verb = v })
-  precision_behind-pointed flags width None short fits = rw (letter-IsLetter v is_one).point (verb_behind-letter flags width None short refl)
-  precision_behind-pointed flags width (Some ds) short fits =
+  precision_after-pointed : (flags width : List ℕ) (p : Option (List ℕ)) → is_short width ≡ true → IsPrecision p v
+      → precision_after flags width ((pointed p ++ v ∷ []) ++ rest) ≡ Some (record { flags = flags; width = width; precision = p; verb = v })
+  precision_after-pointed flags width None short fits = rw (letter-IsLetter v is_one).point (verb_after-letter flags width None short refl)
+  precision_after-pointed flags width (Some ds) short fits =
       let stop : begins is_ascii_digit (v ∷ rest) ≡ false = (letter-IsLetter v is_one).digit in
       rw (
         append_assoc ds (v ∷ []) rest,
         take_while-append is_ascii_digit ds (v ∷ rest) fits.0 stop,
-        behind-append is_ascii_digit ds (v ∷ rest) fits.0 stop,
-      ) (verb_behind-letter flags width (Some ds) short (rw (fits.1, fits.2) refl))
+        after-append is_ascii_digit ds (v ∷ rest) fits.0 stop,
+      ) (verb_after-letter flags width (Some ds) short (rw (fits.1, fits.2) refl))
 
 -- a form is read as it is spelled
 form_at-form_bytes : (f : WrittenForm) (rest : List ℕ) → IsForm f → form_at (form_bytes f ++ rest) ≡ Some f
@@ -211,18 +211,18 @@ form_at-form_bytes f rest is =
     rw (
       append_assoc f.flags (f.width ++ tail) rest,
       take_while-append is_flag f.flags ((f.width ++ tail) ++ rest) is.flags stop,
-      behind-append is_flag f.flags ((f.width ++ tail) ++ rest) is.flags stop,
+      after-append is_flag f.flags ((f.width ++ tail) ++ rest) is.flags stop,
       append_assoc f.width tail rest,
       take_while-append is_ascii_digit f.width (tail ++ rest) is.width digits,
-      behind-append is_ascii_digit f.width (tail ++ rest) is.width digits,
+      after-append is_ascii_digit f.width (tail ++ rest) is.width digits,
     )
-    (precision_behind-pointed f.verb is.verb rest f.flags f.width f.precision is.short is.precision)
+    (precision_after-pointed f.verb is.verb rest f.flags f.width f.precision is.short is.precision)
 
 first_segment-form_at : (bs : List ℕ) (f : WrittenForm) → begins is_plain bs ≡ true → form_at bs ≡ Some f → first_segment (37 ∷ bs) ≡ Some (form f)
 first_segment-form_at [] f h is = cc
 first_segment-form_at (b ∷ bs) f h is = first_segment-form b bs (Some f) h is
 
--- what stands behind a run does not begin with a plain byte
+-- what stands after a run does not begin with a plain byte
 begins-no_run : (ps : List Segment) → IsNoRun ps → begins is_plain (flat_map segment_bytes ps) ≡ false
 begins-no_run [] h = refl
 begins-no_run (literal run ∷ ps) h = absurd h
@@ -292,27 +292,27 @@ module _ (flags width : List ℕ) (p : Option (List ℕ)) (digits : AreDigits p)
         verb = (letter-verb_of b v is).1;
       }
 
-  verb_behind-sound : (bs : List ℕ) → IfSome (verb_behind flags width p bs) (IsFound flags width (flags ++ (width ++ (pointed p ++ bs))))
-  verb_behind-sound [] = tt
-  verb_behind-sound (b ∷ bs) = form_by-sound b bs (verb_of b) refl
+  verb_after-sound : (bs : List ℕ) → IfSome (verb_after flags width p bs) (IsFound flags width (flags ++ (width ++ (pointed p ++ bs))))
+  verb_after-sound [] = tt
+  verb_after-sound (b ∷ bs) = form_by-sound b bs (verb_of b) refl
 
 module _ (flags width : List ℕ) where
-  precision_behind-by : (b : ℕ) (bs : List ℕ) (t : Bool) → (b == 46) ≡ t
-      → IfSome (cond t (verb_behind flags width (Some (take_while is_ascii_digit bs)) (behind is_ascii_digit bs)) (verb_behind flags width None (b ∷ bs)))
+  precision_after-by : (b : ℕ) (bs : List ℕ) (t : Bool) → (b == 46) ≡ t
+      → IfSome (cond t (verb_after flags width (Some (take_while is_ascii_digit bs)) (after is_ascii_digit bs)) (verb_after flags width None (b ∷ bs)))
       (IsFound flags width (flags ++ (width ++ b ∷ bs)))
-  precision_behind-by b bs true is =
+  precision_after-by b bs true is =
       let point : 46 ≡ b = grind (arith, nat_tests) in
-      subst (λ t. IfSome (verb_behind flags width (Some (take_while is_ascii_digit bs)) (behind is_ascii_digit bs))
+      subst (λ t. IfSome (verb_after flags width (Some (take_while is_ascii_digit bs)) (after is_ascii_digit bs))
       (IsFound flags width (flags ++ (width ++ t))))
-      (λ i. point i ∷ take_while-behind is_ascii_digit bs i)
-      (verb_behind-sound flags width (Some (take_while is_ascii_digit bs)) (list_all-take_while is_ascii_digit bs) (behind is_ascii_digit bs))
-  precision_behind-by b bs false is = verb_behind-sound flags width None tt (b ∷ bs)
+      (λ i. point i ∷ take_while-after is_ascii_digit bs i)
+      (verb_after-sound flags width (Some (take_while is_ascii_digit bs)) (list_all-take_while is_ascii_digit bs) (after is_ascii_digit bs))
+  precision_after-by b bs false is = verb_after-sound flags width None tt (b ∷ bs)
 
-  precision_behind-sound : (bs : List ℕ) → IfSome (precision_behind flags width bs) (IsFound flags width (flags ++ (width ++ bs)))
-  precision_behind-sound [] = tt
-  precision_behind-sound (b ∷ bs) = precision_behind-by b bs (b == 46) refl
+  precision_after-sound : (bs : List ℕ) → IfSome (precision_after flags width bs) (IsFound flags width (flags ++ (width ++ bs)))
+  precision_after-sound [] = tt
+  precision_after-sound (b ∷ bs) = precision_after-by b bs (b == 46) refl
 
--- digits behind what is no flag do not begin with 0
+-- digits after what is no flag do not begin with 0
 begins_above_0-digits : (bs : List ℕ) → begins is_flag bs ≡ false → begins_above_0 (take_while is_ascii_digit bs) ≡ true
 begins_above_0-digits [] stop = refl
 begins_above_0-digits (b ∷ bs) stop = rw (take_while-cons is_ascii_digit b bs) (grind (arith, nat_tests))
@@ -324,19 +324,19 @@ BeginsWith bs f = IsForm f × (bs ≡ form_bytes f ++ drop (length (form_bytes f
 form_at-sound : (bs : List ℕ) → IfSome (form_at bs) (BeginsWith bs)
 unfolding form_at
 form_at-sound bs =
-    let tail : List ℕ = behind is_flag bs in
+    let tail : List ℕ = after is_flag bs in
     let flags : List ℕ = take_while is_flag bs in
     let width : List ℕ = take_while is_ascii_digit tail in
-    IfSome_then _ {Q = BeginsWith bs} (precision_behind-sound flags width (behind is_ascii_digit tail))
-    (λ f (parts : IsFound flags width (flags ++ (width ++ behind is_ascii_digit tail)) f).
-    let spells : bs ≡ form_bytes f ++ parts.rest = sym (ap (λ t. flags ++ t) (take_while-behind is_ascii_digit tail) ∙ take_while-behind is_flag bs)
+    IfSome_then _ {Q = BeginsWith bs} (precision_after-sound flags width (after is_ascii_digit tail))
+    (λ f (parts : IsFound flags width (flags ++ (width ++ after is_ascii_digit tail)) f).
+    let spells : bs ≡ form_bytes f ++ parts.rest = sym (ap (λ t. flags ++ t) (take_while-after is_ascii_digit tail) ∙ take_while-after is_flag bs)
     ∙ parts.spells in
     let left : drop (length (form_bytes f)) bs ≡ parts.rest = ap (drop (length (form_bytes f))) spells ∙ drop-append_seam (form_bytes f) parts.rest in (
       record {
         flags = ap (list_all is_flag) parts.flags_is ∙ list_all-take_while is_flag bs;
         width = ap (list_all is_ascii_digit) parts.width_is ∙ list_all-take_while is_ascii_digit tail;
         short = ap is_short parts.width_is ∙ parts.short;
-        above = above-told f.width (ap begins_above_0 parts.width_is ∙ begins_above_0-digits tail (begins-behind is_flag bs));
+        above = above-told f.width (ap begins_above_0 parts.width_is ∙ begins_above_0-digits tail (begins-after is_flag bs));
         precision = parts.precision;
         verb = parts.verb;
       },
@@ -349,11 +349,11 @@ data FirstOf (b : ℕ) (bs : List ℕ) : Segment → Type 0 where
   a_percent : (cs : List ℕ) → b ≡ 37 → bs ≡ 37 ∷ cs → FirstOf b bs percent
   a_form : (f : WrittenForm) → b ≡ 37 → BeginsWith bs f → FirstOf b bs (form f)
 
-segment_behind-by : (b : ℕ) (bs : List ℕ) → b ≡ 37 → (t : Bool) → (get_or bs 0 0 == 37) ≡ t
+segment_after-by : (b : ℕ) (bs : List ℕ) → b ≡ 37 → (t : Bool) → (get_or bs 0 0 == 37) ≡ t
     → IfSome (cond t (Some percent) (option_map form (form_at bs))) (FirstOf b bs)
-segment_behind-by b [] is true e = cc
-segment_behind-by b (c ∷ cs) is true e = let second : c ≡ 37 = grind (arith, nat_tests) in a_percent cs is (ap (λ d. d ∷ cs) second)
-segment_behind-by b bs is false e = go (form_at bs) (form_at-sound bs)
+segment_after-by b [] is true e = cc
+segment_after-by b (c ∷ cs) is true e = let second : c ≡ 37 = grind (arith, nat_tests) in a_percent cs is (ap (λ d. d ∷ cs) second)
+segment_after-by b bs is false e = go (form_at bs) (form_at-sound bs)
   where
     go : (o : Option WrittenForm) → IfSome o (BeginsWith bs) → IfSome (option_map form o) (FirstOf b bs)
     go None sound = tt
@@ -362,7 +362,7 @@ segment_behind-by b bs is false e = go (form_at bs) (form_at-sound bs)
 first_segment-by : (b : ℕ) (bs : List ℕ) (t : Bool) → (b == 37) ≡ t
     → IfSome (cond (not t) (Some (literal (take_while is_plain (b ∷ bs)))) (cond (get_or bs 0 0 == 37) (Some percent) (option_map form (form_at bs))))
     (FirstOf b bs)
-first_segment-by b bs true e = segment_behind-by b bs (grind (arith, nat_tests)) (get_or bs 0 0 == 37) refl
+first_segment-by b bs true e = segment_after-by b bs (grind (arith, nat_tests)) (get_or bs 0 0 == 37) refl
 first_segment-by b bs false e =
     let plain : is_plain b ≡ true = rw e refl in rw (take_while-passing is_plain b bs plain) (a_run plain)
 
@@ -376,9 +376,9 @@ IsSound-cons : (b : ℕ) (bs : List ℕ) (p : Segment) (ps : List Segment) → F
 IsSound-cons b bs _ ps (a_run plain) sound =
     let run : List ℕ = take_while is_plain bs in
     let n : suc (length run) - 1 ≡ prefix_len is_plain bs = omega (arith, length-take (prefix_len is_plain bs) bs, prefix_len-le-length is_plain bs) in
-    let left : drop (suc (length run) - 1) bs ≡ behind is_plain bs = ap (λ k. drop k bs) n in record {
-      spells = ap (λ t. b ∷ t) (sym (take_while-behind is_plain bs) ∙ ap (λ r. run ++ r) (sym left ∙ sound.spells));
-      segments = (rw plain (list_all-take_while is_plain bs), sound.apart (ap (begins is_plain) left ∙ begins-behind is_plain bs), sound.segments);
+    let left : drop (suc (length run) - 1) bs ≡ after is_plain bs = ap (λ k. drop k bs) n in record {
+      spells = ap (λ t. b ∷ t) (sym (take_while-after is_plain bs) ∙ ap (λ r. run ++ r) (sym left ∙ sound.spells));
+      segments = (rw plain (list_all-take_while is_plain bs), sound.apart (ap (begins is_plain) left ∙ begins-after is_plain bs), sound.segments);
       apart = λ no. absurd (false≢true (sym no ∙ plain));
     }
 IsSound-cons b bs _ ps (a_percent cs is second) sound = record {

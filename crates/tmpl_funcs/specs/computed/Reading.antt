@@ -7,7 +7,7 @@ use Rattle.std.specs.List.{take_while}
 use Rattle.std.specs.Option.{option_map_or}
 use Rattle.std.specs.Str.{byte}
 use Rattle.tmpl_funcs.specs.printf.Form.{WrittenForm, Segment, form_of}
-use Rattle.tmpl_funcs.specs.computed.Scan.{behind, segment_bytes, takes_precision, verb_behind}
+use Rattle.tmpl_funcs.specs.computed.Scan.{after, segment_bytes, takes_precision, verb_after}
 use Rattle.tmpl_funcs.specs.printf.Spelling.{form_bytes}
 use Rattle.tmpl_funcs.specs.computed.View.{form_seen}
 use Rattle.tmpl_funcs.specs.declared.printf.form.Form as held
@@ -16,7 +16,7 @@ use Rattle.tmpl_funcs.specs.declared.printf.form.Form as held
 abbrev pub number_after : ℕ → List ℕ → ℕ
 number_after = fold (λ n d. 10 * n + (d - byte "0"))
 
--- the precision, behind a point
+-- the precision, after a point
 abbrev pub pointed : Option (List ℕ) → List ℕ
 pointed precision = option_map_or (λ digits. byte "." ∷ digits) precision []
 
@@ -39,25 +39,25 @@ form_by flags width precision verb =
     option_and_then (λ v. form_if (is_short width && is_precision precision v) flags width precision v) verb
 
 -- the form whose precision, if it has one, stands next
-abbrev pub precision_behind : List ℕ → List ℕ → List ℕ → Option WrittenForm
-precision_behind flags width bs =
+abbrev pub precision_after : List ℕ → List ℕ → List ℕ → Option WrittenForm
+precision_after flags width bs =
     if slice_index bs 0 == byte "."
-    then verb_behind flags width (Some (take_while is_ascii_digit (drop 1 bs))) (behind is_ascii_digit (drop 1 bs))
-    else verb_behind flags width None bs
+    then verb_after flags width (Some (take_while is_ascii_digit (drop 1 bs))) (after is_ascii_digit (drop 1 bs))
+    else verb_after flags width None bs
 
 -- the form whose width, if it has one, stands next
-abbrev pub width_behind : List ℕ → List ℕ → Option WrittenForm
-width_behind flags bs = precision_behind flags (take_while is_ascii_digit bs) (behind is_ascii_digit bs)
+abbrev pub width_after : List ℕ → List ℕ → Option WrittenForm
+width_after flags bs = precision_after flags (take_while is_ascii_digit bs) (after is_ascii_digit bs)
 
 -- how many bytes of a segment follow its first
 abbrev pub rest_len : Option Segment → ℕ
 rest_len o = option_map_or (λ p. length (segment_bytes p) - 1) o 0
 
--- a segment before those behind it
+-- a segment before those after it
 abbrev pub with_segment : Option Segment → Option (List Segment) → Option (List Segment)
-with_segment segment behind = option_and_then (λ p. option_map (λ ps. p ∷ ps) behind) segment
+with_segment segment after = option_and_then (λ p. option_map (λ ps. p ∷ ps) after) segment
 
--- the form asked for was read at the front of these bytes, and what stands behind it
+-- the form asked for was read at the front of these bytes, and what stands after it
 abbrev pub IsRead : Option WrittenForm → List ℕ → Option (held.Form × Bor (List ℕ)) → Type 0
 IsRead asked bytes None = asked ≡ None
 IsRead asked bytes (Some read) = (f : WrittenForm) × (asked ≡ Some f) × (form_seen read.0 ≡ form_of f)

@@ -22,28 +22,28 @@ takes_precision letter = letter == byte "s"
 abbrev pub verb_of : ℕ → Option ℕ
 verb_of b = if is_verb b then Some b else None
 
--- what stands behind the longest front whose bytes pass a test
-abbrev pub behind : (ℕ → Bool) → List ℕ → List ℕ
-behind p bs = drop (prefix_len p bs) bs
+-- what stands after the longest front whose bytes pass a test
+abbrev pub after : (ℕ → Bool) → List ℕ → List ℕ
+after p bs = drop (prefix_len p bs) bs
 
 -- the form of these parts, where the letter of a verb stands next: width and precision have at most four digits, and
 -- the verb may have the precision
-abbrev pub verb_behind : List ℕ → List ℕ → Option (List ℕ) → List ℕ → Option WrittenForm
-verb_behind flags width precision bs =
+abbrev pub verb_after : List ℕ → List ℕ → Option (List ℕ) → List ℕ → Option WrittenForm
+verb_after flags width precision bs =
     option_and_then (λ verb.
     if nat_le (length width) 4 && option_map_or (λ ds. nat_le (length ds) 4 && takes_precision verb) precision true
     then Some (record { flags = flags; width = width; precision = precision; verb = verb })
     else None) (option_and_then verb_of (slice_get bs 0))
 
--- the form at the front of what stands behind a `%`: flags, a width, and a precision if a point stands next
+-- the form at the front of what stands after a `%`: flags, a width, and a precision if a point stands next
 unfoldable pub form_at : List ℕ → Option WrittenForm
 form_at bs =
-    let sized = behind is_flag bs in
-    let pointed = behind is_ascii_digit sized in
-    let read = verb_behind (take_while is_flag bs) (take_while is_ascii_digit sized) in
+    let sized = after is_flag bs in
+    let pointed = after is_ascii_digit sized in
+    let read = verb_after (take_while is_flag bs) (take_while is_ascii_digit sized) in
     let digits = drop 1 pointed in
     if slice_index pointed 0 == byte "."
-    then read (Some (take_while is_ascii_digit digits)) (behind is_ascii_digit digits) else read None pointed
+    then read (Some (take_while is_ascii_digit digits)) (after is_ascii_digit digits) else read None pointed
 
 -- the segment at the front of bytes that are not empty
 abbrev pub first_segment : List ℕ → Option Segment
@@ -57,7 +57,7 @@ segment_len (literal run) = length run
 segment_len percent = 2
 segment_len (form f) = 2 + length f.flags + length f.width + option_map_or (λ digits. 1 + length digits) f.precision 0
 
--- the segments after so many bytes that belong to the segment before
+-- the segments after this many bytes that belong to the segment before
 abbrev pub segments_after : ℕ → List ℕ → Option (List Segment)
 segments_after n [] = Some []
 segments_after (suc n) (b ∷ bs) = segments_after n bs

@@ -5,14 +5,14 @@ use Rattle.std.specs.Str.{byte}
 use Rattle.tmpl_values.specs.Runes.{runes}
 use Rattle.tmpl_funcs.specs.printf.Form.{Form}
 
--- a text with what it lacks to a width, counted in runes: spaces before it, or behind it with the
+-- a text with what it lacks to a width, counted in runes: spaces before it, or after it with the
 -- flag `-`
 abbrev pub padded : Form → List ℕ → List ℕ
 padded f text =
     let spaces = replicate (f.width - length (runes text)) (byte " ") in
     if f.minus then text ++ spaces else spaces ++ text
 
--- a sign and digits with what they lack to the width: spaces behind them with the flag `-`, else
+-- a sign and digits with what they lack to the width: spaces after them with the flag `-`, else
 -- with the flag `0` zeros between them, else spaces before them
 abbrev pub laid_out : Form → List ℕ → List ℕ → List ℕ
 laid_out f s ds =

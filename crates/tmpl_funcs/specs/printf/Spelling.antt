@@ -8,7 +8,7 @@ use Rattle.std.specs.Str.{byte}
 use Rattle.tmpl_funcs.specs.printf.Directive.{printer}
 use Rattle.tmpl_funcs.specs.printf.Form.{WrittenForm, Segment, literal, percent, form, is_plain, is_flag}
 
--- how a form is spelled behind its `%`, with a point before its precision
+-- how a form is spelled after its `%`, with a point before its precision
 abbrev pub form_bytes : WrittenForm → List ℕ
 form_bytes f = f.flags ++ (f.width ++ (option_map_or (λ digits. byte "." ∷ digits) f.precision [] ++ f.verb ∷ []))
 

@@ -53,8 +53,8 @@ fn add_formatted(format: &[u8], operands: &[Cell<'_>], bytes: &mut Vec<u8>) -> R
     let mut rest = format;
     let mut used = 0;
     while rest.len() > 0 {
-        let (behind, taken) = add_segment(rest, &operands[used..], bytes)?;
-        rest = behind;
+        let (after, taken) = add_segment(rest, &operands[used..], bytes)?;
+        rest = after;
         used += taken;
     }
     if used == operands.len() {
@@ -64,7 +64,7 @@ fn add_formatted(format: &[u8], operands: &[Cell<'_>], bytes: &mut Vec<u8>) -> R
     }
 }
 
-/// Adds the text of the segment at the front, and gives what stands behind it and how many operands
+/// Adds the text of the segment at the front, and gives what stands after it and how many operands
 /// it took.
 fn add_segment<'f>(
     format: &'f [u8],
@@ -82,15 +82,15 @@ fn add_segment<'f>(
     }
     match &format[1..] {
         [] => Err(CallError::Fault(CallFault::FormatRefused)),
-        [b'%', behind @ ..] => {
+        [b'%', after @ ..] => {
             bytes.push(b'%')?;
-            Ok((behind, 0))
+            Ok((after, 0))
         }
         spelled => add_form(spelled, operands, bytes),
     }
 }
 
-/// Adds the text of the form that stands behind a `%`.
+/// Adds the text of the form that stands after a `%`.
 fn add_form<'f>(
     spelled: &'f [u8],
     operands: &[Cell<'_>],
@@ -101,14 +101,14 @@ fn add_form<'f>(
     ensures { IsSegmentAdded (37 ∷ spelled.now) (values_of operands.now)
         bytes.old.items bytes.new.items result }
 {
-    let Some((form, behind)) = read_form(spelled) else {
+    let Some((form, after)) = read_form(spelled) else {
         return Err(CallError::Fault(CallFault::FormatRefused));
     };
     match operands {
         [] => Err(CallError::Fault(CallFault::FormatRefused)),
         [operand, ..] => {
             add_printed(form, &operand.val, bytes)?;
-            Ok((behind, 1))
+            Ok((after, 1))
         }
     }
 }

@@ -73,7 +73,7 @@ pub(crate) fn add_laid_out(
     }
 }
 
-/// Adds a byte so many times.
+/// Adds a byte this many times.
 fn add_repeated(byte: u8, count: usize, bytes: &mut Vec<u8>) -> Result<(), AllocError>
     ensures { OnOk result (bytes.new.items ≡ bytes.old.items ++ replicate count byte) }
 {

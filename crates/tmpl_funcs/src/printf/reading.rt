@@ -1,8 +1,8 @@
 //! The reading of a form.
 ghost use Rattle.std.specs.Prelude.{◌≡◌, ◌≤◌, ◌++◌, length, option_map, Some};
 ghost use Rattle.tmpl_funcs.specs.printf.Form.{form_of, number_in};
-ghost use Rattle.tmpl_funcs.specs.computed.Scan.{form_at, verb_behind, verb_of};
-ghost use Rattle.tmpl_funcs.specs.computed.Reading.{form_by, pointed, precision_behind, width_behind, IsRead};
+ghost use Rattle.tmpl_funcs.specs.computed.Scan.{form_at, verb_after, verb_of};
+ghost use Rattle.tmpl_funcs.specs.computed.Reading.{form_by, pointed, precision_after, width_after, IsRead};
 ghost use Rattle.tmpl_funcs.specs.computed.View.{form_seen, letter_of};
 
 use super::class::Class;
@@ -11,7 +11,7 @@ use super::form::{Form, Verb};
 /// The most digits that a width or a precision has.
 const MOST_DIGITS: usize = 4;
 
-/// Reads the form at the front of what stands behind a `%`, and gives what stands behind it.
+/// Reads the form at the front of what stands after a `%`, and gives what stands after it.
 pub(crate) fn read_form(bytes: &[u8]) -> Option<(Form, &[u8])>
     ensures { IsRead (form_at bytes.now) bytes.now result }
 {
@@ -21,7 +21,7 @@ pub(crate) fn read_form(bytes: &[u8]) -> Option<(Form, &[u8])>
 
 /// Reads a form from its width on.
 fn read_width<'a>(flags: &[u8], bytes: &'a [u8]) -> Option<(Form, &'a [u8])>
-    ensures { IsRead (width_behind flags.now bytes.now) (flags.now ++ bytes.now) result }
+    ensures { IsRead (width_after flags.now bytes.now) (flags.now ++ bytes.now) result }
 {
     let n = Class::Digit.front_len(bytes);
     read_precision(flags, &bytes[..n], &bytes[n..])
@@ -29,7 +29,7 @@ fn read_width<'a>(flags: &[u8], bytes: &'a [u8]) -> Option<(Form, &'a [u8])>
 
 /// Reads a form from its precision on.
 fn read_precision<'a>(flags: &[u8], width: &[u8], bytes: &'a [u8]) -> Option<(Form, &'a [u8])>
-    ensures { IsRead (precision_behind flags.now width.now bytes.now)
+    ensures { IsRead (precision_after flags.now width.now bytes.now)
         (flags.now ++ (width.now ++ bytes.now)) result }
 {
     match bytes {
@@ -49,7 +49,7 @@ fn read_verb<'a>(
     bytes: &'a [u8],
 ) -> Option<(Form, &'a [u8])>
     ensures { let p = option_map (λ d. d.now) precision.entry in
-        IsRead (verb_behind flags.now width.now p bytes.now)
+        IsRead (verb_after flags.now width.now p bytes.now)
         (flags.now ++ (width.now ++ (pointed p ++ bytes.now))) result }
 {
     match bytes {

@@ -13,13 +13,13 @@ pub(crate) fn rune_count(text: &[u8]) -> usize
     let mut rest = text;
     let mut count = 0;
     while rest.len() > 0 {
-        rest = behind_rune(rest);
+        rest = after_rune(rest);
         count += 1;
     }
     count
 }
 
-/// The front of a text that has at most so many runes.
+/// The front of a text that has at most this many runes.
 pub(crate) fn truncate(precision: Option<usize>, text: &[u8]) -> &[u8]
     ensures { result.now ≡ truncated_to precision text.now }
 {
@@ -29,21 +29,21 @@ pub(crate) fn truncate(precision: Option<usize>, text: &[u8]) -> &[u8]
     }
 }
 
-/// The first so many runes of a text.
+/// The first this many runes of a text.
 fn front(count: usize, text: &[u8]) -> &[u8]
     ensures { result.now ≡ truncated_to (Some count) text.now }
 {
     let mut rest = text;
     let mut left = count;
     while left > 0 && rest.len() > 0 {
-        rest = behind_rune(rest);
+        rest = after_rune(rest);
         left -= 1;
     }
     &text[..text.len() - rest.len()]
 }
 
-/// What stands behind the first rune.
-fn behind_rune(text: &[u8]) -> &[u8]
+/// What stands after the first rune.
+fn after_rune(text: &[u8]) -> &[u8]
     requires { 0 < length text.now }
     ensures value { result.now ≡ drop (suc (tail_len (first_rune text.now))) text.now }
     ensures shorter { length result.now < length text.now }

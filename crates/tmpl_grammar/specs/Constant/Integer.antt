@@ -12,14 +12,14 @@ pub data AreParted (base : ℕ) : List ℕ → List ℕ → Type 0 where
   digit : {d : ℕ} {bs ds : List ℕ} → is_digit d base ≡ true → AreParted base bs ds → AreParted base (d ∷ bs) (d ∷ ds)
   parted : {d : ℕ} {bs ds : List ℕ} → AreParted base (d ∷ bs) (d ∷ ds) → AreParted base (byte "_" ∷ d ∷ bs) (d ∷ ds)
 
--- the base that a letter behind a leading zero names
+-- the base that a letter after a leading zero names
 abbrev pub base_named : ℕ → Option ℕ
 base_named b =
     if b == byte "x" || b == byte "X" then Some 16
     else (if b == byte "o" || b == byte "O" then Some 8
     else (if b == byte "b" || b == byte "B" then Some 2 else None))
 
--- a number without its sign: a decimal one, one of octal digits behind a zero, or of the base that is named there
+-- a number without its sign: a decimal one, one of octal digits after a zero, or of the base that is named there
 pub data IsMagnitude : List ℕ → ℕ → Type 0 where
   decimal : {d : ℕ} {bs ds : List ℕ} → (d ≡ byte "0" → ⊥) → AreParted 10 (d ∷ bs) (d ∷ ds)
       → IsMagnitude (d ∷ bs) (digits_value 10 (d ∷ ds))

@@ -14,7 +14,7 @@ abbrev pub code_of : Rune → ℕ
 code_of (rune.byte b) = b
 code_of (rune.char c) = c
 
--- so many digits in a base
+-- this many digits in a base
 abbrev pub AreDigits : ℕ → ℕ → List ℕ → Type 0
 AreDigits base count ds = (length ds ≡ count) × AllDigits base ds
 

@@ -27,16 +27,16 @@ reading_of (Some a) = reading_by (nat_le (depth_of a) most_deep) a
 
 -- ---- as the code has it: parentheses are counted over the tokens, and a pipeline that is too deep is left out
 
--- how many parentheses are open behind a token of this kind, where so many are before it
-abbrev pub depth_behind : TokenKind → ℕ → ℕ
-depth_behind kind.LeftParenthesis n = suc n
-depth_behind kind.RightParenthesis n = n - 1
-depth_behind k n = n
+-- how many parentheses are open after a token of this kind, where this many are before it
+abbrev pub depth_after : TokenKind → ℕ → ℕ
+depth_after kind.LeftParenthesis n = suc n
+depth_after kind.RightParenthesis n = n - 1
+depth_after k n = n
 
--- the most that are open at any place of tokens, where so many are at first
+-- the most that are open at any place of tokens, where this many are at first
 abbrev pub deepest : ℕ → List Token → ℕ
 deepest n [] = n
-deepest n (t ∷ ts) = max n (deepest (depth_behind t.kind n) ts)
+deepest n (t ∷ ts) = max n (deepest (depth_after t.kind n) ts)
 
 abbrev pub limited_by : Bool → Pipeline → Pipeline
 limited_by true p = p

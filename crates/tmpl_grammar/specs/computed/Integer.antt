@@ -15,7 +15,7 @@ abbrev pub begins_plain : List ℕ → Bool
 begins_plain [] = false
 begins_plain (b ∷ bs) = is_plain b
 
--- a byte other than an underscore stands behind each underscore
+-- a byte other than an underscore stands after each underscore
 abbrev pub underscores_part : List ℕ → Bool
 underscores_part [] = true
 underscores_part (b ∷ bs) = (is_plain b || begins_plain bs) && underscores_part bs
@@ -33,20 +33,20 @@ abbrev pub some_number : ℕ → List ℕ → Option ℕ
 some_number base [] = None
 some_number base (b ∷ bs) = parted_number base (b ∷ bs)
 
--- behind a leading zero: the digits of the base that is named, or octal digits
+-- after a leading zero: the digits of the base that is named, or octal digits
 abbrev pub number_by : Option ℕ → ℕ → List ℕ → Option ℕ
 number_by None b bs = parted_number 8 (b ∷ bs)
 number_by (Some base) b bs = some_number base bs
 
-abbrev pub behind_zero : List ℕ → Option ℕ
-behind_zero [] = Some 0
-behind_zero (b ∷ bs) = number_by (base_named b) b bs
+abbrev pub after_zero : List ℕ → Option ℕ
+after_zero [] = Some 0
+after_zero (b ∷ bs) = number_by (base_named b) b bs
 
 -- the number without its sign
 abbrev pub magnitude : List ℕ → Option ℕ
 magnitude [] = None
 magnitude (b ∷ bs) =
-    if b == 48 then behind_zero bs
+    if b == 48 then after_zero bs
     else (if b == 95 then None else parted_number 10 (b ∷ bs))
 
 -- a number by its magnitude, from -2^63 to 2^63 - 1

@@ -8,7 +8,7 @@ use Rattle.tmpl_grammar.specs.Tree.{Operand, Operands, Pipeline, commands_from}
 use Rattle.tmpl_grammar.specs.computed.Depth.{limited_by}
 use Rattle.tmpl_grammar.specs.computed.Parser.{Parser, step, finished}
 
--- an operand, with nothing in its parentheses and no chain behind them
+-- an operand, with nothing in its parentheses and no chain after them
 abbrev pub emptied : Operand → Operand
 emptied (tree.group commands names) = tree.group tree.no_command []
 emptied o = o
@@ -18,11 +18,11 @@ abbrev pub pruned : Bool → Parser → Parser
 pruned true h = h
 pruned false h = record { outer = h.outer; inner = h.inner; last = option_map emptied h.last }
 
--- behind a token
+-- after a token
 unfoldable pub pruned_step : Bool → Token → Parser → Option Parser
 pruned_step keeps t h = option_map (pruned keeps) (step t h)
 
--- behind tokens, where each may stand
+-- after tokens, where each may stand
 abbrev pub pruned_steps : Bool → Option Parser → List Token → Option Parser
 pruned_steps keeps h [] = h
 pruned_steps keeps h (t ∷ ts) = pruned_steps keeps (option_and_then (pruned_step keeps t) h) ts

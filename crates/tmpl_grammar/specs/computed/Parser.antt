@@ -10,12 +10,12 @@ use Rattle.tmpl_grammar.specs.Tree.{Operand, Operands, operands_from, commands_f
 use Rattle.tmpl_grammar.specs.computed.Operand.{begins_later}
 use Rattle.tmpl_grammar.specs.computed.Operand.{operand_at}
 
--- a pipeline as far as it is read: its whole commands, and the operands of the next one with white space behind them
+-- a pipeline as far as it is read: its whole commands, and the operands of the next one with white space after them
 pub record Partial : Type 0 where
   pub commands : List Operands
   pub operands : List Operand
 
--- the pipelines around this one, the innermost first, this one, and the operand that has no white space behind it
+-- the pipelines around this one, the innermost first, this one, and the operand that has no white space after it
 pub record Parser : Type 0 where
   pub outer : List Partial
   pub inner : Partial
@@ -42,7 +42,7 @@ more_commands cs (o ∷ os) = Some (cs ++ operands_from (o ∷ os) ∷ [])
 abbrev pub closed : Parser → Option (List Operands)
 closed h = more_commands h.inner.commands (settled h.last h.inner.operands)
 
--- behind white space
+-- after white space
 abbrev pub apart : Parser → Parser
 apart h = record {
   outer = h.outer;
@@ -50,16 +50,16 @@ apart h = record {
   last = None;
 }
 
--- behind a bar
+-- after a bar
 abbrev pub barred : Parser → List Operands → Parser
 barred h cs = record { outer = h.outer; inner = record { commands = cs; operands = [] }; last = None }
 
--- behind `(`
+-- after `(`
 abbrev pub opened : Option Operand → Parser → Option Parser
 opened None h = Some (record { outer = h.inner ∷ h.outer; inner = empty_partial; last = None })
 opened (Some o) h = None
 
--- behind `)`
+-- after `)`
 abbrev pub left_with : List Partial → Option (List Operands) → Option Parser
 left_with [] cs = None
 left_with (l ∷ ls) None = None
@@ -72,7 +72,7 @@ linked (tree.variable x names) name = Some (tree.variable x (names ++ name ∷ [
 linked (tree.group commands names) name = Some (tree.group commands (names ++ name ∷ []))
 linked o name = None
 
--- a command may begin with this operand, or have it behind others
+-- a command may begin with this operand, or have it after others
 abbrev pub may_stand : List Operands → List Operand → Operand → Bool
 may_stand [] os o = true
 may_stand (c ∷ cs) [] o = begins_later o
@@ -85,7 +85,7 @@ ending_with h o = record { outer = h.outer; inner = h.inner; last = Some o }
 abbrev pub kept_if : {A : Type 0} → Bool → A → Option A
 kept_if b x = if b then Some x else None
 
--- behind a token that is an operand, where one may stand
+-- after a token that is an operand, where one may stand
 abbrev pub placed : Option Operand → Option Operand → Parser → Option Parser
 placed None None h = None
 placed None (Some o) h = kept_if (may_stand h.inner.commands h.inner.operands o) (ending_with h o)
@@ -94,12 +94,12 @@ placed (Some p) o h = None
 abbrev pub linked_by : Bool → Operand → List ℕ → Option Operand
 linked_by b o name = if b then linked o name else None
 
--- behind a field: in a chain, or an operand of its own
+-- after a field: in a chain, or an operand of its own
 abbrev pub fielded : Option Operand → Token → Parser → Option Parser
 fielded None t h = placed None (operand_at t) h
 fielded (Some o) t h = option_map (ending_with h) (linked_by (begins_name (name_in t)) o (name_in t))
 
--- behind a token
+-- after a token
 abbrev pub step_by : TokenKind → Token → Parser → Option Parser
 step_by kind.Space t h = Some (apart h)
 step_by kind.Pipe t h = option_map (barred h) (closed h)
@@ -119,7 +119,7 @@ finished_with (l ∷ ls) cs = None
 unfoldable pub finished : Parser → Option (List Operands)
 finished h = finished_with h.outer (closed h)
 
--- behind tokens, where each may stand
+-- after tokens, where each may stand
 abbrev pub steps : Option Parser → List Token → Option Parser
 steps h [] = h
 steps h (t ∷ ts) = steps (option_and_then (step t) h) ts

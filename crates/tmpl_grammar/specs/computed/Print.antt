@@ -9,12 +9,12 @@ abbrev pub unless : Bool → List ℕ → List ℕ
 unless true separator = []
 unless false separator = separator
 
--- the tokens of commands, the first ones or those behind others
+-- the tokens of commands, the first ones or those after others
 abbrev pub commands_by : Bool → Pipeline → List Token
 commands_by true cs = pipeline_tokens cs
 commands_by false cs = later_tokens cs
 
--- the tokens of operands, the first ones or those behind others
+-- the tokens of operands, the first ones or those after others
 abbrev pub operands_by : Bool → Operands → List Token
 operands_by true os = command_tokens os
 operands_by false os = more_tokens os

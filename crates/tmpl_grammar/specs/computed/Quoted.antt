@@ -29,11 +29,11 @@ as_byte len n = if nat_lt n 256 then Some (byte n, len) else None
 abbrev pub as_char : ℕ → ℕ → Option Spelled
 as_char len n = if scalar n then Some (char n, len) else None
 
--- the number that so many digits at the front write
+-- the number that this many digits at the front write
 abbrev pub code : ℕ → ℕ → List ℕ → Option ℕ
 code base count bs = if nat_le count (length bs) then number_in base (take count bs) else None
 
--- the byte that this letter stands for behind a backslash, where this quote ends the text
+-- the byte that this letter stands for after a backslash, where this quote ends the text
 abbrev pub byte_named : ℕ → ℕ → Option ℕ
 byte_named quote e =
     if e == 97 then Some 7 else (if e == 98 then Some 8
@@ -42,7 +42,7 @@ byte_named quote e =
     else (if e == 118 then Some 11 else (if e == 92 then Some 92
     else (if e == quote then Some quote else None))))))))
 
--- behind a backslash: `x`, `u` or `U` and digits, or octal digits
+-- after a backslash: `x`, `u` or `U` and digits, or octal digits
 abbrev pub coded : ℕ → List ℕ → Option Spelled
 coded e bs =
     if e == 120 then option_and_then (as_byte 4) (code 16 2 bs)
@@ -69,7 +69,7 @@ part_at quote (b ∷ bs) =
 abbrev pub with_part : Rune → Option (List Rune) → Option (List Rune)
 with_part p ps = option_map (λ ps. p ∷ ps) ps
 
--- the parts after so many bytes that belong to the part before
+-- the parts after this many bytes that belong to the part before
 abbrev pub parts_after : ℕ → ℕ → List ℕ → Option (List Rune)
 parts_after quote n [] = Some []
 parts_after quote (suc n) (b ∷ bs) = parts_after quote n bs
@@ -90,7 +90,7 @@ between quote bs =
 abbrev pub unquoted : ℕ → List ℕ → Option (List ℕ)
 unquoted quote bs = option_map (flat_map bytes_in) (parts quote bs)
 
--- the code of a part that takes so many bytes
+-- the code of a part that takes this many bytes
 abbrev pub whole_code : ℕ → Spelled → Option ℕ
 whole_code count p = if p.1 == count then Some (code_of p.0) else None
 

@@ -34,13 +34,13 @@ pipeline_in ts = option_map commands_from (commands_after start ts)
 
 -- ---- headers
 
--- a variable that comes first: its name, the kind of the next token that is no white space, and the tokens behind that
+-- a variable that comes first: its name, the kind of the next token that is no white space, and the tokens after that
 pub record VariableFront : Type 0 where
   pub name : List ℕ
   pub next_kind : TokenKind
   pub rest : List Token
 
--- by the kind of the first token and the name in it, which has at least one byte, and what comes next behind it
+-- by the kind of the first token and the name in it, which has at least one byte, and what comes next after it
 abbrev pub variable_by : TokenKind → List ℕ → Option (Token × List Token) → Option VariableFront
 variable_by kind.Variable (b ∷ bs) (Some p) = Some (record { name = b ∷ bs; next_kind = p.0.kind; rest = p.1 })
 variable_by k name o = None
@@ -53,12 +53,12 @@ variable_front_at (Some p) = variable_by p.0.kind (name_in p.0) (next p.1)
 abbrev pub variable_front : List Token → Option VariableFront
 variable_front ts = variable_front_at (next ts)
 
--- what comes first in a header: variables and a sign, or neither, and the tokens behind them
+-- what comes first in a header: variables and a sign, or neither, and the tokens after them
 pub data Front : Type 0 where
   plain : Front
   bound : Binding → List Token → Front
 
--- behind `$i, $x`
+-- after `$i, $x`
 abbrev pub second_by : TokenKind → List ℕ → List ℕ → List Token → Front
 second_by kind.Declare key name ts = bound (declare_pair key name) ts
 second_by k key name ts = plain
@@ -67,7 +67,7 @@ abbrev pub second_variable : List ℕ → Option VariableFront → Front
 second_variable key None = plain
 second_variable key (Some s) = second_by s.next_kind key s.name s.rest
 
--- behind `$x`
+-- after `$x`
 abbrev pub front_by : TokenKind → List ℕ → List Token → Front
 front_by kind.Declare name ts = bound (declare name) ts
 front_by kind.Assign name ts = bound (assign name) ts
@@ -150,7 +150,7 @@ abbrev pub else_keyword : Option Keyword → List Token → Option Action
 else_keyword None ts = None
 else_keyword (Some k) ts = else_branched (branch_of k) ts
 
--- behind an `else`: nothing, or an `if` or `with`
+-- after an `else`: nothing, or an `if` or `with`
 abbrev pub else_by : Option (Token × List Token) → Option Action
 else_by None = Some plain_else
 else_by (Some p) = else_keyword (keyword_of p.0) p.1
@@ -167,11 +167,11 @@ abbrev pub quoted_at : Option (Token × List Token) → Option (List ℕ × List
 quoted_at None = None
 quoted_at (Some p) = quoted_before p.1 (text_in (constant_of p.0))
 
--- the name that comes first, in quotes, and the tokens behind it
+-- the name that comes first, in quotes, and the tokens after it
 abbrev pub quoted_in : List Token → Option (List ℕ × List Token)
 quoted_in ts = quoted_at (next ts)
 
--- an action by its name and what stands behind that
+-- an action by its name and what stands after that
 abbrev pub with_name : (List ℕ → List Token → Option Action) → Option (List ℕ × List Token) → Option Action
 with_name by None = None
 with_name by (Some p) = by p.0 p.1
@@ -207,13 +207,13 @@ action_by word.Template ts = named_action template_by ts
 action_by word.Block ts = named_action block_by ts
 
 -- by the keyword that comes first, if one does
-abbrev pub action_behind : Option Keyword → List Token → List Token → Option Action
-action_behind None rest ts = option_map pipeline_action (header_in false ts)
-action_behind (Some k) rest ts = action_by k rest
+abbrev pub action_after : Option Keyword → List Token → List Token → Option Action
+action_after None rest ts = option_map pipeline_action (header_in false ts)
+action_after (Some k) rest ts = action_by k rest
 
 abbrev pub action_at : Option (Token × List Token) → List Token → Option Action
 action_at None ts = None
-action_at (Some p) ts = action_behind (keyword_of p.0) p.1 ts
+action_at (Some p) ts = action_after (keyword_of p.0) p.1 ts
 
 -- what the tokens of an action say, if they are an action of the grammar
 unfoldable pub action_in : List Token → Option Action

@@ -1,4 +1,4 @@
--- The white space of an action, and what stands behind it.
+-- The white space of an action, and what stands after it.
 use Rattle.std.specs.Prelude.{Bool, true, false, List, [], ◌∷◌, drop, Option, Some, None}
 use Rattle.std.specs.List.{list_all, prefix_len}
 use Rattle.tmpl_lex.specs.declared.piece.TokenKind.{TokenKind}
@@ -24,6 +24,6 @@ abbrev pub first : List Token → Option (Token × List Token)
 first [] = None
 first (t ∷ ts) = Some (t, ts)
 
--- the first token that is no white space, and those behind it
+-- the first token that is no white space, and those after it
 abbrev pub next : List Token → Option (Token × List Token)
 next ts = first (without_front ts)

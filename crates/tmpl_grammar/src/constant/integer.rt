@@ -64,15 +64,15 @@ fn magnitude(bytes: &[u8]) -> Option<u64>
     ensures { result ≡ within (spec.magnitude bytes.now) }
 {
     match bytes {
-        [b'0', rest @ ..] => behind_zero(rest),
+        [b'0', rest @ ..] => after_zero(rest),
         [] | [b'_', ..] => None,
         _ => parted_number(10, bytes),
     }
 }
 
-/// The number that a zero and these bytes behind it spell, if it is at most 2^63.
-fn behind_zero(bytes: &[u8]) -> Option<u64>
-    ensures { result ≡ within (spec.behind_zero bytes.now) }
+/// The number that a zero and these bytes after it spell, if it is at most 2^63.
+fn after_zero(bytes: &[u8]) -> Option<u64>
+    ensures { result ≡ within (spec.after_zero bytes.now) }
 {
     match bytes {
         [] => Some(0),
@@ -83,7 +83,7 @@ fn behind_zero(bytes: &[u8]) -> Option<u64>
     }
 }
 
-/// The base that a letter behind a leading zero names.
+/// The base that a letter after a leading zero names.
 fn base_named(letter: u8) -> Option<u32>
     ensures value { result ≡ spec.base_named letter }
     ensures fits { IfSome result (λ base. (2 ≤ base) × (base ≤ 16)) }
@@ -121,7 +121,7 @@ fn parted_number(base: u32, bytes: &[u8]) -> Option<u64>
     }
 }
 
-/// Whether a byte other than an underscore stands behind each underscore.
+/// Whether a byte other than an underscore stands after each underscore.
 fn underscores_part(bytes: &[u8]) -> bool
     ensures { result ≡ spec.underscores_part bytes.now }
 {

@@ -78,7 +78,7 @@ pub(crate) fn rune_code(quote: u8, bytes: &[u8]) -> Option<u32>
 }
 
 impl QuotedPart {
-    /// Puts it behind a text, a character by its UTF-8.
+    /// Puts it after a text, a character by its UTF-8.
     fn add_to(self, text: &mut Vec<u8>) -> Result<(), AllocError>
         ensures { OnOk result (text.new.items ≡ text.old.items ++ bytes_in (rune_of self)) }
     {
@@ -110,9 +110,9 @@ fn part_at(quote: u8, bytes: &[u8]) -> Option<Spelled>
 {
     match bytes {
         [] => None,
-        [first, behind @ ..] => {
+        [first, after @ ..] => {
             if *first == b'\\' {
-                escape(quote, behind)
+                escape(quote, after)
             } else if *first == quote {
                 None
             } else {
@@ -152,7 +152,7 @@ fn escape(quote: u8, bytes: &[u8]) -> Option<Spelled>
     }
 }
 
-/// The byte that a letter stands for behind a backslash.
+/// The byte that a letter stands for after a backslash.
 fn byte_named(quote: u8, letter: u8) -> Option<u8>
     ensures { result ≡ spec.byte_named quote letter }
 {
@@ -169,7 +169,7 @@ fn byte_named(quote: u8, letter: u8) -> Option<u8>
     }
 }
 
-/// The escape by digits: in base 16 behind a letter, or else in base 8.
+/// The escape by digits: in base 16 after a letter, or else in base 8.
 fn escape_by_digits(letter: u8, digits: &[u8], whole: &[u8]) -> Option<Spelled>
     requires { whole.now ≡ letter ∷ digits.now }
     ensures value { option_map spelled_of result ≡ spec.coded letter digits.now }
@@ -183,7 +183,7 @@ fn escape_by_digits(letter: u8, digits: &[u8], whole: &[u8]) -> Option<Spelled>
     }
 }
 
-/// The byte that so many digits at the front name; four bytes spell each such escape.
+/// The byte that this many digits at the front name; four bytes spell each such escape.
 fn byte_of(base: u32, count: usize, bytes: &[u8]) -> Option<Spelled>
     requires low { 2 ≤ base }
     requires high { base ≤ 16 }
@@ -193,7 +193,7 @@ fn byte_of(base: u32, count: usize, bytes: &[u8]) -> Option<Spelled>
     as_byte(4, code(base, count, bytes)?)
 }
 
-/// The character that so many digits at the front name, behind a letter.
+/// The character that this many digits at the front name, after a letter.
 fn char_of(count: usize, bytes: &[u8]) -> Option<Spelled>
     requires { count ≤ 8 }
     ensures value { option_map spelled_of result
@@ -225,7 +225,7 @@ fn as_char(len: usize, n: u64) -> Option<Spelled>
     }
 }
 
-/// The number that so many digits at the front write.
+/// The number that this many digits at the front write.
 fn code(base: u32, count: usize, bytes: &[u8]) -> Option<u64>
     requires low { 2 ≤ base }
     requires high { base ≤ 16 }

@@ -20,7 +20,7 @@ use tmpl_values::Bytes;
 struct PartialPipeline {
     /// Its whole commands.
     commands: Vec<Command>,
-    /// The operands of the next command that have white space behind them.
+    /// The operands of the next command that have white space after them.
     operands: Vec<Operand>,
 }
 
@@ -30,7 +30,7 @@ pub(crate) struct PipelineParser {
     /// The pipelines in whose parentheses this one stands, the innermost last.
     outer: Vec<PartialPipeline>,
     inner: PartialPipeline,
-    /// The operand that has no white space behind it.
+    /// The operand that has no white space after it.
     last: Option<Operand>,
 }
 
@@ -57,7 +57,7 @@ fn add<T: Drop>(items: &mut Vec<T>, item: T) -> Result<(), AllocError>
     Ok(())
 }
 
-/// Puts the last operand, if there is one, behind the others.
+/// Puts the last operand, if there is one, after the others.
 fn settle(last: &mut Option<Operand>, operands: &mut Vec<Operand>) -> Result<(), AllocError>
     ensures operands { OnOk result (map operand_of operands.new.items
         ≡ spec.settled (option_map operand_of last.old) (map operand_of operands.old.items)) }
@@ -101,7 +101,7 @@ fn extend(fields: &mut Vec<Bytes>, name: Bytes) -> Result<(), AllocError>
     Ok(())
 }
 
-/// Whether this operand may begin a command behind a bar: a constant, `nil` and dot may not.
+/// Whether this operand may begin a command after a bar: a constant, `nil` and dot may not.
 fn begins_later(operand: &Operand) -> bool
     ensures { result ≡ word.begins_later (operand_of operand.now) }
 {
@@ -189,7 +189,7 @@ impl PipelineParser {
         Ok(true)
     }
 
-    /// Behind `(`; `false` where it touches an operand.
+    /// After `(`; `false` where it touches an operand.
     fn open_group(&mut self, alloc: Global) -> Result<bool, AllocError>
         ensures { IfOk result (λ b. spec.kept_if b (parser_of self.new)
             ≡ spec.opened (option_map operand_of self.old.last) (parser_of self.old)) }
@@ -202,7 +202,7 @@ impl PipelineParser {
         Ok(true)
     }
 
-    /// Behind `)`; `false` where none is open or no command ends.
+    /// After `)`; `false` where none is open or no command ends.
     fn close_group(&mut self, alloc: Global) -> Result<bool, AllocError>
         ensures { IfOk result (λ b. spec.kept_if b (parser_of self.new)
             ≡ spec.left_with (parser_of self.old).outer (spec.closed (parser_of self.old))) }
@@ -221,7 +221,7 @@ impl PipelineParser {
         Ok(true)
     }
 
-    /// Behind an operand; `false` where it may not stand.
+    /// After an operand; `false` where it may not stand.
     fn place(&mut self, operand: Option<Operand>) -> bool
         ensures { spec.kept_if result (parser_of self.new)
             ≡ spec.placed (option_map operand_of self.old.last) (option_map operand_of operand) (parser_of self.old) }
@@ -241,7 +241,7 @@ impl PipelineParser {
         }
     }
 
-    /// Behind a field: in a chain, or an operand of its own.
+    /// After a field: in a chain, or an operand of its own.
     fn pass_field(&mut self, alloc: Global, token: &Token<'_>) -> Result<bool, AllocError>
         ensures { IfOk result (λ b. spec.kept_if b (parser_of self.new)
             ≡ spec.fielded (option_map operand_of self.old.last) (token_of token.now) (parser_of self.old)) }

@@ -1,4 +1,4 @@
--- What begins behind a `{{`, computed: the twin of `Closed`.
+-- What begins after a `{{`, computed: the twin of `Closed`.
 use Rattle.std.specs.Prelude.{ℕ, zero, suc, ◌-◌, Bool, true, false, ◌&&◌, ◌==◌, List, [], ◌∷◌, length, drop}
 use Rattle.std.specs.Prelude.{Option, Some, None}
 use Rattle.tmpl_lex.specs.Piece.{Token}
@@ -11,12 +11,12 @@ abbrev pub opens_comment : List ℕ → Bool
 opens_comment (a ∷ b ∷ bs) = a == 47 && b == 42
 opens_comment _ = false
 
--- the end directly behind a `*/`, by what stands before and behind that, where a comment began
+-- the end directly after a `*/`, by what stands before and after that, where a comment began
 abbrev pub comment_closed : Bool → Option (List ℕ × List ℕ) → Option End
 comment_closed true (Some p) = right_delimiter p.1
 comment_closed _ _ = None
 
--- the end of the comment that the bytes begin with: directly behind the first `*/` after `/*`
+-- the end of the comment that the bytes begin with: directly after the first `*/` after `/*`
 unfoldable pub comment_end : List ℕ → Option End
 comment_end bs = comment_closed (opens_comment bs) (split_pair 42 47 (drop 2 bs))
 
@@ -24,7 +24,7 @@ comment_end bs = comment_closed (opens_comment bs) (split_pair 42 47 (drop 2 bs)
 abbrev pub Inside : Type 0
 Inside = List Token × End
 
--- what is inside, behind one token more
+-- what is inside, after one token more
 abbrev pub with_token : Token → Option Inside → Option Inside
 with_token t None = None
 with_token t (Some i) = Some (t ∷ i.0, i.1)
@@ -35,7 +35,7 @@ inside_from (Some end) t further = Some ([], end)
 inside_from None None further = None
 inside_from None (Some t) further = with_token t (further t)
 
--- what is inside after so many bytes that belong to the token before
+-- what is inside after this many bytes that belong to the token before
 abbrev pub inside_after : ℕ → List ℕ → Option Inside
 inside_after n [] = None
 inside_after (suc n) (b ∷ bs) = inside_after n bs
@@ -46,7 +46,7 @@ inside_after zero (b ∷ bs) =
 unfoldable pub inside : List ℕ → Option Inside
 inside bs = inside_after 0 bs
 
--- what begins behind a `{{` or its left trim marker: a closed comment, the tokens of a closed action, or neither
+-- what begins after a `{{` or its left trim marker: a closed comment, the tokens of a closed action, or neither
 pub data Opened : Type 0 where
   comment : End → Opened
   tokens : List Token → End → Opened

@@ -1,7 +1,7 @@
 -- Where two bytes first follow one another.
 use Rattle.std.specs.Prelude.{ℕ, Bool, true, false, ◌&&◌, ◌==◌, List, [], ◌∷◌, ◌++◌, take, drop, Option, Some, None}
 
--- what stands before and after a place, behind one byte more
+-- what stands before and after a place, after one byte more
 abbrev pub with_first : ℕ → Option (List ℕ × List ℕ) → Option (List ℕ × List ℕ)
 with_first b None = None
 with_first b (Some p) = Some (b ∷ p.0, p.1)
@@ -17,10 +17,10 @@ split_pair x y (a ∷ b ∷ bs) = split_here (a == x && b == y) a (b ∷ bs) (sp
 split_pair x y _ = None
 
 -- a place further on, with more bytes before it
-abbrev pub behind : List ℕ → Option (List ℕ × List ℕ) → Option (List ℕ × List ℕ)
-behind front None = None
-behind front (Some p) = Some (front ++ p.0, p.1)
+abbrev pub beyond : List ℕ → Option (List ℕ × List ℕ) → Option (List ℕ × List ℕ)
+beyond front None = None
+beyond front (Some p) = Some (front ++ p.0, p.1)
 
 -- what stands before and after the first such pair of bytes from this place on
 abbrev pub split_from : ℕ → ℕ → ℕ → List ℕ → Option (List ℕ × List ℕ)
-split_from x y i bs = behind (take i bs) (split_pair x y (drop i bs))
+split_from x y i bs = beyond (take i bs) (split_pair x y (drop i bs))

@@ -3,7 +3,7 @@ use Rattle.std.specs.Prelude.{ℕ, zero, suc, ◌+◌, false, List, [], ◌++◌
 use Rattle.tmpl_lex.specs.Piece.{Piece}
 use Rattle.tmpl_lex.specs.computed.Part.{Rest, part_of}
 
--- the pieces of a part, and those of the rest behind it, if there is one
+-- the pieces of a part, and those of the rest after it, if there is one
 abbrev pub with_rest : List Piece → Option Rest → (Rest → List Piece) → List Piece
 with_rest ps None further = ps
 with_rest ps (Some rest) further = ps ++ further rest

@@ -22,28 +22,28 @@ split_open bs = split_pair 123 123 bs
 abbrev pub stretch : List ℕ → List ℕ → List ℕ
 stretch bs rest = take (length bs - length rest) bs
 
--- the pieces that something behind a `{{` on this line gives
+-- the pieces that something after a `{{` on this line gives
 abbrev pub pieces_of : ℕ → Opened → List Piece
 pieces_of line (comment e) = []
 pieces_of line (tokens ts e) = action line ts ∷ []
 pieces_of line neither = unreadable line ∷ []
 
--- where what stands behind a `{{` ends
+-- where what stands after a `{{` ends
 abbrev pub ends_at : Opened → Option End
 ends_at (comment e) = Some e
 ends_at (tokens ts e) = Some e
 ends_at neither = None
 
--- what is left behind this end of these bytes, of which the first stands on this line
-abbrev pub rest_behind : List ℕ → ℕ → End → Rest
-rest_behind bs line e = record { trims = e.trims; line = line + newlines (stretch bs e.rest); bytes = e.rest }
+-- what is left after this end of these bytes, of which the first stands on this line
+abbrev pub rest_past : List ℕ → ℕ → End → Rest
+rest_past bs line e = record { trims = e.trims; line = line + newlines (stretch bs e.rest); bytes = e.rest }
 
--- the pieces of the first part, and the rest behind it, by where the first `{{` stands
+-- the pieces of the first part, and the rest after it, by where the first `{{` stands
 abbrev pub part_from : Rest → Option (List ℕ × List ℕ) → List Piece × Option Rest
 part_from rest None = (texts rest.trims false rest.line rest.bytes, None)
 part_from rest (Some p) = (
   texts rest.trims (left_marked p.1) rest.line p.0 ++ pieces_of (rest.line + newlines p.0) (opened (past_left p.1)),
-  option_map (rest_behind rest.bytes rest.line) (ends_at (opened (past_left p.1))),
+  option_map (rest_past rest.bytes rest.line) (ends_at (opened (past_left p.1))),
 )
 
 -- the same of this rest

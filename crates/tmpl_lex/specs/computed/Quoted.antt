@@ -1,12 +1,12 @@
--- What stands behind an opening quote, up to its closing one, computed.
+-- What stands after an opening quote, up to its closing one, computed.
 use Rattle.std.specs.Prelude.{ℕ, Bool, true, false, ◌&&◌, not, ◌==◌, List, [], ◌∷◌, Option, Some, None}
 
--- what was found, behind one byte more
+-- what was found, after one byte more
 abbrev pub with_byte : ℕ → Option (List ℕ) → Option (List ℕ)
 with_byte b None = None
 with_byte b (Some bs) = Some (b ∷ bs)
 
--- up to this byte, if it is the last, and else up to where the bytes behind it go
+-- up to this byte, if it is the last, and else up to where the bytes after it go
 abbrev pub up_to : Bool → ℕ → Option (List ℕ) → Option (List ℕ)
 up_to true b further = Some (b ∷ [])
 up_to false b further = with_byte b further

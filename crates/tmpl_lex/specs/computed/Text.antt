@@ -14,7 +14,7 @@ leading false bs = 0
 abbrev pub trailing_len : List ℕ → ℕ
 trailing_len bs = suffix_len is_space bs
 
--- how many a left trim marker behind the text takes, if there is one
+-- how many a left trim marker after the text takes, if there is one
 abbrev pub trailing : Bool → List ℕ → ℕ
 trailing true bs = trailing_len bs
 trailing false bs = 0
@@ -23,12 +23,12 @@ trailing false bs = 0
 abbrev pub without_leading : Bool → List ℕ → List ℕ
 without_leading trims bs = drop (leading trims bs) bs
 
--- the text without what a left trim marker behind it takes
+-- the text without what a left trim marker after it takes
 abbrev pub without_trailing : Bool → List ℕ → List ℕ
 without_trailing trims bs = take (length bs - trailing trims bs) bs
 
 -- the bytes between two actions or comments, of which the first stands on this line, with a right trim marker before
--- them or none and a left one behind them or none; the text's line is that of its first byte which is kept
+-- them or none and a left one after them or none; the text's line is that of its first byte which is kept
 abbrev pub texts : Bool → Bool → ℕ → List ℕ → List Piece
 texts right left line bs =
     text_piece (line + newlines (take (leading right bs) bs)) (without_trailing left (without_leading right bs))

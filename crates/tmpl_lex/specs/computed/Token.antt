@@ -12,7 +12,7 @@ use Rattle.tmpl_lex.specs.declared.piece.TokenKind.TheVariants.{Space, Word, Num
 use Rattle.tmpl_lex.specs.declared.piece.TokenKind.TheVariants.{RawString, Character, Declare, Assign, Comma, Pipe}
 use Rattle.tmpl_lex.specs.declared.piece.TokenKind.TheVariants.{LeftParenthesis, RightParenthesis}
 
--- how much is left of so much white space where the rest of a right trim marker stands behind it, since its last byte
+-- how much is left of so much white space where the rest of a right trim marker stands after it, since its last byte
 -- is the marker's then, or where none does
 abbrev pub unmarked : Bool → ℕ → ℕ
 unmarked true n = n - 1
@@ -25,11 +25,11 @@ space_len bs = unmarked (has_dashed_delimiter (drop (prefix_len is_space bs) bs)
 abbrev pub space_run : List ℕ → List ℕ
 space_run bs = take (space_len bs) bs
 
--- the kind of a token, and its bytes behind the first
+-- the kind of a token, and its bytes after the first
 abbrev pub Begun : Type 0
 Begun = TokenKind × List ℕ
 
--- behind a `+` or `-`: a digit, and the longest run of bytes of a number
+-- after a `+` or `-`: a digit, and the longest run of bytes of a number
 abbrev pub signed : List ℕ → Option Begun
 signed [] = None
 signed (b ∷ bs) = if is_ascii_digit b then Some (Number, b ∷ take_while is_number_byte bs) else None
@@ -38,12 +38,12 @@ signed (b ∷ bs) = if is_ascii_digit b then Some (Number, b ∷ take_while is_n
 abbrev pub name_run : List ℕ → List ℕ
 name_run bs = take_while is_name_byte bs
 
--- behind a dot: this name, if there is one
+-- after a dot: this name, if there is one
 abbrev pub dotted : List ℕ → Begun
 dotted [] = (Dot, [])
 dotted (b ∷ bs) = (Field, b ∷ bs)
 
--- behind a colon: an equals sign, which makes `:=`
+-- after a colon: an equals sign, which makes `:=`
 abbrev pub assigned : List ℕ → Option Begun
 assigned [] = None
 assigned (b ∷ bs) = if b == 61 then Some (Declare, 61 ∷ []) else None
@@ -52,7 +52,7 @@ assigned (b ∷ bs) = if b == 61 then Some (Declare, 61 ∷ []) else None
 abbrev pub of_kind : TokenKind → Option (List ℕ) → Option Begun
 of_kind kind o = option_map (λ bs. (kind, bs)) o
 
--- the token that begins with this byte, which is neither white space nor of a name, where these bytes stand behind it
+-- the token that begins with this byte, which is neither white space nor of a name, where these bytes stand after it
 abbrev pub marked : ℕ → List ℕ → Option Begun
 marked b bs =
     if b == 43 then signed bs
@@ -70,7 +70,7 @@ marked b bs =
     else if b == 41 then Some (RightParenthesis, [])
     else None
 
--- the token that begins with this byte, where these bytes stand behind it
+-- the token that begins with this byte, where these bytes stand after it
 abbrev pub begun : ℕ → List ℕ → Option Begun
 begun b bs =
     if is_space b then Some (Space, space_run bs)

@@ -2,19 +2,19 @@
 use Rattle.std.specs.Prelude.{ℕ, Bool, true, false, ◌&&◌, ◌==◌, List, [], ◌∷◌, drop, Option, Some, None}
 use Rattle.tmpl_lex.specs.Bytes.{is_space}
 
--- a left trim marker stands directly behind the `{{`: `-` and a byte of white space
+-- a left trim marker stands directly after the `{{`: `-` and a byte of white space
 abbrev pub left_marked : List ℕ → Bool
 left_marked (a ∷ b ∷ bs) = a == 45 && is_space b
 left_marked _ = false
 
--- the bytes behind a left trim marker, where one stands there
-abbrev pub behind_marker : Bool → List ℕ → List ℕ
-behind_marker true bs = drop 2 bs
-behind_marker false bs = bs
+-- the bytes after a left trim marker, where one stands there
+abbrev pub after_marker : Bool → List ℕ → List ℕ
+after_marker true bs = drop 2 bs
+after_marker false bs = bs
 
--- the bytes behind the left trim marker, if they begin with one
+-- the bytes after the left trim marker, if they begin with one
 abbrev pub past_left : List ℕ → List ℕ
-past_left bs = behind_marker (left_marked bs) bs
+past_left bs = after_marker (left_marked bs) bs
 
 -- the bytes begin with `}}`
 abbrev pub has_right_delimiter : List ℕ → Bool
@@ -31,7 +31,7 @@ abbrev pub right_marked : List ℕ → Bool
 right_marked [] = false
 right_marked (a ∷ bs) = is_space a && has_dashed_delimiter bs
 
--- the end of an action or comment: whether a right trim marker ends it, and the bytes behind it
+-- the end of an action or comment: whether a right trim marker ends it, and the bytes after it
 pub record End : Type 0 where
   pub trims : Bool
   pub rest : List ℕ

@@ -13,12 +13,12 @@ use Rattle.tmpl_lex.specs.computed.Part.{Rest}
 use Rattle.tmpl_lex.specs.computed.Token.{Begun}
 use Rattle.tmpl_lex.specs.computed.Trim.{End}
 
--- the first so many of the bytes
+-- this many of the first bytes
 abbrev pub taken_of : List ℕ → Option ℕ → Option (List ℕ)
 taken_of bs None = None
 taken_of bs (Some n) = Some (take n bs)
 
--- the kind of a token, and its bytes behind the first, which are the first so many of these
+-- the kind of a token, and its bytes after the first, which are this many of the first of these
 abbrev pub begun_of : List ℕ → Option (TokenKind × ℕ) → Option Begun
 begun_of bs None = None
 begun_of bs (Some p) = Some (p.0, take p.1 bs)
@@ -37,7 +37,7 @@ abbrev pub inside_of : List declared_token.Token → Option declared_end.End →
 inside_of ts None = None
 inside_of ts (Some e) = Some (map token_of ts, end_of e)
 
--- what was found behind a `{{`, with the tokens that were read
+-- what was found after a `{{`, with the tokens that were read
 abbrev pub opened_of : List declared_token.Token → declared_opened.Opened → Opened
 opened_of ts (variant.Comment e) = comment (end_of e)
 opened_of ts (variant.Action e) = tokens (map token_of ts) (end_of e)

@@ -12,7 +12,7 @@ first_rune bs =
     let c = slice_index (chars bs) 0 in
     if scalar c && bytes_eq (take (len_utf8 c) bs) (encode_utf8 c) then char c else byte (slice_index bs 0)
 
--- the runes after so many bytes that belong to the rune before
+-- the runes after this many bytes that belong to the rune before
 abbrev pub runes_after : ℕ → List ℕ → List Rune
 runes_after n [] = []
 runes_after (suc n) (b ∷ bs) = runes_after n bs

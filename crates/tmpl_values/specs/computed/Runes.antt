@@ -64,7 +64,7 @@ runes_after-drop zero bs h = refl
 runes_after-drop (suc n) [] h = refl
 runes_after-drop (suc n) (b ∷ bs) h = runes_after-drop n bs (omega arith)
 
--- the first rune, and those behind it
+-- the first rune, and those after it
 pub read-first : (bs : List ℕ) (r : Rune) → 0 < length bs → first_rune bs ≡ r → runes_read bs ≡ r ∷ runes_read (drop (suc (tail_len r)) bs)
 unfolding runes_read
 read-first [] r h is = absurd (omega arith)
@@ -105,8 +105,8 @@ byte-first b rest none _ lone = refl
 byte-first b rest none _ (encoding c s e) =
     absurd (none c (drop (len_utf8 c) (b ∷ rest)) s (sym (take-append-drop (len_utf8 c) (b ∷ rest)) ∙ ap (λ t. t ++ drop (len_utf8 c) (b ∷ rest)) e))
 
-behind-char : (c : ℕ) (rest : List ℕ) → drop (suc (tail_len (char c))) (encode_utf8 c ++ rest) ≡ rest
-behind-char c rest =
+after-char : (c : ℕ) (rest : List ℕ) → drop (suc (tail_len (char c))) (encode_utf8 c ++ rest) ≡ rest
+after-char c rest =
     let n : suc (length (encode_utf8 c) - 1) ≡ length (encode_utf8 c) = omega (arith, len_utf8_bounds c, length-encode c) in
     ap (λ k. drop k (encode_utf8 c ++ rest)) n ∙ drop-append_seam (encode_utf8 c) rest
 
@@ -114,7 +114,7 @@ pub no-others : (bs : List ℕ) (rs : List Rune) → HasRunes bs rs → rs ≡ r
 no-others _ _ at_end = sym read-nil
 no-others _ _ (a_char {c = c} {rest = rest} {rs = rs} s more) =
     let some : 0 < length (encode_utf8 c ++ rest) = omega (arith, len_utf8_bounds c, length-encode c, length-append (encode_utf8 c) rest) in
-    ap (λ qs. char c ∷ qs) (no-others rest rs more ∙ ap runes_read (sym (behind-char c rest)))
+    ap (λ qs. char c ∷ qs) (no-others rest rs more ∙ ap runes_read (sym (after-char c rest)))
     ∙ sym (read-first (encode_utf8 c ++ rest) (char c) some (first_rune-encode c rest s))
 no-others _ _ (a_byte {b = b} {rest = rest} {rs = rs} none more) =
     let first = byte-first b rest none (first_rune (b ∷ rest)) (front (b ∷ rest)) in

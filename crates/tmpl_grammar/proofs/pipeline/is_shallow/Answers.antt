@@ -9,4 +9,4 @@ pub returns-then-depth-gt-MOST_DEEP : goal.returns-then-depth-gt-MOST_DEEP
 returns-then-depth-gt-MOST_DEEP c =
     let one = ap (map token_of) (drop_more c.args.tokens.now c.loop-token.token-index _ (omega arith)) in
     sym (sym c.loop-token.invariant.same
-    ∙ too-deep most_deep c.loop-token.depth _ _ _ _ one c.depth_behind-depth.ensures c.if-depth-gt-MOST_DEEP.true)
+    ∙ too-deep most_deep c.loop-token.depth _ _ _ _ one c.depth_after-depth.ensures c.if-depth-gt-MOST_DEEP.true)

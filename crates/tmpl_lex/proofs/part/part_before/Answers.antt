@@ -26,7 +26,7 @@ returns c =
     let put = texts-put rest.trims (left_marked after) rest.line c.newlines.result before c.split_leading.result.0.now kept c.trim_end-text.result.now
     c.split_leading.ensures.taken c.split_leading.ensures.kept c.newlines.ensures.value trimmed in
     let part = part-before file rest c.requires.left before after c.requires.first o (c.in_ok-opened.ensures ∙ ap opened c.skip_left_marker.ensures)
-    _ (simp (put, c.behind_of.ensures c.read_opened.new.tokens.items, c.newlines-2.ensures.value)) c.rest_after.result
+    _ (simp (put, c.after_of.ensures c.read_opened.new.tokens.items, c.newlines-2.ensures.value)) c.rest_after.result
     (simp c.newlines-2.ensures.value at c.rest_after.ensures c.read_opened.new.tokens.items) in record {
       cuts = part.0;
       placed = StandsAt-trimmed file rest.bytes.now before (123 ∷ 123 ∷ after) c.split_leading.result.0.now kept c.trim_end-text.result.now rest.trims

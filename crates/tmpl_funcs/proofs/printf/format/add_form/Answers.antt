@@ -29,12 +29,12 @@ returns-in_err-add_printed-in-len1-up c =
     (IsSegmentAdded-refused (printed (form_seen c.in-Some.form) (val_of x.result.val)) c.args.bytes.now.items c.add_printed.new.bytes.items (37 ∷ bs)
     (values_of c.args.operands.now) _ c.in_err-add_printed-in-len1-up.ensures
     (formatted-form_none bs c.requires.some c.requires.other c.args.operands.now x.result c.in-len1-up.len_at_least x.is (form_seen c.in-Some.form)
-    c.in-Some.behind.now read.0 read.1 read.2 read.3))
+    c.in-Some.after.now read.0 read.1 read.2 read.3))
 
 pub returns-in_ok-add_printed-in-len1-up : goal.returns-in_ok-add_printed-in-len1-up
 returns-in_ok-add_printed-in-len1-up c =
     let read = c.in-Some.ensures in
     let x = c.operand-item in
     formatted-form_added c.args.spelled.now c.requires.some c.requires.other c.args.operands.now x.result c.in-len1-up.len_at_least x.is
-    (form_seen c.in-Some.form) c.in-Some.behind.now read.0 read.1 read.2 read.3 c.args.bytes.now.items c.add_printed.new.bytes.items
+    (form_seen c.in-Some.form) c.in-Some.after.now read.0 read.1 read.2 read.3 c.args.bytes.now.items c.add_printed.new.bytes.items
     c.in_ok-add_printed-in-len1-up.ensures

@@ -6,8 +6,8 @@ use Rattle.tmpl_funcs.proofs.printf.rune.front.Goals.{then-loop-left-test+else-r
 pub loop-left-preserved : goal.loop-left-preserved
 loop-left-preserved c =
     let l = c.loop-left in
-    IsCutting-more c.args.text.now c.args.count l.rest.now l.left c.behind_rune-rest.result.now l.invariant (omega arith)
-    (omega arith) c.behind_rune-rest.ensures.value
+    IsCutting-more c.args.text.now c.args.count l.rest.now l.left c.after_rune-rest.result.now l.invariant (omega arith)
+    (omega arith) c.after_rune-rest.ensures.value
 
 pub returns : goal.returns
 returns c =

@@ -5,8 +5,8 @@ use Rattle.tmpl_funcs.proofs.printf.rune.rune_count.Goals as goal
 pub loop-rest-preserved : goal.loop-rest-preserved
 loop-rest-preserved c =
     let l = c.loop-rest in
-    let behind = c.behind_rune-rest in record {
-      counted = omega (arith, l.invariant.counted, count-first l.rest.now behind.result.now (omega arith) behind.ensures.value);
+    let after = c.after_rune-rest in record {
+      counted = omega (arith, l.invariant.counted, count-first l.rest.now after.result.now (omega arith) after.ensures.value);
       bounded = omega arith;
     }
 
