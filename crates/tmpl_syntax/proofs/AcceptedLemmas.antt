@@ -30,9 +30,9 @@ use Rattle.tmpl_syntax.specs.Print.Laws.{Says, says_nothing, says_text, says, Ac
 use Rattle.tmpl_syntax.proofs.StepLemmas.{joins-control}
 use Rattle.tmpl_syntax.proofs.PrintableNodeLemmas.{control-said}
 use Rattle.tmpl_syntax.proofs.VerdictLemmas.{one-verdict, judged-all}
-use Rattle.tmpl_syntax.specs.Formed.{are_among, declared_to, else_scope, scope_behind, is_formed, are_formed, AreFormed}
+use Rattle.tmpl_syntax.specs.Formed.{are_among, declared_to, else_scope, scope_after, is_formed, are_formed, AreFormed}
 use Rattle.tmpl_syntax.specs.Laws.{SpellsFormed}
-use Rattle.tmpl_syntax.proofs.FormedLemmas.{passes, is_fine, fine-back, passes-fine, seen_past, seen_behind, take-seen, part-long, control-names}
+use Rattle.tmpl_syntax.proofs.FormedLemmas.{passes, is_fine, fine-back, passes-fine, seen_past, seen_after, take-seen, part-long, control-names}
 use Rattle.tmpl_syntax.proofs.FormedLemmas.{Alike, alike-declared, alike-part, alike-past, placed-test, headed, alone-passes, opened-passes}
 use Rattle.tmpl_syntax.proofs.FormedLemmas.{looped, unlooped, formed-lower, control-formed}
 
@@ -48,22 +48,22 @@ branch-formed branch.With line r body other scope loop n e = e
 
 -- ---- an accepted list
 
--- the nodes that stand here are formed, the rest of the list passes, and the definitions are formed if those behind them are
+-- the nodes that stand here are formed, the rest of the list passes, and the definitions are formed if those after them are
 abbrev Formed : List Name → Bool → ℕ → Nodes → List Frame → Known → List Item → List Definition → List Definition → Type 0
-Formed scope loop n ns fs behind ys ds es =
-    (are_formed ns scope loop n ≡ true) × (passes fs behind (roles_of ys) ≡ true) × (AreFormed es → AreFormed ds)
+Formed scope loop n ns fs after ys ds es =
+    (are_formed ns scope loop n ≡ true) × (passes fs after (roles_of ys) ≡ true) × (AreFormed es → AreFormed ds)
 
--- behind the `end` of a definition or a block the names are those before it, whatever its body is
+-- after the `end` of a definition or a block the names are those before it, whatever its body is
 mutual
   leads-formed : {xs ys : List Item} {ds es : List Definition} {ns : Nodes} → Leads xs ds ns ys es → (fs : List Frame) (known : Known) (scope : List Name)
       → Alike known.inner scope → passes fs known (roles_of xs) ≡ true
-      → Formed scope (in_loop (top fs)) (levels (top fs)) ns fs (with_inner known (seen_behind known.inner ns)) ys ds es
+      → Formed scope (in_loop (top fs)) (levels (top fs)) ns fs (with_inner known (seen_after known.inner ns)) ys ds es
   leads-formed nothing fs known scope a h = (refl, h, λ k. k)
   leads-formed (a_node {line = line} {n = n} {xs = xs} is l) fs known scope a h =
       let past : Known = with_inner known (seen_past known.inner n) in
       let e = and_parts (is_formed n scope (in_loop (top fs)) (levels (top fs))) (passes fs past (roles_of xs))
       (sym (alone-passes fs known scope (roles_of xs) a line is) ∙ h) in
-      let more = leads-formed l fs past (scope_behind n scope) (alike-past n known.inner scope a) e.1 in
+      let more = leads-formed l fs past (scope_after n scope) (alike-past n known.inner scope a) e.1 in
       (both_true e.0 more.0, more.1, more.2)
   leads-formed (a_define {xs = xs} {body = body} b l) fs known scope a h =
       let f : Frame = entered opened.define (names_given None) (top fs) known.inner in
@@ -91,13 +91,13 @@ mutual
       let e = and_parts (are_among scope (names_of r).uses && nat_lt n most_levels) (passes (f ∷ fs) inside (roles_of xs))
       (sym (opened-passes fs known scope (roles_of xs) a (opened.control c) (names_of r) refl) ∙ h) in
       let inner = leads-formed b (f ∷ fs) inside (declared_to r.binding scope) (alike-declared r.binding names scope a) e.1 in
-      let behind = closes-formed o f fs (with_inner known (seen_behind inside.inner body)) (else_scope c r.binding scope) (alike-part c r names scope body a)
+      let after = closes-formed o f fs (with_inner known (seen_after inside.inner body)) (else_scope c r.binding scope) (alike-part c r names scope body a)
       refl (part-low c names ds) (part-long inside.inner body _ (part-high c names ds)) inner.1 in
       let here = both_true (both_true e.0
       (subst (λ k. are_formed body (declared_to r.binding scope) k (n + 1) ≡ true) (looped c (in_loop (top fs))) inner.0))
-      (subst (λ k. are_formed other (else_scope c r.binding scope) k (n + 1) ≡ true) (unlooped c (in_loop (top fs))) behind.0) in
-      let more = leads-formed l fs known scope a (subst (λ k. passes fs (with_inner known k) (roles_of zs) ≡ true) (control-names names ds body) behind.1) in
-      (both_true here more.0, more.1, λ k. inner.2 (behind.2 (more.2 k)))
+      (subst (λ k. are_formed other (else_scope c r.binding scope) k (n + 1) ≡ true) (unlooped c (in_loop (top fs))) after.0) in
+      let more = leads-formed l fs known scope a (subst (λ k. passes fs (with_inner known k) (roles_of zs) ≡ true) (control-names names ds body) after.1) in
+      (both_true here more.0, more.1, λ k. inner.2 (after.2 (more.2 k)))
 
   closes-formed : {xs zs : List Item} {ds es : List Definition} {other : Nodes} → Closes xs ds other zs es
       → (f : Frame) (fs : List Frame) (known : Known) (scope : List Name) → Alike (take f.part known.inner) scope
@@ -111,7 +111,7 @@ mutual
       let e = and_parts _ (passes (g ∷ fs) (with_inner known seen) (roles_of xs)) h in
       let inner = leads-formed l (g ∷ fs) (with_inner known seen) scope a e.1 in
       let fits_in = length-take f.part known.inner in
-      let last = subst (λ t. passes fs (closed_if t (with_inner known (take f.start (seen_behind seen other)))) (roles_of ys) ≡ true) own inner.1 in (
+      let last = subst (λ t. passes fs (closed_if t (with_inner known (take f.start (seen_after seen other)))) (roles_of ys) ≡ true) own inner.1 in (
         inner.0,
         subst (λ k. passes fs (with_inner known k) (roles_of ys) ≡ true) (take-seen f.start other seen (omega arith) ∙ take-take f.start f.part known.inner low)
             last,
@@ -130,15 +130,15 @@ mutual
       let count = with-longer seen ds in
       let fits_in = length-take f.part known.inner in
       let whole = take-seen (length inside) body inside (omega arith) ∙ take-length inside in
-      let behind = closes-formed o g fs (with_inner known (seen_behind inside body)) (declared_to r.binding scope)
+      let after = closes-formed o g fs (with_inner known (seen_after inside body)) (declared_to r.binding scope)
       (λ x. ap (λ ns. is_known ns x) whole ∙ alike x) own (omega arith) (part-long inside body (length inside) (omega arith)) inner.1 in
       let in_body = subst (λ k. are_formed body (declared_to r.binding scope) k (f.levels + 1) ≡ true) (branch-loops b f.opening f.has_else f.around control_is
       ∙ sym (branch-loops b f.opening true f.around control_is)) inner.0 in
       let heads = sym (headed seen scope (names_of r).uses f.levels a) ∙ t.1 in (
-        branch-formed b line r body other scope (loops f.opening true f.around) f.levels (both_true (both_true (both_true heads in_body) behind.0) refl),
+        branch-formed b line r body other scope (loops f.opening true f.around) f.levels (both_true (both_true (both_true heads in_body) after.0) refl),
         subst (λ k. passes fs (with_inner known k) (roles_of zs) ≡ true) (take-seen f.start body inside (omega arith)
-            ∙ take-with f.start seen ds (omega arith) ∙ take-take f.start f.part known.inner low) behind.1,
-        λ k. inner.2 (behind.2 k),
+            ∙ take-with f.start seen ds (omega arith) ∙ take-take f.start f.part known.inner low) after.1,
+        λ k. inner.2 (after.2 k),
       )
 
 pub spells_formed : SpellsFormed
@@ -166,14 +166,14 @@ abbrev control_frame : Control → Bool → ℕ → ℕ → ℕ → Frame
 control_frame c around n start part =
     record { opening = opened.control c; has_else = false; around = around; levels = n; start = start; part = part }
 
--- what formed nodes say passes where what is said behind them does
+-- what formed nodes say passes where what is said after them does
 abbrev pub Passes : Nodes → Type 0
 Passes ns =
     (fs : List Frame) (known : Known) (scope : List Name) (ss : List Said) → Alike known.inner scope
     → are_formed ns scope (in_loop (top fs)) (levels (top fs)) ≡ true
-    → passes fs (with_inner known (seen_behind known.inner ns)) (roles_said ss) ≡ true → passes fs known (roles_said (nodes_said ns ++ ss)) ≡ true
+    → passes fs (with_inner known (seen_after known.inner ns)) (roles_said ss) ≡ true → passes fs known (roles_said (nodes_said ns ++ ss)) ≡ true
 
--- .. an else part with the `end` behind it
+-- .. an else part with the `end` after it
 else-passes : (c : Control) (other : Nodes) → Passes other → (around : Bool) (n start part : ℕ) (fs : List Frame) (known : Known) (scope : List Name)
     (ss : List Said) → Alike (take part known.inner) scope → start ≤ part → part ≤ length known.inner → are_formed other scope around n ≡ true
     → passes fs (with_inner known (take start known.inner)) (roles_said ss) ≡ true
@@ -201,7 +201,7 @@ mutual
       let ends : List Said = else_said other (nodes_said other) in
       let rest : List Said = ends ++ said end_action ∷ ss in
       let p = control-formed c h body other scope (in_loop (top fs)) n e in
-      let in_rest = else-passes c other (nodes-passes other) f.around f.levels f.start f.part fs (with_inner known (seen_behind inside.inner body))
+      let in_rest = else-passes c other (nodes-passes other) f.around f.levels f.start f.part fs (with_inner known (seen_after inside.inner body))
       (else_scope c h.binding scope) ss (alike-part c h names scope body a) (part-low c names ds) (part-long inside.inner body _ (part-high c names ds))
       p.in_other (subst (λ ns. passes fs (with_inner known ns) (roles_said ss) ≡ true) (sym (control-names names ds body)) more) in
       let in_body = nodes-passes body (f ∷ fs) inside (declared_to h.binding scope) rest (alike-declared h.binding names scope a)
@@ -223,7 +223,7 @@ mutual
   nodes-passes (then line n ns) fs known scope ss a e more =
       let p = and_parts (is_formed n scope (in_loop (top fs)) (levels (top fs))) _ e in
       rw append_assoc (node-passes n fs known scope (nodes_said ns ++ ss) a p.0
-      (nodes-passes ns fs (with_inner known (seen_past known.inner n)) (scope_behind n scope) ss (alike-past n known.inner scope a) p.1 more))
+      (nodes-passes ns fs (with_inner known (seen_past known.inner n)) (scope_after n scope) ss (alike-past n known.inner scope a) p.1 more))
 
 -- the own template of an accepted list
 pub accepts-back : AcceptsBack

@@ -45,7 +45,7 @@ make = acts (declare x) dot
 abbrev change : NodeKind
 change = acts (assign x) dot
 
--- so many controls inside one another, in bodies and in else parts
+-- this many controls inside one another, in bodies and in else parts
 abbrev bodies : ℕ → List NodeKind
 bodies zero = []
 bodies (suc n) = controls control.If unbound (bodies n) [] ∷ []
@@ -82,7 +82,7 @@ examples =
     ∷ (false, controls control.If unbound (make ∷ []) (show ∷ []) ∷ [])
     -- `{{$x := .}}{{with .}}{{$x}}{{else}}{{$x = .}}{{end}}{{$x}}`
     ∷ (true, make ∷ controls control.With unbound (show ∷ []) (change ∷ []) ∷ show ∷ [])
-    -- `{{if $x := .}}{{$x}}{{else}}{{$x}}{{end}}`, and behind it; the same of a `with`
+    -- `{{if $x := .}}{{$x}}{{else}}{{$x}}{{end}}`, and after it; the same of a `with`
     ∷ (true, controls control.If (declare x) (show ∷ []) (show ∷ []) ∷ [])
     ∷ (false, controls control.If (declare x) [] [] ∷ show ∷ [])
     ∷ (true, controls control.With (declare x) (show ∷ []) (show ∷ []) ∷ [])

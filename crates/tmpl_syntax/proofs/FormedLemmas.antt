@@ -13,7 +13,7 @@ use Rattle.tmpl_syntax.specs.Fault.{Reason}
 use Rattle.tmpl_syntax.specs.Tree.{NodeKind, action, control_node, Nodes, none, then}
 use Rattle.tmpl_syntax.specs.Item.{ItemKind, item}
 use Rattle.tmpl_syntax.specs.Spelling.{IsNode, a_text, an_action, a_break, a_continue, a_template}
-use Rattle.tmpl_syntax.specs.Formed.{are_among, declared_to, else_scope, is_looped, scope_behind, is_formed, are_formed}
+use Rattle.tmpl_syntax.specs.Formed.{are_among, declared_to, else_scope, is_looped, scope_after, is_formed, are_formed}
 use Rattle.tmpl_syntax.specs.Place.Opening.{Opening}
 use Rattle.tmpl_syntax.specs.Place.Opening as opened
 use Rattle.tmpl_syntax.specs.Place.Role.{Name, Names, declared_by, names_of, names_given, opener, Role, role_of}
@@ -69,9 +69,9 @@ abbrev pub seen_past : List Name → NodeKind → List Name
 seen_past names (action h) = with_names names (names_of h).declares
 seen_past names _ = names
 
-abbrev pub seen_behind : List Name → Nodes → List Name
-seen_behind names none = names
-seen_behind names (then line n ns) = seen_behind (seen_past names n) ns
+abbrev pub seen_after : List Name → Nodes → List Name
+seen_after names none = names
+seen_after names (then line n ns) = seen_after (seen_past names n) ns
 
 -- the first names stay
 take-past : (k : ℕ) (n : NodeKind) (names : List Name) → k ≤ length names → take k (seen_past names n) ≡ take k names
@@ -82,16 +82,16 @@ past-longer : (n : NodeKind) (names : List Name) → length names ≤ length (se
 past-longer (action h) names = with-longer names (names_of h).declares
 past-longer _ names = omega arith
 
-pub take-seen : (k : ℕ) (ns : Nodes) (names : List Name) → k ≤ length names → take k (seen_behind names ns) ≡ take k names
+pub take-seen : (k : ℕ) (ns : Nodes) (names : List Name) → k ≤ length names → take k (seen_after names ns) ≡ take k names
 take-seen k none names h = refl
 take-seen k (then line n ns) names h = let longer = past-longer n names in take-seen k ns (seen_past names n) (omega arith) ∙ take-past k n names h
 
 -- no names are lost
-pub part-long : (names : List Name) (ns : Nodes) (k : ℕ) → k ≤ length names → k ≤ length (seen_behind names ns)
-part-long names ns k h = omega (arith, ap length (take-seen k ns names h), length-take k (seen_behind names ns), length-take k names)
+pub part-long : (names : List Name) (ns : Nodes) (k : ℕ) → k ≤ length names → k ≤ length (seen_after names ns)
+part-long names ns k h = omega (arith, ap length (take-seen k ns names h), length-take k (seen_after names ns), length-take k names)
 
--- the names before a control are those behind it
-pub control-names : (names ds : List Name) (body : Nodes) → take (length names) (seen_behind (with_names names ds) body) ≡ names
+-- the names before a control are those after it
+pub control-names : (names ds : List Name) (body : Nodes) → take (length names) (seen_after (with_names names ds) body) ≡ names
 control-names names ds body = take-seen (length names) body (with_names names ds) (with-longer names ds) ∙ take-before names ds
 
 -- ---- .. and in scope
@@ -118,15 +118,15 @@ alike-else : (c : Control) (b : Binding) (names scope : List Name) → Alike nam
 alike-else Range b names scope a = a
 alike-else _ b names scope a = alike-declared b names scope a
 
--- what an else part sees behind this body
+-- what an else part sees after this body
 pub alike-part : (c : Control) (h : Header) (names scope : List Name) (body : Nodes) → Alike names scope
-    → Alike (take (part_of c (length names) (length (with_names names (names_of h).declares))) (seen_behind (with_names names (names_of h).declares) body))
+    → Alike (take (part_of c (length names) (length (with_names names (names_of h).declares))) (seen_after (with_names names (names_of h).declares) body))
     (else_scope c h.binding scope)
 alike-part c h names scope body a x =
     let ds : List Name = (names_of h).declares in
     ap (λ ns. is_known ns x) (take-seen _ body (with_names names ds) (part-high c names ds) ∙ take-part c names ds) ∙ alike-else c h.binding names scope a x
 
-pub alike-past : (n : NodeKind) (names scope : List Name) → Alike names scope → Alike (seen_past names n) (scope_behind n scope)
+pub alike-past : (n : NodeKind) (names scope : List Name) → Alike names scope → Alike (seen_past names n) (scope_after n scope)
 alike-past (action h) names scope a = alike-declared h.binding names scope a
 alike-past _ names scope a = a
 
@@ -216,5 +216,5 @@ mutual
   pub formed-lower : (ns : Nodes) (scope : List Name) (loop : Bool) (n m : ℕ) → m ≤ n → are_formed ns scope loop n ≡ true → are_formed ns scope loop m ≡ true
   formed-lower none scope loop n m le e = refl
   formed-lower (then line k ns) scope loop n m le e =
-      let p = and_parts (is_formed k scope loop n) (are_formed ns (scope_behind k scope) loop n) e in
-      both_true (node-lower k scope loop n m le p.0) (formed-lower ns (scope_behind k scope) loop n m le p.1)
+      let p = and_parts (is_formed k scope loop n) (are_formed ns (scope_after k scope) loop n) e in
+      both_true (node-lower k scope loop n m le p.0) (formed-lower ns (scope_after k scope) loop n m le p.1)

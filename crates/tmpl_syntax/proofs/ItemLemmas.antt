@@ -51,7 +51,7 @@ item_for language (text line bytes) = item_in (text line bytes)
 item_for language (action line ts) = item line (read_item (reading_of (kept language (action_in ts))))
 item_for language (unreadable line) = item_in (unreadable line)
 
-for-every : (p : Piece) → item_for every_action p ≡ item_in p
+pub for-every : (p : Piece) → item_for every_action p ≡ item_in p
 for-every (action line ts) = ap (λ o. item line (read_item (reading_of o))) (kept-every (action_in ts))
 for-every _ = refl
 
@@ -92,7 +92,7 @@ module _ (language : Language) where
       by true t = absurd (none a (spells-action ts a e) t)
       by false t = refl
 
-  only-item : {p : Piece} {x : Item} → IsItem language p x → x ≡ item_for language p
+  pub only-item : {p : Piece} {x : Item} → IsItem language p x → x ≡ item_for language p
   only-item (unread {line = line} {ts = ts} none) = unread-only line ts none (action_in ts) refl
   only-item (too_deep {ts = ts} a spells t lt) = rw (reads-action ts a spells) (rw t (rw (deep-read a lt) refl))
   only-item (read {ts = ts} {a = a} spells t le) = rw (reads-action ts a spells) (rw t (rw (within-read a le) refl))

@@ -15,12 +15,12 @@ use Rattle.tmpl_lex.specs.Text.{newlines, text_piece, keeps, trims, Texts, trimm
 use Rattle.tmpl_lex.proofs.PartLemmas.{absent-rest, absent-here, absent-nil, absent-one, absent-cons}
 use Rattle.tmpl_syntax.specs.Print.Join.{PrintedPart, a_text, an_action, before_of, joined_parts, AreParts, no_piece}
 use Rattle.tmpl_syntax.specs.Print.Join.{same_text, same_action, HasParts, CutsBack}
-use Rattle.tmpl_syntax.specs.Print.Printed.{opening_behind, parting}
+use Rattle.tmpl_syntax.specs.Print.Printed.{opening_after, parting}
 use Rattle.tmpl_syntax.specs.computed.Print.{ends_brace}
 use Rattle.tmpl_grammar.specs.Print.{bytes_of}
 use Rattle.tmpl_grammar.proofs.FrontLemmas.{solid, solid-unmarked}
 
--- ---- a text, and what opens behind it
+-- ---- a text, and what opens after it
 
 last-at : (b : ℕ) (t : List ℕ) → pointwise nat_eq (123 ∷ []) (drop (length t) (b ∷ t)) ≡ ends_brace (b ∷ t)
 last-at b [] = and-true (nat_eq 123 b) ∙ grind (arith, nat_tests)
@@ -69,10 +69,10 @@ texts-spaced line t e =
 abbrev opened_by : Bool → List ℕ
 opened_by k = if k then codes " {{- " else codes "{{"
 
-abbrev open_behind : List ℕ → List ℕ
-open_behind t = opened_by (ends_brace t)
+abbrev open_after : List ℕ → List ℕ
+open_after t = opened_by (ends_brace t)
 
-open-is : (t : List ℕ) → opening_behind (before_of t) ≡ open_behind t
+open-is : (t : List ℕ) → opening_after (before_of t) ≡ open_after t
 open-is [] = refl
 open-is (b ∷ t) = ap opened_by (last_brace (b ∷ t))
 
@@ -80,15 +80,15 @@ some-before : (t : List ℕ) → 0 < length t → Some t ≡ before_of t
 some-before [] h = absurd (omega arith)
 some-before (b ∷ t) h = refl
 
--- what opens bytes behind a text
+-- what opens bytes after a text
 record Opening (line : ℕ) (t a : List ℕ) : Type 0 where
   before : List ℕ
   delimiter : List ℕ
   leads : TextBefore false line before delimiter a (text_piece line t)
-  is : before ++ (delimiter ++ a) ≡ t ++ (open_behind t ++ a)
+  is : before ++ (delimiter ++ a) ≡ t ++ (open_after t ++ a)
 
-opens-behind : (line : ℕ) (t a : List ℕ) → Absent (123 ∷ 123 ∷ []) t → BeginsNone IsLeftMarker a → Opening line t a
-opens-behind line t a clear plain = go (ends_brace t) refl
+opens-after : (line : ℕ) (t a : List ℕ) → Absent (123 ∷ 123 ∷ []) t → BeginsNone IsLeftMarker a → Opening line t a
+opens-after line t a clear plain = go (ends_brace t) refl
   where
     go : (k : Bool) → ends_brace t ≡ k → Opening line t a
     go false e = record {
@@ -124,10 +124,10 @@ cut-back [] h t clear line = record {
 cut-back (an_action ts ∷ ps) h t clear line =
     let rest : List ℕ = joined_parts None ps in
     let body : List ℕ = bytes_of ts ++ codes "}}" in
-    let o = opens-behind line t (body ++ rest) clear (rw append_assoc (h.0.unmarked rest)) in
+    let o = opens-after line t (body ++ rest) clear (rw append_assoc (h.0.unmarked rest)) in
     let here : ℕ = line + newlines o.before in
     let more = cut-back ps h.1 [] (absent-nil 123 123) (line + newlines (o.before ++ o.delimiter ++ body)) in
-    let file : o.before ++ o.delimiter ++ body ++ rest ≡ t ++ (opening_behind (before_of t) ++ (bytes_of ts ++ (codes "}}" ++ rest))) =
+    let file : o.before ++ o.delimiter ++ body ++ rest ≡ t ++ (opening_after (before_of t) ++ (bytes_of ts ++ (codes "}}" ++ rest))) =
     append_assoc (o.before ++ o.delimiter) body rest ∙ append_assoc o.before o.delimiter (body ++ rest) ∙ o.is ∙ rw (open-is, append_assoc (bytes_of ts)) in
     record {
       pieces = action here ts ∷ more.pieces;
@@ -147,10 +147,10 @@ cut-back (a_text u ∷ ps) h [] clear line =
 cut-back (a_text u ∷ ps) h (b ∷ t) clear line =
     let rest : List ℕ = u ++ joined_parts (before_of u) ps in
     let body : List ℕ = codes "/**/}}" in
-    let o = opens-behind line (b ∷ t) (body ++ rest) clear (solid-unmarked (solid refl refl)) in
+    let o = opens-after line (b ∷ t) (body ++ rest) clear (solid-unmarked (solid refl refl)) in
     let next : ℕ = line + newlines (o.before ++ o.delimiter ++ body) in
     let more = cut-back ps h.1 u h.0.clear next in
-    let is : opening_behind (Some (b ∷ t)) ≡ open_behind (b ∷ t) = open-is (b ∷ t) in
+    let is : opening_after (Some (b ∷ t)) ≡ open_after (b ∷ t) = open-is (b ∷ t) in
     let file : o.before ++ o.delimiter ++ body ++ rest ≡ (b ∷ t) ++ (parting (Some (b ∷ t)) ++ (u ++ joined_parts (Some u) ps)) =
     simp (append_assoc, o.is, is, some-before u h.0.some) in
     record {

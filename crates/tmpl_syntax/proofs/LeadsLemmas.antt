@@ -31,7 +31,7 @@ mutual
         → Leads (item line (action_item (block_action name p)) ∷ xs) (definition line name body ∷ ds)
         (then line (template_node name (Some p)) ns) zs fs
 
-  -- what stands behind the body of a control, to its `end`, spells the nodes of its else part
+  -- what stands after the body of a control, to its `end`, spells the nodes of its else part
   pub data Closes : List Item → List Definition → Nodes → List Item → List Definition → Type 0 where
     an_end : {line : ℕ} {xs : List Item} {ds : List Definition}
         → Closes (item line (action_item end_action) ∷ xs) ds none xs ds

@@ -1,6 +1,7 @@
 pub mod AcceptedLemmas
 pub mod CheckLemmas
 pub mod FileLemmas
+pub mod FirstRefusalLemmas
 pub mod FormedExamples
 pub mod FormedLemmas
 pub mod ItemLemmas
@@ -13,15 +14,19 @@ pub mod LeadsLemmas
 pub mod NameLemmas
 pub mod NamedLemmas
 pub mod NeedLemmas
+pub mod OutlineLemmas
 pub mod PageLemmas
 pub mod PlaceLemmas
 pub mod PrintableNodeLemmas
 pub mod PrintablePieceLemmas
 pub mod PrintedLemmas
 pub mod ReadingLemmas
+pub mod RefusalExamples
+pub mod RefusalLemmas
 pub mod ScopeLemmas
 pub mod SecondLemmas
 pub mod SetLemmas
+pub mod SiteLemmas
 pub mod SpellingLemmas
 pub mod StandLemmas
 pub mod StepLemmas

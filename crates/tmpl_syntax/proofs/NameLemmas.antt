@@ -1,5 +1,5 @@
 -- For `KnownNames`, `one_verdict`, `formed` and `accepted_back`: tests and what they say, the places that a frame holds, and the names that are
--- known, as they are held, and with more behind them.
+-- known, as they are held, and with more after them.
 use Rattle.std.proofs.Common.{arith, ◌≡◌, ℕ, zero, suc, ◌≤◌, Bool, true, false, ◌&&◌, List, [], ◌∷◌, refl, subst, None, ◌||◌, ◌++◌, sym, ap, ◌∙◌, length, take}
 use Rattle.std.proofs.Common.{map, Bor, ◌⊎◌, append_assoc, append-nil, length-append, if◌then◌else◌}
 use Rattle.std.specs.Prelude.{Contains}
@@ -89,7 +89,7 @@ pub ruleset held = take-map
 
 -- ---- names with more
 
--- they are those names, and others behind them
+-- they are those names, and others after them
 with-names : (names ds : List Name) → (new : List Name) × (with_names names ds ≡ names ++ new)
 with-names names [] = ([], sym (append-nil names))
 with-names names (d ∷ ds) = by (is_known names d) (with-names (with_name names d) ds)

@@ -43,12 +43,12 @@ parts-within : (c : Control) (declared body other : ℕ) → need_of_parts c dec
 parts-within control.If declared body other = omega arith
 parts-within _ declared body other = omega arith
 
--- the nodes of each need at most so many
+-- the nodes of each need at most this many
 abbrev Within : ℕ → List Definition → Type 0
 Within n [] = Unit {0}
 Within n (d ∷ ds) = (need_of_nodes d.nodes ≤ n) × Within n ds
 
--- what these nodes and the items behind them need, the first items have, and the definitions need no more than the items before
+-- what these nodes and the items after them need, the first items have, and the definitions need no more than the items before
 abbrev Bound : List Item → List Definition → Nodes → List Item → List Definition → Type 0
 Bound xs ds ns ys es = (need_of_nodes ns + cells ys ≤ cells xs) × ((n : ℕ) → cells xs ≤ n → Within n es → Within n ds)
 

@@ -9,7 +9,7 @@ use Rattle.tmpl_syntax.specs.View.{node_of, nodes_in}
 use Rattle.tmpl_syntax.specs.declared.tree.Node as held
 use Rattle.tmpl_syntax.proofs.PrintableNodeLemmas.{control-said}
 use Rattle.tmpl_syntax.proofs.ViewLemmas.{control_of-fields}
-use Rattle.tmpl_syntax.specs.Print.Printed.{Said, said, said_text, node_said, nodes_said, file_of, opening_behind, parting}
+use Rattle.tmpl_syntax.specs.Print.Printed.{Said, said, said_text, node_said, nodes_said, file_of, opening_after, parting}
 use Rattle.tmpl_syntax.specs.computed.Print.{else_said}
 use Rattle.tmpl_syntax.specs.computed.Print.{Page, last_text, page_with}
 
@@ -32,7 +32,7 @@ unfolding page_with
 page_nothing p = ap (λ bs. (bs, p.1)) (append-nil p.0)
 
 -- an action, put piece by piece
-pub action-put : (before : Option (List ℕ)) (a : Action) (old : List ℕ) {opened inside closed : List ℕ} → opened ≡ old ++ opening_behind before
+pub action-put : (before : Option (List ℕ)) (a : Action) (old : List ℕ) {opened inside closed : List ℕ} → opened ≡ old ++ opening_after before
     → inside ≡ opened ++ bytes_of (action_tokens a) → closed ≡ inside ++ codes "}}" → (closed, None) ≡ page_with (old, before) (said a ∷ [])
 unfolding page_with
 action-put before a old h i j = simp (j, i, h, append_assoc)

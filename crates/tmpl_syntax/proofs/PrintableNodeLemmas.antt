@@ -65,7 +65,7 @@ pub control-said : (c : Control) (h : Header) (body other : Nodes) → node_said
 control-said c h body none = refl
 control-said c h body (then line n ns) = refl
 
--- this can be printed, and the items behind it are as good; the definitions can if those behind them can
+-- this can be printed, and the items after it are as good; the definitions can if those after them can
 abbrev Kept : List Said → List Item → List Definition → List Definition → Type 0
 Kept ss ys ds es = AreSaid ss × OfItems ys × ((path : List ℕ) → ArePrintable (map (template_in path) es) → ArePrintable (map (template_in path) ds))
 

@@ -33,7 +33,7 @@ use Rattle.std.specs.Prelude.{MatchOption}
 
 -- ---- places
 
--- each definition stands where nothing is open, and behind it nothing is open again
+-- each definition stands where nothing is open, and after it nothing is open again
 set-passes : (ts : List Template) → AreKept ts → passes [] none_known (roles_said (flat_map template_said ts)) ≡ true
 set-passes [] h = refl
 set-passes (t ∷ ts) h =
@@ -63,16 +63,16 @@ differ name d ds file none =
 
 module _ (file : List ℕ) (own : Definition) (blank : is_blank own.nodes ≡ true) where
   -- no definition has the name of a later one, and the last one is blank
-  once-behind : (c : Definition) (ds : List Definition) → tree_named c.name (map (template_in file) ds) ≡ None → All (OnePlace c) (ds ++ own ∷ [])
-  once-behind c [] none =
+  once-after : (c : Definition) (ds : List Definition) → tree_named c.name (map (template_in file) ds) ≡ None → All (OnePlace c) (ds ++ own ∷ [])
+  once-after c [] none =
       All-cons (OnePlace c) own [] (λ e. ap (λ b. is_blank c.nodes || b) blank ∙ or-true (is_blank c.nodes)) (λ k d lt. absurd (omega arith))
-  once-behind c (d ∷ ds) none =
+  once-after c (d ∷ ds) none =
       let apart = differ c.name d ds file none in
-      All-cons (OnePlace c) d (ds ++ own ∷ []) (λ e. absurd (apart.0 e)) (once-behind c ds apart.1)
+      All-cons (OnePlace c) d (ds ++ own ∷ []) (λ e. absurd (apart.0 e)) (once-after c ds apart.1)
 
   once-each : (ds : List Definition) → HaveOwnNames (map (template_in file) ds) → NoneSecond (ds ++ own ∷ [])
   once-each [] h = λ i j d lt within. absurd (omega arith)
-  once-each (d ∷ ds) h = AllPairs-cons OnePlace d (ds ++ own ∷ []) (once-behind d ds h.0) (once-each ds h.1)
+  once-each (d ∷ ds) h = AllPairs-cons OnePlace d (ds ++ own ∷ []) (once-after d ds h.0) (once-each ds h.1)
 
 -- ---- the law
 
@@ -80,7 +80,7 @@ templates-alike : (file : List ℕ) (ds : List Definition) → map unlined_templ
 templates-alike file [] = refl
 templates-alike file (d ∷ ds) = ap (λ vs. unlined_definition d ∷ vs) (templates-alike file ds)
 
--- the templates of a file, and its own behind them, added to none
+-- the templates of a file, and its own after them, added to none
 added : (file name : List ℕ) (ds : List Definition) (own : Nodes) → HaveOwnNames (map (template_in file) ds)
     → defined (map (template_in file) ds) name (record { file = file; nodes = own })
     ≡ fold (λ (ts : List Template) (d : Definition). defined ts d.name (record { file = file; nodes = d.nodes })) [] (ds ++ definition 1 name own ∷ [])

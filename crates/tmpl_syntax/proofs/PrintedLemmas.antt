@@ -10,7 +10,7 @@ use Rattle.tmpl_syntax.specs.Spelling.{definition, a_text, an_action, a_break, a
 use Rattle.tmpl_syntax.proofs.LeadsLemmas.{Leads, nothing, a_node, a_control, a_define, Closes, an_end, an_else, led, spelled}
 use Rattle.tmpl_syntax.specs.Print.Printed.{Said, said_text, said, node_said, nodes_said, template_said, unlined_node, unlined}
 use Rattle.tmpl_syntax.specs.computed.Print.{else_said}
-use Rattle.tmpl_syntax.specs.Print.Printed.{opening_behind, parting, file_of}
+use Rattle.tmpl_syntax.specs.Print.Printed.{opening_after, parting, file_of}
 use Rattle.tmpl_syntax.specs.computed.Print.{part_of}
 use Rattle.std.specs.List.{flat_map, AllZip}
 use Rattle.tmpl_syntax.specs.Print.Laws.{Says, says_nothing, says_text, says, unlined_definition, unlined_template, newline_nodes, ReadsSame, SetReadsSame}
@@ -38,13 +38,13 @@ LeadsBy Spell ns ss xs =
 abbrev LeadsNodes : Nodes → List Said → List Item → Type 0
 LeadsNodes = LeadsBy Leads
 
--- .. a node, behind which they go on
+-- .. a node, after which they go on
 abbrev LeadsNode : NodeKind → List Said → List Item → Type 0
 LeadsNode n ss xs =
     (line : ℕ) × (m : NodeKind) × (unlined_node m ≡ unlined_node n) × (ys : List Item)
     × ((ms : Nodes) (zs : List Item) (ds es : List Definition) → Leads ys ds ms zs es → Leads xs ds (then line m ms) zs es) × Says ss ys
 
--- a part with the `end` behind it
+-- a part with the `end` after it
 ended : (other : Nodes) (ss : List Said) (xs : List Item) (line : ℕ) → LeadsNodes other (said end_action ∷ ss) xs
     → LeadsBy Closes other ss (item line (action_item plain_else) ∷ xs)
 ended other ss xs line (ms, alike, _, leads, says s) = (ms, alike, _, λ ds. an_else (leads ds), s)
@@ -92,7 +92,7 @@ spells-alike ns xs s = all (nodes-leads ns [] xs (rw append-nil s))
 
 -- ---- a set
 
--- the items spell these templates, apart from files and lines, and a newline behind each
+-- the items spell these templates, apart from files and lines, and a newline after each
 abbrev pub SpellsSet : List Template → List Item → Type 0
 SpellsSet ts xs =
     (ds : List Definition) × (own : Nodes) × Spells xs ds own × (map unlined_definition ds ≡ map unlined_template ts) × (unlined own ≡ newline_nodes ts)
@@ -135,7 +135,7 @@ items-said (said a ∷ ss) _ h (same_action {line = line} s) =
 said-joined : (before : Option (List ℕ)) (ss : List Said) → joined_parts before (map part_of ss) ≡ file_of before ss
 said-joined before [] = refl
 said-joined before (said_text t ∷ ss) = ap (λ bs. parting before ++ (t ++ bs)) (said-joined (Some t) ss)
-said-joined before (said a ∷ ss) = ap (λ bs. opening_behind before ++ (bytes_of (action_tokens a) ++ (codes "}}" ++ bs))) (said-joined None ss)
+said-joined before (said a ∷ ss) = ap (λ bs. opening_after before ++ (bytes_of (action_tokens a) ++ (codes "}}" ++ bs))) (said-joined None ss)
 
 -- a file of what is said has items that say it
 pub has-said : (ss : List Said) → AreSaid ss → (xs : List Item) × HasItems every_action (file_of None ss) xs × Says ss xs

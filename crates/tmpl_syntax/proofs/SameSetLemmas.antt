@@ -1,4 +1,4 @@
--- For the law `set_accepted`: what comes of a set's templates where they are added to none, one by one, and of a blank one behind them.
+-- For the law `set_accepted`: what comes of a set's templates where they are added to none, one by one, and of a blank one after them.
 use Rattle.std.proofs.Common.{◌≡◌, ◌∙◌, ℕ, Bool, true, false, ◌&&◌, List, [], ◌∷◌, ◌++◌, Option, Some, None}
 use Rattle.std.proofs.Common.{refl, subst, codes, sym, ap, map, cond, if◌then◌else◌}
 use Rattle.std.specs.Prelude.{MatchOption, find}

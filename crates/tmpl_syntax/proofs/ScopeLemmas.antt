@@ -191,7 +191,7 @@ module _ (xs : List Role) (i : ℕ) (c : Opening) (p : Names) (at : slice_get xs
     sees-ranged range thought n =
         Decides-like (is_known names n) (opened-old n) (λ b. ⊎_elim (λ o. o) (λ k. absurd (k.1 range thought)) (opened-back n b)) (h n)
 
--- at an else of the opening at j, or behind it: what is brought there before it is what is brought to it where one is thought of
+-- at an else of the opening at j, or after it: what is brought there before it is what is brought to it where one is thought of
 module _ (xs : List Role) (i j a : ℕ) (b : Option (Branch × Names)) (part : IsElseOf xs b j i) (even : Even xs i a) (le : a ≤ i + 1)
     (ranged : (o : IsOpen xs j a) → o.opened ≡ opened.control Range → HasElse xs j a) (u : Option ℕ) (own : (q : ℕ) → u ≡ Some q → q ≡ j) where
   its-else : (q m : ℕ) (d : Option (Branch × Names)) → i ≤ m → m < i + 1 → IsElseOf xs d q m → Some j ≡ Some q

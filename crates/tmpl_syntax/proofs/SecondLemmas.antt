@@ -30,7 +30,7 @@ IsSecond earlier d =
     (first : Definition) × Contains earlier first × (first.name ≡ d.name) × (is_blank first.nodes ≡ false) × (is_blank d.nodes ≡ false)
 
 abbrev Once : List Definition → Type 0
-Once ds = (before : List Definition) (d : Definition) (behind : List Definition) → ds ≡ before ++ d ∷ behind → IsSecond before d → ⊥
+Once ds = (before : List Definition) (d : Definition) (after : List Definition) → ds ≡ before ++ d ∷ after → IsSecond before d → ⊥
 
 once-none : (ds : List Definition) → Once ds → NoneSecond ds
 once-none ds once i j d lt within same = by (is_blank (get_or ds i d).nodes) (is_blank (get_or ds j d).nodes) refl refl
@@ -46,17 +46,17 @@ once-none ds once i j d lt within same = by (is_blank (get_or ds i d).nodes) (is
     by false true e f = refl
     by false false e f = absurd (once (take j ds) (get_or ds j d) (drop (j + 1) ds) split (get_or ds i d, earlier, same, e, f))
 
-none-apart : (before : List Definition) (d : Definition) (behind : List Definition) → NoneSecond (before ++ d ∷ behind) → IsSecond before d → ⊥
-none-apart before d behind none (first, has, same, some, new) =
+none-apart : (before : List Definition) (d : Definition) (after : List Definition) → NoneSecond (before ++ d ∷ after) → IsSecond before d → ⊥
+none-apart before d after none (first, has, same, some, new) =
     let (k, lt, at) = at_from_Contains before first has in
-    let both = none k (length before) d lt (omega (arith, length-append before (d ∷ behind))) in
-    let pair = rw (get_or_append_left before (d ∷ behind) d k lt, at d, get_or-append_seam before d behind d) at both in
+    let both = none k (length before) d lt (omega (arith, length-append before (d ∷ after))) in
+    let pair = rw (get_or_append_left before (d ∷ after) d k lt, at d, get_or-append_seam before d after d) at both in
     let blank = rw (some, new) at pair same in cc
 
 -- what holds of definitions holds of the first of them
-none-part : (before : List Definition) (d : Definition) (behind : List Definition) → NoneSecond (before ++ d ∷ behind) → NoneSecond (before ++ d ∷ [])
-none-part before d behind none = once-none (before ++ d ∷ []) (λ bs e es are s. none-apart bs e (es ++ behind)
-    (subst NoneSecond (sym (append_assoc before (d ∷ []) behind) ∙ ap (λ ds. ds ++ behind) are ∙ append_assoc bs (e ∷ es) behind) none) s)
+none-part : (before : List Definition) (d : Definition) (after : List Definition) → NoneSecond (before ++ d ∷ after) → NoneSecond (before ++ d ∷ [])
+none-part before d after none = once-none (before ++ d ∷ []) (λ bs e es are s. none-apart bs e (es ++ after)
+    (subst NoneSecond (sym (append_assoc before (d ∷ []) after) ∙ ap (λ ds. ds ++ after) are ∙ append_assoc bs (e ∷ es) after) none) s)
 
 -- ---- the names of those that are not blank
 
@@ -95,7 +95,7 @@ second-known earlier d s =
 
 -- ---- a list in two parts
 
--- a second definition is in the first, or in the other one, behind the names of the first
+-- a second definition is in the first, or in the other one, after the names of the first
 abbrev Walked : List Name → List Definition → List Definition → Type 0
 Walked names ds es = second_from names (ds ++ es) ≡ option_or (second_from names ds) (second_from (names ++ kept ds) es)
 
@@ -111,16 +111,16 @@ walk names (d ∷ ds) es = by (is_blank d.nodes) (is_known names d.name) (walk n
     by false true e f = refl
     by false false e f = f ∙ ap (λ ns. option_or (second_from (names ++ d.name ∷ []) ds) (second_from ns es)) (append_assoc names (d.name ∷ []) (kept ds))
 
--- a second definition behind others
-at-second : (before : List Definition) (d : Definition) (behind : List Definition) → IsSecond before d
-    → second_in (before ++ d ∷ behind) ≡ option_or (second_in before) (Some d.line)
+-- a second definition after others
+at-second : (before : List Definition) (d : Definition) (after : List Definition) → IsSecond before d
+    → second_in (before ++ d ∷ after) ≡ option_or (second_in before) (Some d.line)
 unfolding second_in
-at-second before d behind s = walk [] before (d ∷ behind) ∙ rw (s.4, second-known before d s)
+at-second before d after s = walk [] before (d ∷ after) ∙ rw (s.4, second-known before d s)
 
 -- ---- what is found
 
 none-once-in : (ds : List Definition) → second_in ds ≡ None → Once ds
-none-once-in ds e before d behind are s = by (second_in before) (sym (at-second before d behind s) ∙ ap second_in (sym are) ∙ e)
+none-once-in ds e before d after are s = by (second_in before) (sym (at-second before d after s) ∙ ap second_in (sym are) ∙ e)
   where
     by : (o : Option ℕ) → option_or o (Some d.line) ≡ None → ⊥
     by None n = cc
@@ -129,10 +129,10 @@ none-once-in ds e before d behind are s = by (second_in before) (sym (at-second 
 pub none-second : (ds : List Definition) → second_in ds ≡ None → NoneSecond ds
 none-second ds e = once-none ds (none-once-in ds e)
 
--- what is found is the first one, behind definitions of which none is a second one
+-- what is found is the first one, after definitions of which none is a second one
 abbrev Found : List Name → List Definition → ℕ → Type 0
 Found names ds line =
-    (before : List Definition) × (d : Definition) × (behind : List Definition) × (ds ≡ before ++ d ∷ behind)
+    (before : List Definition) × (d : Definition) × (after : List Definition) × (ds ≡ before ++ d ∷ after)
     × (second_from names before ≡ None) × (is_blank d.nodes ≡ false) × (is_known (names ++ kept before) d.name ≡ true) × (line ≡ d.line)
 
 found : (names : List Name) (ds : List Definition) (line : ℕ) → second_from names ds ≡ Some line → Found names ds line
@@ -194,7 +194,7 @@ module _ (names : List Name) (held_ds : List held.Definition) (i : ℕ) (d : hel
   abbrev with_it : Option ℕ
   with_it = second_from (names ++ d.name ∷ []) (drop (i + 1) ds)
 
-  -- the definition at a place decides, or what stands behind it
+  -- the definition at a place decides, or what stands after it
   next : second_from names (drop i ds) ≡ second_if (is_blank (nodes_in d.nodes.items)) (is_known names d.name) d.line without with_it
   next =
       let at : slice_get ds i ≡ Some (definition_of d) = slice_get-map definition_of held_ds i

@@ -24,16 +24,16 @@ use Rattle.tmpl_syntax.specs.computed.Build.{branch_before, end_before, parts_wi
 use Rattle.tmpl_syntax.specs.Laws.{SpellsWhereFine, SpellsAtMostOne}
 use Rattle.tmpl_syntax.proofs.NameLemmas.{faultless}
 
--- a part behind which an else may stand
+-- a part after which an else may stand
 open-end : (b : Option Branch) (f : Frame) → takes_else b (Some f) ≡ true → (is_template f.opening || f.has_else) ≡ false
 open-end b f e =
     let p = and_parts (joins b f.opening) (not f.has_else) e in ap (λ t. t || f.has_else) (joins-own b f.opening p.0) ∙ not-true f.has_else p.1
 
--- only the `end` may stand behind a part: its plain else came already, or it is the body of a template
+-- only the `end` may stand after a part: its plain else came already, or it is the body of a template
 abbrev ends_only : Frame → Bool
 ends_only f = is_template f.opening || f.has_else
 
--- what stands behind a part
+-- what stands after a part
 data Closing : Bool → List Item → List Definition → Nodes → List Item → List Definition → Type 0 where
   by_end : {b : Bool} {line : ℕ} {zs : List Item} {gs : List Definition} → Closing b (item line (action_item end_action) ∷ zs) gs none zs gs
   by_else : {ys zs : List Item} {es gs : List Definition} {other : Nodes} → Closes ys es other zs gs → Closing false ys es other zs gs
@@ -59,7 +59,7 @@ closes-of _ e (by_else c) = c
 closing-of : {ys zs : List Item} {es gs : List Definition} {other : Nodes} (b : Bool) → b ≡ false → Closes ys es other zs gs → Closing b ys es other zs gs
 closing-of b e c = rw e (by_else c)
 
--- behind a plain else, and in the body of a template, only the `end` stands
+-- after a plain else, and in the body of a template, only the `end` stands
 ended : {xs ys zs : List Item} {ds es gs : List Definition} {ns other : Nodes} (b : Bool) → b ≡ true → Closing b ys es other zs gs → Leads xs ds ns ys es
     → (line : ℕ) × Leads xs ds ns (item line (action_item end_action) ∷ zs) gs
 ended b e (by_end {line = line}) d = (line, d)

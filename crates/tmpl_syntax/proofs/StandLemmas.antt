@@ -34,7 +34,7 @@ pub record Stood (xs : List Role) (i : ℕ) (seen : List Name) (f : Frame) (j : 
   pub within : IsWithin f (length seen)
   pub part : is_template f.opening ≡ false → Sees xs (Some j) i (take f.part seen)
 
--- what is known again behind the end of the frame
+-- what is known again after the end of the frame
 abbrev pub closed_at : Frame → Known → Known
 closed_at f known = closed_names (Some f) (with_inner known (take f.start known.inner))
 

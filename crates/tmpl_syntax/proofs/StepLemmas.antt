@@ -54,7 +54,7 @@ module _ (xs : List Role) (i : ℕ) (known : Known) (p : Names) (fs : List Frame
   part-first d at Range is = sees-ranged xs i (opened.control d) p at refl (Some i) (λ q e. cc) known.inner h.sees (ap opened.control is) refl
   part-first d at _ is = sees-opened xs i (opened.control d) p at refl (Some i) (λ q e. cc) known.inner h.sees (λ r e. cc)
 
-  -- in a template nothing is known, and behind it what is known here
+  -- in a template nothing is known, and after it what is known here
   pub stands-opened : (c : Opening) → slice_get xs i ≡ Some (opener c p)
       → Stands xs (i + 1) (opened_names c p.declares known) (entered c p (top fs) known.inner ∷ fs)
   stands-opened (opened.control d) at = (
@@ -143,7 +143,7 @@ has-came xs i j None h part d = (λ e. (i, omega arith, part), λ e. refl)
 has-came xs i j (Some b) h part d =
     Decides-like h (else_before xs j i (i + 1) (omega arith)) (has-before xs (else_part (Some b)) i part.at (λ g. cc) j) d
 
--- the names that a branch declares reach what is behind it
+-- the names that a branch declares reach what is after it
 branch-reaches : (xs : List Role) (u : Option ℕ) (i j : ℕ) (b : Option (Branch × Names)) (n : Name) → IsElseOf xs b j i → IsOpen xs j (i + 1)
     → Contains (names_in (else_part b)).declares n → Reaches xs u i (i + 1) (i + 1) n
 branch-reaches xs u i j None n part o c = in-nothing n c
@@ -172,7 +172,7 @@ module _ (xs : List Role) (i : ℕ) (known : Known) (f : Frame) (fs : List Frame
   ranged : (o : IsOpen xs s.1 (i + 1)) → o.opened ≡ opened.control Range → HasElse xs s.1 (i + 1)
   ranged o e = ranged-else xs i s.1 b f part placed (same-opening xs s.1 f.opening o.opened s.2.opened o.at ∙ e)
 
-  -- behind it, in its part and in a further one, is seen what it declares and what the part before saw
+  -- after it, in its part and in a further one, is seen what it declares and what the part before saw
   abbrev seen : List Name
   seen = with_names (take f.part names) ds
 

@@ -234,7 +234,7 @@ sound-end xs i known (f ∷ fs) e s =
     let all : Sound xs (length xs) known (f ∷ fs) = subst (λ n. Sound xs n known (f ∷ fs)) e s in (all.none_refused, all.stands.1, all.stands.2.last.is_open)
 
 module _ (xs : List Role) where
-  -- an item is refused, or what stands behind it decides
+  -- an item is refused, or what stands after it decides
   judged-item : (i : ℕ) (known : Known) (fs : List Frame) (x : Role) → slice_get xs i ≡ Some x → Sound xs i known fs → (v : Verdict)
       → let seen = names_at x (top fs) known.inner in
       (Sound xs (i + 1) (known_after x (top fs) (with_inner known seen)) (frames_after x fs seen) → Judged xs v)

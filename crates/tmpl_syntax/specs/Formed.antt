@@ -19,7 +19,7 @@ is_among scope name = list_any (bytes_eq name) scope
 abbrev pub are_among : List Name → List Name → Bool
 are_among scope names = list_all (is_among scope) names
 
--- the scope behind what binds a pipeline's value
+-- the scope after what binds a pipeline's value
 abbrev pub declared_to : Binding → List Name → List Name
 declared_to (declare name) scope = name ∷ scope
 declared_to (declare_pair key name) scope = name ∷ key ∷ scope
@@ -35,14 +35,14 @@ abbrev pub is_looped : Control → Bool → Bool
 is_looped Range loop = true
 is_looped c loop = loop
 
--- the scope behind a node: a variable of an action lasts to the end of the nodes among which it stands, and those of a
+-- the scope after a node: a variable of an action lasts to the end of the nodes among which it stands, and those of a
 -- control to its end
-abbrev pub scope_behind : NodeKind → List Name → List Name
-scope_behind (action h) scope = declared_to h.binding scope
-scope_behind n scope = scope
+abbrev pub scope_after : NodeKind → List Name → List Name
+scope_after (action h) scope = declared_to h.binding scope
+scope_after n scope = scope
 
 abbrev mutual
-  -- a node where these names are in scope, in the body of a range or in none, with so many levels around it
+  -- a node where these names are in scope, in the body of a range or in none, with this many levels around it
   pub is_formed : NodeKind → List Name → Bool → ℕ → Bool
   is_formed (text bytes) scope loop levels = true
   is_formed (action h) scope loop levels = are_among scope (names_of h).uses
@@ -54,11 +54,11 @@ abbrev mutual
   is_formed continue_node scope loop levels = loop
   is_formed (template_node name given) scope loop levels = are_among scope (names_given given).uses
 
-  -- nodes one behind the other
+  -- nodes one after the other
   pub are_formed : Nodes → List Name → Bool → ℕ → Bool
   are_formed tree.none scope loop levels = true
   are_formed (tree.then line n ns) scope loop levels =
-      is_formed n scope loop levels && are_formed ns (scope_behind n scope) loop levels
+      is_formed n scope loop levels && are_formed ns (scope_after n scope) loop levels
 
 -- the nodes of a template: at its start no name is in scope but `$`, and nothing is around it
 abbrev pub IsFormed : Nodes → Type 0

@@ -1,5 +1,5 @@
 -- Laws of the definitions.
-use Rattle.std.specs.Prelude.{◌≡◌, ◌↔◌, ◌≤◌, ◌+◌, ℕ, true, List, Result, Ok, Err, length, map}
+use Rattle.std.specs.Prelude.{◌≡◌, ◌↔◌, ◌≤◌, ◌⊎◌, ◌+◌, ℕ, true, List, ◌∷◌, Result, Ok, Err, length, map}
 use Rattle.tmpl_grammar.specs.Action.{Action}
 use Rattle.tmpl_syntax.specs.Tree.{Nodes, Definition}
 use Rattle.tmpl_syntax.specs.Language.{Language, every_action}
@@ -12,7 +12,9 @@ use Rattle.tmpl_syntax.specs.Formed.{IsFormed, AreFormed}
 use Rattle.tmpl_syntax.specs.Need.{NeedAtMost, most_need}
 use Rattle.tmpl_syntax.specs.Parse.{most_bytes, all_defined, template_in}
 use Rattle.tmpl_syntax.specs.computed.Build.{nodes_from, definitions_from}
-use Rattle.tmpl_syntax.specs.Fault.{Reason}
+use Rattle.tmpl_syntax.specs.Fault.{Reason, too_long, second_definition}
+use Rattle.tmpl_syntax.specs.Place.Body.{IsFine, IsLeftOpen}
+use Rattle.tmpl_syntax.specs.Refusals.{AreRefusals, Found, HasRefusals, Site, mended_each, roles_in}
 use Rattle.tmpl_syntax.specs.Set.{Template}
 use Rattle.tmpl_syntax.specs.Parse.{Refusal, IsAccepted, IsRefusedBy, Parses}
 use Rattle.tmpl_syntax.specs.computed.Parse.{items_of, parsed}
@@ -92,9 +94,32 @@ NeedsAtMostBytes =
     → HasItems language bytes items → Spells items ds own
     → NeedAtMost (3 + length bytes) (map (template_in file) (all_defined file ds own))
 
--- so of a file within the limit it needs at most so many
+-- so of a file within the limit it needs at most this many
 abbrev pub NeedsAtMost : Type 0
 NeedsAtMost =
     (language : Language) (file bytes : List ℕ) (items : List Item) (ds : List Definition) (own : Nodes)
     → length bytes ≤ most_bytes → HasItems language bytes items → Spells items ds own
     → NeedAtMost most_need (map (template_in file) (all_defined file ds own))
+
+-- the reasons that a file is refused for by its items alone: it is not too long, and defines no template twice
+abbrev pub IsOfItems : Reason → Type 0
+IsOfItems too_long = ⊥
+IsOfItems second_definition = ⊥
+IsOfItems why = Unit {0}
+
+-- where a file is refused for such a reason, that is the first of all that is refused of it
+abbrev pub FindsRefusal : Type 0
+FindsRefusal =
+    (file bytes : List ℕ) (line : ℕ) (why : Reason) (rs : List Found) → IsOfItems why
+    → IsRefusedBy every_action file bytes line why → HasRefusals bytes rs
+    → (place : ℕ) × (more : List Found) × (rs ≡ (place, line, why) ∷ more)
+
+-- where each refused item is mended, no item is refused
+abbrev pub AcceptsMended : Type 0
+AcceptsMended =
+    (last : ℕ) (xs : List Site) (rs : List Found) → AreRefusals last xs rs
+    → IsFine (roles_in (mended_each rs xs)) ⊎ IsLeftOpen (roles_in (mended_each rs xs))
+
+-- something is all that is refused of each file
+abbrev pub HasSomeRefusals : Type 0
+HasSomeRefusals = (bytes : List ℕ) → (rs : List Found) × HasRefusals bytes rs

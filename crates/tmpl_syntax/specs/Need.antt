@@ -9,7 +9,7 @@ use Rattle.tmpl_syntax.specs.Tree.{NodeKind, text, action, control_node, break_n
 use Rattle.tmpl_syntax.specs.Tree.{Nodes, Tree}
 use Rattle.tmpl_syntax.specs.Set.{Template}
 
--- a control whose header declares so many variables, by what the nodes of its body and of its else part need
+-- a control whose header declares this many variables, by what the nodes of its body and of its else part need
 abbrev pub need_of_parts : Control → ℕ → ℕ → ℕ → ℕ
 -- an `if`: the variable is there in both parts
 need_of_parts control.If declared body other = max (declared + body) (declared + other)
@@ -18,14 +18,14 @@ need_of_parts control.With declared body other = max (1 + declared + body) (decl
 -- a `range`: its variables are there in the body alone, while the dot from outside and the value gone over are kept
 need_of_parts control.Range declared body other = max (2 + declared + body) other
 
--- how many variables a node leaves to the nodes behind it: an action the one that it declares, a control none
-abbrev pub left_behind : NodeKind → ℕ
-left_behind (text bytes) = 0
-left_behind (action h) = declared_count h.binding
-left_behind (control_node c h body other) = 0
-left_behind break_node = 0
-left_behind continue_node = 0
-left_behind (template_node name given) = 0
+-- how many variables a node leaves to the nodes after it: an action the one that it declares, a control none
+abbrev pub left_after : NodeKind → ℕ
+left_after (text bytes) = 0
+left_after (action h) = declared_count h.binding
+left_after (control_node c h body other) = 0
+left_after break_node = 0
+left_after continue_node = 0
+left_after (template_node name given) = 0
 
 abbrev mutual
   -- while the pipeline of a header is computed its variables are not there yet
@@ -42,7 +42,7 @@ abbrev mutual
   -- the most that one of the nodes needs, above the variables that those before it in this list leave
   pub need_of_nodes : Nodes → ℕ
   need_of_nodes tree.none = 0
-  need_of_nodes (tree.then line n ns) = max (need_of_node n) (left_behind n + need_of_nodes ns)
+  need_of_nodes (tree.then line n ns) = max (need_of_node n) (left_after n + need_of_nodes ns)
 
 -- a template, with three cells of its own: for dot, for `$`, and for where its caller goes on
 abbrev pub need : Tree → ℕ
@@ -52,7 +52,7 @@ need t = 3 + need_of_nodes t.nodes
 abbrev pub most_need : ℕ
 most_need = 16777219
 
--- each of these templates needs at most so many
+-- each of these templates needs at most this many
 abbrev pub NeedAtMost : ℕ → List Template → Type 0
 NeedAtMost n [] = Unit {0}
 NeedAtMost n (t ∷ ts) = (need t.1 ≤ n) × NeedAtMost n ts

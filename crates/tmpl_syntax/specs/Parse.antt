@@ -40,7 +40,7 @@ NoneSecond ds = AllPairs (λ (c d : Definition). c.name ≡ d.name → (is_blank
 -- the first definition with which that is no longer so stands at this line
 abbrev pub HasSecond : List Definition → ℕ → Type 0
 HasSecond ds line =
-    (before : List Definition) × (d : Definition) × (behind : List Definition) × (ds ≡ before ++ d ∷ behind)
+    (before : List Definition) × (d : Definition) × (after : List Definition) × (ds ≡ before ++ d ∷ after)
     × NoneSecond before × (NoneSecond (before ++ d ∷ []) → ⊥) × (line ≡ d.line)
 
 -- a file is cut into pieces, and these are read as items by the grammar; it is accepted if no item of it is refused,

@@ -24,6 +24,10 @@ tree_named name ts = option_map (λ (t : Template). t.1) (find (λ (t : Template
 abbrev pub number_of : List ℕ → List Template → Option ℕ
 number_of name ts = position (λ (t : Template). bytes_eq name t.0) ts
 
+-- it without its nodes
+abbrev pub outlined : Template → Template
+outlined t = (t.0, record { file = t.1.file; nodes = tree.none })
+
 -- whether all nodes are texts of white space
 abbrev pub is_blank : Nodes → Bool
 is_blank tree.none = true

@@ -14,7 +14,7 @@ mutual
     -- a call of the template of this name, with a pipeline or with nothing
     template_node : List ℕ → Option Pipeline → NodeKind
 
-  -- nodes one behind the other, each with its line
+  -- nodes one after the other, each with its line
   pub data Nodes : Type 0 where
     none : Nodes
     then : ℕ → NodeKind → Nodes → Nodes

@@ -4,5 +4,6 @@ pub mod Frames
 pub mod Item
 pub mod Parse
 pub mod Print
+pub mod Refusals
 pub mod Set
 pub mod View

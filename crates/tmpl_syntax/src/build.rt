@@ -21,7 +21,7 @@ use tmpl_values::Bytes;
 pub(crate) struct Level {
     /// Its nodes, the last one first.
     pub(crate) nodes: Vec<Node>,
-    /// Those of the else part behind it.
+    /// Those of the else part after it.
     pub(crate) other: Vec<Node>,
 }
 
@@ -101,7 +101,7 @@ fn in_order(nodes: Vec<Node>) -> Vec<Node>
     nodes
 }
 
-/// Puts an item before those that are behind it.
+/// Puts an item before those that are after it.
 fn put(alloc: Global, parts: &mut Parts, item: Item) -> Result<(), AllocError>
     ensures { IfOk result (λ u. parts_of parts.new ≡ spec.parts_with (item_of item) (parts_of parts.old)) }
 {
@@ -113,7 +113,7 @@ fn put(alloc: Global, parts: &mut Parts, item: Item) -> Result<(), AllocError>
     }
 }
 
-/// Puts an action before the items that are behind it.
+/// Puts an action before the items that are after it.
 fn put_action(alloc: Global, parts: &mut Parts, line: u64, action: Action) -> Result<(), AllocError>
     ensures { IfOk result (λ u. parts_of parts.new
         ≡ spec.parts_with (item line (action_item (action_of action))) (parts_of parts.old)) }
@@ -191,7 +191,7 @@ fn add_node(nodes: &mut Vec<Node>, node: Node) -> Result<(), AllocError>
     Ok(())
 }
 
-/// Puts a control before those of the part around: its body is the innermost part, behind which its else part stands.
+/// Puts a control before those of the part around: its body is the innermost part, after which its else part stands.
 #[tactic(auto, using(crate::proofs::ViewLemmas::nodes), unfolding(crate::specs::computed::View::parts_of))]
 fn put_control(
     alloc: Global,
@@ -209,7 +209,7 @@ fn put_control(
     put_node(parts, line, what)
 }
 
-/// A control whose body, and the else part behind it, are these.
+/// A control whose body, and the else part after it, are these.
 #[tactic(auto, using(crate::proofs::ViewLemmas::nodes), unfolding(crate::specs::computed::View::parts_of))]
 fn control_kind(
     alloc: Global,

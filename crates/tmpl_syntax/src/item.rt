@@ -1,6 +1,6 @@
 //! The parts of a file with each action read.
 ghost use Rattle.std.specs.Prelude.{◌≡◌, ◌≤◌, ◌++◌, IfOk, OnOk, length, map};
-ghost use Rattle.tmpl_lex.specs.Part.{pieces_behind};
+ghost use Rattle.tmpl_lex.specs.Part.{pieces_after};
 ghost use Rattle.tmpl_lex.specs.Place.{StandsAt};
 ghost use Rattle.tmpl_lex.specs.Text.{text_piece};
 ghost use Rattle.tmpl_grammar.specs.computed.View.{action_reading};
@@ -10,9 +10,9 @@ ghost use Rattle.tmpl_syntax.specs.computed.Parse.{items_of};
 
 use crate::text::Text;
 use std::alloc::{AllocError, Global};
-use std::rc::Rc;
+use std::sync::Arc;
 use tmpl_grammar::{Action, Branch, Reading, read_action};
-use tmpl_lex::{Behind, Part, Rest, Token, first_part};
+use tmpl_lex::{AfterText, Part, Rest, Token, first_part};
 use tmpl_values::Bytes;
 
 /// A piece of a file, with its line.
@@ -37,7 +37,7 @@ pub(crate) enum ItemKind {
 
 /// The items of a file with these contents, of which each part is read as it is cut.
 #[tactic(auto, using(crate::proofs::ItemLemmas::none_so_far))]
-pub(crate) fn read_all(alloc: Global, contents: &Rc<Bytes>) -> Result<Vec<Item>, AllocError>
+pub(crate) fn read_all(alloc: Global, contents: &Arc<Bytes>) -> Result<Vec<Item>, AllocError>
     requires { length contents.now.value ≤ 16777216 }
     ensures { IfOk result (λ v. map item_of v.items ≡ items_of contents.now.value) }
 {
@@ -48,7 +48,7 @@ pub(crate) fn read_all(alloc: Global, contents: &Rc<Bytes>) -> Result<Vec<Item>,
     loop {
         let part = first_part(file, rest, &mut tokens)?;
         push_text(contents, &mut items, &part)?;
-        push_behind(alloc, &mut items, tokens.as_slice(), part.behind)?;
+        push_after(alloc, &mut items, tokens.as_slice(), part.after)?;
         match part.rest {
             Some(next) => rest = next,
             None => return Ok(items),
@@ -57,7 +57,11 @@ pub(crate) fn read_all(alloc: Global, contents: &Rc<Bytes>) -> Result<Vec<Item>,
 }
 
 /// Adds the text of a part of a file with these contents, unless it is empty.
-fn push_text(contents: &Rc<Bytes>, items: &mut Vec<Item>, part: &Part<'_>) -> Result<(), AllocError>
+fn push_text(
+    contents: &Arc<Bytes>,
+    items: &mut Vec<Item>,
+    part: &Part<'_>,
+) -> Result<(), AllocError>
     requires placed { StandsAt contents.now.value part.now.start part.now.text.now }
     requires within { length contents.now.value ≤ 16777216 }
     ensures { OnOk result (map item_of items.new.items
@@ -72,23 +76,23 @@ fn push_text(contents: &Rc<Bytes>, items: &mut Vec<Item>, part: &Part<'_>) -> Re
     Ok(())
 }
 
-/// Adds what stands behind a text, with these tokens, unless it is nothing.
-fn push_behind(
+/// Adds what stands after a text, with these tokens, unless it is nothing.
+fn push_after(
     alloc: Global,
     items: &mut Vec<Item>,
     tokens: &[Token<'_>],
-    behind: Behind,
+    after: AfterText,
 ) -> Result<(), AllocError>
     ensures { OnOk result (map item_of items.new.items
-        ≡ map item_of items.old.items ++ items_in (pieces_behind tokens.now behind)) }
+        ≡ map item_of items.old.items ++ items_in (pieces_after tokens.now after)) }
 {
-    match behind {
-        Behind::Nothing => Ok(()),
-        Behind::Action(line) => {
+    match after {
+        AfterText::Nothing => Ok(()),
+        AfterText::Action(line) => {
             let what = item_read(read_action(alloc, tokens)?);
             Ok(items.push(Item { line, what })?)
         }
-        Behind::Unreadable(line) => Ok(items.push(Item {
+        AfterText::Unreadable(line) => Ok(items.push(Item {
             line,
             what: ItemKind::Unreadable,
         })?),
@@ -96,7 +100,7 @@ fn push_behind(
 }
 
 /// What an action is that was read so.
-fn item_read(reading: Reading) -> ItemKind
+pub(crate) fn item_read(reading: Reading) -> ItemKind
     ensures { item_kind result ≡ read_item (action_reading reading) }
 {
     match reading {

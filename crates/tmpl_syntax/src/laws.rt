@@ -2,6 +2,7 @@
 ghost use Rattle.tmpl_syntax.specs.Laws.{HasItemsOf, HasOneList, HasSomeItems, HasVerdict, HasOneVerdict};
 ghost use Rattle.tmpl_syntax.specs.Laws.{SpellsWhereFine, SpellsAtMostOne, SpellsFormed, AcceptsAsParsed};
 ghost use Rattle.tmpl_syntax.specs.Laws.{RefusesAsParsed, AcceptsInLarger, HasOutcome, HasOneOutcome};
+ghost use Rattle.tmpl_syntax.specs.Laws.{AcceptsMended, FindsRefusal, HasSomeRefusals};
 ghost use Rattle.tmpl_syntax.specs.Laws.{NeedsAtMost, NeedsAtMostBytes};
 ghost use Rattle.tmpl_syntax.specs.Print.Join.{CutsBack};
 ghost use Rattle.tmpl_syntax.specs.Print.Laws.{AcceptsBack, AcceptsPrinted, KeepsPrintable};
@@ -45,6 +46,19 @@ pub fn one_outcome()
     ensures one { HasOneOutcome }
     ensures accepted { AcceptsAsParsed }
     ensures refused { RefusesAsParsed }
+{}
+
+/// The law that, of all that is refused of a file, the first is why it is refused, unless it is too long or defines a
+/// template twice.
+pub fn first_refusal()
+    ensures { FindsRefusal }
+{}
+
+/// The law that something is all that is refused of each file, and that, where each item that is refused is mended, none
+/// is refused; something may then be open at the end.
+pub fn accepted_mended()
+    ensures exists { HasSomeRefusals }
+    ensures accepted { AcceptsMended }
 {}
 
 /// The law that a language with more actions, such as more else branches, accepts each file that one with fewer

@@ -10,18 +10,21 @@ mod name_hash;
 mod parse;
 mod place;
 mod print;
+mod refused;
 mod set;
+mod site;
 mod text;
 mod tree;
 
 pub use fault::{ParseFault, ParseKind};
 pub use laws::{
-    accepted_back, bounded_need, cut_back, formed, more_branches, one_list_of_items, one_outcome,
-    one_spelling, one_verdict, printable, printed_back, set_back,
+    accepted_back, accepted_mended, bounded_need, cut_back, first_refusal, formed, more_branches,
+    one_list_of_items, one_outcome, one_spelling, one_verdict, printable, printed_back, set_back,
 };
 pub use name_hash::NameHash;
 pub use parse::{MOST_BYTES, base_name, parse_file, parse_owned};
 pub use print::{print_set, print_tree};
+pub use refused::{Refused, refusals};
 pub use set::{Names, Set};
 pub use text::Text;
 pub use tmpl_grammar::{

@@ -17,7 +17,7 @@ use crate::place::names::KnownNames;
 use crate::set::Set;
 use crate::tree::{Definition, Tree};
 use std::alloc::{AllocError, Global};
-use std::rc::Rc;
+use std::sync::Arc;
 use tmpl_values::Bytes;
 
 /// The most bytes that a file may have (our own limit).
@@ -120,10 +120,10 @@ fn add_file(alloc: Global, set: &mut Set, file: &str, bytes: Vec<u8>) -> Result<
 }
 
 /// The bytes, to be shared by the texts of a file.
-fn shared(alloc: Global, bytes: Vec<u8>) -> Result<Rc<Bytes>, AllocError>
+pub(crate) fn shared(alloc: Global, bytes: Vec<u8>) -> Result<Arc<Bytes>, AllocError>
     ensures { IfOk result (λ contents. contents.value ≡ bytes.items) }
 {
-    Ok(Rc::new(alloc, Bytes::new(bytes))?)
+    Ok(Arc::new(alloc, Bytes::new(bytes))?)
 }
 
 /// Adds the templates of a file with these items and bytes to the set.
@@ -182,7 +182,7 @@ fn templates_of(
     ensures { IfOk result (λ v. map template_of v.items
         ≡ map (template_in file.now) (map definition_of definitions.items)) }
 {
-    let path = Rc::new(alloc, Bytes::new(copy_of(alloc, file.as_bytes())?))?;
+    let path = Arc::new(alloc, Bytes::new(copy_of(alloc, file.as_bytes())?))?;
     templates_at(alloc, &path, definitions)
 }
 
@@ -190,7 +190,7 @@ fn templates_of(
 #[tactic(auto)]
 fn templates_at(
     alloc: Global,
-    path: &Rc<Bytes>,
+    path: &Arc<Bytes>,
     definitions: Vec<Definition>,
 ) -> Result<Vec<(Vec<u8>, Tree)>, AllocError>
     ensures { IfOk result (λ v. map template_of v.items
@@ -204,16 +204,16 @@ fn templates_at(
 }
 
 /// The definition as a template in the file of this path.
-fn template(path: &Rc<Bytes>, definition: Definition) -> Result<(Vec<u8>, Tree), AllocError>
+fn template(path: &Arc<Bytes>, definition: Definition) -> Result<(Vec<u8>, Tree), AllocError>
     ensures { IfOk result (λ t. template_of t ≡ template_in path.now.value (definition_of definition)) }
 {
     let Definition { name, nodes, .. } = definition;
-    let file = Rc::clone(path)?;
+    let file = Arc::clone(path)?;
     Ok((name.into_vec(), Tree { file, nodes }))
 }
 
 /// These bytes, in a list of their own.
-fn copy_of(alloc: Global, bytes: &[u8]) -> Result<Vec<u8>, AllocError>
+pub(crate) fn copy_of(alloc: Global, bytes: &[u8]) -> Result<Vec<u8>, AllocError>
     ensures { IfOk result (λ v. v.items ≡ bytes.now) }
 {
     bytes.to_vec(alloc)

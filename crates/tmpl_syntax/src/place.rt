@@ -1,9 +1,10 @@
 //! Whether the actions of a file stand where they may.
 
 pub(crate) mod check;
-mod frame;
+pub(crate) mod frame;
+pub(crate) mod mend;
 pub(crate) mod names;
-mod pass;
+pub(crate) mod pass;
 mod rules;
-mod scopes;
+pub(crate) mod scopes;
 mod uses;

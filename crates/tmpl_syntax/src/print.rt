@@ -4,7 +4,7 @@ ghost use Rattle.std.specs.List.{ends_with};
 ghost use Rattle.tmpl_grammar.specs.View.{printed_of};
 ghost use Rattle.tmpl_syntax.specs.Print.Laws.{SetBack};
 ghost use Rattle.tmpl_syntax.specs.Print.Printed.{node_said, nodes_said, printed, printed_set};
-ghost use Rattle.tmpl_syntax.specs.Print.Printed.{opening_behind, parting, template_said};
+ghost use Rattle.tmpl_syntax.specs.Print.Printed.{opening_after, parting, template_said};
 ghost use Rattle.tmpl_syntax.specs.Print.Printed.{said, said_text};
 ghost use Rattle.tmpl_syntax.specs.View.{control_of, node_of, nodes_in, set_view, tree_of};
 ghost use Rattle.tmpl_syntax.specs.computed.View.{page_of, text_of};
@@ -23,7 +23,7 @@ pub(crate) struct Page<'t> {
     before: Option<&'t [u8]>,
 }
 
-/// A set as one template file: each template as a definition with a newline behind it, in the order of the set.
+/// A set as one template file: each template as a definition with a newline after it, in the order of the set.
 ///
 /// Read as a file, unless it is longer than one may be, it makes the same templates in the same order, apart from files and
 /// lines; where none has the base name of that file, there is one more of this name, which is blank.
@@ -154,9 +154,9 @@ impl<'t> Page<'t> {
     }
 }
 
-/// What opens an action behind a text or none: its `{{`, which takes back a space behind a text that ends in `{`.
+/// What opens an action after a text or none: its `{{`, which takes back a space after a text that ends in `{`.
 fn opening(before: Option<&[u8]>) -> &'static [u8]
-    ensures { result.now ≡ opening_behind (text_of before.entry) }
+    ensures { result.now ≡ opening_after (text_of before.entry) }
 {
     match before {
         Some(text) => if ends_in_brace(text) { b" {{- " } else { b"{{" },
@@ -164,7 +164,7 @@ fn opening(before: Option<&[u8]>) -> &'static [u8]
     }
 }
 
-/// What parts a text from one before it: a comment, which takes back a space behind a text that ends in `{`.
+/// What parts a text from one before it: a comment, which takes back a space after a text that ends in `{`.
 fn parting(before: Option<&[u8]>) -> &'static [u8]
     ensures { result.now ≡ parting (text_of before.entry) }
 {

@@ -1,12 +1,12 @@
 //! The set of templates.
-ghost use Rattle.std.specs.Prelude.{◌≡◌, ◌≤◌, ◌<◌, ◌+◌, ◌&&◌, [], IfSome, OnOk, OnErr, Some};
+ghost use Rattle.std.specs.Prelude.{◌≡◌, ◌≤◌, ◌<◌, ◌+◌, ◌&&◌, [], IfOk, IfSome, OnOk, OnErr, Some};
 ghost use Rattle.std.specs.Prelude.{is_some, length, map, option_map, slice_get};
 ghost use Rattle.std.specs.Iterator.{YieldsFirstRef, item_count};
 ghost use Rattle.indexmap.specs.IndexMap.{hasher_of, spare};
 ghost use Rattle.tmpl_syntax.specs.View.{entries_view, hash_view, names_left, set_view, template_of, tree_of};
 ghost use Rattle.tmpl_syntax.specs.Kept.{AreKept, IsKept};
 ghost use Rattle.tmpl_syntax.specs.Set.{defined, defined_each, first_hasher, is_blank, known_hasher, number_of};
-ghost use Rattle.tmpl_syntax.specs.Set.{tree_named};
+ghost use Rattle.tmpl_syntax.specs.Set.{outlined, tree_named};
 
 use crate::blank::is_blank;
 use crate::name_hash::NameHash;
@@ -15,6 +15,7 @@ use indexmap::IndexMap;
 use indexmap::map::Keys;
 use std::alloc::{AllocError, Global};
 use std::marker::Model;
+use std::sync::Arc;
 
 /// Templates by their names, in the order in which the names were first defined (our own rule; Go
 /// keeps no order). A name is bytes that need not be UTF-8. The texts of the trees of one file lie in one block of
@@ -109,6 +110,17 @@ impl Set {
         }
     }
 
+    /// A set of templates with the same names and files, and no nodes: what a look-up by name and the fault of a run
+    /// need, where the trees may go. An error is want of memory.
+    pub fn outline(&self, alloc: Global) -> Result<Set, AllocError>
+        ensures value { IfOk result (λ o. set_view o ≡ map outlined (set_view self.now)) }
+        ensures hash { IfOk result (λ o. hash_view o ≡ hash_view self.now) }
+    {
+        let mut outline = Set::with_hash(alloc, *self.templates.hasher());
+        outline.define_all(outlines(alloc, self)?)?;
+        Ok(outline)
+    }
+
     /// How the names are hashed.
     pub(crate) fn name_hash(&self) -> NameHash
         ensures { result ≡ hash_view self.now }
@@ -141,6 +153,27 @@ impl Set {
             keys: self.templates.keys(),
         }
     }
+}
+
+/// The templates of a set without their nodes.
+fn outlines(alloc: Global, set: &Set) -> Result<Vec<(Vec<u8>, Tree)>, AllocError>
+    ensures { IfOk result (λ v. map template_of v.items ≡ map outlined (set_view set.now)) }
+{
+    let mut outlines = Vec::with_capacity(alloc, set.len())?;
+    for number in 0..set.len() {
+        let (name, tree) = set.template(number);
+        outlines.push(outline_of(alloc, name, tree)?)?;
+    }
+    Ok(outlines)
+}
+
+/// The template of this name and tree without its nodes.
+fn outline_of(alloc: Global, name: &[u8], tree: &Tree) -> Result<(Vec<u8>, Tree), AllocError>
+    ensures { IfOk result (λ t. template_of t ≡ outlined (name.now, tree_of tree.now)) }
+{
+    let file = Arc::clone(&tree.file)?;
+    let nodes = Vec::new(alloc);
+    Ok((name.to_vec(alloc)?, Tree { file, nodes }))
 }
 
 impl<'s> Iterator for Names<'s> {

@@ -4,14 +4,14 @@ ghost use Rattle.tmpl_lex.specs.Place.{StandsAt};
 
 use std::alloc::AllocError;
 use std::marker::Model;
-use std::rc::Rc;
+use std::sync::Arc;
 use tmpl_values::Bytes;
 
 /// A text of a template: a part of the bytes of its file, which all texts of the file share, so that none is copied.
 /// Contracts see it as the list of its bytes.
 #[derive(Drop)]
 pub struct Text {
-    contents: Rc<Bytes>,
+    contents: Arc<Bytes>,
     start: u32,
     end: u32,
 }
@@ -28,15 +28,25 @@ impl Model for Text {
 
 impl Text {
     /// These bytes, which stand at this place of the contents of a file.
-    pub(crate) fn new(contents: &Rc<Bytes>, start: usize, bytes: &[u8]) -> Result<Text, AllocError>
+    pub(crate) fn new(contents: &Arc<Bytes>, start: usize, bytes: &[u8]) -> Result<Text, AllocError>
         requires { StandsAt contents.now.value start bytes.now × (length contents.now.value ≤ 16777216) }
         ensures { IfOk result (λ t. t ≡ bytes.now) }
     {
         let end = start + bytes.len();
         Ok(Text {
-            contents: Rc::clone(contents)?,
+            contents: Arc::clone(contents)?,
             start: start as u32,
             end: end as u32,
+        })
+    }
+
+    /// The same text once more; its bytes are not copied.
+    pub fn share(&self) -> Result<Text, AllocError>
+        ensures { IfOk result (λ t. t ≡ self.now) }
+    {
+        Ok(Text {
+            contents: Arc::clone(&self.contents)?,
+            ..*self
         })
     }
 

@@ -1,6 +1,6 @@
 //! The tree of a template.
 use crate::text::Text;
-use std::rc::Rc;
+use std::sync::Arc;
 use tmpl_grammar::{Control, Header, Pipeline};
 use tmpl_values::Bytes;
 
@@ -48,7 +48,7 @@ pub struct ControlNode {
 #[derive(Drop)]
 pub struct Tree {
     /// The path of the file as it was given, which all templates of a file share.
-    pub file: Rc<Bytes>,
+    pub file: Arc<Bytes>,
     pub nodes: Vec<Node>,
 }
 

@@ -5,18 +5,18 @@ use Rattle.tmpl_lex.specs.Text.{text_piece}
 use Rattle.tmpl_lex.specs.Piece.{Token, Piece, text, action}
 use Rattle.tmpl_lex.specs.Cut.{Cuts}
 use Rattle.tmpl_grammar.specs.Print.{IsInside, bytes_of}
-use Rattle.tmpl_syntax.specs.Print.Printed.{opening_behind, parting}
+use Rattle.tmpl_syntax.specs.Print.Printed.{opening_after, parting}
 
 -- a text, or the tokens of an action
 pub data PrintedPart : Type 0 where
   a_text : List ℕ → PrintedPart
   an_action : List Token → PrintedPart
 
--- the bytes of parts, behind this text or none
+-- the bytes of parts, after this text or none
 abbrev pub joined_parts : Option (List ℕ) → List PrintedPart → List ℕ
 joined_parts before [] = []
 joined_parts before (a_text t ∷ ps) = parting before ++ (t ++ joined_parts (Some t) ps)
-joined_parts before (an_action ts ∷ ps) = opening_behind before ++ (bytes_of ts ++ (codes "}}" ++ joined_parts None ps))
+joined_parts before (an_action ts ∷ ps) = opening_after before ++ (bytes_of ts ++ (codes "}}" ++ joined_parts None ps))
 
 -- ---- parts that can be joined
 
@@ -45,7 +45,7 @@ abbrev pub before_of : List ℕ → Option (List ℕ)
 before_of [] = None
 before_of (b ∷ bs) = Some (b ∷ bs)
 
--- pieces of a text and bytes behind it that are these parts
+-- pieces of a text and bytes after it that are these parts
 pub record HasParts (line : ℕ) (t : List ℕ) (ps : List PrintedPart) : Type 0 where
   pub pieces : List Piece
   pub cuts : Cuts false line (t ++ joined_parts (before_of t) ps) (text_piece line t ++ pieces)

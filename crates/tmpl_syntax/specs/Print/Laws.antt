@@ -66,7 +66,7 @@ newline_nodes [] = none
 newline_nodes (t ∷ ts) = then 0 (text (codes "\n")) (newline_nodes ts)
 
 -- bytes are cut into pieces, and these are read as items, which spell these templates in this order, apart from files
--- and lines, and a newline behind each
+-- and lines, and a newline after each
 pub record SetBack (bytes : List ℕ) (ts : List Template) : Type 0 where
   pub items : List Item
   pub has : HasItems every_action bytes items

@@ -1,4 +1,4 @@
--- How a tree and a set are printed: their texts and actions one behind the other.
+-- How a tree and a set are printed: their texts and actions one after the other.
 use Rattle.std.specs.Prelude.{ℕ, nat_eq, List, [], ◌∷◌, ◌++◌, Option, Some, None, flat_map, codes}
 use Rattle.std.specs.Prelude.{if◌then◌else◌}
 use Rattle.std.specs.List.{ends_with}
@@ -11,7 +11,7 @@ use Rattle.tmpl_syntax.specs.Tree as tree
 use Rattle.tmpl_syntax.specs.Tree.{Nodes}
 use Rattle.tmpl_syntax.specs.Set.{Template}
 
--- ---- what nodes say, one text or action behind the other
+-- ---- what nodes say, one text or action after the other
 
 pub data Said : Type 0 where
   said_text : List ℕ → Said
@@ -33,7 +33,7 @@ abbrev mutual
   nodes_said tree.none = []
   nodes_said (tree.then line n ns) = node_said n ++ nodes_said ns
 
--- a template in a definition of its own, and a newline behind it
+-- a template in a definition of its own, and a newline after it
 abbrev pub template_said : Template → List Said
 template_said t = said (define_action t.0) ∷ (nodes_said t.1.nodes ++ said end_action ∷ said_text (codes "\n") ∷ [])
 
@@ -50,26 +50,26 @@ abbrev mutual
 
 -- ---- the bytes
 
--- what opens an action or a comment behind a text, or behind none: `{{`, or, behind a text that ends in `{`, a space
+-- what opens an action or a comment after a text, or after none: `{{`, or, after a text that ends in `{`, a space
 -- and a left trim marker that takes it
-abbrev pub opening_behind : Option (List ℕ) → List ℕ
-opening_behind None = codes "{{"
-opening_behind (Some t) = if ends_with nat_eq t (codes "{") then codes " {{- " else codes "{{"
+abbrev pub opening_after : Option (List ℕ) → List ℕ
+opening_after None = codes "{{"
+opening_after (Some t) = if ends_with nat_eq t (codes "{") then codes " {{- " else codes "{{"
 
 -- between a text and the text before it, if there is one, stands an empty comment
 abbrev pub parting : Option (List ℕ) → List ℕ
-parting before = option_map_or (λ t. opening_behind (Some t) ++ codes "/**/}}") before []
+parting before = option_map_or (λ t. opening_after (Some t) ++ codes "/**/}}") before []
 
--- the bytes of what is said, behind this text or none
+-- the bytes of what is said, after this text or none
 abbrev pub file_of : Option (List ℕ) → List Said → List ℕ
 file_of before [] = []
 file_of before (said_text t ∷ ss) = parting before ++ (t ++ file_of (Some t) ss)
-file_of before (said a ∷ ss) = opening_behind before ++ (bytes_of (action_tokens a) ++ (codes "}}" ++ file_of None ss))
+file_of before (said a ∷ ss) = opening_after before ++ (bytes_of (action_tokens a) ++ (codes "}}" ++ file_of None ss))
 
 -- the bytes of nodes: the inverse of cutting, reading and spelling
 abbrev pub printed : Nodes → List ℕ
 printed ns = file_of None (nodes_said ns)
 
--- the bytes of a set, its templates one behind the other
+-- the bytes of a set, its templates one after the other
 abbrev pub printed_set : List Template → List ℕ
 printed_set ts = file_of None (flat_map template_said ts)

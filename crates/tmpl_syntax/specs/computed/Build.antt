@@ -1,5 +1,5 @@
 -- The definitions and the nodes of a file's items, from the last item to the first: what is known at a place are the
--- nodes up to the end of the part in which it stands, and those of the else part behind it; and the same for each
+-- nodes up to the end of the part in which it stands, and those of the else part after it; and the same for each
 -- control around it.
 use Rattle.std.specs.Prelude.{ℕ, List, [], ◌∷◌, Some}
 use Rattle.tmpl_grammar.specs.Tree.{Header}
@@ -12,7 +12,7 @@ use Rattle.tmpl_syntax.specs.Tree.{template_node, Definition}
 use Rattle.tmpl_syntax.specs.Spelling.{definition}
 use Rattle.tmpl_syntax.specs.Item.{Item, item, text_item, flawed_item, deep_item, action_item}
 
--- the nodes of a part from a place on, and those of the else part behind it
+-- the nodes of a part from a place on, and those of the else part after it
 pub record Level : Type 0 where
   pub nodes : Nodes
   pub other : Nodes
@@ -41,7 +41,7 @@ with_node_before line n l = record { nodes = then line n l.nodes; other = l.othe
 abbrev pub put_before : ℕ → NodeKind → Parts → Parts
 put_before line n p = record p { inner = with_node_before line n p.inner }
 
--- a control whose body and else part are behind it
+-- a control whose body and else part are after it
 abbrev pub control_before : ℕ → Control → Header → Parts → Parts
 control_before line c h p = record {
   inner = with_node_before line (control_node c h p.inner.nodes p.inner.other) (first_of p.around);
@@ -49,7 +49,7 @@ control_before line c h p = record {
   definitions = p.definitions;
 }
 
--- a template whose body is behind it
+-- a template whose body is after it
 abbrev pub definition_before : ℕ → List ℕ → Parts → Parts
 definition_before line name p = record {
   inner = first_of p.around;
@@ -57,7 +57,7 @@ definition_before line name p = record {
   definitions = definition line name p.inner.nodes ∷ p.definitions;
 }
 
--- an else, whose part is behind it
+-- an else, whose part is after it
 abbrev pub else_before : Parts → Parts
 else_before p = record p { inner = record { nodes = none; other = p.inner.nodes } }
 
@@ -72,7 +72,7 @@ branch_before line branch h p = record p {
 abbrev pub end_before : Parts → Parts
 end_before p = record { inner = no_level; around = p.inner ∷ p.around; definitions = p.definitions }
 
--- the parts from an item on, by those behind it
+-- the parts from an item on, by those after it
 abbrev pub parts_with : Item → Parts → Parts
 parts_with (item line (text_item bytes)) p = put_before line (text bytes) p
 parts_with (item line (flawed_item reason)) p = p
@@ -89,7 +89,7 @@ parts_with (item line (action_item (template_action name given))) p = put_before
 parts_with (item line (action_item (block_action name q))) p =
     put_before line (template_node name (Some q)) (definition_before line name p)
 
--- the parts from the first of these items on, by those behind the last
+-- the parts from the first of these items on, by those after the last
 abbrev pub parts_before : List Item → Parts → Parts
 parts_before [] p = p
 parts_before (x ∷ xs) p = parts_with x (parts_before xs p)

@@ -142,7 +142,7 @@ entered c p t names = record {
   part = else_start c (length names) (length (with_names names p.declares));
 }
 
--- whether a plain else came, behind an else that begins with a control or does not
+-- whether a plain else came, after an else that begins with a control or does not
 abbrev pub else_came : Bool → Bool → Bool
 else_came false came = true
 else_came true came = came
@@ -152,7 +152,7 @@ abbrev pub else_levels : Bool → ℕ → ℕ
 else_levels false n = n
 else_levels true n = n + 1
 
--- .. with so many names at the beginning of its part
+-- .. with this many names at the beginning of its part
 abbrev pub parted : Bool → ℕ → Frame → Frame
 parted b part f = record f { has_else = else_came b f.has_else; levels = else_levels b f.levels; part = part }
 
@@ -191,7 +191,7 @@ abbrev pub rest_names : List (List Name) → List (List Name)
 rest_names [] = []
 rest_names (ns ∷ nss) = nss
 
--- behind an opening: a control adds what its header declares, and in a template nothing is known yet
+-- after an opening: a control adds what its header declares, and in a template nothing is known yet
 abbrev pub opened_names : Opening → List Name → Known → Known
 opened_names (opened.control c) declares k = with_inner k (with_names k.inner declares)
 opened_names c declares k = record { inner = []; around = k.inner ∷ k.around }
@@ -200,12 +200,12 @@ abbrev pub closed_if : Bool → Known → Known
 closed_if true k = record { inner = first_names k.around; around = rest_names k.around }
 closed_if false k = k
 
--- behind the `end` of an opening: the names around a template are known again
+-- after the `end` of an opening: the names around a template are known again
 abbrev pub closed_names : Option Frame → Known → Known
 closed_names None k = k
 closed_names (Some f) k = closed_if (is_template f.opening) k
 
--- the names behind an action that is in place and sees these
+-- the names after an action that is in place and sees these
 abbrev pub known_after : Role → Option Frame → Known → Known
 known_after (plain p) t k = with_inner k (with_names k.inner p.declares)
 known_after (opener c p) t k = opened_names c p.declares k

@@ -40,14 +40,14 @@ by_verdict last items left_open = Err (last, open_at_end)
 unfoldable pub checked : List ℕ → List Item → Result (Unit {0}) Refusal
 checked bytes items = by_verdict (last_line bytes) items (verdict_of (roles_of items))
 
--- of a definition that is blank or not, and whose name is among those before it or not: what stands behind it decides
+-- of a definition that is blank or not, and whose name is among those before it or not: what stands after it decides
 -- unless it is a second one; a blank one is none, and no other is a second one of it
 abbrev pub second_if : Bool → Bool → ℕ → Option ℕ → Option ℕ → Option ℕ
 second_if true known line without with_it = without
 second_if false true line without with_it = Some line
 second_if false false line without with_it = with_it
 
--- the line of the first second definition, behind definitions of these names that are not blank
+-- the line of the first second definition, after definitions of these names that are not blank
 abbrev pub second_from : List Name → List Definition → Option ℕ
 second_from names [] = None
 second_from names (d ∷ ds) =
@@ -65,7 +65,7 @@ abbrev pub definitions_or : Result (Unit {0}) Refusal → List Definition → Re
 definitions_or (Ok u) ds = unless_second (second_in ds) ds
 definitions_or (Err r) ds = Err r
 
--- the definitions of items, and behind them their own of this name
+-- the definitions of items, and after them their own of this name
 abbrev pub all_from : List ℕ → List Item → List Definition
 all_from name items = definitions_from items ++ definition 1 name (nodes_from items) ∷ []
 

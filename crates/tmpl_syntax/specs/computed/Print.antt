@@ -26,7 +26,7 @@ else_said (tree.then line n ns) ss = said plain_else ∷ ss
 abbrev pub Page : Type 0
 Page = List ℕ × Option (List ℕ)
 
--- the text with which what is said ends, behind this text or none
+-- the text with which what is said ends, after this text or none
 abbrev pub last_text : Option (List ℕ) → List Said → Option (List ℕ)
 last_text before [] = before
 last_text before (said_text t ∷ ss) = last_text (Some t) ss

@@ -48,7 +48,7 @@ pub(crate) fn check(
 }
 
 /// The line, counted from 1, on which the last newline leaves the end of the file.
-fn last_line(bytes: &[u8]) -> u64
+pub(crate) fn last_line(bytes: &[u8]) -> u64
     ensures { result ≡ spec.last_line bytes.now }
 {
     bytes.iter().filter(|b| **b == b'\n').count() as u64 + 1

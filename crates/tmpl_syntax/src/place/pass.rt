@@ -23,7 +23,7 @@ use std::alloc::{AllocError, Global};
 use tmpl_grammar::{Action, Binding, Branch, Control, Header};
 
 /// The newest frame.
-pub(super) fn newest(stack: &Vec<Frame>) -> Option<Frame>
+pub(crate) fn newest(stack: &Vec<Frame>) -> Option<Frame>
     ensures { option_map frame_of result ≡ top (frames_in stack.now.items) }
 {
     stack.last().copied()
@@ -55,7 +55,7 @@ fn forget_at(names: &mut KnownNames<'_>, action: &Action, frame: Frame)
     }
 }
 
-/// Takes in an item that is not refused: the frames behind it, and the names that are known there.
+/// Takes in an item that is not refused: the frames after it, and the names that are known there.
 pub(super) fn take_in<'i>(
     alloc: Global,
     stack: &mut Vec<Frame>,
@@ -108,7 +108,7 @@ fn take_in_action<'i>(
 }
 
 /// Closes what was opened last.
-fn leave(alloc: Global, stack: &mut Vec<Frame>, scopes: &mut Scopes<'_>)
+pub(super) fn leave(alloc: Global, stack: &mut Vec<Frame>, scopes: &mut Scopes<'_>)
     ensures frames { frames_in stack.new.items ≡ ended_all (frames_in stack.old.items) }
     ensures names { scopes_of scopes.new ≡ closed_names (top (frames_in stack.old.items)) (scopes_of scopes.old) }
 {
@@ -120,7 +120,7 @@ fn leave(alloc: Global, stack: &mut Vec<Frame>, scopes: &mut Scopes<'_>)
 }
 
 /// Opens a template.
-fn enter_template(
+pub(super) fn enter_template(
     alloc: Global,
     stack: &mut Vec<Frame>,
     scopes: &mut Scopes<'_>,
@@ -195,7 +195,7 @@ fn enter<'i>(
 }
 
 /// How many names an else part sees, of those before the header and with it: a range's own are not seen there.
-fn part_of(control: Control, before: usize, after: usize) -> usize
+pub(super) fn part_of(control: Control, before: usize, after: usize) -> usize
     ensures { result ≡ spec.part_of control before after }
 {
     match control {
@@ -204,8 +204,12 @@ fn part_of(control: Control, before: usize, after: usize) -> usize
     }
 }
 
-/// Begins an else part of the newest control, with a control of its own or with none, where so many names are known.
-fn pass_else(stack: &mut Vec<Frame>, branch: Option<Branch>, part: usize) -> Result<(), AllocError>
+/// Begins an else part of the newest control, with a control of its own or with none, where this many names are known.
+pub(super) fn pass_else(
+    stack: &mut Vec<Frame>,
+    branch: Option<Branch>,
+    part: usize,
+) -> Result<(), AllocError>
     requires { is_some branch ≡ true → levels (top (frames_in stack.old.items)) < body.most_levels }
     ensures { IfOk result (λ u. frames_in stack.new.items
         ≡ parted_all (is_some branch) part (frames_in stack.old.items)) }

@@ -16,7 +16,7 @@ use crate::place::uses::knows_its_names;
 use tmpl_grammar::{Action, Branch, Control};
 
 /// The most levels that may stand (our own limit): an open control is one, and an else branch up to its `end`.
-const MOST_LEVELS: usize = 500;
+pub(super) const MOST_LEVELS: usize = 500;
 
 /// The fault of an item, if it has one.
 pub(crate) fn fault_of(item: &Item, outside: Option<Frame>, names: &KnownNames<'_>) -> Option<Fault>
@@ -87,7 +87,7 @@ fn is_in_place(action: &Action, outside: Option<Frame>) -> bool
 }
 
 /// Whether an else that begins so, with a control or with none, may stand there.
-fn may_take_else(branch: Option<Branch>, outside: Option<Frame>) -> bool
+pub(super) fn may_take_else(branch: Option<Branch>, outside: Option<Frame>) -> bool
     ensures { result ≡ takes_else branch (option_map frame_of outside) }
 {
     match outside {

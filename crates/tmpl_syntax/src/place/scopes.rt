@@ -8,7 +8,7 @@ use crate::place::names::KnownNames;
 use std::alloc::{AllocError, Global};
 use std::mem;
 
-/// A template sees no names of the one in which it is defined, and these are known again behind it.
+/// A template sees no names of the one in which it is defined, and these are known again after it.
 #[derive(Drop)]
 pub(crate) struct Scopes<'i> {
     /// Those of the template in which a place stands.
