@@ -11,7 +11,7 @@ use Rattle.tmpl_grammar.specs.declared.tree.Control.TheVariants as control
 use Rattle.tmpl_syntax.specs.Tree as tree
 use Rattle.tmpl_syntax.specs.Tree.{NodeKind, Nodes, text, action, control_node, template_node}
 use Rattle.tmpl_syntax.specs.Place.Role.{Name, names_of, names_given}
-use Rattle.tmpl_syntax.specs.Formed.{is_among, are_among, declared_to, else_scope, is_looped, scope_behind, is_formed, are_formed}
+use Rattle.tmpl_syntax.specs.Formed.{is_among, are_among, declared_to, else_scope, is_looped, scope_after, is_formed, are_formed}
 use Rattle.tmpl_syntax.proofs.FormedLemmas.{control-formed}
 use Rattle.tmpl_code.specs.Layout.{Layout, is_named, found_at, slot_named, bound_on, grown, first_layout}
 use Rattle.tmpl_code.specs.Laws.{have_each, have_slots, body_layout, other_layout, is_placed, are_placed, PlacesFormed}
@@ -62,7 +62,7 @@ other-slots : (c : Control) (b : Binding) (scope : List Name) (cells : Layout) �
 other-slots control.Range b scope cells h = h
 other-slots _ b scope cells h = bound-slots b scope cells h
 
-grown-slots : (n : NodeKind) (scope : List Name) (cells : Layout) → HaveSlots scope cells → HaveSlots (scope_behind n scope) (grown n cells)
+grown-slots : (n : NodeKind) (scope : List Name) (cells : Layout) → HaveSlots scope cells → HaveSlots (scope_after n scope) (grown n cells)
 grown-slots (action h) scope cells k = bound-slots h.binding scope cells k
 grown-slots _ scope cells k = k
 
@@ -92,9 +92,9 @@ mutual
       → are_formed ns scope loop levels ≡ true → are_placed ns cells loop ≡ true
   nodes-placed tree.none scope cells loop levels h e = refl
   nodes-placed (tree.then line n ns) scope cells loop levels h e =
-      let p = and_parts (is_formed n scope loop levels) (are_formed ns (scope_behind n scope) loop levels) e in
+      let p = and_parts (is_formed n scope loop levels) (are_formed ns (scope_after n scope) loop levels) e in
       both_true (node-placed n scope cells loop levels h p.0)
-      (nodes-placed ns (scope_behind n scope) (grown n cells) loop levels (grown-slots n scope cells h) p.1)
+      (nodes-placed ns (scope_after n scope) (grown n cells) loop levels (grown-slots n scope cells h) p.1)
 
 pub places-formed : PlacesFormed
 places-formed ns e = nodes-placed ns [] first_layout false 0 (refl, λ name f. absurd (false≢true f)) e

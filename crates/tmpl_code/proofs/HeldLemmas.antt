@@ -3,10 +3,11 @@ use Rattle.std.proofs.Common.{◌≡◌, ◌∙◌, List, [], ◌∷◌, ◌++�
 use Rattle.std.proofs.lemmas.List.{length-map, length-reverse, reverse-append}
 use Rattle.tmpl_code.specs.View.{instruction_of}
 use Rattle.tmpl_code.specs.declared.instruction.Instruction as held
+use Rattle.tmpl_code.specs.declared.tables.Tables.{Tables}
 use Rattle.tmpl_code.specs.computed.Held.{code_in}
 
-pub code_push : (is : List held.Instruction) (i : held.Instruction) → code_in (is ++ i ∷ []) ≡ instruction_of i ∷ code_in is
-code_push is i = ap (map instruction_of) (reverse-append is (i ∷ []))
+pub code_push : (t : Tables) (is : List held.Instruction) (i : held.Instruction) → code_in t (is ++ i ∷ []) ≡ instruction_of t i ∷ code_in t is
+code_push t is i = ap (map (instruction_of t)) (reverse-append is (i ∷ []))
 
-pub code_length : (is : List held.Instruction) → length (code_in is) ≡ length is
-code_length is = length-map (reverse is) instruction_of ∙ length-reverse is
+pub code_length : (t : Tables) (is : List held.Instruction) → length (code_in t is) ≡ length is
+code_length t is = length-map (reverse is) (instruction_of t) ∙ length-reverse is

@@ -6,4 +6,5 @@ pub mod NodeLemmas
 pub mod OperandLemmas
 pub mod ProgramLemmas
 pub mod ScopeLemmas
+pub mod TableLemmas
 pub mod TailLemmas

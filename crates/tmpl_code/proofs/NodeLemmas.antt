@@ -57,7 +57,7 @@ all_grown-longer (tree.then line (action h) ns) lay = let one = bound-longer h.b
     omega arith
 all_grown-longer (tree.then line _ ns) lay = all_grown-longer ns lay
 
--- the layout before a node, and behind it
+-- the layout before a node, and after it
 module _ (ns : List held.Node) (i j : ℕ) (n : held.Node) (lay now : Layout) (h : j < length ns) (next : i ≡ j + 1) (is : n ≡ get_or ns j n)
     (grew : now ≡ all_grown (nodes_in (take i ns)) lay) where
   pub grows : now ≡ grown (node_of n).what (all_grown (nodes_in (take j ns)) lay)

@@ -1,5 +1,5 @@
--- For `put_junction`, `Compiler::put_nodes` and what they call: code ends with what stands behind it, so a jump is as long as what was put, and one
--- out of a range still leads behind it; controls from their parts, and nodes one by one.
+-- For `put_junction`, `Compiler::put_nodes` and what they call: code ends with what stands after it, so a jump is as long as what was put, and one
+-- out of a range still leads after it; controls from their parts, and nodes one by one.
 use Rattle.std.proofs.Common.{arith, ◌≡◌, ◌∙◌, ◌+◌, ◌-◌, ◌≤◌, ℕ, Bool, List, [], ◌∷◌, ◌++◌, length, drop, refl, ap, sym, Option, Some, None}
 use Rattle.std.proofs.Common.{append_assoc, length-append, ◌<◌, zero, take, get_or, subst}
 use Rattle.std.proofs.Math.Seq.{drop-append-add}
@@ -40,7 +40,7 @@ ends_both {code} {mid} {rest} a b = record {
 
 pub ruleset ends = (ends_same, ends_on, ends_both)
 
--- a last part that is put behind code which ends with the code before
+-- a last part that is put after code which ends with the code before
 pub placed_on : {T E : Type 0} (r : Result T E) (P Q : Stretch) (before mid after : held_code.Code) → OnOk r (Placed Q mid after)
     → Ends (code_of before) (code_of mid) → (Q (code_of after) (code_of mid) → P (code_of after) (code_of before)) → OnOk r (Placed P before after)
 placed_on r P Q before mid after put on so = on_ok_weaker r (λ p. record { code = so p.code; ends = ends_both p.ends on }) put
@@ -75,7 +75,7 @@ pub open_on : {old new : Code} (e : Option held_around.Around) (lay more : Layou
 open_on None lay more t g h = tt
 open_on (Some a) lay more t g h = let l = longer t in let after = h.0 in let below = h.1 in (omega arith, omega arith)
 
--- ---- what was put, and what stands behind it
+-- ---- what was put, and what stands after it
 
 abbrev Compiler : Type 0
 Compiler = held_compiler.Compiler
@@ -84,7 +84,7 @@ pub still_open : (e : Option held_around.Around) (old mid : Compiler) → layout
     → IsOpen e (code_of old.code) (layout_of old.scope) → IsOpen e (code_of mid.code) (layout_of mid.scope)
 still_open e old mid same on h = open_on e (layout_of old.scope) (layout_of mid.scope) on (omega (arith, ap length same)) h
 
--- a part that is put behind code which ends with the old one
+-- a part that is put after code which ends with the old one
 put_on : {P : NodesPart} {e : Option held_around.Around} (old : Compiler) {mid new : Compiler} → IsOpen e (code_of old.code) (layout_of old.scope)
     → Ends (code_of old.code) (code_of mid.code)
     → layout_of mid.scope ≡ layout_of old.scope → Put P e mid new
@@ -225,14 +225,14 @@ module _ {ts : List Template} {e : Option held_around.Around} {ns : List held_no
   layout : layout_of start.scope ≡ all_grown (nodes_in (take j ns)) (layout_of old.scope)
   layout = fewer ∙ shrinks ns i j n (layout_of old.scope) (layout_of now.scope) here next is l.layout
 
-  behind : Ends (code_of old.code) (code_of start.code)
-  behind = subst (Ends (code_of old.code)) (sym same) l.ends
+  beyond : Ends (code_of old.code) (code_of start.code)
+  beyond = subst (Ends (code_of old.code)) (sym same) l.ends
 
   pub node_open : IsOpen e (code_of start.code) (layout_of start.scope)
   node_open =
       let more = all_grown-longer (nodes_in (take j ns)) (layout_of old.scope) in
       let long = ap (λ (x : Layout). length x) layout in
-      open_on e (layout_of old.scope) (layout_of start.scope) behind (omega (arith, more, long)) h
+      open_on e (layout_of old.scope) (layout_of start.scope) beyond (omega (arith, more, long)) h
 
   pub put_more : {mid new : Compiler} → Put (NodeAt ts (node_of n).line (node_of n).what) e start mid
       → code_of new.code ≡ step_of ts (node_of n).line (node_of n).what ∷ code_of mid.code → layout_of new.scope ≡ layout_of mid.scope
@@ -243,7 +243,7 @@ module _ {ts : List Template} {e : Option held_around.Around} {ns : List held_no
       let x = exit_seen e (code_of old.code) in
       let before = all_grown (nodes_in (take j ns)) (layout_of old.scope) in
       let one : NodeAt ts line what before x (code_of mid.code) (code_of now.code) =
-      rw (← layout, ← same, ← exit_on e (layout_of old.scope) h behind) p.code in
+      rw (← layout, ← same, ← exit_on e (layout_of old.scope) h beyond) p.code in
       let put = nodes_more ts ns i j n x before (layout_of now.scope) (code_of new.code) (code_of mid.code) (code_of now.code) (code_of old.code) here next is
       (grows ns i j n (layout_of old.scope) (layout_of now.scope) here next is l.layout) step one l.put in
       let scope = kept ∙ p.scope ∙ layout in
@@ -251,5 +251,5 @@ module _ {ts : List Template} {e : Option held_around.Around} {ns : List held_no
         within = omega arith;
         layout = scope;
         put = rw scope put;
-        ends = ends_on step (ends_both p.ends behind);
+        ends = ends_on step (ends_both p.ends beyond);
       }

@@ -1,5 +1,5 @@
 -- Which code is that of a tree: what `compile` promises, and what a run of code rests on. Code is the list of
--- instructions from a place on, and `rest` is what stands behind the code of the tree; so nothing hangs on where it
+-- instructions from a place on, and `rest` is what stands after the code of the tree; so nothing hangs on where it
 -- stands. Each case says what that of the tree's meaning says, and each tree has code: a variable that is not in scope
 -- is nothing, and a break out of no range ends the template.
 use Rattle.std.specs.Prelude.{◌≡◌, ℕ, zero, suc, ◌+◌, ◌-◌, Bool, true, false, List, [], ◌∷◌, length, drop, Option, Some}
@@ -40,12 +40,12 @@ One o code rest = code ≡ act o ∷ rest
 
 -- ---- operands
 
--- behind a value: the chain of fields from it, if there is one, and then the rest
+-- after a value: the chain of fields from it, if there is one, and then the rest
 abbrev pub chain_before : List (List ℕ) → Code → Code
 chain_before [] rest = rest
 chain_before (name ∷ names) rest = act (chained (name ∷ names)) ∷ rest
 
--- the variable of a slot, below so many values
+-- the variable of a slot, below this many values
 abbrev pub VariableAt : Option ℕ → ℕ → Stretch
 VariableAt None above code rest = One push_nothing code rest
 VariableAt (Some slot) above code rest = One (push_slot (above + slot)) code rest
@@ -68,7 +68,7 @@ operand_count (operand o os) = suc (operand_count os)
 abbrev pub argument_count : Operands → Bool → ℕ
 argument_count os piped = operand_count os + piped_count piped
 
--- whether no argument stands behind an operand before these
+-- whether no argument stands after an operand before these
 abbrev pub is_last : Operands → Bool → Bool
 is_last no_operand false = true
 is_last no_operand true = false
@@ -89,19 +89,19 @@ abbrev pub CommandBy : Operand → Operands → Bool → Stretch → (Func → S
 CommandBy (function f) os piped Value Call code rest = Call f code rest
 CommandBy o os piped Value Call code rest = FirstAt (is_last os piped) o Value code rest
 
--- a call, by whether the function takes so many arguments
+-- a call, by whether the function takes this number of arguments
 abbrev pub CountedAt : Bool → Func → Stretch → Stretch
 CountedAt true f Call code rest = Call code rest
 CountedAt false f Call code rest = One (refuse (wrong_count f)) code rest
 
--- by the function: `and` and `or` decide behind each operand
+-- by the function: `and` and `or` decide after each operand
 abbrev pub CallBy : Func → Stretch → Stretch → Stretch → Stretch
 CallBy And All Both Either = Both
 CallBy Or All Both Either = Either
 CallBy f All Both Either = All
 
--- behind an operand of an `or`, or else of an `and`: where the value decides, the others are passed over; none is
--- behind the last argument
+-- after an operand of an `or`, or else of an `and`: where the value decides, the others are passed over; none is
+-- after the last argument
 abbrev pub DecideAt : Bool → Bool → Bool → Stretch → Stretch
 DecideAt true is_or piped Others code rest = code ≡ rest
 DecideAt false is_or piped Others code rest =
@@ -109,7 +109,7 @@ DecideAt false is_or piped Others code rest =
     × (code ≡ act (decide is_or piped skip) ∷ more) × Others more rest × (drop skip more ≡ rest)
 
 abbrev mutual
-  -- an operand, where so many values lie above the cells of this layout
+  -- an operand, where this many values lie above the cells of this layout
   pub OperandAt : Operand → ℕ → Layout → Stretch
   OperandAt dot above cells code rest = One push_dot code rest
   OperandAt (fields names) above cells code rest = One (push_fields names) code rest
@@ -136,7 +136,7 @@ abbrev mutual
       (mid : Code) × OperandAt o above cells code mid
       × DecideAt (is_last os piped) is_or piped (JunctionAt is_or os piped above cells) mid rest
 
-  -- a command, where so many values lie above the cells, of which a piped one is the newest
+  -- a command, where this many values lie above the cells, of which a piped one is the newest
   pub CommandAt : Operands → Bool → ℕ → Layout → Stretch
   CommandAt no_operand piped above cells code rest = One (refuse not_a_function) code rest
   CommandAt (operand o os) piped above cells code rest =
@@ -148,7 +148,7 @@ abbrev mutual
       (JunctionAt true os piped above cells)))
       code rest
 
-  -- the commands from left to right, where so many values lie above the cells, and one more that is piped to the first,
+  -- the commands from left to right, where this many values lie above the cells, and one more that is piped to the first,
   -- if it is so; a null that a command gives is made nothing
   pub CommandsAt : Pipeline → Bool → ℕ → Layout → Stretch
   CommandsAt no_command false above cells code rest = One push_nothing code rest
@@ -200,7 +200,7 @@ TurnAt (declare_pair key name) cells code rest = code ≡ turn 2 ∷ rest
 
 -- ---- breaks
 
--- the range around: the code behind it, its line, and how many cells lie below its own two
+-- the range around: the code after it, its line, and how many cells lie below its own two
 pub record Around : Type 0 where
   pub out : Code
   pub line : ℕ
@@ -209,7 +209,7 @@ pub record Around : Type 0 where
 abbrev pub Exit : Type 0
 Exit = Option Around
 
--- so many cells lie above the two of the range around
+-- this many cells lie above the two of the range around
 abbrev pub Above : Around → Layout → ℕ → Type 0
 Above a cells count = count + 2 + a.below ≡ length cells
 
@@ -248,7 +248,7 @@ step_of ts line n = spend line
 
 -- ---- controls
 
--- what ends a part: so many cells are forgotten, and so many instructions passed over; where that is none, nothing is
+-- what ends a part: this many cells are forgotten, and this many instructions passed over; where that is none, nothing is
 -- there
 abbrev pub EndAt : ℕ → ℕ → Stretch
 EndAt zero zero code rest = code ≡ rest
@@ -258,7 +258,7 @@ EndAt (suc count) to code rest = code ≡ forget (suc count) to ∷ rest
 abbrev pub Ended : ℕ → ℕ → Stretch → Stretch
 Ended count to P code rest = (end : Code) × P code end × EndAt count to end rest
 
--- the parts of an `if`, which leave so many variables each, behind its header
+-- the parts of an `if`, which leave this many variables each, after its header
 abbrev pub IfAt : Binding → ℕ → ℕ → Stretch → Stretch → Stretch
 IfAt b in_body in_other Body Other code rest =
     (first : Code) × (second : Code) × (skip : ℕ) × (to : ℕ)
@@ -276,7 +276,7 @@ WithAt b in_body in_other Body Other code rest =
     × Ended (declared_count b + in_other) 0 Other second rest
     × (drop skip first ≡ second) × (drop to second ≡ rest)
 
--- those of a range of this line, behind its pipeline
+-- those of a range of this line, after its pipeline
 abbrev pub RangeAt : ℕ → Binding → ℕ → ℕ → Stretch → Stretch → Stretch → Stretch
 RangeAt line b in_body in_other Turn Body Other code rest =
     (start : Code) × (first : Code) × (second : Code) × (skip : ℕ) × (to : ℕ)
@@ -290,7 +290,7 @@ RangeAt line b in_body in_other Turn Body Other code rest =
 abbrev pub NodesPart : Type 1
 NodesPart = Layout → Exit → Stretch
 
--- a control, by the nodes of its two parts, which leave so many variables each
+-- a control, by the nodes of its two parts, which leave this many variables each
 abbrev pub ControlAt : ℕ → Control → Header → ℕ → ℕ → NodesPart → NodesPart → NodesPart
 ControlAt line control.If h in_body in_other Body Other cells exit code rest =
     (mid : Code) × HeaderAt h cells code mid

@@ -20,7 +20,7 @@ pub data Operation : Type 0 where
   push_fields : List (List ℕ) → Operation
   push_slot : ℕ → Operation
   chained : List (List ℕ) → Operation
-  -- so many arguments, and whether a piped value lies below them
+  -- this many arguments, and whether a piped value lies below them
   call_with : Func → ℕ → Bool → Operation
   -- whether it is an `or`, whether a piped value lies below, and how many it passes over
   decide : Bool → Bool → ℕ → Operation
@@ -39,14 +39,14 @@ pub data Instruction : Type 0 where
   -- whether the value is a variable, and how many it passes over
   unless : Bool → ℕ → Instruction
   enter_with : Bool → ℕ → Instruction
-  -- so many cells above the saved dot and so many below it, and how many it passes over
+  -- this many cells above the saved dot and this many below it, and how many it passes over
   end_with : ℕ → ℕ → ℕ → Instruction
   forget : ℕ → ℕ → Instruction
   -- whether the index or key is wanted
   enter : Bool → ℕ → Instruction
-  -- so many variables
+  -- this many variables
   turn : ℕ → Instruction
-  -- so many cells, how many it passes over, and the line of the range
+  -- this many cells, how many it passes over, and the line of the range
   next : ℕ → ℕ → ℕ → Instruction
   leave : ℕ → ℕ → Instruction
   -- the line of the call

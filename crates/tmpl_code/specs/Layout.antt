@@ -5,7 +5,7 @@ use Rattle.tmpl_grammar.specs.Tree.{Binding, unbound, declare, assign, declare_p
 use Rattle.tmpl_syntax.specs.Tree as tree
 use Rattle.tmpl_syntax.specs.Tree.{NodeKind, text, action, control_node, break_node, continue_node, template_node}
 use Rattle.tmpl_syntax.specs.Tree.{Nodes}
-use Rattle.tmpl_syntax.specs.Need.{left_behind}
+use Rattle.tmpl_syntax.specs.Need.{left_after}
 
 -- the newest first: a variable of a name, or what a control or a call saves
 abbrev pub Layout : Type 0
@@ -24,7 +24,7 @@ abbrev pub slot_named : List ℕ → Layout → Option ℕ
 slot_named name [] = None
 slot_named name (cell ∷ cells) = found_at (is_named name cell) (slot_named name cells)
 
--- behind what binds variables: those that it declares are the newest, an element above its index or key
+-- after what binds variables: those that it declares are the newest, an element above its index or key
 abbrev pub bound_on : Binding → Layout → Layout
 bound_on unbound cells = cells
 bound_on (declare name) cells = Some name ∷ cells
@@ -43,7 +43,7 @@ abbrev pub declares_key : Binding → Bool
 declares_key (declare_pair key name) = true
 declares_key b = false
 
--- behind a node, which leaves the variables that an action declares
+-- after a node, which leaves the variables that an action declares
 abbrev pub grown : NodeKind → Layout → Layout
 grown (action h) cells = bound_on h.binding cells
 grown n cells = cells
@@ -51,7 +51,7 @@ grown n cells = cells
 -- how many variables nodes leave
 abbrev pub declared_in : Nodes → ℕ
 declared_in tree.none = 0
-declared_in (tree.then line n ns) = left_behind n + declared_in ns
+declared_in (tree.then line n ns) = left_after n + declared_in ns
 
 -- that of a template at its start: `$`, which is a variable of the empty name, above two cells for where its caller
 -- goes on and for the dot of the caller

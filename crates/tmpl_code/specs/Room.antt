@@ -9,7 +9,7 @@ abbrev pub largest_need : List Template → ℕ
 largest_need [] = 0
 largest_need (t ∷ ts) = max (need t.1) (largest_need ts)
 
--- the room of a set: enough for every run of its templates, so many of which may be inside one another
+-- the room of a set: enough for every run of its templates, this many of which may be inside one another
 abbrev pub room : ℕ → List Template → ℕ
 room depth ts = depth * largest_need ts
 
@@ -26,7 +26,7 @@ abbrev pub needs_along : List Template → ℕ → List ℕ → ℕ
 needs_along ts i [] = need_at ts i
 needs_along ts i (j ∷ more) = need_at ts i + needs_along ts j more
 
--- so many cells are enough for a run of the template of a number, where so many templates may be inside one another: no
+-- this many cells are enough for a run of the template of a number, where this many templates may be inside one another: no
 -- chain of calls from it that is no longer needs more
 abbrev pub Suffices : ℕ → List Template → ℕ → ℕ → Type 0
 Suffices depth ts first size =

@@ -2,4 +2,6 @@
 pub mod Cells
 pub mod Held
 pub mod Surveyed
+pub mod Tables
 pub mod Weights
+pub mod Within

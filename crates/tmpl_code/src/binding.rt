@@ -17,10 +17,10 @@ use tmpl_grammar::{Binding, Header};
 
 /// Puts the pipeline of a header, and what binds its value.
 #[tactic(auto, using(crate::proofs::TailLemmas::ends, crate::proofs::TailLemmas::placed_on))]
-pub(crate) fn put_header<'s>(
-    code: &mut Code<'s>,
-    scope: &Scope<'s>,
-    header: &'s Header,
+pub(crate) fn put_header(
+    code: &mut Code,
+    scope: &Scope<'_>,
+    header: &Header,
 ) -> Result<(), AllocError>
     ensures { OnOk result (Placed (spec.HeaderAt (header_of header.now) (layout_of scope.now)) code.old code.new) }
 {
@@ -29,7 +29,7 @@ pub(crate) fn put_header<'s>(
 }
 
 /// Puts what binds variables to the value on top.
-fn put_bind(code: &mut Code<'_>, scope: &Scope<'_>, binding: &Binding) -> Result<(), AllocError>
+fn put_bind(code: &mut Code, scope: &Scope<'_>, binding: &Binding) -> Result<(), AllocError>
     ensures { OnOk result (Placed (spec.BindAt (binding_of binding.now) (layout_of scope.now)) code.old code.new) }
 {
     match binding {
@@ -40,7 +40,7 @@ fn put_bind(code: &mut Code<'_>, scope: &Scope<'_>, binding: &Binding) -> Result
     }
 }
 
-fn put_set(code: &mut Code<'_>, slot: Option<usize>) -> Result<(), AllocError>
+fn put_set(code: &mut Code, slot: Option<usize>) -> Result<(), AllocError>
     ensures { OnOk result (Placed (spec.SetAt slot) code.old code.new) }
 {
     match slot {
@@ -50,7 +50,7 @@ fn put_set(code: &mut Code<'_>, slot: Option<usize>) -> Result<(), AllocError>
 }
 
 /// Puts the end of an action, whose value was bound.
-pub(crate) fn put_shown(code: &mut Code<'_>, binding: &Binding) -> Result<(), AllocError>
+pub(crate) fn put_shown(code: &mut Code, binding: &Binding) -> Result<(), AllocError>
     ensures { OnOk result (Placed (spec.ShownAt (binding_of binding.now)) code.old code.new) }
 {
     match binding {
@@ -62,7 +62,7 @@ pub(crate) fn put_shown(code: &mut Code<'_>, binding: &Binding) -> Result<(), Al
 
 /// Puts what binds the variables of a range to the element that it visits.
 pub(crate) fn put_turn(
-    code: &mut Code<'_>,
+    code: &mut Code,
     scope: &Scope<'_>,
     binding: &Binding,
 ) -> Result<(), AllocError>
@@ -76,7 +76,7 @@ pub(crate) fn put_turn(
     code.push(Instruction::Turn(short(declared_count(binding))?))
 }
 
-fn put_set_dot(code: &mut Code<'_>, slot: Option<usize>) -> Result<(), AllocError>
+fn put_set_dot(code: &mut Code, slot: Option<usize>) -> Result<(), AllocError>
     ensures { OnOk result (Placed (spec.SetDotAt slot) code.old code.new) }
 {
     match slot {

@@ -1,24 +1,28 @@
 //! How many cells are enough for each depth of calls.
-ghost use Rattle.std.specs.Prelude.{◌≡◌, ◌+◌, ◌≤◌, IfOk, map, true};
+ghost use Rattle.std.specs.Prelude.{◌≡◌, ◌+◌, ◌<◌, ◌≤◌, IfOk, IfSome, Some, length, map, slice_get, true};
 ghost use Rattle.tmpl_syntax.specs.Need.{need};
+ghost use Rattle.tmpl_syntax.specs.Set.{Template};
 ghost use Rattle.tmpl_syntax.specs.View.{set_view};
 ghost use Rattle.tmpl_code.specs.computed.Weights.{set_calls};
 ghost use Rattle.tmpl_code.specs.Room.{largest_need};
-ghost use Rattle.tmpl_code.specs.computed.Weights.{Hold, IsBound};
+ghost use Rattle.tmpl_code.specs.computed.Weights.{AreEnough, Hold, HoldsOf, IsBound};
 
+use crate::claims::Claims;
 use crate::guess::{Guess, guess_weights};
 use crate::heaviest::heaviest_of_nodes;
-use crate::program::Parts;
+use crate::instruction::Instruction;
 use crate::survey::Survey;
 use crate::ties::at;
 use std::alloc::{AllocError, Global};
 use tmpl_syntax::Set;
 
-/// So many cells, and so many more for each template that may be inside the others.
-#[derive(Clone, Copy)]
+/// This many cells, and this many more for each template that may be inside the others; and what each template claims of
+/// these, where that is known.
+#[derive(Drop)]
 pub(crate) struct Bound {
     pub fixed: usize,
     pub each: usize,
+    pub claims: Option<Claims>,
 }
 
 /// A bound for the templates of a set, by what each of them needs, and all of them need and do. What is guessed of the
@@ -26,63 +30,92 @@ pub(crate) struct Bound {
 #[tactic(auto, using(crate::proofs::BoundLemmas::bounds))]
 pub(crate) fn bound_of(
     alloc: Global,
-    parts: &Parts<'_>,
-    needs: &[usize],
+    set: &Set,
+    instructions: &[Instruction],
+    starts: &[usize],
+    needs: Vec<usize>,
     survey: Survey,
 ) -> Result<Bound, AllocError>
-    requires needs { needs.now ≡ map (λ t. need t.1) (set_view parts.now.set.now) }
-    requires most { survey.need ≡ largest_need (set_view parts.now.set.now) }
-    requires calls { survey.calls ≡ set_calls (set_view parts.now.set.now) }
-    ensures bound { IfOk result (λ b. IsBound (set_view parts.now.set.now) b.fixed b.each) }
+    requires needs { needs.items ≡ map (λ t. need t.1) (set_view set.now) }
+    requires most { survey.need ≡ largest_need (set_view set.now) }
+    requires calls { survey.calls ≡ set_calls (set_view set.now) }
+    ensures bound { IfOk result (λ b. IsBound (set_view set.now) b.fixed b.each) }
     ensures small { IfOk result (λ b. b.each ≤ survey.need) }
+    ensures claims { IfOk result (λ b. IfSome b.claims (λ c.
+        AreEnough (set_view set.now) c.weights.items c.allowances.items)) }
 {
     if !survey.calls {
         return Ok(Bound {
             fixed: survey.need,
             each: 0,
+            claims: Some(Claims {
+                weights: needs,
+                allowances: Vec::new(alloc),
+            }),
         });
     }
-    let guess = guess_weights(
-        alloc,
-        needs,
-        parts.instructions.as_slice(),
-        parts.starts.as_slice(),
-    )?;
-    if guess.each <= survey.need && holds(parts.set, needs, &guess) {
+    let guess = guess_weights(alloc, needs.as_slice(), instructions, starts)?;
+    if guess.each <= survey.need && holds(set, needs.as_slice(), &guess) {
+        let Guess {
+            claims,
+            fixed,
+            each,
+        } = guess;
         return Ok(Bound {
-            fixed: guess.fixed,
-            each: guess.each,
+            fixed,
+            each,
+            claims: Some(claims),
         });
     }
     Ok(Bound {
         fixed: 0,
         each: survey.need,
+        claims: None,
     })
 }
 
-/// Whether no template needs more, with the heaviest that it calls, than it weighs and each template is given, and none
-/// weighs more than is held once.
+/// Whether the guess holds of each template.
 fn holds(set: &Set, needs: &[usize], guess: &Guess) -> bool
     requires { needs.now ≡ map (λ t. need t.1) (set_view set.now) }
-    ensures { result ≡ true → Hold (set_view set.now) guess.now.weights.items guess.now.each guess.now.fixed }
+    ensures { result ≡ true → Hold (set_view set.now) guess.now.claims.weights.items guess.now.claims.allowances.items
+        guess.now.fixed guess.now.each }
 {
-    let weights = guess.weights.as_slice();
     for number in 0..set.len() {
-        let (_, tree) = set.template(number);
-        let heaviest = heaviest_of_nodes(set, weights, tree.nodes.as_slice());
-        let weight = at(weights, number);
-        if weight > guess.fixed || !pays(at(needs, number), heaviest, weight, guess.each) {
+        if !holds_of(set, needs, guess, number) {
             return false;
         }
     }
     true
 }
 
-/// Whether a template's weight and what each is given pay for what it needs and the heaviest that it calls.
-fn pays(need: usize, heaviest: usize, weight: usize, each: usize) -> bool
-    ensures { result ≡ true → need + heaviest ≤ weight + each }
+/// Whether a template needs no more, with the heaviest that it calls, than it weighs and is allowed, none that it calls
+/// is allowed more than it, and it weighs no more than is held once and is allowed no more than each.
+fn holds_of(set: &Set, needs: &[usize], guess: &Guess, number: usize) -> bool
+    requires number { number < length (set_view set.now) }
+    requires needs { needs.now ≡ map (λ t. need t.1) (set_view set.now) }
+    ensures { result ≡ true → (t : Template) → slice_get (set_view set.now) number ≡ Some t
+        → HoldsOf (set_view set.now) guess.now.claims.weights.items guess.now.claims.allowances.items
+        guess.now.fixed guess.now.each number t }
 {
-    match (need.checked_add(heaviest), weight.checked_add(each)) {
+    let weights = guess.claims.weights.as_slice();
+    let allowances = guess.claims.allowances.as_slice();
+    let (_, tree) = set.template(number);
+    let nodes = tree.nodes.as_slice();
+    let heaviest = heaviest_of_nodes(set, weights, nodes);
+    let longest = heaviest_of_nodes(set, allowances, nodes);
+    let weight = at(weights, number);
+    let allowance = at(allowances, number);
+    weight <= guess.fixed
+        && allowance <= guess.each
+        && longest <= allowance
+        && pays(at(needs, number), heaviest, weight, allowance)
+}
+
+/// Whether a template's weight and its allowance pay for what it needs and the heaviest that it calls.
+fn pays(need: usize, heaviest: usize, weight: usize, allowance: usize) -> bool
+    ensures { result ≡ true → need + heaviest ≤ weight + allowance }
+{
+    match (need.checked_add(heaviest), weight.checked_add(allowance)) {
         (Some(needed), Some(paid)) => needed <= paid,
         _ => false,
     }

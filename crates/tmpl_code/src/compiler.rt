@@ -6,27 +6,30 @@ ghost use Rattle.tmpl_code.specs.computed.Weights.{nodes_call};
 ghost use Rattle.tmpl_code.specs.Code as spec;
 ghost use Rattle.tmpl_code.specs.Layout.{first_layout};
 ghost use Rattle.tmpl_code.specs.MakesText.{nodes_make_text};
-ghost use Rattle.tmpl_code.specs.Program.{IsLinked};
+ghost use Rattle.tmpl_code.specs.Program.{IsLinked, IsOutline};
+ghost use Rattle.tmpl_code.specs.View.{instructions_of};
 ghost use Rattle.tmpl_code.specs.computed.Surveyed.{Surveys, SurveysNodes};
 ghost use Rattle.tmpl_code.specs.computed.Held.{IsOpen, Placed, Put, code_of, layout_of, places};
 
 use crate::bound::bound_of;
 use crate::code::Code;
 use crate::instruction::Instruction;
-use crate::node::{Compiler, Site, declared_in, first_instruction, grow_all, left_behind, shrink};
+use crate::node::{Compiler, Site, declared_in, grow_all, left_after, put_step, shrink};
 use crate::pipeline::short;
 use crate::program::{Parts, Program};
 use crate::scope::Scope;
 use crate::survey::{Survey, survey_node};
+use crate::tables::Tables;
 use std::alloc::{AllocError, Global};
+use std::snapshot::Snapshot;
 use tmpl_syntax::{Node, Set};
 
 /// The code of the templates of a set. An error is want of memory; code that counts beyond 32 bits, which would take
 /// 64 GiB, is answered so too.
 #[tactic(auto, using(crate::proofs::BackwardLemmas::from_none))]
-pub fn compile<'s>(alloc: Global, set: &'s Set) -> Result<Program<'s>, AllocError>
+pub fn compile(alloc: Global, set: &Set) -> Result<Program, AllocError>
     ensures linked { IfOk result (λ p. IsLinked p) }
-    ensures set { IfOk result (λ p. set_view p.set.now ≡ set_view set.now) }
+    ensures set { IfOk result (λ p. set_view p.set.value ≡ set_view set.now) }
 {
     let count = set.len();
     let mut compiler = Compiler {
@@ -50,18 +53,46 @@ pub fn compile<'s>(alloc: Global, set: &'s Set) -> Result<Program<'s>, AllocErro
     needs.reverse();
     let code = compiler.code;
     to_places(lengths.as_mut_slice(), code.len());
-    let parts = Parts {
+    let (tables, instructions) = code.into_parts();
+    let bound = bound_of(
+        alloc,
         set,
-        instructions: code.into_instructions(),
-        starts: lengths,
-    };
-    let bound = bound_of(alloc, &parts, needs.as_slice(), survey)?;
+        instructions.as_slice(),
+        lengths.as_slice(),
+        needs,
+        survey,
+    )?;
+    let parts = parts_of(alloc, set, tables, instructions, lengths)?;
     Ok(Program {
         parts,
         need: survey.need as u32,
         fixed: bound.fixed as u64,
         each: bound.each as u32,
+        claims: bound.claims,
         makes_text: survey.makes_text,
+    })
+}
+
+/// The parts of a program of the set, with this code.
+fn parts_of(
+    alloc: Global,
+    set: &Set,
+    tables: Tables,
+    instructions: Vec<Instruction>,
+    starts: Vec<usize>,
+) -> Result<Parts, AllocError>
+    requires { let ts = set_view set.now in
+        spec.Starts ts ts starts.items (instructions_of tables instructions.items) }
+    ensures linked { IfOk result IsLinked }
+    ensures outline { IfOk result IsOutline }
+    ensures set { IfOk result (λ p. set_view p.set.value ≡ set_view set.now) }
+{
+    Ok(Parts {
+        outline: set.outline(alloc)?,
+        tables,
+        instructions,
+        starts,
+        set: Snapshot::of(set),
     })
 }
 
@@ -102,8 +133,8 @@ impl<'s> Compiler<'s> {
             let node = &nodes[i];
             shrink(&mut self.scope, node);
             self.put_node(site, node)?;
-            self.code.push(first_instruction(site.set, node))?;
-            survey = survey_node(node)?.with(survey.above(left_behind(node))?);
+            put_step(&mut self.code, site.set, node)?;
+            survey = survey_node(node)?.with(survey.above(left_after(node))?);
         }
         Ok(survey)
     }
@@ -120,7 +151,7 @@ fn first_scope<'s>(alloc: Global) -> Result<Scope<'s>, AllocError>
     Ok(scope)
 }
 
-/// Makes of each count of instructions the place from which on there are so many, in code of this size.
+/// Makes of each count of instructions the place from which on there are this many, in code of this size.
 fn to_places(counts: &mut [usize], size: usize)
     ensures { counts.new ≡ places size counts.old }
 {

@@ -19,7 +19,7 @@ pub(crate) struct Cost {
 }
 
 impl Cost {
-    /// So many cells, and no text.
+    /// This many cells, and no text.
     fn cells(need: usize) -> Cost
         ensures { Costs need false result }
     {
@@ -29,7 +29,7 @@ impl Cost {
         }
     }
 
-    /// The cost of the same above so many values that are held.
+    /// The cost of the same above this many values that are held.
     fn above(self, held: usize) -> Result<Cost, AllocError>
         ensures { IfOk result (Costs (held + self.need) self.makes_text) }
     {
@@ -39,7 +39,7 @@ impl Cost {
         })
     }
 
-    /// The cost of both, of which one is computed behind the other.
+    /// The cost of both, of which one is computed after the other.
     fn with(self, other: Cost) -> Cost
         ensures { Costs (max self.need other.need) (self.makes_text || other.makes_text) result }
     {
@@ -94,7 +94,7 @@ fn cost_of_piped(commands: &[Command]) -> Result<Cost, AllocError>
     Ok(cost)
 }
 
-/// What a command costs to which so many values are piped: a call needs what its arguments do, while behind another
+/// What a command costs to which this many values are piped: a call needs what its arguments do, while after another
 /// operand nothing is computed, though it may name a function.
 #[cycle(pipes)]
 fn cost_of_command(piped: usize, operands: &[Operand]) -> Result<Cost, AllocError>
@@ -118,7 +118,7 @@ fn cost_of_command(piped: usize, operands: &[Operand]) -> Result<Cost, AllocErro
     }
 }
 
-/// What the arguments of a call cost, above so many values.
+/// What the arguments of a call cost, above this many values.
 #[cycle(pipes)]
 #[tactic(auto, using(crate::proofs::OperandLemmas::no_argument, crate::proofs::OperandLemmas::lighter, crate::proofs::BackwardLemmas::from_none))]
 fn cost_of_arguments(held: usize, operands: &[Operand]) -> Result<Cost, AllocError>

@@ -1,16 +1,17 @@
 //! A guess at what templates need that call one another. Nothing rests on it: `bound.rt` looks whether it holds.
 //!
-//! Each template that may be inside others is given as many cells as the one needs that needs most of those in cycles
-//! of calls, and a template weighs what it and the heaviest that it calls need beyond that.
+//! A template that calls none on a cycle has no allowance; every other one has the largest need on a cycle for each call
+//! level. A weight is what a template and its heaviest callee need beyond that.
+use crate::claims::Claims;
 use crate::cost::larger;
 use crate::instruction::Instruction;
 use crate::ties::{Tie, Ties, at, filled, peel, put, turned};
 use std::alloc::{AllocError, Global};
 
-/// The weights of templates in the order of a set, the heaviest one's, and what each template is given.
+/// What templates claim, in the order of a set: the weight of the heaviest, and the largest allowance.
 #[derive(Drop)]
 pub(crate) struct Guess {
-    pub weights: Vec<usize>,
+    pub claims: Claims,
     pub fixed: usize,
     pub each: usize,
 }
@@ -20,7 +21,7 @@ pub(crate) struct Guess {
 struct Order {
     /// Those that each of them calls.
     called: Ties,
-    /// Those that call none in a cycle, each behind all that it calls.
+    /// Those that call none in a cycle, each after all that it calls.
     below: Vec<usize>,
     /// Those in cycles of calls, and between cycles.
     between: Vec<usize>,
@@ -32,23 +33,27 @@ struct Order {
 pub(crate) fn guess_weights(
     alloc: Global,
     needs: &[usize],
-    instructions: &[Instruction<'_>],
+    instructions: &[Instruction],
     starts: &[usize],
 ) -> Result<Guess, AllocError> {
     let calls = calls_in(alloc, instructions, starts)?;
     let order = order_by(alloc, needs.len(), calls.as_slice())?;
     let each = most_of(needs, order.between.as_slice());
+    let allowances = allowances_for(alloc, needs.len(), order.below.as_slice(), each)?;
     let mut weights = filled(alloc, needs.len(), 0)?;
-    weigh_in(&order, needs, each, weights.as_mut_slice());
+    weigh_in(&order, needs, allowances.as_slice(), weights.as_mut_slice());
     let fixed = most(weights.as_slice());
     Ok(Guess {
-        weights,
+        claims: Claims {
+            weights,
+            allowances,
+        },
         fixed,
         each,
     })
 }
 
-/// The order of so many templates by their calls.
+/// The order of this many templates by their calls.
 fn order_by(alloc: Global, count: usize, calls: &[Tie]) -> Result<Order, AllocError> {
     let callers = turned(alloc, calls)?;
     let called = Ties::new(alloc, count, calls)?;
@@ -64,18 +69,32 @@ fn order_by(alloc: Global, count: usize, calls: &[Tie]) -> Result<Order, AllocEr
     })
 }
 
-/// Weighs all templates, each behind those that it calls.
-fn weigh_in(order: &Order, needs: &[usize], each: usize, weights: &mut [usize]) {
+/// The allowances of this many templates: none for those that call none in a cycle, and this one for all others.
+fn allowances_for(
+    alloc: Global,
+    count: usize,
+    below: &[usize],
+    each: usize,
+) -> Result<Vec<usize>, AllocError> {
+    let mut allowances = filled(alloc, count, each)?;
+    for number in below {
+        put(allowances.as_mut_slice(), *number, 0);
+    }
+    Ok(allowances)
+}
+
+/// Weighs all templates, each after those that it calls.
+fn weigh_in(order: &Order, needs: &[usize], allowances: &[usize], weights: &mut [usize]) {
     let called = &order.called;
-    weigh_below(called, needs, each, order.below.as_slice(), weights);
+    weigh_below(called, needs, allowances, order.below.as_slice(), weights);
     weigh_between(called, order.between.as_slice(), weights);
-    weigh_above(called, needs, each, order.above.as_slice(), weights);
+    weigh_above(called, needs, allowances, order.above.as_slice(), weights);
 }
 
 /// The calls in code, each as a tie from the template that calls to the one that is called.
 fn calls_in(
     alloc: Global,
-    instructions: &[Instruction<'_>],
+    instructions: &[Instruction],
     starts: &[usize],
 ) -> Result<Vec<Tie>, AllocError> {
     let mut calls = Vec::new(alloc);
@@ -154,21 +173,27 @@ fn heaviest(called: &Ties, number: usize, weights: &[usize]) -> usize {
 }
 
 /// Weighs a template by those that it calls.
-fn weigh(called: &Ties, needs: &[usize], each: usize, number: usize, weights: &mut [usize]) {
+fn weigh(
+    called: &Ties,
+    needs: &[usize],
+    allowances: &[usize],
+    number: usize,
+    weights: &mut [usize],
+) {
     let all = at(needs, number).saturating_add(heaviest(called, number, weights));
-    put(weights, number, all.saturating_sub(each));
+    put(weights, number, all.saturating_sub(at(allowances, number)));
 }
 
-/// Weighs templates that stand behind all that they call.
+/// Weighs templates that stand after all that they call.
 fn weigh_below(
     called: &Ties,
     needs: &[usize],
-    each: usize,
+    allowances: &[usize],
     numbers: &[usize],
     weights: &mut [usize],
 ) {
     for number in numbers {
-        weigh(called, needs, each, *number, weights);
+        weigh(called, needs, allowances, *number, weights);
     }
 }
 
@@ -193,11 +218,11 @@ fn heaviest_of(called: &Ties, numbers: &[usize], weights: &[usize]) -> usize {
 fn weigh_above(
     called: &Ties,
     needs: &[usize],
-    each: usize,
+    allowances: &[usize],
     numbers: &[usize],
     weights: &mut [usize],
 ) {
     for number in numbers.iter().rev() {
-        weigh(called, needs, each, *number, weights);
+        weigh(called, needs, allowances, *number, weights);
     }
 }

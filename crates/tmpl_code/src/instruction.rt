@@ -1,7 +1,6 @@
 //! Instructions of flat code.
+use crate::tables::Span;
 use tmpl_funcs::Func;
-use tmpl_syntax::Text;
-use tmpl_values::Bytes;
 
 /// What the form of a command alone refuses. It is put where the run would get to it.
 #[derive(Clone, Copy)]
@@ -10,117 +9,114 @@ pub enum Refusal {
     NotAFunction,
     /// `nil` as a whole command.
     NilCommand,
-    /// A function that does not take so many arguments.
+    /// A function that does not take this number of arguments.
     WrongCount(Func),
 }
 
-/// An instruction. What is passed over counts from the next instruction on, slots and counts of cells from the newest
-/// cell on. A variable that a header declares stays below what its node puts on the stack. Counts have 32 bits, and
-/// what is borrowed is one pointer wide, so that an instruction takes 16 bytes.
+/// An instruction. Jumps are relative to the next instruction; slot 0 is the newest cell. A variable that a header
+/// declares stays below what its node pushes. Counts have 32 bits, and so have the places of texts and names in the
+/// tables of the program, so that an instruction takes 16 bytes.
 #[derive(Clone, Copy)]
-pub enum Instruction<'s> {
-    /// Takes a step at this line, which the faults from here on bear, or stops where none is left.
+pub enum Instruction {
+    /// Takes a step at this line, which later faults name; stops if none is left.
     Spend(u64),
     /// Puts out a text of the template.
-    Put(&'s Text),
-    /// Puts nothing on the stack.
+    Put(u32),
+    /// Pushes nothing, the value of what is missing.
     PushNothing,
-    /// Puts a truth value on the stack.
+    /// Pushes a truth value.
     PushBool(bool),
-    /// Puts a whole number on the stack.
+    /// Pushes a whole number.
     PushNumber(i64),
-    /// Puts a text of the template on the stack.
-    PushText(&'s Bytes),
-    /// Puts dot on the stack.
+    /// Pushes a text of the template.
+    PushText(u32),
+    /// Pushes dot.
     PushDot,
-    /// Puts a field of a field of .. of dot on the stack, or stops where there is none.
-    PushFields(&'s Vec<Bytes>),
-    /// Puts the value of a slot on the stack.
+    /// Pushes a field of a field of .. of dot; stops if there is none.
+    PushFields(Span),
+    /// Pushes the value of a slot.
     PushSlot(u32),
-    /// Takes the newest value for its field of a field of .., or stops where there is none.
-    Chain(&'s Vec<Bytes>),
-    /// Takes so many of the newest values, and the piped one if it lies below them, for what the function gives for
-    /// them; the piped one is the last argument.
+    /// Replaces the newest value by its field of a field of ..; stops if there is none.
+    Chain(Span),
+    /// Pops `count` arguments and any piped value below, which is the last argument; pushes the result.
     Call {
         func: Func,
         count: u32,
         piped: bool,
     },
-    /// Where the newest value decides an `or`, or else an `and`, passes over so many instructions and forgets the piped
-    /// value, if it lies below; else forgets the newest value.
+    /// If the newest value decides an `or`, or else an `and`, keeps it, drops any piped value below and jumps; else pops
+    /// it.
     Decide {
         is_or: bool,
         piped: bool,
         skip: u32,
     },
-    /// Makes a null on top nothing.
+    /// Replaces a null on top by nothing.
     Settle,
-    /// Stops, as the form of a command is refused.
+    /// Stops, since the form of a command is refused.
     Refuse(Refusal),
-    /// Stops, as there is no template of this name to call.
-    RefuseTemplate(&'s Bytes),
-    /// Takes the newest value and puts out its text.
+    /// Stops, since there is no template of this name to call.
+    RefuseTemplate(u32),
+    /// Pops the newest value and puts out its text.
     Show,
-    /// The newest value becomes a variable; where an index or key is declared too, nothing becomes one below it.
+    /// Makes the newest value a variable; with a declared index or key, nothing becomes one below it.
     Hold {
         key: bool,
     },
-    /// Copies the newest value to the slot, which counts from below it.
+    /// Copies the newest value to the slot, counted from below that value.
     Set(u32),
     /// Copies dot to the slot.
     SetDot(u32),
-    /// Passes over so many instructions where the newest value is empty; forgets the value unless it is a variable.
+    /// Jumps if the newest value is empty; pops it unless it is a variable.
     Unless {
         kept: bool,
         skip: u32,
     },
-    /// Where the newest value is not empty it becomes dot, and the dot from outside is saved in its cell, or in a new
-    /// one where it is a variable. Where it is empty passes over so many, and forgets it unless it is a variable.
+    /// Makes the newest value dot and saves the outer dot in its cell, or in a new one if the value is a variable. If it
+    /// is empty, jumps instead, and pops it unless it is a variable.
     EnterWith {
         kept: bool,
         skip: u32,
     },
-    /// Forgets so many cells, takes dot back from the next one, forgets the variables of the header, and passes over so
-    /// many instructions.
+    /// Pops `count` cells, restores dot from the next one, pops the variables of the header, and jumps.
     EndWith {
         count: u32,
         variables: u32,
         skip: u32,
     },
-    /// Forgets so many cells and passes over so many instructions.
+    /// Pops `count` cells and jumps.
     Forget {
         count: u32,
         skip: u32,
     },
-    /// Opens a range over the newest value and takes a step: saves dot, and the place of the next instruction, in a new
-    /// cell. Passes over so many instructions, and forgets the value, where it has no element; stops where it is no
-    /// range, or has no index or key where one is wanted.
+    /// Opens a range over the newest value and takes a step: saves dot and the place of the next instruction in a new
+    /// cell. If the value has no element, pops it and jumps; stops if no range is possible, or if an index or key is
+    /// declared and there is none.
     Enter {
         key: bool,
         skip: u32,
     },
-    /// The element that is visited becomes dot, and the values of so many variables: of none, or of one, or of one
-    /// above one for its index or key.
+    /// Makes the visited element dot, and the value of as many variables as are declared: none, one, or one above one
+    /// for its index or key.
     Turn(u32),
-    /// Forgets so many cells and goes to the place that the range saved, for its next element, which takes a step at
-    /// this line; where there is none forgets the range, takes dot back and passes over so many instructions.
+    /// Pops `count` cells and goes on with the next element at the place that the range saved, which takes a step at
+    /// this line; if there is none, pops the range, restores dot and jumps.
     Next {
         count: u32,
         skip: u32,
         line: u32,
     },
-    /// Forgets so many cells and the range below them, takes dot back and passes over so many instructions.
+    /// Pops `count` cells and the range below them, restores dot and jumps.
     Leave {
         count: u32,
         skip: u32,
     },
-    /// Stops at this line, which the faults from here on bear, where no step is left, or where as many templates are
-    /// inside one another as there may be.
+    /// Stops at this line, which later faults name, if no step is left, or if no deeper call is allowed.
     Deepen(u64),
     /// Takes a step, saves dot and the place of the next instruction, and runs the template of this number with the
     /// newest value as dot and `$`.
     Invoke(u32),
-    /// Forgets so many cells and the three of the template below them, takes dot back and goes to where the caller goes
-    /// on; ends the run where there is none.
+    /// Pops `count` cells and the three of the template below them, restores dot and goes on in the caller; ends the
+    /// run if there is none.
     Return(u32),
 }

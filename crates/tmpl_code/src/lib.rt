@@ -3,6 +3,7 @@
 
 mod binding;
 mod bound;
+mod claims;
 mod code;
 mod compiler;
 mod cost;
@@ -15,9 +16,11 @@ mod pipeline;
 mod program;
 mod scope;
 mod survey;
+mod tables;
 mod ties;
 
 pub use compiler::compile;
 pub use instruction::{Instruction, Refusal};
 pub use laws::formed_slots;
 pub use program::{Entry, Parts, Program};
+pub use tables::{Names, Span, Tables, letters_at};

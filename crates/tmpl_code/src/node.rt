@@ -5,12 +5,11 @@ ghost use Rattle.std.specs.Prelude.{◌≡◌, ◌+◌, ◌≤◌, IfOk, OnOk, S
 ghost use Rattle.tmpl_grammar.specs.Need.{declared_count};
 ghost use Rattle.tmpl_grammar.specs.View.{binding_of, pipeline_of};
 ghost use Rattle.tmpl_grammar.specs.declared.tree.Control.TheVariants as control;
-ghost use Rattle.tmpl_syntax.specs.Need.{left_behind};
+ghost use Rattle.tmpl_syntax.specs.Need.{left_after};
 ghost use Rattle.tmpl_syntax.specs.View.{control_of, node_of, nodes_in, set_view};
 ghost use Rattle.tmpl_code.specs.Code as spec;
 ghost use Rattle.tmpl_code.specs.Layout.{declared_in, grown};
-ghost use Rattle.tmpl_code.specs.View.{instruction_of};
-ghost use Rattle.tmpl_code.specs.computed.Held.{BoundPart, DottedPart, EndedPart, IsOpen, PartsAt, Placed, Put};
+ghost use Rattle.tmpl_code.specs.computed.Held.{BoundPart, DottedPart, EndedPart, IsOpen, PartsAt, Placed, Pushed, Put};
 ghost use Rattle.tmpl_code.specs.computed.Held.{TurnsPart, all_grown, code_of, exit_seen, layout_of, shrunk};
 
 use crate::binding::{
@@ -28,7 +27,7 @@ use tmpl_values::Bytes;
 /// The range around a place.
 #[derive(Clone, Copy)]
 pub(crate) struct Around {
-    /// How many instructions lie behind it.
+    /// How many instructions lie after it.
     pub(crate) after: usize,
     pub(crate) line: u32,
     /// How many cells lie below its own.
@@ -53,7 +52,7 @@ pub(crate) struct Parts<'s> {
 /// The code so far, and the cells where more of it is put.
 #[derive(Drop)]
 pub(crate) struct Compiler<'s> {
-    pub(crate) code: Code<'s>,
+    pub(crate) code: Code,
     pub(crate) scope: Scope<'s>,
 }
 
@@ -65,7 +64,7 @@ pub(crate) fn declared_in(nodes: &[Node]) -> Result<usize, AllocError>
     let mut i = nodes.len();
     while i > 0 {
         i -= 1;
-        count = sum(left_behind(&nodes[i]), count)?;
+        count = sum(left_after(&nodes[i]), count)?;
     }
     Ok(count)
 }
@@ -78,8 +77,8 @@ fn declared_by(binding: &Binding, nodes: &[Node]) -> Result<u32, AllocError>
 }
 
 /// How many variables a node leaves.
-pub(crate) fn left_behind(node: &Node) -> usize
-    ensures { result ≡ left_behind (node_of node.now).what }
+pub(crate) fn left_after(node: &Node) -> usize
+    ensures { result ≡ left_after (node_of node.now).what }
 {
     match &node.what {
         NodeKind::Action(header) => declared_count(&header.binding),
@@ -130,7 +129,7 @@ pub(crate) fn grow_all<'s>(scope: &mut Scope<'s>, nodes: &'s [Node]) -> Result<(
 }
 
 /// Puts a break.
-fn put_break(code: &mut Code<'_>, scope: &Scope<'_>, exit: Option<Around>) -> Result<(), AllocError>
+fn put_break(code: &mut Code, scope: &Scope<'_>, exit: Option<Around>) -> Result<(), AllocError>
     requires { IsOpen exit (code_of code.old) (layout_of scope.now) }
     ensures { OnOk result (Placed (spec.BreakAt (exit_seen exit (code_of code.old)) (layout_of scope.now))
         code.old code.new) }
@@ -146,11 +145,7 @@ fn put_break(code: &mut Code<'_>, scope: &Scope<'_>, exit: Option<Around>) -> Re
 }
 
 /// Puts a continue.
-fn put_continue(
-    code: &mut Code<'_>,
-    scope: &Scope<'_>,
-    exit: Option<Around>,
-) -> Result<(), AllocError>
+fn put_continue(code: &mut Code, scope: &Scope<'_>, exit: Option<Around>) -> Result<(), AllocError>
     requires { IsOpen exit (code_of code.old) (layout_of scope.now) }
     ensures { OnOk result (Placed (spec.ContinueAt (exit_seen exit (code_of code.old)) (layout_of scope.now))
         code.old code.new) }
@@ -171,12 +166,12 @@ fn put_continue(
 
 /// Puts a call of the template of this name and number, if there is one.
 #[tactic(auto, using(crate::proofs::TailLemmas::ends, crate::proofs::TailLemmas::placed_on))]
-fn put_template<'s>(
-    code: &mut Code<'s>,
-    scope: &Scope<'s>,
-    name: &'s Bytes,
+fn put_template(
+    code: &mut Code,
+    scope: &Scope<'_>,
+    name: &Bytes,
     number: Option<usize>,
-    given: &'s Option<Pipeline>,
+    given: &Option<Pipeline>,
 ) -> Result<(), AllocError>
     ensures { OnOk result (Placed (spec.CallAt name.now number (option_map pipeline_of given.now) (layout_of scope.now))
         code.old code.new) }
@@ -186,16 +181,12 @@ fn put_template<'s>(
             code.push(Instruction::Invoke(short(number)?))?;
             put_given(code, scope, given)
         }
-        None => code.push(Instruction::RefuseTemplate(name)),
+        None => code.push_refusal(name),
     }
 }
 
 /// Puts what is handed to a template.
-fn put_given<'s>(
-    code: &mut Code<'s>,
-    scope: &Scope<'s>,
-    given: &'s Option<Pipeline>,
-) -> Result<(), AllocError>
+fn put_given(code: &mut Code, scope: &Scope<'_>, given: &Option<Pipeline>) -> Result<(), AllocError>
     ensures { OnOk result (Placed (spec.GivenAt (option_map pipeline_of given.now) (layout_of scope.now))
         code.old code.new) }
 {
@@ -205,26 +196,28 @@ fn put_given<'s>(
     }
 }
 
-/// What takes the step of a node, or, for a call of a template that is there, looks whether one is left.
-pub(crate) fn first_instruction<'s>(set: &Set, node: &Node) -> Instruction<'s>
-    ensures { instruction_of result ≡ spec.step_of (set_view set.now) (node_of node.now).line (node_of node.now).what }
+/// Puts what takes the step of a node, or, for a call of a template that is there, looks whether one is left.
+pub(crate) fn put_step(code: &mut Code, set: &Set, node: &Node) -> Result<(), AllocError>
+    ensures { OnOk result (Placed (Pushed (spec.step_of (set_view set.now) (node_of node.now).line
+        (node_of node.now).what)) code.old code.new) }
 {
     match &node.what {
         NodeKind::Template(name, _) => match set.number(name.as_slice()) {
-            Some(_) => Instruction::Deepen(node.line),
-            None => Instruction::Spend(node.line),
+            Some(_) => code.push(Instruction::Deepen(node.line)),
+            None => code.push(Instruction::Spend(node.line)),
         },
-        NodeKind::Text(_) | NodeKind::Action(_) | NodeKind::Control(_) => Instruction::Spend(
-            node.line,
-        ),
-        NodeKind::Break | NodeKind::Continue => Instruction::Spend(node.line),
+        NodeKind::Text(_)
+        | NodeKind::Action(_)
+        | NodeKind::Control(_)
+        | NodeKind::Break
+        | NodeKind::Continue => code.push(Instruction::Spend(node.line)),
     }
 }
 
-/// Puts what ends a part: it forgets so many cells and passes over so many instructions. Where there is none of
+/// Puts what ends a part: it forgets this many cells and passes over this many instructions. Where there is none of
 /// either, nothing ends it.
 #[tactic(auto, using(crate::proofs::TailLemmas::end_at, crate::proofs::TailLemmas::ends))]
-fn put_end(code: &mut Code<'_>, count: u32, skip: u32) -> Result<(), AllocError>
+fn put_end(code: &mut Code, count: u32, skip: u32) -> Result<(), AllocError>
     ensures { OnOk result (Placed (spec.EndAt count skip) code.old code.new) }
 {
     match (count, skip) {
@@ -248,7 +241,7 @@ impl<'s> Compiler<'s> {
             let node = &nodes[i];
             shrink(&mut self.scope, node);
             self.put_node(site, node)?;
-            self.code.push(first_instruction(site.set, node))?;
+            put_step(&mut self.code, site.set, node)?;
         }
         Ok(())
     }
@@ -263,7 +256,7 @@ impl<'s> Compiler<'s> {
             site.entry.exit self.old self.new) }
     {
         match &node.what {
-            NodeKind::Text(text) => self.code.push(Instruction::Put(text)),
+            NodeKind::Text(text) => self.code.push_put(text),
             NodeKind::Action(header) => {
                 put_shown(&mut self.code, &header.binding)?;
                 put_header(&mut self.code, &self.scope, header)
@@ -374,7 +367,7 @@ impl<'s> Compiler<'s> {
         put_pipeline(&mut self.code, &self.scope, &parts.header.pipeline)
     }
 
-    /// Puts a part behind a header, and what ends it: it forgets the part's variables and passes over so many
+    /// Puts a part after a header, and what ends it: it forgets the part's variables and passes over this many
     /// instructions.
     #[cycle(nodes)]
     #[tactic(auto, using(crate::proofs::TailLemmas::ends, crate::proofs::TailLemmas::open_on))]
@@ -394,7 +387,7 @@ impl<'s> Compiler<'s> {
         self.put_part(site, binding, nodes)
     }
 
-    /// Puts a part behind a header.
+    /// Puts a part after a header.
     #[cycle(nodes)]
     #[tactic(auto, using(crate::proofs::NodeLemmas::offs, crate::proofs::TailLemmas::ends))]
     fn put_part(
@@ -414,7 +407,7 @@ impl<'s> Compiler<'s> {
         Ok(())
     }
 
-    /// Puts a part behind a header and a saved dot.
+    /// Puts a part after a header and a saved dot.
     #[cycle(nodes)]
     #[tactic(auto, using(crate::proofs::NodeLemmas::offs, crate::proofs::TailLemmas::ends))]
     fn put_dotted_part(

@@ -16,7 +16,7 @@ use tmpl_funcs::Func;
 use tmpl_grammar::{Command, Operand, Pipeline};
 use tmpl_values::Bytes;
 
-/// The sum; no memory would hold so many if it were larger than a number.
+/// The sum; no memory would hold that many if it were larger than a number.
 pub(crate) fn sum(a: usize, b: usize) -> Result<usize, AllocError>
     ensures value { IfOk result (λ n. n ≡ a + b) }
     ensures fits { a + b < 2 ^ 64 → IsOk result }
@@ -40,10 +40,10 @@ pub(crate) fn short(n: usize) -> Result<u32, AllocError>
 }
 
 /// Puts a pipeline.
-pub(crate) fn put_pipeline<'s>(
-    code: &mut Code<'s>,
-    scope: &Scope<'s>,
-    pipeline: &'s Pipeline,
+pub(crate) fn put_pipeline(
+    code: &mut Code,
+    scope: &Scope<'_>,
+    pipeline: &Pipeline,
 ) -> Result<(), AllocError>
     ensures { OnOk result (Placed (spec.PipelineAt (pipeline_of pipeline.now) (layout_of scope.now))
         code.old code.new) }
@@ -51,13 +51,13 @@ pub(crate) fn put_pipeline<'s>(
     put_commands(code, scope, 0, pipeline.commands.as_slice())
 }
 
-/// Puts commands, to the first of which nothing is piped, above so many values.
+/// Puts commands, to the first of which nothing is piped, above this many values.
 #[cycle(pipeline)]
-fn put_commands<'s>(
-    code: &mut Code<'s>,
-    scope: &Scope<'s>,
+fn put_commands(
+    code: &mut Code,
+    scope: &Scope<'_>,
     above: usize,
-    commands: &'s [Command],
+    commands: &[Command],
 ) -> Result<(), AllocError>
     ensures { OnOk result (Placed (spec.CommandsAt (commands_in commands.now) false above (layout_of scope.now))
         code.old code.new) }
@@ -75,11 +75,11 @@ fn put_commands<'s>(
 /// Puts commands to each of which a value is piped.
 #[cycle(pipeline)]
 #[tactic(auto, using(crate::proofs::OperandLemmas::lighter, crate::proofs::TailLemmas::ends))]
-fn put_piped<'s>(
-    code: &mut Code<'s>,
-    scope: &Scope<'s>,
+fn put_piped(
+    code: &mut Code,
+    scope: &Scope<'_>,
     above: usize,
-    commands: &'s [Command],
+    commands: &[Command],
 ) -> Result<(), AllocError>
     ensures { OnOk result (Placed (spec.CommandsAt (commands_in commands.now) true above (layout_of scope.now))
         code.old code.new) }
@@ -94,14 +94,14 @@ fn put_piped<'s>(
     Ok(())
 }
 
-/// Puts a command, above so many values, of which a piped one is the newest.
+/// Puts a command, above this many values, of which a piped one is the newest.
 #[cycle(pipeline)]
-fn put_command<'s>(
-    code: &mut Code<'s>,
-    scope: &Scope<'s>,
+fn put_command(
+    code: &mut Code,
+    scope: &Scope<'_>,
     above: usize,
     piped: bool,
-    operands: &'s [Operand],
+    operands: &[Operand],
 ) -> Result<(), AllocError>
     ensures { OnOk result (Placed (spec.CommandAt (operands_in operands.now) piped above (layout_of scope.now))
         code.old code.new) }
@@ -116,7 +116,7 @@ fn put_command<'s>(
     }
 }
 
-/// Whether no argument stands behind an operand before these.
+/// Whether no argument stands after an operand before these.
 #[tactic(auto, using(crate::proofs::OperandLemmas::counts))]
 fn is_last(rest: &[Operand], piped: bool) -> bool
     ensures { result ≡ spec.is_last (operands_in rest.now) piped }
@@ -129,11 +129,11 @@ fn is_last(rest: &[Operand], piped: bool) -> bool
 
 /// Puts an operand that is a whole command, and no function.
 #[cycle(pipeline)]
-fn put_alone<'s>(
-    code: &mut Code<'s>,
-    scope: &Scope<'s>,
+fn put_alone(
+    code: &mut Code,
+    scope: &Scope<'_>,
     above: usize,
-    operand: &'s Operand,
+    operand: &Operand,
 ) -> Result<(), AllocError>
     ensures { OnOk result (Placed (spec.AloneAt (operand_of operand.now)
         (spec.OperandAt (operand_of operand.now) above (layout_of scope.now))) code.old code.new) }
@@ -165,13 +165,13 @@ fn operand_count(operands: &[Operand]) -> usize
 /// Puts a call of a function.
 #[cycle(pipeline)]
 #[tactic(auto, using(crate::proofs::TailLemmas::ends, crate::proofs::TailLemmas::placed_on))]
-fn put_call<'s>(
-    code: &mut Code<'s>,
-    scope: &Scope<'s>,
+fn put_call(
+    code: &mut Code,
+    scope: &Scope<'_>,
     above: usize,
     piped: bool,
     func: Func,
-    operands: &'s [Operand],
+    operands: &[Operand],
 ) -> Result<(), AllocError>
     ensures { OnOk result (Placed (CalledAt func (operands_in operands.now) piped above (layout_of scope.now))
         code.old code.new) }
@@ -193,11 +193,11 @@ fn put_call<'s>(
 /// Puts the operands of a call.
 #[cycle(pipeline)]
 #[tactic(auto, using(crate::proofs::OperandLemmas::lighter, crate::proofs::TailLemmas::ends))]
-fn put_operands<'s>(
-    code: &mut Code<'s>,
-    scope: &Scope<'s>,
+fn put_operands(
+    code: &mut Code,
+    scope: &Scope<'_>,
     above: usize,
-    operands: &'s [Operand],
+    operands: &[Operand],
 ) -> Result<(), AllocError>
     ensures { OnOk result (Placed (spec.OperandsAt (operands_in operands.now) above (layout_of scope.now))
         code.old code.new) }
@@ -213,13 +213,13 @@ fn put_operands<'s>(
 /// Puts the operands of an `or`, or else of an `and`.
 #[cycle(pipeline)]
 #[tactic(auto, using(crate::proofs::OperandLemmas::lighter, crate::proofs::TailLemmas::ends, crate::proofs::TailLemmas::longer))]
-fn put_junction<'s>(
-    code: &mut Code<'s>,
-    scope: &Scope<'s>,
+fn put_junction(
+    code: &mut Code,
+    scope: &Scope<'_>,
     above: usize,
     is_or: bool,
     piped: bool,
-    operands: &'s [Operand],
+    operands: &[Operand],
 ) -> Result<(), AllocError>
     ensures { OnOk result (Placed (spec.JunctionAt is_or (operands_in operands.now) piped above (layout_of scope.now))
         code.old code.new) }
@@ -236,9 +236,9 @@ fn put_junction<'s>(
     Ok(())
 }
 
-/// Puts what decides behind an operand, unless that is the last argument; what the others put ends at the end.
+/// Puts what decides after an operand, unless that is the last argument; what the others put ends at the end.
 fn put_decide(
-    code: &mut Code<'_>,
+    code: &mut Code,
     end: usize,
     is_or: bool,
     piped: bool,
@@ -255,28 +255,28 @@ fn put_decide(
     code.push(Instruction::Decide { is_or, piped, skip })
 }
 
-/// Puts an operand, above so many values.
+/// Puts an operand, above this many values.
 #[cycle(pipeline)]
 #[tactic(auto, using(tmpl_grammar::proofs::ViewLemmas::group_seen, crate::proofs::TailLemmas::ends, crate::proofs::TailLemmas::placed_on))]
-fn put_operand<'s>(
-    code: &mut Code<'s>,
-    scope: &Scope<'s>,
+fn put_operand(
+    code: &mut Code,
+    scope: &Scope<'_>,
     above: usize,
-    operand: &'s Operand,
+    operand: &Operand,
 ) -> Result<(), AllocError>
     ensures { OnOk result (Placed (spec.OperandAt (operand_of operand.now) above (layout_of scope.now))
         code.old code.new) }
 {
     match operand {
         Operand::Dot => code.push(Instruction::PushDot),
-        Operand::Fields(names) => code.push(Instruction::PushFields(names)),
+        Operand::Fields(names) => code.push_fields(names.as_slice()),
         Operand::Variable { name, fields } => {
             put_chain(code, fields)?;
             put_variable(code, scope.slot(name.as_slice()), above)
         }
         Operand::Bool(held) => code.push(Instruction::PushBool(*held)),
         Operand::Number(number) => code.push(Instruction::PushNumber(*number)),
-        Operand::Text(bytes) => code.push(Instruction::PushText(bytes)),
+        Operand::Text(bytes) => code.push_text(bytes),
         Operand::Nil => code.push(Instruction::PushNothing),
         Operand::Function(func) => put_bare(code, *func),
         Operand::Group { commands, fields } => {
@@ -286,19 +286,19 @@ fn put_operand<'s>(
     }
 }
 
-/// Puts a chain of fields behind a value, if there is one.
-fn put_chain<'s>(code: &mut Code<'s>, names: &'s Vec<Bytes>) -> Result<(), AllocError>
+/// Puts a chain of fields after a value, if there is one.
+fn put_chain(code: &mut Code, names: &Vec<Bytes>) -> Result<(), AllocError>
     ensures code { OnOk result (code_of code.new ≡ spec.chain_before names.now.items (code_of code.old)) }
     ensures ends { OnOk result (Ends (code_of code.old) (code_of code.new)) }
 {
     match names.as_slice() {
         [] => Ok(()),
-        [_, ..] => code.push(Instruction::Chain(names)),
+        [_, ..] => code.push_chain(names.as_slice()),
     }
 }
 
-/// Puts the variable of a slot, below so many values.
-fn put_variable(code: &mut Code<'_>, slot: Option<usize>, above: usize) -> Result<(), AllocError>
+/// Puts the variable of a slot, below this many values.
+fn put_variable(code: &mut Code, slot: Option<usize>, above: usize) -> Result<(), AllocError>
     ensures { OnOk result (Placed (spec.VariableAt slot above) code.old code.new) }
 {
     match slot {
@@ -308,7 +308,7 @@ fn put_variable(code: &mut Code<'_>, slot: Option<usize>, above: usize) -> Resul
 }
 
 /// Puts a function as an argument: a call without arguments.
-fn put_bare(code: &mut Code<'_>, func: Func) -> Result<(), AllocError>
+fn put_bare(code: &mut Code, func: Func) -> Result<(), AllocError>
     ensures { OnOk result (Placed (spec.BareAt (takes func 0) func) code.old code.new) }
 {
     if func.takes(0) {

@@ -6,7 +6,7 @@ ghost use Rattle.tmpl_syntax.specs.View.{control_of, node_of, nodes_in};
 
 use crate::binding::declared_count;
 use crate::cost::{Cost, cost_of_given, cost_of_pipeline, larger};
-use crate::node::left_behind;
+use crate::node::left_after;
 use crate::pipeline::sum;
 use std::alloc::AllocError;
 use tmpl_grammar::Control;
@@ -47,7 +47,7 @@ impl Survey {
         }
     }
 
-    /// The survey of the same above so many cells that are held.
+    /// The survey of the same above this many cells that are held.
     pub(crate) fn above(self, held: usize) -> Result<Survey, AllocError>
         ensures { IfOk result (Surveys (held + self.need) self.makes_text self.calls) }
     {
@@ -80,7 +80,7 @@ fn survey_nodes(nodes: &[Node]) -> Result<Survey, AllocError>
     while i > 0 {
         i -= 1;
         let node = &nodes[i];
-        survey = survey_node(node)?.with(survey.above(left_behind(node))?);
+        survey = survey_node(node)?.with(survey.above(left_after(node))?);
     }
     Ok(survey)
 }
@@ -115,7 +115,7 @@ fn survey_control(node: &ControlNode) -> Result<Survey, AllocError>
     })
 }
 
-/// What the parts of a control need whose header declares so many variables.
+/// What the parts of a control need whose header declares this many variables.
 fn need_of_parts(
     control: Control,
     declared: usize,

@@ -26,7 +26,7 @@ pub(crate) struct Link {
 }
 
 impl Ties {
-    /// The lists of so many templates.
+    /// The lists of this many templates.
     pub(crate) fn new(alloc: Global, count: usize, ties: &[Tie]) -> Result<Ties, AllocError> {
         let mut newest = filled(alloc, count, 0)?;
         let mut links = Vec::with_capacity(alloc, ties.len())?;
@@ -70,7 +70,7 @@ pub(crate) fn turned(alloc: Global, ties: &[Tie]) -> Result<Vec<Tie>, AllocError
     Ok(turned)
 }
 
-/// Of so many templates those from which these ties lead to no cycle, each behind those that it is tied to. The lists
+/// Of this many templates those from which these ties lead to no cycle, each after those that it is tied to. The lists
 /// are of the ties in the other direction.
 pub(crate) fn peel(
     alloc: Global,
@@ -90,7 +90,7 @@ pub(crate) fn peel(
     Ok(peeled)
 }
 
-/// How many ties each of so many templates has.
+/// How many ties each of this many templates has.
 fn counts(alloc: Global, count: usize, ties: &[Tie]) -> Result<Vec<usize>, AllocError> {
     let mut counts = filled(alloc, count, 0)?;
     for tie in ties {
@@ -133,7 +133,7 @@ fn release(
     Ok(())
 }
 
-/// So many times the same.
+/// The same value, this many times.
 pub(crate) fn filled(alloc: Global, count: usize, value: usize) -> Result<Vec<usize>, AllocError> {
     let mut values = Vec::with_capacity(alloc, count)?;
     for _ in 0..count {

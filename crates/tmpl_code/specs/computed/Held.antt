@@ -25,17 +25,18 @@ use Rattle.tmpl_code.specs.declared.node.Around as held_around
 use Rattle.tmpl_code.specs.declared.node.Parts as held_node
 use Rattle.tmpl_code.specs.declared.node.Compiler as held_compiler
 use Rattle.tmpl_code.specs.declared.scope.Scope as held_scope
+use Rattle.tmpl_code.specs.declared.tables.Tables.{Tables}
 
-abbrev pub code_in : List held_instruction.Instruction → Code
-code_in is = map instruction_of (reverse is)
+abbrev pub code_in : Tables → List held_instruction.Instruction → Code
+code_in t is = map (instruction_of t) (reverse is)
 
 unfoldable pub code_of : held_code.Code → Code
-code_of c = code_in c.instructions.items
+code_of c = code_in c.tables c.instructions.items
 
 unfoldable pub layout_of : held_scope.Scope → Layout
 layout_of s = layout_in s.cells.items
 
--- behind an operand of `and` or `or`, of which the last of so many instructions come behind the whole
+-- after an operand of `and` or `or`, of which the last of this many instructions come after the whole
 abbrev pub decided : Bool → Bool → Bool → ℕ → Code → Code
 decided true is_or piped end code = code
 decided false is_or piped end code = act (decide is_or piped (length code - end)) ∷ code
@@ -45,7 +46,7 @@ pub record Ends (rest code : Code) : Type 0 where
   pub front : Code
   pub is : code ≡ front ++ rest
 
--- code of this kind was put before other code, which stands behind it
+-- code of this kind was put before other code, which stands after it
 pub record Placed (P : Stretch) (before after : held_code.Code) : Type 0 where
   pub code : P (code_of after) (code_of before)
   pub ends : Ends (code_of before) (code_of after)
@@ -54,11 +55,11 @@ pub record Placed (P : Stretch) (before after : held_code.Code) : Type 0 where
 abbrev pub Pushed : Instruction → Stretch
 Pushed i code rest = code ≡ i ∷ rest
 
--- the last so many instructions
+-- this many of the last instructions
 abbrev pub last_of : ℕ → Code → Code
 last_of n code = drop (length code - n) code
 
--- the range around, by how much code lies behind it
+-- the range around, by how much code lies after it
 abbrev pub exit_seen : Option held_around.Around → Code → Exit
 exit_seen None code = None
 exit_seen (Some a) code = Some (record { out = last_of a.after code; line = a.line; below = a.below })
@@ -68,7 +69,7 @@ abbrev pub IsOpen : Option held_around.Around → Code → Layout → Type 0
 IsOpen None code cells = Unit {0}
 IsOpen (Some a) code cells = (a.after ≤ length code) × (a.below + 2 ≤ length cells)
 
--- behind nodes
+-- after nodes
 abbrev pub all_grown : Nodes → Layout → Layout
 all_grown tree.none cells = cells
 all_grown (tree.then line n ns) cells = all_grown ns (grown n cells)
@@ -94,8 +95,8 @@ abbrev pub shrunk : NodeKind → Layout → Layout
 shrunk (action h) cells = bound_off h.binding cells
 shrunk n cells = cells
 
--- nodes behind a header that binds variables; with a saved dot too; with what ends them; and above the cells of a
--- range, behind what binds the variables to its element
+-- nodes after a header that binds variables; with a saved dot too; with what ends them; and above the cells of a
+-- range, after what binds the variables to its element
 abbrev pub BoundPart : List Template → Binding → Nodes → NodesPart
 BoundPart ts b ns cells exit = NodesAt ts ns (bound_on b cells) exit
 
@@ -116,7 +117,7 @@ abbrev pub PartsAt : List Template → ℕ → Control → held_node.Parts → N
 PartsAt ts line c p =
     NodeAt ts line (control_node c (header_of p.header.now) (nodes_in p.body.now) (nodes_in p.other.now))
 
--- such a part was put before the code, which stands behind it, and the cells are as they were
+-- such a part was put before the code, which stands after it, and the cells are as they were
 pub record Put (P : NodesPart) (exit : Option held_around.Around) (before after : held_compiler.Compiler) : Type 0 where
   pub code :
       P (layout_of before.scope) (exit_seen exit (code_of before.code)) (code_of after.code) (code_of before.code)

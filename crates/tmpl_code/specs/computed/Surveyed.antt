@@ -7,7 +7,7 @@ use Rattle.tmpl_code.specs.computed.Weights.{node_calls, nodes_call}
 use Rattle.tmpl_code.specs.declared.cost.Cost as held_cost
 use Rattle.tmpl_code.specs.declared.survey.Survey as held_survey
 
--- so many cells, and whether a text is made
+-- this many cells, and whether a text is made
 pub record Costs (cells : ℕ) (makes : Bool) (c : held_cost.Cost) : Type 0 where
   pub need : c.need ≡ cells
   pub text : c.makes_text ≡ makes

@@ -1,5 +1,5 @@
--- Whether templates call others, and their weights, by which one look at each call says how many cells are enough for
--- all chains of calls.
+-- Whether templates call others, and their weights and allowances, by which a look at each call says how many cells are
+-- enough for all chains of calls.
 use Rattle.std.specs.Prelude.{◌≡◌, ℕ, ◌+◌, ◌*◌, ◌≤◌, ◌||◌, Bool, true, false, max, List, [], ◌∷◌, get_or, Option}
 use Rattle.std.specs.Prelude.{Some, None, slice_get}
 use Rattle.tmpl_syntax.specs.Need.{need}
@@ -43,17 +43,24 @@ abbrev mutual
   heaviest_of_nodes ts weights (tree.then line n ns) =
       max (heaviest_of_node ts weights n) (heaviest_of_nodes ts weights ns)
 
--- a template's weight, and what each is given, pay for what it needs and the heaviest that it calls; and it weighs no
--- more than that
-pub record HoldsOf (ts : List Template) (weights : List ℕ) (each fixed : ℕ) (number : ℕ) (t : Template) : Type 0 where
-  pub pays : need t.1 + heaviest_of_nodes ts weights t.1.nodes ≤ get_or weights number 0 + each
+-- a template's weight and its allowance pay for what it needs and the heaviest that it calls, whose allowances are no
+-- larger; the weight is no more than is held once, nor is the allowance more than each is given
+pub record HoldsOf (ts : List Template) (weights allowances : List ℕ) (fixed each number : ℕ) (t : Template) : Type 0 where
+  pub pays : need t.1 + heaviest_of_nodes ts weights t.1.nodes ≤ get_or weights number 0 + get_or allowances number 0
+  pub lasts : heaviest_of_nodes ts allowances t.1.nodes ≤ get_or allowances number 0
   pub most : get_or weights number 0 ≤ fixed
+  pub greatest : get_or allowances number 0 ≤ each
 
 -- so it is of each template
-abbrev pub Hold : List Template → List ℕ → ℕ → ℕ → Type 0
-Hold ts weights each fixed =
-    (number : ℕ) (t : Template) → slice_get ts number ≡ Some t → HoldsOf ts weights each fixed number t
+abbrev pub Hold : List Template → List ℕ → List ℕ → ℕ → ℕ → Type 0
+Hold ts weights allowances fixed each =
+    (number : ℕ) (t : Template) → slice_get ts number ≡ Some t → HoldsOf ts weights allowances fixed each number t
 
--- so many cells, and so many more for each template that may be inside the others, are enough for every template
+-- this many cells, and this many more for each template that may be inside the others, are enough for every template
 abbrev pub IsBound : List Template → ℕ → ℕ → Type 0
 IsBound ts fixed each = (depth first : ℕ) → Suffices depth ts first (fixed + depth * each)
+
+-- for each template its weight, and its allowance for each template that may be inside the others, are enough
+abbrev pub AreEnough : List Template → List ℕ → List ℕ → Type 0
+AreEnough ts weights allowances =
+    (depth first : ℕ) → Suffices depth ts first (get_or weights first 0 + depth * get_or allowances first 0)

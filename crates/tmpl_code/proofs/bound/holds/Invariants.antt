@@ -7,4 +7,5 @@ use Rattle.tmpl_code.proofs.bound.holds.Given as goal
 
 abbrev pub invariant-loop-number : goal.invariant-loop-number
 invariant-loop-number l =
-    (k : ℕ) (t : Template) → k < l.number → slice_get (set_view l.set) k ≡ Some t → HoldsOf (set_view l.set) l.weights l.guess.each l.guess.fixed k t
+    (k : ℕ) (t : Template) → k < l.number → slice_get (set_view l.set) k ≡ Some t → HoldsOf (set_view l.set) l.guess.claims.weights.items
+    l.guess.claims.allowances.items l.guess.fixed l.guess.each k t

@@ -1,15 +1,16 @@
-use Rattle.std.proofs.Common.{◌≡◌, ◌∙◌, ◌+◌, ◌-◌, ℕ, ◌||◌, List, [], ◌∷◌, max, drop, length, map, reverse, ap, sym, subst, arith, Vec, Global}
+use Rattle.std.proofs.Common.{◌≡◌, ◌∙◌, ◌+◌, ◌-◌, ℕ, ◌||◌, List, [], ◌∷◌, max, drop, length, map, reverse, ap, sym, subst, arith, IfSome, Option, Vec, Global}
 use Rattle.std.specs.Vec.{with_items}
 use Rattle.std.proofs.lemmas.List.{reverse-append, with_items_is}
 use Rattle.tmpl_syntax.specs.Need.{need, need_of_nodes}
 use Rattle.tmpl_syntax.specs.Set.{Template}
 use Rattle.tmpl_syntax.specs.Tree.{Nodes}
 use Rattle.tmpl_syntax.specs.View.{nodes_in, set_view, tree_of}
-use Rattle.tmpl_code.specs.computed.Weights.{nodes_call, set_calls}
+use Rattle.tmpl_code.specs.computed.Weights.{AreEnough, IsBound, nodes_call, set_calls}
 use Rattle.tmpl_code.specs.Code.{Code, Starts, TreeAt}
 use Rattle.tmpl_code.specs.MakesText.{nodes_make_text, set_makes_text}
 use Rattle.tmpl_code.specs.Room.{largest_need}
 use Rattle.tmpl_code.specs.View.{instructions_of}
+use Rattle.tmpl_code.specs.declared.claims.Claims.{Claims}
 use Rattle.tmpl_code.specs.computed.Held.{LastStarts, code_of, places}
 use Rattle.tmpl_code.proofs.BackwardLemmas.{at-first}
 use Rattle.tmpl_code.proofs.ProgramLemmas.{starts as starts_of, starts_more}
@@ -61,22 +62,29 @@ linked-so ts i size lengths turned counts starts code is none last many same pla
     let kept = with_items_is turned starts (omega (arith, many, ap length same)) in
     rw (put, kept, placed, sized, same, reversed) (starts_of ts ts (reverse lengths) code (rw none at last))
 
+pub parts_of-requires : goal.parts_of-requires
+parts_of-requires c =
+    let l = c.loop-i in
+    linked-so (set_view c.args.set.now) l.i c.len-2.result l.lengths.items c.reverse.new.self c.as_mut_slice.result.now c.to_places.new.counts
+    (code_of l.compiler.code) (instructions_of c.into_parts-tables.result.0 c.into_parts-tables.result.1.items) (omega arith) l.invariant.starts
+    c.to_places.auto.counts c.as_mut_slice.ensures.value c.to_places.ensures c.len-2.ensures c.reverse.ensures.items c.into_parts-tables.ensures
+
+-- what the templates of a set claim, told of the set that the program keeps
+claims-of : (o : Option Claims) (ts us : List Template) → ts ≡ us → IfSome o (λ c. AreEnough ts c.weights.items c.allowances.items)
+    → IfSome o (λ c. AreEnough us c.weights.items c.allowances.items)
+claims-of o ts us same h = subst (λ (vs : List Template). IfSome o (λ c. AreEnough vs c.weights.items c.allowances.items)) same h
+
 pub invariant_of-result : goal.invariant_of-result
 invariant_of-result c =
     let l = c.loop-i in
-    let ts = set_view c.args.set.now in record {
-      linked =
-          linked-so ts l.i c.len-2.result l.lengths.items c.reverse.new.self c.as_mut_slice.result.now c.to_places.new.counts (code_of l.compiler.code)
-          (instructions_of c.into_instructions.result.items) (omega arith) l.invariant.starts c.to_places.auto.counts c.as_mut_slice.ensures.value
-          c.to_places.ensures c.len-2.ensures c.reverse.ensures.items c.into_instructions.ensures;
-      need = at-first largest_need ts l.invariant.most (omega arith);
-      enough = c.in_ok-bound.ensures.bound;
-      makes = at-first set_makes_text ts l.invariant.makes (omega arith);
+    let ts = set_view c.args.set.now in
+    let parts = c.in_ok-parts.ensures in
+    let bound = c.in_ok-bound in
+    record {
+      linked = parts.linked;
+      outline = parts.outline;
+      need = at-first largest_need ts l.invariant.most (omega arith) ∙ ap largest_need (sym parts.set);
+      enough = subst (λ (us : List Template). IsBound us bound.bound.fixed bound.bound.each) (sym parts.set) bound.ensures.bound;
+      claimed = claims-of bound.bound.claims ts (set_view c.in_ok-parts.parts.set.value) (sym parts.set) bound.ensures.claims;
+      makes = at-first set_makes_text ts l.invariant.makes (omega arith) ∙ ap set_makes_text (sym parts.set);
     }
-
-pub returns-clause-linked : goal.returns-clause-linked
-returns-clause-linked c =
-    let l = c.loop-i in
-    linked-so (set_view c.args.set.now) l.i c.len-2.result l.lengths.items c.reverse.new.self c.as_mut_slice.result.now c.to_places.new.counts
-    (code_of l.compiler.code) (instructions_of c.into_instructions.result.items) (omega arith) l.invariant.starts c.to_places.auto.counts
-    c.as_mut_slice.ensures.value c.to_places.ensures c.len-2.ensures c.reverse.ensures.items c.into_instructions.ensures

@@ -1,4 +1,4 @@
-use Rattle.std.proofs.Common.{◌∙◌, ◌-◌, ◌∷◌, length, refl, ap, arith, rules}
+use Rattle.std.proofs.Common.{◌∙◌, ◌-◌, length, refl, ap, arith, rules}
 use Rattle.std.proofs.lemmas.Result.{on_ok_weaker}
 use Rattle.tmpl_syntax.specs.declared.tree.NodeKind.TheFolds.{the_lemmas}
 use Rattle.tmpl_grammar.specs.View.{binding_of, header_of}
@@ -27,7 +27,7 @@ put_nodes-loop-i-preserved t c =
     let item = c.index-nodes-i.result in
     tail.put_more (record { code = l.self.code; scope = c.shrink.new.scope }) c.requires l.invariant (l.i - 1) item (omega arith) (omega arith)
     c.index-nodes-i.is refl c.shrink.ensures c.in_ok-put_node.ensures
-    (c.in_ok-push.ensures.code ∙ ap (λ i. i ∷ code_of c.put_node.new.self.code) c.first_instruction.ensures) refl
+    c.in_ok-put_step.ensures.code refl
 
 pub put_nodes-returns : goal.put_nodes-returns
 put_nodes-returns t c = tail.put_all (omega arith) c.loop-i.invariant

@@ -1,8 +1,7 @@
-use Rattle.std.proofs.Common.{◌∙◌, ◌+◌, ◌-◌, ◌∷◌, ◌||◌, max, refl, ap, arith}
+use Rattle.std.proofs.Common.{◌∙◌, ◌+◌, ◌-◌, ◌||◌, max, refl, ap, arith}
 use Rattle.tmpl_syntax.specs.Need.{need_of_nodes}
 use Rattle.tmpl_code.specs.computed.Weights.{nodes_call}
 use Rattle.tmpl_code.specs.MakesText.{nodes_make_text}
-use Rattle.tmpl_code.specs.computed.Held.{code_of}
 use Rattle.tmpl_code.proofs.NodeLemmas.{nodes_from}
 use Rattle.tmpl_code.proofs.TailLemmas as tail
 use Rattle.tmpl_code.proofs.node.Compiler.put_surveyed.Goals as goal
@@ -21,17 +20,17 @@ loop-i-preserved c =
     let here = nodes_from ns l.i (l.i - 1) item (omega arith) (omega arith) c.index-nodes-i.is in
     let found = c.in_ok-survey_node.ensures in
     let above = c.in_ok-above.ensures in
-    let behind = l.invariant.survey in
+    let after = l.invariant.survey in
     let joined = c.with-survey.ensures in
     record {
       nodes =
           tail.put_more (record { code = l.self.code; scope = c.shrink.new.scope }) c.requires l.invariant.nodes (l.i - 1) item (omega arith) (omega arith)
           c.index-nodes-i.is refl c.shrink.ensures c.in_ok-put_node.ensures
-          (c.in_ok-push.ensures.code ∙ ap (λ i. i ∷ code_of c.put_node.new.self.code) c.first_instruction.ensures) refl;
+          c.in_ok-put_step.ensures.code refl;
       survey = record {
-        need = joined.need ∙ (λ j. max (found.need j) ((above.need ∙ (λ k. c.left_behind.ensures k + behind.need k)) j)) ∙ ap need_of_nodes here;
-        text = joined.text ∙ (λ j. found.text j || (above.text ∙ behind.text) j) ∙ ap nodes_make_text here;
-        calls = joined.calls ∙ (λ j. found.calls j || (above.calls ∙ behind.calls) j) ∙ ap nodes_call here;
+        need = joined.need ∙ (λ j. max (found.need j) ((above.need ∙ (λ k. c.left_after.ensures k + after.need k)) j)) ∙ ap need_of_nodes here;
+        text = joined.text ∙ (λ j. found.text j || (above.text ∙ after.text) j) ∙ ap nodes_make_text here;
+        calls = joined.calls ∙ (λ j. found.calls j || (above.calls ∙ after.calls) j) ∙ ap nodes_call here;
       };
     }
 
