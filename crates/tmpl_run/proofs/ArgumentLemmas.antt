@@ -43,7 +43,7 @@ module _ {A B : Type 0} (f : A → B) where
   one-turned (x ∷ []) h = refl
   one-turned (x ∷ y ∷ l) h = absurd (omega arith)
 
-  -- .. and of such a part, the lowest one, if that is asked for, behind the others
+  -- .. and of such a part, the lowest one, if that is asked for, after the others
   turned-is : (count below top from : ℕ) (cs : List A) → from + (count + below) ≡ top → top ≤ length cs → below ≤ 1
       → map f (drop below (take (count + below) (drop from cs)) ++ take below (take (count + below) (drop from cs)))
       ≡ reverse (take count (map f (reverse (take top cs)))) ++ take below (drop count (map f (reverse (take top cs))))

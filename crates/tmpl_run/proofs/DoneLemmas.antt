@@ -21,7 +21,7 @@ use Rattle.tmpl_run.specs.Ready.{Has}
 use Rattle.tmpl_run.specs.Ends.{Comes, Ends, IsReady, RunsTo}
 use Rattle.tmpl_run.specs.Laws.{Begins, Lessens}
 use Rattle.tmpl_run.specs.computed.Machines.{no_template}
-use Rattle.tmpl_run.specs.computed.Turned.{added, mark_behind}
+use Rattle.tmpl_run.specs.computed.Turned.{added, mark_after}
 
 -- what a fault is told of as in a template
 abbrev pub retold : Template → Option Fault → Option Fault
@@ -38,17 +38,17 @@ with_told x m s = record s { text = x; made_text = m }
 
 -- what an instruction does hangs neither on the template that is told nor on what was put out before it
 pub done-told : (plan : Plan) (t : Template) (x : List ℕ) (m : Bool) (i : Instruction) (s : State)
-    → done plan t i (with_told x m s) ≡ tell t (x ++ added i s) (m || mark_behind i false) (done plan no_template i (with_told [] false s))
+    → done plan t i (with_told x m s) ≡ tell t (x ++ added i s) (m || mark_after i false) (done plan no_template i (with_told [] false s))
 done-told plan t x m i s = grind (arith, common_steps, append-nil, or-false)
 
--- what the instruction at a place puts out, and the mark behind it
+-- what the instruction at a place puts out, and the mark after it
 abbrev added_at : Option Instruction → State → List ℕ
 added_at None s = []
 added_at (Some i) s = added i s
 
 abbrev pub mark_at : Option Instruction → Bool → Bool
 mark_at None made = made
-mark_at (Some i) made = made || mark_behind i false
+mark_at (Some i) made = made || mark_after i false
 
 abbrev mark_next : Plan → State → Bool
 mark_next plan s = mark_at (slice_get plan.code s.place) s.made_text

@@ -18,6 +18,7 @@ use Rattle.tmpl_meaning.specs.declared.fault.RunFaultKind.{RunFaultKind}
 use Rattle.tmpl_meaning.specs.declared.sink.SinkFault.{SinkFault}
 use Rattle.tmpl_code.specs.Instruction.{Instruction}
 use Rattle.tmpl_code.specs.View.{instruction_of, instructions_of}
+use Rattle.tmpl_code.specs.declared.tables.Tables.{Tables}
 use Rattle.tmpl_code.specs.declared.instruction.Instruction as held
 use Rattle.tmpl_run.specs.Ends.{Ends}
 use Rattle.tmpl_run.specs.Laws.{Begins}
@@ -27,7 +28,7 @@ use Rattle.tmpl_run.specs.State.{Plan, State}
 use Rattle.tmpl_run.specs.computed.Came.{Came, ComesTo, IsStopped}
 use Rattle.tmpl_run.specs.computed.Machines.{no_template, state_of}
 use Rattle.tmpl_run.specs.computed.Plain.{IsPlain, SparedOr}
-use Rattle.tmpl_run.specs.computed.Turned.{Executed, IsThere, Lands, TurnedBy, added, at_once, mark_behind, put_by, put_out, text_in, value_by}
+use Rattle.tmpl_run.specs.computed.Turned.{Executed, IsThere, Lands, TurnedBy, added, at_once, mark_after, put_by, put_out, text_in, value_by}
 use Rattle.tmpl_run.specs.computed.Turned as turning
 use Rattle.tmpl_run.specs.computed.View.{size_of}
 use Rattle.tmpl_run.specs.declared.fault.RunError.{RunError}
@@ -41,7 +42,7 @@ use Rattle.tmpl_run.proofs.DoneLemmas.{done-told, each-lessens, ends-so, falls, 
 use Rattle.tmpl_run.proofs.DoneLemmas.{tells-more, text-begins, with_told, work}
 use Rattle.tmpl_run.proofs.ShownLemmas.{Once, ends-shown, once-is, shown-within}
 
--- what the loop keeps: behind what was put out so far and the mark, the machine comes to the end
+-- what the loop keeps: after what was put out so far and the mark, the machine comes to the end
 pub record Stands (plan : Plan) (end : Ran) (m : Machine) (before now : Puts) : Type 0 where
   pub depth : m.depth + m.left < 2 ^ 64 - 1
   pub text : List ℕ
@@ -67,27 +68,28 @@ module _ {plan : Plan} {end : Ran} {m : Machine} {before now : Puts} (inv : Stan
   pub runs : (t : Template) × (slice_get plan.templates m.template ≡ Some t) × (m.place < length plan.code)
   runs = in-code plan room end past inv.ends
 
-  module _ (items : List held.Instruction) (same-code : plan.code ≡ instructions_of items) where
+  module _ (tables : Tables) (items : List held.Instruction) (same-code : plan.code ≡ instructions_of tables items) where
     same-length : length plan.code ≡ length items
-    same-length = ap (λ (is : List Instruction). length is) same-code ∙ length-map items instruction_of
+    same-length = ap (λ (is : List Instruction). length is) same-code ∙ length-map items (instruction_of tables)
 
     pub inside : m.place < length items
     inside = let within = runs.2 in let same = same-length in omega arith
 
-    module _ {item : held.Instruction} (is : item ≡ get_or items m.place item) where
+    -- the one at the place
+    module _ (other : held.Instruction) where
       abbrev i : Instruction
-      i = instruction_of item
+      i = instruction_of tables (get_or items m.place other)
 
       here : slice_get plan.code m.place ≡ Some i
-      here = ap (λ is. slice_get is m.place) same-code ∙ slice_get-map instruction_of items m.place
-          ∙ ap (option_map instruction_of) (slice_get-get_or items m.place item inside ∙ ap Some (sym is))
+      here = ap (λ is. slice_get is m.place) same-code ∙ slice_get-map (instruction_of tables) items m.place
+          ∙ ap (option_map (instruction_of tables)) (slice_get-get_or items m.place other inside)
 
-      -- the text and the mark behind a turn that puts this out
+      -- the text and the mark after a turn that puts this out
       abbrev told : List ℕ → State → State
-      told out u = with_told (inv.text ++ out) (inv.made || mark_behind i false) u
+      told out u = with_told (inv.text ++ out) (inv.made || mark_after i false) u
 
-      shifted : (u : Turn) → done plan no_template i s ≡ u → done plan runs.0 i past ≡ tell runs.0 (inv.text ++ added i s) (inv.made || mark_behind i false) u
-      shifted u e = done-told plan runs.0 inv.text inv.made i s ∙ ap (tell runs.0 (inv.text ++ added i s) (inv.made || mark_behind i false)) e
+      shifted : (u : Turn) → done plan no_template i s ≡ u → done plan runs.0 i past ≡ tell runs.0 (inv.text ++ added i s) (inv.made || mark_after i false) u
+      shifted u e = done-told plan runs.0 inv.text inv.made i s ∙ ap (tell runs.0 (inv.text ++ added i s) (inv.made || mark_after i false)) e
 
       next-ends : (u : State) → done plan no_template i s ≡ goes u → Ends plan room (told (added i s) u) end
       next-ends u e = goes-on plan room end i runs.0 past here runs.1 inv.ends (told (added i s) u) (shifted (goes u) e)
@@ -105,10 +107,10 @@ module _ {plan : Plan} {end : Ran} {m : Machine} {before now : Puts} (inv : Stan
 
       -- whether the turn carries out three instructions at once
       abbrev once : Bool
-      once = at_once (instructions_of items) m.place i
+      once = at_once (instructions_of tables items) m.place i
 
-      -- behind a turn that goes on, also where a put failed in it: the run has its end behind this that it puts out
-      record Behind (n : Machine) (out : List ℕ) : Type 0 where
+      -- after a turn that goes on, also where a put failed in it: the run has its end after this that it puts out
+      record TurnsOn (n : Machine) (out : List ℕ) : Type 0 where
         pub ends : Ends plan room (told out (state_of n)) end
         pub depth : n.depth + n.left ≤ m.depth + m.left
         pub less : work (length plan.code) (state_of n) < work (length plan.code) s
@@ -116,21 +118,21 @@ module _ {plan : Plan} {end : Ran} {m : Machine} {before now : Puts} (inv : Stan
       first : once ≡ true → Once plan i s
       first at-once = once-is plan i s (ap (λ code. at_once code m.place i) same-code ∙ at-once)
 
-      behind : (n : Machine) (b : Bool) → once ≡ b → TurnedBy b plan i m n (Ok flow.On) → Behind n (put_out b plan i m (Ok flow.On))
-      behind n false o step = record {
+      beyond : (n : Machine) (b : Bool) → once ≡ b → TurnedBy b plan i m n (Ok flow.On) → TurnsOn n (put_out b plan i m (Ok flow.On))
+      beyond n false o step = record {
         ends = next-ends u step;
         depth = (let less = each-lessens plan past (told (added i s) u) next in let deep = next-depth plan past (told (added i s) u) next in grind arith);
         less = falls plan room end i runs.0 past here runs.1 inv.ends (told (added i s) u) (shifted (goes u) step);
       }
         where
           u : State
-          u = turning.behind i s (state_of n)
+          u = turning.beyond i s (state_of n)
 
           next : next_of plan past ≡ goes (told (added i s) u)
           next = is-next plan room end i runs.0 past here runs.1 inv.ends ∙ shifted (goes u) step
-      behind n true o step = by (value_by plan i s) refl step.0
+      beyond n true o step = by (value_by plan i s) refl step.0
         where
-          by : (r : Result Value Cause) → value_by plan i s ≡ r → IsThere r → Behind n (text_in r)
+          by : (r : Result Value Cause) → value_by plan i s ≡ r → IsThere r → TurnsOn n (text_in r)
           by (Err cause) e there = absurd there
           by (Ok v) e there = record {
             ends = subst (λ u. Ends plan room u end) (λ j. with_told (inv.text ++ text_of v) (made j) (sym step.1 j))
@@ -140,16 +142,16 @@ module _ {plan : Plan} {end : Ran} {m : Machine} {before now : Puts} (inv : Stan
                 (let inside = shown-within plan room end i runs.0 past here runs.1 (first o).shown in omega arith);
           }
             where
-              made : inv.made ≡ (inv.made || mark_behind i false)
+              made : inv.made ≡ (inv.made || mark_after i false)
               made = sym (or-false inv.made) ∙ ap (λ b. inv.made || b) (sym (first o).mark)
 
       -- memory is refused only where the end bears the mark
-      marked : (mark_behind i false ≡ false → IsPlain m → ⊥) → end.made_text ≡ true
-      marked never = by (inv.made || mark_behind i false) refl
+      marked : (mark_after i false ≡ false → IsPlain m → ⊥) → end.made_text ≡ true
+      marked never = by (inv.made || mark_after i false) refl
         where
-          by : (b : Bool) → (inv.made || mark_behind i false) ≡ b → end.made_text ≡ true
+          by : (b : Bool) → (inv.made || mark_after i false) ≡ b → end.made_text ≡ true
           by true e = (tells-more plan room end past inv.ends).1 (ap (λ o. mark_at o inv.made) here ∙ e)
-          by false e = let both = or_parts inv.made (mark_behind i false) e in absurd (never both.1 (inv.plain both.0))
+          by false e = let both = or_parts inv.made (mark_after i false) e in absurd (never both.1 (inv.plain both.0))
 
       -- ---- by what it answers
 
@@ -164,7 +166,7 @@ module _ {plan : Plan} {end : Ran} {m : Machine} {before now : Puts} (inv : Stan
         Outcome (Err halt) = (e : RunError) → IsStopped (slice_get plan.templates m.template) n.line halt e → Came end before after (Err e)
 
         -- the run is over, or stops at a fault
-        over : (fault : Option Fault) → done plan no_template i s ≡ ended (ran_so (turning.behind i s s) fault)
+        over : (fault : Option Fault) → done plan no_template i s ≡ ended (ran_so (turning.beyond i s s) fault)
             → IsPut {F = SinkFault} (Ok tt) now after (added i s)
             → IsPut {F = SinkFault} (Ok tt) before after end.text × (end.fault ≡ retold runs.0 fault)
         over fault e more =
@@ -178,13 +180,13 @@ module _ {plan : Plan} {end : Ran} {m : Machine} {before now : Puts} (inv : Stan
             (came.0, came.1 ∙ sym (is ∙ ap (option_map (λ t. fault_in t n.line (cause_of kind))) runs.1))
         faulted kind step more _ is = absurd is
 
-        cut : (out : List ℕ) → Behind n out → IsPut {F = SinkFault} (Err (record {})) now after out → Outcome (Err stop.WriteFailed)
+        cut : (out : List ℕ) → TurnsOn n out → IsPut {F = SinkFault} (Err (record {})) now after out → Outcome (Err stop.WriteFailed)
         cut out b put e is =
             let begins = text-begins plan room end (told out (state_of n)) b.ends in
             subst (λ f. Came end before after (Err f)) (sym is)
             (IsPut-along (IsPut-stop {r = Err (record {})} begins.0 refl (IsPut-append inv.given put)) (sym begins.1))
 
-        refused : added i s ≡ [] → IsPut {F = SinkFault} (Ok tt) now after (added i s) → (mark_behind i false ≡ false → IsPlain m → ⊥)
+        refused : added i s ≡ [] → IsPut {F = SinkFault} (Ok tt) now after (added i s) → (mark_after i false ≡ false → IsPlain m → ⊥)
             → Outcome (Err stop.OutOfMemory)
         refused none more never e is = subst (λ f. Came end before after (Err f)) (sym is) (
           inv.text ++ [],
@@ -194,32 +196,32 @@ module _ {plan : Plan} {end : Ran} {m : Machine} {before now : Puts} (inv : Stan
         )
 
         pub turned : (r q : Result Flow Halt) → r ≡ q → TurnedBy once plan i m n r → Gave once r → size_of n.stack ≡ room
-            → (mark_behind i false ≡ false → IsPlain m → SparedOr r (IsPlain n)) → Outcome q
+            → (mark_after i false ≡ false → IsPlain m → SparedOr r (IsPlain n)) → Outcome q
         turned r q same did more size spared = subst Outcome same (by once refl r did more spared)
           where
-            on : (b : Bool) → once ≡ b → TurnedBy b plan i m n (Ok flow.On) → Gave b (Ok flow.On) → (mark_behind i false ≡ false → IsPlain m → IsPlain n)
+            on : (b : Bool) → once ≡ b → TurnedBy b plan i m n (Ok flow.On) → Gave b (Ok flow.On) → (mark_after i false ≡ false → IsPlain m → IsPlain n)
                 → Outcome (Ok flow.On)
             on b o step more plain =
-                let later = behind n b o step in (
+                let later = beyond n b o step in (
                   record {
                     depth = let deep = inv.depth in let deeper = later.depth in omega arith;
                     text = inv.text ++ put_out b plan i m (Ok flow.On);
-                    made = inv.made || mark_behind i false;
+                    made = inv.made || mark_after i false;
                     given = IsPut-append inv.given more;
                     ends = subst (λ k. Ends plan k (told (put_out b plan i m (Ok flow.On)) (state_of n)) end) (sym size) later.ends;
-                    plain = λ e. let both = or_parts inv.made (mark_behind i false) e in plain both.1 (inv.plain both.0);
+                    plain = λ e. let both = or_parts inv.made (mark_after i false) e in plain both.1 (inv.plain both.0);
                   },
                   later.less,
                 )
 
             by : (b : Bool) → once ≡ b → (r : Result Flow Halt) → TurnedBy b plan i m n r → Gave b r
-                → (mark_behind i false ≡ false → IsPlain m → SparedOr r (IsPlain n)) → Outcome r
+                → (mark_after i false ≡ false → IsPlain m → SparedOr r (IsPlain n)) → Outcome r
             by b o (Ok flow.On) step more plain = on b o step more plain
             by false o (Ok flow.Over) step more plain = over None step more
             by true o (Ok flow.Over) step more plain = absurd step
             by false o (Err (stop.Fault kind)) step more plain = faulted kind step more
             by true o (Err (stop.Fault kind)) step more plain = faulted kind step (IsPut-along more (sym (first o).quiet))
-            by false o (Err stop.WriteFailed) step more plain = cut _ (behind n false o step) more
-            by true o (Err stop.WriteFailed) step more plain = cut _ (behind n true o step) more
+            by false o (Err stop.WriteFailed) step more plain = cut _ (beyond n false o step) more
+            by true o (Err stop.WriteFailed) step more plain = cut _ (beyond n true o step) more
             by false o (Err stop.OutOfMemory) step more never = refused step more never
             by true o (Err stop.OutOfMemory) step more never = refused (first o).quiet (IsPut-along more (sym (first o).quiet)) never

@@ -11,7 +11,7 @@ use Rattle.tmpl_grammar.specs.Need.{declared_count, need_of_pipeline}
 use Rattle.tmpl_grammar.specs.declared.tree.Control.TheVariants as control
 use Rattle.tmpl_syntax.specs.Tree as tree
 use Rattle.tmpl_syntax.specs.Tree.{NodeKind, Nodes}
-use Rattle.tmpl_syntax.specs.Need.{left_behind, need_of_node, need_of_nodes}
+use Rattle.tmpl_syntax.specs.Need.{left_after, need_of_node, need_of_nodes}
 use Rattle.tmpl_meaning.specs.Fault.{Cause}
 use Rattle.tmpl_meaning.specs.Pipeline.{Environment}
 use Rattle.tmpl_meaning.specs.Meaning.{Calls, Next, Run, Setting, assigned, with_bound, with_pipeline, with_value, End, meanings, shown, stepped}
@@ -33,7 +33,7 @@ use Rattle.tmpl_run.proofs.SlotLemmas.{grown_in, length-cells, length-env, named
 use Rattle.tmpl_run.proofs.SlotLemmas.{run_of, stored, stored-none}
 use Rattle.tmpl_run.proofs.WayLemmas as ways
 
--- behind the value of a pipeline
+-- after the value of a pipeline
 abbrev pub valued : Value → Bool → ℕ → State → State
 valued v m place s = record s { cells = fresh v ∷ s.cells; made_text = m; place = place }
 
@@ -51,18 +51,18 @@ under (declare x) cs = cs
 under (assign x) cs = cs
 under (declare_pair k x) cs = fresh nothing ∷ cs
 
--- behind a header
+-- after a header
 abbrev pub headed : Binding → Value → List Cell → Bool → ℕ → State → State
 headed b v cs m place s = record s { cells = fresh v ∷ under b cs; made_text = m; place = place }
 
 abbrev pub run_at : Layout → Bool → State → Run
 run_at lay m s = record { env = env_of lay s.cells; text = s.text; left = s.left; made_text = m }
 
--- .. with so many steps left
+-- .. with this many steps left
 abbrev pub with_left : ℕ → Run → Run
 with_left left r = record r { left = left }
 
--- at a place behind what binds a value, over these cells
+-- at a place after what binds a value, over these cells
 pub record Bound (way : Way) (b : Binding) (v : Value) (lay : Layout) (fr : Frame) (rest : Code) (s : State) (cs : List Cell) (place : ℕ) : Type 0 where
   pub at : drop place way.plan.code ≡ rest
   pub cells : Cells lay fr cs
@@ -90,7 +90,7 @@ module _ (way : Way) (calls : Calls) where
   bind-leads {s = s} {place = place} (declare_pair k x) v same l at cells fits more =
       ways.does way same (at ∙ l) (omega arith) (more s.cells (place + 1) (record { at = ways.next way place (at ∙ l); cells = cells; env = refl }))
 
-  -- a pipeline, behind whose value the meaning goes on
+  -- a pipeline, after whose value the meaning goes on
   pub value-leads : {lay : Layout} {fr : Frame} {start mid : Code} {s : State} (A : Run → Type 0) (g : Option Ring) (left : ℕ) (p : Pipeline)
       (go : Value → Next)
       → PipelineAt p lay start mid → Stands way.plan way.who start lay fr s → length fr + need_of_pipeline p ≤ way.room
@@ -154,7 +154,7 @@ length-under (declare_pair k x) cs room n h = omega arith
 length-under _ cs room n h = tt
 
 module _ (way : Way) (calls : Calls) (spare : ℕ) where
-  -- where nodes stand that need so many cells, while so many are left for calls
+  -- where nodes stand that need this many cells, while this many are left for calls
   pub record Here (g : Option Ring) (lay : Layout) (fr : Frame) (here : Code) (need : ℕ) (s : State) : Type 0 where
     pub stands : Stands way.plan way.who here lay fr s
     pub inside : Inside way.home g lay fr
@@ -171,7 +171,7 @@ module _ (way : Way) (calls : Calls) (spare : ℕ) where
   abbrev pub NodeLeads : NodeKind → Type 0
   NodeLeads n =
       (g : Option Ring) (lay : Layout) (fr : Frame) (here rest : Code) (s : State) → NodeAt way.plan.templates s.line n lay (exit_of g) here rest
-      → Here g lay fr here (need_of_node n) s → length fr + left_behind n ≤ way.room
+      → Here g lay fr here (need_of_node n) s → length fr + left_after n ≤ way.room
       → ways.After way (ways.Onward way rest (grown n lay) (grown_in n fr) s.dot) g (stepped (set way calls) s.line n s.dot (run_of lay s))
       → ways.Leading way s
 
@@ -179,7 +179,7 @@ module _ (way : Way) (calls : Calls) (spare : ℕ) where
   abbrev pub StepLeads : ℕ → NodeKind → Type 0
   StepLeads line n =
       (g : Option Ring) (lay : Layout) (fr : Frame) (here start rest : Code) (s : State) → here ≡ step_of way.plan.templates line n ∷ start
-      → NodeAt way.plan.templates line n lay (exit_of g) start rest → Here g lay fr here (need_of_node n) s → length fr + left_behind n ≤ way.room
+      → NodeAt way.plan.templates line n lay (exit_of g) start rest → Here g lay fr here (need_of_node n) s → length fr + left_after n ≤ way.room
       → ways.After way (ways.Onward way rest (grown n lay) (grown_in n fr) s.dot) g
       (meaning.spend (set way calls) line (stepped (set way calls) line n s.dot) (run_of lay s)) → ways.Leading way s
 
@@ -210,7 +210,7 @@ module _ (way : Way) (calls : Calls) (spare : ℕ) where
 
   -- ---- parts of controls
 
-  -- nodes that are a part of a control, behind its header
+  -- nodes that are a part of a control, after its header
   pub part-leads : {first rest : Code} {d : Value} {r : Run} {t : State} (ns : Nodes) → NodesLead ns
       → (b : Binding) (g : Option Ring) (lay : Layout) (fr : Frame)
       (more : Code) (to : ℕ)

@@ -28,9 +28,9 @@ pub grows-put : {F : Type 0} (r : Result (Unit {0}) F) (a b : Told) (text : List
 grows-put (Ok u) a b text h = (text, h.bytes)
 grows-put (Err e) a b text h = (h.bytes.0, h.bytes.3)
 
--- so much waits behind what a sink took
-abbrev pub behind : Told → List ℕ → ℕ → Puts
-behind t waiting name = record { bytes = appended t.bytes waiting; failures = t.failures; through = name }
+-- so much waits after what a sink took
+abbrev pub beyond : Told → List ℕ → ℕ → Puts
+beyond t waiting name = record { bytes = appended t.bytes waiting; failures = t.failures; through = name }
 
 part-given : (known : Option (List ℕ)) (rest : List ℕ) (count : ℕ)
     → appended (appended known (take count rest)) (drop count rest) ≡ appended (appended known rest) []
@@ -39,18 +39,18 @@ part-given known rest count = grind (arith, append_assoc, take-append-drop {A = 
 -- the sink takes some of what waits, and the others wait
 pub given-on : {F : Type 0} (a b : Told) (rest shown next : List ℕ) (count name : ℕ) → b ≡ with_bytes (take count shown) a → shown ≡ rest
     → next ≡ drop count rest
-    → IsPut {F = F} (Ok tt) (behind a rest name) (behind b next name) []
+    → IsPut {F = F} (Ok tt) (beyond a rest name) (beyond b next name) []
 given-on a b rest shown next count name e same left = record {
   count = ap (λ (t : Told). t.failures) e ∙ sym (add-zero a.failures);
   bytes = grind (arith, part-given a.bytes rest count);
   through = refl;
 }
 
--- a put to a sink behind which nothing waits
-pub put-behind-none : {F : Type 0} (r : Result (Unit {0}) F) (a b : Told) (text waiting : List ℕ) (name : ℕ) → waiting ≡ []
+-- a put to a sink after which nothing waits
+pub put-after-none : {F : Type 0} (r : Result (Unit {0}) F) (a b : Told) (text waiting : List ℕ) (name : ℕ) → waiting ≡ []
     → IsPut r (as_puts a) (as_puts b) text
-    → IsPut r (behind a waiting name) (behind b waiting name) text
-put-behind-none r a b text waiting name e h = subst (λ l. IsPut r (behind a l name) (behind b l name) text) (sym e) (record {
+    → IsPut r (beyond a waiting name) (beyond b waiting name) text
+put-after-none r a b text waiting name e h = subst (λ l. IsPut r (beyond a l name) (beyond b l name) text) (sym e) (record {
   count = h.count;
   bytes = subst (λ x. Took r x (appended b.bytes []) text) (appended-nil a.bytes) (subst (λ y. Took r a.bytes y text) (appended-nil b.bytes) h.bytes);
   through = refl;
@@ -78,11 +78,11 @@ both-one a b c d e =
     let same : b ≡ d = omega (arith, squares, e) in
     (omega (arith, sums, same), same)
 
--- what was put through two references is what stands behind them at their ends
+-- what was put through two references is what stands after them at their ends
 pub put-back : {F : Type 0} (r : Result (Unit {0}) F) (old now told : Told) (p q kept : LentPiece) (m n : ℕ) (text : List ℕ) → told ≡ now → kept ≡ q
     → IsPut r (record (given_of old p) { through = m }) (record (given_of now q) { through = n }) text → IsPut r (given_of old p) (given_of told kept) text
 put-back r old now told p q kept m n text told-is kept-is h =
     subst (λ (t : Told). IsPut r (given_of old p) (given_of t kept) text) (sym told-is)
     (subst (λ (w : LentPiece). IsPut r (given_of old p) (given_of now w) text) (sym kept-is) (record { count = h.count; bytes = h.bytes; through = refl }))
 
-pub ruleset putting = (put-behind-none, IsPut-append)
+pub ruleset putting = (put-after-none, IsPut-append)

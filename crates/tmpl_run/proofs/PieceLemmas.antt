@@ -8,17 +8,17 @@ use Rattle.std.proofs.Math.Seq.{take-append-add, take-append_seam}
 pub passed : (bytes : List ℕ) (start count end : ℕ) → between (start + count) end bytes ≡ drop count (between start end bytes)
 passed bytes start count end = grind (arith, between_is, drop-drop count start (take end bytes))
 
--- a text is copied to behind what waits
-pub kept-behind : (start end behind : ℕ) (old new text : List ℕ) → start ≤ end → end ≤ length old → take behind new ≡ take end old ++ text
-    → between start behind new ≡ between start end old ++ text
-kept-behind start end behind old new text order within e =
+-- a text is copied to after what waits
+pub kept-beyond : (start end beyond : ℕ) (old new text : List ℕ) → start ≤ end → end ≤ length old → take beyond new ≡ take end old ++ text
+    → between start beyond new ≡ between start end old ++ text
+kept-beyond start end beyond old new text order within e =
     let long = length-take-le end old within in
     grind (arith, between_is, drop-append-le start (take end old) text (omega (arith, long)))
 
 -- a text stands first in what is copied there
-pub first-behind : (end count : ℕ) (old new part text rest : List ℕ) → end ≤ length old → count ≡ length text → part ≡ text ++ rest
+pub first-beyond : (end count : ℕ) (old new part text rest : List ℕ) → end ≤ length old → count ≡ length text → part ≡ text ++ rest
     → take (end + length part) new ≡ take end old ++ part → take (end + count) new ≡ take end old ++ text
-first-behind end count old new part text rest within is e copied =
+first-beyond end count old new part text rest within is e copied =
     let long = ap length e ∙ length-append text rest in
     let here : end + count ≡ length (take end old) + length text = omega (arith, length-take-le end old within, is) in
     sym (take-take (end + count) (end + length part) new (omega (arith, long, is))) ∙ ap (take (end + count)) (copied ∙ ap (λ l. take end old ++ l) e)
@@ -30,4 +30,4 @@ first-part m text blank seen h e =
     let whole : m ≡ length text + (m - length text) = omega arith in
     ap (take m) e ∙ ap (λ n. take n (text ++ blank)) whole ∙ take-append-add text blank (m - length text)
 
-pub ruleset kept = kept-behind
+pub ruleset kept = kept-beyond

@@ -1,4 +1,4 @@
--- For the law `comes_to_meaning`: the code of a pipeline finds its cells and has room for its need, and the run goes on behind it with the value that the
+-- For the law `comes_to_meaning`: the code of a pipeline finds its cells and has room for its need, and the run goes on after it with the value that the
 -- pipeline gives, or stops as the pipeline does.
 use Rattle.std.proofs.Common.{arith, ◌≡◌, ◌∙◌, ◌+◌, ◌≤◌, ◌<◌, ◌||◌, ◌++◌, ℕ, zero, suc, Bool, true, false, List, [], ◌∷◌, length, map, take, drop, reverse}
 use Rattle.std.proofs.Common.{refl, ap, sym, subst, Option, Some, None, Result, Ok, Err, is_some, option_to_list, append_assoc, append-nil}
@@ -179,7 +179,7 @@ module _ (way : Way) (s : State) where
     variable-leads {lay = lay} {rest = rest} {cs = cs} {m = m} x h room (Some j) e l k =
         steps l (let below = found-within x lay j e in let deep = h.deep in (omega arith, room)) (subst (λ v. Puts rest cs v m) (sym (h.found x j e)) k)
 
-    -- a chain of fields behind a value
+    -- a chain of fields after a value
     chained-leads : {cs : List Cell} {v : Value} {m : Bool} (names : List (List ℕ)) (rest : Code)
         → Follows (given (chain way.plan.rules.missing_key names v)) m (Puts rest cs) → Puts (chain_before names rest) cs v m
     chained-leads [] rest k = k
@@ -206,7 +206,7 @@ module _ (way : Way) (s : State) where
         by true (Some p) h k = goes-is far k
         by false piped h k = h k
 
-    -- behind an operand, by what the others do
+    -- after an operand, by what the others do
     decide-leads : {mid : Code} {v : Value} {m : Bool} (n : ℕ) (lay : Layout) (cs : List Cell) (os : Operands) (piped : Option Value) (stop : Bool)
         (rest : Code)
         → DecideAt (is_last os (is_some piped)) stop (is_some piped) (JunctionAt stop os (is_some piped) n lay) mid rest
@@ -272,7 +272,7 @@ module _ (way : Way) (s : State) where
           (follows-then (commands_value here commands None) m _ (Puts rest cs) (Puts (chain_before names rest) cs) (λ v b k. chained-leads names rest k) k)
       operand-leads o rest h room l k = steps l (omega arith) k
 
-      -- above so many operands and a piped value of the call
+      -- above this many operands and a piped value of the call
       operands-leads : {n : ℕ} {lay : Layout} {code : Code} {cs : List Cell} {m : Bool} (os : Operands) (above : ℕ) (rest : Code) (base : ℕ)
           → Slots n lay cs env
           → length cs ≡ base + above → base + need_of_arguments above os ≤ way.room → OperandsAt os n lay code rest

@@ -46,7 +46,7 @@ borrowed-set (suc n) i [] c h p = tt
 borrowed-set (suc n) zero (d ∷ cs) c h p = (h, p.1)
 borrowed-set (suc n) (suc i) (d ∷ cs) c h p = (p.0, borrowed-set n i cs c h p.1)
 
--- .. behind them
+-- .. after them
 borrowed-more : (top : ℕ) (cs : List held.Cell) (c : held.Cell) → is_made c.val ≡ false → AreBorrowed (take top cs)
     → AreBorrowed (take (suc top) (set cs top c))
 borrowed-more zero [] c h p = tt

@@ -73,7 +73,7 @@ mutual
 
 -- ---- templates
 
--- where no text was made before it, none is behind it
+-- where no text was made before it, none is after it
 abbrev Quiet : Run → Run → Type 0
 Quiet r q = r.made_text ≡ false → q.made_text ≡ false
 

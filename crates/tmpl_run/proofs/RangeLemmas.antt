@@ -82,7 +82,7 @@ module _ (way : Way) (calls : Calls) (spare : ℕ) where
         ∙ (dropped w.1 st.cells).frame;
   }
 
-  -- so many cells lie above those of the range around
+  -- this many cells lie above those of the range around
   above : {g : Ring} {lay : Layout} {fr : Frame} (n : ℕ) → Above g.around lay n → (w : Within g lay fr) → n ≡ w.n
   above n over w = let size = w.over.size in let depth = w.depth in omega arith
 
@@ -145,26 +145,26 @@ module _ (way : Way) (calls : Calls) (spare : ℕ) where
     abbrev others : List Element → Next
     others es = turns (set way calls) line b (λ v. meanings (set way calls) body v) es
 
-    abbrev behind : ℕ → Run → State → Type 0
-    behind k r t = ways.Turning way (turning k) r t
+    abbrev beyond : ℕ → Run → State → Type 0
+    beyond k r t = ways.Turning way (turning k) r t
 
-    -- behind the range
+    -- after the range
     leaves : (r : Run) (t : State) → B r → Stands way.plan way.who rest lay fr t → t.dot ≡ d → run_of lay t ≡ r → ways.Leading way t
     leaves r t k st dot run = k t st dot (ways.run-dropped (over-none lay fr) t st.cells ∙ ap (cut_to (named lay)) run)
 
     on-turn : (es : List Element) (k : ℕ) (x : Run × End) (n : ℕ) → n ≡ named lay → ways.After way B g (after_turn (scoped n x) (others es))
-        → ((r : Run) → ways.After way B g (others es r) → (t : State) → behind k r t → ways.Leading way t)
-        → ways.After way (λ r. (t : State) → behind k (cut_to (named lay) r) t → ways.Leading way t) (Some (turning k)) x
+        → ((r : Run) → ways.After way B g (others es r) → (t : State) → beyond k r t → ways.Leading way t)
+        → ways.After way (λ r. (t : State) → beyond k (cut_to (named lay) r) t → ways.Leading way t) (Some (turning k)) x
     on-turn es k x n e h next = by x.1 (subst (λ m. ways.After way B g (after_turn (scoped m x) (others es))) e h)
       where
         by : (w : End) → ways.After way B g (on_turn w (cut_to (named lay) x.0) (others es))
-            → ways.Then way (λ r. (t : State) → behind k (cut_to (named lay) r) t → ways.Leading way t) (Some (turning k)) x.0 w
+            → ways.Then way (λ r. (t : State) → beyond k (cut_to (named lay) r) t → ways.Leading way t) (Some (turning k)) x.0 w
         by meaning.broke h = λ t st dot run. leaves (cut_to (named lay) x.0) t h st dot run
         by (meaning.faulted w) h = h
         by _ h = next (cut_to (named lay) x.0) h
 
-    -- the instruction behind a turn is the end of the turn
-    body-ends : (k : ℕ) (dot : Value) (r : Run) → ((t : State) → behind k (cut_to (named lay) r) t → ways.Leading way t)
+    -- the instruction after a turn is the end of the turn
+    body-ends : (k : ℕ) (dot : Value) (r : Run) → ((t : State) → beyond k (cut_to (named lay) r) t → ways.Leading way t)
         → ways.Onward way (code.next (declared_count b + declared_in body) to line ∷ second) (all_grown body inner) (all_grown_in body (bound_in b (outer k)))
         dot r
     body-ends k dot r h t st same run =
@@ -235,7 +235,7 @@ module _ (way : Way) (calls : Calls) (spare : ℕ) where
     turn-leads : NodesLead body → (e : Element) (es : List Element) (k : ℕ) (cs : List Cell) (s : State) → ways.who_of s ≡ way.who
         → drop k (elements_in (elements v)) ≡ e ∷ es → drop s.place way.plan.code ≡ start → Cells lay fr cs
         → ways.After way B g (after_turn (scoped (length (env_of lay cs)) (part e (run_of lay (record s { cells = cs })))) (others es))
-        → ((r : Run) → ways.After way B g (others es r) → (t : State) → behind k r t → ways.Leading way t)
+        → ((r : Run) → ways.After way B g (others es r) → (t : State) → beyond k r t → ways.Leading way t)
         → ways.Leading way (record s { cells = saved ∷ cell v k ∷ cs })
     turn-leads ih e es k cs s same here at cells h next =
         begins-turn e es k cs s same here at cells
@@ -256,13 +256,13 @@ module _ (way : Way) (calls : Calls) (spare : ℕ) where
             (all_grown_in body (bound_in b (outer k))) e.1
 
         C : Run → Type 0
-        C r = (t : State) → behind k (cut_to (named lay) r) t → ways.Leading way t
+        C r = (t : State) → beyond k (cut_to (named lay) r) t → ways.Leading way t
 
         inside : Within (turning k) inner (bound_in b (outer k))
         inside = record { n = declared_count b; over = over-binding b (None ∷ None ∷ lay) (outer k); depth = refl }
 
-    -- the instruction behind a turn, by the elements that are left
-    nexts : (es : List Element) (k : ℕ) → drop (suc k) (elements_in (elements v)) ≡ es → (r : Run) (t : State) (tu : behind k r t)
+    -- the instruction after a turn, by the elements that are left
+    nexts : (es : List Element) (k : ℕ) → drop (suc k) (elements_in (elements v)) ≡ es → (r : Run) (t : State) (tu : beyond k r t)
         → Comes (ways.Leading way) (again way.plan way.me tu.skip line saved (cell v k) tu.cs es t) way.end → ways.Leading way t
     nexts es k here r t tu h =
         ways.does way tu.runs tu.at tt
@@ -270,9 +270,9 @@ module _ (way : Way) (calls : Calls) (spare : ℕ) where
         (subst (λ l. Comes (ways.Leading way) (again way.plan way.me tu.skip line saved (cell v k) tu.cs l t) way.end)
         (sym (drop-one (elements_in (elements v)) k ∙ here)) h))
 
-    -- behind a turn
+    -- after a turn
     next-leads : NodesLead body → (es : List Element) (k : ℕ) → drop (suc k) (elements_in (elements v)) ≡ es → (r : Run) → ways.After way B g (others es r)
-        → (t : State) → behind k r t → ways.Leading way t
+        → (t : State) → beyond k r t → ways.Leading way t
     next-leads ih [] k here r h t tu =
         nexts [] k here r t tu
         (leaves r (record t { cells = tu.cs; dot = d; place = t.place + 1 + tu.skip }) h
@@ -282,7 +282,7 @@ module _ (way : Way) (calls : Calls) (spare : ℕ) where
         nexts (e ∷ es) k here r t tu (on (λ r h t tu. next-leads ih es (suc k) (one-less (elements_in (elements v)) (suc k) e es here) r h t tu)
         (nat_eq t.left 0) (subst (λ r. ways.After way B g (others (e ∷ es) r)) (sym tu.run) h))
       where
-        on : ((r : Run) → ways.After way B g (others es r) → (t : State) → behind (suc k) r t → ways.Leading way t)
+        on : ((r : Run) → ways.After way B g (others es r) → (t : State) → beyond (suc k) r t → ways.Leading way t)
             → (c : Bool) → ways.After way B g (after_turn (spend_if c (set way calls) line (scope (λ r. part e r))
             (run_of lay (record t { cells = tu.cs }))) (others es))
             → Comes (ways.Leading way) (paid_if c way.plan way.me line t (λ s. onto (saved ∷ cell v (suc k) ∷ tu.cs) place s)) way.end

@@ -12,13 +12,13 @@ use Rattle.tmpl_run.specs.computed.Output.{Grows}
 use Rattle.tmpl_run.specs.Run.{IsRun}
 use Rattle.tmpl_run.specs.declared.fault.RunError.{RunError}
 use Rattle.tmpl_run.specs.declared.fault.RunError.TheVariants as error
-use Rattle.tmpl_run.proofs.OutputLemmas.{behind}
+use Rattle.tmpl_run.proofs.OutputLemmas.{beyond}
 
 -- what was taken is what was there and more; with what waits it is what was there and the front of the text
-begun-by : (known : Option (List ℕ)) (more rest front behind text : List ℕ) → appended (appended known more) rest ≡ appended (appended known []) front
-    → text ≡ front ++ behind → Begins known (appended known more) text
-begun-by None more rest front behind text e is = ([], text, refl, refl)
-begun-by (Some l) more rest front behind text e is = (more, rest ++ behind, is ∙ ap (λ q. q ++ behind) (sym parts) ∙ append_assoc more rest behind, refl)
+begun-by : (known : Option (List ℕ)) (more rest front beyond text : List ℕ) → appended (appended known more) rest ≡ appended (appended known []) front
+    → text ≡ front ++ beyond → Begins known (appended known more) text
+begun-by None more rest front beyond text e is = ([], text, refl, refl)
+begun-by (Some l) more rest front beyond text e is = (more, rest ++ beyond, is ∙ ap (λ q. q ++ beyond) (sym parts) ∙ append_assoc more rest beyond, refl)
   where
     parts : more ++ rest ≡ front
     parts = append_cancel_left l (more ++ rest) front (let both : Some ((l ++ more) ++ rest) ≡ Some ((l ++ []) ++ front) = e in
@@ -26,43 +26,43 @@ begun-by (Some l) more rest front behind text e is = (more, rest ++ behind, is �
 
 module _ (end : Ran) (before after : Told) (rest : List ℕ) (name : ℕ) (grows : Grows before after) where
   first : Puts
-  first = behind before [] name
+  first = beyond before [] name
 
   last : ℕ → Puts
-  last n = behind after rest n
+  last n = beyond after rest n
 
-  begins : (front behind : List ℕ) → end.text ≡ front ++ behind → appended after.bytes rest ≡ appended (appended before.bytes []) front
+  begins : (front beyond : List ℕ) → end.text ≡ front ++ beyond → appended after.bytes rest ≡ appended (appended before.bytes []) front
       → Begins before.bytes after.bytes end.text
-  begins front behind is e = subst (λ k. Begins before.bytes k end.text) (sym grows.1)
-      (begun-by before.bytes grows.0 rest front behind end.text (ap (λ k. appended k rest) (sym grows.1) ∙ e) is)
+  begins front beyond is e = subst (λ k. Begins before.bytes k end.text) (sym grows.1)
+      (begun-by before.bytes grows.0 rest front beyond end.text (ap (λ k. appended k rest) (sym grows.1) ∙ e) is)
 
-  whole : (n : ℕ) → rest ≡ [] → IsPut {F = SinkFault} (Ok tt) (behind before [] name) (behind after rest n) end.text → Whole end.text (sunk before after)
+  whole : (n : ℕ) → rest ≡ [] → IsPut {F = SinkFault} (Ok tt) (beyond before [] name) (beyond after rest n) end.text → Whole end.text (sunk before after)
   whole n none h = record {
     count = h.count;
     bytes = appended-nil after.bytes ∙ ap (λ l. appended after.bytes l) (sym none) ∙ h.bytes ∙ ap (λ k. appended k end.text) (sym (appended-nil before.bytes));
     through = refl;
   }
 
-  cut : (n : ℕ) → IsPut {F = SinkFault} (Err (record {})) (behind before [] name) (behind after rest n) end.text → Cut end.text (sunk before after)
+  cut : (n : ℕ) → IsPut {F = SinkFault} (Err (record {})) (beyond before [] name) (beyond after rest n) end.text → Cut end.text (sunk before after)
   cut n h = record { count = h.count; bytes = begins h.bytes.0 h.bytes.1 h.bytes.2 h.bytes.3; through = refl }
 
-  flushed : (n : ℕ) (was r : Result (Unit {0}) RunError) (mid : Puts) → IsPut {F = SinkFault} (Ok tt) (behind before [] name) mid end.text
-      → Flushed was r mid (behind after rest n) rest
+  flushed : (n : ℕ) (was r : Result (Unit {0}) RunError) (mid : Puts) → IsPut {F = SinkFault} (Ok tt) (beyond before [] name) mid end.text
+      → Flushed was r mid (beyond after rest n) rest
       → (Whole end.text (sunk before after) → IsRun end (sunk before after) was) → IsRun end (sunk before after) r
   flushed n was r mid given (inl f) done =
       subst (λ x. IsRun end (sunk before after) x) (sym f.0) (done (whole n f.2 (IsPut-along (IsPut-append given f.1) (append-nil end.text))))
   flushed n was r mid given (inr f) done =
       subst (λ x. IsRun end (sunk before after) x) (sym f.0) (cut n (IsPut-along (IsPut-append given f.1) (append-nil end.text)))
 
-  pub comes-to : (n : ℕ) (e r : Result (Unit {0}) RunError) (mid : Puts) → Came end (behind before [] name) mid e → Closed e r mid (behind after rest n) rest
+  pub comes-to : (n : ℕ) (e r : Result (Unit {0}) RunError) (mid : Puts) → Came end (beyond before [] name) mid e → Closed e r mid (beyond after rest n) rest
       → IsRun end (sunk before after) r
   comes-to n (Ok u) r mid came closed = flushed n (Ok u) r mid came.0 closed (λ w. (w, came.1))
   comes-to n (Err (error.Fault fault)) r mid came closed = flushed n (Err (error.Fault fault)) r mid came.0 closed (λ w. (w, came.1))
   comes-to n (Err error.WriteFailed) r mid came closed =
       subst (λ x. IsRun end (sunk before after) x) (sym closed.0)
-      (cut n (subst (λ (p : Puts). IsPut {F = SinkFault} (Err (record {})) (behind before [] name) p end.text) (sym closed.1) came))
+      (cut n (subst (λ (p : Puts). IsPut {F = SinkFault} (Err (record {})) (beyond before [] name) p end.text) (sym closed.1) came))
   comes-to n (Err error.OutOfMemory) r mid came closed =
-      let put = subst (λ (p : Puts). IsPut {F = SinkFault} (Ok tt) (behind before [] name) p came.0) (sym closed.1) came.2 in
+      let put = subst (λ (p : Puts). IsPut {F = SinkFault} (Ok tt) (beyond before [] name) p came.0) (sym closed.1) came.2 in
       subst (λ x. IsRun end (sunk before after) x) (sym closed.0)
       ((put.count ∙ add-zero before.failures, begins came.0 came.1.0 came.1.1 put.bytes), came.3)
 

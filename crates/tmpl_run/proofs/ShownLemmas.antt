@@ -15,10 +15,10 @@ use Rattle.tmpl_run.specs.Cell.{fresh}
 use Rattle.tmpl_run.specs.Ends.{Ends}
 use Rattle.tmpl_run.specs.Machine.{done, goes}
 use Rattle.tmpl_run.specs.State.{Plan, State}
-use Rattle.tmpl_run.specs.computed.Turned.{added, at_once, is_shown, mark_behind, settles, shows, value_by}
+use Rattle.tmpl_run.specs.computed.Turned.{added, at_once, is_shown, mark_after, settles, shows, value_by}
 use Rattle.tmpl_run.proofs.DoneLemmas.{goes-on, with_told}
 
--- ---- the code behind a place
+-- ---- the code after a place
 
 settles-is : (o : Option Instruction) → settles o ≡ true → o ≡ Some (act code.settle)
 settles-is o e = grind arith
@@ -30,7 +30,7 @@ shows-is o e = grind arith
 
 pub record Once (plan : Plan) (i : Instruction) (s : State) : Type 0 where
   pub shown : is_shown plan.code s.place ≡ true
-  pub mark : mark_behind i false ≡ false
+  pub mark : mark_after i false ≡ false
   pub quiet : added i s ≡ []
   pub puts : (t : Template) (x : List ℕ) (m : Bool) (v : Value) → value_by plan i s ≡ Ok v
       → done plan t i (with_told x m s) ≡ goes (with_told x m (record s { cells = fresh v ∷ s.cells; place = s.place + 1 }))
@@ -64,7 +64,7 @@ module _ (plan : Plan) (room : ℕ) (f : Ran) (i : Instruction) (t : Template) (
   ends-shown v e h = subst (λ (u : State). Ends plan room u f) same
       (goes-on plan room f code.show t settled (ap (slice_get plan.code) next ∙ last) runs
       (goes-on plan room f (act code.settle) t put (settles-is _ two.0) runs (goes-on plan room f i t s here runs h put e) settled
-      (ap (λ k. goes (record settled { place = k })) (add-zero (s.place + 1 + 1)))) behind refl)
+      (ap (λ k. goes (record settled { place = k })) (add-zero (s.place + 1 + 1)))) beyond refl)
     where
       put : State
       put = record s { cells = fresh v ∷ s.cells; place = s.place + 1 }
@@ -72,8 +72,8 @@ module _ (plan : Plan) (room : ℕ) (f : Ran) (i : Instruction) (t : Template) (
       settled : State
       settled = record s { cells = fresh (without_null v) ∷ s.cells; place = s.place + 1 + 1 }
 
-      behind : State
-      behind = record s { text = s.text ++ text_of (without_null v); place = s.place + 1 + 1 + 1 }
+      beyond : State
+      beyond = record s { text = s.text ++ text_of (without_null v); place = s.place + 1 + 1 + 1 }
 
       next : s.place + 1 + 1 ≡ s.place + 2
       next = omega arith
@@ -81,7 +81,7 @@ module _ (plan : Plan) (room : ℕ) (f : Ran) (i : Instruction) (t : Template) (
       third : s.place + 1 + 1 + 1 ≡ s.place + 3
       third = omega arith
 
-      same : behind ≡ record s { text = s.text ++ text_of v; place = s.place + 3 }
+      same : beyond ≡ record s { text = s.text ++ text_of v; place = s.place + 3 }
       same =
           ap (λ l. record s { text = s.text ++ l; place = s.place + 1 + 1 + 1 }) (text-settled v)
           ∙ ap (λ k. record s { text = s.text ++ text_of v; place = k }) third

@@ -12,12 +12,12 @@ use Rattle.tmpl_grammar.specs.Tree.{Binding, unbound, declare, assign, declare_p
 use Rattle.tmpl_grammar.specs.Need.{declared_count}
 use Rattle.tmpl_syntax.specs.Tree as tree
 use Rattle.tmpl_syntax.specs.Tree.{NodeKind, text, action, Nodes}
-use Rattle.tmpl_syntax.specs.Need.{left_behind}
+use Rattle.tmpl_syntax.specs.Need.{left_after}
 use Rattle.tmpl_code.specs.Layout.{Layout, bound_on, declared_in, grown, slot_named}
 use Rattle.tmpl_run.specs.Cell.{Cell, fresh, slot}
 use Rattle.tmpl_run.specs.State.{State}
 
--- the slots under so many operands are the variables
+-- the slots under this many operands are the variables
 pub record Slots (n : ℕ) (lay : Layout) (cs : List Cell) (env : Environment) : Type 0 where
   pub found : (x : List ℕ) (k : ℕ) → slot_named x lay ≡ Some k → slot (n + k) cs ≡ lookup x env
   pub none : (x : List ℕ) → slot_named x lay ≡ None → lookup x env ≡ nothing
@@ -56,7 +56,7 @@ named [] = 0
 named (None ∷ ps) = named ps
 named (Some x ∷ ps) = suc (named ps)
 
--- behind what binds variables, behind a node, and behind nodes
+-- after what binds variables, after a node, and after nodes
 abbrev pub bound_in : Binding → Frame → Frame
 bound_in unbound fr = fr
 bound_in (declare x) fr = None ∷ fr
@@ -84,7 +84,7 @@ abbrev by_slot : {A : Type 0} → Option ℕ → A → (ℕ → A) → A
 by_slot None a f = a
 by_slot (Some k) a f = f k
 
--- by the slot of a name: the value of the variable, the variables behind an assignment to it, and that this leaves the other cells
+-- by the slot of a name: the value of the variable, the variables after an assignment to it, and that this leaves the other cells
 record Slotted (lay : Layout) (cs : List Cell) (o : Option ℕ) (v value : Value) (env : Environment) : Type 0 where
   pub found : value ≡ by_slot o nothing (λ k. slot k cs)
   pub write : env ≡ env_of lay (by_slot o cs (λ k. set cs k (fresh v)))
@@ -163,7 +163,7 @@ frame-drop (suc n) [] cs h = sym (drop-map (λ c. Some c) (suc n) cs)
 frame-drop (suc n) (p ∷ big) [] h = absurd (omega arith)
 frame-drop (suc n) (p ∷ big) (c ∷ cs) h = grind (arith, frame-drop n big cs)
 
--- the newest so many cells lie above those of another layout and frame
+-- this many of the newest cells lie above those of another layout and frame
 pub record Over (n : ℕ) (big lay : Layout) (high low : Frame) : Type 0 where
   pub rest : drop n big ≡ lay
   pub size : n + length lay ≡ length big
@@ -208,7 +208,7 @@ pub over-binding : (b : Binding) (lay : Layout) (fr : Frame) → Over (declared_
 over-binding unbound lay fr = over-none lay fr
 over-binding _ lay fr = record { rest = refl; size = omega arith; frame = refl; tall = omega arith }
 
-pub over-node : (n : NodeKind) (lay : Layout) (fr : Frame) → Over (left_behind n) (grown n lay) lay (grown_in n fr) fr
+pub over-node : (n : NodeKind) (lay : Layout) (fr : Frame) → Over (left_after n) (grown n lay) lay (grown_in n fr) fr
 over-node (action h) lay fr = over-binding h.binding lay fr
 over-node _ lay fr = over-none lay fr
 

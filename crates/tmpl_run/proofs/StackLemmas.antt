@@ -26,7 +26,7 @@ pub live-taken : (top : ℕ) (old new : List held.Cell) (c : held.Cell) → 1 �
     → take (top - 1) new ≡ take (top - 1) old → cells_in top old ≡ cell_of c ∷ cells_in (top - 1) new
 live-taken top old new c some within is left = let one : top ≡ top - 1 + 1 = omega arith in grind (arith, live-more, live-same)
 
--- the oldest so many are those that are left when the others are forgotten
+-- this many of the oldest are those that are left when the others are forgotten
 live-drop : (count top : ℕ) (cs : List held.Cell) → count ≤ top → top ≤ length cs → cells_in (top - count) cs ≡ drop count (cells_in top cs)
 live-drop zero top cs h g = let same : top - 0 ≡ top = omega arith in ap (λ n. cells_in n cs) same
 live-drop (suc k) zero cs h g = absurd (omega arith)

@@ -26,21 +26,21 @@ abbrev pub ran_from : Plan → State → Ran
 ran_from plan s =
     ran_with plan.rules plan.templates (get_or plan.templates s.template no_template).0 (get_or plan.templates s.template no_template).1 s.dot
 
--- what a caller of a run has to know of its plan, over a stack of so many cells, from the template of a number on
+-- what a caller of a run has to know of its plan, over a stack of this many cells, from the template of a number on
 pub record Can (plan : Plan) (size number : ℕ) : Type 0 where
   pub linked : Starts plan.templates plan.templates plan.starts plan.code
   pub inside : number < length plan.templates
   pub some : 1 ≤ plan.rules.depth_limit
   pub fits : Suffices plan.rules.depth_limit plan.templates number size
 
-pub can-run : (options : Options) (size number : ℕ) (parts told : Parts) → parts ≡ told → Starts (set_view parts.set.now) (set_view parts.set.now)
-    parts.starts.items (instructions_of parts.instructions.items) → number < length (set_view told.set.now) → 1 ≤ options.depth
-    → Suffices options.depth (set_view told.set.now) number size → Can (plan_of options parts) size number
+pub can-run : (options : Options) (size number : ℕ) (parts told : Parts) → parts ≡ told → Starts (set_view parts.set.value) (set_view parts.set.value)
+    parts.starts.items (instructions_of parts.tables parts.instructions.items) → number < length (set_view told.set.value) → 1 ≤ options.depth
+    → Suffices options.depth (set_view told.set.value) number size → Can (plan_of options parts) size number
 can-run options size number parts told same linked inside some fits = record {
   linked = linked;
-  inside = subst (λ (p : Parts). number < length (set_view p.set.now)) (sym same) inside;
+  inside = subst (λ (p : Parts). number < length (set_view p.set.value)) (sym same) inside;
   some = some;
-  fits = subst (λ (p : Parts). Suffices options.depth (set_view p.set.now) number size) (sym same) fits;
+  fits = subst (λ (p : Parts). Suffices options.depth (set_view p.set.value) number size) (sym same) fits;
 }
 
 module _ {plan : Plan} {size number : ℕ} (can : Can plan size number) where

@@ -57,7 +57,7 @@ starts-at all (u ∷ ts) (p ∷ places) code (suc k) t l e =
 pub need-is : (ts : List Template) (k : ℕ) (t : Template) → slice_get ts k ≡ Some t → need_at ts k ≡ need t.1
 need-is ts k t e = ap need_found e
 
--- above so many cells there is room for a template and for each chain of so many more calls from it
+-- above this many cells there is room for a template and for each chain of this many more calls from it
 abbrev pub Left : List Template → ℕ → ℕ → ℕ → ℕ → Type 0
 Left ts room n number base = (rest : List ℕ) → IsChain ts number rest → length rest ≤ n → base + needs_along ts number rest ≤ room
 
@@ -85,7 +85,7 @@ entered number start v cs s = record s {
   place = start;
 }
 
--- a template from its start, inside which so many calls may still be made
+-- a template from its start, inside which this many calls may still be made
 abbrev pub TemplateLeads : Plan → ℕ → Ran → ℕ → Type 0
 TemplateLeads plan room f n =
     (who : Who) (me : Template) (is-me : slice_get plan.templates who.number ≡ Some me) → 1 ≤ who.depth → who.depth + n ≡ plan.rules.depth_limit

@@ -18,7 +18,7 @@ got es i e h = drop-cons es i e (slice_get_within es i e h) ∙ ap (λ x. x ∷ 
 pub left-at : (v : Cell) (e : Element) → Some e ≡ item_at v.num v.val → left_in v ≡ e ∷ drop (suc v.num) (elements_in (elements v.val))
 left-at v e h = grind (arith, got)
 
--- behind a turn
+-- after a turn
 pub more-left : (v : Cell) → has_more v ≡ true
     → drop 1 (left_in v) ≡ get_or (elements_in (elements v.val)) (v.num + 1) (nothing, nothing) ∷ drop (suc (v.num + 1)) (elements_in (elements v.val))
 more-left v h =

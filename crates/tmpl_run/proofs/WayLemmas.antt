@@ -59,7 +59,7 @@ abbrev pub exit_of : Option Ring → Exit
 exit_of None = None
 exit_of (Some g) = Some g.around
 
--- the cells of the range lie under so many
+-- the cells of the range lie under this many
 pub record Within (g : Ring) (lay : Layout) (fr : Frame) : Type 0 where
   pub n : ℕ
   pub over : Over n lay (None ∷ None ∷ g.lay) fr (Some (cell g.dot g.place) ∷ Some (cell g.value g.index) ∷ g.frame)
@@ -97,7 +97,7 @@ run-dropped {n} {big} o s c = ap (λ (v : Environment). record (run_of big s) { 
 pub record Reaches (plan : Plan) (room : ℕ) (end : Ran) (s : State) : Type 0 where
   pub ends : Ends plan room s end
 
--- a run inside a template, on its way to an end over so many cells: what it goes by, the template that runs, and the cells at its start
+-- a run inside a template, on its way to an end over this many cells: what it goes by, the template that runs, and the cells at its start
 pub record Way : Type 0 where
   pub plan : Plan
   pub room : ℕ
@@ -118,7 +118,7 @@ module _ (way : Way) where
   abbrev pub setting : Calls → Setting
   setting calls = setting_of way.plan.rules calls way.me.0 way.me.1
 
-  -- behind an instruction, and behind so many more
+  -- after an instruction, and after this many more
   pub next : {i : Instruction} {is : Code} (pc : ℕ) → drop pc way.plan.code ≡ i ∷ is → drop (pc + 1) way.plan.code ≡ is
   next pc at = sym (drop-drop 1 pc way.plan.code) ∙ ap (drop 1) at
 
@@ -227,7 +227,7 @@ module _ (way : Way) where
       by true k = k
       by false k = more (next s.place at) k
 
-  -- so many cells are forgotten, and a part goes on at this place
+  -- this many cells are forgotten, and a part goes on at this place
   closed : {n place : ℕ} {rest end : Code} {big lay : Layout} {high low : Frame} {d : Value} {r : Run} {s : State} → drop place way.plan.code ≡ rest
       → Stands way.plan way.who end big high s → Over n big lay high low → s.dot ≡ d → run_of big s ≡ r → Onward rest lay low d (cut_to (named lay) r)
       → Leading (record s { cells = drop n s.cells; place = place })

@@ -6,7 +6,7 @@ use Rattle.tmpl_run.specs.Machine.{Turn, goes, ended, stuck, next_of}
 use Rattle.tmpl_run.specs.Ready.{Has}
 use Rattle.tmpl_run.specs.State.{Plan, State}
 
--- there is a next instruction, and it has what it needs of a stack of so many cells
+-- there is a next instruction, and it has what it needs of a stack of this many cells
 abbrev pub IsReady : ℕ → Option Instruction → State → Type 0
 IsReady room None s = ⊥
 IsReady room (Some i) s = Has i (length s.cells) room
@@ -16,7 +16,7 @@ Comes After (goes t) end = After t
 Comes After (ended r) end = r ≡ end
 Comes After stuck end = ⊥
 
--- in so many turns at most it comes to this end; each of them is ready, and none gets stuck
+-- in at most this many turns it comes to this end; each of them is ready, and none gets stuck
 abbrev pub RunsTo : Plan → ℕ → ℕ → State → Ran → Type 0
 RunsTo plan room zero s end = ⊥
 RunsTo plan room (suc n) s end =

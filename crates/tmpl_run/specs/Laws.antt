@@ -60,7 +60,7 @@ EachTurnLessens = (plan : Plan) (s t : State) → next_of plan s ≡ goes t → 
 abbrev pub most_turns : Plan → ℕ
 most_turns plan = 2 * length plan.code * (plan.rules.step_limit + 1)
 
--- a run that starts at a template, and comes to an end, comes to it in so many turns at most; `ComesToMeaning` says
+-- a run that starts at a template, and comes to an end, comes to it in at most this many turns; `ComesToMeaning` says
 -- when it does
 abbrev pub TurnsAreBounded : Type 0
 TurnsAreBounded =

@@ -126,7 +126,7 @@ elements_in (Some es) = es
 abbrev pub left_in : Cell → List Element
 left_in v = drop v.num (elements_in (elements v.val))
 
--- so many variables: the element, above its index or key
+-- this many variables: the element, above its index or key
 abbrev pub variables_on : ℕ → Element → List Cell → List Cell
 variables_on zero e cs = cs
 variables_on (suc zero) e cs = fresh e.1 ∷ cs
@@ -136,7 +136,7 @@ abbrev pub turned : ℕ → List Element → State → Turn
 turned n [] s = stuck
 turned n (e ∷ es) s = goes (record s { cells = variables_on n e s.cells; dot = e.1; place = s.place + 1 })
 
--- behind a turn, by the elements that are left
+-- after a turn, by the elements that are left
 abbrev pub again : Plan → Template → ℕ → ℕ → Cell → Cell → List Cell → List Element → State → Turn
 again plan t skip line d v cs [] s = goes (record s { cells = cs; dot = d.val; place = s.place + 1 + skip })
 again plan t skip line d v cs (e ∷ es) s =

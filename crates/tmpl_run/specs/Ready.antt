@@ -1,12 +1,12 @@
 -- What an instruction needs of the stack: that the cells which it takes or looks at are there, and that there is room
--- for those which it puts, where there may be so many.
+-- for those which it puts, where there may be this many.
 use Rattle.std.specs.Prelude.{◌≡◌, ℕ, suc, ◌+◌, ◌-◌, ◌≤◌, ◌<◌, Bool, true, false}
 use Rattle.tmpl_funcs.specs.Func.{is_called}
 use Rattle.tmpl_code.specs.Code.{piped_count}
 use Rattle.tmpl_code.specs.Instruction as code
 use Rattle.tmpl_code.specs.Instruction.{Operation, push_slot, chained, call_with, decide, settle, refuse, Instruction}
 
--- a step of a pipeline over so many cells; `and` and `or` are no calls
+-- a step of a pipeline over this many cells; `and` and `or` are no calls
 abbrev pub Fits : Operation → ℕ → ℕ → Type 0
 Fits (push_slot k) n room = (k < n) × (n < room)
 Fits (chained names) n room = 1 ≤ n
@@ -21,7 +21,7 @@ abbrev pub RoomIf : Bool → ℕ → ℕ → Type 0
 RoomIf true n room = n < room
 RoomIf false n room = Unit {0}
 
--- an instruction over so many cells; where it is no step of a pipeline, it looks for the newest cells by itself
+-- an instruction over this many cells; where it is no step of a pipeline, it looks for the newest cells by itself
 abbrev pub Has : Instruction → ℕ → ℕ → Type 0
 Has (code.act o) n room = Fits o n room
 Has (code.hold key) n room = RoomIf key n room

@@ -14,7 +14,7 @@ use Rattle.tmpl_code.specs.Instruction.{Refusal, not_a_function, nil_command, wr
 use Rattle.tmpl_code.specs.Code.{piped_count}
 use Rattle.tmpl_run.specs.Cell.{Cell, fresh, slot, values_in}
 
--- goes on behind so many more steps over these cells, or stops, or does not find a cell that it takes
+-- goes on after this many more steps over these cells, or stops, or does not find a cell that it takes
 pub data Went : Type 0 where
   on : ℕ → List Cell → Went
   halted : Cause → Went
@@ -61,7 +61,7 @@ step s (decide is_or piped skip) cs = newest cs (λ v cs. decided_by (decides is
 step s settle cs = newest cs (λ v cs. on 0 (fresh (without_null v) ∷ cs))
 step s (refuse why) cs = halted (cause_of why)
 
--- whether a function that makes a text was called with all its arguments, behind a step
+-- whether a function that makes a text was called with all its arguments, after a step
 abbrev pub made_by : Operation → Bool → Bool
 made_by (call_with f n piped) made = made || makes_text f
 made_by o made = made

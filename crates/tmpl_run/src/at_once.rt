@@ -1,26 +1,28 @@
-//! Values that are shown where they lie: an instruction that puts a value is carried out at once with the two behind
+//! Values that are shown where they lie: an instruction that puts a value is carried out at once with the two after
 //! it, where they settle and show that.
 ghost use Rattle.std.specs.Prelude.{◌≡◌, ◌+◌, ◌-◌, ◌<◌, ◌^◌, Some, length, true};
 ghost use Rattle.tmpl_meaning.specs.Sink.{IsPut};
 ghost use Rattle.tmpl_code.specs.Instruction.{act, push_dot, push_fields, push_slot};
-ghost use Rattle.tmpl_code.specs.View.{instruction_of, instructions_of};
+ghost use Rattle.tmpl_code.specs.View.{instruction_of, names_seen};
+ghost use Rattle.tmpl_code.specs.declared.tables.Tables.{Tables};
 ghost use Rattle.tmpl_run.specs.computed.Machines.{by_mode, untold};
 ghost use Rattle.tmpl_run.specs.computed.Output.{Grows, given_of};
 ghost use Rattle.tmpl_run.specs.computed.Plain.{IsPlain, SparedOr};
+ghost use Rattle.tmpl_run.specs.computed.Plan.{listed};
 ghost use Rattle.tmpl_run.specs.computed.Turned.{Shown, TurnedBy, is_shown, put_by, put_out, settles, shows};
 ghost use Rattle.tmpl_run.specs.computed.View.{cells_of, size_of};
 
 use crate::flow::Flow;
 use crate::halt::Halt;
+use crate::listing::Listing;
 use crate::machine::Machine;
 use crate::piece::LentPiece;
-use tmpl_code::Instruction;
+use tmpl_code::{Instruction, Names};
 use tmpl_meaning::{MissingKey, Sink};
-use tmpl_values::Bytes;
 
 #[inline(always)]
-fn settles(instruction: &Instruction<'_>) -> bool
-    ensures { result ≡ settles (Some (instruction_of instruction.now)) }
+fn settles(instruction: &Instruction) -> bool
+    ensures { (t : Tables) → result ≡ settles (Some (instruction_of t instruction.now)) }
 {
     match instruction {
         Instruction::Settle => true,
@@ -29,8 +31,8 @@ fn settles(instruction: &Instruction<'_>) -> bool
 }
 
 #[inline(always)]
-fn shows(instruction: &Instruction<'_>) -> bool
-    ensures { result ≡ shows (Some (instruction_of instruction.now)) }
+fn shows(instruction: &Instruction) -> bool
+    ensures { (t : Tables) → result ≡ shows (Some (instruction_of t instruction.now)) }
 {
     match instruction {
         Instruction::Show => true,
@@ -38,17 +40,18 @@ fn shows(instruction: &Instruction<'_>) -> bool
     }
 }
 
-/// Whether the two instructions behind a place settle and show what the one there puts.
+/// Whether the two instructions after a place settle and show what the one there puts.
 #[inline(always)]
-fn is_shown(code: &[Instruction<'_>], place: usize) -> bool
-    requires { place < length code.now }
-    ensures shown { result ≡ is_shown (instructions_of code.now) place }
-    ensures within { result ≡ true → place + 2 < length code.now }
+fn is_shown(code: Listing<'_>, place: usize) -> bool
+    requires { place < length code.instructions.now }
+    ensures shown { result ≡ is_shown (listed code.entry) place }
+    ensures within { result ≡ true → place + 2 < length code.entry.instructions.now }
 {
-    if place + 2 >= code.len() {
+    let instructions = code.instructions;
+    if place + 2 >= instructions.len() {
         return false;
     }
-    settles(&code[place + 1]) && shows(&code[place + 2])
+    settles(&instructions[place + 1]) && shows(&instructions[place + 2])
 }
 
 impl<'m, 'a> Machine<'m, 'a> {
@@ -56,18 +59,18 @@ impl<'m, 'a> Machine<'m, 'a> {
     #[inline(always)]
     pub(crate) fn put_dot<S: Sink>(
         &mut self,
-        code: &[Instruction<'a>],
+        code: Listing<'_>,
         piece: &mut LentPiece<'_>,
         sink: &mut S,
     ) -> Result<Flow, Halt<'a>>
-        requires here { self.old.place < length code.now }
+        requires here { self.old.place < length code.instructions.now }
         requires room { length (cells_of self.old.stack) < size_of self.old.stack }
         requires countable { (S.so_far sink.old).failures < 2 ^ 64 - 1 }
-        ensures step { TurnedBy (is_shown (instructions_of code.now) self.old.place) untold (act push_dot)
+        ensures step { TurnedBy (is_shown (listed code.entry) self.old.place) untold (act push_dot)
             self.old self.new result }
         ensures given { IsPut (put_by result) (given_of (S.so_far sink.old) piece.old)
             (given_of (S.so_far sink.new) piece.new)
-            (put_out (is_shown (instructions_of code.now) self.old.place) untold (act push_dot) self.old result) }
+            (put_out (is_shown (listed code.entry) self.old.place) untold (act push_dot) self.old result) }
         ensures taken { Grows (S.so_far sink.old) (S.so_far sink.new) }
         ensures plain { IsPlain self.old → SparedOr result (IsPlain self.new) }
         ensures size { size_of self.new.stack ≡ size_of self.old.stack }
@@ -83,21 +86,21 @@ impl<'m, 'a> Machine<'m, 'a> {
     pub(crate) fn put_fields<S: Sink>(
         &mut self,
         missing_key: MissingKey,
-        names: &'a [Bytes],
-        code: &[Instruction<'a>],
+        names: Names<'a>,
+        code: Listing<'_>,
         piece: &mut LentPiece<'_>,
         sink: &mut S,
     ) -> Result<Flow, Halt<'a>>
-        requires here { self.old.place < length code.now }
+        requires here { self.old.place < length code.instructions.now }
         requires room { length (cells_of self.old.stack) < size_of self.old.stack }
         requires countable { (S.so_far sink.old).failures < 2 ^ 64 - 1 }
-        ensures step { TurnedBy (is_shown (instructions_of code.now) self.old.place) (by_mode missing_key)
-            (act (push_fields names.now))
+        ensures step { TurnedBy (is_shown (listed code.entry) self.old.place) (by_mode missing_key)
+            (act (push_fields (names_seen names.entry)))
             self.old self.new result }
         ensures given { IsPut (put_by result) (given_of (S.so_far sink.old) piece.old)
             (given_of (S.so_far sink.new) piece.new)
-            (put_out (is_shown (instructions_of code.now) self.old.place) (by_mode missing_key)
-            (act (push_fields names.now)) self.old result) }
+            (put_out (is_shown (listed code.entry) self.old.place) (by_mode missing_key)
+            (act (push_fields (names_seen names.entry))) self.old result) }
         ensures taken { Grows (S.so_far sink.old) (S.so_far sink.new) }
         ensures plain { IsPlain self.old → SparedOr result (IsPlain self.new) }
         ensures size { size_of self.new.stack ≡ size_of self.old.stack }
@@ -113,19 +116,19 @@ impl<'m, 'a> Machine<'m, 'a> {
     pub(crate) fn put_slot<S: Sink>(
         &mut self,
         slot: usize,
-        code: &[Instruction<'a>],
+        code: Listing<'_>,
         piece: &mut LentPiece<'_>,
         sink: &mut S,
     ) -> Result<Flow, Halt<'a>>
         requires found { slot < length (cells_of self.old.stack) }
-        requires here { self.old.place < length code.now }
+        requires here { self.old.place < length code.instructions.now }
         requires room { length (cells_of self.old.stack) < size_of self.old.stack }
         requires countable { (S.so_far sink.old).failures < 2 ^ 64 - 1 }
-        ensures step { TurnedBy (is_shown (instructions_of code.now) self.old.place) untold (act (push_slot slot))
+        ensures step { TurnedBy (is_shown (listed code.entry) self.old.place) untold (act (push_slot slot))
             self.old self.new result }
         ensures given { IsPut (put_by result) (given_of (S.so_far sink.old) piece.old)
             (given_of (S.so_far sink.new) piece.new)
-            (put_out (is_shown (instructions_of code.now) self.old.place) untold (act (push_slot slot))
+            (put_out (is_shown (listed code.entry) self.old.place) untold (act (push_slot slot))
             self.old result) }
         ensures taken { Grows (S.so_far sink.old) (S.so_far sink.new) }
         ensures plain { IsPlain self.old → SparedOr result (IsPlain self.new) }
@@ -163,16 +166,16 @@ impl<'m, 'a> Machine<'m, 'a> {
     fn show_fields<S: Sink>(
         &mut self,
         missing_key: MissingKey,
-        names: &'a [Bytes],
+        names: Names<'a>,
         piece: &mut LentPiece<'_>,
         sink: &mut S,
     ) -> Result<Flow, Halt<'a>>
         requires place { self.old.place + 3 < 2 ^ 64 }
         requires countable { (S.so_far sink.old).failures < 2 ^ 64 - 1 }
-        ensures step { Shown (by_mode missing_key) (act (push_fields names.now)) self.old self.new result }
+        ensures step { Shown (by_mode missing_key) (act (push_fields (names_seen names.entry))) self.old self.new result }
         ensures given { IsPut (put_by result) (given_of (S.so_far sink.old) piece.old)
             (given_of (S.so_far sink.new) piece.new)
-            (put_out true (by_mode missing_key) (act (push_fields names.now)) self.old result) }
+            (put_out true (by_mode missing_key) (act (push_fields (names_seen names.entry))) self.old result) }
         ensures taken { Grows (S.so_far sink.old) (S.so_far sink.new) }
         ensures plain { IsPlain self.old → SparedOr result (IsPlain self.new) }
         ensures size { size_of self.new.stack ≡ size_of self.old.stack }

@@ -65,7 +65,7 @@ impl<'m, 'a> Machine<'m, 'a> {
         Ok(Flow::On)
     }
 
-    /// Ends a template: forgets so many cells and its own, and goes on where its caller does. The run is over where
+    /// Ends a template: forgets this many cells and its own, and goes on where its caller does. The run is over where
     /// there is no caller.
     pub(crate) fn return_from(&mut self, count: usize) -> Flow
         requires found { 1 < self.old.depth → count + 3 ≤ length (cells_of self.old.stack) }

@@ -35,7 +35,7 @@ impl<'m, 'a> Machine<'m, 'a> {
         Ok(Flow::On)
     }
 
-    /// Forgets so many cells and goes to where a jump ends.
+    /// Forgets this many cells and goes to where a jump ends.
     pub(crate) fn forget(&mut self, count: usize, skip: usize) -> Flow
         requires place { self.old.place + 1 + skip < 2 ^ 64 }
         requires found { count ≤ length (cells_of self.old.stack) }
@@ -98,7 +98,7 @@ impl<'m, 'a> Machine<'m, 'a> {
         Ok(Flow::On)
     }
 
-    /// Ends the body of a `with`: takes dot back from the cell below so many, and forgets the variables of the header.
+    /// Ends the body of a `with`: takes dot back from the cell below this many, and forgets the variables of the header.
     pub(crate) fn close_with(&mut self, count: usize, variables: usize, skip: usize) -> Flow
         requires place { self.old.place + 1 + skip < 2 ^ 64 }
         requires found { count + 1 + variables ≤ length (cells_of self.old.stack) }

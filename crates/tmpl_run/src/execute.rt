@@ -1,18 +1,19 @@
 //! One instruction, whichever it is.
 ghost use Rattle.std.specs.Prelude.{◌≡◌, ◌+◌, ◌-◌, ◌<◌, ◌≤◌, ◌^◌, false, length};
 ghost use Rattle.tmpl_meaning.specs.Sink.{IsPut};
-ghost use Rattle.tmpl_code.specs.View.{instruction_of, instructions_of};
+ghost use Rattle.tmpl_code.specs.View.{instruction_of};
 ghost use Rattle.tmpl_run.specs.Machine.{done};
 ghost use Rattle.tmpl_run.specs.computed.Machines.{no_template, state_of};
 ghost use Rattle.tmpl_run.specs.computed.Output.{Grows, given_of};
 ghost use Rattle.tmpl_run.specs.computed.Plain.{IsPlain, SparedOr};
 ghost use Rattle.tmpl_run.specs.Ready.{Has};
-ghost use Rattle.tmpl_run.specs.computed.Plan.{plan_of};
-ghost use Rattle.tmpl_run.specs.computed.Turned.{IsAble, Lands, TurnedBy, at_once, mark_behind, put_by, put_out};
+ghost use Rattle.tmpl_run.specs.computed.Plan.{listed, plan_of};
+ghost use Rattle.tmpl_run.specs.computed.Turned.{IsAble, Lands, TurnedBy, at_once, mark_after, put_by, put_out};
 ghost use Rattle.tmpl_run.specs.computed.View.{cells_of, size_of};
 
 use crate::flow::Flow;
 use crate::halt::Halt;
+use crate::listing::Listing;
 use crate::machine::Machine;
 use crate::operation::fault_for;
 use crate::piece::LentPiece;
@@ -21,44 +22,44 @@ use tmpl_meaning::{Options, RunFaultKind, Sink};
 use tmpl_values::Val;
 
 impl<'m, 'a> Machine<'m, 'a> {
-    /// Carries out an instruction, at once with the two behind it where they show the value that it puts. It is inlined
+    /// Carries out an instruction, at once with the two after it where they show the value that it puts. It is inlined
     /// into the loop of a run, so that its answer is not written to memory and read back for each instruction.
     #[tactic(auto, using(crate::proofs::TurnLemmas::lands))]
     #[inline(always)]
     pub(crate) fn execute<S: Sink>(
         &mut self,
-        program: &Parts<'a>,
+        program: &Parts,
         options: &Options,
-        code: &[Instruction<'a>],
-        instruction: &Instruction<'a>,
+        code: Listing<'a>,
+        instruction: &Instruction,
         piece: &mut LentPiece<'_>,
         sink: &mut S,
     ) -> Result<Flow, Halt<'a>>
         requires place { self.old.place + 1 < 2 ^ 64 }
         requires depth { self.old.depth + 1 < 2 ^ 64 }
-        requires ready { Has (instruction_of instruction.now) (length (cells_of self.old.stack))
+        requires ready { Has (instruction_of code.tables.now instruction.now) (length (cells_of self.old.stack))
             (size_of self.old.stack) }
-        requires lands { Lands (done (plan_of options.now program.now) no_template (instruction_of instruction.now)
+        requires lands { Lands (done (plan_of options.now program.now) no_template (instruction_of code.tables.now instruction.now)
             (state_of self.old)) }
-        requires able { IsAble (plan_of options.now program.now) (instruction_of instruction.now) (state_of self.old) }
+        requires able { IsAble (plan_of options.now program.now) (instruction_of code.tables.now instruction.now) (state_of self.old) }
         requires countable { (S.so_far sink.old).failures < 2 ^ 64 - 1 }
-        requires here { self.old.place < length code.now }
-        ensures step { let i = instruction_of instruction.now in
-            TurnedBy (at_once (instructions_of code.now) self.old.place i) (plan_of options.now program.now) i
+        requires here { self.old.place < length code.instructions.now }
+        ensures step { let i = instruction_of code.entry.tables.now instruction.now in
+            TurnedBy (at_once (listed code.entry) self.old.place i) (plan_of options.now program.now) i
             self.old self.new result }
-        ensures given { let i = instruction_of instruction.now in
+        ensures given { let i = instruction_of code.entry.tables.now instruction.now in
             IsPut (put_by result) (given_of (S.so_far sink.old) piece.old) (given_of (S.so_far sink.new) piece.new)
-            (put_out (at_once (instructions_of code.now) self.old.place i) (plan_of options.now program.now) i
+            (put_out (at_once (listed code.entry) self.old.place i) (plan_of options.now program.now) i
             self.old result) }
         ensures taken { Grows (S.so_far sink.old) (S.so_far sink.new) }
-        ensures plain { mark_behind (instruction_of instruction.now) false ≡ false
+        ensures plain { mark_after (instruction_of code.entry.tables.now instruction.now) false ≡ false
             → IsPlain self.old → SparedOr result (IsPlain self.new) }
         ensures size { size_of self.new.stack ≡ size_of self.old.stack }
     {
         match *instruction {
             Instruction::Spend(line) => self.spend(options, line),
-            Instruction::Put(text) => {
-                self.put_text(text, piece, sink)?;
+            Instruction::Put(place) => {
+                self.put_text(code.tables.text(place), piece, sink)?;
                 Ok(Flow::On)
             }
             Instruction::PushNothing => {
@@ -73,24 +74,30 @@ impl<'m, 'a> Machine<'m, 'a> {
                 self.give(Val::Num(number));
                 Ok(Flow::On)
             }
-            Instruction::PushText(text) => {
-                self.give(Val::Text(text.as_slice()));
+            Instruction::PushText(place) => {
+                self.give(Val::Text(code.tables.name(place)));
                 Ok(Flow::On)
             }
             Instruction::PushDot => self.put_dot(code, piece, sink),
-            Instruction::PushFields(names) => {
-                self.put_fields(options.missing_key, names.as_slice(), code, piece, sink)
+            Instruction::PushFields(span) => {
+                self.put_fields(
+                    options.missing_key,
+                    code.tables.names(span),
+                    code,
+                    piece,
+                    sink,
+                )
             }
             Instruction::PushSlot(slot) => self.put_slot(slot as usize, code, piece, sink),
-            Instruction::Chain(names) => self.chain(options.missing_key, names.as_slice()),
+            Instruction::Chain(span) => self.chain(options.missing_key, code.tables.names(span)),
             Instruction::Call { func, count, piped } => { self.call(func, count as usize, piped) }
             Instruction::Decide { is_or, piped, skip } => {
                 Ok(self.decide(is_or, piped, skip as usize))
             }
             Instruction::Settle => Ok(self.settle()),
             Instruction::Refuse(why) => Err(Halt::Fault(fault_for(why))),
-            Instruction::RefuseTemplate(name) => {
-                Err(Halt::Fault(RunFaultKind::NoTemplate(name.as_slice())))
+            Instruction::RefuseTemplate(place) => {
+                Err(Halt::Fault(RunFaultKind::NoTemplate(code.tables.name(place))))
             }
             Instruction::Show => {
                 self.show(piece, sink)?;

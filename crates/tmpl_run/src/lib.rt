@@ -10,6 +10,7 @@ mod fault;
 mod flow;
 mod halt;
 mod laws;
+mod listing;
 mod machine;
 mod operation;
 mod output;

@@ -3,12 +3,12 @@ ghost use Rattle.std.specs.Prelude.{◌≡◌, ◌+◌, ◌-◌, ◌<◌, ◌≤
 ghost use Rattle.tmpl_values.specs.View.{is_made, val_of};
 ghost use Rattle.tmpl_funcs.specs.Answer.{IsBorrowed};
 ghost use Rattle.tmpl_funcs.specs.Func.{is_called, makes_text};
-ghost use Rattle.tmpl_meaning.specs.Pipeline.{decides};
-ghost use Rattle.tmpl_meaning.specs.View.{cause_of};
+ghost use Rattle.tmpl_meaning.specs.Pipeline.{chain, decides};
+ghost use Rattle.tmpl_meaning.specs.View.{cause_of, value_seen};
 ghost use Rattle.tmpl_code.specs.Code.{piped_count};
 ghost use Rattle.tmpl_code.specs.Instruction.{act, call_with, chained, decide, push_dot, push_fields, push_slot};
 ghost use Rattle.tmpl_code.specs.Instruction.{settle};
-ghost use Rattle.tmpl_code.specs.View.{refusal_of};
+ghost use Rattle.tmpl_code.specs.View.{names_seen, refusal_of};
 ghost use Rattle.tmpl_run.specs.Cell.{fresh, slot};
 ghost use Rattle.tmpl_run.specs.computed.Machines.{by_mode, state_of, untold};
 ghost use Rattle.tmpl_run.specs.computed.Plain.{IsPlain, SparedOr};
@@ -20,10 +20,10 @@ use crate::flow::Flow;
 use crate::halt::Halt;
 use crate::machine::Machine;
 use crate::stack::piped_count;
-use tmpl_code::Refusal;
+use tmpl_code::{Names, Refusal, letters_at};
 use tmpl_funcs::{CallError, CallFault, Func};
 use tmpl_meaning::{MissingKey, RunFaultKind, decides, without_null};
-use tmpl_values::{Bytes, Val};
+use tmpl_values::Val;
 
 /// Why a run stops at what the form of a command refuses.
 pub(crate) fn fault_for<'a>(why: Refusal) -> RunFaultKind<'a>
@@ -34,6 +34,22 @@ pub(crate) fn fault_for<'a>(why: Refusal) -> RunFaultKind<'a>
         Refusal::NilCommand => RunFaultKind::NilCommand,
         Refusal::WrongCount(func) => RunFaultKind::Call(func, CallFault::WrongCount),
     }
+}
+
+/// The field of the field of .. of a value, by these names.
+fn field_chain<'a>(
+    missing_key: MissingKey,
+    value: Val<'a>,
+    names: Names<'a>,
+) -> Result<Val<'a>, RunFaultKind<'a>>
+    ensures value { value_seen result ≡ chain missing_key (names_seen names.entry) (val_of value.entry) }
+    ensures borrowed { is_made value.entry ≡ false → IsBorrowed result }
+{
+    let mut value = value;
+    for span in names.spans {
+        value = missing_key.field(&value, letters_at(names.letters, *span))?;
+    }
+    Ok(value)
 }
 
 impl<'m, 'a> Machine<'m, 'a> {
@@ -70,15 +86,15 @@ impl<'m, 'a> Machine<'m, 'a> {
     pub(crate) fn field_of_dot(
         &self,
         missing_key: MissingKey,
-        names: &'a [Bytes],
+        names: Names<'a>,
     ) -> Result<Val<'a>, Halt<'a>>
-        ensures found { IsFound missing_key names.now (val_of self.now.dot) result }
+        ensures found { IsFound missing_key (names_seen names.entry) (val_of self.now.dot) result }
         ensures spared { is_made self.now.dot ≡ false → SparedOr result (Unit {0}) }
         ensures borrowed { is_made self.now.dot ≡ false → IsBorrowed result }
     {
-        Ok(match names {
-            [name] => missing_key.field(&self.dot, name.as_slice())?,
-            _ => missing_key.chain(self.dot.share()?, names)?,
+        Ok(match names.spans {
+            [span] => missing_key.field(&self.dot, letters_at(names.letters, *span))?,
+            _ => field_chain(missing_key, self.dot.share()?, names)?,
         })
     }
 
@@ -86,11 +102,11 @@ impl<'m, 'a> Machine<'m, 'a> {
     pub(crate) fn push_fields(
         &mut self,
         missing_key: MissingKey,
-        names: &'a [Bytes],
+        names: Names<'a>,
     ) -> Result<Flow, Halt<'a>>
         requires room { length (cells_of self.old.stack) < size_of self.old.stack }
         requires place { self.old.place + 1 < 2 ^ 64 }
-        ensures step { TurnedOr (by_mode missing_key) (act (push_fields names.now)) self.old self.new result }
+        ensures step { TurnedOr (by_mode missing_key) (act (push_fields (names_seen names.entry))) self.old self.new result }
         ensures plain { IsPlain self.old → SparedOr result (IsPlain self.new) }
         ensures size { size_of self.new.stack ≡ size_of self.old.stack }
     {
@@ -117,21 +133,21 @@ impl<'m, 'a> Machine<'m, 'a> {
     pub(crate) fn chain(
         &mut self,
         missing_key: MissingKey,
-        names: &'a [Bytes],
+        names: Names<'a>,
     ) -> Result<Flow, Halt<'a>>
         requires found { 1 ≤ length (cells_of self.old.stack) }
         requires place { self.old.place + 1 < 2 ^ 64 }
-        ensures step { TurnedOr (by_mode missing_key) (act (chained names.now)) self.old self.new result }
+        ensures step { TurnedOr (by_mode missing_key) (act (chained (names_seen names.entry))) self.old self.new result }
         ensures plain { IsPlain self.old → SparedOr result (IsPlain self.new) }
         ensures size { size_of self.new.stack ≡ size_of self.old.stack }
     {
         let whole = self.stack.take().val;
-        let val = missing_key.chain(whole, names)?;
+        let val = field_chain(missing_key, whole, names)?;
         self.give(val);
         Ok(Flow::On)
     }
 
-    /// Calls a function over the newest so many values, and a piped one, if it lies below them.
+    /// Calls a function over this many of the newest values, and a piped one, if it lies below them.
     #[tactic(auto, using(crate::proofs::ArgumentLemmas::calls))]
     pub(crate) fn call(&mut self, func: Func, count: usize, piped: bool) -> Result<Flow, Halt<'a>>
         requires called { is_called func ≡ true }
@@ -153,8 +169,7 @@ impl<'m, 'a> Machine<'m, 'a> {
         }
     }
 
-    /// A value that decides an `or`, or else an `and`, stays, and so many instructions are passed over; a piped one
-    /// below it goes. Another goes.
+    /// If the top value decides an `or`, or else an `and`, keeps it, drops the piped one and jumps; else pops it.
     pub(crate) fn decide(&mut self, is_or: bool, piped: bool, skip: usize) -> Flow
         requires found { 1 + piped_count piped ≤ length (cells_of self.old.stack) }
         requires place { self.old.place + 1 < 2 ^ 64 }

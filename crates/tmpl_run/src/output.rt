@@ -31,7 +31,7 @@ impl LentPiece<'_> {
         Ok(())
     }
 
-    /// Puts bytes. Where they do not fit behind what waits, that goes first.
+    /// Puts bytes. Where they do not fit after what waits, that goes first.
     #[inline(always)]
     pub(crate) fn put<S: Sink>(&mut self, sink: &mut S, bytes: &[u8]) -> Result<(), SinkFault>
         requires { (S.so_far sink.old).failures < 2 ^ 64 - 1 }
@@ -40,16 +40,16 @@ impl LentPiece<'_> {
         ensures taken { Grows (S.so_far sink.old) (S.so_far sink.new) }
     {
         if bytes.len() > self.room() {
-            return self.put_behind(sink, bytes);
+            return self.put_after(sink, bytes);
         }
         self.keep(bytes);
         Ok(())
     }
 
-    /// Gives the sink what waits, and puts bytes behind it; those that do not fit at all do not wait.
+    /// Gives the sink what waits, and puts bytes after it; those that do not fit at all do not wait.
     #[tactic(auto, using(crate::proofs::OutputLemmas::putting))]
     #[inline(never)]
-    fn put_behind<S: Sink>(&mut self, sink: &mut S, bytes: &[u8]) -> Result<(), SinkFault>
+    fn put_after<S: Sink>(&mut self, sink: &mut S, bytes: &[u8]) -> Result<(), SinkFault>
         requires { (S.so_far sink.old).failures < 2 ^ 64 - 1 }
         ensures given { IsPut result (given_of (S.so_far sink.old) self.old)
             (given_of (S.so_far sink.new) self.new) bytes.now }
@@ -111,7 +111,7 @@ impl Beginning for Brand {
     ghost taken = { record { bytes = None; failures = 0 } };
 }
 
-/// A piece and the sink behind it, as one that takes bytes.
+/// A piece and the sink after it, as one that takes bytes.
 #[derive(Drop)]
 struct Output<'p, 'm, 's, S: Sink, B: Beginning> {
     piece: &'p mut LentPiece<'m>,

@@ -41,7 +41,7 @@ impl<'m> LentPiece<'m> {
         self.start == self.end
     }
 
-    /// How many bytes fit behind what waits.
+    /// How many bytes fit after what waits.
     pub(crate) fn room(&self) -> usize
         ensures { result ≡ length self.now.bytes.now - self.now.end }
     {
@@ -55,17 +55,17 @@ impl<'m> LentPiece<'m> {
         &self.bytes[self.start..self.end]
     }
 
-    /// The bytes wait behind those that do.
+    /// The bytes wait after those that do.
     pub(crate) fn keep(&mut self, bytes: &[u8])
         requires { length bytes.now ≤ length self.old.bytes.now - self.old.end }
         ensures { waiting self.new ≡ waiting self.old ++ bytes.now }
     {
         let end = self.end;
-        copy_behind(self.bytes, end, bytes);
+        copy_after(self.bytes, end, bytes);
         self.end += bytes.len();
     }
 
-    /// The digits of a number wait behind what does. There is room for the most digits that one has.
+    /// The digits of a number wait after what does. There is room for the most digits that one has.
     #[tactic(auto, using(crate::proofs::PieceLemmas::kept))]
     pub(crate) fn keep_number(&mut self, number: u64)
         requires { 20 ≤ length self.old.bytes.now - self.old.end }
@@ -75,7 +75,7 @@ impl<'m> LentPiece<'m> {
         self.end = copy_number(self.bytes, end, number);
     }
 
-    /// So many of the bytes that waited were given.
+    /// This many of the bytes that waited were given.
     #[tactic(auto, using(crate::proofs::PieceLemmas::passed))]
     pub(crate) fn pass(&mut self, count: usize)
         requires { count ≤ length (waiting self.old) }
@@ -93,9 +93,9 @@ impl<'m> LentPiece<'m> {
     }
 }
 
-/// Copies the bytes to behind those before `end`. A single one, as the end of a line, is worth no call.
+/// Copies the bytes to after those before `end`. A single one, as the end of a line, is worth no call.
 #[inline(always)]
-fn copy_behind(all: &mut [u8], end: usize, bytes: &[u8])
+fn copy_after(all: &mut [u8], end: usize, bytes: &[u8])
     requires { end + length bytes.now ≤ length all.old }
     ensures copied { take (end + length bytes.now) all.new ≡ take end all.old ++ bytes.now }
     ensures size { length all.new ≡ length all.old }
@@ -103,14 +103,14 @@ fn copy_behind(all: &mut [u8], end: usize, bytes: &[u8])
     match bytes {
         [byte] => all[end] = *byte,
         _ => {
-            let behind = end + bytes.len();
-            all[end..behind].copy_from_slice(bytes);
+            let after = end + bytes.len();
+            all[end..after].copy_from_slice(bytes);
         }
     }
 }
 
-/// Writes the digits of a number behind the bytes before `end`, and says where they end. As many bytes are copied as
-/// the most digits take, since a copy of a known length is no call; what lies behind the digits is free.
+/// Writes the digits of a number after the bytes before `end`, and says where they end. As many bytes are copied as
+/// the most digits take, since a copy of a known length is no call; what lies after the digits is free.
 fn copy_number(all: &mut [u8], end: usize, number: u64) -> usize
     requires { end + 20 ≤ length all.old }
     ensures copied { take result all.new ≡ take end all.old ++ decimal number }
@@ -119,6 +119,6 @@ fn copy_number(all: &mut [u8], end: usize, number: u64) -> usize
 {
     let mut digits = [0; 2 * MOST_DIGITS];
     let start = write_digits(number, &mut digits, MOST_DIGITS);
-    copy_behind(all, end, &digits[start..start + MOST_DIGITS]);
+    copy_after(all, end, &digits[start..start + MOST_DIGITS]);
     end + (MOST_DIGITS - start)
 }

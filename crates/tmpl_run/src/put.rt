@@ -14,13 +14,12 @@ ghost use Rattle.tmpl_run.specs.declared.flow.Flow.TheVariants as flow;
 use crate::machine::Machine;
 use crate::piece::LentPiece;
 use tmpl_meaning::{Sink, SinkFault};
-use tmpl_syntax::Text;
 
 impl<'m, 'a> Machine<'m, 'a> {
     /// Puts out a text of the template.
     pub(crate) fn put_text<S: Sink>(
         &mut self,
-        text: &Text,
+        text: &[u8],
         piece: &mut LentPiece<'_>,
         sink: &mut S,
     ) -> Result<(), SinkFault>
@@ -34,7 +33,7 @@ impl<'m, 'a> Machine<'m, 'a> {
         ensures size { size_of self.new.stack ≡ size_of self.old.stack }
     {
         self.place += 1;
-        piece.put(sink, text.as_slice())
+        piece.put(sink, text)
     }
 
     /// Takes the newest value, and puts out its text.

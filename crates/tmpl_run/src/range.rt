@@ -72,7 +72,7 @@ impl<'m, 'a> Machine<'m, 'a> {
         }
     }
 
-    /// The element that the range visits becomes dot, and the values of so many variables.
+    /// The element that the range visits becomes dot, and the values of this many variables.
     #[tactic(auto, using(crate::proofs::TurnLemmas::lefts))]
     pub(crate) fn turn(&mut self, count: usize) -> Result<Flow, Halt<'a>>
         requires found { 2 ≤ length (cells_of self.old.stack) }
@@ -93,7 +93,7 @@ impl<'m, 'a> Machine<'m, 'a> {
         Ok(Flow::On)
     }
 
-    /// Puts the values of so many variables, the element above its index or key.
+    /// Puts the values of this many variables, the element above its index or key.
     fn declare(&mut self, count: usize, key: Val<'a>, element: &Val<'a>) -> Result<(), AllocError>
         requires { length (cells_of self.old.stack) + count ≤ size_of self.old.stack }
         ensures step { OnOk result (state_of self.new ≡ record (state_of self.old) {
@@ -125,7 +125,7 @@ impl<'m, 'a> Machine<'m, 'a> {
         line: u64,
     ) -> Result<Flow, Halt<'a>>
         requires found { count + 2 ≤ length (cells_of self.old.stack) }
-        requires behind { has_more (slot_cell 1 (drop count (cells_of self.old.stack))) ≡ false
+        requires after { has_more (slot_cell 1 (drop count (cells_of self.old.stack))) ≡ false
             → self.old.place + 1 + skip < 2 ^ 64 }
         ensures step { TurnedUnder (rules_of options.now) (λ _. Unit {0}) (code.next count skip line)
             self.old self.new result }
@@ -151,7 +151,7 @@ impl<'m, 'a> Machine<'m, 'a> {
         Ok(Flow::On)
     }
 
-    /// Ends the range: forgets so many cells and its own, and takes dot back.
+    /// Ends the range: forgets this many cells and its own, and takes dot back.
     pub(crate) fn leave(&mut self, count: usize, skip: usize) -> Flow
         requires found { count + 2 ≤ length (cells_of self.old.stack) }
         requires place { self.old.place + 1 + skip < 2 ^ 64 }

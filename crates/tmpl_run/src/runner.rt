@@ -7,6 +7,7 @@ ghost use Rattle.tmpl_meaning.specs.Meaning.{Ran, ran};
 ghost use Rattle.tmpl_meaning.specs.Sink.{sunk};
 ghost use Rattle.tmpl_meaning.specs.View.{rules_of};
 ghost use Rattle.tmpl_code.specs.MakesText.{set_makes_text};
+ghost use Rattle.tmpl_code.specs.Program.{IsOutline};
 ghost use Rattle.tmpl_code.specs.Room.{Suffices};
 ghost use Rattle.tmpl_run.specs.computed.Came.{Came, Closed, ComesTo, IsStopped};
 ghost use Rattle.tmpl_run.specs.computed.Machines.{state_of};
@@ -20,6 +21,7 @@ ghost use Rattle.tmpl_run.specs.computed.View.{size_of};
 use crate::fault::RunError;
 use crate::flow::Flow;
 use crate::halt::Halt;
+use crate::listing::Listing;
 use crate::machine::Machine;
 use crate::piece::LentPiece;
 use crate::stack::Stack;
@@ -43,7 +45,7 @@ impl<'m, 'a> Machine<'m, 'a> {
     /// Before the first instruction of a template.
     fn start(
         alloc: Global,
-        program: &Parts<'a>,
+        program: &Parts,
         entry: Entry,
         data: Option<&'a Data>,
         options: &Options,
@@ -76,7 +78,7 @@ impl<'m, 'a> Machine<'m, 'a> {
     /// Carries out instructions until the run is over or stops.
     fn turns<S: Sink>(
         &mut self,
-        program: &Parts<'a>,
+        program: &'a Parts,
         options: &Options,
         piece: &mut LentPiece<'_>,
         sink: &mut S,
@@ -86,14 +88,26 @@ impl<'m, 'a> Machine<'m, 'a> {
         requires plain { IsPlain self.old }
         requires depth { self.old.depth + self.old.left < 2 ^ 64 - 1 }
         requires countable { (S.so_far sink.old).failures < 2 ^ 64 - 1 }
+        requires outline { IsOutline program.now }
         ensures came { Came end (given_of (S.so_far sink.old) piece.old) (given_of (S.so_far sink.new) piece.new)
             result }
         ensures taken { Grows (S.so_far sink.old) (S.so_far sink.new) }
     {
-        let code = program.instructions.as_slice();
+        let instructions = program.instructions.as_slice();
+        let code = Listing {
+            tables: &program.tables,
+            instructions,
+        };
         loop {
             let number = self.template;
-            match self.execute(program, options, code, &code[self.place], piece, sink) {
+            match self.execute(
+                program,
+                options,
+                code,
+                &instructions[self.place],
+                piece,
+                sink,
+            ) {
                 Ok(Flow::On) => {}
                 Ok(Flow::Over) => return Ok(()),
                 Err(stop) => return Err(error_for(program, number, self.line, stop)),
@@ -103,13 +117,14 @@ impl<'m, 'a> Machine<'m, 'a> {
 }
 
 /// Why a run ends that stops in the template of this number, at this line.
-fn error_for<'a>(program: &Parts<'a>, number: usize, line: u64, stop: Halt<'a>) -> RunError<'a>
-    requires { number < length (set_view program.now.set.now) }
-    ensures { IsStopped (slice_get (set_view program.now.set.now) number) line stop.entry result }
+fn error_for<'a>(program: &'a Parts, number: usize, line: u64, stop: Halt<'a>) -> RunError<'a>
+    requires number { number < length (set_view program.now.set.value) }
+    requires outline { IsOutline program.now }
+    ensures { IsStopped (slice_get (set_view program.now.set.value) number) line stop.entry result }
 {
     match stop {
         Halt::Fault(kind) => {
-            let (template, tree) = program.set.template(number);
+            let (template, tree) = program.outline.template(number);
             RunError::Fault(RunFault {
                 file: tree.file.as_slice(),
                 line,
@@ -130,7 +145,7 @@ fn error_for<'a>(program: &Parts<'a>, number: usize, line: u64, stop: Halt<'a>) 
 /// [`Program::makes_text`] is false, a run does not answer want of memory.
 pub fn run<'a, S: Sink>(
     alloc: Global,
-    program: &Program<'a>,
+    program: &'a Program,
     entry: Entry,
     data: Option<&'a Data>,
     options: &Options,
@@ -138,13 +153,13 @@ pub fn run<'a, S: Sink>(
     piece: &mut [u8],
     out: &mut S,
 ) -> Result<(), RunError<'a>>
-    requires entry { entry.number < length (set_view program.now.set.now) }
-    requires room { Suffices options.now.depth (set_view program.now.set.now) entry.number (length cells.old) }
+    requires entry { entry.number < length (set_view program.now.set.value) }
+    requires room { Suffices options.now.depth (set_view program.now.set.value) entry.number (length cells.old) }
     requires countable { (S.so_far out.old).failures < 2 ^ 64 - 1 }
-    ensures runs { let ts = set_view program.now.set.now in IfSome (slice_get ts entry.number) (λ t.
+    ensures runs { let ts = set_view program.now.set.value in IfSome (slice_get ts entry.number) (λ t.
         IsRun (ran (rules_of options.now) ts t.0 t.1 (option_map (λ d. value_of d.now) «data».entry))
         (sunk (S.so_far out.old) (S.so_far out.new)) result) }
-    ensures spared { set_makes_text (set_view program.now.set.now) ≡ false → result ≢ Err RunError.OutOfMemory }
+    ensures spared { set_makes_text (set_view program.now.set.value) ≡ false → result ≢ Err RunError.OutOfMemory }
 {
     let parts = program.parts();
     let mut machine = Machine::start(alloc, parts, entry, data, options, cells);

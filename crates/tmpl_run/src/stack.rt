@@ -94,7 +94,7 @@ impl<'s, 'a> Stack<'s, 'a> {
         Ok(Cell { val, num })
     }
 
-    /// Forgets so many cells.
+    /// Forgets this many cells.
     #[inline(always)]
     pub(crate) fn pop(&mut self, count: usize)
         requires { count ≤ length (cells_of self.old) }
@@ -246,7 +246,7 @@ impl<'s, 'a> Stack<'s, 'a> {
         exchange_at(self.cells, self.top - 1, val, num);
     }
 
-    /// The element that a range visits, behind its index or key: the cells of the range are the newest two.
+    /// The element that a range visits, after its index or key: the cells of the range are the newest two.
     pub(crate) fn element(&mut self) -> Option<(Val<'a>, Val<'a>)>
         requires { 2 ≤ length (cells_of self.old) }
         ensures cells { cells_of self.new ≡ cells_of self.old }
@@ -259,7 +259,7 @@ impl<'s, 'a> Stack<'s, 'a> {
         element_at(self.cells, self.top - 2)
     }
 
-    /// Whether a range, whose cells are the newest two, has an element behind the one that it visits.
+    /// Whether a range, whose cells are the newest two, has an element after the one that it visits.
     pub(crate) fn has_more(&mut self) -> bool
         requires { 2 ≤ length (cells_of self.old) }
         ensures cells { cells_of self.new ≡ cells_of self.old }
@@ -271,7 +271,7 @@ impl<'s, 'a> Stack<'s, 'a> {
         has_more_at(self.cells, self.top - 2)
     }
 
-    /// What a function gives for the newest so many values, the oldest of them first, and for a piped one behind them,
+    /// What a function gives for this many of the newest values, the oldest of them first, and for a piped one after them,
     /// if it lies below. Forgets them all.
     #[tactic(auto, using(crate::proofs::StackLemmas::stacks, crate::proofs::ArgumentLemmas::arguments), unfolding(crate::specs::computed::View::cells_of))]
     pub(crate) fn call(
@@ -306,7 +306,7 @@ pub(crate) fn piped_count(piped: bool) -> usize
     usize::from(piped)
 }
 
-/// What a function gives for the values from a place to before another, the lowest so many of them behind the others.
+/// What a function gives for the values from a place to before another, this many of the lowest of them after the others.
 #[tactic(auto, using(crate::proofs::ArgumentLemmas::arguments))]
 fn call_between<'a>(
     cells: &mut [Cell<'a>],
@@ -414,7 +414,7 @@ fn element_at<'a>(cells: &mut [Cell<'a>], at: usize) -> Option<(Val<'a>, Val<'a>
     cell.val.item(cell.num)
 }
 
-/// Whether there is an element behind the place that a cell counts, of its value.
+/// Whether there is an element after the place that a cell counts, of its value.
 #[tactic(auto, using(crate::proofs::StackLemmas::cells))]
 fn has_more_at(cells: &mut [Cell<'_>], at: usize) -> bool
     requires { at < length cells.old }

@@ -10,7 +10,7 @@ use Rattle.tmpl_run.specs.Machine.{elements_in}
 abbrev pub cell_of : held.Cell → Cell
 cell_of c = record { val = val_of c.val; num = c.num }
 
--- the oldest so many of these, the newest first
+-- this many of the oldest of these, the newest first
 abbrev pub cells_in : ℕ → List held.Cell → List Cell
 cells_in top cells = map cell_of (reverse (take top cells))
 
@@ -26,6 +26,6 @@ made_at [] i = false
 made_at (c ∷ cs) zero = is_made c.val
 made_at (c ∷ cs) (suc i) = made_at cs i
 
--- whether a range has an element behind the one that is visited
+-- whether a range has an element after the one that is visited
 abbrev pub has_more : Cell → Bool
 has_more v = nat_lt v.num (length (elements_in (elements v.val)) - 1)

@@ -9,7 +9,7 @@ use Rattle.tmpl_run.specs.declared.piece.LentPiece.{LentPiece}
 abbrev pub waiting : LentPiece → List ℕ
 waiting p = between p.start p.end p.bytes.now
 
--- what a sink took, by what it tells of itself, and behind it what waits
+-- what a sink took, by what it tells of itself, and after it what waits
 abbrev pub given_of : Told → LentPiece → Puts
 given_of told p =
     record { bytes = appended told.bytes (waiting p); failures = told.failures; through = 0 }

@@ -40,10 +40,10 @@ IsAble plan (code.invoke number) s = number < length plan.starts
 IsAble plan (code.return_from n) s = 1 < s.depth → n + 3 ≤ length s.cells
 IsAble plan i s = Unit {0}
 
--- whether a function that makes a text was called with all its arguments, behind an instruction
-abbrev pub mark_behind : Instruction → Bool → Bool
-mark_behind (code.act o) made = made_by o made
-mark_behind i made = made
+-- whether a function that makes a text was called with all its arguments, after an instruction
+abbrev pub mark_after : Instruction → Bool → Bool
+mark_after (code.act o) made = made_by o made
+mark_after i made = made
 
 -- what it puts out in a state
 abbrev pub added : Instruction → State → List ℕ
@@ -51,21 +51,21 @@ added (code.put bytes) s = bytes
 added code.show s = text_of (slot 0 s.cells)
 added i s = []
 
--- a state behind it, with what it puts out and whether it makes a text
-abbrev pub behind : Instruction → State → State → State
-behind i s t = record t { text = added i s; made_text = mark_behind i false }
+-- a state after it, with what it puts out and whether it makes a text
+abbrev pub beyond : Instruction → State → State → State
+beyond i s t = record t { text = added i s; made_text = mark_after i false }
 
 -- it was carried out, and the run goes on or is over, or it stops; where a put failed it was carried out up to that
 abbrev pub Executed : Plan → Instruction → Machine → Machine → Result Flow Halt → Type 0
 Executed plan i m n (Ok flow.On) =
-    done plan no_template i (state_of m) ≡ goes (behind i (state_of m) (state_of n))
+    done plan no_template i (state_of m) ≡ goes (beyond i (state_of m) (state_of n))
 Executed plan i m n (Ok flow.Over) =
-    done plan no_template i (state_of m) ≡ ended (ran_so (behind i (state_of m) (state_of m)) None)
+    done plan no_template i (state_of m) ≡ ended (ran_so (beyond i (state_of m) (state_of m)) None)
 Executed plan i m n (Err (stop.Fault kind)) =
     done plan no_template i (state_of m)
-    ≡ failed no_template n.line (cause_of kind) (behind i (state_of m) (state_of m))
+    ≡ failed no_template n.line (cause_of kind) (beyond i (state_of m) (state_of m))
 Executed plan i m n (Err stop.WriteFailed) =
-    done plan no_template i (state_of m) ≡ goes (behind i (state_of m) (state_of n))
+    done plan no_template i (state_of m) ≡ goes (beyond i (state_of m) (state_of n))
 Executed plan i m n (Err stop.OutOfMemory) = added i (state_of m) ≡ []
 
 -- .. by an instruction that puts nothing out, and may stop where memory is refused
@@ -108,11 +108,11 @@ abbrev pub shows : Option Instruction → Bool
 shows (Some code.show) = true
 shows o = false
 
--- what is put at a place is settled and shown by the two instructions behind it
+-- what is put at a place is settled and shown by the two instructions after it
 abbrev pub is_shown : Code → ℕ → Bool
 is_shown all place = settles (slice_get all (place + 1)) && shows (slice_get all (place + 2))
 
--- an instruction is carried out at once with the two behind it: it puts a value that lies in dot, in a field of it or
+-- an instruction is carried out at once with the two after it: it puts a value that lies in dot, in a field of it or
 -- in a slot, and they show that
 abbrev pub at_once : Code → ℕ → Instruction → Bool
 at_once all place (code.act code.push_dot) = is_shown all place

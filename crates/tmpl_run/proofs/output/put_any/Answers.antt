@@ -5,7 +5,7 @@ use Rattle.tmpl_run.specs.computed.Output.{Grows}
 use Rattle.tmpl_run.proofs.OutputLemmas.{both-one, grows-by, put-back}
 use Rattle.tmpl_run.proofs.output.put_any.Goals as goal
 
--- what stands behind the references at their ends is what was put through them, as the puts kept their names
+-- what stands after the references at their ends is what was put through them, as the puts kept their names
 pub returns-clause-given : goal.returns-clause-given
 returns-clause-given g c =
     let out = c.put_text.new.out in

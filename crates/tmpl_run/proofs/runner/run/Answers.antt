@@ -13,7 +13,7 @@ use Rattle.tmpl_run.specs.computed.Output.{Grows, given_of, waiting}
 use Rattle.tmpl_run.specs.Run.{IsRun}
 use Rattle.tmpl_run.specs.computed.Plan.{plan_of}
 use Rattle.tmpl_run.specs.State.{Plan, State}
-use Rattle.tmpl_run.proofs.OutputLemmas.{behind, grows-on}
+use Rattle.tmpl_run.proofs.OutputLemmas.{beyond, grows-on}
 use Rattle.tmpl_run.proofs.QuietLemmas.{spared}
 use Rattle.tmpl_run.proofs.RunLemmas.{comes-to, counts-so}
 use Rattle.tmpl_run.proofs.StartLemmas.{can-run, comes-so, has-start, meant-so, ran_from, three}
@@ -40,7 +40,7 @@ turns-end-requires g c =
         comes-so can c.start-machine.result _ begun.size begun.state,
         (
           begun.plain,
-          (omega (arith, deep, left, c.args.options.now.steps_in_range.1), c.requires.countable),
+          (omega (arith, deep, left, c.args.options.now.steps_in_range.1), (c.requires.countable, p.ensures.outline)),
         ),
       ),
     )
@@ -61,16 +61,16 @@ returns-clause-runs g c =
     let after = g.S.Sink.so_far c.close.new.sink in
     let input = option_map (λ d. value_of d.now) c.args.data in
     let mid : Puts = given_of middle c.turns-end.new.piece in
-    let came : Came end (behind before [] 0) mid c.turns-end.result =
-    subst (λ l. Came end (behind before l 0) mid c.turns-end.result) c.new-piece.ensures c.turns-end.ensures.came in
+    let came : Came end (beyond before [] 0) mid c.turns-end.result =
+    subst (λ l. Came end (beyond before l 0) mid c.turns-end.result) c.new-piece.ensures c.turns-end.ensures.came in
     let grows : Grows before after = grows-on _ _ _ c.turns-end.ensures.taken c.close.ensures.taken in
-    subst (λ (q : Parts). IfSome (slice_get (set_view q.set.now) c.args.entry.number)
-    (λ t. IsRun (ran (rules_of c.args.options.now) (set_view q.set.now) t.0 t.1 input) (sunk before after) c.close.result))
+    subst (λ (q : Parts). IfSome (slice_get (set_view q.set.value) c.args.entry.number)
+    (λ t. IsRun (ran (rules_of c.args.options.now) (set_view q.set.value) t.0 t.1 input) (sunk before after) c.close.result))
     p.ensures.value
     (meant-so can (λ (r : Ran). IsRun r (sunk before after) c.close.result) input s c.start-machine.ensures.state
     (comes-to end before after (waiting c.close.new.piece) 0 grows 0 c.turns-end.result c.close.result mid came c.close.ensures.closed))
 
 pub returns-clause-spared : goal.returns-clause-spared
 returns-clause-spared g c =
-    spared (rules_of c.args.options.now) (set_view c.args.program.now.set.now) c.args.entry.number (option_map (λ d. value_of d.now) c.args.data)
+    spared (rules_of c.args.options.now) (set_view c.args.program.now.set.value) c.args.entry.number (option_map (λ d. value_of d.now) c.args.data)
     (sunk (g.S.Sink.so_far c.args.out.now) (g.S.Sink.so_far c.close.new.sink)) c.close.result c.requires.entry (returns-clause-runs g c)

@@ -1,6 +1,6 @@
 use Rattle.tmpl_values.proofs.PutLemmas.{IsPut-stop}
 use Rattle.tmpl_run.proofs.OutputLemmas.{grows-on, grows-put}
-use Rattle.tmpl_run.proofs.piece.LentPiece.put_behind.Goals as goal
+use Rattle.tmpl_run.proofs.piece.LentPiece.put_after.Goals as goal
 
 pub returns-in_err-flush-clause-given : goal.returns-in_err-flush-clause-given
 returns-in_err-flush-clause-given g c = IsPut-stop c.args.bytes.now c.from_residual.ensures.0 c.in_err-flush.ensures.given
