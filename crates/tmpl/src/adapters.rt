@@ -1,5 +1,5 @@
 //! The file system and standard input as a source, of which nothing is told but its failures, and random numbers.
-ghost use Rattle.std.specs.Prelude.{◌≡◌, None};
+ghost use Rattle.std.specs.Prelude.{◌≡◌, IfOk, IfSome, None, take};
 ghost use Rattle.tmpl.specs.Adapter.{answered, source_fault};
 
 use std::alloc::Global;
@@ -35,7 +35,7 @@ impl<'a, R: Files + Input + AllocGlobal> Source for FileSource<'a, R> {
     ghost failures = { λ s. s.failures };
 
     fn read(&mut self, alloc: Global, name: &str) -> Result<Vec<u8>, SourceFault> {
-        let read = answered(read_front(alloc, self.rt, name, u64::MAX));
+        let read = answered(read_named(alloc, self.rt, name, u64::MAX));
         if let Err(SourceFault::Failed) = read {
             self.failures += 1;
         }
@@ -43,7 +43,7 @@ impl<'a, R: Files + Input + AllocGlobal> Source for FileSource<'a, R> {
     }
 
     fn read_up_to(&mut self, alloc: Global, name: &str, most: u64) -> Result<Vec<u8>, SourceFault> {
-        let read = answered(read_front(alloc, self.rt, name, most.saturating_add(1)));
+        let read = answered(read_named(alloc, self.rt, name, most.saturating_add(1)));
         if let Err(SourceFault::Failed) = read {
             self.failures += 1;
         }
@@ -52,18 +52,25 @@ impl<'a, R: Files + Input + AllocGlobal> Source for FileSource<'a, R> {
 }
 
 /// The first bytes of a file, as many as are asked for if it has them.
-fn read_front<R: Files + Input>(
+fn read_named<R: Files + Input>(
     alloc: Global,
     rt: &R,
     name: &str,
     count: u64,
 ) -> io::Result<Vec<u8>> {
-    let mut bytes = Vec::new(alloc);
     if name == STANDARD_INPUT {
-        rt.reader().take(count).read_to_end(&mut bytes)?;
+        read_front(alloc, rt.reader(), count)
     } else {
-        File::open(rt, name)?.take(count).read_to_end(&mut bytes)?;
+        read_front(alloc, File::open(rt, name)?, count)
     }
+}
+
+/// The first bytes that a reader has left, as many as are asked for if it has them.
+fn read_front<R: Read + Drop>(alloc: Global, reader: R, count: u64) -> io::Result<Vec<u8>>
+    ensures front { IfOk result (λ bytes. IfSome (R.remaining reader) (λ xs. bytes.items ≡ take count xs)) }
+{
+    let mut bytes = Vec::new(alloc);
+    reader.take(count).read_to_end(&mut bytes)?;
     Ok(bytes)
 }
 

@@ -1,7 +1,7 @@
 -- For the functions of `DataHandle` and `SetHandle`: both are handles.
 use Rattle.std.proofs.Common.{refl}
 use Rattle.tmpl_values.specs.contracts.data.Data as the_data
-use Rattle.tmpl_syntax.specs.contracts.set.Set as the_set
+use Rattle.tmpl_engine.specs.contracts.engine.Engine as the_engine
 use Rattle.tmpl_c.specs.contracts.data_handle.DataHandle as data_handle
 use Rattle.tmpl_c.specs.contracts.set_handle.SetHandle as set_handle
 use Rattle.tmpl_c.proofs.HandleLemmas.{Handle}
@@ -23,7 +23,7 @@ data_form = record {
 abbrev pub set_form : Handle
 set_form = record {
   name = set_handle.struct.name;
-  value = the_set.the_row;
+  value = the_engine.the_row;
   D = set_handle.struct.D;
   at = λ d. d.at;
   held = λ d. d.held;

@@ -26,10 +26,10 @@ each_part parse set (f ∷ before) rest =
     (λ s. each_part parse s before rest)
 
 pub refuses_name : RefusesName
-refuses_name parse rules print name input before f behind set loads is = rw (each_part parse [] before (f ∷ behind), loads, is) refl
+refuses_name parse rules print name input before f after set loads is = rw (each_part parse [] before (f ∷ after), loads, is) refl
 
 pub stops_at_file : StopsAtFile
-stops_at_file parse rules print name input before f behind set loads is r refuses = rw (each_part parse [] before (f ∷ behind), loads, is, refuses) refl
+stops_at_file parse rules print name input before f after set loads is r refuses = rw (each_part parse [] before (f ∷ after), loads, is, refuses) refl
 
 pub prints : Prints
 prints parse rules files name input set loads = rw loads refl
@@ -69,8 +69,8 @@ answers_as_command parse words files w asked lent lends called input holds =
 pub answers_but_for_name : AnswersButForName
 answers_but_for_name one other parse rules print files name input = go input (each_added parse [] files) print
   where
-    behind : Bytes → Bytes → Result (List Template) Stop → Bool → Answer
-    behind called input r p = answer_of (and_then r (λ set.
+    after : Bytes → Bytes → Result (List Template) Stop → Bool → Answer
+    after called input r p = answer_of (and_then r (λ set.
         and_then (stop_if p (tool.printed set)) (λ u. and_then (data_lent called input) (λ v. named_run rules name set v))))
 
     Same : Answer → Answer → Type 0
@@ -82,7 +82,7 @@ answers_but_for_name one other parse rules print files name input = go input (ea
     with_flaw set (Ok v) = (refl, refl, inl refl)
     with_flaw set (Err flaw) = (refl, refl, inr (flaw, refl, refl))
 
-    go : (input : Bytes) (r : Result (List Template) Stop) (p : Bool) → Same (behind one input r p) (behind other input r p)
+    go : (input : Bytes) (r : Result (List Template) Stop) (p : Bool) → Same (after one input r p) (after other input r p)
     go input (Err s) p = (refl, refl, inl refl)
     go input (Ok set) true = (refl, refl, inl refl)
     go [] (Ok set) false = (refl, refl, inl refl)
@@ -93,7 +93,7 @@ answers_but_for_name one other parse rules print files name input = go input (ea
 pub renders_as_kept : RendersAsKept
 renders_as_kept parse rules print files name input set loads value found = rw (loads, found) refl
 
--- a stage behind which nothing comes
+-- a stage after which nothing comes
 or_no_more : (r : Result (List Template) Stop) → and_then r (λ s. Ok s) ≡ r
 or_no_more (Ok s) = refl
 or_no_more (Err stop) = refl

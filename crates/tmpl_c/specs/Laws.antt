@@ -20,21 +20,21 @@ use Rattle.tmpl_c.specs.declared.settings.Settings.{Settings}
 
 -- ---- the stages
 
--- the first file whose name is no text, behind files that are accepted, is the end, with status 2, whatever follows it
+-- the first file whose name is no text, after files that are accepted, is the end, with status 2, whatever follows it
 abbrev pub RefusesName : Type 0
 RefusesName = (parse : Parse) (rules : Rules) (print : Bool) (name input : Bytes)
-    → (before : List (Bytes × Bytes)) (f : Bytes × Bytes) (behind : List (Bytes × Bytes))
+    → (before : List (Bytes × Bytes)) (f : Bytes × Bytes) (after : List (Bytes × Bytes))
     → (set : List Template) → each_added parse [] before ≡ Ok set
     → is_utf8 f.0 ≡ false
-    → render_answer parse rules print (before ++ f ∷ behind) name input ≡ stop_answer bad_words
+    → render_answer parse rules print (before ++ f ∷ after) name input ≡ stop_answer bad_words
 
 -- .. and so is the first file that is refused, with status 4
 abbrev pub StopsAtFile : Type 0
 StopsAtFile = (parse : Parse) (rules : Rules) (print : Bool) (name input : Bytes)
-    → (before : List (Bytes × Bytes)) (f : Bytes × Bytes) (behind : List (Bytes × Bytes))
+    → (before : List (Bytes × Bytes)) (f : Bytes × Bytes) (after : List (Bytes × Bytes))
     → (set : List Template) → each_added parse [] before ≡ Ok set
     → is_utf8 f.0 ≡ true → (r : Refusal) → parse set f.0 f.1 ≡ Err r
-    → render_answer parse rules print (before ++ f ∷ behind) name input ≡ stop_answer (refused f.0 r)
+    → render_answer parse rules print (before ++ f ∷ after) name input ≡ stop_answer (refused f.0 r)
 
 -- where every file is accepted, a set that is to be printed is put out, with status 0, whatever name and data are
 abbrev pub Prints : Type 0
@@ -109,7 +109,7 @@ RendersAsKept = (parse : Parse) (rules : Rules) (print : Bool) (files : List (By
     → (value : Option Value) → data_lent (codes "data") input ≡ Ok value
     → render_answer parse rules print files name input ≡ held_answer rules print set name value
 
--- behind files that are accepted, one more comes to what it comes to when it is added to the set that they make
+-- after files that are accepted, one more comes to what it comes to when it is added to the set that they make
 abbrev pub AddsInTurn : Type 0
 AddsInTurn = (parse : Parse) (before : List (Bytes × Bytes)) (f : Bytes × Bytes)
     → (set : List Template) → each_added parse [] before ≡ Ok set

@@ -15,7 +15,7 @@ use tmpl_values::Data;
 
 /// Data that the caller keeps: none where it is all zeros.
 ///
-/// C keeps it as one pointer. What is behind the pointer is the library's.
+/// C keeps it as one pointer. What it points to is the library's.
 #[repr(C)]
 pub struct DataHandle {
     at: *mut u8,

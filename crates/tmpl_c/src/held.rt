@@ -9,7 +9,7 @@ use crate::render::{Filled, fill_held};
 use crate::set_handle::SetHandle;
 use crate::settings::Settings;
 use std::alloc::Global;
-use tmpl_syntax::Set;
+use tmpl_engine::Engine;
 use tmpl_values::Data;
 
 /// Renders a set that is kept, or one of no templates, with this data.
@@ -28,9 +28,17 @@ fn render_with(
     ensures set { set.new.held ≡ set.old.held }
 {
     match set.take(alloc) {
-        None => fill_held(alloc, settings, &Set::new(alloc), name, data, out, err),
-        Some(kept) => {
-            let told = fill_held(alloc, settings, &kept, name, data, out, err);
+        None => fill_held(
+            alloc,
+            settings,
+            &mut Engine::new(alloc),
+            name,
+            data,
+            out,
+            err,
+        ),
+        Some(mut kept) => {
+            let told = fill_held(alloc, settings, &mut kept, name, data, out, err);
             set.put(alloc, kept);
             told
         }

@@ -1,8 +1,8 @@
 //! What is offered is kept, or said why not.
 ghost use Rattle.std.specs.Prelude.{◌≡◌, [], codes, length, option_map};
 ghost use Rattle.tmpl_values.specs.View.{value_of};
-ghost use Rattle.tmpl_syntax.specs.View.{set_view};
 ghost use Rattle.tmpl_syntax.specs.computed.Parse.{parsed};
+ghost use Rattle.tmpl_engine.specs.View.{templates_of};
 ghost use Rattle.tmpl_tool.specs.Inputs.{said_of};
 ghost use Rattle.tmpl_tool.specs.Outcome.{memory_line};
 ghost use Rattle.tmpl_c.specs.Filled.{Fills};
@@ -18,7 +18,7 @@ use crate::load::{Halt, add_file, read_data, tell};
 use crate::render::{Extent, copy_to, say_refused};
 use crate::set_handle::SetHandle;
 use std::alloc::Global;
-use tmpl_syntax::Set;
+use tmpl_engine::Engine;
 
 /// What is said of an offer.
 #[derive(Clone, Copy, Debug)]
@@ -68,11 +68,11 @@ fn say(alloc: Global, why: &Halt<'_>, err: &mut [u8]) -> Said
 }
 
 /// Adds the templates of a file to a set, or says why not.
-fn add_to(alloc: Global, set: &mut Set, file: &File<'_>, err: &mut [u8]) -> Said
-    ensures { Keeps (with_lent parsed (set_view set.old) (pair_of file.now)) (set_view set.old) (set_view set.new)
+fn add_to(alloc: Global, engine: &mut Engine, file: &File<'_>, err: &mut [u8]) -> Said
+    ensures { Keeps (with_lent parsed (templates_of engine.old) (pair_of file.now)) (templates_of engine.old) (templates_of engine.new)
         (length err.old) (extent_seen err.new result.line) result.status }
 {
-    match add_file(alloc, set, file) {
+    match add_file(alloc, engine, file) {
         Ok(()) => say_kept(err),
         Err(why) => say(alloc, &why, err),
     }
@@ -84,15 +84,15 @@ pub(crate) fn add(alloc: Global, kept: &mut SetHandle, file: &File<'_>, err: &mu
         (templates_in kept.old.held) (templates_in kept.new.held)
         (length err.old) (extent_seen err.new result.line) result.status }
 {
-    let mut set = match kept.take(alloc) {
-        Some(set) => set,
-        None => match Box::new(alloc, Set::new(alloc)) {
-            Ok(set) => set,
+    let mut engine = match kept.take(alloc) {
+        Some(engine) => engine,
+        None => match Box::new(alloc, Engine::new(alloc)) {
+            Ok(engine) => engine,
             Err(_) => return say_no_memory(err),
         },
     };
-    let said = add_to(alloc, &mut set, file, err);
-    kept.put(alloc, set);
+    let said = add_to(alloc, &mut engine, file, err);
+    kept.put(alloc, engine);
     said
 }
 

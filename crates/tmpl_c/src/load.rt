@@ -1,9 +1,9 @@
 //! The files added and the data read, or why they are not.
 ghost use Rattle.std.specs.Prelude.{◌≡◌, ◌<◌, ◌^◌, ◌-◌, IfErr, codes, option_map};
 ghost use Rattle.tmpl_values.specs.View.{value_of};
-ghost use Rattle.tmpl_syntax.specs.View.{set_view};
 ghost use Rattle.tmpl_syntax.specs.computed.Parse.{parsed};
 ghost use Rattle.tmpl_meaning.specs.Sink.{sunk};
+ghost use Rattle.tmpl_engine.specs.View.{templates_of};
 ghost use Rattle.tmpl_tool.specs.Inputs.{said_of};
 ghost use Rattle.tmpl_tool.specs.Outcome.{Says};
 ghost use Rattle.tmpl_c.specs.Lent.{data_lent, each_added, pair_of, pairs_of, with_lent};
@@ -14,7 +14,7 @@ use crate::gathered::Gathered;
 use crate::lent::File;
 use std::alloc::Global;
 use std::str;
-use tmpl_syntax::{Set, parse_file};
+use tmpl_engine::Engine;
 use tmpl_tool::{Stop, refuse, words_refused};
 use tmpl_values::{Data, DataFault};
 
@@ -31,15 +31,19 @@ pub(crate) enum Halt<'a> {
 }
 
 /// Adds the templates of a file to the set.
-pub(crate) fn add_file<'a>(alloc: Global, set: &mut Set, file: &'a File<'a>) -> Result<(), Halt<'a>>
-    ensures comes { ComesTo (λ u. set_view set.new) (with_lent parsed (set_view set.old) (pair_of file.entry.now))
+pub(crate) fn add_file<'a>(
+    alloc: Global,
+    engine: &mut Engine,
+    file: &'a File<'a>,
+) -> Result<(), Halt<'a>>
+    ensures comes { ComesTo (λ u. templates_of engine.new) (with_lent parsed (templates_of engine.old) (pair_of file.entry.now))
         result }
-    ensures kept { IfErr result (λ h. set_view set.new ≡ set_view set.old) }
+    ensures kept { IfErr result (λ h. templates_of engine.new ≡ templates_of engine.old) }
 {
     let Ok(name) = str::from_utf8(file.name) else {
         return Err(Halt::NotText);
     };
-    match parse_file(alloc, set, name, file.bytes) {
+    match engine.add(alloc, name, file.bytes) {
         Ok(()) => Ok(()),
         Err(fault) => Err(Halt::Stop(Stop::Template(fault))),
     }
@@ -48,13 +52,13 @@ pub(crate) fn add_file<'a>(alloc: Global, set: &mut Set, file: &'a File<'a>) -> 
 /// Adds the templates of the files to the set, one file after the other.
 pub(crate) fn add_files<'a>(
     alloc: Global,
-    set: &mut Set,
+    engine: &mut Engine,
     files: &'a [File<'a>],
 ) -> Result<(), Halt<'a>>
-    ensures { ComesTo (λ u. set_view set.new) (each_added parsed (set_view set.old) (pairs_of files.entry.now)) result }
+    ensures { ComesTo (λ u. templates_of engine.new) (each_added parsed (templates_of engine.old) (pairs_of files.entry.now)) result }
 {
     for file in files {
-        add_file(alloc, set, file)?;
+        add_file(alloc, engine, file)?;
     }
     Ok(())
 }

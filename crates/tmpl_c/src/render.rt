@@ -1,10 +1,12 @@
 //! A render into lent memory.
-ghost use Rattle.std.specs.Prelude.{◌≡◌, ◌≢◌, ◌<◌, ◌^◌, ◌-◌, eqb, false, length, option_map};
+ghost use Rattle.std.specs.Prelude.{◌≡◌, ◌≢◌, ◌<◌, ◌^◌, ◌-◌, List, eqb, false, length, option_map};
 ghost use Rattle.tmpl_values.specs.View.{value_of};
-ghost use Rattle.tmpl_syntax.specs.View.{set_view};
+ghost use Rattle.tmpl_syntax.specs.Set.{Template};
 ghost use Rattle.tmpl_meaning.specs.Sink.{sunk};
+ghost use Rattle.tmpl_engine.specs.Prepared.{IsPrepared};
+ghost use Rattle.tmpl_engine.specs.View.{templates_of};
 ghost use Rattle.tmpl_tool.specs.Outcome.{Answer, Outcome, memory_line, write_line};
-ghost use Rattle.tmpl_tool.specs.Tool.{IsParse, Parse};
+ghost use Rattle.tmpl_tool.specs.Tool.{IsParse, Parse, answer_of, named_run};
 ghost use Rattle.tmpl_c.specs.Filled.{Fills};
 ghost use Rattle.tmpl_c.specs.Lent.{pairs_of, render_answer, rules_in};
 ghost use Rattle.tmpl_c.specs.computed.Extents.{IsFilled, answer_by, extent_seen};
@@ -15,8 +17,8 @@ use crate::lent::File;
 use crate::load::{add_files, read_data, tell};
 use crate::settings::{Settings, options_in};
 use std::alloc::Global;
-use tmpl_syntax::Set;
-use tmpl_tool::{print, render_named};
+use tmpl_engine::{Engine, RenderError, Renderer};
+use tmpl_tool::{print, render_prepared};
 use tmpl_values::Data;
 
 /// How many bytes of the text wait until they are gathered together.
@@ -59,30 +61,44 @@ fn render_to(
         (render_answer parse (rules_in settings.now) (eqb settings.now.print 1) (pairs_of files.now) name.now input.now)
         (sunk (told_of out.old) (told_of out.new)) (sunk (told_of err.old) (told_of err.new)) result }
 {
-    let mut set = Set::new(alloc);
-    match add_files(alloc, &mut set, files) {
+    let mut engine = Engine::new(alloc);
+    match add_files(alloc, &mut engine, files) {
         Ok(()) => {}
         Err(why) => return tell(err, &why),
     }
     if settings.print == 1 {
-        return print(alloc, &set, out, err).code;
+        return print(alloc, engine.templates(), out, err).code;
     }
     let data = match read_data(alloc, input) {
         Ok(data) => data,
         Err(why) => return tell(err, &why),
     };
+    let prepared = engine.renderer_for(alloc, name);
+    // a run needs no trees
+    drop(engine);
+    run_prepared(alloc, settings, prepared, name, data.as_ref(), out, err)
+}
+
+/// Runs the template of this name with what its render was prepared with.
+fn run_prepared(
+    alloc: Global,
+    settings: &Settings,
+    prepared: Result<Renderer, RenderError<'_>>,
+    name: &[u8],
+    data: Option<&Data>,
+    out: &mut Gathered,
+    err: &mut Gathered,
+) -> u8
+    requires out { out.old.failures < 2 ^ 64 - 1 }
+    requires err { err.old.failures < 2 ^ 64 - 1 }
+    ensures { (ts : List Template) → IsPrepared ts name.now prepared.entry → Outcome
+        (answer_of (named_run (rules_in settings.now) name.now ts (option_map (λ d. value_of d.now) «data».entry)))
+        (sunk (told_of out.old) (told_of out.new)) (sunk (told_of err.old) (told_of err.new)) result }
+{
+    let options = options_in(settings);
     let mut piece = [0; PIECE_SIZE];
-    render_named(
-        alloc,
-        &options_in(settings),
-        &set,
-        name,
-        data.as_ref(),
-        piece.as_mut_slice(),
-        out,
-        err,
-    )
-    .code
+    let piece = piece.as_mut_slice();
+    render_prepared(alloc, &options, prepared, name, data, piece, out, err).code
 }
 
 /// Nothing yet.
@@ -180,7 +196,7 @@ pub(crate) fn fill(
 fn render_held(
     alloc: Global,
     settings: &Settings,
-    set: &Set,
+    engine: &mut Engine,
     name: &[u8],
     data: Option<&Data>,
     out: &mut Gathered,
@@ -189,34 +205,34 @@ fn render_held(
     requires out { out.old.failures < 2 ^ 64 - 1 }
     requires err { err.old.failures < 2 ^ 64 - 1 }
     ensures outcome { Outcome
-        (answer_by settings.now (set_view set.now) name.now (option_map (λ d. value_of d.now) «data».entry))
+        (answer_by settings.now (templates_of engine.old) name.now (option_map (λ d. value_of d.now) «data».entry))
         (sunk (told_of out.old) (told_of out.new)) (sunk (told_of err.old) (told_of err.new)) result }
+    ensures same { engine.new ≡ engine.old }
 {
     if settings.print == 1 {
-        return print(alloc, set, out, err).code;
+        return print(alloc, engine.templates(), out, err).code;
     }
-    let options = options_in(settings);
-    let mut piece = [0; PIECE_SIZE];
-    let piece = piece.as_mut_slice();
-    render_named(alloc, &options, set, name, data, piece, out, err).code
+    let prepared = engine.renderer_for(alloc, name);
+    run_prepared(alloc, settings, prepared, name, data, out, err)
 }
 
 /// Renders what is kept into lent memory, and says why the text is not all there.
 pub(crate) fn fill_held(
     alloc: Global,
     settings: &Settings,
-    set: &Set,
+    engine: &mut Engine,
     name: &[u8],
     data: Option<&Data>,
     out: &mut [u8],
     err: &mut [u8],
 ) -> Filled
-    ensures { IsFilled
-        (answer_by settings.now (set_view set.now) name.now (option_map (λ d. value_of d.now) «data».entry))
+    ensures outcome { IsFilled
+        (answer_by settings.now (templates_of engine.old) name.now (option_map (λ d. value_of d.now) «data».entry))
         out.old out.new err.old err.new result }
+    ensures same { engine.new ≡ engine.old }
 {
     let mut text = gathered(alloc);
     let mut line = gathered(alloc);
-    let code = render_held(alloc, settings, set, name, data, &mut text, &mut line);
+    let code = render_held(alloc, settings, engine, name, data, &mut text, &mut line);
     hand_over(code, &text, &line, out, err)
 }

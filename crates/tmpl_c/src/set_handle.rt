@@ -3,27 +3,27 @@ ghost use Rattle.std.specs.Prelude.{◌≡◌, option_map};
 ghost use Rattle.std.specs.Coded.{coded_option};
 ghost use Rattle.std.specs.declared.option.Option.{Option};
 ghost use Rattle.std.specs.declared.option.Option.TheVariants.{None, Some};
-ghost use Rattle.tmpl_syntax.specs.declared.set.Set.{Set};
-ghost use Rattle.tmpl_syntax.specs.contracts.set.Set.{the_row};
+ghost use Rattle.tmpl_engine.specs.declared.engine.Engine.{Engine};
+ghost use Rattle.tmpl_engine.specs.contracts.engine.Engine.{the_row};
 
 use crate::loose::{Loose, boxed};
 use std::alloc::Global;
 use std::marker::Model;
 use std::mem;
 use std::ptr::null_mut;
-use tmpl_syntax::Set;
+use tmpl_engine::Engine;
 
 /// A set of templates that the caller keeps: none where it is all zeros.
 ///
-/// C keeps it as one pointer. What is behind the pointer is the library's.
+/// C keeps it as one pointer. What it points to is the library's.
 #[repr(C)]
 pub struct SetHandle {
     at: *mut u8,
-    pub ghost held: { Option Set } by { coded_option the_row.coded },
+    pub ghost held: { Option Engine } by { coded_option the_row.coded },
 }
 
 impl Model for SetHandle {
-    ghost use Rattle.tmpl_syntax.specs.contracts.set.Set.{the_row};
+    ghost use Rattle.tmpl_engine.specs.contracts.engine.Engine.{the_row};
     ghost use Rattle.tmpl_c.specs.Handles.{kept};
 
     ghost also_owns = { λ h. kept the_row h.at h.held };
@@ -36,14 +36,14 @@ impl SetHandle {
         SetHandle { at: null_mut() }
     }
 
-    fn of(loose: Loose<Set, Global>) -> SetHandle
+    fn of(loose: Loose<Engine, Global>) -> SetHandle
         ensures { result.held ≡ Some loose.value }
     {
         let Loose { at, alloc: _ } = loose;
         SetHandle { at: at as *mut u8 }
     }
 
-    fn open(self, alloc: Global) -> Option<Loose<Set, Global>>
+    fn open(self, alloc: Global) -> Option<Loose<Engine, Global>>
         ensures { option_map (λ l. l.value) result ≡ self.held }
     {
         let SetHandle { at } = self;
@@ -51,14 +51,14 @@ impl SetHandle {
             None
         } else {
             Some(Loose {
-                at: at as *mut Set,
+                at: at as *mut Engine,
                 alloc,
             })
         }
     }
 
     /// Takes out what is kept.
-    pub(crate) fn take(&mut self, alloc: Global) -> Option<Box<Set>>
+    pub(crate) fn take(&mut self, alloc: Global) -> Option<Box<Engine>>
         ensures taken { option_map (λ b. b.value) result ≡ self.old.held }
         ensures left { self.new.held ≡ None }
     {
@@ -66,7 +66,7 @@ impl SetHandle {
     }
 
     /// Keeps this, and frees what was kept.
-    pub(crate) fn put(&mut self, alloc: Global, value: Box<Set>)
+    pub(crate) fn put(&mut self, alloc: Global, value: Box<Engine>)
         ensures { self.new.held ≡ Some value.value }
     {
         drop(boxed(mem::replace(self, SetHandle::of(Loose::of(value))).open(alloc)));

@@ -1,5 +1,5 @@
 -- For `render` and what it calls: the template that a number names in a set is the one that its name names, and its run.
-use Rattle.std.proofs.Common.{◌≡◌, ◌∙◌, ℕ, List, Option, Some, None, Result, Ok, Err, IfSome, ap, refl, subst, sym, inl}
+use Rattle.std.proofs.Common.{◌≡◌, ◌∙◌, ℕ, List, Option, Some, None, Result, Ok, Err, IfSome, ap, refl, subst, sym, inl, inr}
 use Rattle.std.specs.Prelude.{slice_get}
 use Rattle.std.specs.Option.{option_map}
 use Rattle.std.specs.Result.{result_map_both}
@@ -18,9 +18,9 @@ use Rattle.tmpl_run.specs.declared.fault.RunError.{RunError}
 use Rattle.tmpl_run.specs.declared.fault.RunError.TheVariants as run
 use Rattle.tmpl_engine.specs.Error.{error_of}
 use Rattle.tmpl_engine.specs.Laws.{LeavesSink}
-use Rattle.tmpl_engine.specs.Render.{IsRender, IsRunOf, Renders, ran_named}
+use Rattle.tmpl_engine.specs.Render.{EndsBefore, IsRender, IsRunOf, Renders, ran_named}
 use Rattle.tmpl_engine.specs.declared.error.RenderError.{RenderError}
-use Rattle.tmpl_engine.specs.declared.error.RenderError.TheVariants.{NoTemplate}
+use Rattle.tmpl_engine.specs.declared.error.RenderError.TheVariants.{NoTemplate, OutOfMemory}
 
 -- the answer of a run as that of its render
 abbrev pub as_render : Result (Unit {0}) RunError → Result (Unit {0}) RenderError
@@ -64,6 +64,21 @@ pub unnamed_by : (options : Options) (ts : List Template) (name : List ℕ) (giv
     → None ≡ number_of name ts → Renders options ts name given t t (Err NoTemplate)
 unnamed_by options ts name given t =
     unnamed_render (rules_of options) ts name (option_map (λ d. value_of d.now) given) t
+
+-- .. and so a render ends that has no template, or no memory for one that is there
+pub ends_unnamed : (ts : List Template) (name : List ℕ) → None ≡ number_of name ts → EndsBefore ts name NoTemplate
+ends_unnamed ts name none options given t = unnamed_by options ts name given t none
+
+pub ends_refused : (ts : List Template) (name : List ℕ) (k : ℕ) → Some k ≡ number_of name ts → EndsBefore ts name OutOfMemory
+ends_refused ts name k is options given t =
+    named_render (rules_of options) ts name input k (sunk t t) (Err OutOfMemory) is (any (slice_get ts k))
+  where
+    input : Option Value
+    input = option_map (λ d. value_of d.now) given
+
+    any : (o : Option Template) → IfSome o (λ t'. IsRunOf (ran (rules_of options) ts t'.0 t'.1 input) (sunk t t) (Err OutOfMemory))
+    any None = tt
+    any (Some u) = inr (refl, refl)
 
 -- ---- the law
 

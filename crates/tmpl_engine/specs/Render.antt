@@ -36,3 +36,8 @@ abbrev pub Renders : Options → List Template → List ℕ → Option (Bor Data
     → Result (Unit {0}) RenderError → Type 0
 Renders options ts name given before after answer =
     IsRender (ran_named (rules_of options) ts name (option_map (λ d. value_of d.now) given)) (sunk before after) answer
+
+-- a render of the template of this name ends with this error before anything is put out, whatever the options and data
+abbrev pub EndsBefore : List Template → List ℕ → RenderError → Type 0
+EndsBefore ts name e =
+    (options : Options) (given : Option (Bor Data)) (t : Told) → Renders options ts name given t t (Err e)

@@ -1,5 +1,5 @@
 -- What a write means.
-use Rattle.std.specs.Prelude.{ℕ, zero, suc, Result, Ok, Err}
+use Rattle.std.specs.Prelude.{ℕ, zero, suc, Result, Ok, Err, Bool, true, false, List, Option, None}
 use Rattle.std.specs.declared.io.Error.{Error}
 use Rattle.tmpl_meaning.specs.declared.sink.SinkFault.{SinkFault}
 
@@ -8,3 +8,8 @@ abbrev pub taken : Result ℕ Error → Result ℕ SinkFault
 taken (Ok zero) = Err (record {})
 taken (Ok (suc n)) = Ok (suc n)
 taken (Err e) = Err (record {})
+
+-- the bytes that a writer holds, where its sink tells them
+abbrev pub known_if : Bool → Option (List ℕ) → Option (List ℕ)
+known_if true contents = contents
+known_if false contents = None

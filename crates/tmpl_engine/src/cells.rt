@@ -4,7 +4,7 @@ ghost use Rattle.std.specs.Prelude.{◌≡◌, IfOk, length};
 use std::alloc::{AllocError, Global};
 use tmpl_values::{Cell, Val};
 
-/// So many cells that hold nothing.
+/// This many cells that hold nothing.
 pub(crate) fn empty_cells<'a>(alloc: Global, count: u64) -> Result<Vec<Cell<'a>>, AllocError>
     ensures { IfOk result (λ cells. length cells.items ≡ count) }
 {

@@ -1,23 +1,42 @@
 //! An engine: templates that a host adds once and renders as often as it likes.
-ghost use Rattle.std.specs.Prelude.{◌≡◌, ◌<◌, ◌^◌, ◌-◌, []};
+ghost use Rattle.std.specs.Prelude.{◌≡◌, [], IfOk};
 ghost use Rattle.tmpl_syntax.specs.Set.{first_hasher, known_hasher};
 ghost use Rattle.tmpl_syntax.specs.View.{set_view};
 ghost use Rattle.tmpl_syntax.specs.Parse.{IsReading};
-ghost use Rattle.tmpl_engine.specs.Render.{Renders};
-ghost use Rattle.tmpl_engine.specs.View.{hash_of, templates_of};
+ghost use Rattle.tmpl_syntax.specs.computed.Parse.{IsParse};
+ghost use Rattle.tmpl_engine.specs.Prepared.{IsPrepared};
+ghost use Rattle.tmpl_engine.specs.View.{hash_of, templates_in, templates_of};
 
 use crate::error::RenderError;
-use crate::rendering::render;
-use std::alloc::Global;
-use tmpl_run::{Options, Sink};
+use crate::rendering::Renderer;
+use std::alloc::{AllocError, Global};
+use std::marker::Model;
 use tmpl_syntax::{NameHash, ParseFault, Set, parse_file, parse_owned};
-use tmpl_values::Data;
 
 /// Templates that a host adds once and renders as often as it likes. It owns them, and gives back their memory when it
 /// is dropped.
 #[derive(Drop)]
 pub struct Engine {
     set: Set,
+    /// That of the templates, where one was made since a file was added.
+    renderer: Option<Renderer>,
+}
+
+impl Model for Engine {
+    ghost use Rattle.tmpl_syntax.specs.declared.set.Set.{Set};
+
+    ghost Value = { Set };
+
+    ghost use Rattle.std.specs.Coded.{codes};
+    ghost use Rattle.tmpl_syntax.specs.contracts.set.Set as held;
+
+    ghost coded = { Prim.hlevel (codes, held.the_row.coded) };
+
+    ghost use Rattle.tmpl_engine.specs.Engine.{IsCurrent};
+
+    ghost view = { λ e. e.set };
+
+    ghost invariant = { IsCurrent };
 }
 
 impl Engine {
@@ -28,6 +47,7 @@ impl Engine {
     {
         Engine {
             set: Set::new(alloc),
+            renderer: None,
         }
     }
 
@@ -39,6 +59,7 @@ impl Engine {
     {
         Engine {
             set: Set::with_hash(alloc, names),
+            renderer: None,
         }
     }
 
@@ -56,8 +77,10 @@ impl Engine {
         bytes: &[u8],
     ) -> Result<(), ParseFault<'f>>
         ensures reading { IsReading (templates_of self.old) file.entry bytes.now (templates_of self.new) result }
+        ensures value { IsParse (templates_of self.old) file.entry bytes.now (templates_of self.new) result }
         ensures hash { hash_of self.new ≡ hash_of self.old }
     {
+        self.renderer = None;
         parse_file(alloc, &mut self.set, file, bytes)
     }
 
@@ -73,8 +96,10 @@ impl Engine {
         bytes: Vec<u8>,
     ) -> Result<(), ParseFault<'f>>
         ensures reading { IsReading (templates_of self.old) file.entry bytes.items (templates_of self.new) result }
+        ensures value { IsParse (templates_of self.old) file.entry bytes.items (templates_of self.new) result }
         ensures hash { hash_of self.new ≡ hash_of self.old }
     {
+        self.renderer = None;
         parse_owned(alloc, &mut self.set, file, bytes)
     }
 
@@ -85,24 +110,39 @@ impl Engine {
         &self.set
     }
 
-    /// Renders the template of this name with data, if there are any, by these options, and puts its text out. It
-    /// compiles the templates first; who renders them often does that once, by a [`Renderer`] of `templates`.
+    /// What renders its templates. They are compiled once, and again after a file was added. An error is want of memory.
+    pub fn renderer(&mut self, alloc: Global) -> Result<Renderer, AllocError>
+        ensures value { IfOk result (λ r. templates_in r ≡ templates_of self.old) }
+        ensures same { self.new ≡ self.old }
+    {
+        if let Some(renderer) = &self.renderer {
+            return renderer.share();
+        }
+        let renderer = Renderer::new(alloc, &self.set)?;
+        let shared = renderer.share()?;
+        self.renderer = Some(renderer);
+        Ok(shared)
+    }
+
+    /// What renders the template of this name, as [`Engine::renderer`] gives it, where there is one.
     ///
     /// # Errors
     ///
-    /// Those of [`Renderer::render`].
-    pub fn render<'a, S: Sink>(
-        &'a self,
+    /// Those of [`Renderer::for_template`].
+    pub fn renderer_for(
+        &mut self,
         alloc: Global,
         name: &[u8],
-        data: Option<&'a Data>,
-        options: &Options,
-        out: &mut S,
-    ) -> Result<(), RenderError<'a>>
-        requires { (S.so_far out.old).failures < 2 ^ 64 - 1 }
-        ensures { Renders options.now (templates_of self.now) name.now «data».entry
-            (S.so_far out.old) (S.so_far out.new) result }
+    ) -> Result<Renderer, RenderError<'static>>
+        ensures prepared { IsPrepared (templates_of self.old) name.now result }
+        ensures same { self.new ≡ self.old }
     {
-        render(alloc, &self.set, name, data, options, out)
+        match self.set.number(name) {
+            Some(_) => match self.renderer(alloc) {
+                Ok(renderer) => Ok(renderer),
+                Err(_) => Err(RenderError::OutOfMemory),
+            },
+            None => Err(RenderError::NoTemplate),
+        }
     }
 }

@@ -11,7 +11,7 @@ mod writer;
 pub use engine::Engine;
 pub use error::RenderError;
 pub use laws::leaves_sink;
-pub use rendering::{Renderer, render, render_through};
+pub use rendering::Renderer;
 pub use tmpl_run::{MissingKey, Options, RunFault, RunFaultKind, Sink, SinkFault};
 pub use tmpl_syntax::{NameHash, ParseFault, ParseKind, Set};
 pub use tmpl_values::{Data, DataFault};

@@ -1,32 +1,58 @@
 //! A writer, such as standard output, as a sink.
-ghost use Rattle.std.specs.Prelude.{◌≡◌, None};
-ghost use Rattle.tmpl_engine.specs.Writer.{taken};
+ghost use Rattle.std.specs.Prelude.{◌≡◌, true, None};
+ghost use Rattle.std.specs.Io.KnownBytes.{Keeps};
+ghost use Rattle.tmpl_engine.specs.Writer.{known_if, taken};
+ghost use Rattle.std.specs.Option.{is_some};
 
 use std::io::{self, Write};
 use tmpl_run::{Sink, SinkFault};
 
-/// A writer, such as standard output, as a sink. A write of no byte is a failure. What it took is not told, since
-/// nothing says what a writer does with its bytes.
+/// A writer, such as standard output, as a sink. A write of no byte is a failure. What it took is told if the bytes
+/// that the writer holds are known, as those of a `Vec<u8>` are, and the sink was made by `over`.
 #[derive(Drop)]
-pub struct WriterSink<W: Drop> {
-    writer: W,
+pub struct WriterSink<W: Write + Drop> {
+    /// The writer. What it holds is what the sink tells that it took, if it tells that.
+    pub writer: W,
+    /// Whether the sink tells what it took.
+    pub tells: bool,
     /// How many puts failed.
     pub failures: u64,
+    ghost known: { tells ≡ true → is_some (W.contents writer) ≡ true },
 }
 
 impl<W: Write + Drop> WriterSink<W> {
-    /// A sink over the writer, with no failure yet.
+    /// A sink over the writer, with no failure yet, that does not tell what it took.
     pub fn new(writer: W) -> WriterSink<W>
-        ensures { result.failures ≡ 0 }
+        ensures holds { result.writer ≡ writer }
+        ensures unfailed { result.failures ≡ 0 }
     {
         WriterSink {
             writer,
+            tells: false,
+            failures: 0,
+        }
+    }
+
+    /// A sink over a writer whose bytes are known, with no failure yet. It tells these bytes and what it took after them.
+    pub fn over(writer: W) -> WriterSink<W>
+        requires known { is_some (W.contents writer) ≡ true }
+        ensures holds { result.writer ≡ writer }
+        ensures tells { result.tells ≡ true }
+        ensures unfailed { result.failures ≡ 0 }
+    {
+        WriterSink {
+            writer,
+            tells: true,
             failures: 0,
         }
     }
 
     /// Flushes the writer.
-    pub fn flush(&mut self) -> Result<(), SinkFault> {
+    pub fn flush(&mut self) -> Result<(), SinkFault>
+        ensures bytes { Keeps (W.contents self.old.writer) (W.contents self.new.writer) }
+        ensures tells { self.new.tells ≡ self.old.tells }
+        ensures failures { self.new.failures ≡ self.old.failures }
+    {
         match self.writer.flush() {
             Ok(()) => Ok(()),
             Err(_) => Err(SinkFault),
@@ -35,7 +61,7 @@ impl<W: Write + Drop> WriterSink<W> {
 }
 
 impl<W: Write + Drop> Sink for WriterSink<W> {
-    ghost so_far = { λ s. record { bytes = None; failures = s.failures } };
+    ghost so_far = { λ s. record { bytes = known_if s.tells (W.contents s.writer); failures = s.failures } };
 
     fn put(&mut self, bytes: &[u8]) -> Result<usize, SinkFault> {
         let taken = taken(self.writer.write(bytes));

@@ -62,13 +62,13 @@ module _ (Made : List Bytes → Type 0) (files : Files) (set : List Template) (n
   file_comes (Err (stop.Template f)) h = refusal_comes f (reason_of f.kind) h
   file_comes (Err s) h = absurd h
 
--- ---- one FILE behind others
+-- ---- one FILE after others
 
--- no read fails of so many
+-- no read fails of this many
 abbrev pub Succeed : ℕ → Failing → Type 0
 Succeed n fails = (k : ℕ) → k < n → fails k ≡ false
 
--- whatever the files that are left come to, the files come to, and what is read of them is read behind the others
+-- whatever the files that are left come to, the files come to, and what is read of them is read after the others
 abbrev pub ComesTo : (List Bytes → Type 0) → Files → List Template → List Bytes → ℕ → List Template → List Bytes → Type 0
 ComesTo Made files start names i set left = (done : List Bytes) × Made done × ((fails : Failing) → Succeed i fails
     → (loaded parsed files fails 0 start names ≡ loaded parsed files fails i set left)
@@ -139,7 +139,7 @@ all_succeed files fails k set [] succeed = (refl, refl)
 all_succeed files fails k set (n ∷ ns) succeed =
     let here : fails k ≡ false = ap fails (sym (add-zero k)) ∙ succeed 0 (omega arith) in
     let moved : (j : ℕ) → suc k + j ≡ k + suc j = λ j. omega arith in
-    let behind = λ (s : List Template). all_succeed files fails (suc k) s ns (λ j lt. ap fails (moved j) ∙ succeed (suc j) (omega (arith, lt))) in (
-      λ i. and_then (with_file parsed files (here i) set n) (λ s. (behind s).0 i),
-      λ i. n ∷ option_map_or (λ s. (behind s).1 i) (result_ok (with_file parsed files (here i) set n)) [],
+    let beyond = λ (s : List Template). all_succeed files fails (suc k) s ns (λ j lt. ap fails (moved j) ∙ succeed (suc j) (omega (arith, lt))) in (
+      λ i. and_then (with_file parsed files (here i) set n) (λ s. (beyond s).0 i),
+      λ i. n ∷ option_map_or (λ s. (beyond s).1 i) (result_ok (with_file parsed files (here i) set n)) [],
     )

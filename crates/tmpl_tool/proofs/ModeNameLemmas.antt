@@ -90,13 +90,13 @@ module _ (c : List Rule) where
   flag_met_same a (Some v) h = refl
   flag_met_same a None h = λ i. (reacted_same a [] h i, done)
 
-  bundle_step_same : (x : Option ℕ) (flags : Text) (skip : ℕ) (so_far : Outcome) (h : Held) (behind : Text → ℕ → Outcome → Held → Held × Outcome)
-      → bundle_step d x flags skip so_far h behind ≡ bundle_step c x flags skip so_far h behind
-  bundle_step_same (Some x) flags zero so_far h behind =
+  bundle_step_same : (x : Option ℕ) (flags : Text) (skip : ℕ) (so_far : Outcome) (h : Held) (after : Text → ℕ → Outcome → Held → Held × Outcome)
+      → bundle_step d x flags skip so_far h after ≡ bundle_step c x flags skip so_far h after
+  bundle_step_same (Some x) flags zero so_far h after =
       let rest = drop (length (encode_utf8 x)) flags in
-      found (λ a. not (is_some a.index) && has_short a x) (λ o. short_met d o rest h (behind rest 0 done)) (λ o. short_met c o rest h (behind rest 0 done)) refl
-      (λ a i. cond (takes_values a) (option_met_same a (attached_value rest) h i) (behind rest 0 done (reacted_same a [] h i)))
-  bundle_step_same x flags skip so_far h behind = refl
+      found (λ a. not (is_some a.index) && has_short a x) (λ o. short_met d o rest h (after rest 0 done)) (λ o. short_met c o rest h (after rest 0 done)) refl
+      (λ a i. cond (takes_values a) (option_met_same a (attached_value rest) h i) (after rest 0 done (reacted_same a [] h i)))
+  bundle_step_same x flags skip so_far h after = refl
 
   bundle_met_same : (k : ℕ) → bundle_met d k ≡ bundle_met c k
   unfolding bundle_met
@@ -219,15 +219,15 @@ module _ (s : Shape) where
   option_fault_same a (Some v) h = react_fault_same a (v ∷ []) h
   option_fault_same a None h = settle_fault_same h
 
-  bundle_step_fault_same : (x : Option ℕ) (flags : Text) (skip : ℕ) (h : Held) (behind : Text → ℕ → Held → Kinds)
-      → bundle_step_fault (d c) again x flags skip h behind ≡ bundle_step_fault c again x flags skip h behind
-  bundle_step_fault_same (Some x) flags zero h behind =
+  bundle_step_fault_same : (x : Option ℕ) (flags : Text) (skip : ℕ) (h : Held) (after : Text → ℕ → Held → Kinds)
+      → bundle_step_fault (d c) again x flags skip h after ≡ bundle_step_fault c again x flags skip h after
+  bundle_step_fault_same (Some x) flags zero h after =
       let rest = drop (length (encode_utf8 x)) flags in
-      found c (λ a. not (is_some a.index) && has_short a x) (λ o. short_fault (d c) again o rest h (behind rest 0))
-      (λ o. short_fault c again o rest h (behind rest 0)) refl
+      found c (λ a. not (is_some a.index) && has_short a x) (λ o. short_fault (d c) again o rest h (after rest 0))
+      (λ o. short_fault c again o rest h (after rest 0)) refl
       (λ a i. cond (takes_values a) (option_fault_same a (attached_value rest) h i)
-      (or_else (react_fault_same a [] h i) (behind rest 0 (reacted_same c a [] h i))))
-  bundle_step_fault_same x flags skip h behind = refl
+      (or_else (react_fault_same a [] h i) (after rest 0 (reacted_same c a [] h i))))
+  bundle_step_fault_same x flags skip h after = refl
 
   flags_fault_same : (k : ℕ) → flags_fault (d c) again k ≡ flags_fault c again k
   unfolding flags_fault

@@ -18,7 +18,7 @@ gives_help parse words files fails helps = rw helps refl
 pub refuses_words : RefusesWords
 refuses_words parse words files fails helps none = rw (helps, none) refl
 
--- a stage behind two is the same as one behind the second
+-- a stage after two is the same as one after the second
 pub and_then-and_then : (r : Result (List Template) Stop) (f g h : List Template → Result (List Template) Stop) → ((s : List Template) → f s ≡ and_then (g s) h)
     → and_then r f ≡ and_then (and_then r g) h
 and_then-and_then (Ok s) f g h same = same s
@@ -37,9 +37,9 @@ loaded_part parse files fails k set (n ∷ before) rest =
     ∙ ap (λ n. and_then (loaded parse files fails (suc k) s before) (λ t. loaded parse files fails n t rest)) moved)
 
 pub stops_at_file : StopsAtFile
-stops_at_file parse words files fails w asks before name behind is set loads stop refuses =
+stops_at_file parse words files fails w asks before name after is set loads stop refuses =
     let moved : 0 + length before ≡ length before = omega arith in
-    rw (asks, is, loaded_part parse files fails 0 [] before (name ∷ behind), loads, moved, refuses) refl
+    rw (asks, is, loaded_part parse files fails 0 [] before (name ∷ after), loads, moved, refuses) refl
 
 pub stops_at_read : StopsAtRead
 stops_at_read parse files set name = refl

@@ -27,20 +27,20 @@ use Rattle.tmpl_tool.specs.declared.stop.Stop.TheVariants as stop
 use Rattle.tmpl_tool.proofs.LoadLemmas.{all_succeed, asked-append, nat_eq-add, other-above}
 use Rattle.tmpl_tool.proofs.MessageLemmas.{nothing_out, nothing_put}
 
--- the data behind a set
+-- the data after a set
 abbrev with_data : List Template → Result (Option Value) Stop → Result (List Template × Option Value) Stop
 with_data set r = result_map_both (λ input. (set, input)) (λ s. s) r
 
--- what is read for the templates, and behind them
+-- what is read for the templates, and after them
 abbrev template_reads : Files → Wanted → Failing → List Bytes
 template_reads files w fails = file_reads parsed files fails 0 [] w.files
 
-abbrev behind_templates : Wanted → Result (List Template) Stop → List Bytes
-behind_templates w r = option_map_or (λ set. option_to_list (data_wanted w)) (result_ok r) []
+abbrev after_templates : Wanted → Result (List Template) Stop → List Bytes
+after_templates w r = option_map_or (λ set. option_to_list (data_wanted w)) (result_ok r) []
 
 module _ (files : Files) (w : Wanted) where
   module _ (Made : List Bytes → Type 0) where
-    -- where a template file stops the program nothing is read behind it
+    -- where a template file stops the program nothing is read after it
     no_more : (fails : Failing) (s : Stop) → loaded parsed files fails 0 [] w.files ≡ Err s → Made (template_reads files w fails)
         → Made (inputs_reads parsed files w fails)
     no_more fails s h made = rw (h, append-nil (template_reads files w fails)) made
@@ -49,7 +49,7 @@ module _ (files : Files) (w : Wanted) where
     pub load_stops : (s : Option Stop) → StopsAt Made (λ fails. loaded parsed files fails 0 [] w.files) (template_reads files w) s
         → StopsAt Made (inputs_of parsed files w) (inputs_reads parsed files w) s
     load_stops None (front, rest, e, made) =
-        let more = behind_templates w (loaded parsed files no_read 0 [] w.files) in
+        let more = after_templates w (loaded parsed files no_read 0 [] w.files) in
         (front, rest ++ more, sym (append_assoc front rest more) ∙ ap (λ (names : List Bytes). names ++ more) e, made)
     load_stops (Some (tool.unread n)) (k, h, made) = (k, rw h refl, no_more (nat_eq k) (tool.unread n) h made)
     load_stops (Some s) h = (rw h.0 refl, no_more no_read s h.0 h.1)
@@ -63,8 +63,8 @@ module _ (files : Files) (w : Wanted) where
 
     module _ (runs : w.print ≡ false) where
       -- the templates are read, and then what is read for the data
-      behind_files : Asked between after (option_to_list w.data_file) → Asked before after (template_reads files w no_read ++ option_to_list w.data_file)
-      behind_files more = asked-append before between after (template_reads files w no_read) (option_to_list w.data_file) asked more
+      after_files : Asked between after (option_to_list w.data_file) → Asked before after (template_reads files w no_read ++ option_to_list w.data_file)
+      after_files more = asked-append before between after (template_reads files w no_read) (option_to_list w.data_file) asked more
 
       -- the data stops the program
       pub data_stops : (s : Option Stop)
@@ -82,21 +82,21 @@ module _ (files : Files) (w : Wanted) where
           let fails : Failing = nat_eq (k + size) in
           let succeed : (j : ℕ) → j < size → fails (0 + j) ≡ false = λ j lt. other-above (0 + j) k size (subst (λ i. i < size) (sym (zero-add j)) lt) in
           let same = all_succeed files fails 0 [] w.files succeed in
-          (k + size, rw (same.0, loads, runs, nat_eq-add k size, h) refl, rw (same.0, same.1, loads, runs) (behind_files more))
-      data_stops (Some s) h = (rw (loads, runs, h.0) refl, rw (loads, runs) (behind_files h.1))
+          (k + size, rw (same.0, loads, runs, nat_eq-add k size, h) refl, rw (same.0, same.1, loads, runs) (after_files more))
+      data_stops (Some s) h = (rw (loads, runs, h.0) refl, rw (loads, runs) (after_files h.1))
 
       -- nothing stops it
       pub nothing_stops : (input : Option Value) → data_found files false w.data_file ≡ Ok input → Asked between after (option_to_list w.data_file)
           → (inputs_of parsed files w no_read ≡ Ok (set, input)) × Asked before after (inputs_reads parsed files w no_read)
-      nothing_stops input found more = (rw (loads, runs, found) refl, rw (loads, runs) (behind_files more))
+      nothing_stops input found more = (rw (loads, runs, found) refl, rw (loads, runs) (after_files more))
 
 module _ (parse : Parse) (files : Files) (w : Wanted) where
-  -- behind the inputs stands what is done with them
-  behind : (b p : Bool) (set : List Template) (d : Option Bytes)
+  -- after the inputs stands what is done with them
+  beyond : (b p : Bool) (set : List Template) (d : Option Bytes)
       → and_then (stop_if p (tool.printed set)) (λ u. and_then (data_found files b d) (rendered w set))
       ≡ and_then (with_data set (data_found files b (if p then None else d))) (λ i. and_then (stop_if p (tool.printed i.0)) (λ u. rendered w i.0 i.1))
-  behind b true set d = refl
-  behind b false set d = found (data_found files b d)
+  beyond b true set d = refl
+  beyond b false set d = found (data_found files b d)
     where
       found : (r : Result (Option Value) Stop) → and_then r (rendered w set) ≡ and_then (with_data set r) (λ i. rendered w i.0 i.1)
       found (Ok input) = refl
@@ -108,7 +108,7 @@ module _ (parse : Parse) (files : Files) (w : Wanted) where
       from : (r : Result (List Template) Stop)
           → and_then r (after_set files fails w)
           ≡ and_then (and_then r (λ set. with_data set (data_found files (fails (length w.files)) (data_wanted w)))) (λ i. finished w i.0 i.1)
-      from (Ok set) = behind (fails (length w.files)) w.print set w.data_file
+      from (Ok set) = beyond (fails (length w.files)) w.print set w.data_file
       from (Err s) = refl
 
   -- a stop at the inputs is the command's

@@ -37,11 +37,11 @@ abbrev pub RefusesWords : Type 0
 RefusesWords = (parse : Parse) (words : List Bytes) (files : Files) (fails : Failing)
     → asks_help words ≡ false → wanted words ≡ None → tool_answer parse words files fails ≡ stop_answer bad_words
 
--- the first FILE that is missing or refused, or whose read fails, is the end, whatever stands behind it
+-- the first FILE that is missing or refused, or whose read fails, is the end, whatever stands after it
 abbrev pub StopsAtFile : Type 0
 StopsAtFile = (parse : Parse) (words : List Bytes) (files : Files) (fails : Failing) (w : Wanted)
     → asked_by words ≡ Ok w
-    → (before : List Bytes) (name : Bytes) (behind : List Bytes) → w.files ≡ before ++ name ∷ behind
+    → (before : List Bytes) (name : Bytes) (beyond : List Bytes) → w.files ≡ before ++ name ∷ beyond
     → (set : List Template) → loaded parse files fails 0 [] before ≡ Ok set
     → (stop : Stop) → with_file parse files (fails (length before)) set name ≡ Err stop
     → tool_answer parse words files fails ≡ stop_answer stop

@@ -19,12 +19,12 @@ IsRead told name was is (Err fault.NotFound) = (is ≡ was) × IfSome told (λ f
 IsRead told name was is (Err fault.Failed) = is ≡ was + 1
 IsRead told name was is (Err fault.OutOfMemory) = is ≡ was
 
--- where the files are told, this one begins with these bytes, and they are all of it or more than so many
+-- where the files are told, this one begins with these bytes, and they are all of it or more than this many
 abbrev pub TellsFront : ℕ → Option Files → Bytes → Bytes → Type 0
 TellsFront most told name bytes = IfSome told (λ files.
     (rest : Bytes) × (files name ≡ Some (bytes ++ rest)) × ((rest ≡ []) ⊎ (most < length bytes)))
 
--- a read that may stop behind so many bytes
+-- a read that may stop after this many bytes
 abbrev pub IsReadUpTo : {Z : Type 0} → ℕ → Option Files → Bytes → ℕ → ℕ → Result (Vec ℕ Z) SourceFault → Type 0
 IsReadUpTo most told name was is (Ok bytes) = (is ≡ was) × TellsFront most told name bytes.items
 IsReadUpTo {Z} most told name was is (Err e) = IsRead {Z = Z} told name was is (Err e)

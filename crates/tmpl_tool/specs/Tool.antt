@@ -157,7 +157,7 @@ added parse set name bytes = result_map_both (λ s. s) (refused name) (parse set
 abbrev pub with_file : Parse → Files → Bool → List Template → Bytes → Result (List Template) Stop
 with_file parse files fails set name = and_then (read files fails name) (added parse set name)
 
--- each FILE in turn, read and then parsed, behind so many
+-- each FILE in turn, read and then parsed, after this many
 abbrev pub loaded : Parse → Files → Failing → ℕ → List Template → List Bytes → Result (List Template) Stop
 loaded parse files fails k set [] = Ok set
 loaded parse files fails k set (name ∷ names) =

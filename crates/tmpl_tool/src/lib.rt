@@ -18,7 +18,7 @@ pub use files::inputs::{Inputs, read_inputs};
 pub use files::source::{Source, SourceFault};
 pub use laws::{ends, one_parse, one_place, stages};
 pub use messages::lines::{out_of_memory, refuse, words_refused, write_failed};
-pub use render::{asked_name, render_named, tell_end};
+pub use render::{asked_name, render_named, render_prepared, tell_end};
 pub use status::Status;
 pub use stop::Stop;
 pub use words::request::{Refused, Request};

@@ -1,11 +1,13 @@
 //! The template looked up and run, and its text put out.
-ghost use Rattle.std.specs.Prelude.{◌≡◌, ◌≢◌, ◌<◌, ◌^◌, ◌-◌, Option, option_map};
+ghost use Rattle.std.specs.Prelude.{◌≡◌, ◌≢◌, ◌<◌, ◌^◌, ◌-◌, List, Option, option_map};
 ghost use Rattle.std.specs.Option.{ok_or};
 ghost use Rattle.tmpl_values.specs.View.{value_of};
+ghost use Rattle.tmpl_syntax.specs.Set.{Template};
 ghost use Rattle.tmpl_syntax.specs.View.{set_view};
 ghost use Rattle.tmpl_meaning.specs.Meaning.{Ran};
 ghost use Rattle.tmpl_meaning.specs.Sink.{Told, sunk};
 ghost use Rattle.tmpl_meaning.specs.View.{rules_of};
+ghost use Rattle.tmpl_engine.specs.Prepared.{IsPrepared};
 ghost use Rattle.tmpl_engine.specs.Render.{IsRender};
 ghost use Rattle.tmpl_tool.specs.Outcome.{Counted, Gives, Once, Outcome};
 ghost use Rattle.tmpl_tool.specs.Tool.{answer_of, asked_name, named_run, only_text, unnamed};
@@ -15,7 +17,7 @@ use crate::messages::lines::{out_of_memory, run_failed, template_missing, write_
 use crate::status::Status;
 use crate::words::request::Request;
 use std::alloc::Global;
-use tmpl_engine::{RenderError, render_through};
+use tmpl_engine::{RenderError, Renderer};
 use tmpl_run::{Options, Sink, put_all};
 use tmpl_syntax::{Set, base_name};
 use tmpl_values::Data;
@@ -106,6 +108,33 @@ pub fn render_named<O: Sink, E: Sink>(
         (option_map (λ d. value_of d.now) «data».entry)))
         (sunk (O.so_far out.old) (O.so_far out.new)) (sunk (E.so_far err.old) (E.so_far err.new)) result.code }
 {
-    let end = render_through(alloc, set, name, data, options, piece, out);
-    tell_end(end, name, err)
+    let prepared = Renderer::for_template(alloc, set, name);
+    render_prepared(alloc, options, prepared, name, data, piece, out, err)
+}
+
+/// Does what [`render_named`] does, with what a render of the template was prepared with: a renderer that may be used
+/// again, or why there is none.
+pub fn render_prepared<O: Sink, E: Sink>(
+    alloc: Global,
+    options: &Options,
+    prepared: Result<Renderer, RenderError<'_>>,
+    name: &[u8],
+    data: Option<&Data>,
+    piece: &mut [u8],
+    out: &mut O,
+    err: &mut E,
+) -> Status
+    requires out { (O.so_far out.old).failures < 2 ^ 64 - 1 }
+    requires err { (E.so_far err.old).failures < 2 ^ 64 - 1 }
+    ensures { (ts : List Template) → IsPrepared ts name.now prepared.entry
+        → Gives (answer_of (named_run (rules_of options.now) name.now ts (option_map (λ d. value_of d.now) «data».entry)))
+        (sunk (O.so_far out.old) (O.so_far out.new)) (sunk (E.so_far err.old) (E.so_far err.new)) result.code }
+{
+    match prepared {
+        Ok(renderer) => {
+            let end = renderer.render_through(alloc, name, data, options, piece, out);
+            tell_end(end, name, err)
+        }
+        Err(error) => tell_end(Err(error), name, err),
+    }
 }

@@ -1,4 +1,4 @@
--- The stages of the command behind a stage, and where a run failed.
+-- The stages of the command after a stage, and where a run failed.
 use Rattle.std.specs.Prelude.{◌++◌, List, [], Option, Result, codes, decimal, length}
 use Rattle.tmpl_values.specs.Quote.{quote}
 use Rattle.tmpl_values.specs.Stage.{and_then}

@@ -10,7 +10,7 @@ use tmpl_meaning::{Fixed, Full};
 use tmpl_run::{Sink, SinkFault, WholePuts, put_all};
 use tmpl_values::{Put, put_quoted};
 
-/// A line of so many bytes goes out by one put, so that lines of programs that share a stream do not mix.
+/// A line of this many bytes goes out by one put, so that lines of programs that share a stream do not mix.
 const LINE_SIZE: usize = 4096;
 
 /// A part of a line.

@@ -5,7 +5,7 @@ use Rattle.tmpl_tool.specs.Outcome.{line}
 use Rattle.tmpl_tool.specs.computed.View.{parts_bytes}
 use Rattle.tmpl_tool.proofs.messages.part.put_line.Goals as goal
 
--- what stands behind the reference at the end is what was put through it, as the puts kept its name
+-- what stands after the reference at the end is what was put through it, as the puts kept its name
 pub returns-in-None : goal.returns-in-None
 returns-in-None g c =
     let put = c.write_line.ensures in

@@ -1,9 +1,0 @@
-use Rattle.tmpl_syntax.specs.View.{set_view}
-use Rattle.tmpl_engine.proofs.RenderLemmas.{named_render, unnamed_by}
-use Rattle.tmpl_engine.proofs.rendering.render_through.Goals as goal
-
-pub returns-in-Some : goal.returns-in-Some
-returns-in-Some g c = named_render _ _ _ _ _ _ _ c.in-Some.ensures c.run_once.ensures
-
-pub returns-in-None : goal.returns-in-None
-returns-in-None g c = unnamed_by c.args.options.now (set_view c.args.set.now) c.args.name.now c.args.data _ c.in-None.ensures
