@@ -1,36 +1,38 @@
-"""Makes the completions of this folder for bash, zsh and fish from the usage line of docs/COMMAND.md and its table of
-options. With `--check` it writes nothing, and tells which is not as it would make it."""
+"""Makes the completions of this folder for bash, zsh and fish from the usage lines of docs/COMMAND.md and docs/CHECK.md and their
+tables of options. With `--check` it writes nothing, and tells which is not as it would make it."""
 import os
 import re
 import sys
 
 HERE = os.path.dirname(os.path.abspath(__file__))
-COMMAND = f"{os.path.dirname(HERE)}/docs/COMMAND.md"
+DOCS = f"{os.path.dirname(HERE)}/docs"
+PAGES = {"tmpl": "COMMAND.md", "tmpl-check": "CHECK.md"}
+HELP = {"tmpl": "the usage line", "tmpl-check": "the words and what they do"}
 OPTION = re.compile(r"\[(--[a-z]+)(?: ([A-Za-z|]+))?\]")
 
 
-def usage():
+def usage(program="tmpl"):
     """The usage line."""
-    with open(COMMAND, encoding="utf-8") as it:
-        return re.search(r"^    (tmpl .*)$", it.read(), re.MULTILINE)[1]
+    with open(f"{DOCS}/{PAGES[program]}", encoding="utf-8") as it:
+        return re.search(rf"^    ({program} .*)$", it.read(), re.MULTILINE)[1]
 
 
-def options():
+def options(program="tmpl"):
     """Each option with what it takes: nothing, a file, a number, a name, or one of several words."""
-    return dict(OPTION.findall(usage()))
+    return dict(OPTION.findall(usage(program)))
 
 
-def said():
+def said(program):
     """What each option says, in few words, of the table of options."""
-    with open(COMMAND, encoding="utf-8") as it:
+    with open(f"{DOCS}/{PAGES[program]}", encoding="utf-8") as it:
         rows = re.findall(r"^\| `(--[a-z]+)[^`]*` \| (.*?) \|", it.read(), re.MULTILINE)
     bare = {name: re.sub(r"none: |`|\[|\]\([^)]*\)", "", about) for name, about in rows}
     return {name: re.split("[;:,(]", about)[0].strip() for name, about in bare.items()}
 
 
 BASH = """\
-# completion of tmpl for bash; made by completions/make.py
-_tmpl() {{
+# completion of {program} for bash; made by completions/make.py
+{function}() {{
     local word=${{COMP_WORDS[COMP_CWORD]}} before=${{COMP_WORDS[COMP_CWORD - 1]}} it
     # readline may part --option=value at the sign
     [[ $word == = ]] && word=
@@ -53,47 +55,49 @@ _tmpl() {{
         mapfile -t COMPREPLY < <(compgen -f -- "$word")
     fi
 }}
-complete -F _tmpl tmpl
+complete -F {function} {program}
 """
 
 
-def bash():
+def bash(program):
     values = []
-    for name, takes in options().items():
+    for name, takes in options(program).items():
         if not takes:
             continue
         gives = "compgen -f" if takes == "FILE" else f'compgen -W "{takes.replace("|", " ")}"' if "|" in takes else None
         reply = f'mapfile -t COMPREPLY < <({gives} -- "$word")' if gives else ":"
         files = "compopt -o filenames 2>/dev/null; " if takes == "FILE" else ""
         values.append(f"    {name}) {files}{reply}; return ;;")
-    return BASH.format(values="\n".join(values), names=" ".join([*options(), "--help"]))
+    names = " ".join([*options(program), "--help"])
+    return BASH.format(program=program, function=f"_{program.replace('-', '_')}", values="\n".join(values), names=names)
 
 
-def zsh():
+def zsh(program):
     its = []
-    for name, takes in options().items():
+    for name, takes in options(program).items():
         what = {"": "", "FILE": ":file:_files"}.get(takes, f":value:({takes.replace('|', ' ')})" if "|" in takes else f":{takes}: ")
-        its.append(f"    '{name}{'=' * bool(takes)}[{said()[name]}]{what}' \\")
-    its.append("    '(- *)'{-h,--help}'[the usage line]' \\")
-    return "\n".join(["#compdef tmpl", "# completion of tmpl for zsh; made by completions/make.py", "_arguments -s -S \\", *its, "    '*:template file:_files'", ""])
+        its.append(f"    '{name}{'=' * bool(takes)}[{said(program)[name]}]{what}' \\")
+    its.append("    '(- *)'{-h,--help}'[" + HELP[program] + "]' \\")
+    head = [f"#compdef {program}", f"# completion of {program} for zsh; made by completions/make.py", "_arguments -s -S \\"]
+    return "\n".join([*head, *its, "    '*:template file:_files'", ""])
 
 
-def fish():
-    its = ["# completion of tmpl for fish; made by completions/make.py"]
-    for name, takes in options().items():
+def fish(program):
+    its = [f"# completion of {program} for fish; made by completions/make.py"]
+    for name, takes in options(program).items():
         words = f" -x -a '{takes.replace('|', ' ')}'" if "|" in takes else {"": "", "FILE": " -r -F"}.get(takes, " -x")
-        its.append(f"complete -c tmpl -l {name[2:]}{words} -d '{said()[name]}'")
-    its.append("complete -c tmpl -s h -l help -d 'the usage line'")
+        its.append(f"complete -c {program} -l {name[2:]}{words} -d '{said(program)[name]}'")
+    its.append(f"complete -c {program} -s h -l help -d '{HELP[program]}'")
     return "\n".join(its) + "\n"
 
 
-MADE = {"tmpl.bash": bash, "_tmpl": zsh, "tmpl.fish": fish}
+MADE = {form.format(it): (make, it) for it in PAGES for form, make in (("{}.bash", bash), ("_{}", zsh), ("{}.fish", fish))}
 
 
 def main(words):
     wrong = []
-    for name, make in MADE.items():
-        path, made = f"{HERE}/{name}", make()
+    for name, (make, program) in MADE.items():
+        path, made = f"{HERE}/{name}", make(program)
         if words == ["--check"]:
             with open(path, encoding="utf-8") as it:
                 wrong += [name] * (it.read() != made)

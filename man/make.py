@@ -1,4 +1,4 @@
-"""Makes the man pages of this folder: tmpl.1 of docs/COMMAND.md and tmpl-language.7 of docs/LANGUAGE.md. With `--check` it
+"""Makes the man pages of this folder: tmpl.1 of docs/COMMAND.md, tmpl-check.1 of docs/CHECK.md and tmpl-language.7 of docs/LANGUAGE.md. With `--check` it
 writes nothing, and tells which page is not as it would make it. It reads the Markdown that these documents have, and no more."""
 import os
 import re
@@ -8,9 +8,10 @@ HERE = os.path.dirname(os.path.abspath(__file__))
 DOCS = f"{os.path.dirname(HERE)}/docs"
 PAGES = {
     "tmpl.1": ("COMMAND.md", "renders templates in the language of Go's text/template"),
+    "tmpl-check.1": ("CHECK.md", "says all that is wrong in templates of tmpl, where, and what to write instead"),
     "tmpl-language.7": ("LANGUAGE.md", "the language of the templates that tmpl renders"),
 }
-NAMES = {"COMMAND.md": "tmpl(1)", "LANGUAGE.md": "tmpl-language(7)"}
+NAMES = {"COMMAND.md": "tmpl(1)", "CHECK.md": "tmpl-check(1)", "LANGUAGE.md": "tmpl-language(7)"}
 # code, a link, bold and italic text
 INLINE = re.compile(r"`` (.+?) ``|`([^`]+)`|\[((?:[^\[\]`]|`[^`]*`)+)\]\(([^)]*)\)|\*\*(.+?)\*\*|\*([^*]+)\*")
 ITEM = re.compile(r"(?:-|([0-9]+\.)) ", re.MULTILINE)
@@ -176,7 +177,7 @@ def page(name):
     out = ['.\\" Made by man/make.py from docs/' + source + ".", f'.TH {escaped(head.upper())} {section} "" Rilphong']
     out += [".SH NAME", f"{escaped(head)} \\- {plain(about)}"]
     if section == "1":
-        usage = re.search(r"^    (tmpl .*)$", text, re.MULTILINE)
+        usage = re.search(rf"^    ({head} .*)$", text, re.MULTILINE)
         text = text.replace(usage.group() + "\n", "", 1)
         out += [".SH SYNOPSIS", f".B {escaped(usage[1])}"]
     out += [".SH DESCRIPTION", *body(text.lstrip("\n"))]

@@ -1,0 +1,52 @@
+//! What is found, and why the command may end before it is told.
+
+use std::alloc::{AllocError, AllocFailed};
+
+/// How grave it is.
+#[derive(Clone, Copy, Debug, PartialEq, Eq)]
+pub(crate) enum Level {
+    Error,
+    Warning,
+}
+
+impl Level {
+    /// Its word.
+    pub(crate) fn word(self) -> &'static str {
+        match self {
+            Level::Error => "error",
+            Level::Warning => "warning",
+        }
+    }
+}
+
+/// Something that is found at a place of a file.
+#[derive(Debug, Drop)]
+pub(crate) struct Entry<'a> {
+    pub(crate) file: &'a str,
+    pub(crate) level: Level,
+    pub(crate) line: u64,
+    pub(crate) column: u64,
+    /// What kind of thing it is, in words with hyphens.
+    pub(crate) rule: &'static str,
+    pub(crate) text: String,
+}
+
+/// Why the command ends before all is told.
+#[derive(Clone, Copy, Debug)]
+pub(crate) enum Stop {
+    OutOfMemory,
+    WriteFailed,
+    Words,
+}
+
+impl From<AllocError> for Stop {
+    fn from(_: AllocError) -> Stop {
+        Stop::OutOfMemory
+    }
+}
+
+impl<T: Drop> From<AllocFailed<T>> for Stop {
+    fn from(_: AllocFailed<T>) -> Stop {
+        Stop::OutOfMemory
+    }
+}

@@ -1,0 +1,96 @@
+//! The files of a request, read from the file system.
+
+use crate::entry::Stop;
+use crate::words::Request;
+use std::fs::File;
+use std::io::{self, ErrorKind, Read};
+use std::random::RandomSource;
+use tmpl_syntax::NameHash;
+
+/// The name by which standard input is read.
+const STANDARD_INPUT: &str = "/dev/stdin";
+
+/// The most bytes that are read of a template file: one more than it may have.
+const MOST_READ: u64 = 16_777_217;
+
+/// A file that was read.
+#[derive(Debug, Drop)]
+pub(crate) struct Loaded<'a> {
+    pub(crate) name: &'a str,
+    pub(crate) bytes: Vec<u8>,
+}
+
+/// The files that were read, and whether others could not be.
+#[derive(Debug, Drop)]
+pub(crate) struct AllLoaded<'a> {
+    pub(crate) templates: Vec<Loaded<'a>>,
+    pub(crate) data: Option<Loaded<'a>>,
+    pub(crate) is_short: bool,
+}
+
+/// Reads the files of a request, and says of each that can't be read why.
+pub(crate) fn load_all<'a>(rt: &HostRuntime, request: &Request<'a>) -> Result<AllLoaded<'a>, Stop> {
+    let mut all = AllLoaded {
+        templates: Vec::new(rt.alloc()),
+        data: None,
+        is_short: false,
+    };
+    for name in request.files.as_slice() {
+        match load(rt, *name, MOST_READ)? {
+            Some(loaded) => all.templates.push(loaded)?,
+            None => all.is_short = true,
+        }
+    }
+    if let Some(name) = request.data_file {
+        all.data = load(rt, name, u64::MAX)?;
+        if all.data.is_none() {
+            all.is_short = true;
+        }
+    }
+    Ok(all)
+}
+
+/// Reads a file; none where that can't be done, which is said.
+fn load<'a>(rt: &HostRuntime, name: &'a str, most: u64) -> Result<Option<Loaded<'a>>, Stop> {
+    match read_front(rt, name, most) {
+        Ok(bytes) => Ok(Some(Loaded { name, bytes })),
+        Err(error) => match error.kind() {
+            ErrorKind::OutOfMemory => Err(Stop::OutOfMemory),
+            ErrorKind::NotFound => {
+                let _ = eprintln!(rt; "tmpl-check: {name}: no such file");
+                Ok(None)
+            }
+            _ => {
+                let _ = eprintln!(rt; "tmpl-check: {name}: can't be read");
+                Ok(None)
+            }
+        },
+    }
+}
+
+/// The first bytes of a file, as many as are asked for if it has them.
+fn read_front(rt: &HostRuntime, name: &str, count: u64) -> io::Result<Vec<u8>> {
+    let mut bytes = Vec::new(rt.alloc());
+    if name == STANDARD_INPUT {
+        rt.reader().take(count).read_to_end(&mut bytes)?;
+    } else {
+        File::open(rt, name)?.take(count).read_to_end(&mut bytes)?;
+    }
+    Ok(bytes)
+}
+
+/// How names are hashed: by random keys, so that nobody can choose names that are hashed alike; by known keys where the
+/// system has no random bytes to give.
+pub(crate) fn name_hash(rt: &impl RandomSource) -> NameHash {
+    match (random_key(rt), random_key(rt)) {
+        (Ok(first), Ok(second)) => NameHash::keyed(first, second),
+        _ => NameHash::fixed(),
+    }
+}
+
+/// A number that nobody outside can know.
+fn random_key(rt: &impl RandomSource) -> io::Result<u64> {
+    let mut bytes = [0; 8];
+    rt.fill_bytes(&mut bytes)?;
+    Ok(u64::from_le_bytes(bytes))
+}

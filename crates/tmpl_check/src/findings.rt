@@ -1,0 +1,325 @@
+//! What is found in the files of a request.
+
+use crate::entry::{Entry, Level};
+use crate::files::{AllLoaded, Loaded};
+use crate::words::Request;
+use indexmap::IndexSet;
+use std::alloc::{AllocError, Global};
+use tmpl_problems::{
+    DataProblem, DataReason, DataReport, Named, Problem, Refusals, Survey, check_data, check_file,
+    data_words, reason_words, survey_file,
+};
+use tmpl_syntax::{NameHash, ParseKind, Set, base_name};
+
+/// What is found, file by file.
+#[derive(Debug, Drop)]
+pub(crate) struct Findings<'a> {
+    pub(crate) entries: Vec<Entry<'a>>,
+}
+
+/// The templates of all files, by their names.
+#[derive(Drop)]
+struct Templates<'f> {
+    defined: IndexSet<&'f [u8], NameHash>,
+    called: IndexSet<&'f [u8], NameHash>,
+}
+
+impl<'a> Findings<'a> {
+    /// Whether there are errors among them.
+    pub(crate) fn has_errors(&self) -> bool {
+        self.entries.iter().any(|entry| entry.level == Level::Error)
+    }
+
+    /// Adds the refusals of a file.
+    fn add_refusals(
+        &mut self,
+        alloc: Global,
+        file: &'a str,
+        refusals: Refusals,
+    ) -> Result<(), AllocError> {
+        let Refusals { first, more } = refusals;
+        self.entries.push(refusal_entry(alloc, file, first)?)?;
+        for problem in more.into_iter() {
+            self.entries.push(refusal_entry(alloc, file, problem)?)?;
+        }
+        Ok(())
+    }
+
+    /// Adds a warning.
+    fn warn(
+        &mut self,
+        file: &'a str,
+        place: (u64, u64),
+        rule: &'static str,
+        text: String,
+    ) -> Result<(), AllocError> {
+        self.entries.push(Entry {
+            file,
+            level: Level::Warning,
+            line: place.0,
+            column: place.1,
+            rule,
+            text,
+        })?;
+        Ok(())
+    }
+
+    /// Adds what is suspicious in a file, and the names in it that no file has.
+    fn add_survey(
+        &mut self,
+        alloc: Global,
+        file: &'a str,
+        survey: Survey<'_>,
+        templates: &Templates<'_>,
+    ) -> Result<(), AllocError> {
+        let Survey {
+            warnings,
+            called,
+            ..
+        } = survey;
+        for warning in warnings.into_iter() {
+            self.warn(
+                file,
+                (warning.line, warning.column),
+                "suspicious",
+                warning.text,
+            )?;
+        }
+        for call in called.as_slice() {
+            if !templates.defined.contains(call.name) {
+                let text = about(alloc, "no file defines the template ", call.name, "")?;
+                self.warn(file, (call.line, call.column), "no-such-template", text)?;
+            }
+        }
+        Ok(())
+    }
+
+    /// Adds the definitions of a file that nothing calls.
+    fn add_uncalled(
+        &mut self,
+        alloc: Global,
+        file: &'a str,
+        asked: &str,
+        defined: &[Named<'_>],
+        templates: &Templates<'_>,
+    ) -> Result<(), AllocError> {
+        for definition in defined {
+            if !templates.called.contains(definition.name) && definition.name != asked.as_bytes() {
+                let text = about(alloc, "the template ", definition.name, " is never called")?;
+                self.warn(
+                    file,
+                    (definition.line, definition.column),
+                    "never-called",
+                    text,
+                )?;
+            }
+        }
+        Ok(())
+    }
+
+    /// Adds that no file defines the template that is asked for, if that is so.
+    fn add_asked(
+        &mut self,
+        alloc: Global,
+        file: &'a str,
+        asked: &str,
+        templates: &Templates<'_>,
+    ) -> Result<(), AllocError> {
+        if templates.defined.contains(asked.as_bytes()) {
+            return Ok(());
+        }
+        let text = about(
+            alloc,
+            "no file defines the template ",
+            asked.as_bytes(),
+            " of --name",
+        )?;
+        self.warn(file, (1, 1), "no-such-template", text)
+    }
+
+    /// Adds what is wrong in data.
+    fn add_data(&mut self, alloc: Global, data: &Loaded<'a>) -> Result<(), AllocError> {
+        let DataReport {
+            refused,
+            problems,
+            warnings,
+        } = check_data(alloc, data.bytes.as_slice())?;
+        if let Some(reason) = refused {
+            self.add_data_problems(alloc, data.name, reason, problems)?;
+        }
+        for warning in warnings.into_iter() {
+            self.warn(
+                data.name,
+                (warning.line, warning.column),
+                "key-given-twice",
+                warning.text,
+            )?;
+        }
+        Ok(())
+    }
+
+    /// Adds the places at which data is wrong that is refused for this reason.
+    fn add_data_problems(
+        &mut self,
+        alloc: Global,
+        file: &'a str,
+        reason: DataReason,
+        problems: Vec<DataProblem>,
+    ) -> Result<(), AllocError> {
+        let words = data_words(reason);
+        if problems.is_empty() {
+            self.entries.push(data_entry(file, reason, (1, 1), String::from_str(alloc, words)?))?;
+        }
+        for problem in problems.into_iter() {
+            let text = joined(alloc, words, problem.text.as_str())?;
+            self.entries.push(data_entry(file, reason, (problem.line, problem.column), text))?;
+        }
+        Ok(())
+    }
+}
+
+/// Something wrong in data.
+fn data_entry<'a>(file: &'a str, reason: DataReason, place: (u64, u64), text: String) -> Entry<'a> {
+    let rule = match reason {
+        DataReason::NotJson => "not-json",
+        DataReason::NotWhole => "number-not-whole",
+    };
+    Entry {
+        file,
+        level: Level::Error,
+        line: place.0,
+        column: place.1,
+        rule,
+        text,
+    }
+}
+
+/// A refusal of a file.
+fn refusal_entry<'a>(
+    alloc: Global,
+    file: &'a str,
+    problem: Problem,
+) -> Result<Entry<'a>, AllocError> {
+    Ok(Entry {
+        file,
+        level: Level::Error,
+        line: problem.line,
+        column: problem.column,
+        rule: rule_of(problem.kind),
+        text: joined(alloc, reason_words(problem.kind), problem.detail.as_str())?,
+    })
+}
+
+/// The rule that a refusal for this reason breaks.
+fn rule_of(kind: ParseKind) -> &'static str {
+    match kind {
+        ParseKind::Unreadable => "unreadable",
+        ParseKind::NotAnAction => "not-understood",
+        ParseKind::OutOfPlace => "out-of-place",
+        ParseKind::UndeclaredVariable => "undeclared-variable",
+        ParseKind::OpenAtEnd => "open-at-end",
+        ParseKind::NestedTooDeeply => "nested-too-deeply",
+        ParseKind::TooLong => "too-long",
+        ParseKind::SecondDefinition => "second-definition",
+        ParseKind::OutOfMemory => "out-of-memory",
+    }
+}
+
+/// A reason and what more is said of it.
+fn joined(alloc: Global, reason: &str, detail: &str) -> Result<String, AllocError> {
+    let mut text = String::from_str(alloc, reason)?;
+    if !detail.is_empty() {
+        text.push_str(": ")?;
+        text.push_str(detail)?;
+    }
+    Ok(text)
+}
+
+/// What is said of a template of this name.
+fn about(alloc: Global, before: &str, name: &[u8], after: &str) -> Result<String, AllocError> {
+    let mut text = String::from_str(alloc, before)?;
+    text.push('"')?;
+    match std::str::from_utf8(name) {
+        Ok(name) => text.push_str(name)?,
+        Err(_) => text.push_str("?")?,
+    }
+    text.push('"')?;
+    text.push_str(after)?;
+    Ok(text)
+}
+
+/// What is found in the files of a request.
+pub(crate) fn findings_of<'a>(
+    alloc: Global,
+    hash: NameHash,
+    request: &Request<'a>,
+    loaded: &AllLoaded<'a>,
+) -> Result<Findings<'a>, AllocError> {
+    let mut findings = Findings {
+        entries: Vec::new(alloc),
+    };
+    let surveys = survey_all(alloc, hash, loaded.templates.as_slice())?;
+    let templates = templates_in(alloc, hash, loaded.templates.as_slice(), surveys.as_slice())?;
+    let mut set = Set::with_hash(alloc, hash);
+    for (file, survey) in loaded.templates.as_slice().iter().zip(surveys.into_iter()) {
+        if let Some(refusals) = check_file(
+            alloc,
+            &mut set,
+            hash,
+            file.name,
+            file.bytes.as_slice(),
+        )? {
+            findings.add_refusals(alloc, file.name, refusals)?;
+        }
+        if let Some(asked) = request.name {
+            let defined = survey.defined.as_slice();
+            findings.add_uncalled(alloc, file.name, asked, defined, &templates)?;
+        }
+        findings.add_survey(alloc, file.name, survey, &templates)?;
+    }
+    if let (Some(name), Some(first)) = (request.name, request.files.first()) {
+        findings.add_asked(alloc, *first, name, &templates)?;
+    }
+    if let Some(data) = &loaded.data {
+        findings.add_data(alloc, data)?;
+    }
+    Ok(findings)
+}
+
+/// The surveys of files.
+fn survey_all<'f>(
+    alloc: Global,
+    hash: NameHash,
+    files: &'f [Loaded<'_>],
+) -> Result<Vec<Survey<'f>>, AllocError> {
+    let mut surveys = Vec::new(alloc);
+    for file in files {
+        surveys.push(survey_file(alloc, hash, file.bytes.as_slice())?)?;
+    }
+    Ok(surveys)
+}
+
+/// The templates of all files: those that they define, their own, and those that are called.
+fn templates_in<'f>(
+    alloc: Global,
+    hash: NameHash,
+    files: &'f [Loaded<'_>],
+    surveys: &[Survey<'f>],
+) -> Result<Templates<'f>, AllocError> {
+    let mut templates = Templates {
+        defined: IndexSet::with_hasher(alloc, hash),
+        called: IndexSet::with_hasher(alloc, hash),
+    };
+    for file in files {
+        templates.defined.insert(base_name(file.name))?;
+    }
+    for survey in surveys {
+        for definition in survey.defined.as_slice() {
+            templates.defined.insert(definition.name)?;
+        }
+        for call in survey.called.as_slice() {
+            templates.called.insert(call.name)?;
+        }
+    }
+    Ok(templates)
+}

@@ -1,0 +1,86 @@
+//! What the words ask for.
+
+use clap::{Arg, ArgAction, ArgMatches, Command};
+use std::alloc::{AllocError, Global};
+
+/// The words of `--format`.
+static FORMATS: [&str; 3] = ["text", "json", "sarif"];
+
+/// How what is found is put out.
+#[derive(Clone, Copy, Debug, PartialEq, Eq)]
+pub(crate) enum Format {
+    Text,
+    Json,
+    Sarif,
+}
+
+/// What the words ask for.
+#[derive(Debug, Drop)]
+pub(crate) struct Request<'a> {
+    pub(crate) data_file: Option<&'a str>,
+    pub(crate) name: Option<&'a str>,
+    pub(crate) format: Format,
+    pub(crate) files: Vec<&'a str>,
+}
+
+/// The command line.
+pub(crate) fn command<'a>(alloc: Global) -> Result<Command<'a>, AllocError> {
+    Command::new(alloc, "tmpl-check")
+        .version("0")
+        .about(
+            "Says all that is wrong in template files of tmpl, where, and what to write instead.",
+        )
+        .after_help(
+            "Status: 0 no errors, 1 errors, 2 words, 3 a file that can't be read, 6 a write failed, 7 want of memory.",
+        )
+        .arg(option_arg(alloc, "data", "FILE").help(
+            "A file of JSON: says where it is wrong, and which numbers are not whole",
+        ))?
+        .arg(option_arg(alloc, "name", "NAME").help("The template that is to be rendered"))?
+        .arg(
+            option_arg(alloc, "format", "FORMAT")
+                .value_parser(FORMATS.as_slice())
+                .help("How it is said: a line each, as JSON, or as SARIF 2.1.0"),
+        )?
+        .arg(
+            Arg::new(alloc, "file")
+                .value_name("FILE")
+                .required(true)
+                .num_args(1..)
+                .help("The template files, in the order of tmpl"),
+        )
+}
+
+/// An option of one value.
+fn option_arg<'a>(alloc: Global, id: &'a str, value: &'a str) -> Arg<'a> {
+    Arg::new(alloc, id)
+        .long(id)
+        .value_name(value)
+        .action(ArgAction::Set)
+}
+
+/// What matches ask for.
+pub(crate) fn request_of<'a>(
+    alloc: Global,
+    matches: &ArgMatches<'a>,
+) -> Result<Request<'a>, AllocError> {
+    let files = match matches.get_strs("file") {
+        Some(given) => given.iter().copied().collect(alloc)?,
+        None => Vec::new(alloc),
+    };
+    Ok(Request {
+        data_file: matches.get_str("data"),
+        name: matches.get_str("name"),
+        format: format_named(matches.get_str("format")),
+        files,
+    })
+}
+
+/// The format of this word; lines where there is none.
+fn format_named(word: Option<&str>) -> Format {
+    match word {
+        Some("json") => Format::Json,
+        Some("sarif") => Format::Sarif,
+        _ => Format::Text,
+    }
+}

@@ -1,0 +1,18 @@
+//! The words for a reason.
+
+use tmpl_syntax::ParseKind;
+
+/// Why a file is refused, in the words that `tmpl` has for it.
+pub fn reason_words(kind: ParseKind) -> &'static str {
+    match kind {
+        ParseKind::Unreadable => "unclosed or unreadable action",
+        ParseKind::NotAnAction => "action not understood",
+        ParseKind::OutOfPlace => "out of place",
+        ParseKind::UndeclaredVariable => "undeclared variable",
+        ParseKind::OpenAtEnd => "file ends inside a control",
+        ParseKind::NestedTooDeeply => "nested too deeply",
+        ParseKind::TooLong => "file longer than 16777216 bytes",
+        ParseKind::SecondDefinition => "second definition",
+        ParseKind::OutOfMemory => "out of memory",
+    }
+}

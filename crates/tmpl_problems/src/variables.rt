@@ -1,0 +1,52 @@
+//! The variables in an action, by its tokens.
+ghost use Rattle.std.specs.Prelude.{◌≤◌, length};
+
+use std::alloc::{AllocError, Global};
+use tmpl_lex::{Token, TokenKind};
+
+/// The name in a variable, after its `$`; `$` alone has none.
+pub(crate) fn name_in<'b>(token: &Token<'b>) -> Option<&'b [u8]> {
+    match token.bytes {
+        [b'$', name @ ..] if token.kind == TokenKind::Variable && name.len() > 0 => Some(name),
+        _ => None,
+    }
+}
+
+/// How many tokens stand before the first `:=`; none of it where there is no `:=`.
+fn declaration_len(tokens: &[Token<'_>]) -> usize
+    ensures { result ≤ length tokens.now }
+{
+    match tokens
+        .iter()
+        .position(|token| token.kind == TokenKind::Declare)
+    {
+        Some(count) => count,
+        None => 0,
+    }
+}
+
+/// The names that an action declares: those before its `:=`.
+pub(crate) fn declared<'b>(
+    alloc: Global,
+    tokens: &[Token<'b>],
+) -> Result<Vec<&'b [u8]>, AllocError> {
+    let (front, _) = tokens.split_at(declaration_len(tokens));
+    names_among(alloc, front)
+}
+
+/// The names that an action uses or assigns.
+pub(crate) fn used<'b>(alloc: Global, tokens: &[Token<'b>]) -> Result<Vec<&'b [u8]>, AllocError> {
+    let (_, rest) = tokens.split_at(declaration_len(tokens));
+    names_among(alloc, rest)
+}
+
+/// The names of the variables among tokens.
+fn names_among<'b>(alloc: Global, tokens: &[Token<'b>]) -> Result<Vec<&'b [u8]>, AllocError> {
+    let mut names = Vec::new(alloc);
+    for token in tokens {
+        if let Some(name) = name_in(token) {
+            names.push(name)?;
+        }
+    }
+    Ok(names)
+}
