@@ -17,7 +17,7 @@ pub(crate) enum Varied {
     Front,
 }
 
-/// The numbers with which a case is run: so many, from the first on in steps.
+/// The numbers with which a case is run: this many, from the first on in steps.
 #[derive(Clone, Copy)]
 pub(crate) struct Numbers {
     pub(crate) varied: Varied,

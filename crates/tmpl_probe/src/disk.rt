@@ -3,6 +3,7 @@ ghost use Rattle.std.specs.Prelude.{◌≡◌, None};
 
 use std::alloc::Global;
 use std::fs;
+use std::io::ErrorKind;
 use std::rt::Files;
 use tmpl_tool::{Source, SourceFault};
 
@@ -29,10 +30,13 @@ impl<'a, R: Files + AllocGlobal> Source for Disk<'a, R> {
     fn read(&mut self, _alloc: Global, name: &str) -> Result<Vec<u8>, SourceFault> {
         match fs::read(self.rt, name) {
             Ok(bytes) => Ok(bytes),
-            Err(_) => {
-                self.failures += 1;
-                Err(SourceFault::Failed)
-            }
+            Err(error) => match error.kind() {
+                ErrorKind::OutOfMemory => Err(SourceFault::OutOfMemory),
+                _ => {
+                    self.failures += 1;
+                    Err(SourceFault::Failed)
+                }
+            },
         }
     }
 }

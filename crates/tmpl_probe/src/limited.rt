@@ -11,7 +11,7 @@ pub(crate) struct Limits {
     pub(crate) most: usize,
     /// The bytes that it takes in all until a put fails.
     pub(crate) left: usize,
-    /// Whether one put alone fails, and those behind it would be taken. Else all behind it fail.
+    /// Whether one put alone fails, and those after it would be taken. Else all after it fail.
     pub(crate) once: bool,
 }
 
@@ -30,8 +30,8 @@ pub(crate) struct LimitedSink<W: Drop> {
     writer: W,
     limits: Limits,
     failures: u64,
-    /// The puts behind the first that failed.
-    behind: u64,
+    /// The puts after the first that failed.
+    after: u64,
 }
 
 impl<W: Write + Drop> LimitedSink<W> {
@@ -43,13 +43,13 @@ impl<W: Write + Drop> LimitedSink<W> {
             writer,
             limits,
             failures: 0,
-            behind: 0,
+            after: 0,
         }
     }
 
-    /// How many puts there were behind the first that failed.
-    pub(crate) fn behind(&self) -> u64 {
-        self.behind
+    /// How many puts there were after the first that failed.
+    pub(crate) fn after(&self) -> u64 {
+        self.after
     }
 
     /// Writes as many of the bytes as the limits let through.
@@ -79,7 +79,7 @@ impl<W: Write + Drop> Sink for LimitedSink<W> {
 
     fn put(&mut self, bytes: &[u8]) -> Result<usize, SinkFault> {
         if self.failures > 0 {
-            self.behind = self.behind.saturating_add(1);
+            self.after = self.after.saturating_add(1);
         }
         let taken = self.take(bytes);
         if taken.is_err() {

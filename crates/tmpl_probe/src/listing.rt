@@ -1,15 +1,14 @@
-//! Puts out the code of templates as a list of instructions, each behind its place. A jump is put out as `->` and the
+//! Puts out the code of templates as a list of instructions, each after its place. A jump is put out as `->` and the
 //! place where it ends.
 use std::io::{self, Write};
 use std::str;
-use tmpl_code::{Instruction, Program, Refusal};
+use tmpl_code::{Instruction, Names, Program, Refusal, Tables, letters_at};
 use tmpl_funcs::Func;
-use tmpl_values::Bytes;
 
 /// Puts out the name of each template and then its instructions.
-pub(crate) fn put_listing(writer: &mut impl Write, program: &Program<'_>) -> io::Result<()> {
+pub(crate) fn put_listing(writer: &mut impl Write, program: &Program) -> io::Result<()> {
     let parts = program.parts();
-    let mut names = parts.set.names();
+    let mut names = parts.outline.names();
     for (place, instruction) in parts.instructions.iter().enumerate() {
         if parts.starts.contains(&place) {
             writer.write_all(b"template")?;
@@ -17,7 +16,7 @@ pub(crate) fn put_listing(writer: &mut impl Write, program: &Program<'_>) -> io:
             writer.write_all(b"\n")?;
         }
         write!(writer, "{place} ")?;
-        put_instruction(writer, place, instruction)?;
+        put_instruction(writer, &parts.tables, place, instruction)?;
     }
     Ok(())
 }
@@ -25,11 +24,12 @@ pub(crate) fn put_listing(writer: &mut impl Write, program: &Program<'_>) -> io:
 /// Puts out a line: what is done, with what, and where a jump ends.
 fn put_instruction(
     writer: &mut impl Write,
+    tables: &Tables,
     place: usize,
-    instruction: &Instruction<'_>,
+    instruction: &Instruction,
 ) -> io::Result<()> {
     writer.write_all(words(instruction).as_bytes())?;
-    put_operands(writer, instruction)?;
+    put_operands(writer, tables, instruction)?;
     put_number(writer, " ", count(instruction))?;
     put_number(writer, " ", variables(instruction))?;
     put_number(writer, " line ", line(instruction))?;
@@ -39,15 +39,19 @@ fn put_instruction(
 }
 
 /// Puts out what an instruction is done with.
-fn put_operands(writer: &mut impl Write, instruction: &Instruction<'_>) -> io::Result<()> {
+fn put_operands(
+    writer: &mut impl Write,
+    tables: &Tables,
+    instruction: &Instruction,
+) -> io::Result<()> {
     match instruction {
-        Instruction::Put(text) => put_text(writer, text.as_slice()),
+        Instruction::Put(place) => put_text(writer, tables.text(*place)),
         Instruction::PushNumber(number) => write!(writer, " {number}"),
-        Instruction::PushText(bytes) | Instruction::RefuseTemplate(bytes) => {
-            put_text(writer, bytes.as_slice())
+        Instruction::PushText(place) | Instruction::RefuseTemplate(place) => {
+            put_text(writer, tables.name(*place))
         }
-        Instruction::PushFields(names) | Instruction::Chain(names) => {
-            put_fields(writer, names.as_slice())
+        Instruction::PushFields(span) | Instruction::Chain(span) => {
+            put_fields(writer, tables.names(*span))
         }
         Instruction::Call { func, .. } | Instruction::Refuse(Refusal::WrongCount(func)) => {
             put_func(writer, *func)
@@ -56,7 +60,7 @@ fn put_operands(writer: &mut impl Write, instruction: &Instruction<'_>) -> io::R
     }
 }
 
-/// Puts out a number behind a word, if there is one.
+/// Puts out a number after a word, if there is one.
 fn put_number(writer: &mut impl Write, word: &str, number: Option<u64>) -> io::Result<()> {
     match number {
         Some(number) => write!(writer, "{word}{number}"),
@@ -70,11 +74,11 @@ fn put_text(writer: &mut impl Write, bytes: &[u8]) -> io::Result<()> {
 }
 
 /// Puts out a chain of fields.
-fn put_fields(writer: &mut impl Write, names: &[Bytes]) -> io::Result<()> {
+fn put_fields(writer: &mut impl Write, names: Names<'_>) -> io::Result<()> {
     writer.write_all(b" ")?;
-    for name in names {
+    for span in names.spans {
         writer.write_all(b".")?;
-        writer.write_all(name.as_slice())?;
+        writer.write_all(letters_at(names.letters, *span))?;
     }
     Ok(())
 }
@@ -89,7 +93,7 @@ fn either(first: bool, one: &'static str, other: &'static str) -> &'static str {
 }
 
 /// What an instruction does.
-fn words(instruction: &Instruction<'_>) -> &'static str {
+fn words(instruction: &Instruction) -> &'static str {
     match instruction {
         Instruction::Spend(_) => "spend",
         Instruction::Put(_) => "put",
@@ -130,7 +134,7 @@ fn words(instruction: &Instruction<'_>) -> &'static str {
 }
 
 /// The slot, the number of cells or arguments, or the number of the template.
-fn count(instruction: &Instruction<'_>) -> Option<u64> {
+fn count(instruction: &Instruction) -> Option<u64> {
     match instruction {
         Instruction::Set(count)
         | Instruction::SetDot(count)
@@ -147,14 +151,14 @@ fn count(instruction: &Instruction<'_>) -> Option<u64> {
     }
 }
 
-fn variables(instruction: &Instruction<'_>) -> Option<u64> {
+fn variables(instruction: &Instruction) -> Option<u64> {
     match instruction {
         Instruction::EndWith { variables, .. } => Some(*variables as u64),
         _ => None,
     }
 }
 
-fn line(instruction: &Instruction<'_>) -> Option<u64> {
+fn line(instruction: &Instruction) -> Option<u64> {
     match instruction {
         Instruction::Spend(line) | Instruction::Deepen(line) => Some(*line),
         Instruction::Next { line, .. } => Some(*line as u64),
@@ -163,7 +167,7 @@ fn line(instruction: &Instruction<'_>) -> Option<u64> {
 }
 
 /// How many instructions a jump passes over.
-fn skip(instruction: &Instruction<'_>) -> Option<usize> {
+fn skip(instruction: &Instruction) -> Option<usize> {
     match instruction {
         Instruction::Unless { skip, .. }
         | Instruction::EnterWith { skip, .. }

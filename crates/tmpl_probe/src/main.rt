@@ -5,18 +5,19 @@
 //! into pieces. Each puts out how many nanoseconds it took, and so do calls: `call`, a JSON file with a list of
 //! arguments, the name of the function, and how many; and `share`, a file that is made a text of, and how many times
 //! that is shared. A template: `parse` into a set, `compile` the set; `code` puts out how many bytes its code takes,
-//! and `list` puts out the code.
+//! and `list` puts out the code. `verdict`, a template and a mode for missing keys or `each`, puts out whether the check
+//! against a schema of its own accepts it.
 //!
 //! `room DEPTH`, and the words of a command, puts out how many cells the set of its files needs at this depth, and
-//! whether it makes text; behind no words the set is empty.
+//! whether it makes text; after no words the set is empty.
 //!
 //! `run PIECE MOST LEFT FAILS CELLS TIMES`, and the words of a command, runs the template that they ask for, with a
-//! piece of so many bytes, to a sink that takes so many bytes a put and so many in all until it fails, `once` or
-//! `always`, over as many cells as are `enough` or as the `room` of the set has, and so many times. The text goes to standard output, and
+//! piece of this many bytes, to a sink that takes this many bytes a put and this many in all until it fails, `once` or
+//! `always`, over as many cells as are `enough` or as the `room` of the set has, and this many times. The text goes to standard output, and
 //! the line and the status of each run to standard error. `fixed` does the same over arrays: a stack of 64 cells, and
 //! at most 4,096 bytes of text.
 //!
-//! `often TIMES`, and the words of a command, calls the command so many times.
+//! `often TIMES`, and the words of a command, calls the command this many times.
 //!
 //! `cases FILE` runs the command over files, output and errors in memory, as the cases that the file holds say: first
 //! how many bytes of output there is room for and how many cases there are, then each case. `make NAME FILE` makes the
@@ -39,6 +40,7 @@ mod running;
 mod single;
 mod sink;
 mod sweep;
+mod verdict;
 
 use crate::often::call_tool_often;
 use crate::parts::with_file;
@@ -55,7 +57,7 @@ const NOT_DONE: u8 = 3;
 /// The status where memory was refused.
 const OUT_OF_MEMORY: u8 = 7;
 
-/// Does the part that is named, as far as the words behind it say what with.
+/// Does the part that is named, as far as the words after it say what with.
 fn do_part(rt: &HostRuntime, part: &str, words: &[String]) -> io::Result<bool> {
     match part {
         "run" => run_words(rt, words, false),

@@ -5,8 +5,8 @@ use crate::running::put_status;
 use std::io;
 use tmpl_tool::tool;
 
-/// Calls the command as often as the first word says with those behind it, over the file system and the standard
-/// streams. Behind what each call says stands its status.
+/// Calls the command as often as the first word says with those after it, over the file system and the standard
+/// streams. After what each call says stands its status.
 pub(crate) fn call_tool_often(rt: &HostRuntime, words: &[String]) -> io::Result<bool> {
     let [times, words @ ..] = words else {
         return Ok(false);

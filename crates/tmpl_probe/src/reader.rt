@@ -1,4 +1,4 @@
-//! Cases as they stand in a file: numbers, each of which ends with a newline, and bytes behind the number of them.
+//! Cases as they stand in a file: numbers, each of which ends with a newline, and bytes after the number of them.
 use std::str;
 
 /// What is left of the file.

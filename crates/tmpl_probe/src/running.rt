@@ -38,7 +38,7 @@ struct Loan {
 /// What is run, and over what.
 #[derive(Clone, Copy)]
 struct Job<'a, 'j> {
-    program: &'j Program<'a>,
+    program: &'a Program,
     entry: Entry,
     data: Option<&'a Data>,
     request: &'j Request<'j>,
@@ -79,8 +79,8 @@ fn load(rt: &HostRuntime, request: &Request<'_>) -> io::Result<Option<Inputs>> {
     }
 }
 
-/// Puts out the room, at the depth that the first word says, of the set that the words of a command behind it name, and
-/// whether it makes text. Of no words behind it the set is empty.
+/// Puts out the room, at the depth that the first word says, of the set that the words of a command after it name, and
+/// whether it makes text. Of no words after it the set is empty.
 pub(crate) fn put_room(rt: &HostRuntime, words: &[String]) -> io::Result<bool> {
     let [depth, words @ ..] = words else {
         return Ok(false);
@@ -154,7 +154,7 @@ fn run_template(
 
 /// Runs over as many cells as are enough, or over all cells of the room.
 fn run_in_vecs(rt: &HostRuntime, job: &Job<'_, '_>) -> io::Result<bool>
-    requires { job.now.entry.number < length (set_view job.now.program.now.set.now) }
+    requires { job.now.entry.number < length (set_view job.now.program.now.set.value) }
 {
     let alloc = rt.alloc();
     let depth = job.request.options.depth;
@@ -177,10 +177,9 @@ fn run_in_vecs(rt: &HostRuntime, job: &Job<'_, '_>) -> io::Result<bool>
 
 /// Runs over arrays, to a sink that keeps its bytes in one, which is then put out. So it takes no memory of its own.
 fn run_in_arrays(rt: &HostRuntime, job: &Job<'_, '_>) -> io::Result<bool>
-    requires { job.now.entry.number < length (set_view job.now.program.now.set.now) }
+    requires { job.now.entry.number < length (set_view job.now.program.now.set.value) }
 {
-    let (name, _) = job.program.parts().set.template(job.entry.number);
-    let mut cells = filled_array(name);
+    let mut cells = filled_array(b"before");
     let mut piece = [0; BYTES];
     let mut kept = [0; BYTES];
     let mut rest = kept.as_mut_slice();
@@ -216,8 +215,8 @@ fn blank_cells<'a>(alloc: Global, count: usize) -> Result<Vec<Cell<'a>>, AllocEr
     Ok(cells)
 }
 
-/// Runs as often as the words say, over cells that are as the run before left them. Behind each run stands the line of
-/// the command, if it has one, its status, and how many puts there were behind one that failed, if there were some.
+/// Runs as often as the words say, over cells that are as the run before left them. After each run stands the line of
+/// the command, if it has one, its status, and how many puts there were after one that failed, if there were some.
 fn run_often<'a, W: Write, E: Write>(
     alloc: Global,
     job: &Job<'a, '_>,
@@ -226,7 +225,7 @@ fn run_often<'a, W: Write, E: Write>(
     out: &mut W,
     err: &mut E,
 ) -> io::Result<bool>
-    requires { job.now.entry.number < length (set_view job.now.program.now.set.now) }
+    requires { job.now.entry.number < length (set_view job.now.program.now.set.value) }
 {
     let options = &job.request.options;
     for _ in 0..job.loan.times {
@@ -249,16 +248,16 @@ fn run_often<'a, W: Write, E: Write>(
         };
         let mut line = LimitedSink::new(&mut *err, Limits::NONE);
         let status = tell_end(end, asked_name(job.request), &mut line);
-        put_status(err, status, sink.behind())?;
+        put_status(err, status, sink.after())?;
     }
     Ok(true)
 }
 
-pub(crate) fn put_status<W: Write>(writer: &mut W, status: Status, behind: u64) -> io::Result<()> {
+pub(crate) fn put_status<W: Write>(writer: &mut W, status: Status, after: u64) -> io::Result<()> {
     let code = status.code;
     write!(writer, "status {code}")?;
-    if behind > 0 {
-        write!(writer, ", and {behind} puts behind the failed one")?;
+    if after > 0 {
+        write!(writer, ", and {after} puts after the failed one")?;
     }
     writer.write_all(b"\n")
 }

@@ -7,7 +7,7 @@ use std::alloc::{AllocError, Global};
 use std::fs;
 use std::io::{self, Write};
 use tmpl_code::compile;
-use tmpl_engine::{Engine, MissingKey, NameHash, Options, RenderError, Renderer, Sink, WriterSink};
+use tmpl_engine::{Engine, MissingKey, NameHash, Options, RenderError, Renderer, WriterSink};
 use tmpl_funcs::{CallError, Func, call};
 use tmpl_grammar::{Reading, read_action};
 use tmpl_lex::{Piece, cut};
@@ -238,7 +238,7 @@ fn call_function(
     }
 }
 
-/// Adds a file to an engine, and renders its template with data, at once or by a renderer.
+/// Adds a file to an engine, and renders its template with data, by the engine's renderer or by one of its own.
 fn render(
     alloc: Global,
     by_renderer: bool,
@@ -255,35 +255,42 @@ fn render(
     let Some(data) = data_of(alloc, json)? else {
         return Ok(false);
     };
-    let mut sink = WriterSink::new(&mut *writer);
-    match render_to(alloc, by_renderer, &engine, &data, &mut sink) {
-        Ok(()) => Ok(true),
-        Err(RenderError::OutOfMemory) => put(writer, Err(AllocError)),
-        Err(_) => Ok(false),
+    match renderer_of(alloc, by_renderer, &mut engine) {
+        Ok(renderer) => render_to(alloc, &renderer, &data, writer),
+        Err(error) => put(writer, Err(error)),
     }
 }
 
-/// Renders the template `m` of an engine to a sink, at once or by a renderer.
-fn render_to<'a, S: Sink>(
+/// A renderer of the templates of an engine, of its own or the one that the engine keeps.
+fn renderer_of(
     alloc: Global,
-    by_renderer: bool,
-    engine: &'a Engine,
-    data: &'a Data,
-    out: &mut S,
-) -> Result<(), RenderError<'a>>
-    requires { (S.so_far out.old).failures < 2 ^ 64 - 1 }
-{
+    of_its_own: bool,
+    engine: &mut Engine,
+) -> Result<Renderer, AllocError> {
+    if of_its_own {
+        Renderer::new(alloc, engine.templates())
+    } else {
+        engine.renderer(alloc)
+    }
+}
+
+/// Renders the template `m`.
+fn render_to(
+    alloc: Global,
+    renderer: &Renderer,
+    data: &Data,
+    writer: &mut impl Write,
+) -> io::Result<bool> {
     let options = Options {
         missing_key: MissingKey::Error,
         depth: 2,
         steps: 100,
     };
-    if !by_renderer {
-        return engine.render(alloc, b"m", Some(data), &options, out);
-    }
-    match Renderer::new(alloc, engine.templates()) {
-        Ok(renderer) => renderer.render(alloc, b"m", Some(data), &options, out),
-        Err(_) => Err(RenderError::OutOfMemory),
+    let mut sink = WriterSink::new(&mut *writer);
+    match renderer.render(alloc, b"m", Some(data), &options, &mut sink) {
+        Ok(()) => Ok(true),
+        Err(RenderError::OutOfMemory) => put(writer, Err(AllocError)),
+        Err(_) => Ok(false),
     }
 }
 

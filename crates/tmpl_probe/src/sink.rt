@@ -12,7 +12,7 @@ pub(crate) struct Limits {
     pub(crate) most: usize,
     /// The number of the put, from 1, that fails; none of number 0.
     pub(crate) fails_at: u64,
-    /// Whether that put alone fails, and those behind it would be taken. Else they fail too.
+    /// Whether that put alone fails, and those after it would be taken. Else they fail too.
     pub(crate) once: bool,
 }
 
@@ -24,8 +24,8 @@ pub(crate) struct LentSink<'a> {
     limits: Limits,
     puts: u64,
     failures: u64,
-    /// The puts behind the first that failed.
-    behind: u64,
+    /// The puts after the first that failed.
+    after: u64,
     ghost within: { taken ≤ length kept.now },
 }
 
@@ -40,7 +40,7 @@ impl<'a> LentSink<'a> {
             limits,
             puts: 0,
             failures: 0,
-            behind: 0,
+            after: 0,
         }
     }
 
@@ -54,9 +54,9 @@ impl<'a> LentSink<'a> {
         self.puts
     }
 
-    /// How many puts there were behind the first that failed.
-    pub(crate) fn behind(&self) -> u64 {
-        self.behind
+    /// How many puts there were after the first that failed.
+    pub(crate) fn after(&self) -> u64 {
+        self.after
     }
 
     /// Whether a put failed.
@@ -70,7 +70,7 @@ impl<'a> LentSink<'a> {
         fails_at > 0 && (self.puts == fails_at || self.puts > fails_at && !self.limits.once)
     }
 
-    /// How many of so many bytes it takes now.
+    /// How many bytes it takes now of a put of this many.
     fn count(&self, given: usize) -> usize
         ensures given { result ≤ given }
         ensures room { self.now.taken + result ≤ length self.now.kept.now }
@@ -90,7 +90,7 @@ impl Sink for LentSink<'_> {
     fn put(&mut self, bytes: &[u8]) -> Result<usize, SinkFault> {
         self.puts = self.puts.saturating_add(1);
         if self.failures > 0 {
-            self.behind = self.behind.saturating_add(1);
+            self.after = self.after.saturating_add(1);
         }
         let count = self.count(bytes.len());
         if count == 0 {

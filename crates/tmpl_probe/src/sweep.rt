@@ -46,7 +46,7 @@ pub(crate) fn run_cases(rt: &HostRuntime, words: &[String]) -> io::Result<bool> 
     Ok(true)
 }
 
-/// Runs a case for each of its numbers, up to the first run in which nothing failed that was to fail. Behind the last
+/// Runs a case for each of its numbers, up to the first run in which nothing failed that was to fail. After the last
 /// there is an empty line.
 fn run_case(
     alloc: Global,
@@ -81,7 +81,7 @@ fn failing(limits: Limits, number: u64, is_varied: bool) -> Limits {
     }
 }
 
-/// The files of a case, the first of them cut to so many bytes where that is what the number says.
+/// The files of a case, the first of them cut to this many bytes where that is what the number says.
 fn cut_files<'a>(case: &Case<'a>, number: u64) -> Result<Vec<File<'a>>, AllocError> {
     let mut files = case.files.clone()?;
     if case.numbers.varied == Varied::Front
@@ -130,7 +130,7 @@ fn run_once(
 }
 
 /// Puts out what came of a run: the status and how many reads there were; of the output how many puts, how many of them
-/// behind the first that failed and how many bytes were taken; of the errors how many puts behind the first that failed
+/// after the first that failed and how many bytes were taken; of the errors how many puts after the first that failed
 /// and bytes; and how many bytes of the output follow. Then these, none where they are a beginning of what is wanted,
 /// and those of the errors.
 fn put_run(
@@ -159,7 +159,7 @@ fn put_run(
 }
 
 fn put_counts(writer: &mut impl Write, sink: &LentSink<'_>) -> io::Result<()> {
-    let behind = sink.behind();
+    let after = sink.after();
     let taken = sink.as_slice().len();
-    write!(writer, "{behind} {taken} ")
+    write!(writer, "{after} {taken} ")
 }

@@ -1,0 +1,51 @@
+-- For code on controls: what is known after one, by what is known after its parts.
+use Rattle.std.proofs.Common.{rules, ◌≡◌, true, Option, Some, length, refl}
+use Rattle.tmpl_grammar.specs.Tree.{Header}
+use Rattle.tmpl_grammar.specs.declared.tree.Control.{Control}
+use Rattle.tmpl_grammar.specs.View.{header_of}
+use Rattle.tmpl_grammar.specs.declared.tree.Control.TheVariants as control
+use Rattle.tmpl_syntax.specs.Tree.{NodeKind, Nodes, control_node}
+use Rattle.tmpl_syntax.specs.View.{control_of, nodes_in}
+use Rattle.tmpl_syntax.specs.declared.tree.NodeKind.{the_lemmas}
+use Rattle.tmpl_syntax.specs.declared.tree.ControlNode.{ControlNode, out-ControlNode}
+use Rattle.tmpl_meaning.specs.declared.missing_key.MissingKey.{MissingKey}
+use Rattle.tmpl_schema.specs.Shape.{Shape}
+use Rattle.tmpl_schema.specs.computed.Shapes.{Base, Visit, visit_of}
+use Rattle.tmpl_schema.specs.computed.Check.{Known, State, Table, after_both, after_node, after_nodes, holds_loop, in_body, in_other, kept_by, pipeline_shape}
+use Rattle.tmpl_schema.specs.computed.View.{after_choice_by, after_range_by, ranged_by, turned_by}
+
+module _ (base : Base) (m : MissingKey) (table : Table) (loop : Option Known) (h : Header) (k : State) (body other : Nodes) where
+  pub choice-after : (c : Control) (s : Shape) (one two ks : Known) → after_nodes base m table loop (in_body base c h k s) body ≡ Some one
+      → after_nodes base m table loop (in_other base h k s) other ≡ Some two → after_both base (length k.env) one two ≡ Some ks
+      → after_choice_by base m table loop c h k body other s ≡ Some ks
+  choice-after c s one two ks a b e = rw (a, b) e
+
+  pub range-is : (v : Visit) (head two : Known) → kept_by base (turned_by base m table h v body) k.env ≡ Some head
+      → after_nodes base m table loop k other ≡ Some two
+      → after_range_by base m table loop h k body other v ≡ after_both base (length k.env) head two
+  range-is v head two a b = rw (a, b) refl
+
+  pub visit-after : (s : Shape) (v : Visit) (ks : Known) → visit_of base h.binding s ≡ Some v
+      → after_range_by base m table loop h k body other v ≡ Some ks → ranged_by base m table loop h k body other s ≡ Some ks
+  visit-after s v ks a e = rw a e
+
+  pub range-after : (v : Visit) (head two ks : Known) → kept_by base (turned_by base m table h v body) k.env ≡ Some head
+      → after_nodes base m table loop k other ≡ Some two → after_both base (length k.env) head two ≡ Some ks
+      → after_range_by base m table loop h k body other v ≡ Some ks
+  range-after v head two ks a b e = rw (a, b) e
+
+pub control_seen : (c : ControlNode) → control_of c
+    ≡ control_node (out-ControlNode c).control (header_of (out-ControlNode c).header) (nodes_in (out-ControlNode c).body.items) (nodes_in (out-ControlNode c).other.items)
+control_seen c = search (rules, the_lemmas)
+
+module _ (base : Base) (m : MissingKey) (table : Table) (loop : Option Known) (k : State) where
+  pub range-control : (n : NodeKind) (h : Header) (body other : Nodes) (s : Shape) → n ≡ control_node control.Range h body other
+      → holds_loop loop k.env ≡ true → pipeline_shape base m k h.pipeline ≡ Some s
+      → after_node base m table loop k n ≡ ranged_by base m table loop h k body other s
+  range-control n h body other s is holds shape = rw is (rw (holds, shape) refl)
+
+pub ruleset choices = (choice-after)
+
+pub ruleset ranges = (range-after)
+
+pub ruleset visits = (visit-after)

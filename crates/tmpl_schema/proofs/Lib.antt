@@ -1,0 +1,16 @@
+pub mod ShapeLemmas
+pub mod FieldLemmas
+pub mod VariableLemmas
+pub mod CallLemmas
+pub mod RunLemmas
+pub mod NameLemmas
+pub mod SafeLemmas
+pub mod ViewLemmas
+pub mod StepLemmas
+pub mod LengthLemmas
+pub mod StateLemmas
+pub mod PipelineLemmas
+pub mod NodeLemmas
+pub mod ControlLemmas
+pub mod AcceptLemmas
+pub mod Examples

@@ -1,0 +1,74 @@
+-- For code that takes steps into shapes: what is computed where a step is left.
+use Rattle.std.proofs.Common.{◌≡◌, ◌∙◌, ◌-◌, ℕ, zero, suc, Bool, List, Option, refl, sym, subst, arith}
+use Rattle.tmpl_schema.specs.Shape.{Shape, never, either, named}
+use Rattle.tmpl_schema.specs.computed.Shapes.{Base, plain_within, some_part, within_by, null_step, may_be_null, gone_step, null_gone_by}
+use Rattle.tmpl_schema.specs.computed.Shapes.{refined_step, refined_by, field_step, field_shape_by, visit_step, visit_by, sized_step, is_sized_by}
+use Rattle.tmpl_schema.specs.computed.Check.{Known, settled, settled_soon, settled_step}
+use Rattle.tmpl_grammar.specs.Tree.{Binding}
+use Rattle.tmpl_meaning.specs.declared.missing_key.MissingKey.{MissingKey}
+use Rattle.tmpl_schema.specs.computed.View.{name_within}
+
+-- a shape of one kind, or any value
+abbrev pub next : Base → ℕ → ℕ → Shape → Shape → Bool
+next base k n s t = some_part base 64 (plain_within (within_by base k n) s) t
+
+-- what holds of a number and one more holds where that is not zero
+by_step : (P : ℕ → ℕ → Type 0) → ((n : ℕ) → P (suc n) n) → (n : ℕ) → (n ≡ 0 → ⊥) → P n (n - 1)
+by_step P f zero e = absurd (e refl)
+by_step P f (suc n) e = let same : suc n - 1 ≡ n = omega arith in subst (λ i. P (suc n) i) (sym same) (f n)
+
+pub null-next : (base : Base) (n : ℕ) (s : Shape) → (n ≡ 0 → ⊥) → may_be_null base n s ≡ null_step base (may_be_null base (n - 1)) s
+null-next base n s e = by_step (λ i j. may_be_null base i s ≡ null_step base (may_be_null base j) s) (λ i. refl) n e
+
+pub gone-next : (base : Base) (n : ℕ) (s : Shape) → (n ≡ 0 → ⊥) → null_gone_by base n s ≡ gone_step base (null_gone_by base (n - 1)) s
+gone-next base n s e = by_step (λ i j. null_gone_by base i s ≡ gone_step base (null_gone_by base j) s) (λ i. refl) n e
+
+pub refined-next : (base : Base) (n : ℕ) (ns : List (List ℕ)) (s : Shape) → (n ≡ 0 → ⊥)
+    → refined_by base n ns s ≡ refined_step base (refined_by base (n - 1)) ns s
+refined-next base n ns s e = by_step (λ i j. refined_by base i ns s ≡ refined_step base (refined_by base j) ns s) (λ i. refl) n e
+
+pub field-next : (base : Base) (n : ℕ) (m : MissingKey) (x : List ℕ) (s : Shape) → (n ≡ 0 → ⊥)
+    → field_shape_by base n m x s ≡ field_step base (field_shape_by base (n - 1) m x) m x s
+field-next base n m x s e = by_step (λ i j. field_shape_by base i m x s ≡ field_step base (field_shape_by base j m x) m x s) (λ i. refl) n e
+
+pub visit-next : (base : Base) (n : ℕ) (c : Binding) (s : Shape) → (n ≡ 0 → ⊥) → visit_by base n c s ≡ visit_step base (visit_by base (n - 1) c) c s
+visit-next base n c s e = by_step (λ i j. visit_by base i c s ≡ visit_step base (visit_by base j c) c s) (λ i. refl) n e
+
+pub sized-next : (base : Base) (n : ℕ) (s : Shape) → (n ≡ 0 → ⊥) → is_sized_by base n s ≡ sized_step base (is_sized_by base (n - 1)) s
+sized-next base n s e = by_step (λ i j. is_sized_by base i s ≡ sized_step base (is_sized_by base j) s) (λ i. refl) n e
+
+pub settled-next : (base : Base) (n : ℕ) (turn : Known → Option Known) (ks : Known) → (n ≡ 0 → ⊥)
+    → settled base n turn ks ≡ settled_step base (settled base (n - 1) turn) turn ks
+settled-next base n turn ks e = by_step (λ i j. settled base i turn ks ≡ settled_step base (settled base j turn) turn ks) (λ i. refl) n e
+
+pub soon-settled : (base : Base) (turn : Known → Option Known) (ks : Known) → settled_soon base turn ks ≡ settled base 12 turn ks
+unfolding settled_soon
+soon-settled base turn ks = refl
+
+pub ruleset soon = (soon-settled)
+
+pub ruleset rounds = (settled-next)
+
+pub ruleset steps = (null-next, gone-next, refined-next, field-next, visit-next, sized-next)
+
+module _ (base : Base) (k : ℕ) where
+  -- a shape of one kind, or any value
+  abbrev pub IsLeaf : Shape → Type 0
+  IsLeaf never = ⊥
+  IsLeaf (either s t) = ⊥
+  IsLeaf (named x) = ⊥
+  IsLeaf s = Unit {0}
+
+  leaf-step : (n : ℕ) (s t : Shape) → IsLeaf s → within_by base k (suc n) s t ≡ next base k n s t
+  leaf-step n never t h = absurd h
+  leaf-step n (either s u) t h = absurd h
+  leaf-step n (named x) t h = absurd h
+  leaf-step n _ t h = refl
+
+  pub leaf-within : (n : ℕ) (s t : Shape) (r : Bool) → IsLeaf s → (n ≡ 0 → ⊥) → r ≡ next base k (n - 1) s t → r ≡ within_by base k n s t
+  leaf-within n s t r h e is = is ∙ by_step (λ i j. next base k j s t ≡ within_by base k i s t) (λ i. sym (leaf-step i s t h)) n e
+
+  pub named-within : (n : ℕ) (x : List ℕ) (s t : Shape) (r : Bool) → s ≡ named x → (n ≡ 0 → ⊥) → r ≡ name_within base k (n - 1) x t
+      → r ≡ within_by base k n s t
+  named-within n x s t r h e is =
+      rw h (is ∙ by_step (λ i j. name_within base k j x t ≡ within_by base k i (named x) t) (λ i. refl) n e)

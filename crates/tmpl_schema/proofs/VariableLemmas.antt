@@ -1,0 +1,358 @@
+-- For the law `runs_safely`: the variables of a run have the shapes that are computed, and so have pipelines.
+use Rattle.std.proofs.Common.{arith, ◌≡◌, ◌∙◌, ◌+◌, ◌-◌, ◌≤◌, ◌&&◌, ◌++◌, not, option_to_list, unwrap_or, ℕ, zero, suc, Bool, true, false, List, [], ◌∷◌, Option, Some, None, Result, Ok, Err, length, drop, ap, refl, sym, subst, if◌then◌else◌}
+use Rattle.std.proofs.lemmas.List.{drop-drop, length-drop}
+use Rattle.std.proofs.lemmas.Bool.{false≢true, and_parts}
+use Rattle.std.proofs.lemmas.Option.{cond_some, option_and_then_some}
+use Rattle.std.specs.Option.{option_map, option_map_or, option_and_then}
+use Rattle.std.specs.List.{find}
+use Rattle.std.specs.Str.{bytes_eq}
+use Rattle.tmpl_values.specs.Value.{Value, nothing, null, boolean}
+use Rattle.tmpl_values.specs.Elements.{Element}
+use Rattle.tmpl_values.specs.Truth.{truth}
+use Rattle.tmpl_grammar.specs.Tree.{Operand, dot, fields, variable, nil, function, group, Operands, no_operand, operand, Pipeline, no_command, command}
+use Rattle.tmpl_grammar.specs.Tree.{Binding, unbound, declare, assign, declare_pair}
+use Rattle.tmpl_meaning.specs.Fault.{Cause}
+use Rattle.tmpl_meaning.specs.Pipeline.{Environment, Given, Place, chain, lookup, given, given_then, go_on, without_null, operand_value, command_value, commands_value}
+use Rattle.tmpl_meaning.specs.Meaning.{assigned, bound}
+use Rattle.tmpl_meaning.specs.declared.missing_key.MissingKey.{MissingKey}
+use Rattle.tmpl_schema.specs.Shape.{Shape, nothings, HasShape, Names}
+use Rattle.tmpl_schema.specs.computed.Means.{Means}
+use Rattle.tmpl_schema.specs.computed.Shapes.{Base, within, both, filled, null_gone, refined, chain_shape}
+use Rattle.tmpl_schema.specs.computed.Calls.{call_shape, shape_by_function}
+use Rattle.tmpl_schema.specs.computed.Check.{narrowed_by, narrowed_by_all, narrowed_empty, deciding_shape, passing_shape, passed, operand_shapes, junction_shape, commands_shape}
+use Rattle.tmpl_schema.specs.computed.Check.{Known, State, variable_shape, assigned_shape, bound_shapes, refined_variable, all_within, all_joined, last_of, if_within}
+use Rattle.tmpl_schema.specs.computed.Check.{after_both, operand_shape, command_shape, pipeline_shape, narrowed}
+use Rattle.tmpl_schema.proofs.ShapeLemmas.{same_name, within-has, null_gone-has}
+use Rattle.tmpl_schema.proofs.FieldLemmas.{Gives, both-left, both-right, chain-gives, filled-has, refined-has}
+use Rattle.tmpl_schema.proofs.CallLemmas.{HaveShapes, call-gives}
+use Rattle.tmpl_funcs.specs.Func.{takes}
+use Rattle.tmpl_funcs.specs.declared.func.Func.{Func}
+use Rattle.tmpl_funcs.specs.declared.func.Func.TheVariants as func
+use Rattle.tmpl_meaning.specs.Pipeline.{applied, by_function, decides, junction, operand_count, operand_values}
+use Rattle.tmpl_meaning.proofs.PartLemmas.{by_count, decided}
+
+module _ (base : Base) (N : Names) (means : Means base.defs N) where
+  -- the variables have these names and shapes
+  abbrev pub HasKnown : Known → Environment → Type 0
+  HasKnown [] [] = Unit {0}
+  HasKnown (k ∷ ks) (v ∷ env) = (v.0 ≡ k.0) × HasShape N k.1 v.1 × HasKnown ks env
+  HasKnown ks env = ⊥
+
+  pub known-length : (ks : Known) (env : Environment) → HasKnown ks env → length ks ≡ length env
+  known-length [] [] h = refl
+  known-length (k ∷ ks) (v ∷ env) h = ap suc (known-length ks env h.2)
+  known-length _ _ h = absurd h
+
+  drop-known : (n : ℕ) (ks : Known) (env : Environment) → HasKnown ks env → HasKnown (drop n ks) (drop n env)
+  drop-known zero ks env h = h
+  drop-known (suc n) [] [] h = tt
+  drop-known (suc n) (k ∷ ks) (v ∷ env) h = drop-known n ks env h.2
+  drop-known (suc n) _ _ h = absurd h
+
+  pub last-known : (n : ℕ) (ks : Known) (env : Environment) → HasKnown ks env → HasKnown (last_of n ks) (last_of n env)
+  last-known n ks env h =
+      subst (λ (i : ℕ). HasKnown (drop (length ks - n) ks) (drop (i - n) env)) (known-length ks env h) (drop-known (length ks - n) ks env h)
+
+  -- the last of the last
+  pub last-last : {T : Type 0} → (m n : ℕ) (xs : List T) → m ≤ n → last_of m (last_of n xs) ≡ last_of m xs
+  last-last m n xs h =
+      let l = length-drop (length xs - n) xs in
+      let e : (length xs - n) + (length (drop (length xs - n) xs) - m) ≡ length xs - m = omega arith in
+      drop-drop (length (drop (length xs - n) xs) - m) (length xs - n) xs ∙ ap (λ i. drop i xs) e
+
+  pub within-known : (a b : Known) (env : Environment) → all_within base a b ≡ true → HasKnown a env → HasKnown b env
+  within-known [] [] env e h = h
+  within-known (a ∷ more) (b ∷ bs) (v ∷ env) e h =
+      let p = and_parts (bytes_eq a.0 b.0) (within base a.1 b.1 && all_within base more bs) e in
+      let q = and_parts (within base a.1 b.1) (all_within base more bs) p.1 in
+      (h.0 ∙ same_name a.0 b.0 p.0, (within-has base N means) a.1 b.1 v.1 q.0 h.1, within-known more bs env q.1 h.2)
+  within-known (a ∷ more) (b ∷ bs) [] e h = absurd h
+  within-known _ _ env e h = absurd (false≢true e)
+
+  pub if_within-some : (a b c : Known) → if_within base a b ≡ Some c → (all_within base a b ≡ true) × (b ≡ c)
+  if_within-some a b c e = cond_some (all_within base a b) b c e
+
+  -- after two parts the variables that were there before are known
+  pub both-known : (n : ℕ) (a b c : Known) → after_both base n a b ≡ Some c
+      → ((env : Environment) → HasKnown (last_of n a) env → HasKnown c env) × ((env : Environment) → HasKnown (last_of n b) env → HasKnown c env)
+  both-known n a b c e =
+      let u = last_of n a in let w = last_of n b in let j = all_joined base u w in
+      option_and_then_some (λ x. if_within base w x) (if_within base u j) c e (λ x is more.
+      let p = if_within-some u j x is in
+      let q = if_within-some w x c more in
+      let same : j ≡ c = p.1 ∙ q.1 in (
+        λ env h. subst (λ (y : Known). HasKnown y env) same (within-known u j env p.0 h),
+        λ env h. subst (λ (y : Known). HasKnown y env) q.1 (within-known w x env q.0 h),
+      ))
+
+  -- ---- variables
+
+  lookup-gives : (name : List ℕ) (ks : Known) (env : Environment) → HasKnown ks env → (Gives base N means) (variable_shape name ks) (Ok (lookup name env))
+  lookup-gives name [] env h = tt
+  lookup-gives name (k ∷ ks) [] h = absurd h
+  lookup-gives name (k ∷ ks) (v ∷ env) h = rw h.0 (by (bytes_eq k.0 name) (lookup-gives name ks env h.2))
+    where
+      by : (b : Bool) → (Gives base N means) (variable_shape name ks) (Ok (lookup name env))
+          → (Gives base N means) (if b then Some k.1 else variable_shape name ks) (Ok (option_map_or (λ v. v.1) (if b then Some (k.0, v.1) else find (λ v. bytes_eq v.0 name) env) nothing))
+      by true more = h.1
+      by false more = more
+
+  assigned-known : (name : List ℕ) (s : Shape) (x : Value) → HasShape N s x → (ks : Known) (env : Environment) → HasKnown ks env
+      → HasKnown (assigned_shape name s ks) (assigned name x env)
+  assigned-known name s x f [] [] h = tt
+  assigned-known name s x f (k ∷ ks) (v ∷ env) h = rw h.0 (by (bytes_eq k.0 name) (assigned-known name s x f ks env h.2))
+    where
+      by : (b : Bool) → HasKnown (assigned_shape name s ks) (assigned name x env)
+          → HasKnown (if b then (k.0, s) ∷ ks else k ∷ assigned_shape name s ks) (if b then (k.0, x) ∷ env else (k.0, v.1) ∷ assigned name x env)
+      by true more = (refl, f, h.2)
+      by false more = (refl, h.1, more)
+  assigned-known name s x f _ _ h = absurd h
+
+  pub bound-known : (b : Binding) (k s : Shape) (e : Element) → HasShape N k e.0 → HasShape N s e.1 → (ks : Known) (env : Environment) → HasKnown ks env
+      → HasKnown (bound_shapes b k s ks) (bound b e env)
+  bound-known unbound k s e f g ks env h = h
+  bound-known (declare name) k s e f g ks env h = (refl, g, h)
+  bound-known (assign name) k s e f g ks env h = assigned-known name s e.1 g ks env h
+  bound-known (declare_pair key name) k s e f g ks env h = (refl, g, (refl, f, h))
+
+  refined-known : (m : MissingKey) (name : List ℕ) (ns : List (List ℕ)) (x : Value) → truth x ≡ true → (ks : Known) (env : Environment) → HasKnown ks env
+      → chain m ns (lookup name env) ≡ Ok x → HasKnown (refined_variable base name ns ks) env
+  refined-known m name ns x t [] [] h e = tt
+  refined-known m name ns x t (k ∷ ks) (v ∷ env) h e = by (bytes_eq k.0 name) (rw h.0 at e) (refined-known m name ns x t ks env h.2)
+    where
+      by : (b : Bool) → chain m ns (option_map_or (λ v. v.1) (if b then Some (k.0, v.1) else find (λ v. bytes_eq v.0 name) env) nothing) ≡ Ok x
+          → (chain m ns (lookup name env) ≡ Ok x → HasKnown (refined_variable base name ns ks) env)
+          → HasKnown (if b then (k.0, refined base ns k.1) ∷ ks else k ∷ refined_variable base name ns ks) (v ∷ env)
+      by true y more = (h.0, (refined-has base N means) k.1 m ns v.1 x h.1 y t, h.2)
+      by false y more = (h.0, h.1, more y)
+  refined-known m name ns x t _ _ h e = absurd h
+
+  -- ---- pipelines
+
+  found-gives : (f : Shape → Option Shape) (g : Value → Result Value Cause) → ((s : Shape) (v : Value) → HasShape N s v → (Gives base N means) (f s) (g v))
+      → (o : Option Shape) (v : Value) → (Gives base N means) o (Ok v) → (Gives base N means) (option_and_then f o) (g v)
+  found-gives f g h None v k = tt
+  found-gives f g h (Some s) v k = h s v k
+
+  go-gives : (f : Shape → Option Shape) (g : Value → Given Value) (o : Option Shape) (r : Result Value Cause) (b : Bool) → (Gives base N means) o r
+      → ((s : Shape) (v : Value) → r ≡ Ok v → HasShape N s v → (Gives base N means) (f s) (g v).result) → (Gives base N means) (option_and_then f o) (go_on r b g).result
+  go-gives f g None r b k h = tt
+  go-gives f g (Some s) (Ok v) b k h = h s v refl k
+  go-gives f g (Some s) (Err cause) b k h = absurd k
+
+  -- .. and for values in a row
+  abbrev GivesAll : Option (List Shape) → Result (List Value) Cause → Type 0
+  GivesAll None r = Unit {0}
+  GivesAll (Some ss) (Ok vs) = (HaveShapes base N means) ss vs
+  GivesAll (Some ss) (Err cause) = ⊥
+
+  more-give : (o : Option Shape) (r : Result Value Cause) (os : Option (List Shape)) (rs : Result (List Value) Cause) (a b : Bool) → (Gives base N means) o r → GivesAll os rs
+      → GivesAll (option_and_then (λ s. option_map (λ ss. s ∷ ss) os) o) (go_on r a (λ v. go_on rs b (λ vs. given (Ok (v ∷ vs))))).result
+  more-give None r os rs a b h g = tt
+  more-give (Some s) (Ok v) None rs a b h g = tt
+  more-give (Some s) (Ok v) (Some ss) (Ok vs) a b h g = (h, g)
+  more-give (Some s) (Ok v) (Some ss) (Err cause) a b h g = absurd g
+  more-give (Some s) (Err cause) os rs a b h g = absurd h
+
+  -- what is piped, if anything is
+  abbrev Piped : Option Shape → Option Value → Type 0
+  Piped None None = Unit {0}
+  Piped (Some s) (Some v) = HasShape N s v
+  Piped o p = ⊥
+
+  piped-or : (ps : Option Shape) (pv : Option Value) (s : Shape) (v : Value) → Piped ps pv → HasShape N s v → HasShape N (unwrap_or ps s) (unwrap_or pv v)
+  piped-or None None s v p h = h
+  piped-or (Some t) (Some w) s v p h = p
+  piped-or _ _ s v p h = absurd p
+
+  with-piped : (ps : Option Shape) (pv : Option Value) → Piped ps pv → (ss : List Shape) (vs : List Value) → (HaveShapes base N means) ss vs
+      → (HaveShapes base N means) (ss ++ option_to_list ps) (vs ++ option_to_list pv)
+  with-piped None None p [] [] h = tt
+  with-piped (Some s) (Some v) p [] [] h = (p, tt)
+  with-piped ps pv p (s ∷ ss) (v ∷ vs) h = (h.0, with-piped ps pv p ss vs h.1)
+  with-piped _ _ p [] [] h = absurd p
+  with-piped ps pv p _ _ h = absurd h
+
+  piped-count : (ps : Option Shape) (pv : Option Value) → Piped ps pv → length (option_to_list pv) ≡ length (option_to_list ps)
+  piped-count None None p = refl
+  piped-count (Some s) (Some v) p = refl
+  piped-count _ _ p = absurd p
+
+  called-gives : (f : Func) (ps : Option Shape) (pv : Option Value) → Piped ps pv → (os : Option (List Shape)) (rs : Result (List Value) Cause) (b : Bool) → GivesAll os rs
+      → (Gives base N means) (option_and_then (λ ss. call_shape base f (ss ++ option_to_list ps)) os) (go_on rs b (λ vs. applied f (vs ++ option_to_list pv))).result
+  called-gives f ps pv p None rs b h = tt
+  called-gives f ps pv p (Some ss) (Ok vs) b h = (call-gives base N means) f (ss ++ option_to_list ps) (vs ++ option_to_list pv) (with-piped ps pv p ss vs h)
+  called-gives f ps pv p (Some ss) (Err cause) b h = absurd h
+
+  by_function-gives : (f : Func) (a b c : Option Shape) (x y z : Given Value) → (Gives base N means) a x.result → (Gives base N means) b y.result → (Gives base N means) c z.result
+      → (Gives base N means) (shape_by_function f a b c) (by_function f x y z).result
+  by_function-gives func.And a b c x y z h i j = i
+  by_function-gives func.Or a b c x y z h i j = j
+  by_function-gives _ a b c x y z h i j = h
+
+  by_count-gives : (f : Func) (t : Bool) (o : Option Shape) (g : Given Value) → (Gives base N means) o g.result → (Gives base N means) (if t then o else None) (by_count f t g).result
+  by_count-gives f true o g h = h
+  by_count-gives f false o g h = tt
+
+  -- dot and the variables are as known
+  abbrev pub Fits : State → Value → Environment → Type 0
+  Fits k d env = HasShape N k.dot d × HasKnown k.env env
+
+  abbrev pub place : MissingKey → Value → Environment → Place
+  place m d env = record { missing_key = m; dot = d; env = env }
+
+  narrowed_by-fits : (m : MissingKey) (o : Operand) (k : State) (d : Value) (env : Environment) (v : Value) → Fits k d env
+      → (operand_value (place m d env) o).result ≡ Ok v → truth v ≡ true → Fits (narrowed_by base o k) d env
+  narrowed_by-fits m dot k d env v h e t = let same : d ≡ v = cc in ((filled-has base N means) k.dot d h.0 (ap truth same ∙ t), h.1)
+  narrowed_by-fits m (fields names) k d env v h e t = ((refined-has base N means) k.dot m names d v h.0 e t, h.1)
+  narrowed_by-fits m (variable name names) k d env v h e t = (h.0, refined-known m name names v t k.env env h.1 e)
+  narrowed_by-fits m _ k d env v h e t = h
+
+  not_false : (b : Bool) → not b ≡ false → b ≡ true
+  not_false true e = refl
+  not_false false e = sym e
+
+  module _ (m : MissingKey) (d : Value) (env : Environment) where
+    junction-step : (is_or : Bool) (o : Operand) (os : Operands) (k : State) (ps : Option Shape) (pv : Option Value) → Fits k d env
+        → ((u : State) (s : Shape) (v : Value) → Fits u d env → HasShape N s v → (Gives base N means) (junction_shape base is_or m u s os ps) (junction is_or (place m d env) v os pv).result)
+        → (s : Shape) (v : Value) → (operand_value (place m d env) o).result ≡ Ok v → HasShape N s v
+        → (Gives base N means) (both base (Some (deciding_shape base is_or s)) (junction_shape base is_or m (passed base is_or o k) (passing_shape base is_or s) os ps))
+        (decided (decides is_or v) v (junction is_or (place m d env) v os pv)).result
+    junction-step true o os k ps pv fits more s v e h = by (truth v) refl
+      where
+        by : (b : Bool) → truth v ≡ b → (Gives base N means) (both base (Some (filled base s)) (junction_shape base true m k s os ps)) (decided b v (junction true (place m d env) v os pv)).result
+        by true t = (both-left base N means) (Some (filled base s)) (junction_shape base true m k s os ps) (Ok v) ((filled-has base N means) s v h t)
+        by false t = (both-right base N means) (Some (filled base s)) (junction_shape base true m k s os ps) (junction true (place m d env) v os pv).result (more k s v fits h)
+    junction-step false o os k ps pv fits more s v e h = by (truth v) refl
+      where
+        by : (b : Bool) → truth v ≡ b → (Gives base N means) (both base (Some s) (junction_shape base false m (narrowed_by base o k) (filled base s) os ps))
+            (decided (not b) v (junction false (place m d env) v os pv)).result
+        by false t = (both-left base N means) (Some s) (junction_shape base false m (narrowed_by base o k) (filled base s) os ps) (Ok v) h
+        by true t =
+            (both-right base N means) (Some s) (junction_shape base false m (narrowed_by base o k) (filled base s) os ps) (junction false (place m d env) v os pv).result
+            (more (narrowed_by base o k) (filled base s) v (narrowed_by-fits m o k d env v fits e t) ((filled-has base N means) s v h t))
+
+    mutual
+      operand-gives : (o : Operand) (k : State) → Fits k d env → (Gives base N means) (operand_shape base m k o) (operand_value (place m d env) o).result
+      operand-gives dot k fits = fits.0
+      operand-gives (fields names) k fits = (chain-gives base N means) m names k.dot d fits.0
+      operand-gives (variable name names) k fits =
+          found-gives (chain_shape base m names) (chain m names) ((chain-gives base N means) m names) (variable_shape name k.env) (lookup name env) (lookup-gives name k.env env fits.1)
+      operand-gives (group p names) k fits =
+          go-gives (chain_shape base m names) (λ v. given (chain m names v)) (commands_shape base m k p None) (commands_value (place m d env) p None).result
+          (commands_value (place m d env) p None).made_text (commands-give p k None None fits tt) (λ s v e. (chain-gives base N means) m names s v)
+      operand-gives (function f) k fits = by_count-gives f (takes f 0) (call_shape base f []) (applied f []) ((call-gives base N means) f [] [] tt)
+      operand-gives _ k fits = tt
+
+      operands-give : (os : Operands) (k : State) → Fits k d env → GivesAll (operand_shapes base m k os) (operand_values (place m d env) os).result
+      operands-give no_operand k fits = tt
+      operands-give (operand o os) k fits =
+          more-give (operand_shape base m k o) (operand_value (place m d env) o).result (operand_shapes base m k os) (operand_values (place m d env) os).result
+          (operand_value (place m d env) o).made_text (operand_values (place m d env) os).made_text (operand-gives o k fits) (operands-give os k fits)
+
+      junction-gives : (os : Operands) (is_or : Bool) (ps : Option Shape) (pv : Option Value) → Piped ps pv → (k : State) (s : Shape) (v : Value) → Fits k d env → HasShape N s v
+          → (Gives base N means) (junction_shape base is_or m k s os ps) (junction is_or (place m d env) v os pv).result
+      junction-gives no_operand is_or ps pv p k s v fits h = piped-or ps pv s v p h
+      junction-gives (operand o os) is_or ps pv p k s v fits h =
+          go-gives _ _ (operand_shape base m k o) (operand_value (place m d env) o).result (operand_value (place m d env) o).made_text (operand-gives o k fits)
+          (junction-step is_or o os k ps pv fits (junction-gives os is_or ps pv p))
+
+      command-gives : (os : Operands) (k : State) (ps : Option Shape) (pv : Option Value) → Fits k d env → Piped ps pv
+          → (Gives base N means) (command_shape base m k os ps) (command_value (place m d env) os pv).result
+      command-gives (operand (function f) os) k ps pv fits p =
+          rw (piped-count ps pv p) (by_count-gives f (takes f (operand_count os + length (option_to_list ps))) _ _
+          (by_function-gives f _ _ _ _ _ _
+          (called-gives f ps pv p (operand_shapes base m k os) (operand_values (place m d env) os).result (operand_values (place m d env) os).made_text (operands-give os k fits))
+          (junction-gives os false ps pv p k nothings nothing fits tt) (junction-gives os true ps pv p k nothings nothing fits tt)))
+      command-gives (operand nil _) k ps pv fits p = tt
+      command-gives (operand o no_operand) k None None fits p = operand-gives o k fits
+      command-gives _ k None (Some v) fits p = absurd p
+      command-gives _ k (Some s) None fits p = absurd p
+      command-gives _ k _ _ fits p = tt
+
+      commands-give : (cs : Pipeline) (k : State) (ps : Option Shape) (pv : Option Value) → Fits k d env → Piped ps pv
+          → (Gives base N means) (commands_shape base m k cs ps) (commands_value (place m d env) cs pv).result
+      commands-give no_command k ps pv fits p = piped-or ps pv nothings nothing p tt
+      commands-give (command os cs) k ps pv fits p =
+          go-gives _ _ (command_shape base m k os ps) (command_value (place m d env) os pv).result (command_value (place m d env) os pv).made_text (command-gives os k ps pv fits p)
+          (λ s v e h. commands-give cs k (Some (null_gone base s)) (Some (without_null v)) fits ((null_gone-has base N means) s v h))
+
+  pub pipeline-gives : (m : MissingKey) (k : State) (d : Value) (env : Environment) → Fits k d env → (p : Pipeline)
+      → (Gives base N means) (pipeline_shape base m k p) (commands_value (place m d env) p None).result
+  pipeline-gives m k d env fits p = commands-give m d env p k None None fits tt
+
+  -- ---- narrowing
+
+  truth-same : (v : Value) → truth (without_null v) ≡ truth v
+  truth-same null = refl
+  truth-same _ = refl
+
+  gone-ok : (r : Result Value Cause) (b : Bool) (v : Value) → (go_on r b (λ w. given (Ok (without_null w)))).result ≡ Ok v
+      → (w : Value) × (r ≡ Ok w) × (truth w ≡ truth v)
+  gone-ok (Ok w) b v e = let same : without_null w ≡ v = cc in (w, refl, sym (truth-same w) ∙ ap truth same)
+  gone-ok (Err cause) b v e = cc
+
+  by_count-ok : (f : Func) (t : Bool) (g : Given Value) (v : Value) → (by_count f t g).result ≡ Ok v → g.result ≡ Ok v
+  by_count-ok f true g v e = e
+  by_count-ok f false g v e = cc
+
+  -- an operand of an `and` that is not empty is not empty
+  and-step : (r : Result Value Cause) (b : Bool) (more : Value → Given Value) (v : Value) → (go_on r b (λ w. decided (not (truth w)) w (more w))).result ≡ Ok v
+      → truth v ≡ true → (w : Value) × (r ≡ Ok w) × (truth w ≡ true) × ((more w).result ≡ Ok v)
+  and-step (Err cause) b more v e t = cc
+  and-step (Ok w) b more v e t = by (truth w) refl e
+    where
+      by : (c : Bool) → truth w ≡ c → (decided (not c) w (more w)).result ≡ Ok v → (u : Value) × (◌≡◌ {A = Result Value Cause} (Ok w) (Ok u)) × (truth u ≡ true) × ((more u).result ≡ Ok v)
+      by true is e = (w, refl, is, e)
+      by false is e = let same : w ≡ v = cc in absurd (false≢true (sym is ∙ (ap truth same ∙ t)))
+
+  narrowed_all-fits : (m : MissingKey) (os : Operands) (k : State) (d : Value) (env : Environment) (last v : Value) → Fits k d env
+      → (junction false (place m d env) last os None).result ≡ Ok v → truth v ≡ true → Fits (narrowed_by_all base os k) d env
+  narrowed_all-fits m no_operand k d env last v h e t = h
+  narrowed_all-fits m (operand o os) k d env last v h e t =
+      let p = and-step (operand_value (place m d env) o).result (operand_value (place m d env) o).made_text (λ w. junction false (place m d env) w os None) v e t in
+      narrowed_all-fits m os (narrowed_by base o k) d env p.0 v (narrowed_by-fits m o k d env p.0 h p.1 p.2) p.3 t
+
+  -- where the value of a pipeline is not empty, what is known then holds
+  pub narrowed-fits : (m : MissingKey) (p : Pipeline) (k : State) (d : Value) (env : Environment) (v : Value) → Fits k d env
+      → (commands_value (place m d env) p None).result ≡ Ok v → truth v ≡ true → Fits (narrowed base p k) d env
+  narrowed-fits m (command (operand (function func.And) os) no_command) k d env v h e t =
+      let c = command_value (place m d env) (operand (function func.And) os) None in
+      let g = gone-ok c.result c.made_text v e in
+      narrowed_all-fits m os k d env nothing g.0 h (by_count-ok func.And _ (junction false (place m d env) nothing os None) g.0 g.1) (g.2 ∙ t)
+  narrowed-fits m (command (operand dot no_operand) no_command) k d env v h e t =
+      let g = gone-ok (Ok d) false v e in narrowed_by-fits m dot k d env g.0 h g.1 (g.2 ∙ t)
+  narrowed-fits m (command (operand (fields names) no_operand) no_command) k d env v h e t =
+      let g = gone-ok (chain m names d) false v e in narrowed_by-fits m (fields names) k d env g.0 h g.1 (g.2 ∙ t)
+  narrowed-fits m (command (operand (variable name names) no_operand) no_command) k d env v h e t =
+      let g = gone-ok (chain m names (lookup name env)) false v e in narrowed_by-fits m (variable name names) k d env g.0 h g.1 (g.2 ∙ t)
+  narrowed-fits m (command (operand _ no_operand) no_command) k d env v h e t = h
+  narrowed-fits m (command (operand _ (operand _ _)) no_command) k d env v h e t = h
+  narrowed-fits m (command no_operand no_command) k d env v h e t = h
+  narrowed-fits m (command _ (command _ _)) k d env v h e t = h
+  narrowed-fits m no_command k d env v h e t = h
+
+  not-ok : (x : Result Value Cause) (a b : Bool) (v : Value)
+      → (go_on (go_on x a (λ w. given (Ok (w ∷ [])))).result b (λ vs. applied func.Not (vs ++ []))).result ≡ Ok v → truth v ≡ false
+      → (w : Value) × (x ≡ Ok w) × (truth w ≡ true)
+  not-ok (Err cause) a b v e t = cc
+  not-ok (Ok w) a b v e t = let same : boolean (not (truth w)) ≡ v = cc in (w, refl, not_false (truth w) (ap truth same ∙ t))
+
+  -- .. and where it is empty
+  pub empty-fits : (m : MissingKey) (p : Pipeline) (k : State) (d : Value) (env : Environment) (v : Value) → Fits k d env
+      → (commands_value (place m d env) p None).result ≡ Ok v → truth v ≡ false → Fits (narrowed_empty base p k) d env
+  empty-fits m (command (operand (function func.Not) (operand o no_operand)) no_command) k d env v h e t =
+      let c = command_value (place m d env) (operand (function func.Not) (operand o no_operand)) None in
+      let g = gone-ok c.result c.made_text v e in
+      let x = operand_value (place m d env) o in
+      let vs = operand_values (place m d env) (operand o no_operand) in
+      let n = not-ok x.result x.made_text vs.made_text g.0
+      (by_count-ok func.Not (takes func.Not (operand_count (operand o no_operand) + 0)) (given_then vs (λ ws. applied func.Not (ws ++ []))) g.0 g.1) (g.2 ∙ t) in
+      narrowed_by-fits m o k d env n.0 h n.1 n.2
+  empty-fits m (command (operand (function _) no_operand) no_command) k d env v h e t = h
+  empty-fits m (command (operand (function _) (operand _ no_operand)) no_command) k d env v h e t = h
+  empty-fits m (command (operand (function _) (operand _ (operand _ _))) no_command) k d env v h e t = h
+  empty-fits m (command (operand _ _) no_command) k d env v h e t = h
+  empty-fits m (command no_operand no_command) k d env v h e t = h
+  empty-fits m (command _ (command _ _)) k d env v h e t = h
+  empty-fits m no_command k d env v h e t = h

@@ -1,0 +1,23 @@
+use Rattle.std.proofs.Common.{rules, ◌≡◌, true, Option, Some}
+use Rattle.tmpl_syntax.specs.Set.{tree_named}
+use Rattle.tmpl_syntax.specs.Tree.{Tree}
+use Rattle.tmpl_syntax.specs.View.{set_view, tree_of}
+use Rattle.tmpl_schema.specs.View.{shape_of}
+use Rattle.tmpl_schema.specs.computed.Check.{is_safe}
+use Rattle.tmpl_schema.specs.computed.Safe.{EachCallee}
+use Rattle.tmpl_schema.specs.computed.View.{base_of, entries_of, table_of}
+use Rattle.tmpl_schema.proofs.AcceptLemmas.{all-accepted}
+use Rattle.tmpl_schema.proofs.check.check_all.Goals as goal
+
+pub returns-in_ok-check_callees-in-Some : goal.returns-in_ok-check_callees-in-Some
+returns-in_ok-check_callees-in-Some c =
+    let base = base_of c.args.checker.now.base in
+    let m = c.args.checker.now.mode in
+    let set = set_view c.args.set.now in
+    let es = c.args.checker.now.table.now in
+    let t = tree_of c.in-Some.tree.now in
+    let s = shape_of c.args.shape.now in
+    let named : ◌≡◌ {A = Option Tree} (Some t) (tree_named c.args.name.now set) = search rules in
+    let safe : is_safe base m (table_of es) s t.nodes ≡ true = search rules in
+    let each : EachCallee base m c.args.stops.now set (table_of es) (entries_of es) = search rules in
+    all-accepted base m c.args.stops.now set es c.args.name.now s t named safe each

@@ -1,0 +1,41 @@
+use Rattle.std.proofs.Common.{◌≡◌, ◌+◌, ◌*◌, drop}
+use Rattle.tmpl_syntax.specs.View.{control_of, node_of, nodes_in}
+use Rattle.tmpl_schema.specs.computed.Check.{after_nodes}
+use Rattle.tmpl_schema.specs.computed.View.{base_of, known_seen, state_of, table_of}
+use Rattle.tmpl_schema.proofs.NodeLemmas.{node_weight, nodes_weight}
+use Rattle.tmpl_schema.proofs.node.+node.Given as goal
+
+abbrev pub decreases-after_nodes : goal.decreases-after_nodes
+decreases-after_nodes l = 60 * nodes_weight (nodes_in l.nodes.now)
+
+abbrev pub decreases-after_node : goal.decreases-after_node
+decreases-after_node l = 60 * node_weight (node_of l.node.now).what + 1
+
+abbrev pub decreases-after_control : goal.decreases-after_control
+decreases-after_control l = 60 * node_weight (control_of l.control.now)
+
+abbrev pub decreases-after_choice : goal.decreases-after_choice
+decreases-after_choice l = 60 * (nodes_weight (nodes_in l.parts.now.body.now) + nodes_weight (nodes_in l.parts.now.other.now)) + 30
+
+abbrev pub decreases-after_range : goal.decreases-after_range
+decreases-after_range l = 60 * (nodes_weight (nodes_in l.parts.now.body.now) + nodes_weight (nodes_in l.parts.now.other.now)) + 30
+
+abbrev pub decreases-kept : goal.decreases-kept
+decreases-kept l = 60 * nodes_weight (nodes_in l.body.now) + 20
+
+abbrev pub decreases-settled_soon : goal.decreases-settled_soon
+decreases-settled_soon l = 60 * nodes_weight (nodes_in l.body.now) + 19
+
+abbrev pub decreases-settled : goal.decreases-settled
+decreases-settled l = 60 * nodes_weight (nodes_in l.body.now) + (l.rounds + 5)
+
+abbrev pub decreases-turned : goal.decreases-turned
+decreases-turned l = 60 * nodes_weight (nodes_in l.body.now) + 4
+
+abbrev pub invariant-after_nodes-loop-node : goal.invariant-after_nodes-loop-node
+invariant-after_nodes-loop-node l =
+    after_nodes (base_of l.checker.base) l.checker.mode (table_of l.checker.table.now) (known_seen l.head) (state_of l.initial.state) (nodes_in l.nodes)
+    ≡ after_nodes (base_of l.checker.base) l.checker.mode (table_of l.checker.table.now) (known_seen l.head) (state_of l.state) (nodes_in (drop l.node-index l.nodes))
+
+abbrev pub decreases-after_ranging : goal.decreases-after_ranging
+decreases-after_ranging l = 60 * (nodes_weight (nodes_in l.parts.now.body.now) + nodes_weight (nodes_in l.parts.now.other.now)) + 31

@@ -1,0 +1,4 @@
+pub mod Safe
+pub mod Shape
+pub mod View
+pub mod computed

@@ -1,0 +1,6 @@
+pub mod Calls
+pub mod Check
+pub mod Means
+pub mod Safe
+pub mod Shapes
+pub mod View

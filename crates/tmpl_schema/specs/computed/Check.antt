@@ -1,0 +1,289 @@
+-- The check of a template against a shape, as a function that goes over the tree.
+use Rattle.std.specs.Prelude.{ℕ, zero, suc, ◌+◌, ◌-◌, nat_le, Bool, true, false, ◌&&◌, List, [], ◌∷◌, ◌++◌, length, drop}
+use Rattle.std.specs.Prelude.{Option, Some, None, option_to_list, unwrap_or, if◌then◌else◌}
+use Rattle.std.specs.Option.{option_map, option_map_or, option_and_then}
+use Rattle.std.specs.Str.{bytes_eq}
+use Rattle.tmpl_grammar.specs.Tree.{Operand, dot, fields, variable, bool_constant, number_constant, text_constant, nil}
+use Rattle.tmpl_grammar.specs.Tree.{function, group, Operands, no_operand, operand, Pipeline, no_command, command}
+use Rattle.tmpl_grammar.specs.Tree.{Binding, unbound, declare, assign, declare_pair, Header}
+use Rattle.tmpl_grammar.specs.declared.tree.Control.{Control}
+use Rattle.tmpl_grammar.specs.declared.tree.Control.TheVariants as control
+use Rattle.tmpl_syntax.specs.Tree as tree
+use Rattle.tmpl_syntax.specs.Tree.{NodeKind, text, action, control_node, break_node, continue_node, template_node, Nodes}
+use Rattle.tmpl_meaning.specs.declared.missing_key.MissingKey.{MissingKey}
+use Rattle.tmpl_schema.specs.Shape.{Shape, nothings, truths, numbers, texts}
+use Rattle.tmpl_funcs.specs.Func.{takes}
+use Rattle.tmpl_funcs.specs.declared.func.Func.{Func}
+use Rattle.tmpl_funcs.specs.declared.func.Func.TheVariants.{And, Not}
+use Rattle.tmpl_meaning.specs.Pipeline.{operand_count}
+use Rattle.tmpl_schema.specs.computed.Shapes.{Base, within, joined, both, filled, null_gone, refined, chain_shape, Visit, visit_of}
+use Rattle.tmpl_schema.specs.computed.Calls.{call_shape, shape_by_function}
+
+-- the shapes of the variables in scope, the newest first
+abbrev pub Known : Type 0
+Known = List (List ℕ × Shape)
+
+abbrev pub variable_shape : List ℕ → Known → Option Shape
+variable_shape name [] = None
+variable_shape name (k ∷ ks) = if bytes_eq k.0 name then Some k.1 else variable_shape name ks
+
+abbrev pub assigned_shape : List ℕ → Shape → Known → Known
+assigned_shape name s [] = []
+assigned_shape name s (k ∷ ks) = if bytes_eq k.0 name then (k.0, s) ∷ ks else k ∷ assigned_shape name s ks
+
+abbrev pub bound_shapes : Binding → Shape → Shape → Known → Known
+bound_shapes unbound k e ks = ks
+bound_shapes (declare name) k e ks = (name, e) ∷ ks
+bound_shapes (assign name) k e ks = assigned_shape name e ks
+bound_shapes (declare_pair key name) k e ks = (name, e) ∷ (key, k) ∷ ks
+
+-- the oldest, as many as this
+abbrev pub last_of : {T : Type 0} → ℕ → List T → List T
+last_of n xs = drop (length xs - n) xs
+
+-- the shape of an operand to which nothing is piped and no argument given
+abbrev pub alone : Option Shape → Option Shape → Operands → Option Shape
+alone s None no_operand = s
+alone s None (operand o os) = None
+alone s (Some piped) os = None
+
+-- dot, and the variables
+pub record State : Type 0 where
+  pub dot : Shape
+  pub env : Known
+
+-- what is known of a template that is called: the shape of what it is handed, or that it is not there
+pub data Callee : Type 0 where
+  handed : Shape → Callee
+  absent : Callee
+
+-- .. by their names
+abbrev pub Table : Type 0
+Table = List ℕ → Option Callee
+
+-- the range's variables are there
+abbrev pub holds_loop : Option Known → Known → Bool
+holds_loop None ks = true
+holds_loop (Some head) ks = nat_le (length head) (length ks)
+
+abbrev pub dot_in : Control → Shape → Shape → Shape
+dot_in control.With s d = s
+dot_in c s d = d
+
+-- what a check of nodes gives, by what is known before them
+abbrev pub Checked : Type 0
+Checked = State → Option Known
+
+-- a template's start over a value of the shape
+abbrev pub at_start : Shape → State
+at_start s = record { dot = s; env = ([], s) ∷ [] }
+
+-- where a turn of a range begins
+abbrev pub in_turn : Header → Visit → Known → State
+in_turn h v ks = record { dot = v.element; env = bound_shapes h.binding v.key v.element ks }
+
+-- the variables after a turn
+abbrev pub turned : Header → Visit → (Option Known → Checked) → Known → Option Known
+turned h v body ks = option_map (last_of (length ks)) (body (Some ks) (in_turn h v ks))
+
+module _ (base : Base) where
+  -- ---- variables
+
+  -- .. where a chain from a variable is not empty
+  abbrev pub refined_variable : List ℕ → List (List ℕ) → Known → Known
+  refined_variable name ns [] = []
+  refined_variable name ns (k ∷ ks) =
+      if bytes_eq k.0 name then (k.0, refined base ns k.1) ∷ ks else k ∷ refined_variable name ns ks
+
+  -- the same variables, each within the other's shape
+  abbrev pub all_within : Known → Known → Bool
+  all_within [] [] = true
+  all_within (k ∷ ks) (l ∷ ls) = bytes_eq k.0 l.0 && (within base k.1 l.1 && all_within ks ls)
+  all_within ks ls = false
+
+  abbrev pub all_joined : Known → Known → Known
+  all_joined (k ∷ ks) (l ∷ ls) = (k.0, joined base k.1 l.1) ∷ all_joined ks ls
+  all_joined ks ls = []
+
+  -- ---- pipelines
+
+  -- what is known where an operand is not empty, and where all these are not
+  abbrev pub narrowed_by : Operand → State → State
+  narrowed_by dot k = record k { dot = filled base k.dot }
+  narrowed_by (fields names) k = record k { dot = refined base names k.dot }
+  narrowed_by (variable name names) k = record k { env = refined_variable name names k.env }
+  narrowed_by o k = k
+
+  abbrev pub narrowed_by_all : Operands → State → State
+  narrowed_by_all no_operand k = k
+  narrowed_by_all (operand o os) k = narrowed_by_all os (narrowed_by o k)
+
+  -- the values that decide an `or`, or else an `and`, and those that do not
+  abbrev pub deciding_shape : Bool → Shape → Shape
+  deciding_shape is_or s = if is_or then filled base s else s
+
+  abbrev pub passing_shape : Bool → Shape → Shape
+  passing_shape is_or s = if is_or then s else filled base s
+
+  -- after an operand that does not decide
+  abbrev pub passed : Bool → Operand → State → State
+  passed is_or o k = if is_or then k else narrowed_by o k
+
+  abbrev mutual
+    pub operand_shape : MissingKey → State → Operand → Option Shape
+    operand_shape m k dot = Some k.dot
+    operand_shape m k (fields names) = chain_shape base m names k.dot
+    operand_shape m k (variable name names) = option_and_then (chain_shape base m names) (variable_shape name k.env)
+    operand_shape m k (bool_constant c) = Some truths
+    operand_shape m k (number_constant n) = Some numbers
+    operand_shape m k (text_constant bytes) = Some texts
+    operand_shape m k nil = Some nothings
+    operand_shape m k (function f) = if takes f 0 then call_shape base f [] else None
+    operand_shape m k (group p names) = option_and_then (chain_shape base m names) (commands_shape m k p None)
+
+    pub operand_shapes : MissingKey → State → Operands → Option (List Shape)
+    operand_shapes m k no_operand = Some []
+    operand_shapes m k (operand o os) =
+        option_and_then (λ s. option_map (λ ss. s ∷ ss) (operand_shapes m k os)) (operand_shape m k o)
+
+    -- the operands of an `and` or an `or`, each known to be after those before it
+    pub junction_shape : Bool → MissingKey → State → Shape → Operands → Option Shape → Option Shape
+    junction_shape is_or m k last no_operand piped = Some (unwrap_or piped last)
+    junction_shape is_or m k last (operand o os) piped =
+        option_and_then (λ s. both base (Some (deciding_shape is_or s))
+        (junction_shape is_or m (passed is_or o k) (passing_shape is_or s) os piped)) (operand_shape m k o)
+
+    pub command_shape : MissingKey → State → Operands → Option Shape → Option Shape
+    command_shape m k (operand (function f) os) piped =
+        if takes f (operand_count os + length (option_to_list piped)) then
+        shape_by_function f (option_and_then (λ ss. call_shape base f (ss ++ option_to_list piped)) (operand_shapes m k os))
+        (junction_shape false m k nothings os piped) (junction_shape true m k nothings os piped) else None
+    command_shape m k (operand nil os) piped = None
+    command_shape m k (operand o os) piped = alone (operand_shape m k o) piped os
+    command_shape m k no_operand piped = None
+
+    pub commands_shape : MissingKey → State → Pipeline → Option Shape → Option Shape
+    commands_shape m k no_command piped = Some (unwrap_or piped nothings)
+    commands_shape m k (command os cs) piped =
+        option_and_then (λ s. commands_shape m k cs (Some (null_gone base s))) (command_shape m k os piped)
+
+  -- the shape of a pipeline's value, if it never is a fault
+  abbrev pub pipeline_shape : MissingKey → State → Pipeline → Option Shape
+  pipeline_shape m k p = commands_shape m k p None
+
+  -- what is known where the value of a pipeline is not empty
+  abbrev pub narrowed_call : Func → Operands → State → State
+  narrowed_call And os k = narrowed_by_all os k
+  narrowed_call f os k = k
+
+  abbrev pub narrowed_alone : Operand → Operands → State → State
+  narrowed_alone o no_operand k = narrowed_by o k
+  narrowed_alone o os k = k
+
+  abbrev pub narrowed_command : Operands → State → State
+  narrowed_command (operand (function f) os) k = narrowed_call f os k
+  narrowed_command (operand o os) k = narrowed_alone o os k
+  narrowed_command no_operand k = k
+
+  abbrev pub narrowed : Pipeline → State → State
+  narrowed (command os no_command) k = narrowed_command os k
+  narrowed p k = k
+
+  -- .. and where it is empty
+  abbrev pub narrowed_not : Func → Operands → State → State
+  narrowed_not Not (operand o os) k = narrowed_alone o os k
+  narrowed_not f os k = k
+
+  abbrev pub narrowed_empty_command : Operands → State → State
+  narrowed_empty_command (operand (function f) os) k = narrowed_not f os k
+  narrowed_empty_command os k = k
+
+  abbrev pub narrowed_empty : Pipeline → State → State
+  narrowed_empty (command os no_command) k = narrowed_empty_command os k
+  narrowed_empty p k = k
+
+  -- ---- nodes
+
+  -- a set of variables, where it is within another
+  abbrev pub if_within : Known → Known → Option Known
+  if_within ks ls = if all_within ks ls then Some ls else None
+
+  -- the variables that were there before, after two parts
+  abbrev pub after_both : ℕ → Known → Known → Option Known
+  after_both n ks ls =
+      let u = last_of n ks in let w = last_of n ls in let j = all_joined u w in
+      option_and_then (λ j. if_within w j) (if_within u j)
+
+  -- the variables at the head of a range, if a turn keeps these; else those that are found from what a turn adds
+  abbrev pub settled_step : (Known → Option Known) → (Known → Option Known) → Known → Option Known
+  settled_step more turn ks =
+      option_and_then (λ end. if all_within end ks then Some ks else more (all_joined ks end)) (turn ks)
+
+  -- .. looked for in as many rounds as this
+  abbrev pub settled : ℕ → (Known → Option Known) → Known → Option Known
+  settled zero turn ks = None
+  settled (suc n) turn ks = settled_step (settled n turn) turn ks
+
+  unfoldable pub settled_soon : (Known → Option Known) → Known → Option Known
+  settled_soon turn ks = settled 12 turn ks
+
+  -- .. from these before it
+  abbrev pub kept_by : (Known → Option Known) → Known → Option Known
+  kept_by turn ks = option_and_then (if_within ks) (settled_soon turn ks)
+
+  -- at a break or continue the variables are within those at the head of the range
+  abbrev pub left_with : Known → Option Known → Option Known
+  left_with ks None = None
+  left_with ks (Some head) = option_map (λ u. ks) (if_within (last_of (length head) ks) head)
+
+  -- where an `if` or a `with` goes on with its body, and with its other part
+  abbrev pub in_body : Control → Header → State → Shape → State
+  in_body c h k s =
+      let u = narrowed h.pipeline k in
+      record { dot = dot_in c (filled base s) u.dot; env = bound_shapes h.binding nothings (filled base s) u.env }
+
+  abbrev pub in_other : Header → State → Shape → State
+  in_other h k s = let u = narrowed_empty h.pipeline k in record u { env = bound_shapes h.binding nothings s u.env }
+
+  abbrev pub after_choice : Control → Header → State → Checked → Checked → Shape → Option Known
+  after_choice c h k body other s =
+      option_and_then (λ a. option_and_then (after_both (length k.env) a) (other (in_other h k s))) (body (in_body c h k s))
+
+  abbrev pub after_range : Header → State → (Option Known → Checked) → Checked → Visit → Option Known
+  after_range h k body other v =
+      option_and_then (λ head. option_and_then (after_both (length k.env) head) (other k)) (kept_by (turned h v body) k.env)
+
+  abbrev pub after_control :
+      Control → Option Known → Header → State → (Option Known → Checked) → Checked → Shape → Option Known
+  after_control control.Range loop h k body other s =
+      option_and_then (after_range h k body other) (visit_of base h.binding s)
+  after_control c loop h k body other s = after_choice c h k (body loop) other s
+
+  -- where a template that is known is handed a value of the shape
+  abbrev pub after_call : Callee → Known → Option Shape → Option Known
+  after_call absent ks given = Some ks
+  after_call (handed t) ks given = option_and_then (λ s. if within base s t then Some ks else None) given
+
+  abbrev mutual
+    -- the variables after a node, if it has no fault but those that may come
+    pub after_node : MissingKey → Table → Option Known → State → NodeKind → Option Known
+    after_node m table loop k (text bytes) = Some k.env
+    after_node m table loop k (action h) =
+        option_map (λ s. bound_shapes h.binding nothings s k.env) (pipeline_shape m k h.pipeline)
+    after_node m table loop k (control_node c h body other) =
+        if holds_loop loop k.env then option_and_then
+        (after_control c loop h k (λ l u. after_nodes m table l u body) (λ u. after_nodes m table loop u other))
+        (pipeline_shape m k h.pipeline) else None
+    after_node m table loop k break_node = left_with k.env loop
+    after_node m table loop k continue_node = left_with k.env loop
+    after_node m table loop k (template_node name given) =
+        option_and_then (λ c. after_call c k.env (option_map_or (pipeline_shape m k) given (Some nothings))) (table name)
+
+    pub after_nodes : MissingKey → Table → Option Known → State → Nodes → Option Known
+    after_nodes m table loop k tree.none = Some k.env
+    after_nodes m table loop k (tree.then line n ns) =
+        option_and_then (λ ks. after_nodes m table loop (record k { env = ks }) ns) (after_node m table loop k n)
+
+  -- the nodes of a template are accepted for values of the shape
+  abbrev pub is_safe : MissingKey → Table → Shape → Nodes → Bool
+  is_safe m table s ns = option_map_or (λ ks. true) (after_nodes m table None (at_start s) ns) false

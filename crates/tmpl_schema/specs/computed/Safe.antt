@@ -1,0 +1,45 @@
+-- The law that an accepted template has no fault but those that it may have.
+use Rattle.std.specs.Prelude.{◌≡◌, ℕ, true, List, [], ◌∷◌, Option, Some, None, IfSome, Contains}
+use Rattle.std.specs.Option.{option_map_or}
+use Rattle.tmpl_values.specs.Value.{Value, nothing}
+use Rattle.tmpl_syntax.specs.Set.{Template, tree_named}
+use Rattle.tmpl_syntax.specs.Tree.{Tree}
+use Rattle.tmpl_meaning.specs.Meaning.{Rules, ran}
+use Rattle.tmpl_meaning.specs.Pipeline.{without_null}
+use Rattle.tmpl_meaning.specs.declared.missing_key.MissingKey.{MissingKey}
+use Rattle.tmpl_schema.specs.Shape.{Shape, HasShape, stands_for}
+use Rattle.tmpl_schema.specs.Safe.{MayEnd}
+use Rattle.tmpl_schema.specs.computed.Shapes.{Base}
+use Rattle.tmpl_schema.specs.computed.Check.{Callee, handed, absent, Table, is_safe}
+
+-- a template that is called is in the set, and is accepted for values of its shape; or it is not, and its call is a stop
+abbrev pub IsCallee : Base → MissingKey → List (List ℕ) → List Template → Table → List ℕ → Callee → Type 0
+IsCallee base m stops set table name (handed s) =
+    (t : Tree) × (tree_named name set ≡ Some t) × (is_safe base m table s t.nodes ≡ true)
+IsCallee base m stops set table name absent = (tree_named name set ≡ None) × Contains stops name
+
+-- .. and so each of the table
+abbrev pub IsChecked : Base → MissingKey → List (List ℕ) → List Template → Table → Type 0
+IsChecked base m stops set table =
+    (name : List ℕ) (c : Callee) → table name ≡ Some c → IsCallee base m stops set table name c
+
+-- each of these is so
+abbrev pub EachCallee : Base → MissingKey → List (List ℕ) → List Template → Table → List (List ℕ × Callee) → Type 0
+EachCallee b m stops set table [] = Unit {0}
+EachCallee b m stops set table (e ∷ es) = IsCallee b m stops set table e.0 e.1 × EachCallee b m stops set table es
+
+-- the template of this name is there, and its run over a value of the shape in this mode has no fault but those that it
+-- may have
+abbrev pub NeverFailsIn : Base → MissingKey → List (List ℕ) → List Template → List ℕ → Shape → Type 0
+NeverFailsIn b m stops set name s = (t : Tree) × (tree_named name set ≡ Some t)
+    × ((rules : Rules) (input : Option Value) → m ≡ rules.missing_key
+    → HasShape (stands_for b.defs) s (option_map_or without_null input nothing)
+    → IfSome (ran rules set name t input).fault (λ f. MayEnd stops f.cause))
+
+-- where a template is accepted for a shape, a run over a value of the shape, whatever the limits, has no other fault
+abbrev pub RunsSafely : Type 0
+RunsSafely = (base : Base) (stops : List (List ℕ)) (rules : Rules) (set : List Template) (table : Table) (name : List ℕ) (t : Tree)
+    (s : Shape) (input : Option Value)
+    → IsChecked base rules.missing_key stops set table → is_safe base rules.missing_key table s t.nodes ≡ true
+    → HasShape (stands_for base.defs) s (option_map_or without_null input nothing)
+    → IfSome (ran rules set name t input).fault (λ f. MayEnd stops f.cause)

@@ -1,0 +1,128 @@
+//! The shapes of fields.
+#![tactic(auto, using(crate::proofs::ViewLemmas::parts, crate::proofs::StepLemmas::steps))]
+
+ghost use Rattle.std.specs.Prelude.{◌≡◌, IfOk, Some};
+ghost use Rattle.std.specs.Option.{option_map};
+ghost use Rattle.tmpl_schema.specs.Shape.{nothings};
+ghost use Rattle.tmpl_schema.specs.View.{fields_of, shape_of};
+ghost use Rattle.tmpl_schema.specs.computed.Shapes.{absent_shape, chain_shape, entry_shape, field_shape_by, of_field};
+ghost use Rattle.tmpl_schema.specs.computed.View.{base_of};
+
+use crate::inclusion::find;
+use crate::join::joined;
+use crate::shape::{Base, Fields, Shape, copy_shape};
+use crate::trouble::Trouble;
+use tmpl_meaning::MissingKey;
+use tmpl_values::Bytes;
+
+/// What stands for a field that is absent, if that is no fault.
+fn absent_shape(mode: MissingKey) -> Result<Shape, Trouble>
+    ensures { IfOk result (λ s. absent_shape mode ≡ Some (shape_of s)) }
+{
+    match mode {
+        MissingKey::Default | MissingKey::Invalid => Ok(Shape::Nothings),
+        MissingKey::Zero => Ok(Shape::Nulls),
+        MissingKey::Error => Err(Trouble::Unsafe),
+    }
+}
+
+/// A field of nothing, if that is no fault.
+fn field_of_nothing(mode: MissingKey) -> Result<Shape, Trouble>
+    ensures { IfOk result (λ s. option_map (λ t. nothings) (absent_shape mode) ≡ Some (shape_of s)) }
+{
+    match mode {
+        MissingKey::Default | MissingKey::Invalid | MissingKey::Zero => Ok(Shape::Nothings),
+        MissingKey::Error => Err(Trouble::Unsafe),
+    }
+}
+
+/// A field of this shape.
+fn of_field(
+    base: &Base<'_>,
+    mode: MissingKey,
+    required: bool,
+    shape: &Shape,
+) -> Result<Shape, Trouble>
+    ensures { IfOk result (λ s. of_field (base_of base.now) mode required (shape_of shape.now) ≡ Some (shape_of s)) }
+{
+    let shape = copy_shape(base.alloc, shape)?;
+    if required {
+        return Ok(shape);
+    }
+    Ok(joined(base, shape, absent_shape(mode)?)?)
+}
+
+/// The field of a name of a map of these fields.
+fn entry_shape(
+    base: &Base<'_>,
+    mode: MissingKey,
+    name: &[u8],
+    fields: &Fields,
+) -> Result<Shape, Trouble>
+    ensures { IfOk result (λ s. entry_shape (base_of base.now) mode name.now (fields_of fields.now)
+        ≡ Some (shape_of s)) }
+{
+    match fields {
+        Fields::Closed => absent_shape(mode),
+        Fields::Others(shape) => of_field(base, mode, false, shape),
+        Fields::Field(first) => {
+            if name == first.name.as_slice() {
+                of_field(base, mode, first.required, &first.shape)
+            } else {
+                entry_shape(base, mode, name, &first.rest)
+            }
+        }
+    }
+}
+
+/// The field of a name, if that is never a fault.
+fn field_shape_by(
+    base: &Base<'_>,
+    steps: usize,
+    mode: MissingKey,
+    name: &[u8],
+    shape: &Shape,
+) -> Result<Shape, Trouble>
+    ensures { IfOk result (λ s. field_shape_by (base_of base.now) steps mode name.now (shape_of shape.now)
+        ≡ Some (shape_of s)) }
+{
+    if steps == 0 {
+        return Err(Trouble::Unsafe);
+    }
+    let fewer = steps - 1;
+    match shape {
+        Shape::Never => Ok(Shape::Never),
+        Shape::Nothings => field_of_nothing(mode),
+        Shape::Record(fields) => entry_shape(base, mode, name, fields),
+        Shape::Either(one, other) => {
+            let one = field_shape_by(base, fewer, mode, name, one)?;
+            let other = field_shape_by(base, fewer, mode, name, other)?;
+            Ok(joined(base, one, other)?)
+        }
+        Shape::Named(defined) => match find(base.definitions, defined.as_slice()) {
+            Some(shape) => field_shape_by(base, fewer, mode, name, shape),
+            None => Err(Trouble::Unsafe),
+        },
+        Shape::Nulls | Shape::Truths | Shape::Numbers | Shape::Texts => Err(Trouble::Unsafe),
+        Shape::Anything | Shape::List(_) => Err(Trouble::Unsafe),
+    }
+}
+
+/// The field of the field of .. of a shape, if that is never a fault.
+pub(crate) fn chain_shape(
+    base: &Base<'_>,
+    mode: MissingKey,
+    names: &[Bytes],
+    shape: &Shape,
+) -> Result<Shape, Trouble>
+    ensures { IfOk result (λ s. chain_shape (base_of base.now) mode names.now (shape_of shape.now)
+        ≡ Some (shape_of s)) }
+{
+    match names {
+        [] => Ok(copy_shape(base.alloc, shape)?),
+        [first, rest @ ..] => {
+            let shape = field_shape_by(base, base.limit, mode, first.as_slice(), shape)?;
+            chain_shape(base, mode, rest, &shape)
+        }
+    }
+}

@@ -1,0 +1,405 @@
+//! Whether each value of one shape has another.
+#![tactic(auto, using(crate::proofs::ViewLemmas::parts))]
+
+ghost use Rattle.std.specs.Prelude.{◌≡◌, false};
+ghost use Rattle.std.specs.Option.{option_map_or};
+ghost use Rattle.tmpl_schema.specs.View.{defs_in, fields_of, shape_of};
+ghost use Rattle.tmpl_schema.specs.computed.Shapes.{fields_within, has_name, is_list, is_nothings, is_nulls, is_numbers, is_record, is_texts, is_truths, is_listed, is_required, others_within};
+ghost use Rattle.tmpl_schema.specs.computed.Shapes.{plain_within, record_within, requires_all, shape_at, some_part, within, within_by};
+ghost use Rattle.tmpl_schema.specs.computed.View.{base_of, name_within, seen};
+
+use crate::shape::{Base, Definition, Fields, Shape};
+
+/// The shape of the first definition of a name.
+pub(crate) fn find<'s>(definitions: &'s [Definition], name: &[u8]) -> Option<&'s Shape>
+    ensures { seen result ≡ defs_in definitions.now name.now }
+{
+    match definitions {
+        [] => None,
+        [first, rest @ ..] => {
+            if name == first.name.as_slice() {
+                Some(&first.shape)
+            } else {
+                find(rest, name)
+            }
+        }
+    }
+}
+
+/// The shape that a field of a name has if it is there.
+pub(crate) fn shape_at<'f>(name: &[u8], fields: &'f Fields) -> Option<&'f Shape>
+    ensures { seen result ≡ shape_at name.now (fields_of fields.now) }
+{
+    match fields {
+        Fields::Closed => None,
+        Fields::Others(shape) => Some(shape),
+        Fields::Field(first) => {
+            if name == first.name.as_slice() {
+                Some(&first.shape)
+            } else {
+                shape_at(name, &first.rest)
+            }
+        }
+    }
+}
+
+/// Whether a field of this name is always there.
+fn is_required(name: &[u8], fields: &Fields) -> bool
+    ensures { result ≡ is_required name.now (fields_of fields.now) }
+{
+    match fields {
+        Fields::Closed | Fields::Others(_) => false,
+        Fields::Field(first) => {
+            (name == first.name.as_slice() && first.required) || is_required(name, &first.rest)
+        }
+    }
+}
+
+/// Whether those of the second that are always there are so in the first.
+fn requires_all(fields: &Fields, others: &Fields) -> bool
+    ensures { result ≡ requires_all (fields_of fields.now) (fields_of others.now) }
+{
+    match others {
+        Fields::Closed | Fields::Others(_) => true,
+        Fields::Field(first) => {
+            (!first.required || is_required(first.name.as_slice(), fields))
+                && requires_all(fields, &first.rest)
+        }
+    }
+}
+
+/// Whether there is a field of this name.
+fn is_listed(name: &[u8], fields: &Fields) -> bool
+    ensures { result ≡ is_listed name.now (fields_of fields.now) }
+{
+    match fields {
+        Fields::Closed | Fields::Others(_) => false,
+        Fields::Field(first) => name == first.name.as_slice() || is_listed(name, &first.rest),
+    }
+}
+
+/// Whether this name is one of the alternatives.
+fn has_name(name: &[u8], shape: &Shape) -> bool
+    ensures { result ≡ has_name name.now (shape_of shape.now) }
+{
+    match shape {
+        Shape::Either(one, other) => has_name(name, one) || has_name(name, other),
+        Shape::Named(other) => name == other.as_slice(),
+        Shape::Never
+        | Shape::Nothings
+        | Shape::Nulls
+        | Shape::Truths
+        | Shape::Numbers
+        | Shape::Texts => false,
+        Shape::Anything | Shape::List(_) | Shape::Record(_) => false,
+    }
+}
+
+/// Whether the shape is that of nothing.
+fn is_nothings(shape: &Shape) -> bool
+    ensures { result ≡ is_nothings (shape_of shape.now) }
+{
+    match shape {
+        Shape::Nothings => true,
+        Shape::Never
+        | Shape::Nulls
+        | Shape::Truths
+        | Shape::Numbers
+        | Shape::Texts
+        | Shape::Anything => false,
+        Shape::List(_) | Shape::Record(_) | Shape::Either(..) | Shape::Named(_) => false,
+    }
+}
+
+/// Whether the shape is that of null.
+fn is_nulls(shape: &Shape) -> bool
+    ensures { result ≡ is_nulls (shape_of shape.now) }
+{
+    match shape {
+        Shape::Nulls => true,
+        Shape::Never
+        | Shape::Nothings
+        | Shape::Truths
+        | Shape::Numbers
+        | Shape::Texts
+        | Shape::Anything => false,
+        Shape::List(_) | Shape::Record(_) | Shape::Either(..) | Shape::Named(_) => false,
+    }
+}
+
+/// Whether the shape is that of a truth value.
+fn is_truths(shape: &Shape) -> bool
+    ensures { result ≡ is_truths (shape_of shape.now) }
+{
+    match shape {
+        Shape::Truths => true,
+        Shape::Never
+        | Shape::Nothings
+        | Shape::Nulls
+        | Shape::Numbers
+        | Shape::Texts
+        | Shape::Anything => false,
+        Shape::List(_) | Shape::Record(_) | Shape::Either(..) | Shape::Named(_) => false,
+    }
+}
+
+/// Whether the shape is that of a number.
+fn is_numbers(shape: &Shape) -> bool
+    ensures { result ≡ is_numbers (shape_of shape.now) }
+{
+    match shape {
+        Shape::Numbers => true,
+        Shape::Never
+        | Shape::Nothings
+        | Shape::Nulls
+        | Shape::Truths
+        | Shape::Texts
+        | Shape::Anything => false,
+        Shape::List(_) | Shape::Record(_) | Shape::Either(..) | Shape::Named(_) => false,
+    }
+}
+
+/// Whether the shape is that of a text.
+fn is_texts(shape: &Shape) -> bool
+    ensures { result ≡ is_texts (shape_of shape.now) }
+{
+    match shape {
+        Shape::Texts => true,
+        Shape::Never
+        | Shape::Nothings
+        | Shape::Nulls
+        | Shape::Truths
+        | Shape::Numbers
+        | Shape::Anything => false,
+        Shape::List(_) | Shape::Record(_) | Shape::Either(..) | Shape::Named(_) => false,
+    }
+}
+
+/// Whether each value of the one has the other, as far as as many steps as these show.
+#[cycle(within)]
+fn within_by(base: &Base<'_>, names: usize, steps: usize, one: &Shape, other: &Shape) -> bool
+    ensures { result ≡ within_by (base_of base.now) names steps (shape_of one.now) (shape_of other.now) }
+{
+    if steps == 0 {
+        return false;
+    }
+    let fewer = steps - 1;
+    match one {
+        Shape::Never => true,
+        Shape::Either(first, second) => {
+            within_by(base, names, fewer, first, other)
+                && within_by(base, names, fewer, second, other)
+        }
+        Shape::Named(name) => name_within(base, names, fewer, name.as_slice(), other),
+        Shape::Nothings => some_part(base, 64, names, fewer, one, other),
+        Shape::Nulls => some_part(base, 64, names, fewer, one, other),
+        Shape::Truths => some_part(base, 64, names, fewer, one, other),
+        Shape::Numbers => some_part(base, 64, names, fewer, one, other),
+        Shape::Texts => some_part(base, 64, names, fewer, one, other),
+        Shape::Anything => some_part(base, 64, names, fewer, one, other),
+        Shape::List(_) => some_part(base, 64, names, fewer, one, other),
+        Shape::Record(_) => some_part(base, 64, names, fewer, one, other),
+    }
+}
+
+/// Whether a name is one of the alternatives, or what it stands for has the other, where one more name is followed.
+#[cycle(within)]
+fn name_within(base: &Base<'_>, names: usize, steps: usize, name: &[u8], other: &Shape) -> bool
+    ensures { result ≡ name_within (base_of base.now) names steps name.now (shape_of other.now) }
+{
+    if has_name(name, other) {
+        return true;
+    }
+    if names == 0 {
+        return false;
+    }
+    match find(base.definitions, name) {
+        Some(shape) => within_by(base, names - 1, steps, shape, other),
+        None => false,
+    }
+}
+
+/// Whether some alternative has each value of a shape of one kind, as far as as many steps show.
+#[cycle(within)]
+fn some_part(
+    base: &Base<'_>,
+    reach: usize,
+    names: usize,
+    steps: usize,
+    one: &Shape,
+    other: &Shape,
+) -> bool
+    ensures { result ≡ some_part (base_of base.now) reach (plain_within (within_by (base_of base.now) names steps)
+        (shape_of one.now)) (shape_of other.now) }
+{
+    if reach == 0 {
+        return false;
+    }
+    let fewer = reach - 1;
+    match other {
+        Shape::Either(first, second) => {
+            some_part(base, fewer, names, steps, one, first)
+                || some_part(base, fewer, names, steps, one, second)
+        }
+        Shape::Named(name) => match find(base.definitions, name.as_slice()) {
+            Some(shape) => some_part(base, fewer, names, steps, one, shape),
+            None => false,
+        },
+        Shape::Anything => true,
+        Shape::Never | Shape::List(_) | Shape::Record(_) => plain_within(
+            base, names, steps, one, other,
+        ),
+        Shape::Nothings | Shape::Nulls | Shape::Truths | Shape::Numbers | Shape::Texts => {
+            plain_within(base, names, steps, one, other)
+        }
+    }
+}
+
+/// Whether each value of a shape of one kind has another of one kind.
+#[cycle(within)]
+fn plain_within(base: &Base<'_>, names: usize, steps: usize, one: &Shape, other: &Shape) -> bool
+    ensures { result ≡ plain_within (within_by (base_of base.now) names steps) (shape_of one.now) (shape_of other.now) }
+{
+    match one {
+        Shape::Nothings => is_nothings(other),
+        Shape::Nulls => is_nulls(other),
+        Shape::Truths => is_truths(other),
+        Shape::Numbers => is_numbers(other),
+        Shape::Texts => is_texts(other),
+        Shape::List(items) => items_within(base, names, steps, items, other),
+        Shape::Record(fields) => record_within(base, names, steps, fields, other),
+        Shape::Never | Shape::Anything | Shape::Either(..) | Shape::Named(_) => false,
+    }
+}
+
+/// Whether lists of these items are lists of the other.
+#[cycle(within)]
+fn items_within(base: &Base<'_>, names: usize, steps: usize, items: &Shape, other: &Shape) -> bool
+    ensures { result ≡ is_list (within_by (base_of base.now) names steps (shape_of items.now)) (shape_of other.now) }
+{
+    match other {
+        Shape::List(others) => within_by(base, names, steps, items, others),
+        Shape::Never
+        | Shape::Nothings
+        | Shape::Nulls
+        | Shape::Truths
+        | Shape::Numbers
+        | Shape::Texts => false,
+        Shape::Anything | Shape::Record(_) | Shape::Either(..) | Shape::Named(_) => false,
+    }
+}
+
+/// Whether maps of these fields are maps of the other.
+#[cycle(within)]
+fn record_within(
+    base: &Base<'_>,
+    names: usize,
+    steps: usize,
+    fields: &Fields,
+    other: &Shape,
+) -> bool
+    ensures { result ≡ is_record (record_within (within_by (base_of base.now) names steps) (fields_of fields.now))
+        (shape_of other.now) }
+{
+    match other {
+        Shape::Record(others) => {
+            fields_within(base, names, steps, fields, fields, others)
+                && requires_all(fields, others)
+        }
+        Shape::Never
+        | Shape::Nothings
+        | Shape::Nulls
+        | Shape::Truths
+        | Shape::Numbers
+        | Shape::Texts => false,
+        Shape::Anything | Shape::List(_) | Shape::Either(..) | Shape::Named(_) => false,
+    }
+}
+
+/// Whether each field of the second, the last of all these, may be among the others.
+#[cycle(within)]
+fn fields_within(
+    base: &Base<'_>,
+    names: usize,
+    steps: usize,
+    all: &Fields,
+    fields: &Fields,
+    others: &Fields,
+) -> bool
+    ensures { result ≡ fields_within (within_by (base_of base.now) names steps) (fields_of all.now)
+        (fields_of fields.now) (fields_of others.now) }
+{
+    let mut rest = fields;
+    while let Fields::Field(first) = rest {
+        if !field_within(
+            base,
+            names,
+            steps,
+            first.name.as_slice(),
+            &first.shape,
+            others,
+        ) {
+            return false;
+        }
+        rest = &first.rest;
+    }
+    match rest {
+        Fields::Others(shape) => others_within(base, names, steps, shape, all, others),
+        Fields::Closed | Fields::Field(_) => true,
+    }
+}
+
+/// Whether a field of this name and shape may be among the others.
+#[cycle(within)]
+fn field_within(
+    base: &Base<'_>,
+    names: usize,
+    steps: usize,
+    name: &[u8],
+    shape: &Shape,
+    others: &Fields,
+) -> bool
+    ensures { result ≡ option_map_or (within_by (base_of base.now) names steps (shape_of shape.now))
+        (shape_at name.now (fields_of others.now)) false }
+{
+    match shape_at(name, others) {
+        Some(other) => within_by(base, names, steps, shape, other),
+        None => false,
+    }
+}
+
+/// Whether each field of this shape that is none of all these may be among the others.
+#[cycle(within)]
+fn others_within(
+    base: &Base<'_>,
+    names: usize,
+    steps: usize,
+    shape: &Shape,
+    all: &Fields,
+    others: &Fields,
+) -> bool
+    ensures { result ≡ others_within (within_by (base_of base.now) names steps (shape_of shape.now))
+        (fields_of all.now) (fields_of others.now) }
+{
+    let mut rest = others;
+    while let Fields::Field(first) = rest {
+        if !is_listed(first.name.as_slice(), all)
+            && !within_by(base, names, steps, shape, &first.shape)
+        {
+            return false;
+        }
+        rest = &first.rest;
+    }
+    match rest {
+        Fields::Others(other) => within_by(base, names, steps, shape, other),
+        Fields::Closed | Fields::Field(_) => false,
+    }
+}
+
+/// Whether each value of the one has the other, as far as is looked.
+#[tactic(auto, unfolding(crate::specs::computed::Shapes::within))]
+pub(crate) fn within(base: &Base<'_>, one: &Shape, other: &Shape) -> bool
+    ensures { result ≡ within (base_of base.now) (shape_of one.now) (shape_of other.now) }
+{
+    within_by(base, base.names, base.limit, one, other)
+}

@@ -1,0 +1,226 @@
+//! What shapes become: joined, without null, and where a value is not empty.
+#![tactic(auto, using(crate::proofs::ViewLemmas::parts, crate::proofs::StepLemmas::steps))]
+
+ghost use Rattle.std.specs.Prelude.{◌≡◌, IfOk};
+ghost use Rattle.tmpl_schema.specs.View.{fields_of, shape_of};
+ghost use Rattle.tmpl_schema.specs.computed.Shapes.{filled, has_null, joined, may_be_null, null_gone, null_gone_by, refined, refined_by};
+ghost use Rattle.tmpl_schema.specs.computed.Shapes.{refined_record, with_field};
+ghost use Rattle.tmpl_schema.specs.computed.View.{base_of, name_gone, name_refined};
+
+use crate::inclusion::{find, shape_at, within};
+use crate::shape::{Base, Fields, Shape, copy_fields, copy_name, copy_shape, either, put_field};
+use std::alloc::{AllocError, Global};
+use tmpl_values::Bytes;
+
+/// The values of both.
+#[tactic(auto, unfolding(crate::specs::computed::Shapes::joined))]
+pub(crate) fn joined(base: &Base<'_>, one: Shape, other: Shape) -> Result<Shape, AllocError>
+    ensures { IfOk result (λ s. shape_of s ≡ joined (base_of base.now) (shape_of one) (shape_of other)) }
+{
+    if within(base, &one, &other) {
+        return Ok(other);
+    }
+    if within(base, &other, &one) {
+        return Ok(one);
+    }
+    either(base.alloc, one, other)
+}
+
+/// Whether null may be among the values.
+fn may_be_null(base: &Base<'_>, steps: usize, shape: &Shape) -> bool
+    ensures { result ≡ may_be_null (base_of base.now) steps (shape_of shape.now) }
+{
+    if steps == 0 {
+        return true;
+    }
+    let fewer = steps - 1;
+    match shape {
+        Shape::Nulls | Shape::Anything => true,
+        Shape::Either(one, other) => may_be_null(base, fewer, one)
+            || may_be_null(base, fewer, other),
+        Shape::Named(name) => match find(base.definitions, name.as_slice()) {
+            Some(shape) => may_be_null(base, fewer, shape),
+            None => true,
+        },
+        Shape::Never | Shape::Nothings | Shape::Truths | Shape::Numbers | Shape::Texts => false,
+        Shape::List(_) | Shape::Record(_) => false,
+    }
+}
+
+/// Whether null may be among the values, as far as is looked.
+#[tactic(auto, unfolding(crate::specs::computed::Shapes::has_null))]
+fn has_null(base: &Base<'_>, shape: &Shape) -> bool
+    ensures { result ≡ has_null (base_of base.now) (shape_of shape.now) }
+{
+    may_be_null(base, base.limit, shape)
+}
+
+/// With nothing in place of null.
+#[cycle(gone)]
+fn null_gone_by(base: &Base<'_>, steps: usize, shape: &Shape) -> Result<Shape, AllocError>
+    ensures { IfOk result (λ s. shape_of s ≡ null_gone_by (base_of base.now) steps (shape_of shape.now)) }
+{
+    if steps == 0 {
+        return either(base.alloc, copy_shape(base.alloc, shape)?, Shape::Nothings);
+    }
+    let fewer = steps - 1;
+    match shape {
+        Shape::Nulls => Ok(Shape::Nothings),
+        Shape::Either(one, other) => {
+            joined(
+                base,
+                null_gone_by(base, fewer, one)?,
+                null_gone_by(base, fewer, other)?,
+            )
+        }
+        Shape::Named(name) => name_gone(base, fewer, name),
+        Shape::Never => Ok(Shape::Never),
+        Shape::Nothings => Ok(Shape::Nothings),
+        Shape::Truths => Ok(Shape::Truths),
+        Shape::Numbers => Ok(Shape::Numbers),
+        Shape::Texts => Ok(Shape::Texts),
+        Shape::Anything => Ok(Shape::Anything),
+        Shape::List(_) => copy_shape(base.alloc, shape),
+        Shape::Record(_) => copy_shape(base.alloc, shape),
+    }
+}
+
+/// Of what a name stands for.
+#[cycle(gone)]
+fn name_gone(base: &Base<'_>, steps: usize, name: &Bytes) -> Result<Shape, AllocError>
+    ensures { IfOk result (λ s. shape_of s ≡ name_gone (base_of base.now) steps name.now) }
+{
+    let named = Shape::Named(copy_name(base.alloc, name.as_slice())?);
+    if !has_null(base, &named) {
+        return Ok(named);
+    }
+    match find(base.definitions, name.as_slice()) {
+        Some(shape) => null_gone_by(base, steps, shape),
+        None => either(base.alloc, named, Shape::Nothings),
+    }
+}
+
+/// What a command gives: nothing in place of null.
+pub(crate) fn null_gone(base: &Base<'_>, shape: &Shape) -> Result<Shape, AllocError>
+    ensures { IfOk result (λ s. shape_of s ≡ null_gone (base_of base.now) (shape_of shape.now)) }
+{
+    null_gone_by(base, base.limit, shape)
+}
+
+/// The fields with one that is always there and has the shape.
+fn with_field(
+    alloc: Global,
+    name: &[u8],
+    shape: Shape,
+    fields: &Fields,
+) -> Result<Fields, AllocError>
+    ensures { IfOk result (λ fs. fields_of fs ≡ with_field name.now (shape_of shape) (fields_of fields.now)) }
+{
+    match fields {
+        Fields::Closed => Ok(Fields::Closed),
+        Fields::Others(_) => put_field(alloc, name, true, shape, copy_fields(alloc, fields)?),
+        Fields::Field(first) => {
+            if name == first.name.as_slice() {
+                put_field(
+                    alloc,
+                    first.name.as_slice(),
+                    true,
+                    shape,
+                    copy_fields(alloc, &first.rest)?,
+                )
+            } else {
+                let kept = copy_shape(alloc, &first.shape)?;
+                let rest = with_field(alloc, name, shape, &first.rest)?;
+                put_field(alloc, first.name.as_slice(), first.required, kept, rest)
+            }
+        }
+    }
+}
+
+/// Of the values of which the field of the field of .. is there and not empty.
+#[cycle(refined)]
+fn refined_by(
+    base: &Base<'_>,
+    steps: usize,
+    names: &[Bytes],
+    shape: &Shape,
+) -> Result<Shape, AllocError>
+    ensures { IfOk result (λ s. shape_of s ≡ refined_by (base_of base.now) steps names.now (shape_of shape.now)) }
+{
+    if steps == 0 {
+        return copy_shape(base.alloc, shape);
+    }
+    let fewer = steps - 1;
+    match shape {
+        Shape::Nothings => Ok(Shape::Never),
+        Shape::Nulls => Ok(Shape::Never),
+        Shape::Either(one, other) => {
+            joined(
+                base,
+                refined_by(base, fewer, names, one)?,
+                refined_by(base, fewer, names, other)?,
+            )
+        }
+        Shape::Named(name) => name_refined(base, fewer, names, name),
+        Shape::Record(fields) => refined_record(base, fewer, names, fields),
+        Shape::Never => Ok(Shape::Never),
+        Shape::Truths => Ok(Shape::Truths),
+        Shape::Numbers => Ok(Shape::Numbers),
+        Shape::Texts => Ok(Shape::Texts),
+        Shape::Anything => Ok(Shape::Anything),
+        Shape::List(_) => copy_shape(base.alloc, shape),
+    }
+}
+
+/// Of what a name stands for.
+#[cycle(refined)]
+fn name_refined(
+    base: &Base<'_>,
+    steps: usize,
+    names: &[Bytes],
+    name: &Bytes,
+) -> Result<Shape, AllocError>
+    ensures { IfOk result (λ s. shape_of s ≡ name_refined (base_of base.now) steps names.now name.now) }
+{
+    match find(base.definitions, name.as_slice()) {
+        Some(shape) => refined_by(base, steps, names, shape),
+        None => Ok(Shape::Named(copy_name(base.alloc, name.as_slice())?)),
+    }
+}
+
+/// Of maps of these fields.
+#[cycle(refined)]
+fn refined_record(
+    base: &Base<'_>,
+    steps: usize,
+    names: &[Bytes],
+    fields: &Fields,
+) -> Result<Shape, AllocError>
+    ensures { IfOk result (λ s. shape_of s
+        ≡ refined_record (base_of base.now) (refined_by (base_of base.now) steps) names.now (fields_of fields.now)) }
+{
+    match names {
+        [] => Ok(Shape::Record(copy_fields(base.alloc, fields)?)),
+        [first, rest @ ..] => match shape_at(first.as_slice(), fields) {
+            Some(shape) => {
+                let shape = refined_by(base, steps, rest, shape)?;
+                Ok(Shape::Record(with_field(base.alloc, first.as_slice(), shape, fields)?))
+            }
+            None => Ok(Shape::Record(copy_fields(base.alloc, fields)?)),
+        },
+    }
+}
+
+/// Of the values of which the field of the field of .. is there and not empty, as far as is looked.
+pub(crate) fn refined(base: &Base<'_>, names: &[Bytes], shape: &Shape) -> Result<Shape, AllocError>
+    ensures { IfOk result (λ s. shape_of s ≡ refined (base_of base.now) names.now (shape_of shape.now)) }
+{
+    refined_by(base, base.limit, names, shape)
+}
+
+/// Of the values that are not empty.
+pub(crate) fn filled(base: &Base<'_>, shape: &Shape) -> Result<Shape, AllocError>
+    ensures { IfOk result (λ s. shape_of s ≡ filled (base_of base.now) (shape_of shape.now)) }
+{
+    refined(base, &[], shape)
+}

@@ -1,0 +1,277 @@
+//! What is known of variables.
+#![tactic(auto, using(crate::proofs::ViewLemmas::variables))]
+
+ghost use Rattle.std.specs.Prelude.{◌≡◌, IfOk, OnOk, Some, length, ◌∷◌};
+ghost use Rattle.tmpl_grammar.specs.View.{binding_of};
+ghost use Rattle.tmpl_schema.specs.View.{shape_of};
+ghost use Rattle.tmpl_schema.specs.computed.Check.{after_both, all_joined, all_within, assigned_shape, bound_shapes, holds_loop};
+ghost use Rattle.tmpl_schema.specs.computed.Check.{last_of, left_with, refined_variable, variable_shape};
+ghost use Rattle.tmpl_schema.specs.computed.View.{base_of, is_longer, known_of, known_seen, seen};
+
+use crate::inclusion::within;
+use crate::join::{joined, refined};
+use crate::shape::{Base, Shape, copy_name, copy_shape};
+use crate::trouble::Trouble;
+use std::alloc::{AllocError, Global};
+use tmpl_grammar::Binding;
+use tmpl_values::Bytes;
+
+/// The shapes of the variables in scope, the newest first.
+#[cycle(known)]
+#[derive(Drop)]
+pub(crate) enum Known {
+    Empty,
+    More(Box<Variable>),
+}
+
+/// A variable, and the older ones.
+#[cycle(known)]
+#[derive(Drop)]
+pub(crate) struct Variable {
+    pub(crate) name: Bytes,
+    pub(crate) shape: Shape,
+    pub(crate) older: Known,
+}
+
+/// With one variable more.
+pub(crate) fn put_variable(
+    alloc: Global,
+    name: &[u8],
+    shape: Shape,
+    older: Known,
+) -> Result<Known, AllocError>
+    ensures { IfOk result (λ ks. known_of ks ≡ (name.now, shape_of shape) ∷ known_of older) }
+{
+    let name = copy_name(alloc, name)?;
+    Ok(Known::More(Box::new(alloc, Variable { name, shape, older })?))
+}
+
+/// A copy of what is known.
+pub(crate) fn copy_known(alloc: Global, known: &Known) -> Result<Known, AllocError>
+    ensures { IfOk result (λ ks. known_of ks ≡ known_of known.now) }
+{
+    match known {
+        Known::Empty => Ok(Known::Empty),
+        Known::More(newest) => {
+            let shape = copy_shape(alloc, &newest.shape)?;
+            let older = copy_known(alloc, &newest.older)?;
+            put_variable(alloc, newest.name.as_slice(), shape, older)
+        }
+    }
+}
+
+/// The shape of the newest variable of a name.
+pub(crate) fn variable_shape<'k>(name: &[u8], known: &'k Known) -> Option<&'k Shape>
+    ensures { seen result ≡ variable_shape name.now (known_of known.now) }
+{
+    match known {
+        Known::Empty => None,
+        Known::More(newest) => {
+            if newest.name.as_slice() == name {
+                Some(&newest.shape)
+            } else {
+                variable_shape(name, &newest.older)
+            }
+        }
+    }
+}
+
+/// Where the newest variable of a name is assigned a value of this shape.
+fn assigned(alloc: Global, name: &[u8], shape: &Shape, known: &Known) -> Result<Known, AllocError>
+    ensures { IfOk result (λ ks. known_of ks ≡ assigned_shape name.now (shape_of shape.now) (known_of known.now)) }
+{
+    match known {
+        Known::Empty => Ok(Known::Empty),
+        Known::More(newest) => {
+            if newest.name.as_slice() == name {
+                let shape = copy_shape(alloc, shape)?;
+                put_variable(
+                    alloc,
+                    newest.name.as_slice(),
+                    shape,
+                    copy_known(alloc, &newest.older)?,
+                )
+            } else {
+                let kept = copy_shape(alloc, &newest.shape)?;
+                let older = assigned(alloc, name, shape, &newest.older)?;
+                put_variable(alloc, newest.name.as_slice(), kept, older)
+            }
+        }
+    }
+}
+
+/// Where variables take an element of this shape, and its index or key.
+pub(crate) fn bound(
+    alloc: Global,
+    binding: &Binding,
+    key: &Shape,
+    element: &Shape,
+    known: &Known,
+) -> Result<Known, AllocError>
+    ensures { IfOk result (λ ks. known_of ks
+        ≡ bound_shapes (binding_of binding.now) (shape_of key.now) (shape_of element.now) (known_of known.now)) }
+{
+    match binding {
+        Binding::Unbound => copy_known(alloc, known),
+        Binding::Declare(name) => {
+            let shape = copy_shape(alloc, element)?;
+            put_variable(alloc, name.as_slice(), shape, copy_known(alloc, known)?)
+        }
+        Binding::Assign(name) => assigned(alloc, name.as_slice(), element, known),
+        Binding::DeclarePair(pair) => {
+            let shape = copy_shape(alloc, key)?;
+            let older = put_variable(alloc, pair.key.as_slice(), shape, copy_known(alloc, known)?)?;
+            let shape = copy_shape(alloc, element)?;
+            put_variable(alloc, pair.element.as_slice(), shape, older)
+        }
+    }
+}
+
+/// Whether there are more variables than in the other.
+fn is_longer(known: &Known, other: &Known) -> bool
+    ensures { result ≡ is_longer (known_of known.now) (known_of other.now) }
+{
+    match known {
+        Known::Empty => false,
+        Known::More(newest) => match other {
+            Known::Empty => true,
+            Known::More(others) => is_longer(&newest.older, &others.older),
+        },
+    }
+}
+
+/// The oldest variables, as many as in the other.
+#[tactic(auto, using(crate::proofs::ViewLemmas::variables, crate::proofs::LengthLemmas::lasts))]
+pub(crate) fn oldest<'k>(known: &'k Known, like: &Known) -> &'k Known
+    ensures { known_of result.now ≡ last_of (length (known_of like.now)) (known_of known.now) }
+{
+    if !is_longer(known, like) {
+        return known;
+    }
+    match known {
+        Known::Empty => known,
+        Known::More(newest) => oldest(&newest.older, like),
+    }
+}
+
+/// Whether the variables of the range around are there.
+#[tactic(auto, using(crate::proofs::ViewLemmas::variables, crate::proofs::LengthLemmas::lengths))]
+pub(crate) fn holds_loop(head: Option<&Known>, known: &Known) -> bool
+    ensures { result ≡ holds_loop (known_seen head.entry) (known_of known.now) }
+{
+    match head {
+        Some(head) => !is_longer(head, known),
+        None => true,
+    }
+}
+
+/// Where a chain of fields from a variable is not empty.
+pub(crate) fn refined_variable(
+    base: &Base<'_>,
+    name: &[u8],
+    names: &[Bytes],
+    known: &Known,
+) -> Result<Known, AllocError>
+    ensures { IfOk result (λ ks. known_of ks
+        ≡ refined_variable (base_of base.now) name.now names.now (known_of known.now)) }
+{
+    match known {
+        Known::Empty => Ok(Known::Empty),
+        Known::More(newest) => {
+            if newest.name.as_slice() == name {
+                let shape = refined(base, names, &newest.shape)?;
+                put_variable(
+                    base.alloc,
+                    newest.name.as_slice(),
+                    shape,
+                    copy_known(base.alloc, &newest.older)?,
+                )
+            } else {
+                let kept = copy_shape(base.alloc, &newest.shape)?;
+                let older = refined_variable(base, name, names, &newest.older)?;
+                put_variable(base.alloc, newest.name.as_slice(), kept, older)
+            }
+        }
+    }
+}
+
+/// Whether these are the same variables, each within the other's shape.
+pub(crate) fn all_within(base: &Base<'_>, known: &Known, others: &Known) -> bool
+    ensures { result ≡ all_within (base_of base.now) (known_of known.now) (known_of others.now) }
+{
+    match known {
+        Known::Empty => match others {
+            Known::Empty => true,
+            Known::More(_) => false,
+        },
+        Known::More(newest) => match others {
+            Known::Empty => false,
+            Known::More(other) => {
+                newest.name.as_slice() == other.name.as_slice()
+                    && within(base, &newest.shape, &other.shape)
+                    && all_within(base, &newest.older, &other.older)
+            }
+        },
+    }
+}
+
+/// The variables of both, with the values of both.
+pub(crate) fn all_joined(
+    base: &Base<'_>,
+    known: &Known,
+    others: &Known,
+) -> Result<Known, AllocError>
+    ensures { IfOk result (λ ks. known_of ks
+        ≡ all_joined (base_of base.now) (known_of known.now) (known_of others.now)) }
+{
+    match known {
+        Known::Empty => Ok(Known::Empty),
+        Known::More(newest) => match others {
+            Known::Empty => Ok(Known::Empty),
+            Known::More(other) => {
+                let one = copy_shape(base.alloc, &newest.shape)?;
+                let shape = joined(base, one, copy_shape(base.alloc, &other.shape)?)?;
+                let older = all_joined(base, &newest.older, &other.older)?;
+                put_variable(base.alloc, newest.name.as_slice(), shape, older)
+            }
+        },
+    }
+}
+
+/// The variables that were there before, after two parts.
+pub(crate) fn after_both(
+    base: &Base<'_>,
+    before: &Known,
+    one: &Known,
+    other: &Known,
+) -> Result<Known, Trouble>
+    ensures { IfOk result (λ ks. after_both (base_of base.now) (length (known_of before.now)) (known_of one.now)
+        (known_of other.now) ≡ Some (known_of ks)) }
+{
+    let one = oldest(one, before);
+    let other = oldest(other, before);
+    let both = all_joined(base, one, other)?;
+    if !all_within(base, one, &both) {
+        return Err(Trouble::Unsafe);
+    }
+    if !all_within(base, other, &both) {
+        return Err(Trouble::Unsafe);
+    }
+    Ok(both)
+}
+
+/// Whether a break or a continue leaves the variables of the range around within those at its head.
+pub(crate) fn left_with(base: &Base<'_>, known: &Known, head: Option<&Known>) -> Result<(), Trouble>
+    ensures { OnOk result (left_with (base_of base.now) (known_of known.now) (known_seen head.entry)
+        ≡ Some (known_of known.now)) }
+{
+    match head {
+        Some(head) => {
+            if !all_within(base, oldest(known, head), head) {
+                return Err(Trouble::Unsafe);
+            }
+            Ok(())
+        }
+        None => Err(Trouble::Unsafe),
+    }
+}

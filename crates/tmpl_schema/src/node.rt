@@ -1,0 +1,424 @@
+//! The check of nodes.
+#![tactic(auto, using(crate::proofs::ViewLemmas::parts))]
+
+ghost use Rattle.std.specs.Prelude.{◌≡◌, IfOk, None, Some, option_map};
+ghost use Rattle.std.specs.Option.{option_map_or};
+ghost use Rattle.tmpl_grammar.specs.View.{header_of, pipeline_of};
+ghost use Rattle.tmpl_schema.specs.Shape.{nothings};
+ghost use Rattle.tmpl_schema.specs.View.{shape_of};
+ghost use Rattle.tmpl_schema.specs.computed.Check.{after_node, after_nodes, in_body, in_other, in_turn, left_with};
+ghost use Rattle.tmpl_schema.specs.computed.Check.{kept_by, pipeline_shape, settled, settled_soon};
+ghost use Rattle.tmpl_schema.specs.computed.View.{after_action, after_choice_by, after_range_by, base_of, known_of, known_seen, ranged_by, state_of, table_of, turned_by, visit_seen};
+ghost use Rattle.tmpl_syntax.specs.Tree.{template_node};
+ghost use Rattle.tmpl_syntax.specs.View.{control_of, node_of, nodes_in};
+
+use crate::inclusion::within;
+use crate::join::filled;
+use crate::known::{
+    Known, after_both, all_joined, all_within, bound, copy_known, holds_loop, left_with, oldest,
+};
+use crate::pipeline::pipeline_shape;
+use crate::shape::{Base, Shape, copy_name, copy_shape};
+use crate::state::{State, copy_state, narrowed, narrowed_empty};
+use crate::table::{Callee, Entry, find_callee};
+use crate::trouble::Trouble;
+use crate::visit::{Visit, visit_of};
+use std::alloc::{AllocError, Global};
+use tmpl_grammar::{Control, Header, Pipeline};
+use tmpl_meaning::MissingKey;
+use tmpl_syntax::{ControlNode, Node, NodeKind};
+use tmpl_values::Bytes;
+
+/// What nodes are checked by: the definitions of names, the mode for missing keys, and the templates that are called.
+#[derive(Clone, Copy)]
+pub(crate) struct Checker<'s> {
+    pub(crate) base: Base<'s>,
+    pub(crate) mode: MissingKey,
+    pub(crate) table: &'s [Entry],
+}
+
+/// Where the body of an `if` or a `with` begins.
+fn in_body(
+    base: &Base<'_>,
+    control: Control,
+    header: &Header,
+    state: &State,
+    shape: &Shape,
+) -> Result<State, AllocError>
+    ensures { IfOk result (λ k. state_of k
+        ≡ in_body (base_of base.now) control (header_of header.now) (state_of state.now) (shape_of shape.now)) }
+{
+    let full = filled(base, shape)?;
+    let before = narrowed(base, header.pipeline.commands.as_slice(), state)?;
+    let known = bound(
+        base.alloc,
+        &header.binding,
+        &Shape::Nothings,
+        &full,
+        &before.known,
+    )?;
+    let dot = match control {
+        Control::With => copy_shape(base.alloc, &full)?,
+        Control::If => copy_shape(base.alloc, &before.dot)?,
+        Control::Range => copy_shape(base.alloc, &before.dot)?,
+    };
+    Ok(State { dot, known })
+}
+
+/// Where its other part begins.
+fn in_other(
+    base: &Base<'_>,
+    header: &Header,
+    state: &State,
+    shape: &Shape,
+) -> Result<State, AllocError>
+    ensures { IfOk result (λ k. state_of k
+        ≡ in_other (base_of base.now) (header_of header.now) (state_of state.now) (shape_of shape.now)) }
+{
+    let before = narrowed_empty(base, header.pipeline.commands.as_slice(), state)?;
+    let known = bound(
+        base.alloc,
+        &header.binding,
+        &Shape::Nothings,
+        shape,
+        &before.known,
+    )?;
+    Ok(State {
+        dot: copy_shape(base.alloc, &before.dot)?,
+        known,
+    })
+}
+
+/// Where a turn of a range begins.
+fn in_turn(
+    alloc: Global,
+    header: &Header,
+    visit: &Visit,
+    known: &Known,
+) -> Result<State, AllocError>
+    ensures { IfOk result (λ k. state_of k
+        ≡ in_turn (header_of header.now) (visit_seen visit.now) (known_of known.now)) }
+{
+    let dot = copy_shape(alloc, &visit.element)?;
+    let known = bound(alloc, &header.binding, &visit.key, &visit.element, known)?;
+    Ok(State { dot, known })
+}
+
+/// After an action.
+fn after_action(checker: &Checker<'_>, state: &State, header: &Header) -> Result<Known, Trouble>
+    ensures { IfOk result (λ ks. after_action (base_of checker.now.base) checker.now.mode (state_of state.now)
+        (header_of header.now) ≡ Some (known_of ks)) }
+{
+    let shape = pipeline_shape(
+        &checker.base,
+        checker.mode,
+        state,
+        header.pipeline.commands.as_slice(),
+    )?;
+    Ok(bound(
+        checker.base.alloc,
+        &header.binding,
+        &Shape::Nothings,
+        &shape,
+        &state.known,
+    )?)
+}
+
+/// The shape of what is handed to a template.
+fn handed_shape(
+    checker: &Checker<'_>,
+    state: &State,
+    given: &Option<Pipeline>,
+) -> Result<Shape, Trouble>
+    ensures { IfOk result (λ s. option_map_or (pipeline_shape (base_of checker.now.base) checker.now.mode
+        (state_of state.now)) (option_map pipeline_of given.now) (Some nothings) ≡ Some (shape_of s)) }
+{
+    match given {
+        Some(pipeline) => pipeline_shape(
+            &checker.base,
+            checker.mode,
+            state,
+            pipeline.commands.as_slice(),
+        ),
+        None => Ok(Shape::Nothings),
+    }
+}
+
+/// That a template is called with values of this shape.
+fn wanted(alloc: Global, name: &Bytes, shape: Shape) -> Trouble {
+    match copy_name(alloc, name.as_slice()) {
+        Ok(name) => Trouble::Wanted(Entry {
+            name,
+            callee: Callee::Handed(shape),
+        }),
+        Err(_) => Trouble::OutOfMemory,
+    }
+}
+
+/// After a call of a template.
+fn after_call(
+    checker: &Checker<'_>,
+    state: &State,
+    name: &Bytes,
+    given: &Option<Pipeline>,
+) -> Result<Known, Trouble>
+    ensures { IfOk result (λ ks. after_node (base_of checker.now.base) checker.now.mode
+        (table_of checker.now.table.now) None (state_of state.now) (template_node name.now
+        (option_map pipeline_of given.now)) ≡ Some (known_of ks)) }
+{
+    match find_callee(checker.table, name.as_slice()) {
+        Some(Callee::Absent) => Ok(copy_known(checker.base.alloc, &state.known)?),
+        Some(Callee::Handed(shape)) => {
+            let given = handed_shape(checker, state, given)?;
+            if !within(&checker.base, &given, shape) {
+                return Err(wanted(checker.base.alloc, name, given));
+            }
+            Ok(copy_known(checker.base.alloc, &state.known)?)
+        }
+        None => {
+            let given = handed_shape(checker, state, given)?;
+            Err(wanted(checker.base.alloc, name, given))
+        }
+    }
+}
+
+/// After a break or a continue.
+fn after_leaving(
+    checker: &Checker<'_>,
+    head: Option<&Known>,
+    state: &State,
+) -> Result<Known, Trouble>
+    ensures { IfOk result (λ ks. left_with (base_of checker.now.base) (known_of state.now.known)
+        (known_seen head.entry) ≡ Some (known_of ks)) }
+{
+    left_with(&checker.base, &state.known, head)?;
+    Ok(copy_known(checker.base.alloc, &state.known)?)
+}
+
+/// The parts of a control.
+#[derive(Clone, Copy)]
+struct Parts<'t> {
+    header: &'t Header,
+    body: &'t [Node],
+    other: &'t [Node],
+}
+
+/// After an `if` or a `with` whose value has the shape.
+#[cycle(node)]
+#[tactic(auto, using(crate::proofs::ControlLemmas::choices))]
+fn after_choice(
+    checker: &Checker<'_>,
+    head: Option<&Known>,
+    state: &State,
+    control: Control,
+    parts: &Parts<'_>,
+    shape: &Shape,
+) -> Result<Known, Trouble>
+    ensures { IfOk result (λ ks. after_choice_by (base_of checker.now.base) checker.now.mode
+        (table_of checker.now.table.now) (known_seen head.entry) control (header_of parts.now.header.now)
+        (state_of state.now) (nodes_in parts.now.body.now) (nodes_in parts.now.other.now) (shape_of shape.now)
+        ≡ Some (known_of ks)) }
+{
+    let inside = in_body(&checker.base, control, parts.header, state, shape)?;
+    let one = after_nodes(checker, head, inside, parts.body)?;
+    let outside = in_other(&checker.base, parts.header, state, shape)?;
+    let other = after_nodes(checker, head, outside, parts.other)?;
+    after_both(&checker.base, &state.known, &one, &other)
+}
+
+/// After a turn of a range.
+#[cycle(node)]
+fn turned(
+    checker: &Checker<'_>,
+    known: &Known,
+    header: &Header,
+    visit: &Visit,
+    body: &[Node],
+) -> Result<Known, Trouble>
+    ensures { IfOk result (λ ks. turned_by (base_of checker.now.base) checker.now.mode
+        (table_of checker.now.table.now) (header_of header.now) (visit_seen visit.now) (nodes_in body.now)
+        (known_of known.now) ≡ Some (known_of ks)) }
+{
+    let inside = in_turn(checker.base.alloc, header, visit, known)?;
+    let end = after_nodes(checker, Some(known), inside, body)?;
+    Ok(copy_known(checker.base.alloc, oldest(&end, known))?)
+}
+
+/// The variables at the head of a range, looked for in as many rounds as these.
+#[cycle(node)]
+#[tactic(auto, using(crate::proofs::StepLemmas::rounds))]
+fn settled(
+    checker: &Checker<'_>,
+    rounds: usize,
+    known: Known,
+    header: &Header,
+    visit: &Visit,
+    body: &[Node],
+) -> Result<Known, Trouble>
+    ensures { IfOk result (λ ks. settled (base_of checker.now.base) rounds (turned_by
+        (base_of checker.now.base) checker.now.mode (table_of checker.now.table.now) (header_of header.now)
+        (visit_seen visit.now) (nodes_in body.now)) (known_of known) ≡ Some (known_of ks)) }
+{
+    if rounds == 0 {
+        return Err(Trouble::Unsafe);
+    }
+    let end = turned(checker, &known, header, visit, body)?;
+    if all_within(&checker.base, &end, &known) {
+        return Ok(known);
+    }
+    let more = all_joined(&checker.base, &known, &end)?;
+    settled(checker, rounds - 1, more, header, visit, body)
+}
+
+/// The variables at the head of a range.
+#[cycle(node)]
+fn settled_soon(
+    checker: &Checker<'_>,
+    known: &Known,
+    header: &Header,
+    visit: &Visit,
+    body: &[Node],
+) -> Result<Known, Trouble>
+    ensures { IfOk result (λ ks. settled_soon (base_of checker.now.base) (turned_by
+        (base_of checker.now.base) checker.now.mode (table_of checker.now.table.now) (header_of header.now)
+        (visit_seen visit.now) (nodes_in body.now)) (known_of known.now) ≡ Some (known_of ks)) }
+{
+    let start = copy_known(checker.base.alloc, known)?;
+    settled(checker, 12, start, header, visit, body)
+}
+
+/// .. from these before it.
+#[cycle(node)]
+fn kept(
+    checker: &Checker<'_>,
+    known: &Known,
+    header: &Header,
+    visit: &Visit,
+    body: &[Node],
+) -> Result<Known, Trouble>
+    ensures { IfOk result (λ ks. kept_by (base_of checker.now.base) (turned_by
+        (base_of checker.now.base) checker.now.mode (table_of checker.now.table.now) (header_of header.now)
+        (visit_seen visit.now) (nodes_in body.now)) (known_of known.now) ≡ Some (known_of ks)) }
+{
+    let head = settled_soon(checker, known, header, visit, body)?;
+    if !all_within(&checker.base, known, &head) {
+        return Err(Trouble::Unsafe);
+    }
+    Ok(head)
+}
+
+/// After a range that visits these.
+#[cycle(node)]
+#[tactic(auto, using(crate::proofs::ControlLemmas::ranges))]
+fn after_range(
+    checker: &Checker<'_>,
+    head: Option<&Known>,
+    state: &State,
+    parts: &Parts<'_>,
+    visit: &Visit,
+) -> Result<Known, Trouble>
+    ensures { IfOk result (λ ks. after_range_by (base_of checker.now.base) checker.now.mode
+        (table_of checker.now.table.now) (known_seen head.entry) (header_of parts.now.header.now)
+        (state_of state.now) (nodes_in parts.now.body.now) (nodes_in parts.now.other.now) (visit_seen visit.now)
+        ≡ Some (known_of ks)) }
+{
+    let kept = kept(checker, &state.known, parts.header, visit, parts.body)?;
+    let outside = copy_state(checker.base.alloc, state)?;
+    let other = after_nodes(checker, head, outside, parts.other)?;
+    after_both(&checker.base, &state.known, &kept, &other)
+}
+
+/// After a range over values of this shape.
+#[cycle(node)]
+#[tactic(auto, using(crate::proofs::ControlLemmas::visits))]
+fn after_ranging(
+    checker: &Checker<'_>,
+    head: Option<&Known>,
+    state: &State,
+    parts: &Parts<'_>,
+    shape: &Shape,
+) -> Result<Known, Trouble>
+    ensures { IfOk result (λ ks. ranged_by (base_of checker.now.base) checker.now.mode
+        (table_of checker.now.table.now) (known_seen head.entry) (header_of parts.now.header.now)
+        (state_of state.now) (nodes_in parts.now.body.now) (nodes_in parts.now.other.now) (shape_of shape.now)
+        ≡ Some (known_of ks)) }
+{
+    let visit = visit_of(&checker.base, &parts.header.binding, shape)?;
+    after_range(checker, head, state, parts, &visit)
+}
+
+/// After a control.
+#[cycle(node)]
+fn after_control(
+    checker: &Checker<'_>,
+    head: Option<&Known>,
+    state: &State,
+    control: &ControlNode,
+) -> Result<Known, Trouble>
+    ensures { IfOk result (λ ks. after_node (base_of checker.now.base) checker.now.mode
+        (table_of checker.now.table.now) (known_seen head.entry) (state_of state.now) (control_of control.now)
+        ≡ Some (known_of ks)) }
+{
+    if !holds_loop(head, &state.known) {
+        return Err(Trouble::Unsafe);
+    }
+    let shape = pipeline_shape(
+        &checker.base,
+        checker.mode,
+        state,
+        control.header.pipeline.commands.as_slice(),
+    )?;
+    let parts = Parts {
+        header: &control.header,
+        body: control.body.as_slice(),
+        other: control.other.as_slice(),
+    };
+    match control.control {
+        Control::If => after_choice(checker, head, state, Control::If, &parts, &shape),
+        Control::With => after_choice(checker, head, state, Control::With, &parts, &shape),
+        Control::Range => after_ranging(checker, head, state, &parts, &shape),
+    }
+}
+
+/// After a node.
+#[cycle(node)]
+fn after_node(
+    checker: &Checker<'_>,
+    head: Option<&Known>,
+    state: &State,
+    node: &Node,
+) -> Result<Known, Trouble>
+    ensures { IfOk result (λ ks. after_node (base_of checker.now.base) checker.now.mode
+        (table_of checker.now.table.now) (known_seen head.entry) (state_of state.now) (node_of node.now).what
+        ≡ Some (known_of ks)) }
+{
+    match &node.what {
+        NodeKind::Text(_) => Ok(copy_known(checker.base.alloc, &state.known)?),
+        NodeKind::Action(header) => after_action(checker, state, header),
+        NodeKind::Control(control) => after_control(checker, head, state, control),
+        NodeKind::Break => after_leaving(checker, head, state),
+        NodeKind::Continue => after_leaving(checker, head, state),
+        NodeKind::Template(name, given) => after_call(checker, state, name, given),
+    }
+}
+
+/// After nodes.
+#[cycle(node)]
+#[tactic(auto, using(crate::proofs::NodeLemmas::lighter))]
+pub(crate) fn after_nodes(
+    checker: &Checker<'_>,
+    head: Option<&Known>,
+    state: State,
+    nodes: &[Node],
+) -> Result<Known, Trouble>
+    ensures { IfOk result (λ ks. after_nodes (base_of checker.now.base) checker.now.mode
+        (table_of checker.now.table.now) (known_seen head.entry) (state_of state) (nodes_in nodes.now)
+        ≡ Some (known_of ks)) }
+{
+    let State { dot, known } = state;
+    let mut state = State { dot, known };
+    for node in nodes {
+        state.known = after_node(checker, head, &state, node)?;
+    }
+    Ok(state.known)
+}

@@ -1,0 +1,278 @@
+//! The shapes of pipelines.
+#![tactic(auto, using(tmpl_grammar::proofs::ViewLemmas::group_seen, crate::proofs::ViewLemmas::parts, crate::proofs::ViewLemmas::arguments))]
+
+ghost use Rattle.std.specs.Prelude.{◌≡◌, ◌+◌, [], IfOk, None, Some, if◌then◌else◌, length, option_to_list};
+ghost use Rattle.tmpl_grammar.specs.Tree.{function, operand};
+ghost use Rattle.tmpl_grammar.specs.View.{commands_in, operand_of, operands_in};
+ghost use Rattle.tmpl_meaning.specs.Pipeline.{operand_count};
+ghost use Rattle.tmpl_schema.specs.View.{shape_of};
+ghost use Rattle.tmpl_schema.specs.computed.Calls.{call_shape};
+ghost use Rattle.tmpl_schema.specs.computed.Check.{alone, command_shape, commands_shape, junction_shape, operand_shape, pipeline_shape};
+ghost use Rattle.tmpl_schema.specs.computed.View.{argument_shapes, base_of, called_shape, seen, shapes_of, state_of};
+ghost use Rattle.tmpl_funcs.specs.Func.{takes};
+
+use crate::call::{Shapes, call_shape, put_argument};
+use crate::field::chain_shape;
+use crate::join::{filled, joined, null_gone};
+use crate::known::variable_shape;
+use crate::shape::{Base, Shape, copy_shape};
+use crate::state::{State, narrowed_by};
+use crate::trouble::Trouble;
+use tmpl_funcs::Func;
+use tmpl_grammar::{Command, Operand};
+use tmpl_meaning::MissingKey;
+
+/// The shape of an operand, if it never is a fault.
+#[cycle(pipeline)]
+fn operand_shape(
+    base: &Base<'_>,
+    mode: MissingKey,
+    state: &State,
+    operand: &Operand,
+) -> Result<Shape, Trouble>
+    ensures { IfOk result (λ s. operand_shape (base_of base.now) mode (state_of state.now) (operand_of operand.now)
+        ≡ Some (shape_of s)) }
+{
+    match operand {
+        Operand::Dot => Ok(copy_shape(base.alloc, &state.dot)?),
+        Operand::Fields(names) => chain_shape(base, mode, names.as_slice(), &state.dot),
+        Operand::Variable { name, fields } => match variable_shape(name.as_slice(), &state.known) {
+            Some(shape) => chain_shape(base, mode, fields.as_slice(), shape),
+            None => Err(Trouble::Unsafe),
+        },
+        Operand::Bool(_) => Ok(Shape::Truths),
+        Operand::Number(_) => Ok(Shape::Numbers),
+        Operand::Text(_) => Ok(Shape::Texts),
+        Operand::Nil => Ok(Shape::Nothings),
+        Operand::Function(func) => bare_shape(base, *func),
+        Operand::Group { commands, fields } => {
+            let shape = commands_shape(base, mode, state, commands.as_slice(), None)?;
+            chain_shape(base, mode, fields.as_slice(), &shape)
+        }
+    }
+}
+
+/// The shape of a function as an argument: a call without arguments.
+fn bare_shape(base: &Base<'_>, func: Func) -> Result<Shape, Trouble>
+    ensures { IfOk result (λ s. (if takes func 0 then call_shape (base_of base.now) func [] else None)
+        ≡ Some (shape_of s)) }
+{
+    if !func.takes(0) {
+        return Err(Trouble::Unsafe);
+    }
+    call_shape(base, func, &Shapes::Empty)
+}
+
+/// The shapes of the arguments of a call, of which a piped one is the last.
+#[cycle(pipeline)]
+#[tactic(auto, using(crate::proofs::ViewLemmas::parts, crate::proofs::ViewLemmas::arguments, crate::proofs::PipelineLemmas::more))]
+fn argument_shapes(
+    base: &Base<'_>,
+    mode: MissingKey,
+    state: &State,
+    operands: &[Operand],
+    piped: Option<&Shape>,
+) -> Result<Shapes, Trouble>
+    ensures { IfOk result (λ ss. argument_shapes (base_of base.now) mode (state_of state.now)
+        (operands_in operands.now) (seen piped.entry) ≡ Some (shapes_of ss)) }
+{
+    match operands {
+        [] => match piped {
+            Some(shape) => {
+                let shape = copy_shape(base.alloc, shape)?;
+                Ok(put_argument(base.alloc, shape, Shapes::Empty)?)
+            }
+            None => Ok(Shapes::Empty),
+        },
+        [first, others @ ..] => {
+            let shape = operand_shape(base, mode, state, first)?;
+            let rest = argument_shapes(base, mode, state, others, piped)?;
+            Ok(put_argument(base.alloc, shape, rest)?)
+        }
+    }
+}
+
+/// The shape of a call, if it never is a fault.
+#[cycle(pipeline)]
+#[tactic(auto, using(crate::proofs::PipelineLemmas::calls))]
+fn called_shape(
+    base: &Base<'_>,
+    mode: MissingKey,
+    state: &State,
+    func: Func,
+    operands: &[Operand],
+    piped: Option<&Shape>,
+) -> Result<Shape, Trouble>
+    ensures { IfOk result (λ s. called_shape (base_of base.now) mode (state_of state.now) func
+        (operands_in operands.now) (seen piped.entry) ≡ Some (shape_of s)) }
+{
+    let shapes = argument_shapes(base, mode, state, operands, piped)?;
+    call_shape(base, func, &shapes)
+}
+
+/// The shape of an `or`, or else of an `and`, whose operands before these do not decide.
+#[cycle(pipeline)]
+fn junction_shape(
+    base: &Base<'_>,
+    is_or: bool,
+    mode: MissingKey,
+    state: &State,
+    last: &Shape,
+    operands: &[Operand],
+    piped: Option<&Shape>,
+) -> Result<Shape, Trouble>
+    ensures { IfOk result (λ s. junction_shape (base_of base.now) is_or mode (state_of state.now)
+        (shape_of last.now) (operands_in operands.now) (seen piped.entry) ≡ Some (shape_of s)) }
+{
+    match operands {
+        [] => match piped {
+            Some(shape) => Ok(copy_shape(base.alloc, shape)?),
+            None => Ok(copy_shape(base.alloc, last)?),
+        },
+        [first, rest @ ..] => {
+            let shape = operand_shape(base, mode, state, first)?;
+            let full = filled(base, &shape)?;
+            if is_or {
+                let more = junction_shape(base, true, mode, state, &shape, rest, piped)?;
+                return Ok(joined(base, full, more)?);
+            }
+            let passed = narrowed_by(base, first, state)?;
+            let more = junction_shape(base, false, mode, &passed, &full, rest, piped)?;
+            Ok(joined(base, shape, more)?)
+        }
+    }
+}
+
+/// How many arguments there are.
+#[tactic(auto, using(crate::proofs::PipelineLemmas::counts))]
+fn argument_count(operands: &[Operand], piped: Option<&Shape>) -> u64
+    ensures { result ≡ operand_count (operands_in operands.now) + length (option_to_list (seen piped.entry)) }
+{
+    match piped {
+        Some(_) => operands.len() as u64 + 1,
+        None => operands.len() as u64,
+    }
+}
+
+/// The shape of a command that calls a function.
+#[cycle(pipeline)]
+fn function_shape(
+    base: &Base<'_>,
+    mode: MissingKey,
+    state: &State,
+    func: Func,
+    operands: &[Operand],
+    piped: Option<&Shape>,
+) -> Result<Shape, Trouble>
+    ensures { IfOk result (λ s. command_shape (base_of base.now) mode (state_of state.now) (operand (function func)
+        (operands_in operands.now)) (seen piped.entry) ≡ Some (shape_of s)) }
+{
+    if !func.takes(argument_count(operands, piped)) {
+        return Err(Trouble::Unsafe);
+    }
+    match func {
+        Func::And => junction_shape(base, false, mode, state, &Shape::Nothings, operands, piped),
+        Func::Or => junction_shape(base, true, mode, state, &Shape::Nothings, operands, piped),
+        Func::Not => called_shape(base, mode, state, func, operands, piped),
+        Func::Len => called_shape(base, mode, state, func, operands, piped),
+        Func::Print => called_shape(base, mode, state, func, operands, piped),
+        Func::Println => called_shape(base, mode, state, func, operands, piped),
+        Func::Html => called_shape(base, mode, state, func, operands, piped),
+        Func::Urlquery => called_shape(base, mode, state, func, operands, piped),
+        Func::Eq => called_shape(base, mode, state, func, operands, piped),
+        Func::Ne => called_shape(base, mode, state, func, operands, piped),
+        Func::Lt => called_shape(base, mode, state, func, operands, piped),
+        Func::Le => called_shape(base, mode, state, func, operands, piped),
+        Func::Gt => called_shape(base, mode, state, func, operands, piped),
+        Func::Ge => called_shape(base, mode, state, func, operands, piped),
+        Func::Index | Func::Slice | Func::Printf => Err(Trouble::Unsafe),
+    }
+}
+
+/// The shape of an operand to which nothing is piped and no argument given.
+#[cycle(pipeline)]
+fn alone_shape(
+    base: &Base<'_>,
+    mode: MissingKey,
+    state: &State,
+    first: &Operand,
+    rest: &[Operand],
+    piped: Option<&Shape>,
+) -> Result<Shape, Trouble>
+    ensures { IfOk result (λ s. alone (operand_shape (base_of base.now) mode (state_of state.now)
+        (operand_of first.now)) (seen piped.entry) (operands_in rest.now) ≡ Some (shape_of s)) }
+{
+    match piped {
+        Some(_) => Err(Trouble::Unsafe),
+        None => match rest {
+            [] => operand_shape(base, mode, state, first),
+            [_, _more @ ..] => Err(Trouble::Unsafe),
+        },
+    }
+}
+
+/// The shape of a command, if it never is a fault.
+#[cycle(pipeline)]
+fn command_shape(
+    base: &Base<'_>,
+    mode: MissingKey,
+    state: &State,
+    operands: &[Operand],
+    piped: Option<&Shape>,
+) -> Result<Shape, Trouble>
+    ensures { IfOk result (λ s. command_shape (base_of base.now) mode (state_of state.now)
+        (operands_in operands.now) (seen piped.entry) ≡ Some (shape_of s)) }
+{
+    match operands {
+        [] => Err(Trouble::Unsafe),
+        [first, rest @ ..] => match first {
+            Operand::Function(func) => function_shape(base, mode, state, *func, rest, piped),
+            Operand::Nil => Err(Trouble::Unsafe),
+            Operand::Dot => alone_shape(base, mode, state, first, rest, piped),
+            Operand::Fields(_) => alone_shape(base, mode, state, first, rest, piped),
+            Operand::Variable { .. } => alone_shape(base, mode, state, first, rest, piped),
+            Operand::Bool(_) => alone_shape(base, mode, state, first, rest, piped),
+            Operand::Number(_) => alone_shape(base, mode, state, first, rest, piped),
+            Operand::Text(_) => alone_shape(base, mode, state, first, rest, piped),
+            Operand::Group { .. } => alone_shape(base, mode, state, first, rest, piped),
+        },
+    }
+}
+
+/// The shape of what commands give to the last of them, if it never is a fault.
+#[cycle(pipeline)]
+fn commands_shape(
+    base: &Base<'_>,
+    mode: MissingKey,
+    state: &State,
+    commands: &[Command],
+    piped: Option<&Shape>,
+) -> Result<Shape, Trouble>
+    ensures { IfOk result (λ s. commands_shape (base_of base.now) mode (state_of state.now)
+        (commands_in commands.now) (seen piped.entry) ≡ Some (shape_of s)) }
+{
+    match commands {
+        [] => match piped {
+            Some(shape) => Ok(copy_shape(base.alloc, shape)?),
+            None => Ok(Shape::Nothings),
+        },
+        [first, rest @ ..] => {
+            let shape = command_shape(base, mode, state, first.operands.as_slice(), piped)?;
+            let shape = null_gone(base, &shape)?;
+            commands_shape(base, mode, state, rest, Some(&shape))
+        }
+    }
+}
+
+/// The shape of the value of a pipeline, if it never is a fault.
+pub(crate) fn pipeline_shape(
+    base: &Base<'_>,
+    mode: MissingKey,
+    state: &State,
+    commands: &[Command],
+) -> Result<Shape, Trouble>
+    ensures { IfOk result (λ s. pipeline_shape (base_of base.now) mode (state_of state.now)
+        (commands_in commands.now) ≡ Some (shape_of s)) }
+{
+    commands_shape(base, mode, state, commands, None)
+}

@@ -1,0 +1,40 @@
+//! What is known of the templates that are called.
+#![tactic(auto)]
+
+ghost use Rattle.std.specs.Prelude.{◌≡◌};
+ghost use Rattle.tmpl_schema.specs.computed.View.{callee_seen, table_of};
+
+use crate::shape::Shape;
+use tmpl_values::Bytes;
+
+/// What is known of a template that is called.
+#[derive(Drop)]
+pub(crate) enum Callee {
+    /// It is handed values of this shape.
+    Handed(Shape),
+    /// It is not there, and its call is meant to stop the run.
+    Absent,
+}
+
+/// A template that is called, by its name.
+#[derive(Drop)]
+pub(crate) struct Entry {
+    pub(crate) name: Bytes,
+    pub(crate) callee: Callee,
+}
+
+/// What is known of the template of a name.
+pub(crate) fn find_callee<'t>(table: &'t [Entry], name: &[u8]) -> Option<&'t Callee>
+    ensures { callee_seen result ≡ table_of table.now name.now }
+{
+    match table {
+        [] => None,
+        [first, rest @ ..] => {
+            if name == first.name.as_slice() {
+                Some(&first.callee)
+            } else {
+                find_callee(rest, name)
+            }
+        }
+    }
+}
