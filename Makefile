@@ -3,6 +3,7 @@ PREFIX ?= /usr/local
 export PREFIX DESTDIR CRATE
 
 PROGRAM = crates/tmpl/out/tmpl
+CHECKER = crates/tmpl_check/out/tmpl_check
 PROBE = crates/tmpl_probe/out/tmpl_probe
 # the engine as a C library: what is proved, and what is linked of it for others
 PROVED_LIBRARY = crates/tmpl_c/out/libtmpl_c.a
@@ -18,8 +19,9 @@ STATIC = packaging/out/static/tmpl
 ARM = packaging/out/aarch64
 WEB = packaging/out/web
 # what is copied, but for whole folders
-COPIED = bin/tmpl share/man/man1/tmpl.1 share/man/man7/tmpl-language.7 share/bash-completion/completions/tmpl \
-	share/zsh/site-functions/_tmpl share/fish/vendor_completions.d/tmpl.fish include/tmpl.h include/tmpl.hpp lib/libtmpl.a \
+COPIED = bin/tmpl bin/tmpl-check share/man/man1/tmpl.1 share/man/man1/tmpl-check.1 share/man/man7/tmpl-language.7 share/bash-completion/completions/tmpl \
+	share/zsh/site-functions/_tmpl share/fish/vendor_completions.d/tmpl.fish share/bash-completion/completions/tmpl-check \
+	share/zsh/site-functions/_tmpl-check share/fish/vendor_completions.d/tmpl-check.fish include/tmpl.h include/tmpl.hpp lib/libtmpl.a \
 	lib/libtmpl.so lib/$(SONAME) lib/pkgconfig/tmpl.pc
 # whether what is for aarch64 is built
 HAS_ARM = $(MAKE) --no-print-directory -s -q aarch64
@@ -27,8 +29,8 @@ HAS_ARM = $(MAKE) --no-print-directory -s -q aarch64
 NEEDS_RT = command -v rt > /dev/null || { echo "rt is missing: it is the command of the toolchain of Rattle, with which the \
 program is proved and built. Put it on the PATH, or install a package that was made where it is." >&2; false; }
 
-# proves the program and the crates that it uses, over what earlier runs kept in out/, and builds it
-build: $(PROGRAM)
+# proves the programs tmpl and tmpl-check and the crates that they use, over what earlier runs kept in out/, and builds them
+build: $(PROGRAM) $(CHECKER)
 
 # builds the program without proofs, renders examples/hello, and keeps it as crates/tmpl/out/tmpl-unproved
 demo:
@@ -36,16 +38,10 @@ demo:
 	@echo "Building without proofs, which takes a minute or two .." >&2
 	@python3 packaging/demo.py
 
-# the gate: every proof from nothing, then the tests over the program that it left, as each of the two compilers built it
+# the gate: every proof from nothing, then the tests over the program that it left, as each of the two compilers built it; tests/run runs some
 test:
 	@$(NEEDS_RT)
-	python3 tests/gate.py "rt ci" "python3 tests/edits.py --apply" "python3 tests/believed.py" "python3 tests/run.py" \
-		"env TMPL=$(PROGRAM).by-rattle python3 tests/run.py" "python3 tests/places.py" "python3 tests/tables.py" \
-		"python3 tests/fronts.py" "python3 tests/print.py" "python3 tests/draws.py" "python3 tests/calls.py" \
-		"python3 tests/kept.py" "python3 tests/code.py" "python3 tests/pieces.py" "python3 tests/writes.py" \
-		"python3 tests/sweep.py" "python3 tests/memory.py" "python3 tests/counts.py" "python3 tests/strangers.py" \
-		"python3 tests/made.py" "python3 tests/quotes.py" "python3 tests/documents.py" "python3 tests/library.py" \
-		"python3 tests/ports.py" "python3 tests/web.py"
+	python3 tests/runner.py
 
 # proves the engine as a C library and builds it: bindings/out/libtmpl.a and libtmpl.so
 lib: $(STATIC_LIBRARY) $(SHARED_LIBRARY)
@@ -78,15 +74,17 @@ fuzz: $(PROGRAM) $(PROVED_LIBRARY)
 compare: $(PROGRAM)
 	python3 tests/go/compare.py
 
-# copies the program, man pages, completions, templates for quoting, documents and examples to PREFIX, /usr/local if it is not set
-install: $(PROGRAM) install-documents
+# copies the programs, man pages, completions, templates for quoting, documents and examples to PREFIX, /usr/local if it is not set
+install: $(PROGRAM) $(CHECKER) install-documents
 	install -D -m 755 $(PROGRAM) "$$DESTDIR$$PREFIX/bin/tmpl"
-	! command -v strip > /dev/null || strip "$$DESTDIR$$PREFIX/bin/tmpl"
+	install -D -m 755 $(CHECKER) "$$DESTDIR$$PREFIX/bin/tmpl-check"
+	! command -v strip > /dev/null || strip "$$DESTDIR$$PREFIX/bin/tmpl" "$$DESTDIR$$PREFIX/bin/tmpl-check"
 	! command -v $(OBJCOPY) > /dev/null || { note=$$(mktemp) && python3 packaging/pages.py --build > "$$note" && \
 		$(OBJCOPY) --remove-section .tmpl.build --add-section ".tmpl.build=$$note" "$$DESTDIR$$PREFIX/bin/tmpl" && rm "$$note"; }
 	install -D -m 644 completions/tmpl.bash "$$DESTDIR$$PREFIX/share/bash-completion/completions/tmpl"
-	install -D -m 644 -t "$$DESTDIR$$PREFIX/share/zsh/site-functions" completions/_tmpl
-	install -D -m 644 -t "$$DESTDIR$$PREFIX/share/fish/vendor_completions.d" completions/tmpl.fish
+	install -D -m 644 completions/tmpl-check.bash "$$DESTDIR$$PREFIX/share/bash-completion/completions/tmpl-check"
+	install -D -m 644 -t "$$DESTDIR$$PREFIX/share/zsh/site-functions" completions/_tmpl completions/_tmpl-check
+	install -D -m 644 -t "$$DESTDIR$$PREFIX/share/fish/vendor_completions.d" completions/tmpl.fish completions/tmpl-check.fish
 	install -D -m 644 -t "$$DESTDIR$$PREFIX/share/tmpl/quotes" $(QUOTES)
 
 # copies the documents, the man pages and the examples alone, with links to what is installed, and the folder that PREFIX names
@@ -135,6 +133,11 @@ $(PROGRAM): $(SOURCES)
 	@$(NEEDS_RT)
 	@echo "Proving the program: docs/CONTRIBUTING.md says how long that takes from a fresh clone; seconds where little changed .." >&2
 	cd crates/tmpl && rt run -- --help > /dev/null
+	@touch $@
+
+$(CHECKER): $(SOURCES)
+	@$(NEEDS_RT)
+	cd crates/tmpl_check && rt run -- --help > /dev/null
 	@touch $@
 
 $(PROBE): $(SOURCES)

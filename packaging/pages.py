@@ -13,7 +13,7 @@ HERE = os.path.dirname(os.path.abspath(__file__))
 TOP = os.path.dirname(HERE)
 DOCUMENTS = ["README.md", "CHANGELOG.md", "docs/*.md"]
 FOLDERS = ["examples", "editors"]
-MANUALS = {"man/tmpl.1": "share/man/man1", "man/tmpl-language.7": "share/man/man7"}
+MANUALS = {"man/tmpl.1": "share/man/man1", "man/tmpl-check.1": "share/man/man1", "man/tmpl-language.7": "share/man/man7"}
 LINK = re.compile(r"\[((?:[^\[\]`]|`[^`]*`)*)\]\(([^()\s]+)\)")
 BLOCK = re.compile(r"^```.*?^```$", re.MULTILINE | re.DOTALL)
 

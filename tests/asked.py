@@ -86,7 +86,7 @@ def changed(draw, call, other):
 
 
 def of_changes(calls, count, seed=1):
-    """So many changed calls, with what the library that is built here makes of them."""
+    """This many changed calls, with what the library that is built here makes of them."""
     draw, small = random.Random(seed), [it for it in calls if it.size() <= LONGEST]
     while count:
         it = changed(draw, *draw.sample(small, 2))

@@ -208,7 +208,7 @@ def tree(levels):
 
 
 def definitions(count):
-    """So many definitions, each called once."""
+    """This many definitions, each called once."""
     return (b'{{define "t%d"}}%d{{end}}{{template "t%d"}}\n' % (n, n, n) for n in range(count))
 
 
@@ -495,6 +495,29 @@ def bench_library(figures, folder):
             beside = "; ".join(f"{who} {it}" for who, it in spelled.items() if who != "tmpl")
             factor = told["tmpl"][1] / told["Go"][1] if go else None
             figures.row(f"{name}, {how}", spelled["tmpl"], beside, factor, None, MOST.get((name, bool(kept))))
+    bench_kept(figures, speed, folder)
+
+
+def bench_kept(figures, speed, folder):
+    """A small render of what is kept, beside templates of the same set that it does not call."""
+    held = write(f"{folder}/data", [b'{"user": {"name": "Ada"}}'])
+    files = {
+        name: write(f"{folder}/kept{number}", [*pieces, b"Hello, {{.user.name}}!\n"])
+        for number, (name, pieces) in enumerate([
+            ("alone", []),
+            *((f"beside {count:,} definitions", [b'{{define "t%d"}}text {{.a}} of %d{{end}}' % (it, it) for it in range(count)])
+              for count in (100, 1000, 10_000)),
+            ("beside a template that calls itself", [b'{{define "r"}}{{.a}}{{template "r" .b}}{{end}}']),
+            ("beside a template that calls itself, at depth 100,000", [b'{{define "r"}}{{.a}}{{template "r" .b}}{{end}}']),
+        ])
+    }
+    told = {}
+    for name, file in files.items():
+        program = [speed, file, held], ["kept", *(["100000"] if "100,000" in name else [])]
+        told[name] = turns({name: program}, 1000)[name]
+        least, middle = told[name]
+        factor = middle / told["alone"][1]
+        figures.row(f"a kept `Hello`, {name}", f"{shown(least / 1e9)}, {shown(middle / 1e9)}", "alone", factor, None, 1.2)
 
 
 # ---- the page

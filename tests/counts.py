@@ -18,7 +18,7 @@ MADE = '{{$x := print "%s"}}{{$y := $x}}{{with $x}}{{.}}|{{len .}}|{{slice . %d}
 
 
 def body(count):
-    """A control around so many actions, and one of them where the data is empty: a jump over all of their code."""
+    """A control around this many actions, and one of them where the data is empty: a jump over all of their code."""
     template = "{{if .}}" + "x{{.}}" * count + "{{else}}no{{end}}!"
     yield {"m": template, "d": "7"}, "x7" * count + "!"
     yield {"m": template, "d": "0"}, "no!"
@@ -27,7 +27,7 @@ def body(count):
 
 
 def members(count):
-    """An object of so many members, in an order of its own, some of which stand there twice."""
+    """An object of this many members, in an order of its own, some of which stand there twice."""
     keys = [f"k{number}" for number in range(count)]
     its = [(key, number) for number, key in enumerate(keys)]
     random.Random(count).shuffle(its)
@@ -171,6 +171,10 @@ def stacks():
     pair = pair.replace("{{end}}", '{{else}}{{template "v"}}{{end}}', 1)
     last = '{{define "v"}}%s{{end}}' % big
     yield "two that call each other and a big one that they call", ["--depth", "2000"], pair + last, [], last + '{{template "v"}}', MUCH
+    lone = '{{define "t"}}{{if .}}{{template "t" .}}{{end}}{{end}}x'
+    yield "a template beside one that calls itself, which it does not call", DEEPEST, lone, [], small + "x", LITTLE
+    apart = '{{define "b"}}%s{{end}}x' % big
+    yield "a template beside a big one, which it does not call", [], apart, [], big, 0
     chain = "".join('{{define "t%d"}}{{template "t%d"}}{{end}}' % (it, it + 1) for it in range(CHAIN - 1))
     chain += '{{define "t%d"}}x{{end}}{{template "t0"}}' % (CHAIN - 1)
     yield f"a chain of {CHAIN}, at the greatest depth and at its own", DEEPEST, chain, ["--depth", str(CHAIN + 1)], chain, 0

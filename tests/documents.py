@@ -161,6 +161,7 @@ def put_out(folder, said):
     """What each command puts out."""
     os.makedirs(f"{folder}/bin")
     os.symlink(harness.PROGRAM, f"{folder}/bin/tmpl")
+    os.symlink(harness.CHECKER, f"{folder}/bin/tmpl-check")
     os.symlink(f"{harness.TOP}/examples/quotes", f"{folder}/quotes")  # a path without spaces
     os.makedirs(f"{folder}/share/tmpl")
     os.symlink(f"{folder}/quotes", f"{folder}/share/tmpl/quotes")  # where an installed program has them

@@ -129,7 +129,7 @@ static int is_refused(void) {
         told = number_in("FAIL_EACH");
     if (!told)
         return is_numbered();
-    /* a copy has had its refusal, and where FAIL_REST is 1 all that it asks for behind it is refused too */
+    /* a copy has had its refusal, and where FAIL_REST is 1 all that it asks for after it is refused too */
     if (is_copy)
         return number_in("FAIL_REST") == 1;
     is_copy = in_copy(&turn, (int)told, ++number);

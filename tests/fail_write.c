@@ -7,7 +7,7 @@
    that is refused, and `b` for each that follows it.
 
    What the program may change is its machine stack, its own data and its heap. The stack is copied before each refusal. The heap is of the
-   shim: blocks lie one behind the other, and none is given out again. At each refusal no page of it and of the program's data may be
+   shim: blocks lie one after the other, and none is given out again. At each refusal no page of it and of the program's data may be
    written: a write to one is met by a signal, and the page is copied then. The first pages that are met often are copied before each
    refusal, as the stack is. What the program keeps in the system is not put back: when it writes it must need no file that is open.
    The headers are left out, since the toolchain of the kit has none. */
@@ -234,7 +234,7 @@ static char other_stack[1 << 16] __attribute__((aligned(16)));
 
 static void say(struct said *to, const void *bytes, size_t count) {
     if (count > (size_t)(most_told - to->count))
-        stop("fail_write: too much is put out behind a refusal\n");
+        stop("fail_write: too much is put out after a refusal\n");
     memcpy(to->bytes + to->count, bytes, count);
     to->count += count;
 }
@@ -327,7 +327,7 @@ static int refuse(const struct way *way) {
     return -1;
 }
 
-/* A write behind one that was refused in this way. */
+/* A write after one that was refused in this way. */
 static ssize_t write_behind(const struct way *way, int is_to, int descriptor, const void *bytes, size_t count) {
     if (is_to)
         say(&told, "b", 1);

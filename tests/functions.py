@@ -73,7 +73,7 @@ def case(name, arguments, came):
 
 
 def of_nils(name, count):
-    """What a function gives for nil, so many times."""
+    """What a function gives for nil, this many times."""
     least, most = COUNTS[name]
     if not least <= count <= most:
         return [WRONG_COUNT]

@@ -15,7 +15,9 @@ import threading
 TESTS = os.path.dirname(os.path.abspath(__file__))
 TOP = os.path.dirname(TESTS)
 PROGRAM = os.path.abspath(os.environ.get("TMPL") or f"{TOP}/crates/tmpl/out/tmpl")
+CHECKER = os.path.abspath(os.environ.get("TMPL_CHECK") or f"{TOP}/crates/tmpl_check/out/tmpl_check")
 SECONDS = 60  # for one run
+ROWS = os.environ.get("ROWS", "")  # what the names of rows that are run have to hold
 ENVIRONMENT = dict(os.environb)
 MEMORY = "/dev/shm" if os.access("/dev/shm", os.W_OK) else None  # where files of tests are best kept: some disks wait for each
 SET_PIPE_SIZE = 1031  # to fcntl
@@ -123,8 +125,13 @@ def fill(pipe, what):
         pass
 
 
+def processes():
+    """How many processes may run side by side."""
+    return int(os.environ.get("PROCESSES") or len(os.sched_getaffinity(0)))
+
+
 def read_rows():
-    """The rows of tests/rows, in the order of the files' names."""
+    """The rows of tests/rows, in the order of the files' names, and the examples; where ROWS is set, those alone whose names hold it."""
     rows = []
     for name in sorted(os.listdir(f"{TESTS}/rows")):
         with open(f"{TESTS}/rows/{name}", encoding="utf-8") as it:
@@ -133,7 +140,7 @@ def read_rows():
     names = [row.name for row in rows]
     for name in {it for it in names if names.count(it) > 1}:
         raise ValueError(f"two rows are named {name}")
-    return rows
+    return [row for row in rows if ROWS in row.name]
 
 
 def read_examples():
@@ -370,26 +377,29 @@ def taken_from(descriptor):
 
 
 def in_processes(check, cases, start, many):
-    """What each case comes to, so many at a time to one of as many processes as there are processors. Where there is one
+    """What each case comes to, this many at a time to one of as many processes as there are processors. Where there is one
     processor no other process is started."""
     global SERVE
-    processes = len(os.sched_getaffinity(0))
+    count = processes()
     with tempfile.TemporaryDirectory() as folder:
         SERVE = f"{folder}/serve.so"
         build_shim("serve.c", SERVE)
-        if processes == 1:
+        if count == 1:
             start()
             yield from map(check, cases)
             return
-        with multiprocessing.get_context("fork").Pool(processes, start) as pool:
+        with multiprocessing.get_context("fork").Pool(count, start) as pool:
             yield from pool.imap_unordered(check, cases, chunksize=many)
             pool.close()
             pool.join()
 
 
 def too_few(what, count, least):
-    """Says how many cases there were, and whether they are fewer than these: then a test shows less than it says."""
+    """Says how many cases there were, and whether they are fewer than these: then a test shows less than it says. Of rows that were
+    chosen there may be any number."""
     print(f"{count} {what}")
+    if ROWS:
+        return False
     if count < least:
         print(f"FAILED fewer than {least} {what}")
     return count < least

@@ -67,7 +67,7 @@ class Came(NamedTuple):
 
 
 def often(folder, words, times, shim=None, refused=0, out=subprocess.PIPE):
-    """What came of a process of so many calls: under the shim also the blocks that were left at its end."""
+    """What came of a process of this many calls: under the shim also the blocks that were left at its end."""
     environment, keep, (read, write) = dict(os.environ), (), os.pipe()
     if shim:
         keep = (write,)

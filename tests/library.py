@@ -30,7 +30,7 @@ LEAST = 1400  # rows
 SIZES = 24  # bytes up to which texts and lines are called with room of each size
 LEAST_SIZES = 30900  # calls for that
 LEAST_CASES = 500  # of tests/library.c
-GUARD = b"\xa5" * 8  # behind lent memory
+GUARD = b"\xa5" * 8  # after lent memory
 SWITCHES = {b"--data", b"--missingkey", b"--name", b"--depth", b"--steps"}
 BLOCK = re.compile(r"^```(c|cpp|python|go|rust)\n(.*?)^```\n+(?:It puts out\n+)?```text\n(.*?)^```$", re.MULTILINE | re.DOTALL)
 NAMES = ["tmpl_data_free", "tmpl_data_read", "tmpl_render", "tmpl_render_set", "tmpl_set_add", "tmpl_set_free", "tmpl_version"]
@@ -148,7 +148,7 @@ def judge_refusals():
         ("data is refused", lambda: templates.render_bytes(data=b"[1.5]"), (5, b"", "tmpl: data: number not whole or out of range")),
         ("the data is as it was", lambda: came_with(templates, "a"), (0, b"one 1", "")),
         ("a name of a file is no text", lambda: templates.add(b"\xff", ""), (2, b"", "tmpl: arguments refused; see tmpl --help")),
-        ("a file behind it", lambda: templates.add("c", '{{define "a"}}three {{.}}{{end}}'), (0, b"", "")),
+        ("a file after it", lambda: templates.add("c", '{{define "a"}}three {{.}}{{end}}'), (0, b"", "")),
         ("it replaces the first", lambda: templates.render_bytes(data=b"1"), (0, b"three 1", "")),
         ("freed", templates.close, (0, b"", "")),
         ("freed twice", templates.close, (0, b"", "")),
@@ -169,7 +169,7 @@ def came_with(templates, name):
 
 
 def guarded(size):
-    """Memory of so many bytes, with a guard behind it."""
+    """Memory of this many bytes, with a guard after it."""
     lent = tmpl._Lent(size)
     lent.memory = tmpl.ctypes.create_string_buffer(b"\xa5" * size + GUARD, size + len(GUARD))
     lent.buffer.bytes = tmpl.ctypes.addressof(lent.memory)
@@ -177,7 +177,7 @@ def guarded(size):
 
 
 def is_shown(lent, size, text):
-    """Whether memory of so many bytes holds as much of the text as it has room for, and the guard stands."""
+    """Whether memory of this many bytes holds as much of the text as it has room for, and the guard stands."""
     taken = min(size, len(text))
     whole = text[:taken] + b"\xa5" * (size - taken) + GUARD
     return lent.memory.raw == whole and (lent.buffer.taken, lent.buffer.needed) == (taken, len(text))
@@ -214,7 +214,7 @@ def render_often(templates, number):
 
 
 def grown_by(count):
-    """The kilobytes by which the process grows by so many large texts, while the cyclic collector is off."""
+    """The kilobytes by which the process grows by this many large texts, while the cyclic collector is off."""
     gc.disable()
     try:
         before = resource.getrusage(resource.RUSAGE_SELF).ru_maxrss
@@ -266,6 +266,18 @@ def judge_options():
         yield f"the wrapper: {name}", 1, [] if got == wanted else [f"    got {got}"]
 
 
+# files, data, and the file, the line and the template that an error names
+PLACES = [
+    ({"m": "\n{{"}, None, ("m", 2, None)),
+    ({"d:1: in x/m": "\n\n{{nope}}"}, None, ("d:1: in x/m", 3, None)),
+    ({"d:7: in \"q\": /m": '{{define "a\\"\\n\\x80\u00fc"}}\n{{nil}}{{end}}{{template "a\\"\\n\\x80\u00fc"}}'}, None,
+     ('d:7: in "q": /m', 2, 'a"\n\ufffd\u00fc')),
+    ({"m": "{{range 1}}\n{{len .}}{{end}}"}, None, ("m", 2, "m")),
+    ({"x": "no such name"}, None, (None, None, None)),
+    ({"m": "{{.}}"}, 1.5, (None, None, None)),
+]
+
+
 def judge_wrapper():
     """What the wrapper for Python owes besides texts: threads that share templates, errors that pass between processes, and memory
     that is given back as soon as a text is."""
@@ -280,6 +292,14 @@ def judge_wrapper():
         again = pickle.loads(pickle.dumps(error))
         same = (again.status, again.line, again.text, str(again)) == (4, 'tmpl: no template "none"', b"", 'tmpl: no template "none"')
         yield "an error that is pickled", 1, [] if same else [f"    {again!r}"]
+    for files, data, wanted in PLACES:
+        try:
+            tmpl.render(files, "m", data)
+            came = None
+        except tmpl.TemplateError as error:
+            came = pickle.loads(pickle.dumps(error))
+            came = came.file, came.line_number, came.template
+        yield f"the place of an error: {wanted}", 1, [] if came == wanted else [f"    {came}"]
     grown_by(2)
     more = grown_by(20)
     yield "the memory of large texts", 1, [f"    it grew by {more} kB"] if more > 4096 else []

@@ -212,7 +212,7 @@ def form(found, left):
 
 
 def signed(value, flags, width, base):
-    """A number, with zeros behind its sign where they are asked for."""
+    """A number, with zeros after its sign where they are asked for."""
     sign = "-" if value < 0 else "+" if b"+" in flags else " " if b" " in flags else ""
     zeros = width - len(sign) if b"0" in flags and b"-" not in flags else 0
     return (sign + format(abs(value), base).zfill(zeros)).encode()
@@ -417,7 +417,7 @@ class Run:
             raise Fault(name + b": " + why.args[0]) from why
 
     def deciding(self, wanted, values):
-        """The first value that is empty, or is not, else the last; none behind it is looked at."""
+        """The first value that is empty, or is not, else the last; none after it is looked at."""
         for value in values:
             if is_empty(value) == wanted:
                 break

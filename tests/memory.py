@@ -44,11 +44,11 @@ class Sweep:
 
 
 class Came:
-    """What came of a run: its number, the status, how many reads there were, of each sink how many puts, those behind the first that
+    """What came of a run: its number, the status, how many reads there were, of each sink how many puts, those after the first that
     failed and what was taken."""
 
-    def __init__(self, number, status, reads, puts, behind, out, err_behind, err):
-        self.number, self.status, self.reads, self.puts, self.behind = number, status, reads, puts, behind + err_behind
+    def __init__(self, number, status, reads, puts, after, out, err_after, err):
+        self.number, self.status, self.reads, self.puts, self.after = number, status, reads, puts, after + err_after
         self.out, self.err = out, err
 
 
@@ -81,7 +81,7 @@ def started(words):
 
 
 def run_sweeps(sweeps, room):
-    """What came of each run of each sweep, in one process, over sinks with room for so many bytes."""
+    """What came of each run of each sweep, in one process, over sinks with room for this many bytes."""
     with tempfile.NamedTemporaryFile(dir=harness.MEMORY) as file:
         file.write(numbers(room, len(sweeps)) + b"".join(it.bytes() for it in sweeps))
         file.flush()
@@ -91,11 +91,11 @@ def run_sweeps(sweeps, room):
         runs = []
         while put[at : at + 1] != b"\n":
             end = put.index(b"\n", at)
-            status, reads, puts, behind, taken, err_behind, err_taken, told = map(int, put[at:end].split())
+            status, reads, puts, after, taken, err_after, err_taken, told = map(int, put[at:end].split())
             at = end + 1 + told + err_taken
             out = put[end + 1 : end + 1 + told] if told else sweep.wanted[:taken]
             number = sweep.first + len(runs) * sweep.step
-            runs.append(Came(number, status, reads, puts, behind, out, err_behind, put[at - err_taken : at]))
+            runs.append(Came(number, status, reads, puts, after, out, err_after, put[at - err_taken : at]))
         at += 1
         yield runs
 
@@ -104,7 +104,7 @@ def wrongly(came, status, out, err):
     """What is not as it should be, a line each; no put may follow a failed one."""
     wrong = [f"    {name}: {is_!r}\n    wanted: {want!r}" for name, is_, want in zip(
         ("status", "output", "errors"), (came.status, came.out, came.err), (status, out, err)) if is_ != want]
-    return wrong + [f"    {came.behind} puts behind the failed one"] * (came.behind > 0)
+    return wrong + [f"    {came.after} puts after the failed one"] * (came.after > 0)
 
 
 # ---- sinks and sources by hand
@@ -130,7 +130,7 @@ HAND = [
     ("the second read of three fails", once(THREE, THREE_FILES, b"reads", 2), 3, b"", b"tmpl: two: read failed\n", 2, 0),
     ("the third read of three fails", once(THREE, THREE_FILES, b"reads", 3), 3, b"", b"tmpl: d: read failed\n", 3, 0),
     ("the fourth read of three would fail and never comes", once(THREE, THREE_FILES, b"reads", 4), 0, b"a", b"", 3, 1),
-    ("the read behind a refused file would fail and never comes", once(THREE, REFUSED_FILES, b"reads", 2), 4, b"",
+    ("the read after a refused file would fail and never comes", once(THREE, REFUSED_FILES, b"reads", 2), 4, b"",
      b"tmpl: m:1: file ends inside a control\n", 1, 0),
     ("the first put alone fails", once(DEEPER, DEEPER_FILES, b"output", 1), 6, b"", WRITE_FAILED, 2, 1),
     ("both sinks fail", once(DEEPER, DEEPER_FILES, b"output", 2, out=Limits(most=1), err=Limits(room=5)), 6, b"x", b"tmpl:", 2, 2),
@@ -261,12 +261,12 @@ def sweeps_of(row):
 
 
 def runs_of(sweep, length, limits):
-    """About how many runs a sweep has over the puts of so many bytes."""
+    """About how many runs a sweep has over the puts of this many bytes."""
     return min(sweep.count, max(1, -(-length // limits.numbers[1]) - sweep.first + 2))
 
 
 def parts(sweep, runs, most):
-    """A sweep, as sweeps of at most so many runs, of which the last may have more."""
+    """A sweep, as sweeps of at most this many runs, of which the last may have more."""
     its = []
     while runs > most:
         its.append(Sweep(sweep.words, sweep.files, sweep.told, sweep.first, sweep.step, most, sweep.out, sweep.err, sweep.wanted, False))
@@ -311,7 +311,7 @@ BEFORE = b'{{define "a"}}one{{end}}{{define "b"}}two{{end}}own'
 AFTER = b'{{define "c"}}new{{end}}{{define "b"}}changed{{end}}last'
 WITH_IN_RANGE = b"{{range .}}{{with .k}}{{if eq . 2}}{{break}}{{end}}{{.}}{{end}};{{end}}{{len .}}"
 
-# the call, the files over which it is made, what is put out where memory is ample, what is put out behind a refusal that the call
+# the call, the files over which it is made, what is put out where memory is ample, what is put out after a refusal that the call
 # answers, and whether there is such a refusal
 CALLS = [
     ("parse", [BEFORE, AFTER], b"accepted\na: one\nb: changed\nm: own\nc: new\nafter: last\n", b"a: one\nb: two\nm: own\n", True),
@@ -361,7 +361,7 @@ def is_spared(ample, status, out, err):
     return (status, out, err) == (0, ample, b"") or (status == OUT_OF_MEMORY and ample.startswith(out) and not err)
 
 
-def judge_call(shim, runner, name, files, ample, behind, is_refused):
+def judge_call(shim, runner, name, files, ample, after, is_refused):
     """Makes a call with ample memory, and with each allocation refused in turn: then the probe ends for want of memory, where that is
     before the call or after it, and has put out a beginning of what it does with ample memory; or the call answers so and leaves all as
     it was; or all is as with ample memory. Nothing else is right. Where a function is called all allocations after the refused one are
@@ -373,7 +373,7 @@ def judge_call(shim, runner, name, files, ample, behind, is_refused):
     answers = runs = 0
     for number, (status, out, err), _ in runner.turns():
         runs += 1
-        if (status, out, err) == (0, REFUSED + behind, b""):
+        if (status, out, err) == (0, REFUSED + after, b""):
             answers += 1
         elif not is_spared(ample, status, out, err):
             wrong.append(f"    with allocation {number} refused it came to {status}, {out!r}, {err!r}")

@@ -56,7 +56,7 @@ OPENINGS = CONTROLS + DEFINITIONS
 BRANCHES = ("else", "else if", "else with")
 # the control to which an else branch belongs
 OF_CONTROL = {"else if": "if", "else with": "with"}
-# In OUTER INNER else end else end one more action stands behind each of the six in turn: the line that is then out of
+# In OUTER INNER else end else end one more action stands after each of the six in turn: the line that is then out of
 # place, 0 where none is.
 MORE = {
     "else": dict.fromkeys((f"{outer} {inner}" for outer in CONTROLS for inner in CONTROLS), "644667"),
@@ -140,7 +140,7 @@ def last_open(kinds, i):
 
 
 def branches(kinds, j, words, after, to):
-    """The places of those words that belong to the opening at j, behind one place and before another."""
+    """The places of those words that belong to the opening at j, after one place and before another."""
     return [k for k in range(after + 1, to) if kinds[k] in words and last_open(kinds, k) == j]
 
 
@@ -214,7 +214,7 @@ def refusal(kinds, actions):
 
 
 def lists(table, length):
-    """Every list of so many actions, and its refusal."""
+    """Every list of this many actions, and its refusal."""
     for kinds in itertools.product(table, repeat=length):
         actions = [table[kind] for kind in kinds]
         yield actions, refusal(kinds, actions)
@@ -225,7 +225,7 @@ def without(table, kind):
 
 
 def all_lists(most):
-    """Every list of up to so many actions. The longest leave out a continue, which is as a break, a template, which may stand
+    """Every list of up to this many actions. The longest leave out a continue, which is as a break, a template, which may stand
     anywhere, and where names are looked at a with, which declares none. Second definitions take lists of one action more."""
     for length in range(1, most):
         yield from lists({**PLACES, **TEMPLATES}, length)
@@ -248,7 +248,7 @@ def with_more():
 
 
 def action(word, place):
-    """The action of a word: its keyword, or none or a dot where it is a pipeline, and behind that `:x` or `:k,x`, which
+    """The action of a word: its keyword, or none or a dot where it is a pipeline, and after that `:x` or `:k,x`, which
     declares, `=x`, which assigns, or `$x`, which uses. Each template has a name of its own, by its place."""
     keyword, sign, names = re.fullmatch("([a-z]*)[.]?([:=$]?)(.*)", word).groups()
     if keyword in ("else", "end", "break", "continue"):

@@ -1,5 +1,5 @@
 """Tries the program and the C library in the places to which `make static` and `make aarch64` bring them. Each row of tests/rows goes
-through the static program, as run.py has it; some go through it on a processor that has nothing beyond the first x86-64. In a root without
+through the static program, as rendered.py has it; some go through it on a processor that has nothing beyond the first x86-64. In a root without
 any other file it renders an example. What is for aarch64 runs by QEMU: the rows that are calls, and 20,000 changed ones, go through the
 library, by asked.c, where the text and the line of a changed one must be those of the library that is built here; the other rows, and every
 eighth of those, go through the program. With --long all of them do. The packages of both are made twice, and must have the same bytes.
@@ -16,12 +16,12 @@ import tempfile
 
 import asked
 import harness
-import run
+import rendered
 
 PORTS = f"{harness.TOP}/packaging/out"
 CHANGED = 20_000
-SOME = 16  # every so many rows go through the static program on an old processor
-CALLS = 8  # every so many rows that are calls go through the program for aarch64
+SOME = 16  # each this many rows go through the static program on an old processor
+CALLS = 8  # each this many rows that are calls go through the program for aarch64
 LEAST = 1500  # rows of a program
 HELLO = f"{harness.TOP}/examples/hello"
 IMAGE = re.compile(r"^```dockerfile\n(FROM scratch\n.*?)^```$", re.MULTILINE | re.DOTALL)
@@ -50,13 +50,13 @@ def start():
 
 
 def judge_row(row):
-    return run.check(RUNNER, row)
+    return rendered.check(RUNNER, row)
 
 
 def judge_rows(what, program, rows):
     """Rows through a program, in as many processes as there are processors."""
     harness.PROGRAM = program
-    with multiprocessing.get_context("fork").Pool(len(os.sched_getaffinity(0)), start) as pool:
+    with multiprocessing.get_context("fork").Pool(harness.processes(), start) as pool:
         wrong = [f"    {row.name}: {line}" for row, lines in zip(rows, pool.map(judge_row, rows, chunksize=8)) for line in lines]
         pool.close()
         pool.join()

@@ -1,7 +1,7 @@
 """Has `rt lib` take the libraries that `rt ci` has proved.
 
 `rt ci` leaves them in crates/*/out without the mark by which the toolchain knows what a library was made of, so `rt lib` would prove each
-of them once more before it builds the C library. gate.py calls `mark` as soon as `rt ci` has passed."""
+of them once more before it builds the C library. runner.py calls `mark` as soon as `rt ci` has passed."""
 import os
 import subprocess
 import sys

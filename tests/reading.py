@@ -42,7 +42,7 @@ PLAIN = re.compile(rb"""\{\{(?:[^{}"'`/\\]|"[^{}"'`/\\\n]*")*\}\}""")
 
 
 def action_at(data, at):
-    """The tokens of the action whose `{{` is there, None for a comment, whether it trims what is behind, and where it ends."""
+    """The tokens of the action whose `{{` is there, None for a comment, whether it trims what is after, and where it ends."""
     found = PLAIN.match(data, at)
     if not found:
         return scanned(data, at)
@@ -241,7 +241,7 @@ def said_pipeline(commands):
 # ---- the grammar of an action
 
 
-NO_TOKEN = (None, None, False)  # behind the last one
+NO_TOKEN = (None, None, False)  # after the last one
 
 
 class Action:
@@ -290,14 +290,14 @@ class Action:
         return kind
 
     def named(self, kind):
-        """The name of a template, and the pipeline behind it."""
+        """The name of a template, and the pipeline after it."""
         self.need(self.tokens[self.at][0] in ("string", "raw"))
         self.name = text(*self.take()[:2])
         if kind == b"block" or kind == b"template" and not self.is_at_end():
             self.pipeline = self.commands()
 
     def bound(self, is_range=False):
-        """A pipeline, perhaps behind variables and a sign."""
+        """A pipeline, perhaps after variables and a sign."""
         kinds, signs, _ = zip(*self.tokens[self.at : self.at + 4])
         if kinds[0] == "variable" and signs[1] in (b":=", b"="):
             self.need(signs[0] != b"$" and not (is_range and signs[1] == b"="))
@@ -490,7 +490,7 @@ class Reading:
         self.names = self.opened(line, it, self.names | set(it.declared) if it.declared else self.names)
 
     def opened(self, line, it, names):
-        """The names that are in scope behind an action with these, and what it opens."""
+        """The names that are in scope after an action with these, and what it opens."""
         if it.kind in CONTROLS:
             self.frames.append(Frame(it.kind, self.names, self.names if it.kind == b"range" else names, self.body))
         elif it.kind in (b"define", b"block"):

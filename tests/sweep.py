@@ -8,7 +8,7 @@ import sys
 import tempfile
 
 import harness
-import print as printing
+import printing
 from harness import build_shim
 
 SMALL = 4096  # bytes in the files and the output of a row, but for worked ones

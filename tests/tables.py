@@ -1,5 +1,5 @@
 """Runs the built program over what tables accept and make of each letter, byte and name, and compares that with the
-rules told directly, as docs/LANGUAGE.md has them: what stands behind a backslash in strings and characters, each byte
+rules told directly, as docs/LANGUAGE.md has them: what stands after a backslash in strings and characters, each byte
 through `html`, `urlquery` and the quote, words that are a function's name but for a letter, actions of one byte and of
 two, each byte between quotes, numbers, actions that are none, and the calls of functions.py. It shares no code with the
 program. TMPL=PATH names another build."""
@@ -15,7 +15,7 @@ LEAST = 10000  # templates
 FUNCTIONS = "and eq ge gt html index le len lt ne not or print printf println slice urlquery".split()
 CONSTANTS = "true false nil".split()
 LETTERS = "abcdefghijklmnopqrstuvwxyz"
-# the code of each letter that stands for itself behind a backslash
+# the code of each letter that stands for itself after a backslash
 ESCAPES = {"a": 7, "b": 8, "f": 12, "n": 10, "r": 13, "t": 9, "v": 11, "\\": 92}
 DIGITS = {"x": 2, "u": 4, "U": 8}
 NOT_UNDERSTOOD = "action not understood"
@@ -39,7 +39,7 @@ NO_ACTIONS = [
     *[". |", "|.", ".a||.b", "()", "(.a |)", "(| .a)"],
     # operands that touch
     *["print(1)", "(1)(2)", ".a(1)", ".a$", "$$", "..", '1"a"'],
-    # chains behind what has none
+    # chains after what has none
     *["len.x", "nil.a", "true.a", '"a".b', "'a'.b", "..a", "(.) .1", "(.).1"],
     # parentheses that do not match
     *["(.a", ".a)", "(.a))"],
@@ -57,7 +57,7 @@ def text(code):
 
 
 def escaped(quote, letter):
-    """What a backslash and a letter come to between these quotes, with 41 and 000041 behind them where digits are asked for:
+    """What a backslash and a letter come to between these quotes, with 41 and 000041 after them where digits are asked for:
     the source between the quotes, and the code that it stands for or why it is refused."""
     if letter in DIGITS:
         return f"\\{letter}{'41'.zfill(DIGITS[letter])}", 0x41
@@ -163,17 +163,17 @@ def single(byte):
 
 def double(first, second):
     """The token that two bytes are together."""
-    front, behind = chr(first), chr(second)
+    front, after = chr(first), chr(second)
     kind = single(first)
     if kind == "space":
-        return "space" if behind in WHITE else None
+        return "space" if after in WHITE else None
     if kind == "number":
-        return "number" if is_name(second) or behind == "." else None
+        return "number" if is_name(second) or after == "." else None
     if front in "+-":
         return "number" if single(second) == "number" else None
     if kind == "word" or front in ".$":
         return {"word": "word", ".": "field", "$": "variable"}[kind] if is_name(second) else None
-    return {'""': "string", "``": "string", "''": "character", ":=": ":="}.get(front + behind)
+    return {'""': "string", "``": "string", "''": "character", ":=": ":="}.get(front + after)
 
 
 def tokens(inside):
@@ -266,7 +266,7 @@ def between_quotes():
 
 
 def numbers():
-    """Each number of up to three of these bytes, and of four behind a prefix, and ones beyond the ends."""
+    """Each number of up to three of these bytes, and of four after a prefix, and ones beyond the ends."""
     spelled = {first + "".join(more) for first in "018" for n in range(3) for more in itertools.product("018_xboa.", repeat=n)}
     spelled |= {front + "".join(more) for front in ("0x", "0b", "0o", "0_") for more in itertools.product("01_g", repeat=2)}
     spelled |= {"0x1p4", "1i", "1\u00e9", "0_x1", "0x__1", "-0b", "0b2", "1e3", "+9223372036854775808", "-18446744073709551617"}

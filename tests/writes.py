@@ -1,11 +1,11 @@
 """Runs the built program over each row with writes that take 1, 3 or 4,096 bytes at most, and with each of these refused in turn, once
 and for good, by an error, by an interrupt, and by taking no byte; to its output, and to its errors. A short write must change nothing.
-Behind a refused write of output nothing may be put out but the line, with status 6; behind one of errors nothing at all, and the status
+After a refused write of output nothing may be put out but the line, with status 6; after one of errors nothing at all, and the status
 stays. Of a text of more than 65,536 bytes writes are refused by errors alone, and those of 1 byte once. Texts of more than 131,072 bytes,
 and those whose runs end with a hundred thousand templates inside one another, are put by 4,096 bytes. TMPL=PATH names another build.
 
 `writes.py --long` puts these by 3 bytes and by 1 as well, which takes half an hour, most of it to give the cells of those templates back
-behind each refusal, and says of each how many writes were refused."""
+after each refusal, and says of each how many writes were refused."""
 import os
 import struct
 import sys
@@ -16,17 +16,17 @@ import harness
 
 FEW = 65536  # bytes up to which each write is refused in each way
 MANY = 1 << 17  # bytes beyond which only long writes are refused in the gate
-DEEP = b"100000"  # the depth whose cells take long to give back behind a refusal
+DEEP = b"100000"  # the depth whose cells take long to give back after a refusal
 LEAST = 1660000  # refused writes
 WAYS = ("by an error", "by an error for good", "by an interrupt", "by taking no byte")  # as fail_write.c has them
 MOST = {1: 1, 3: 2, 4096: 4}  # the most bytes that a write takes, and in how many ways it is refused where the text is long
 COUNT = struct.Struct("l")
-LATE = 1 << 20  # seconds that a run may take: the shim ends one that does not end behind a refusal
+LATE = 1 << 20  # seconds that a run may take: the shim ends one that does not end after a refusal
 OUTPUT, ERRORS = 1, 2
 
 
 def refused(row, descriptor, most, ways):
-    """How often a write was refused, and what is wrong. One process makes all: behind each refusal the shim puts back what was."""
+    """How often a write was refused, and what is wrong. One process makes all: after each refusal the shim puts back what was."""
     told = row.out if descriptor == OUTPUT else row.err
     wanted = (6, b"", b"tmpl: write failed\n") if descriptor == OUTPUT else (row.status, b"", b"")
     how = {"LD_PRELOAD": SHIM, "WRITE_TO": str(descriptor), "WRITE_MOST": str(most), "WRITE_EACH": str(RUNNER.told), "WRITE_WAYS": str(ways)}
@@ -38,7 +38,7 @@ def refused(row, descriptor, most, ways):
         os.write(RUNNER.told, rest)
     for number, got, writes in RUNNER.turns():
         if got != wanted or writes != b"f":
-            wrong.append(f"    write {number // len(WAYS)} refused {WAYS[number % len(WAYS)]}: {got}, {len(writes) - 1} writes behind it")
+            wrong.append(f"    write {number // len(WAYS)} refused {WAYS[number % len(WAYS)]}: {got}, {len(writes) - 1} writes after it")
     least = ways * -(-len(told) // most)
     if count < least or most == 1 and count != least:
         wrong.append(f"    {count} writes were refused, and {least} should have been")

@@ -5,6 +5,7 @@ from __future__ import annotations
 import ctypes
 import json
 import os
+import re
 import threading
 from decimal import Decimal
 from typing import Any, Iterable, Iterator, Mapping, Optional, Tuple, Union
@@ -17,16 +18,43 @@ MISSING_KEY = {"default": 0, "invalid": 1, "zero": 2, "error": 3}
 ROOM = 1 << 16  # bytes of text that are lent first
 
 
+# the place in a line: in a refused file, and in a run that stopped; a quoted name has no bare quote
+PLACES = {
+    REFUSED: re.compile(r"tmpl: (?P<file>.*):(?P<number>\d+): ", re.DOTALL),
+    FAULT: re.compile(r'tmpl: (?P<file>.*):(?P<number>\d+): in "(?P<template>(?:[^"\\]|\\.)*)": ', re.DOTALL),
+}
+ESCAPE = re.compile(r"\\(?:x([0-9a-f]{2})|u([0-9a-f]{4})|U([0-9a-f]{8})|(.))")
+LETTERS = {"a": "\a", "b": "\b", "f": "\f", "n": "\n", "r": "\r", "t": "\t", "v": "\v"}
+
+
 class TemplateError(Exception):
-    """A render that did not end well: its `status` (FAULT, NOT_TEXT, REFUSED, DATA), its `line`, and the `text` before the fault. Where
-    a number of a Python value is refused, `where` is its place, as in `.prices.0`; else it is None."""
+    """A render that did not end well: its `status` (FAULT, NOT_TEXT, REFUSED, DATA), the `line` that says why, and the `text` before the
+    fault. Where the line names a place of a template file, `file` and `line_number`, from 1, are that place, and for a FAULT `template`
+    is the name of the template that ran. Where a number of a Python value is refused, `where` is its place, as in `.prices.0`. What
+    there is not is None."""
 
     def __init__(self, status: int, line: str, text: bytes = b"", where: Optional[str] = None):
         super().__init__(status, line, text, where)  # so that it can be pickled
         self.status, self.line, self.text, self.where = status, line, text, where
+        place = PLACES[status].match(line) if status in PLACES else None
+        self.file: Optional[str] = place["file"] if place else None
+        self.line_number: Optional[int] = int(place["number"]) if place else None
+        self.template: Optional[str] = _unquoted(place["template"]) if place and status == FAULT else None
 
     def __str__(self):
         return f"{self.line} ({self.where})" if self.where else self.line
+
+
+def _unquoted(name):
+    """A name as it stood before it was quoted; bytes that are no UTF-8 are U+FFFD."""
+
+    def code(it):
+        byte, short, long, letter = it.groups()
+        # a byte stays one, so that the bytes of a name which is no UTF-8 do not become characters
+        return chr(0xDC00 + int(byte, 16)) if byte and int(byte, 16) > 127 else LETTERS.get(letter, letter) if letter else \
+            chr(int(byte or short or long, 16))
+
+    return ESCAPE.sub(code, name).encode("utf-8", "surrogateescape").decode("utf-8", "replace")
 
 
 class _File(ctypes.Structure):
@@ -174,6 +202,9 @@ def render(files: Files, name: Optional[Text] = None, data: Any = None, **option
 def version() -> str:
     """Which build of the library this is: the commit of its source, and the logic and the toolchain of the proofs."""
     return _LIBRARY.tmpl_version().decode()
+
+
+__version__ = version().split()[1]
 
 
 class Templates:

@@ -1,7 +1,7 @@
 /* The heap of the WebAssembly module: what bindings/c/heap.c is where there is a C library, over the module's own memory, which grows
    until its own limit or the host's is reached. Where memory is refused the pointer is of no use, and is not null. No proof covers this.
 
-   Blocks lie one behind the other, each with two words before what it lends, and the last is followed by what was never lent. One that is
+   Blocks lie one after the other, each with two words before what it lends, and the last is followed by what was never lent. One that is
    freed becomes one with its free neighbours, and waits in a list of those of about its size, four lists for each power of two. */
 
 /* the compiler of the toolchain has no headers */
@@ -32,7 +32,7 @@ void *memory_take(size_t size);
 void memory_give(void *at);
 
 extern uint8_t __heap_base;
-static struct block *top; /* behind the last block; of what is there only `before` is set */
+static struct block *top; /* after the last block; of what is there only `before` is set */
 static uint8_t *end;      /* of memory */
 static struct block *lists[LISTS];
 static size_t filled[LISTS / WORD]; /* a bit for each list that has a block */
@@ -88,7 +88,7 @@ static struct block *fitting(size_t size) {
 
 /* ---- memory */
 
-/* Asks for so many pages. A refusal is -1, of 64 bits or, in a module that was lowered, of 32. */
+/* Asks for this many pages. A refusal is -1, of 64 bits or, in a module that was lowered, of 32. */
 static bool grown(size_t pages) {
     if (__builtin_wasm_memory_grow(0, pages) >= 0xffffffff) return false;
     end += pages * PAGE;
@@ -112,7 +112,7 @@ static bool is_started(void) {
     return true;
 }
 
-/* Has the last block, or a new one behind it, reach over this size. */
+/* Has the last block, or a new one after it, reach over this size. */
 static bool is_last_with(struct block *it, size_t size) {
     if (!reaches((uint8_t *)it + size + HEAD)) return false;
     it->size = size;

@@ -10,7 +10,7 @@ and keeps those that reach what none reached before. An input is four bytes of s
 name that is run, the data, and the path and the text of up to three files. What fuzz.c asks of each is said there.
 
 Then each input that was kept, and each seed, is given to the command: its text, line and status must be those of meaning.py, and what
-`--print` puts out those of reading.py; that is read, printed and rendered again, as print.py does. All is kept in bindings/out/fuzz.
+`--print` puts out those of reading.py; that is read, printed and rendered again, as printing.py does. All is kept in bindings/out/fuzz.
 `fuzz.py 0` makes no inputs, and holds those against meaning.py that are there. It needs clang with its runtime libraries."""
 import collections
 import glob
@@ -27,10 +27,10 @@ import unicodedata
 HERE = os.path.dirname(os.path.abspath(__file__))
 TESTS = os.path.dirname(HERE)
 sys.path.insert(0, TESTS)
-import draws
+import random_sets
 import harness
 import meaning
-import print as printing
+import printing
 
 COUNT = 10_000_000
 DRAWS = 3000  # random sets among the seeds
@@ -147,14 +147,14 @@ def row_input(row, pick):
     if not 0 < len(files) <= 3 or any(what is None for _, what in files):
         return None
     try:
-        asked = draws.options_of(options)
+        asked = random_sets.options_of(options)
     except (TypeError, ValueError):  # words that are refused
         return None
     return input_of(files, held.get(data), asked, pick)
 
 
 def draw_input(seed):
-    case = draws.Case(seed)
+    case = random_sets.Case(seed)
     return input_of(case.files, case.data and case.data[1], case.options, seed * 37)
 
 
@@ -187,7 +187,7 @@ class Input:
         self.words += [b"--", *(path for path, _ in self.files)]
 
     def case(self, name):
-        """The same for print.py."""
+        """The same for printing.py."""
         return printing.Case(name, self.words, dict([*self.files, *([self.data] if self.data else [])]))
 
 
@@ -208,7 +208,7 @@ def is_name(base):
 
 
 def fuzz(count):
-    """Makes so many inputs; gives how many were made, and whether one was found that ends a process."""
+    """Makes this many inputs; gives how many were made, and whether one was found that ends a process."""
     lay_seeds()
     flags = [f"-max_len={LONGEST}", f"-dict={HERE}/dictionary", "-entropic=0", "-timeout=20", "-rss_limit_mb=3000", "-reload=30"]
     flags += ["-print_final_stats=1", f"-artifact_prefix={HELD}/found-"]
@@ -242,8 +242,8 @@ def tell_log(way):
 
 def start():
     resource.setrlimit(resource.RLIMIT_AS, (MEMORY, MEMORY))
-    draws.start()
-    printing.RUNNER = draws.RUNNER
+    random_sets.start()
+    printing.RUNNER = random_sets.RUNNER
 
 
 def is_known(told):
@@ -258,16 +258,16 @@ def check(path):
         given = Input(it.read())
     if not given.files:
         return "no files", []
-    draws.Case.lay(given, draws.RUNNER)
-    got = draws.RUNNER.run(given.words)
+    random_sets.Case.lay(given, random_sets.RUNNER)
+    got = random_sets.RUNNER.run(given.words)
     if got[0] == 7 or len(got[1]) > LARGE:
         return "a large text", []
-    printed = draws.RUNNER.run([b"--print", *given.words])
+    printed = random_sets.RUNNER.run([b"--print", *given.words])
     wanted = meaning.outcome(given.files, given.data, given.options)
     if got == wanted:
         wrong, _ = printing.check(given.case(path))
     else:
-        wrong = [*draws.shown("got", got), *draws.shown("wanted", wanted)]
+        wrong = [*random_sets.shown("got", got), *random_sets.shown("wanted", wanted)]
     if wrong and not is_known(got[1] + got[2] + printed[1]):
         return "runes that Python's tables lack", []
     return f"status {got[0]}", [f"FAILED {path}, with the words {given.words}", *wrong] if wrong else []

@@ -27,7 +27,7 @@ static text sized(void) {
     return it;
 }
 
-/* Memory for so many bytes, and one more, so that what is put out too much is seen. */
+/* Memory for this many bytes, and one more, so that what is put out too much is seen. */
 static tmpl_buffer room(size_t size) { return (tmpl_buffer){calloc(size + 1, 1), size + 1, 0, 0}; }
 
 static int is_same(const tmpl_buffer *it, text wanted) {

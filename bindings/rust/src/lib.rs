@@ -6,7 +6,7 @@ use std::sync::{Mutex, MutexGuard, PoisonError};
 #[repr(C)]
 #[derive(Clone, Copy, Debug, Default)]
 pub struct Settings {
-    /// At most so many steps; 0 for 1,000,000,000.
+    /// At most this many steps; 0 for 1,000,000,000.
     pub steps: u64,
     /// Calls of templates at most so deep; 0 for 1,000.
     pub depth: u32,

@@ -19,7 +19,6 @@ ALL = 2**64 - 1  # as many bytes as there are
 DONE = b"status 0\n"
 OUT_OF_MEMORY = b"tmpl: out of memory\nstatus 7\n"
 NOT_RUN = (7, b"", b"")  # what the probe comes to where memory is refused before a run
-NOT_READ = (3, b"", b"")  # and where it is refused for the bytes of a file: its source tells no cause
 
 WITH_IN_RANGE = "{{range .}}{{with .k}}{{if eq . 2}}{{break}}{{end}}{{.}}{{end}};{{end}}{{len .}}"
 
@@ -265,8 +264,8 @@ def judge_room(depth, templates, room, makes_text):
 
 
 def judge_sink(template, data, text, end):
-    """Runs a template with pieces of each small size, to sinks that take so many bytes a put and so many in all, and fail
-    for good or once. They take a beginning, and no put follows a failed one, which would be told behind the ending."""
+    """Runs a template with pieces of each small size, to sinks that take this many bytes a put and this many in all, and fail
+    for good or once. They take a beginning, and no put follows a failed one, which would be told after the ending."""
     cases = list(product((0, 1, 2, 3, 4, 5, 4096), (1, 3, ALL), range(len(text) + 2), ("always", "once")))
     with tempfile.TemporaryDirectory() as folder:
         lay(folder, template, data)
@@ -294,10 +293,10 @@ def judge_count(shim, template, text, count, _):
 
 
 def judge_refused(shim, template, text, count, kept, data=None):
-    """Refuses each allocation of a process that runs a template over arrays. Nothing is run, where it comes before, or a file is not
-    read; or the run is as ever, or memory is told to be out and a beginning of the text was taken. The last comes of the owners at least,
+    """Refuses each allocation of a process that runs a template over arrays. Nothing is run, where it comes before; or
+    the run is as ever, or memory is told to be out and a beginning of the text was taken. The last comes of the owners at least,
     and at most of all allocations of the run: a text whose room is refused may still grow as it needs."""
-    told, unread = [], []
+    told = []
 
     def wrong(got, refused):
         status, out, errors = got
@@ -305,9 +304,6 @@ def judge_refused(shim, template, text, count, kept, data=None):
             return []
         if refused and (status, errors) == (0, OUT_OF_MEMORY) and text.encode().startswith(out):
             told.append(out)
-            return []
-        if refused and got == NOT_READ:
-            unread.append(got)
             return []
         return differences(got, (0, text.encode(), DONE))
 
@@ -317,8 +313,6 @@ def judge_refused(shim, template, text, count, kept, data=None):
         runs, said = sweep.sweep(shim, lambda *how: probe(folder, it, None, *how), wrong)
     if not said and not kept <= len(told) <= count:
         said = [f"    memory was told to be out {len(told)} times, {kept} to {count} wanted"]
-    if not said and len(unread) != (1 if data is None else 2):
-        said = [f"    {len(unread)} files were not read"]
     return f"refused memory of {template!r}", runs, said
 
 
@@ -327,7 +321,7 @@ def main():
         sys.exit("there is no probe: the gate builds it")
     rows = [row for row in harness.read_rows() if is_run(row)]
     plain = [row for row in rows if row.is_again() and row.stdin is None and row.size() <= sweep.SMALL]
-    with tempfile.TemporaryDirectory() as folder, ThreadPoolExecutor(len(os.sched_getaffinity(0))) as pool:
+    with tempfile.TemporaryDirectory() as folder, ThreadPoolExecutor(harness.processes()) as pool:
         shim = f"{folder}/shim.so"
         sweep.build_shim("fail_alloc.c", shim)
         textless = [row for row, makes in zip(plain, pool.map(makes_text, plain)) if not makes]

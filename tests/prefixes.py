@@ -1,11 +1,11 @@
 """Reads every front of every template and data file of the rows and examples: its first n bytes, for each n, of files of up to 20,000
 bytes whole. Of longer ones, whose fronts are too many bytes (those of 16 MiB are 1.4e14), it reads the first 2,000, and where they have up
-to 1,048,576 bytes 16 that lie evenly behind these, and the last 4 before the whole file. `fronts.py --long` reads all those of files of up
+to 1,048,576 bytes 16 that lie evenly after these, and the last 4 before the whole file. `prefixes.py --long` reads all those of files of up
 to 262,144 bytes, and these 20 of all longer ones. They are read in memory, many in one process, by the probe. What a front comes
 to is told by meaning.py and reading.py, which share no code with the program: a template is refused at a line for a reason, or runs over
 the row's data to a text and an end; data is refused, or put out whole by `{{.}}`. That data of more than 1,000 bytes whose first bracket
 or quote is not closed by its last byte is no JSON is told without reading it. Of the fronts of a file of more than
-1,000 bytes that are accepted, of which meaning.py is slow to tell, it tells each 64th and the last, and none of those behind the first
+1,000 bytes that are accepted, of which meaning.py is slow to tell, it tells each 64th and the last, and none of those after the first
 2,000 of a file of more than 20,000; the others must be accepted."""
 import bisect
 import itertools
@@ -20,7 +20,7 @@ import reading
 
 WHOLE, ALL = 20000, 1 << 18  # bytes of a file of which all fronts are read, and by --long
 LONGER = 1 << 20  # bytes of a file of which some are read, without --long
-FEW, SPREAD, LAST = 2000, 16, 4  # fronts of a longer one: the first, those behind them, and the last before the whole
+FEW, SPREAD, LAST = 2000, 16, 4  # fronts of a longer one: the first, those after them, and the last before the whole
 RUN, EACH = 1000, 64  # bytes up to which all accepted fronts are run by meaning.py, and how few of them else
 ALONE = 100  # bytes of a file up to which each of its fronts is read alone too
 SPARE = 1 << 24  # bytes that one process may read, which it keeps, and trees of them
@@ -64,7 +64,7 @@ class Fronts:
         self.ends, self.told = [], []
 
     def up_to(self, last, tell):
-        """Has all further fronts of up to so many bytes come to what this function tells of their number of bytes."""
+        """Has all further fronts of up to this many bytes come to what this function tells of their number of bytes."""
         self.ends.append(last)
         self.told.append(tell)
 

@@ -65,7 +65,7 @@ def told(option):
 
 
 def numbers():
-    """A number that were changed in a definition and in the code alike would be proved, and no row has so many steps."""
+    """A number that were changed in a definition and in the code alike would be proved, and no row has this many steps."""
     for path, its in NUMBERS.items():
         with open(f"{harness.TOP}/{path}", encoding="utf-8") as it:
             text = it.read()
@@ -77,7 +77,7 @@ def numbers():
 def pages():
     if not shutil.which("man"):
         return
-    for name in ("tmpl.1", "tmpl-language.7"):
+    for name in ("tmpl.1", "tmpl-check.1", "tmpl-language.7"):
         page = f"{harness.TOP}/man/{name}"
         ran = subprocess.run(
             ["man", "--warnings", "-E", "UTF-8", "-l", page],
@@ -149,12 +149,13 @@ qall!
 
 def editors(folder):
     """What they make of the line for a template that is refused."""
-    files = {"bad.tmpl": "\n{{if}}\n\n", "good.tmpl": "x"}
+    files = {"bad.tmpl": "\n{{name}}\n\n", "good.tmpl": "x"}
     for name, text in files.items():
         with open(f"{folder}/{name}", "w", encoding="utf-8") as it:
             it.write(text)
-    os.symlink(harness.PROGRAM, f"{folder}/tmpl")
-    refused = "tmpl: bad.tmpl:2: action not understood\n"
+    os.symlink(harness.CHECKER, f"{folder}/tmpl-check")
+    detail = 'action not understood: no function "name": write .name'
+    refused = f"bad.tmpl:2:1: error: {detail}\n"
     with open(f"{harness.TOP}/.pre-commit-hooks.yaml", encoding="utf-8") as it:
         entry = shlex.split(re.search(r"^  entry: (.*)$", it.read(), re.MULTILINE)[1])
     environment = {**os.environ, "PATH": f"{folder}:{os.environ['PATH']}"}
@@ -163,15 +164,16 @@ def editors(folder):
     with open(f"{harness.TOP}/editors/problem-matcher.json", encoding="utf-8") as it:
         (pattern,) = json.load(it)["problemMatcher"][0]["pattern"]
     found = re.match(pattern["regexp"], refused.strip())
-    yield "the problem matcher", ("bad.tmpl", "2", "action not understood"), found and tuple(found[pattern[it]] for it in ("file", "line", "message"))
+    parts = ("file", "line", "column", "severity", "message")
+    yield "the problem matcher", ("bad.tmpl", "2", "1", "error", detail), found and tuple(found[pattern[it]] for it in parts)
     if shutil.which("vim"):
         with open(f"{folder}/errors", "w", encoding="utf-8") as it:
-            it.write("tmpl: out of memory\n")  # a line without a place
+            it.write("tmpl-check: out of memory\n")  # a line without a place
         with open(f"{folder}/script", "w", encoding="utf-8") as it:
             it.write(VIM % harness.TOP)
         output("vim", "-e", "-s", "-u", "NONE", "-S", "script", cwd=folder, env=environment)
         with open(f"{folder}/found", encoding="utf-8") as it:
-            yield "what Vim finds by :make", "bad.tmpl 2 action not understood\nline 2\nline 1\n", it.read()
+            yield "what Vim finds by :make", f"bad.tmpl 2 {detail}\nline 2\nline 1\n", it.read()
 
 
 def main():

@@ -49,7 +49,7 @@ ROWS = [
         12 show
         13 return 1""",
     ),
-    # a value that decides passes over the other operands, and none decides behind the last
+    # a value that decides passes over the other operands, and none decides after the last
     (
         "{{and .a 0 (len .b)}}",
         """template "m"
@@ -143,7 +143,7 @@ ROWS = [
         14 put "z"
         15 return 0""",
     ),
-    # a break out of a `with` forgets the dot that it saved, and goes behind the range and its else part
+    # a break out of a `with` forgets the dot that it saved, and goes after the range and its else part
     (
         "{{range .}}\n{{with .k}}{{break}}{{end}}{{else}}none{{end}}",
         r"""template "m"

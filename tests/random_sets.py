@@ -1,7 +1,7 @@
 """Draws random sets of templates with data and options, renders them by the built program, and compares the output, the errors
 and the status with what meaning.py tells, which shares no code with the program. Before that meaning.py is held against the rows:
 what it tells of each must be what was worked out by hand. Each kind of fault of the tables of docs/COMMAND.md must come, and half
-of the draws must be accepted and run. They are the same each time; `draws.py COUNT SEED` draws others, from this seed on. TMPL=PATH
+of the draws must be accepted and run. They are the same each time; `random_sets.py COUNT SEED` draws others, from this seed on. TMPL=PATH
 names another build."""
 import collections
 import gc
@@ -507,7 +507,7 @@ def check(seed):
     if got == wanted:
         return kind, []
     drawn = [f"    {path!r}: {what!r}" for path, what in [*case.files, *([case.data] if case.data else [])]]
-    return kind, [f"FAILED seed {seed}, with the words {case.words}", *drawn, *shown("got", got), *shown("wanted", wanted)]
+    return kind, [f"FAILED seed {seed}, with the words {case.words}; again by python3 tests/random_sets.py 1 {seed}", *drawn, *shown("got", got), *shown("wanted", wanted)]
 
 
 def shown(name, came):

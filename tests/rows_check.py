@@ -1,0 +1,120 @@
+"""Files with what is wrong in them, worked out by hand: a title, the file, and the lines of tmpl-check without its name."""
+UNREADABLE = "error: unclosed or unreadable action: "
+NOT_UNDERSTOOD = "error: action not understood: "
+OUT_OF_PLACE = "error: out of place: "
+UNDECLARED = "error: undeclared variable: "
+OPEN = "error: file ends inside a control: "
+END = '"end" closes nothing: no if, with, range, define or block is open'
+
+ROWS = [
+    ("nothing wrong", "{{if .x}}{{.y}}{{end}}", []),
+    # as people write them who come from other tools
+    ("a name without its dot", "{{name}}", ["1:1: " + NOT_UNDERSTOOD + 'no function "name": write .name']),
+    ("arithmetic", "{{.n | add 1}}", ["1:1: " + NOT_UNDERSTOOD + 'no function "add": there is no arithmetic: compute it in the data']),
+    ("a comparison", '{{if .name == "Ada"}}x{{end}}', ["1:1: " + NOT_UNDERSTOOD + '"==" is no operand: write eq .name "Ada"']),
+    ("a fraction", "{{1.5}}", ["1:1: " + NOT_UNDERSTOOD + "number 1.5 is not whole"]),
+    ("an include", '{{include "x" .}}', ["1:1: " + NOT_UNDERSTOOD + 'no function "include": write {{template "name" .}}']),
+    ("an index as a field", "{{.s.0}}", ["1:1: " + NOT_UNDERSTOOD + 'no field ".0": write index .s 0']),
+    ("a default", '{{.x | default "d"}}', ["1:1: " + NOT_UNDERSTOOD + 'no function "default": write or .x "d"']),
+    ("or as an operator", "{{if .a || .b}}x{{end}}", ["1:1: " + NOT_UNDERSTOOD + '"||" is no operand: write or .a .b']),
+    ("and as an operator", "{{if .a && .b}}x{{end}}", ["1:1: " + UNREADABLE + '"&&" is no operand: write and .a .b']),
+    ("not as an operator", "{{if !.a}}x{{end}}", ["1:1: " + UNREADABLE + 'unexpected "!": write not .a']),
+    ("not equal", '{{if .a != "b"}}x{{end}}', ["1:1: " + UNREADABLE + '"!=" is no operand: write ne .a "b"']),
+    ("less", "{{if .n<3}}x{{end}}", ["1:1: " + UNREADABLE + '"<" is no operand: write lt .n 3']),
+    ("at least", "{{if $.n >= 3}}x{{end}}", ["1:1: " + UNREADABLE + '">=" is no operand: write ge $.n 3']),
+    ("brackets", "{{.list[0]}}", ["1:1: " + UNREADABLE + 'unexpected "[": write index, as in index .list 0']),
+    ("a key with a dash", "{{.a.b-c}}", ["1:1: " + UNREADABLE + 'unexpected "-": write index .a "b-c"']),
+    ("a key with a dash alone", "{{.app-name}}", ["1:1: " + UNREADABLE + 'unexpected "-": write index . "app-name"']),
+    ("a difference", "{{.a - .b}}", ["1:1: " + UNREADABLE + 'unexpected "-": there is no arithmetic; compute it in the data']),
+    ("an elif", "{{if .x}}a{{elif .y}}b{{end}}", ["1:11: " + NOT_UNDERSTOOD + 'no function "elif": write {{else if P}}']),
+    ("a for", "{{for x in .xs}}{{.}}{{end}}", ["1:1: " + NOT_UNDERSTOOD + 'no function "for": write {{range .list}}']),
+    ("an endif", "{{if .x}}a{{endif}}", ["1:11: " + NOT_UNDERSTOOD + 'no function "endif": write {{end}}']),
+    ("a part of Handlebars", "{{#if x}}a{{/if}}", [
+        "1:1: " + UNREADABLE + '"#if" begins no action: a part begins with if, with or range and ends with end',
+        "1:11: " + UNREADABLE + '"/if" begins no action: a part begins with if, with or range and ends with end']),
+    ("a name of a template without quotes", "{{template page .}}", ["1:1: " + NOT_UNDERSTOOD + 'no function "page": write "page"',
+        ]),
+    ("a slip", "{{rnage .x}}{{.}}{{end}}", ["1:1: " + NOT_UNDERSTOOD + 'no function "rnage": write range']),
+    ("another slip", "{{lenght .x}}", ["1:1: " + NOT_UNDERSTOOD + 'no function "lenght": write len .x']),
+    # each kind of token
+    ("no token", "{{ }}", ["1:1: " + NOT_UNDERSTOOD + "the action is empty"]),
+    ("a number that is none", "{{08}}", ["1:1: " + NOT_UNDERSTOOD + "number 08 is out of range or has an 8 or 9 after a first 0"]),
+    ("a number with letters", "{{1x}}", ["1:1: " + NOT_UNDERSTOOD + "1x is no whole number"]),
+    ("a character of two", "{{'ab'}}", ["1:1: " + NOT_UNDERSTOOD + "'ab' is no constant: look at what stands after its \"\\\""]),
+    ("a dot after a bar", "{{.x | .}}", ["1:1: " + NOT_UNDERSTOOD + '"." takes no value, so it may not stand after "|"']),
+    ("a text after a bar", '{{.x | "a"}}', ["1:1: " + NOT_UNDERSTOOD + '""a"" takes no value, so it may not stand after "|"']),
+    ("a bar with nothing after it", "{{.x |}}", ["1:1: " + NOT_UNDERSTOOD + '"|" stands between two commands']),
+    ("a comma", "{{print .a, .b}}", ["1:1: " + NOT_UNDERSTOOD + 'unexpected ","']),
+    ("an assignment to a field", "{{.x = 1}}", ["1:1: " + NOT_UNDERSTOOD + 'unexpected "="']),
+    ("a parenthesis too few", "{{print (len .x}}", ["1:1: " + NOT_UNDERSTOOD + '"(" is not closed']),
+    ("a parenthesis too many", "{{print len .x)}}", ["1:1: " + NOT_UNDERSTOOD + '")" closes no "("']),
+    ("texts without a space", '{{print "a""b"}}', ["1:1: " + NOT_UNDERSTOOD + 'a space is wanted before ""b""']),
+    ("a keyword inside", "{{print if}}", ["1:1: " + NOT_UNDERSTOOD + '"if" stands first in an action of its own']),
+    ("an if with no value", "{{if}}x{{end}}", ["1:1: " + NOT_UNDERSTOOD + 'after "if" stands a value']),
+    ("an end with more", "{{if .x}}x{{end if}}", ["1:11: " + NOT_UNDERSTOOD + '"if" stands first in an action of its own']),
+    ("an end with a value", "{{if .x}}x{{end .x}}", ["1:11: " + NOT_UNDERSTOOD + '"end" stands alone']),
+    ("an else with a value", "{{if .x}}x{{else .x}}y{{end}}",
+     ["1:11: " + NOT_UNDERSTOOD + 'after "else" stands nothing, or "if" or "with" and a value']),
+    ("a text that is not closed", '{{print "a}}', ["1:1: " + UNREADABLE
+        + "a text in quotes is not closed in its line; one of several lines stands in backquotes"]),
+    ("an action that is not closed", "{{.x", ["1:1: " + UNREADABLE + '"{{" is not closed by "}}"']),
+    ("an action inside another", "{{.x {{.y}}", ["1:1: " + UNREADABLE + '"{{" inside an action: is "}}" missing before it?']),
+    ("a comment that is not closed", "{{/* x }}", ["1:1: " + UNREADABLE + 'a comment ends with "*/}}", or with "*/", a space and "-}}"']),
+    ("a long name", "{{" + "n" * 100 + "}}", ["1:1: " + NOT_UNDERSTOOD + f'no function "{80 * "n"}..": write .{80 * "n"}..']),
+    # each reason
+    ("an end of nothing", "{{end}}", ["1:1: " + OUT_OF_PLACE + END]),
+    ("an else of nothing", "{{else}}", ["1:1: " + OUT_OF_PLACE + '"else" belongs to no if, with or range']),
+    ("a second else", "{{if .x}}\n{{else}}{{else}}{{end}}", ["2:9: " + OUT_OF_PLACE
+        + 'a second "else", or one with another control than that which is open: "if" of line 1 is open']),
+    ("a break in no range", "{{if .x}}{{break}}{{end}}", ["1:10: " + OUT_OF_PLACE + "break and continue stand in the body of a range"]),
+    ("a define inside", '{{if .x}}{{define "t"}}a{{end}}{{end}}', ["1:10: " + OUT_OF_PLACE
+        + 'a define stands in no other part: "if" of line 1 is open']),
+    ("a variable", "{{$q}}", ["1:1: " + UNDECLARED + 'variable "$q" is not declared']),
+    ("an if that is open", "a\n{{if .x}}\nb\n", ["4:1: " + OPEN + '"if" of line 2 is open at the end of the file']),
+    ("two that are open", "{{range .x}}{{with .y}}", ["1:24: " + OPEN + '"with" of line 1 is open at the end of the file, inside 1 more']),
+    ("parentheses that nest too deep", "{{" + "(" * 101 + "1" + ")" * 101 + "}}",
+     ["1:1: error: nested too deeply: at most 500 controls and blocks may be open, and 100 parentheses"]),
+    ("a second definition", '{{define "t"}}a{{end}}\n\n {{define "t"}}b{{end}}',
+     ['3:2: error: second definition: second definition of "t", the first in line 1']),
+    # several, and where
+    ("one mistake is one line", "{{if nofun .x}}{{range $i, $e := nofun .y}}{{$i}}{{$e}}{{break}}{{end}}{{else}}{{end}}", [
+        "1:1: " + NOT_UNDERSTOOD + 'no function "nofun"', "1:16: " + NOT_UNDERSTOOD + 'no function "nofun"']),
+    ("after one that can't be read", "{{.a ! .b}}\n{{name}}\n{{.c}}{{end}}", [
+        "1:1: " + UNREADABLE + 'unexpected "!": write not .b', "2:1: " + NOT_UNDERSTOOD + 'no function "name": write .name',
+        "3:7: " + OUT_OF_PLACE + END]),
+    ("columns in characters", "é☃{{name}}\t{{name}}", ["1:3: " + NOT_UNDERSTOOD + 'no function "name": write .name',
+        "1:12: " + NOT_UNDERSTOOD + 'no function "name": write .name']),
+    ("an action of several lines", "\n {{if\n  .x ==\n 1}}{{end}}", ["2:2: " + NOT_UNDERSTOOD + '"==" is no operand: write eq .x 1']),
+    ("what is left open after a refusal", "{{if nofun}}", ["1:1: " + NOT_UNDERSTOOD + 'no function "nofun"',
+        "1:13: " + OPEN + '"if" of line 1 is open at the end of the file']),
+    # warnings
+    ("a template that no file has", '{{template "t"}}', ['1:1: warning: no file defines the template "t"']),
+    ("a variable that nothing uses", "{{$x := 1}}", ['1:1: warning: variable "$x" is never used']),
+    ("a key that nothing uses", "{{range $i, $e := .}}{{$e}}{{end}}", []),
+    ("a text like an action", "a{ {.x}}", ['1:2: warning: "{ {" begins no action: it is text']),
+    ("the end of an action that is none", "a\n b}}", ['2:3: warning: "}}" closes no action: it is text']),
+]
+
+JSON = "error: not JSON: "
+WHOLE = "error: number not whole or out of range: "
+DATA = [
+    ("nothing wrong", '{"a": [1, true, null, "x"]}', []),
+    ("fractions", '{"outputs": {"price": 1.5},\n "list": [1, 2.0, -0]}', [
+        "1:23: " + WHOLE + ".outputs.price: 1.5 is not whole or is out of range",
+        "2:14: " + WHOLE + ".list[1]: 2.0 is not whole or is out of range",
+        "2:19: " + WHOLE + ".list[2]: -0 is not whole or is out of range"]),
+    ("a number alone", "1e3", ["1:1: " + WHOLE + ".: 1e3 is not whole or is out of range"]),
+    ("too large", "[9223372036854775808]", ["1:2: " + WHOLE + "[0]: 9223372036854775808 is not whole or is out of range"]),
+    ("a comma too many", '{"a": 1,}', ["1:9: " + JSON + 'a key is wanted after ","']),
+    ("a comma too many in a list", "[1,]", ["1:4: " + JSON + 'a value is wanted after ","']),
+    ("no comma", '{"a": 1\n"b": 2}', ["2:1: " + JSON + '"," or "}" is wanted after an entry']),
+    ("a text in single quotes", "{'a': 1}", ["1:2: " + JSON + "a key in double quotes is wanted"]),
+    ("a comment", "// x\n1", ["1:1: " + JSON + "a value is wanted: JSON has no comments"]),
+    ("nothing", "", ["1:1: " + JSON + "a value is wanted, and the file ends"]),
+    ("two values", "1 2", ["1:3: " + JSON + "the end is wanted after the value"]),
+    ("a text that is not closed", '["a', ["1:4: " + JSON + "a text is not closed"]),
+    ("a newline in a text", '["a\n"]', ["1:4: " + JSON + "a text has no newline, tab or other control byte: write \\n or \\t"]),
+    ("a number with a zero first", "[01]", ["1:3: " + JSON + "this is no number of JSON"]),
+    ("a fraction before what is not JSON", "[1.5, x]", ["1:7: " + JSON + "a value is wanted"]),
+    ("a key twice", '{"a": 1, "b": {"a": 2, "a": 3}}', ["1:24: warning: .b.a: the key is given twice, and the last counts"]),
+]
