@@ -15,7 +15,7 @@ SOURCES = crates.txt HANDLES $(shell find $(wildcard crates/*/src crates/*/specs
 OBJCOPY ?= objcopy
 QUOTES = $(addprefix examples/quotes/,quotes.tmpl data.tmpl texts.tmpl)
 # where packaging/ports.mk puts what is built for other places
-STATIC = packaging/out/static/tmpl
+STATIC = packaging/out/static
 ARM = packaging/out/aarch64
 WEB = packaging/out/web
 # what is copied, but for whole folders
@@ -80,7 +80,8 @@ install: $(PROGRAM) $(CHECKER) install-documents
 	install -D -m 755 $(CHECKER) "$$DESTDIR$$PREFIX/bin/tmpl-check"
 	! command -v strip > /dev/null || strip "$$DESTDIR$$PREFIX/bin/tmpl" "$$DESTDIR$$PREFIX/bin/tmpl-check"
 	! command -v $(OBJCOPY) > /dev/null || { note=$$(mktemp) && python3 packaging/pages.py --build > "$$note" && \
-		$(OBJCOPY) --remove-section .tmpl.build --add-section ".tmpl.build=$$note" "$$DESTDIR$$PREFIX/bin/tmpl" && rm "$$note"; }
+		for program in tmpl tmpl-check; do $(OBJCOPY) --remove-section .tmpl.build --add-section ".tmpl.build=$$note" \
+			"$$DESTDIR$$PREFIX/bin/$$program" || exit 1; done && rm "$$note"; }
 	install -D -m 644 completions/tmpl.bash "$$DESTDIR$$PREFIX/share/bash-completion/completions/tmpl"
 	install -D -m 644 completions/tmpl-check.bash "$$DESTDIR$$PREFIX/share/bash-completion/completions/tmpl-check"
 	install -D -m 644 -t "$$DESTDIR$$PREFIX/share/zsh/site-functions" completions/_tmpl completions/_tmpl-check
@@ -108,14 +109,14 @@ uninstall:
 	cd "$$DESTDIR$$PREFIX" && case "$$PWD" in /usr | /usr/local) ;; *) rmdir bin include lib share 2> /dev/null || true;; esac
 
 # packs what `make install` copies, and what `make install-lib` copies where the library is built, as a tar; the same of the ports
-dist: $(PROGRAM) $(STATIC)
+dist: $(PROGRAM) $(CHECKER) static
 	@$(NEEDS_RT)
 	python3 packaging/make.py tar
 	python3 packaging/make.py tar static
 	! $(HAS_ARM) || python3 packaging/make.py tar aarch64
 
-# packs the static program, and that for aarch64 where it is built, as Debian packages; installs each into a root of its own and runs it
-deb: $(STATIC)
+# packs the static programs, and those for aarch64 where they are built, as Debian packages; installs each into a root of its own and runs it
+deb: static
 	@$(NEEDS_RT)
 	for port in static $$(! $(HAS_ARM) || echo aarch64); do \
 		package=$$(python3 packaging/make.py deb $$port) && echo "$$package" && packaging/try.sh "$$package" || exit 1; done

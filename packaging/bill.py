@@ -21,9 +21,9 @@ def uses():
     return found
 
 
-def below(crate):
-    """A crate and all that it uses, directly or through others; of the kit's crates those alone that crates.txt names."""
-    known, found, left = uses(), [], [crate]
+def below(crates):
+    """Crates and all that they use, directly or through others; of the kit's crates those alone that crates.txt names."""
+    known, found, left = uses(), [], [*crates]
     while left:
         name = left.pop()
         if name not in found:
@@ -46,12 +46,12 @@ def file(root, path):
     return {**told, "licenseConcluded": NO_LICENCE, "copyrightText": NO_LICENCE}
 
 
-def bill(crate, root, paths, when, libc):
-    """The text of the bill of a package that has these files, made of a crate, at this time."""
+def bill(crates, root, paths, when, libc):
+    """The text of the bill of a package that has these files, made of crates, at this time."""
     version = pages.version()
     kit, logic = pages.toolchain()
     known = uses()
-    parts = [it for it in below(crate) if it != crate]
+    parts = [it for it in below(crates) if it not in crates]
     packed = package("tmpl", version, comment=f"proved by the logic {logic}")
     ours = [package(it, version, comment="a crate of this repository") for it in parts if it in known]
     kits = [package(it, kit, comment="a crate of the kit, with those that it uses") for it in parts if it not in known]
@@ -63,7 +63,7 @@ def bill(crate, root, paths, when, libc):
     relations += [("SPDXRef-tmpl", "CONTAINS", it["SPDXID"]) for it in [*ours, *kits, *files]]
     told = {
         **{"spdxVersion": "SPDX-2.3", "dataLicense": "CC0-1.0", "SPDXID": "SPDXRef-DOCUMENT", "name": f"tmpl-{version}"},
-        "documentNamespace": f"urn:rilphong:tmpl:{version}:{logic}:{crate}",
+        "documentNamespace": f"urn:rilphong:tmpl:{version}:{logic}:{'+'.join(crates)}",
         "creationInfo": {"created": time.strftime("%Y-%m-%dT%H:%M:%SZ", time.gmtime(when)), "creators": ["Tool: rilphong-packaging"]},
         **{"packages": [packed, *ours, *kits, *tools], "files": files},
         "relationships": [dict(zip(("spdxElementId", "relationshipType", "relatedSpdxElement"), it)) for it in relations],
@@ -71,7 +71,7 @@ def bill(crate, root, paths, when, libc):
     return json.dumps(told, indent=1) + "\n"
 
 
-def write(crate, root, paths, where, when, libc):
+def write(crates, root, paths, where, when, libc):
     os.makedirs(os.path.dirname(f"{root}/{where}"), exist_ok=True)
     with open(f"{root}/{where}", "w", encoding="utf-8") as it:
-        it.write(bill(crate, root, paths, when, libc))
+        it.write(bill(crates, root, paths, when, libc))

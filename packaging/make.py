@@ -1,6 +1,6 @@
-"""Packs the program that is built, with man pages, completions, templates for quoting and documents: `make.py tar` as a tar, and with the
+"""Packs the programs that are built, with man pages, completions, templates for quoting and documents: `make.py tar` as a tar, and with the
 C library and its header where these are built, as the name says then. `make.py tar static` and `make.py tar aarch64` pack so the static
-program, and the one for aarch64 with its library; `make.py deb static` and `make.py deb aarch64` pack these two programs as Debian
+programs, and those for aarch64 with their library; `make.py deb static` and `make.py deb aarch64` pack these programs as Debian
 packages, which then need no other. `make.py wheel` packs the binding for Python with the C library, and `make.py npm` that for JavaScript
 with the module of WebAssembly. Each has a bill of materials. All go to `packaging/out`, beside the file SHA256SUMS of them all, of which
 SHA256SUMS.asc may be a signature. They are named by the commit, the tars also by the logic that the program is proved with. `make dist`,
@@ -28,12 +28,13 @@ TOP = os.path.dirname(HERE)
 OUT = f"{HERE}/out"
 LIBC = "2.34"  # that the program which `make` builds needs
 OLDEST = 2, 17  # the oldest C library for which there are wheels
-# A program besides the one that `make` builds, how a tar and Debian name where it runs, whether a library is built with it, and what
-# changes it.
-Port = collections.namedtuple("Port", "program system architecture has_library objcopy")
+PROGRAMS = ["tmpl", "tmpl-check"]
+# The folder of programs besides those that `make` builds, how a tar and Debian name where they run, whether a library is built with them,
+# and what changes them.
+Port = collections.namedtuple("Port", "folder system architecture has_library objcopy")
 PORTS = {
-    "static": Port(f"{OUT}/static/tmpl", "x86_64-linux-static", "amd64", False, "objcopy"),
-    "aarch64": Port(f"{OUT}/aarch64/tmpl", "aarch64-linux", "arm64", True, "aarch64-linux-gnu-objcopy"),
+    "static": Port(f"{OUT}/static", "x86_64-linux-static", "amd64", False, "objcopy"),
+    "aarch64": Port(f"{OUT}/aarch64", "aarch64-linux", "arm64", True, "aarch64-linux-gnu-objcopy"),
 }
 ABOUT = "renders templates in the language of Go's text/template"
 DESCRIPTION = f"""\
@@ -105,19 +106,21 @@ def make(*words):
 
 def place(folder, prefix, shown, port=None):
     """Installs into a folder, under a prefix, as `make install` does, with pages that show another prefix, and the bill beside them; with
-    the program of a port, if that is asked for."""
+    the programs of a port, if that is asked for."""
     subprocess.run(make("install", f"DESTDIR={folder}", f"PREFIX={prefix}", f"SHOWN_PREFIX={shown}"), cwd=TOP, check=True)
-    program = f"{folder}{prefix}/bin/tmpl"
-    if port:  # the linker stripped it
-        shutil.copy(PORTS[port].program, program)
-        note = f"{folder}{prefix}/share/doc/tmpl/BUILD"
-        subprocess.run([PORTS[port].objcopy, "--add-section", f".tmpl.build={note}", program], check=True)
-    elif shutil.which("strip"):
-        subprocess.run(["strip", "--strip-all", "--remove-section=.comment", program], check=True)
-    else:
-        sys.exit("strip is not there: install binutils")
+    for name in PROGRAMS:
+        program = f"{folder}{prefix}/bin/{name}"
+        if port:  # the linker stripped it
+            shutil.copy(f"{PORTS[port].folder}/{name}", program)
+            note = f"{folder}{prefix}/share/doc/tmpl/BUILD"
+            subprocess.run([PORTS[port].objcopy, "--add-section", f".tmpl.build={note}", program], check=True)
+        elif shutil.which("strip"):
+            subprocess.run(["strip", "--strip-all", "--remove-section=.comment", program], check=True)
+        else:
+            sys.exit("strip is not there: install binutils")
     libc = None if port else LIBC
-    bill.write("tmpl", f"{folder}{prefix}", ["bin/tmpl"], "share/doc/tmpl/tmpl.spdx.json", seconds(), libc)
+    paths = [f"bin/{it}" for it in PROGRAMS]
+    bill.write(["tmpl", "tmpl_check"], f"{folder}{prefix}", paths, "share/doc/tmpl/tmpl.spdx.json", seconds(), libc)
 
 
 def has_library():
@@ -198,10 +201,8 @@ def pack(path, to):
 def as_debian(room):
     """Moves what `make install` placed to where Debian has it."""
     share = f"{room}/usr/share"
-    os.makedirs(f"{share}/zsh/vendor-completions")
-    os.rename(f"{share}/zsh/site-functions/_tmpl", f"{share}/zsh/vendor-completions/_tmpl")
-    os.rmdir(f"{share}/zsh/site-functions")
-    for page in ("man1/tmpl.1", "man7/tmpl-language.7"):
+    os.rename(f"{share}/zsh/site-functions", f"{share}/zsh/vendor-completions")
+    for page in ("man1/tmpl.1", "man1/tmpl-check.1", "man7/tmpl-language.7"):
         pack(f"{share}/man/{page}", f"{share}/man/{page}.gz")
         os.remove(f"{share}/man/{page}")
     with open(f"{share}/doc/tmpl/copyright", "w", encoding="utf-8") as it:
@@ -272,7 +273,7 @@ def wheel():
         f"{about}/WHEEL": WHEEL.format(tag=tag).encode(),
     }
     oldest = "{}.{}".format(*OLDEST)
-    files[f"{about}/sboms/tmpl.spdx.json"] = bill.bill("tmpl_c", f"{TOP}/bindings/out", ["libtmpl.so"], seconds(), oldest).encode()
+    files[f"{about}/sboms/tmpl.spdx.json"] = bill.bill(["tmpl_c"], f"{TOP}/bindings/out", ["libtmpl.so"], seconds(), oldest).encode()
     record = f"{about}/RECORD"
     files[record] = ("".join(recorded(*it) for it in files.items()) + f"{record},,\n").encode()
     path = f"{OUT}/tmpl-{name}-{tag}.whl"

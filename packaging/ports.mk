@@ -1,16 +1,17 @@
-# What is proved, for more places: a static program for each processor of x86-64, program and library for aarch64, and a module of
+# What is proved, for more places: static programs for each processor of x86-64, programs and library for aarch64, and a module of
 # WebAssembly. It is compiled and linked once more, and nothing is proved once more.
+PROGRAMS = tmpl tmpl-check
 FOR_ARM = --target=aarch64-unknown-linux-gnu
 # the first line of each recipe that needs a compiler for aarch64, or binaryen
 NEEDS_ARM = command -v aarch64-linux-gnu-gcc > /dev/null || { echo "aarch64-linux-gnu-gcc is missing: install gcc-aarch64-linux-gnu \
 and libc6-dev-arm64-cross" >&2; false; }
 NEEDS_WASM_OPT = command -v wasm-opt > /dev/null || { echo "wasm-opt is missing: install binaryen" >&2; false; }
 
-# links the program statically, for each processor of x86-64: packaging/out/static/tmpl
-static: $(STATIC)
+# links tmpl and tmpl-check statically, for each processor of x86-64, in packaging/out/static
+static: $(addprefix $(STATIC)/,$(PROGRAMS))
 
-# builds the program, statically, and the C library for Linux on aarch64, in packaging/out/aarch64
-aarch64: $(addprefix $(ARM)/,tmpl libtmpl.a libtmpl.so)
+# builds the two programs, statically, and the C library for Linux on aarch64, in packaging/out/aarch64
+aarch64: $(addprefix $(ARM)/,$(PROGRAMS) libtmpl.a libtmpl.so)
 
 # builds the engine as a module of WebAssembly, packaging/out/web/tmpl.wasm, and a page that renders by it, tmpl.html
 web: $(WEB)/tmpl.wasm $(WEB)/tmpl.html
@@ -19,24 +20,27 @@ web: $(WEB)/tmpl.wasm $(WEB)/tmpl.html
 npm: $(WEB)/tmpl.wasm
 	python3 packaging/make.py npm
 
-$(STATIC): $(PROGRAM) packaging/build.py
+$(STATIC)/tmpl $(ARM)/tmpl: $(PROGRAM)
+$(STATIC)/tmpl-check $(ARM)/tmpl-check: $(CHECKER)
+
+$(addprefix $(STATIC)/,$(PROGRAMS)): packaging/build.py
 	@$(NEEDS_RT)
 	mkdir -p $(@D)
-	python3 packaging/build.py tmpl $(@D)/tmpl.o --cpu=x86-64
+	python3 packaging/build.py $(subst -,_,$(@F)) $@.o --cpu=x86-64
 	kit=$$(dirname "$$(rt doc)") && \
-		$(CC) -static -s -Wl,--gc-sections -o $@ $(@D)/tmpl.o "$$kit/c/libos_c.a" "$$kit/c/liblibc_c.a"
+		$(CC) -static -s -Wl,--gc-sections -o $@ $@.o "$$kit/c/libos_c.a" "$$kit/c/liblibc_c.a"
 
 $(ARM)/%: private CC = aarch64-linux-gnu-gcc
 $(ARM)/%: private LD = aarch64-linux-gnu-ld
 $(ARM)/%: private AR = aarch64-linux-gnu-ar
 $(ARM)/%: private OBJCOPY = aarch64-linux-gnu-objcopy
 
-$(ARM)/tmpl: $(PROGRAM) packaging/build.py packaging/aarch64/os.c bindings/c/heap.c
+$(addprefix $(ARM)/,$(PROGRAMS)): packaging/build.py packaging/aarch64/os.c bindings/c/heap.c
 	@$(NEEDS_RT)
 	@$(NEEDS_ARM)
 	mkdir -p $(@D)
-	python3 packaging/build.py tmpl $(@D)/program.o $(FOR_ARM)
-	$(CC) -O2 -Wall -Wextra -static -s -Wl,--gc-sections -Wl,--wrap=main -o $@ $(@D)/program.o packaging/aarch64/os.c bindings/c/heap.c
+	python3 packaging/build.py $(subst -,_,$(@F)) $@.o $(FOR_ARM)
+	$(CC) -O2 -Wall -Wextra -static -s -Wl,--gc-sections -Wl,--wrap=main -o $@ $@.o packaging/aarch64/os.c bindings/c/heap.c
 
 $(ARM)/libtmpl_c.a: $(PROVED_LIBRARY) packaging/build.py
 	@$(NEEDS_RT)
