@@ -10,21 +10,21 @@ use Rattle.std.specs.Ordering.{nat_cmp}
 use Rattle.std.proofs.lemmas.List.{length-map, length-reverse, reverse-append}
 use Rattle.std.proofs.lemmas.Slice.Eq.{bytes_eq-Decides}
 use Rattle.tmpl_code.specs.Layout.{Layout, is_named, found_at, slot_named}
-use Rattle.tmpl_code.specs.declared.scope.Cell as held
+use Rattle.tmpl_code.specs.declared.scope.ScopeCell as held
 use Rattle.tmpl_code.specs.computed.Cells.{cell_seen, layout_in, link_of, link_under, links_in, links_of, place_named, place_of}
 
 -- ---- cells
 
-pub layout_push : (cells : List held.Cell) (c : held.Cell) → layout_in (cells ++ c ∷ []) ≡ cell_seen c ∷ layout_in cells
+pub layout_push : (cells : List held.ScopeCell) (c : held.ScopeCell) → layout_in (cells ++ c ∷ []) ≡ cell_seen c ∷ layout_in cells
 layout_push cells c = ap (map cell_seen) (reverse-append cells (c ∷ []))
 
-pub links_push : (cells : List held.Cell) (c : held.Cell) → links_in (cells ++ c ∷ []) ≡ link_of c ∷ links_in cells
+pub links_push : (cells : List held.ScopeCell) (c : held.ScopeCell) → links_in (cells ++ c ∷ []) ≡ link_of c ∷ links_in cells
 links_push cells c = ap (map link_of) (reverse-append cells (c ∷ []))
 
-pub layout_length : (cells : List held.Cell) → length (layout_in cells) ≡ length cells
+pub layout_length : (cells : List held.ScopeCell) → length (layout_in cells) ≡ length cells
 layout_length cells = length-map (reverse cells) cell_seen ∙ length-reverse cells
 
-pub layout_pop : (cells : List held.Cell) (c : held.Cell) → layout_in cells ≡ drop 1 (layout_in (cells ++ c ∷ []))
+pub layout_pop : (cells : List held.ScopeCell) (c : held.ScopeCell) → layout_in cells ≡ drop 1 (layout_in (cells ++ c ∷ []))
 layout_pop cells c = sym (ap (drop 1) (layout_push cells c))
 
 pub ruleset pushes = (layout_push, links_push, layout_length)
@@ -83,7 +83,7 @@ pub is-placed : (name : List ℕ) (cells : Layout) → is_some (place_named name
 is-placed name cells = ap (λ b. is_some (cond b (Some (length cells)) (place_named name cells))) ((bytes_eq-Decides name name).1 refl)
 
 -- where the newest cell is a variable, its link is where the newest one below it of its name is
-module _ (items rest : List held.Cell) (c : held.Cell) (is : items ≡ rest ++ c ∷ []) where
+module _ (items rest : List held.ScopeCell) (c : held.ScopeCell) (is : items ≡ rest ++ c ∷ []) where
   pub top-is : layout_in items ≡ cell_seen c ∷ layout_in rest
   top-is = ap layout_in is ∙ layout_push rest c
 

@@ -4,11 +4,11 @@ use Rattle.std.specs.Prelude.{ℕ, ℤ, Bool, List}
 use Rattle.tmpl_funcs.specs.declared.func.Func.{Func}
 
 -- what the form of a command or of a call alone refuses
-pub data Refusal : Type 0 where
-  not_a_function : Refusal
-  nil_command : Refusal
-  wrong_count : Func → Refusal
-  no_template : List ℕ → Refusal
+pub data CommandError : Type 0 where
+  not_a_function : CommandError
+  nil_command : CommandError
+  wrong_count : Func → CommandError
+  no_template : List ℕ → CommandError
 
 -- a step of a pipeline
 pub data Operation : Type 0 where
@@ -25,7 +25,7 @@ pub data Operation : Type 0 where
   -- whether it is an `or`, whether a piped value lies below, and how many it passes over
   decide : Bool → Bool → ℕ → Operation
   settle : Operation
-  refuse : Refusal → Operation
+  refuse : CommandError → Operation
 
 pub data Instruction : Type 0 where
   spend : ℕ → Instruction

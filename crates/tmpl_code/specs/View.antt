@@ -1,19 +1,19 @@
 -- What instructions stand for, apart from how they are held.
 use Rattle.std.specs.Prelude.{List, ℕ, [], drop, get_or, map, take}
-use Rattle.tmpl_code.specs.Instruction.{Refusal, not_a_function, nil_command, wrong_count, no_template}
+use Rattle.tmpl_code.specs.Instruction.{CommandError, not_a_function, nil_command, wrong_count, no_template}
 use Rattle.tmpl_code.specs.Instruction.{push_nothing, push_bool, push_number, push_text, push_dot, push_fields}
 use Rattle.tmpl_code.specs.Instruction.{push_slot, chained, call_with, decide, settle, refuse, Instruction, spend, put}
 use Rattle.tmpl_code.specs.Instruction.{act, show, hold, set, set_dot, unless, enter_with, end_with, forget, enter}
 use Rattle.tmpl_code.specs.Instruction.{turn, next, leave, deepen, invoke, return_from}
-use Rattle.tmpl_code.specs.declared.instruction.Refusal as held_refusal
-use Rattle.tmpl_code.specs.declared.instruction.Refusal.TheVariants as r
+use Rattle.tmpl_code.specs.declared.instruction.CommandError as held_refusal
+use Rattle.tmpl_code.specs.declared.instruction.CommandError.TheVariants as r
 use Rattle.tmpl_code.specs.declared.instruction.Instruction as held_instruction
 use Rattle.tmpl_code.specs.declared.instruction.Instruction.TheVariants as i
 use Rattle.tmpl_code.specs.declared.tables.Names.{Names}
 use Rattle.tmpl_code.specs.declared.tables.Span.{Span}
 use Rattle.tmpl_code.specs.declared.tables.Tables.{Tables}
 
-abbrev pub refusal_of : held_refusal.Refusal → Refusal
+abbrev pub refusal_of : held_refusal.CommandError → CommandError
 refusal_of r.NotAFunction = not_a_function
 refusal_of r.NilCommand = nil_command
 refusal_of (r.WrongCount f) = wrong_count f

@@ -10,7 +10,7 @@ ghost use Rattle.tmpl_code.specs.computed.Held.{Ends, Placed, bound_off, code_of
 
 use crate::code::Code;
 use crate::instruction::Instruction;
-use crate::pipeline::{put_pipeline, short};
+use crate::pipeline::{put_pipeline, to_u32};
 use crate::scope::Scope;
 use std::alloc::AllocError;
 use tmpl_grammar::{Binding, Header};
@@ -44,7 +44,7 @@ fn put_set(code: &mut Code, slot: Option<usize>) -> Result<(), AllocError>
     ensures { OnOk result (Placed (spec.SetAt slot) code.old code.new) }
 {
     match slot {
-        Some(slot) => code.push(Instruction::Set(short(slot)?)),
+        Some(slot) => code.push(Instruction::Set(to_u32(slot)?)),
         None => Ok(()),
     }
 }
@@ -73,14 +73,14 @@ pub(crate) fn put_turn(
     if let Binding::Assign(name) = binding {
         put_set_dot(code, scope.slot(name.as_slice()))?;
     }
-    code.push(Instruction::Turn(short(declared_count(binding))?))
+    code.push(Instruction::Turn(to_u32(declared_count(binding))?))
 }
 
 fn put_set_dot(code: &mut Code, slot: Option<usize>) -> Result<(), AllocError>
     ensures { OnOk result (Placed (spec.SetDotAt slot) code.old code.new) }
 {
     match slot {
-        Some(slot) => code.push(Instruction::SetDot(short(slot)?)),
+        Some(slot) => code.push(Instruction::SetDot(to_u32(slot)?)),
         None => Ok(()),
     }
 }

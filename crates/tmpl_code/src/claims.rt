@@ -1,7 +1,7 @@
 //! What each template claims of the cells of a stack.
 ghost use Rattle.std.specs.Prelude.{◌≡◌, ◌*◌, ◌+◌, IfSome, get_or};
 
-use crate::ties::at;
+use crate::numbers::at;
 
 /// How many cells are enough for a run of each template of a set: its weight, and its allowance for each template that
 /// may be inside the others.

@@ -15,7 +15,7 @@ use crate::bound::bound_of;
 use crate::code::Code;
 use crate::instruction::Instruction;
 use crate::node::{Compiler, Site, declared_in, grow_all, left_after, put_step, shrink};
-use crate::pipeline::short;
+use crate::pipeline::to_u32;
 use crate::program::{Parts, Program};
 use crate::scope::Scope;
 use crate::survey::{Survey, survey_node};
@@ -112,7 +112,7 @@ impl<'s> Compiler<'s> {
     {
         self.scope = first_scope(alloc)?;
         self.code
-            .push(Instruction::Return(short(declared_in(nodes)?)?))?;
+            .push(Instruction::Return(to_u32(declared_in(nodes)?)?))?;
         self.put_surveyed(Site { set, exit: None }, nodes)?.above(3)
     }
 

@@ -44,16 +44,10 @@ impl Cost {
         ensures { Costs (max self.need other.need) (self.makes_text || other.makes_text) result }
     {
         Cost {
-            need: larger(self.need, other.need),
+            need: self.need.max(other.need),
             makes_text: self.makes_text | other.makes_text,
         }
     }
-}
-
-pub(crate) fn larger(a: usize, b: usize) -> usize
-    ensures { result ≡ max a b }
-{
-    if a < b { b } else { a }
 }
 
 pub(crate) fn cost_of_pipeline(pipeline: &Pipeline) -> Result<Cost, AllocError>

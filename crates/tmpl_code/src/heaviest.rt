@@ -4,8 +4,7 @@ ghost use Rattle.tmpl_syntax.specs.Set.{number_of};
 ghost use Rattle.tmpl_syntax.specs.View.{node_of, nodes_in, set_view};
 ghost use Rattle.tmpl_code.specs.computed.Weights as spec;
 
-use crate::cost::larger;
-use crate::ties::at;
+use crate::numbers::at;
 use tmpl_syntax::{Node, NodeKind, Set};
 
 /// The weight of the heaviest template that is called, by the weights of all templates in the order of the set; 0 where
@@ -19,7 +18,7 @@ pub(crate) fn heaviest_of_nodes(set: &Set, weights: &[usize], nodes: &[Node]) ->
     let mut i = nodes.len();
     while i > 0 {
         i -= 1;
-        heaviest = larger(heaviest_of_node(set, weights, &nodes[i]), heaviest);
+        heaviest = heaviest_of_node(set, weights, &nodes[i]).max(heaviest);
     }
     heaviest
 }
@@ -31,10 +30,10 @@ fn heaviest_of_node(set: &Set, weights: &[usize], node: &Node) -> usize
 {
     match &node.what {
         NodeKind::Text(_) | NodeKind::Action(_) | NodeKind::Break | NodeKind::Continue => 0,
-        NodeKind::Control(control) => larger(
-            heaviest_of_nodes(set, weights, control.body.as_slice()),
-            heaviest_of_nodes(set, weights, control.other.as_slice()),
-        ),
+        NodeKind::Control(control) => {
+            let in_body = heaviest_of_nodes(set, weights, control.body.as_slice());
+            in_body.max(heaviest_of_nodes(set, weights, control.other.as_slice()))
+        }
         NodeKind::Template(name, _) => weight_of(weights, set.number(name.as_slice())),
     }
 }

@@ -4,7 +4,7 @@ use tmpl_funcs::Func;
 
 /// What the form of a command alone refuses. It is put where the run would get to it.
 #[derive(Clone, Copy)]
-pub enum Refusal {
+pub enum CommandError {
     /// An argument or a piped value for what is no function.
     NotAFunction,
     /// `nil` as a whole command.
@@ -54,7 +54,7 @@ pub enum Instruction {
     /// Replaces a null on top by nothing.
     Settle,
     /// Stops, since the form of a command is refused.
-    Refuse(Refusal),
+    Refuse(CommandError),
     /// Stops, since there is no template of this name to call.
     RefuseTemplate(u32),
     /// Pops the newest value and puts out its text.

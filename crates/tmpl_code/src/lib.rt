@@ -3,24 +3,25 @@
 
 mod binding;
 mod bound;
+mod call_graph;
 mod claims;
 mod code;
 mod compiler;
 mod cost;
-mod guess;
 mod heaviest;
 mod instruction;
 mod laws;
 mod node;
+mod numbers;
 mod pipeline;
 mod program;
 mod scope;
+mod stack_weights;
 mod survey;
 mod tables;
-mod ties;
 
 pub use compiler::compile;
-pub use instruction::{Instruction, Refusal};
+pub use instruction::{Instruction, CommandError};
 pub use laws::formed_slots;
 pub use program::{Entry, Parts, Program};
 pub use tables::{Names, Span, Tables, letters_at};

@@ -17,7 +17,7 @@ use crate::binding::{
 };
 use crate::code::Code;
 use crate::instruction::Instruction;
-use crate::pipeline::{put_pipeline, short, sum};
+use crate::pipeline::{put_pipeline, sum, to_u32};
 use crate::scope::Scope;
 use std::alloc::AllocError;
 use tmpl_grammar::{Binding, Control, Header, Pipeline};
@@ -43,7 +43,7 @@ pub(crate) struct Site<'t> {
 
 /// The parts of a control.
 #[derive(Clone, Copy)]
-pub(crate) struct Parts<'s> {
+pub(crate) struct ControlParts<'s> {
     pub(crate) header: &'s Header,
     pub(crate) body: &'s [Node],
     pub(crate) other: &'s [Node],
@@ -73,7 +73,7 @@ pub(crate) fn declared_in(nodes: &[Node]) -> Result<usize, AllocError>
 fn declared_by(binding: &Binding, nodes: &[Node]) -> Result<u32, AllocError>
     ensures { IfOk result (λ n. n ≡ declared_count (binding_of binding.now) + declared_in (nodes_in nodes.now)) }
 {
-    short(sum(declared_count(binding), declared_in(nodes)?)?)
+    to_u32(sum(declared_count(binding), declared_in(nodes)?)?)
 }
 
 /// How many variables a node leaves.
@@ -136,11 +136,11 @@ fn put_break(code: &mut Code, scope: &Scope<'_>, exit: Option<Around>) -> Result
 {
     match exit {
         Some(around) => {
-            let count = short(scope.len() - around.below - 2)?;
-            let skip = short(code.len() - around.after)?;
+            let count = to_u32(scope.len() - around.below - 2)?;
+            let skip = to_u32(code.len() - around.after)?;
             code.push(Instruction::Leave { count, skip })
         }
-        None => code.push(Instruction::Return(short(scope.len().saturating_sub(3))?)),
+        None => code.push(Instruction::Return(to_u32(scope.len().saturating_sub(3))?)),
     }
 }
 
@@ -152,15 +152,15 @@ fn put_continue(code: &mut Code, scope: &Scope<'_>, exit: Option<Around>) -> Res
 {
     match exit {
         Some(around) => {
-            let count = short(scope.len() - around.below - 2)?;
-            let skip = short(code.len() - around.after)?;
+            let count = to_u32(scope.len() - around.below - 2)?;
+            let skip = to_u32(code.len() - around.after)?;
             code.push(Instruction::Next {
                 count,
                 skip,
                 line: around.line,
             })
         }
-        None => code.push(Instruction::Return(short(scope.len().saturating_sub(3))?)),
+        None => code.push(Instruction::Return(to_u32(scope.len().saturating_sub(3))?)),
     }
 }
 
@@ -178,7 +178,7 @@ fn put_template(
 {
     match number {
         Some(number) => {
-            code.push(Instruction::Invoke(short(number)?))?;
+            code.push(Instruction::Invoke(to_u32(number)?))?;
             put_given(code, scope, given)
         }
         None => code.push_refusal(name),
@@ -284,7 +284,7 @@ impl<'s> Compiler<'s> {
         ensures { OnOk result (Put (spec.NodeAt (set_view site.entry.set.now) line (control_of node.now))
             site.entry.exit self.old self.new) }
     {
-        let parts = Parts {
+        let parts = ControlParts {
             header: &node.header,
             body: node.body.as_slice(),
             other: node.other.as_slice(),
@@ -292,14 +292,14 @@ impl<'s> Compiler<'s> {
         match node.control {
             Control::If => self.put_if(site, parts),
             Control::With => self.put_with(site, parts),
-            Control::Range => self.put_range(site, short(line as usize)?, parts),
+            Control::Range => self.put_range(site, to_u32(line as usize)?, parts),
         }
     }
 
     /// Puts an `if`.
     #[cycle(nodes)]
     #[tactic(auto, using(crate::proofs::TailLemmas::ends, crate::proofs::TailLemmas::longer))]
-    fn put_if(&mut self, site: Site<'_>, parts: Parts<'s>) -> Result<(), AllocError>
+    fn put_if(&mut self, site: Site<'_>, parts: ControlParts<'s>) -> Result<(), AllocError>
         requires { IsOpen site.exit (code_of self.old.code) (layout_of self.old.scope) }
         ensures { OnOk result (Put (PartsAt (set_view site.entry.set.now) 0 control.If parts.entry)
             site.entry.exit self.old self.new) }
@@ -318,7 +318,7 @@ impl<'s> Compiler<'s> {
     /// Puts a `with`.
     #[cycle(nodes)]
     #[tactic(auto, using(crate::proofs::TailLemmas::ends, crate::proofs::TailLemmas::longer, crate::proofs::TailLemmas::open_on))]
-    fn put_with(&mut self, site: Site<'_>, parts: Parts<'s>) -> Result<(), AllocError>
+    fn put_with(&mut self, site: Site<'_>, parts: ControlParts<'s>) -> Result<(), AllocError>
         requires { IsOpen site.exit (code_of self.old.code) (layout_of self.old.scope) }
         ensures { OnOk result (Put (PartsAt (set_view site.entry.set.now) 0 control.With parts.entry)
             site.entry.exit self.old self.new) }
@@ -328,8 +328,8 @@ impl<'s> Compiler<'s> {
         let second = self.code.len();
         let skip = self.code.since(end)?;
         self.code.push(Instruction::EndWith {
-            count: short(declared_in(parts.body)?)?,
-            variables: short(declared_count(&parts.header.binding))?,
+            count: to_u32(declared_in(parts.body)?)?,
+            variables: to_u32(declared_count(&parts.header.binding))?,
             skip,
         })?;
         self.put_dotted_part(site, &parts.header.binding, parts.body)?;
@@ -342,13 +342,13 @@ impl<'s> Compiler<'s> {
     /// Puts a range.
     #[cycle(nodes)]
     #[tactic(auto, using(crate::proofs::TailLemmas::ends, crate::proofs::TailLemmas::longer))]
-    fn put_range(&mut self, site: Site<'_>, line: u32, parts: Parts<'s>) -> Result<(), AllocError>
+    fn put_range(&mut self, site: Site<'_>, line: u32, parts: ControlParts<'s>) -> Result<(), AllocError>
         requires { IsOpen site.exit (code_of self.old.code) (layout_of self.old.scope) }
         ensures { OnOk result (Put (PartsAt (set_view site.entry.set.now) line control.Range parts.entry)
             site.entry.exit self.old self.new) }
     {
         let after = self.code.len();
-        put_end(&mut self.code, short(declared_in(parts.other)?)?, 0)?;
+        put_end(&mut self.code, to_u32(declared_in(parts.other)?)?, 0)?;
         self.put_nodes(site, parts.other)?;
         let second = self.code.len();
         let count = declared_by(&parts.header.binding, parts.body)?;

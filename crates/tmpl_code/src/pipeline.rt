@@ -9,7 +9,7 @@ ghost use Rattle.tmpl_code.specs.Layout.{slot_named};
 ghost use Rattle.tmpl_code.specs.computed.Held.{CalledAt, Ends, Placed, code_of, decided, layout_of};
 
 use crate::code::Code;
-use crate::instruction::{Instruction, Refusal};
+use crate::instruction::{Instruction, CommandError};
 use crate::scope::Scope;
 use std::alloc::AllocError;
 use tmpl_funcs::Func;
@@ -21,14 +21,11 @@ pub(crate) fn sum(a: usize, b: usize) -> Result<usize, AllocError>
     ensures value { IfOk result (λ n. n ≡ a + b) }
     ensures fits { a + b < 2 ^ 64 → IsOk result }
 {
-    match a.checked_add(b) {
-        Some(n) => Ok(n),
-        None => Err(AllocError),
-    }
+    a.checked_add(b).ok_or(AllocError)
 }
 
 /// The number in 32 bits; the code that counts so far would take 64 GiB.
-pub(crate) fn short(n: usize) -> Result<u32, AllocError>
+pub(crate) fn to_u32(n: usize) -> Result<u32, AllocError>
     ensures value { IfOk result (λ m. m ≡ n) }
     ensures fits { n < 2 ^ 32 → IsOk result }
 {
@@ -110,9 +107,9 @@ fn put_command(
         [first, rest @ ..] => match first {
             Operand::Function(func) => put_call(code, scope, above, piped, *func, rest),
             _ if is_last(rest, piped) => put_alone(code, scope, above, first),
-            _ => code.push(Instruction::Refuse(Refusal::NotAFunction)),
+            _ => code.push(Instruction::Refuse(CommandError::NotAFunction)),
         },
-        [] => code.push(Instruction::Refuse(Refusal::NotAFunction)),
+        [] => code.push(Instruction::Refuse(CommandError::NotAFunction)),
     }
 }
 
@@ -139,7 +136,7 @@ fn put_alone(
         (spec.OperandAt (operand_of operand.now) above (layout_of scope.now))) code.old code.new) }
 {
     match operand {
-        Operand::Nil => code.push(Instruction::Refuse(Refusal::NilCommand)),
+        Operand::Nil => code.push(Instruction::Refuse(CommandError::NilCommand)),
         _ => put_operand(code, scope, above, operand),
     }
 }
@@ -177,13 +174,13 @@ fn put_call(
         code.old code.new) }
 {
     if !func.takes(argument_count(operands, piped)) {
-        return code.push(Instruction::Refuse(Refusal::WrongCount(func)));
+        return code.push(Instruction::Refuse(CommandError::WrongCount(func)));
     }
     match func {
         Func::And => put_junction(code, scope, above, false, piped, operands),
         Func::Or => put_junction(code, scope, above, true, piped, operands),
         _ => {
-            let count = short(operand_count(operands))?;
+            let count = to_u32(operand_count(operands))?;
             code.push(Instruction::Call { func, count, piped })?;
             put_operands(code, scope, above, operands)
         }
@@ -251,7 +248,7 @@ fn put_decide(
     if last {
         return Ok(());
     }
-    let skip = short(code.len() - end)?;
+    let skip = to_u32(code.len() - end)?;
     code.push(Instruction::Decide { is_or, piped, skip })
 }
 
@@ -302,7 +299,7 @@ fn put_variable(code: &mut Code, slot: Option<usize>, above: usize) -> Result<()
     ensures { OnOk result (Placed (spec.VariableAt slot above) code.old code.new) }
 {
     match slot {
-        Some(slot) => code.push(Instruction::PushSlot(short(sum(above, slot)?)?)),
+        Some(slot) => code.push(Instruction::PushSlot(to_u32(sum(above, slot)?)?)),
         None => code.push(Instruction::PushNothing),
     }
 }
@@ -318,6 +315,6 @@ fn put_bare(code: &mut Code, func: Func) -> Result<(), AllocError>
             piped: false,
         })
     } else {
-        code.push(Instruction::Refuse(Refusal::WrongCount(func)))
+        code.push(Instruction::Refuse(CommandError::WrongCount(func)))
     }
 }

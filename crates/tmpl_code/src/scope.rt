@@ -9,7 +9,7 @@ use std::collections::BTreeMap;
 
 /// A cell of a frame.
 #[derive(Clone, Copy)]
-pub(crate) enum Cell<'s> {
+pub(crate) enum ScopeCell<'s> {
     /// What a control or a call saves.
     Saved,
     /// A variable, and the place of the newest one below it that has its name.
@@ -23,7 +23,7 @@ pub(crate) enum Cell<'s> {
 /// over all.
 #[derive(Drop)]
 pub(crate) struct Scope<'s> {
-    cells: Vec<Cell<'s>>,
+    cells: Vec<ScopeCell<'s>>,
     newest: BTreeMap<&'s [u8], Option<usize>>,
     ghost placed: { (name : List ℕ) → place_of newest name ≡ place_named name (layout_in cells.items) },
     ghost linked: { links_in cells.items ≡ links_of (layout_in cells.items) },

@@ -5,7 +5,7 @@ ghost use Rattle.tmpl_syntax.specs.Need as needs;
 ghost use Rattle.tmpl_syntax.specs.View.{control_of, node_of, nodes_in};
 
 use crate::binding::declared_count;
-use crate::cost::{Cost, cost_of_given, cost_of_pipeline, larger};
+use crate::cost::{Cost, cost_of_given, cost_of_pipeline};
 use crate::node::left_after;
 use crate::pipeline::sum;
 use std::alloc::AllocError;
@@ -41,7 +41,7 @@ impl Survey {
             (self.calls || other.calls) result }
     {
         Survey {
-            need: larger(self.need, other.need),
+            need: self.need.max(other.need),
             makes_text: self.makes_text | other.makes_text,
             calls: self.calls | other.calls,
         }
@@ -109,7 +109,7 @@ fn survey_control(node: &ControlNode) -> Result<Survey, AllocError>
     let other = survey_nodes(node.other.as_slice())?;
     let parts = need_of_parts(node.control, declared, body.need, other.need)?;
     Ok(Survey {
-        need: larger(header.need, parts),
+        need: header.need.max(parts),
         makes_text: header.makes_text | (body.makes_text | other.makes_text),
         calls: body.calls | other.calls,
     })
@@ -126,8 +126,8 @@ fn need_of_parts(
 {
     let in_body = sum(declared, body)?;
     match control {
-        Control::If => Ok(larger(in_body, sum(declared, other)?)),
-        Control::With => Ok(larger(sum(1, in_body)?, sum(declared, other)?)),
-        Control::Range => Ok(larger(sum(2, in_body)?, other)),
+        Control::If => Ok(in_body.max(sum(declared, other)?)),
+        Control::With => Ok(sum(1, in_body)?.max(sum(declared, other)?)),
+        Control::Range => Ok(sum(2, in_body)?.max(other)),
     }
 }

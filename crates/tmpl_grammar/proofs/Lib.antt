@@ -17,6 +17,7 @@ pub mod NeedLemmas
 pub mod OptionLemmas
 pub mod PartsLemmas
 pub mod PipelineLemmas
+pub mod PrintLemmas
 pub mod PrintableActionLemmas
 pub mod PrintableConstantLemmas
 pub mod PrintableTokenLemmas

@@ -1,5 +1,7 @@
 //! Actions as they are printed: the bytes of their tokens.
-ghost use Rattle.std.specs.Prelude.{◌≡◌, ◌++◌, ◌∷◌, OnOk};
+#![tactic(auto, using(crate::proofs::PrintLemmas::still_begins, crate::proofs::PrintLemmas::begins_added))]
+
+ghost use Rattle.std.specs.Prelude.{◌≡◌, ◌++◌, ◌∷◌, OnErr, OnOk, length, take};
 ghost use Rattle.tmpl_grammar.specs.Print.{action_tokens, bytes_of, chain_tokens, command_tokens};
 ghost use Rattle.tmpl_grammar.specs.Print.{given_tokens, header_tokens, later_tokens, more_tokens};
 ghost use Rattle.tmpl_grammar.specs.Print.{named_tokens, operand_tokens, pipeline_tokens, variable_token};
@@ -29,10 +31,12 @@ pub enum PrintedAction<'t> {
 
 impl PrintedAction<'_> {
     /// Adds what stands between the `{{` and the `}}` of the action: operands parted by one space, commands by
-    /// space, bar, space; whole numbers in decimal, texts and names quoted (our own spelling).
+    /// space, bar, space; whole numbers in decimal, texts and names quoted (our own spelling). What the vector held
+    /// stays, also where memory is refused.
     pub fn print(self, bytes: &mut Vec<u8>) -> Result<(), AllocError>
-        ensures { OnOk result (bytes.new.items
+        ensures printed { OnOk result (bytes.new.items
             ≡ bytes.old.items ++ bytes_of (action_tokens (printed_of self.entry))) }
+        ensures kept { OnErr result (take (length bytes.old.items) bytes.new.items ≡ bytes.old.items) }
     {
         match self {
             PrintedAction::Pipeline(header) => print_header(header, bytes),
@@ -63,9 +67,10 @@ fn print_named(
     given: Option<&Pipeline>,
     bytes: &mut Vec<u8>,
 ) -> Result<(), AllocError>
-    ensures { OnOk result (bytes.new.items
+    ensures printed { OnOk result (bytes.new.items
         ≡ bytes.old.items
         ++ bytes_of (named_tokens (spelling keyword) name.now (given_tokens (given_of given.entry)))) }
+    ensures kept { OnErr result (take (length bytes.old.items) bytes.new.items ≡ bytes.old.items) }
 {
     bytes.extend_from_slice(keyword.spelling())?;
     bytes.extend_from_slice(b" ")?;
@@ -81,7 +86,8 @@ fn print_named(
 
 /// Adds the variables of a header with their sign, and its pipeline.
 fn print_header(header: &Header, bytes: &mut Vec<u8>) -> Result<(), AllocError>
-    ensures { OnOk result (bytes.new.items ≡ bytes.old.items ++ bytes_of (header_tokens (header_of header.now))) }
+    ensures printed { OnOk result (bytes.new.items ≡ bytes.old.items ++ bytes_of (header_tokens (header_of header.now))) }
+    ensures kept { OnErr result (take (length bytes.old.items) bytes.new.items ≡ bytes.old.items) }
 {
     let commands = header.pipeline.commands.as_slice();
     match &header.binding {
@@ -103,8 +109,9 @@ fn print_bound(
     commands: &[Command],
     bytes: &mut Vec<u8>,
 ) -> Result<(), AllocError>
-    ensures { OnOk result (bytes.new.items
+    ensures printed { OnOk result (bytes.new.items
         ≡ bytes.old.items ++ ((36 ∷ name.now) ++ (sign.now ++ bytes_of (pipeline_tokens (commands_in commands.now))))) }
+    ensures kept { OnErr result (take (length bytes.old.items) bytes.new.items ≡ bytes.old.items) }
 {
     print_variable(name, bytes)?;
     bytes.extend_from_slice(sign)?;
@@ -113,7 +120,8 @@ fn print_bound(
 
 /// Adds a variable by its name without the `$`.
 fn print_variable(name: &[u8], bytes: &mut Vec<u8>) -> Result<(), AllocError>
-    ensures { OnOk result (bytes.new.items ≡ bytes.old.items ++ 36 ∷ name.now) }
+    ensures printed { OnOk result (bytes.new.items ≡ bytes.old.items ++ 36 ∷ name.now) }
+    ensures kept { OnErr result (take (length bytes.old.items) bytes.new.items ≡ bytes.old.items) }
 {
     bytes.push(b'$')?;
     bytes.extend_from_slice(name)
@@ -122,8 +130,9 @@ fn print_variable(name: &[u8], bytes: &mut Vec<u8>) -> Result<(), AllocError>
 /// Adds the commands of a pipeline, with a bar between two of them.
 #[cycle(print)]
 fn print_commands(commands: &[Command], bytes: &mut Vec<u8>) -> Result<(), AllocError>
-    ensures { OnOk result (bytes.new.items
+    ensures printed { OnOk result (bytes.new.items
         ≡ bytes.old.items ++ bytes_of (pipeline_tokens (commands_in commands.now))) }
+    ensures kept { OnErr result (take (length bytes.old.items) bytes.new.items ≡ bytes.old.items) }
 {
     let mut first = true;
     for command in commands {
@@ -137,8 +146,9 @@ fn print_commands(commands: &[Command], bytes: &mut Vec<u8>) -> Result<(), Alloc
 /// Adds the operands of a command, with a space between two of them.
 #[cycle(print)]
 fn print_operands(operands: &[Operand], bytes: &mut Vec<u8>) -> Result<(), AllocError>
-    ensures { OnOk result (bytes.new.items
+    ensures printed { OnOk result (bytes.new.items
         ≡ bytes.old.items ++ bytes_of (command_tokens (operands_in operands.now))) }
+    ensures kept { OnErr result (take (length bytes.old.items) bytes.new.items ≡ bytes.old.items) }
 {
     let mut first = true;
     for operand in operands {
@@ -151,7 +161,8 @@ fn print_operands(operands: &[Operand], bytes: &mut Vec<u8>) -> Result<(), Alloc
 
 /// Adds a separator, but none before the first.
 fn print_unless(first: bool, separator: &[u8], bytes: &mut Vec<u8>) -> Result<(), AllocError>
-    ensures { OnOk result (bytes.new.items ≡ bytes.old.items ++ unless first separator.now) }
+    ensures printed { OnOk result (bytes.new.items ≡ bytes.old.items ++ unless first separator.now) }
+    ensures kept { OnErr result (take (length bytes.old.items) bytes.new.items ≡ bytes.old.items) }
 {
     if first {
         Ok(())
@@ -162,10 +173,11 @@ fn print_unless(first: bool, separator: &[u8], bytes: &mut Vec<u8>) -> Result<()
 
 /// Adds one operand.
 #[cycle(print)]
-#[tactic(auto, using(crate::proofs::ViewLemmas::groups))]
+#[tactic(auto, using(crate::proofs::ViewLemmas::groups, crate::proofs::PrintLemmas::still_begins, crate::proofs::PrintLemmas::begins_added))]
 fn print_operand(operand: &Operand, bytes: &mut Vec<u8>) -> Result<(), AllocError>
-    ensures { OnOk result (bytes.new.items
+    ensures printed { OnOk result (bytes.new.items
         ≡ bytes.old.items ++ bytes_of (operand_tokens (operand_of operand.now))) }
+    ensures kept { OnErr result (take (length bytes.old.items) bytes.new.items ≡ bytes.old.items) }
 {
     match operand {
         Operand::Dot => bytes.extend_from_slice(b"."),
@@ -190,7 +202,8 @@ fn print_operand(operand: &Operand, bytes: &mut Vec<u8>) -> Result<(), AllocErro
 
 /// Adds the names of fields, each with its dot.
 fn print_chain(names: &[Bytes], bytes: &mut Vec<u8>) -> Result<(), AllocError>
-    ensures { OnOk result (bytes.new.items ≡ bytes.old.items ++ bytes_of (chain_tokens names.now)) }
+    ensures printed { OnOk result (bytes.new.items ≡ bytes.old.items ++ bytes_of (chain_tokens names.now)) }
+    ensures kept { OnErr result (take (length bytes.old.items) bytes.new.items ≡ bytes.old.items) }
 {
     for name in names {
         bytes.extend_from_slice(b".")?;

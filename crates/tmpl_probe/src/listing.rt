@@ -2,7 +2,7 @@
 //! place where it ends.
 use std::io::{self, Write};
 use std::str;
-use tmpl_code::{Instruction, Names, Program, Refusal, Tables, letters_at};
+use tmpl_code::{Instruction, Names, Program, CommandError, Tables, letters_at};
 use tmpl_funcs::Func;
 
 /// Puts out the name of each template and then its instructions.
@@ -53,7 +53,7 @@ fn put_operands(
         Instruction::PushFields(span) | Instruction::Chain(span) => {
             put_fields(writer, tables.names(*span))
         }
-        Instruction::Call { func, .. } | Instruction::Refuse(Refusal::WrongCount(func)) => {
+        Instruction::Call { func, .. } | Instruction::Refuse(CommandError::WrongCount(func)) => {
             put_func(writer, *func)
         }
         _ => Ok(()),
@@ -111,9 +111,9 @@ fn words(instruction: &Instruction) -> &'static str {
             either(*piped, "and piped", "and"),
         ),
         Instruction::Settle => "settle",
-        Instruction::Refuse(Refusal::NotAFunction) => "refuse what is no function",
-        Instruction::Refuse(Refusal::NilCommand) => "refuse nil",
-        Instruction::Refuse(Refusal::WrongCount(_)) => "refuse the count of",
+        Instruction::Refuse(CommandError::NotAFunction) => "refuse what is no function",
+        Instruction::Refuse(CommandError::NilCommand) => "refuse nil",
+        Instruction::Refuse(CommandError::WrongCount(_)) => "refuse the count of",
         Instruction::RefuseTemplate(_) => "refuse template",
         Instruction::Show => "show",
         Instruction::Hold { key } => either(*key, "hold key", "hold"),

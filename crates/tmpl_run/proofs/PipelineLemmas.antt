@@ -16,7 +16,7 @@ use Rattle.tmpl_meaning.specs.Pipeline as meaning
 use Rattle.tmpl_meaning.specs.Pipeline.{Environment, Given, Place, chain, command_value, commands_value, decides, given, given_then, go_on, junction, lookup}
 use Rattle.tmpl_meaning.specs.Pipeline.{operand_value, operand_values, without_null}
 use Rattle.tmpl_meaning.proofs.PartLemmas.{by_count, decided}
-use Rattle.tmpl_code.specs.Instruction.{Operation, Refusal, act, call_with, decide, refuse, settle}
+use Rattle.tmpl_code.specs.Instruction.{Operation, CommandError, act, call_with, decide, refuse, settle}
 use Rattle.tmpl_code.specs.Layout.{Layout, slot_named}
 use Rattle.tmpl_code.specs.Code.{BareAt, CallBy, Code, CommandAt, CommandsAt, CountedAt, DecideAt, JunctionAt, OperandAt, OperandsAt, Stretch, PipelineAt}
 use Rattle.tmpl_code.specs.Code.{VariableAt, chain_before, is_last, operand_count, piped_count}
@@ -163,7 +163,7 @@ module _ (way : Way) (s : State) where
         by (halted cause) k = k
         by lacks k = k
 
-    refuses : {why : Refusal} {code rest : Code} {cs : List Cell} {m : Bool} → code ≡ act (refuse why) ∷ rest
+    refuses : {why : CommandError} {code rest : Code} {cs : List Cell} {m : Bool} → code ≡ act (refuse why) ∷ rest
         → FollowsBy {T = Value} (Err (cause_of why)) m (Puts rest cs) → Goes code cs m
     refuses l k = steps l tt k
 

@@ -10,7 +10,7 @@ use Rattle.tmpl_meaning.specs.Fault.{Cause, call_failed}
 use Rattle.tmpl_meaning.specs.Pipeline.{Place, applied, chain, decides, without_null}
 use Rattle.tmpl_code.specs.Instruction.{Operation, push_nothing, push_bool, push_number, push_text, push_dot}
 use Rattle.tmpl_code.specs.Instruction.{push_fields, push_slot, chained, call_with, decide, settle, refuse}
-use Rattle.tmpl_code.specs.Instruction.{Refusal, not_a_function, nil_command, wrong_count, no_template}
+use Rattle.tmpl_code.specs.Instruction.{CommandError, not_a_function, nil_command, wrong_count, no_template}
 use Rattle.tmpl_code.specs.Code.{piped_count}
 use Rattle.tmpl_run.specs.Cell.{Cell, fresh, slot, values_in}
 
@@ -30,7 +30,7 @@ abbrev pub newest : List Cell → (Value → List Cell → Went) → Went
 newest [] go = lacks
 newest (c ∷ cs) go = go c.val cs
 
-abbrev pub cause_of : Refusal → Cause
+abbrev pub cause_of : CommandError → Cause
 cause_of not_a_function = fault.not_a_function
 cause_of nil_command = fault.nil_command
 cause_of (wrong_count f) = call_failed f WrongCount

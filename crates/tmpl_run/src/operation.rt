@@ -20,19 +20,19 @@ use crate::flow::Flow;
 use crate::halt::Halt;
 use crate::machine::Machine;
 use crate::stack::piped_count;
-use tmpl_code::{Names, Refusal, letters_at};
+use tmpl_code::{Names, CommandError, letters_at};
 use tmpl_funcs::{CallError, CallFault, Func};
 use tmpl_meaning::{MissingKey, RunFaultKind, decides, without_null};
 use tmpl_values::Val;
 
 /// Why a run stops at what the form of a command refuses.
-pub(crate) fn fault_for<'a>(why: Refusal) -> RunFaultKind<'a>
+pub(crate) fn fault_for<'a>(why: CommandError) -> RunFaultKind<'a>
     ensures { cause_of result ≡ pipe.cause_of (refusal_of why) }
 {
     match why {
-        Refusal::NotAFunction => RunFaultKind::NotAFunction,
-        Refusal::NilCommand => RunFaultKind::NilCommand,
-        Refusal::WrongCount(func) => RunFaultKind::Call(func, CallFault::WrongCount),
+        CommandError::NotAFunction => RunFaultKind::NotAFunction,
+        CommandError::NilCommand => RunFaultKind::NilCommand,
+        CommandError::WrongCount(func) => RunFaultKind::Call(func, CallFault::WrongCount),
     }
 }
 

@@ -65,7 +65,7 @@ ended : {xs ys zs : List Item} {ds es gs : List Definition} {ns other : Nodes} (
 ended b e (by_end {line = line}) d = (line, d)
 ended _ e (by_else c) d = cc
 
-module _ (names : List Name) (xs : List Item) (p : build.Parts) where
+module _ (names : List Name) (xs : List Item) (p : build.OpenParts) where
   -- a plain action's node
   at-node : {what : ItemKind} {n : NodeKind} (fs : List Frame) (line : ℕ) → IsNode what n → Rest fs xs p.definitions p.inner p.around
       → Rest fs (item line what ∷ xs) p.definitions (with_node_before line n p.inner) p.around
@@ -127,14 +127,14 @@ spells-where-fine items j = spells-fine items (one-verdict (roles_of items) (ver
 -- ---- what items spell is built from them, so they spell nothing else
 
 -- a part of these nodes, those around it, and definitions
-abbrev seen_parts : Nodes → Nodes → List build.Level → List Definition → build.Parts
+abbrev seen_parts : Nodes → Nodes → List build.Level → List Definition → build.OpenParts
 seen_parts nodes other around ds = record { inner = record { nodes = nodes; other = other }; around = around; definitions = ds }
 
 -- .. by the whole part
-abbrev parts_at : build.Level → List build.Level → List Definition → build.Parts
+abbrev parts_at : build.Level → List build.Level → List Definition → build.OpenParts
 parts_at l around ds = record { inner = l; around = around; definitions = ds }
 
-node-built : {what : ItemKind} {n : NodeKind} (line : ℕ) (p : build.Parts) → IsNode what n → parts_with (item line what) p ≡ put_before line n p
+node-built : {what : ItemKind} {n : NodeKind} (line : ℕ) (p : build.OpenParts) → IsNode what n → parts_with (item line what) p ≡ put_before line n p
 node-built line p a_text = refl
 node-built line p _ = refl
 
@@ -161,7 +161,7 @@ mutual
 pub spells-built : (items : List Item) (ds : List Definition) (ns : Nodes) → Spells items ds ns → (definitions_from items ≡ ds) × (nodes_from items ≡ ns)
 unfolding nodes_from definitions_from
 spells-built items ds ns d =
-    let e = leads-built (led d) none [] refl in (ap (λ (p : build.Parts). p.definitions) e, ap (λ (p : build.Parts). p.inner.nodes) e)
+    let e = leads-built (led d) none [] refl in (ap (λ (p : build.OpenParts). p.definitions) e, ap (λ (p : build.OpenParts). p.inner.nodes) e)
 
 pub one-spelling : SpellsAtMostOne
 one-spelling items ds es ns ms d e =
@@ -171,7 +171,7 @@ pub ruleset spellings = (spells-where-fine, one-spelling)
 
 -- ---- the last item's part, which is built first
 
-pub before-last : (xs : List Item) (x : Item) (p : build.Parts) → parts_before (xs ++ x ∷ []) p ≡ parts_before xs (parts_with x p)
+pub before-last : (xs : List Item) (x : Item) (p : build.OpenParts) → parts_before (xs ++ x ∷ []) p ≡ parts_before xs (parts_with x p)
 before-last [] x p = refl
 before-last (y ∷ xs) x p = ap (parts_with y) (before-last xs x p)
 

@@ -27,7 +27,7 @@ pub(crate) struct Level {
 
 /// The part in which a place stands, and those around it.
 #[derive(Drop)]
-pub(crate) struct Parts {
+pub(crate) struct OpenParts {
     pub(crate) inner: Level,
     /// The nearest last.
     pub(crate) around: Vec<Level>,
@@ -47,7 +47,7 @@ pub(crate) fn build(
     ensures { IfOk result (λ v. map definition_of v.items
         ≡ all_from name (map item_of items.items)) }
 {
-    let Parts {
+    let OpenParts {
         inner,
         mut definitions,
         ..
@@ -63,11 +63,11 @@ pub(crate) fn build(
 
 /// The parts from the first of these items on.
 #[tactic(auto, using(crate::proofs::ViewLemmas::nodes, crate::proofs::SpellingLemmas::lasts), unfolding(crate::specs::computed::View::parts_of))]
-fn parts_before(alloc: Global, items: Vec<Item>) -> Result<Parts, AllocError>
+fn parts_before(alloc: Global, items: Vec<Item>) -> Result<OpenParts, AllocError>
     ensures { IfOk result (λ p. parts_of p ≡ spec.parts_before (map item_of items.items) spec.no_parts) }
 {
     let mut items = items;
-    let mut parts = Parts {
+    let mut parts = OpenParts {
         inner: Level::new(alloc),
         around: Vec::new(alloc),
         definitions: Vec::new(alloc),
@@ -102,7 +102,7 @@ fn in_order(nodes: Vec<Node>) -> Vec<Node>
 }
 
 /// Puts an item before those that are after it.
-fn put(alloc: Global, parts: &mut Parts, item: Item) -> Result<(), AllocError>
+fn put(alloc: Global, parts: &mut OpenParts, item: Item) -> Result<(), AllocError>
     ensures { IfOk result (λ u. parts_of parts.new ≡ spec.parts_with (item_of item) (parts_of parts.old)) }
 {
     let Item { line, what } = item;
@@ -114,7 +114,7 @@ fn put(alloc: Global, parts: &mut Parts, item: Item) -> Result<(), AllocError>
 }
 
 /// Puts an action before the items that are after it.
-fn put_action(alloc: Global, parts: &mut Parts, line: u64, action: Action) -> Result<(), AllocError>
+fn put_action(alloc: Global, parts: &mut OpenParts, line: u64, action: Action) -> Result<(), AllocError>
     ensures { IfOk result (λ u. parts_of parts.new
         ≡ spec.parts_with (item line (action_item (action_of action))) (parts_of parts.old)) }
 {
@@ -139,7 +139,7 @@ fn put_action(alloc: Global, parts: &mut Parts, line: u64, action: Action) -> Re
 #[tactic(auto, using(crate::proofs::ViewLemmas::nodes), unfolding(crate::specs::computed::View::parts_of))]
 fn put_definition(
     alloc: Global,
-    parts: &mut Parts,
+    parts: &mut OpenParts,
     line: u64,
     name: Bytes,
 ) -> Result<(), AllocError>
@@ -158,7 +158,7 @@ fn put_definition(
 /// Puts a definition, and a call of it before the nodes of the part around.
 fn put_block(
     alloc: Global,
-    parts: &mut Parts,
+    parts: &mut OpenParts,
     line: u64,
     name: Bytes,
     pipeline: Pipeline,
@@ -173,7 +173,7 @@ fn put_block(
 
 /// Puts a node before those of the innermost part.
 #[tactic(auto, using(crate::proofs::ViewLemmas::nodes), unfolding(crate::specs::computed::View::parts_of))]
-fn put_node(parts: &mut Parts, line: u64, what: NodeKind) -> Result<(), AllocError>
+fn put_node(parts: &mut OpenParts, line: u64, what: NodeKind) -> Result<(), AllocError>
     ensures { IfOk result (λ u. parts_of parts.new ≡ spec.put_before line (kind_of what) (parts_of parts.old)) }
 {
     add_node(&mut parts.inner.nodes, Node { line, what })?;
@@ -195,7 +195,7 @@ fn add_node(nodes: &mut Vec<Node>, node: Node) -> Result<(), AllocError>
 #[tactic(auto, using(crate::proofs::ViewLemmas::nodes), unfolding(crate::specs::computed::View::parts_of))]
 fn put_control(
     alloc: Global,
-    parts: &mut Parts,
+    parts: &mut OpenParts,
     line: u64,
     control: Control,
     header: Header,
@@ -242,7 +242,7 @@ fn outer(alloc: Global, around: &mut Vec<Level>) -> Level
 
 /// Begins a part before an else part.
 #[tactic(auto, using(crate::proofs::ViewLemmas::nodes), unfolding(crate::specs::computed::View::parts_of))]
-fn begin_else(alloc: Global, parts: &mut Parts)
+fn begin_else(alloc: Global, parts: &mut OpenParts)
     ensures { parts_of parts.new ≡ spec.else_before (parts_of parts.old) }
 {
     let nodes = mem::replace(&mut parts.inner.nodes, Vec::new(alloc));
@@ -253,7 +253,7 @@ fn begin_else(alloc: Global, parts: &mut Parts)
 #[tactic(auto, using(crate::proofs::ViewLemmas::nodes), unfolding(crate::specs::computed::View::parts_of))]
 fn begin_branch(
     alloc: Global,
-    parts: &mut Parts,
+    parts: &mut OpenParts,
     line: u64,
     branch: Branch,
     header: Header,
@@ -269,7 +269,7 @@ fn begin_branch(
 
 /// Begins a part before an `end`.
 #[tactic(auto, using(crate::proofs::ViewLemmas::nodes), unfolding(crate::specs::computed::View::parts_of))]
-fn end(alloc: Global, parts: &mut Parts) -> Result<(), AllocError>
+fn end(alloc: Global, parts: &mut OpenParts) -> Result<(), AllocError>
     ensures { IfOk result (λ u. parts_of parts.new ≡ spec.end_before (parts_of parts.old)) }
 {
     let inner = mem::replace(&mut parts.inner, Level::new(alloc));

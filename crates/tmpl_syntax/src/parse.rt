@@ -224,12 +224,12 @@ pub fn base_name(path: &str) -> &[u8]
     ensures { result.now ≡ spec.base_name path.now }
 {
     let bytes = path.as_bytes();
-    &bytes[bytes.len() - name_len(bytes)..]
+    &bytes[bytes.len() - base_name_len(bytes)..]
 }
 
 /// How many bytes follow the last `/`.
 #[tactic(auto, using(tmpl_grammar::proofs::ListLemmas::runs))]
-fn name_len(path: &[u8]) -> usize
+fn base_name_len(path: &[u8]) -> usize
     ensures count { result ≡ suffix_len (λ b. not (b == 47)) path.now }
     ensures within { result ≤ length path.now }
 {

@@ -1,4 +1,4 @@
--- For the loops of `row_of` and `table_of`: what is converted stands before what the rest is read as.
+-- For the loops of `list_of` and `table_of`: what is converted stands before what the rest is read as.
 use Rattle.std.proofs.Common.{◌≡◌, ℕ, List, [], ◌∷◌, ◌++◌, Option, Some, None, Result, Ok, ok_or, option_map, String, Global, string_bytes, refl, ap}
 use Rattle.serde_json.specs.declared.value.Value as json
 use Rattle.serde_json.specs.View.{view, items_view, members_view}

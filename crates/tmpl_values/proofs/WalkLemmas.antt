@@ -6,8 +6,8 @@ use Rattle.tmpl_values.specs.row.View.{value_of, items_of, entries_of}
 use Rattle.tmpl_values.specs.declared.data.Data.{Data}
 use Rattle.tmpl_values.specs.declared.data.Data.TheVariants.{the_data}
 use Rattle.tmpl_values.specs.declared.data.Data.TheVariants as kind
-use Rattle.tmpl_values.specs.declared.data.Row.TheDeep.{size-Data}
-use Rattle.tmpl_values.specs.declared.data.Row.TheShapes.{weighed-Table-entries-at-2}
+use Rattle.tmpl_values.specs.declared.data.Items.TheDeep.{size-Data}
+use Rattle.tmpl_values.specs.declared.data.Items.TheShapes.{weighed-Table-entries-at-2}
 
 size-data : (d : Data) → size-Data d ≤ 2 * weight (value_of d) + 1
 size-data (kind.List vs) =

@@ -1,4 +1,4 @@
-pub mod Buffer
+pub mod OwnedBytes
 pub mod Codes
 pub mod Falls
 pub mod Put

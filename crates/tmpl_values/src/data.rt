@@ -14,7 +14,7 @@ pub enum Data {
     Bool(bool),
     Num(i64),
     Text(Bytes),
-    List(Row),
+    List(Items),
     Map(Table),
 }
 
@@ -24,7 +24,7 @@ const FEW: usize = 8;
 /// The items of a list, in order.
 #[cycle(data)]
 #[derive(Drop)]
-pub struct Row {
+pub struct Items {
     items: Vec<Data>,
 }
 
@@ -35,7 +35,7 @@ pub struct Table {
     entries: Vec<(Bytes, Data)>,
 }
 
-impl Model for Row {
+impl Model for Items {
     ghost use Rattle.tmpl_values.specs.Value.{Items};
     ghost use Rattle.tmpl_values.specs.computed.Weight.{items_weight};
 
@@ -79,14 +79,14 @@ impl Model for Table {
     ghost size_decreases = { λ t h. deep-table t.entries.items };
 }
 
-impl Row {
+impl Items {
     ghost use Rattle.tmpl_values.specs.row.View.{items_of};
 
     /// The list of these items.
-    pub(crate) fn new(items: Vec<Data>) -> Row
+    pub(crate) fn new(items: Vec<Data>) -> Items
         ensures { result ≡ items_of items.items }
     {
-        Row { items }
+        Items { items }
     }
 
     /// The items.

@@ -5,7 +5,7 @@ ghost use Rattle.tmpl_values.specs.Json.{tree_value, tree_items, tree_entries, n
 ghost use Rattle.tmpl_values.specs.row.View.{value_of};
 
 use crate::bytes::Bytes;
-use crate::data::{Data, Row, Table};
+use crate::data::{Data, Items, Table};
 use serde_json::{Map, Value};
 use std::alloc::{AllocError, AllocFailed, Global};
 use thiserror::Error;
@@ -86,7 +86,7 @@ fn data_of(alloc: Global, value: Value) -> Result<Data, DataFault>
             None => Err(DataFault::NotWhole),
         },
         Value::String(text) => Ok(Data::Text(Bytes::new(text.into_bytes()))),
-        Value::Array(items) => Ok(Data::List(row_of(alloc, items)?)),
+        Value::Array(items) => Ok(Data::List(list_of(alloc, items)?)),
         Value::Object(members) => Ok(Data::Map(table_of(alloc, members)?)),
     }
 }
@@ -94,14 +94,14 @@ fn data_of(alloc: Global, value: Value) -> Result<Data, DataFault>
 /// The list of the items of an array. It takes as much room as the array had: so the allocator hands out the block that
 /// the array before gave back, where one of another size is cut from a larger block.
 #[cycle(data)]
-fn row_of(alloc: Global, items: Vec<Value>) -> Result<Row, DataFault>
-    ensures { IsConverted (λ row. row) result (ok_or (tree_items (items_view items.items)) not_whole) }
+fn list_of(alloc: Global, items: Vec<Value>) -> Result<Items, DataFault>
+    ensures { IsConverted (λ items. items) result (ok_or (tree_items (items_view items.items)) not_whole) }
 {
     let mut converted = Vec::with_capacity(alloc, items.capacity())?;
     for item in items {
         converted.push(data_of(alloc, item)?)?;
     }
-    Ok(Row::new(converted))
+    Ok(Items::new(converted))
 }
 
 /// The map of the members of an object, which stand by rising keys there too.

@@ -1,7 +1,6 @@
 //! Values of templates: data from JSON, what a template may ask of a value, its text and its quote.
 #![tactic(auto)]
 
-mod buffer;
 mod bytes;
 mod compare;
 mod data;
@@ -11,6 +10,7 @@ mod growing;
 mod hex;
 mod laws;
 mod made;
+mod owned_bytes;
 mod put;
 mod quote;
 mod rune;
@@ -19,7 +19,7 @@ mod value;
 
 pub use bytes::Bytes;
 pub use compare::CompareFault;
-pub use data::{Data, Row, Table};
+pub use data::{Data, Items, Table};
 pub use field::Field;
 pub use from_json::DataFault;
 pub use growing::{add_quote, add_text};

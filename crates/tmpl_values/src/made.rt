@@ -1,7 +1,7 @@
 //! A text that was made during a run.
 ghost use Rattle.std.specs.Prelude.{◌≡◌, ◌≤◌, false, length, slice_range, true, IfOk};
 
-use crate::buffer::Buffer;
+use crate::owned_bytes::OwnedBytes;
 use std::alloc::{AllocError, Global};
 use std::marker::Model;
 use std::rc::Rc;
@@ -10,20 +10,20 @@ use std::rc::Rc;
 /// sharing counts owners and copies nothing. Contracts see its bytes, and whether owners are counted.
 #[derive(Drop)]
 pub struct Made {
-    buffer: Buffer,
+    buffer: OwnedBytes,
     start: usize,
     end: usize,
 }
 
 impl Model for Made {
     ghost use Rattle.std.specs.Prelude.{List, ℕ, Bool, ◌≤◌, length, slice_range};
-    ghost use Rattle.tmpl_values.specs.computed.Buffer.{buffer_bytes, is_counted};
+    ghost use Rattle.tmpl_values.specs.computed.OwnedBytes.{owned_bytes, is_counted};
 
     ghost Value = { List ℕ × Bool };
 
-    ghost view = { λ m. (slice_range (buffer_bytes m.buffer) m.start m.end, is_counted m.buffer) };
+    ghost view = { λ m. (slice_range (owned_bytes m.buffer) m.start m.end, is_counted m.buffer) };
 
-    ghost invariant = { λ m. (m.start ≤ m.end) × (m.end ≤ length (buffer_bytes m.buffer)) };
+    ghost invariant = { λ m. (m.start ≤ m.end) × (m.end ≤ length (owned_bytes m.buffer)) };
 }
 
 impl Made {
@@ -33,7 +33,7 @@ impl Made {
     {
         let end = bytes.len();
         Made {
-            buffer: Buffer::Sole(bytes),
+            buffer: OwnedBytes::Sole(bytes),
             start: 0,
             end,
         }
@@ -63,12 +63,12 @@ impl Made {
         ensures { IfOk result (λ m. m ≡ self.now) }
     {
         match &self.buffer {
-            Buffer::Sole(bytes) => {
+            OwnedBytes::Sole(bytes) => {
                 let part = self.as_slice();
                 Ok(Made::new(part.to_vec(*bytes.allocator())?))
             }
-            Buffer::Shared(bytes) => Ok(Made {
-                buffer: Buffer::Shared(Rc::clone(bytes)?),
+            OwnedBytes::Shared(bytes) => Ok(Made {
+                buffer: OwnedBytes::Shared(Rc::clone(bytes)?),
                 start: self.start,
                 end: self.end,
             }),

@@ -6,21 +6,21 @@ use Rattle.std.specs.BTreeMap.{BTreeMap}
 use Rattle.std.specs.Cmp.Lexicographic.{slice_cmp}
 use Rattle.std.specs.Ordering.{nat_cmp}
 use Rattle.tmpl_code.specs.Layout.{Layout, is_named}
-use Rattle.tmpl_code.specs.declared.scope.Cell as held
-use Rattle.tmpl_code.specs.declared.scope.Cell.TheVariants as cell
+use Rattle.tmpl_code.specs.declared.scope.ScopeCell as held
+use Rattle.tmpl_code.specs.declared.scope.ScopeCell.TheVariants as cell
 
-abbrev pub cell_seen : held.Cell → Option (List ℕ)
+abbrev pub cell_seen : held.ScopeCell → Option (List ℕ)
 cell_seen cell.Saved = None
 cell_seen (cell.Variable name hidden) = Some name.now
 
-abbrev pub link_of : held.Cell → Option ℕ
+abbrev pub link_of : held.ScopeCell → Option ℕ
 link_of cell.Saved = None
 link_of (cell.Variable name hidden) = hidden
 
-abbrev pub layout_in : List held.Cell → Layout
+abbrev pub layout_in : List held.ScopeCell → Layout
 layout_in cells = map cell_seen (reverse cells)
 
-abbrev pub links_in : List held.Cell → List (Option ℕ)
+abbrev pub links_in : List held.ScopeCell → List (Option ℕ)
 links_in cells = map link_of (reverse cells)
 
 -- the place of the newest variable of a name, counted from the oldest cell

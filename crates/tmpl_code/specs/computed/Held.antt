@@ -22,7 +22,7 @@ use Rattle.tmpl_code.specs.computed.Cells.{layout_in}
 use Rattle.tmpl_code.specs.declared.code.Code as held_code
 use Rattle.tmpl_code.specs.declared.instruction.Instruction as held_instruction
 use Rattle.tmpl_code.specs.declared.node.Around as held_around
-use Rattle.tmpl_code.specs.declared.node.Parts as held_node
+use Rattle.tmpl_code.specs.declared.node.ControlParts as held_node
 use Rattle.tmpl_code.specs.declared.node.Compiler as held_compiler
 use Rattle.tmpl_code.specs.declared.scope.Scope as held_scope
 use Rattle.tmpl_code.specs.declared.tables.Tables.{Tables}
@@ -113,7 +113,7 @@ TurnsPart ts b ns cells exit code rest =
     × NodesAt ts ns (bound_on b (None ∷ None ∷ cells)) exit first rest
 
 -- a control of these parts
-abbrev pub PartsAt : List Template → ℕ → Control → held_node.Parts → NodesPart
+abbrev pub PartsAt : List Template → ℕ → Control → held_node.ControlParts → NodesPart
 PartsAt ts line c p =
     NodeAt ts line (control_node c (header_of p.header.now) (nodes_in p.body.now) (nodes_in p.other.now))
 

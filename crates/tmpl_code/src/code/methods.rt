@@ -7,24 +7,24 @@ ghost use Rattle.tmpl_code.specs.computed.Tables.{fits};
 
 use super::Code;
 use crate::instruction::Instruction;
-use crate::pipeline::short;
+use crate::pipeline::to_u32;
 use crate::tables::Tables;
 use std::alloc::{AllocError, Global};
 use tmpl_syntax::Text;
 use tmpl_values::Bytes;
 
-/// How many instructions a short template has.
-const SHORT: usize = 16;
+/// How many instructions there is room for at first, as many as a short template has.
+const FIRST_CAPACITY: usize = 16;
 
 impl Code {
-    /// No code, with room for that of a short template.
+    /// No code.
     #[tactic(auto, unfolding(crate::specs::computed::Held::code_of))]
     pub(crate) fn new(alloc: Global) -> Result<Self, AllocError>
         ensures { IfOk result (λ c. code_of c ≡ []) }
     {
         Ok(Code {
             tables: Tables::new(alloc),
-            instructions: Vec::with_capacity(alloc, SHORT)?,
+            instructions: Vec::with_capacity(alloc, FIRST_CAPACITY)?,
         })
     }
 
@@ -41,7 +41,7 @@ impl Code {
         requires { count ≤ length (code_of self.now) }
         ensures { IfOk result (λ n. n ≡ length (code_of self.now) - count) }
     {
-        short(self.len() - count)
+        to_u32(self.len() - count)
     }
 
     /// Puts an instruction before the others. What it names is in the tables.

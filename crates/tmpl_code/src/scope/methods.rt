@@ -4,7 +4,7 @@ ghost use Rattle.tmpl_code.specs.Layout.{slot_named};
 ghost use Rattle.tmpl_code.specs.computed.Held.{layout_of};
 
 use super::newest::{place, put_place, take_place};
-use super::{Cell, Scope};
+use super::{ScopeCell, Scope};
 use std::alloc::{AllocError, Global};
 use std::collections::BTreeMap;
 
@@ -35,7 +35,7 @@ impl<'s> Scope<'s> {
     {
         let here = self.cells.len();
         let hidden = place(&self.newest, name);
-        self.cells.push(Cell::Variable { name, hidden })?;
+        self.cells.push(ScopeCell::Variable { name, hidden })?;
         match put_place(&mut self.newest, name, here) {
             Ok(()) => Ok(()),
             Err(error) => {
@@ -50,7 +50,7 @@ impl<'s> Scope<'s> {
     pub(crate) fn save(&mut self) -> Result<(), AllocError>
         ensures { OnOk result (layout_of self.new ≡ None ∷ layout_of self.old) }
     {
-        self.cells.push(Cell::Saved)?;
+        self.cells.push(ScopeCell::Saved)?;
         Ok(())
     }
 
@@ -59,7 +59,7 @@ impl<'s> Scope<'s> {
     pub(crate) fn forget(&mut self)
         ensures { layout_of self.new ≡ drop 1 (layout_of self.old) }
     {
-        if let Some(Cell::Variable { name, hidden }) = self.cells.pop() {
+        if let Some(ScopeCell::Variable { name, hidden }) = self.cells.pop() {
             take_place(&mut self.newest, name, hidden);
         }
     }

@@ -4,7 +4,7 @@ ghost use Rattle.tmpl_code.specs.View.{letters_at, name_at, names_in, names_of, 
 ghost use Rattle.tmpl_code.specs.computed.Tables.{Grows};
 
 use super::{Names, Span, Tables};
-use crate::pipeline::short;
+use crate::pipeline::to_u32;
 use std::alloc::{AllocError, Global};
 use tmpl_syntax::Text;
 use tmpl_values::Bytes;
@@ -77,7 +77,7 @@ impl Tables {
         ensures text { OnOk result (self.new.texts.items ≡ self.old.texts.items ++ text.now ∷ []) }
         ensures grows { Grows self.old self.new }
     {
-        let place = short(self.texts.len())?;
+        let place = to_u32(self.texts.len())?;
         self.texts.push(text.share()?)?;
         Ok(place)
     }
@@ -88,10 +88,10 @@ impl Tables {
         ensures name { OnOk result (names_of self.new ≡ names_of self.old ++ name.now ∷ []) }
         ensures grows { Grows self.old self.new }
     {
-        let place = short(self.spans.len())?;
+        let place = to_u32(self.spans.len())?;
         let span = Span {
-            start: short(self.letters.len())?,
-            count: short(name.len())?,
+            start: to_u32(self.letters.len())?,
+            count: to_u32(name.len())?,
         };
         self.letters.extend_from_slice(name)?;
         self.spans.push(span)?;
@@ -105,8 +105,8 @@ impl Tables {
         ensures names { OnOk result (names_of self.new ≡ names_of self.old ++ names.now) }
         ensures grows { Grows self.old self.new }
     {
-        let start = short(self.spans.len())?;
-        let count = short(names.len())?;
+        let start = to_u32(self.spans.len())?;
+        let count = to_u32(names.len())?;
         for name in names {
             self.add_name(name.as_slice())?;
         }

@@ -9,7 +9,7 @@ use super::class::Class;
 use super::form::{Form, Verb};
 
 /// The most digits that a width or a precision has.
-const MOST_DIGITS: usize = 4;
+const MOST_WIDTH_DIGITS: usize = 4;
 
 /// Reads the form at the front of what stands after a `%`, and gives what stands after it.
 pub(crate) fn read_form(bytes: &[u8]) -> Option<(Form, &[u8])>
@@ -66,13 +66,13 @@ fn make_form(flags: &[u8], width: &[u8], precision: Option<&[u8]>, verb: Verb) -
     ensures { option_map form_seen result ≡ option_map form_of (form_by flags.now width.now
         (option_map (λ d. d.now) precision.entry) (Some (letter_of verb))) }
 {
-    if width.len() > MOST_DIGITS {
+    if width.len() > MOST_WIDTH_DIGITS {
         return None;
     }
     let precision = match precision {
         None => None,
         Some(digits) => {
-            if digits.len() > MOST_DIGITS || verb != Verb::Text {
+            if digits.len() > MOST_WIDTH_DIGITS || verb != Verb::Text {
                 return None;
             }
             Some(number(digits))

@@ -18,7 +18,7 @@ pub record Level : Type 0 where
   pub other : Nodes
 
 -- the innermost part, those around it, the nearest first, and the definitions from the place on
-pub record Parts : Type 0 where
+pub record OpenParts : Type 0 where
   pub inner : Level
   pub around : List Level
   pub definitions : List Definition
@@ -38,11 +38,11 @@ rest_of (l ∷ ls) = ls
 abbrev pub with_node_before : ℕ → NodeKind → Level → Level
 with_node_before line n l = record { nodes = then line n l.nodes; other = l.other }
 
-abbrev pub put_before : ℕ → NodeKind → Parts → Parts
+abbrev pub put_before : ℕ → NodeKind → OpenParts → OpenParts
 put_before line n p = record p { inner = with_node_before line n p.inner }
 
 -- a control whose body and else part are after it
-abbrev pub control_before : ℕ → Control → Header → Parts → Parts
+abbrev pub control_before : ℕ → Control → Header → OpenParts → OpenParts
 control_before line c h p = record {
   inner = with_node_before line (control_node c h p.inner.nodes p.inner.other) (first_of p.around);
   around = rest_of p.around;
@@ -50,7 +50,7 @@ control_before line c h p = record {
 }
 
 -- a template whose body is after it
-abbrev pub definition_before : ℕ → List ℕ → Parts → Parts
+abbrev pub definition_before : ℕ → List ℕ → OpenParts → OpenParts
 definition_before line name p = record {
   inner = first_of p.around;
   around = rest_of p.around;
@@ -58,10 +58,10 @@ definition_before line name p = record {
 }
 
 -- an else, whose part is after it
-abbrev pub else_before : Parts → Parts
+abbrev pub else_before : OpenParts → OpenParts
 else_before p = record p { inner = record { nodes = none; other = p.inner.nodes } }
 
-abbrev pub branch_before : ℕ → Branch → Header → Parts → Parts
+abbrev pub branch_before : ℕ → Branch → Header → OpenParts → OpenParts
 branch_before line branch h p = record p {
   inner = record {
     nodes = none;
@@ -69,11 +69,11 @@ branch_before line branch h p = record p {
   };
 }
 
-abbrev pub end_before : Parts → Parts
+abbrev pub end_before : OpenParts → OpenParts
 end_before p = record { inner = no_level; around = p.inner ∷ p.around; definitions = p.definitions }
 
 -- the parts from an item on, by those after it
-abbrev pub parts_with : Item → Parts → Parts
+abbrev pub parts_with : Item → OpenParts → OpenParts
 parts_with (item line (text_item bytes)) p = put_before line (text bytes) p
 parts_with (item line (flawed_item reason)) p = p
 parts_with (item line (deep_item branch)) p = p
@@ -90,12 +90,12 @@ parts_with (item line (action_item (block_action name q))) p =
     put_before line (template_node name (Some q)) (definition_before line name p)
 
 -- the parts from the first of these items on, by those after the last
-abbrev pub parts_before : List Item → Parts → Parts
+abbrev pub parts_before : List Item → OpenParts → OpenParts
 parts_before [] p = p
 parts_before (x ∷ xs) p = parts_with x (parts_before xs p)
 
 -- at the end of a file
-abbrev pub no_parts : Parts
+abbrev pub no_parts : OpenParts
 no_parts = record { inner = no_level; around = []; definitions = [] }
 
 unfoldable pub nodes_from : List Item → Nodes

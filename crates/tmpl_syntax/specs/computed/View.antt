@@ -25,7 +25,7 @@ use Rattle.tmpl_syntax.specs.declared.place.frame.Opening.TheVariants as held_op
 use Rattle.tmpl_syntax.specs.declared.place.names.KnownNames.{KnownNames}
 use Rattle.tmpl_syntax.specs.declared.place.scopes.Scopes.{Scopes}
 use Rattle.tmpl_syntax.specs.declared.build.Level.{Level}
-use Rattle.tmpl_syntax.specs.declared.build.Parts.{Parts}
+use Rattle.tmpl_syntax.specs.declared.build.OpenParts.{OpenParts}
 
 -- ---- items
 
@@ -78,7 +78,7 @@ definition_of d = definition d.line d.name (nodes_in d.nodes.items)
 abbrev pub level_of : Level → build.Level
 level_of l = record { nodes = nodes_in (reverse l.nodes.items); other = nodes_in l.other.items }
 
-unfoldable pub parts_of : Parts → build.Parts
+unfoldable pub parts_of : OpenParts → build.OpenParts
 parts_of p = record {
   inner = level_of p.inner;
   around = map level_of (reverse p.around.items);

@@ -5,13 +5,13 @@ use Rattle.tmpl_values.proofs.RestLemmas.{if_whole, tree_items-step, tree_items-
 use Rattle.tmpl_values.proofs.RisingLemmas.{AreRising-sorted}
 use Rattle.tmpl_values.proofs.from_json.+data.Goals as goal
 
-pub row_of-loop-item-preserved : goal.row_of-loop-item-preserved
-row_of-loop-item-preserved t c =
+pub list_of-loop-item-preserved : goal.list_of-loop-item-preserved
+list_of-loop-item-preserved t c =
     tree_items-step _ _ _ _ _ c.in-Some.item c.in_ok-data_of.field-0 c.loop-item.invariant c.in-Some.ensures.steps.0
     c.in_ok-data_of.ensures c.in_ok-push.ensures.items
 
-pub row_of-returns : goal.row_of-returns
-row_of-returns t c =
+pub list_of-returns : goal.list_of-returns
+list_of-returns t c =
     let past : into_iter_items c.loop-item.item-iterator ≡ [] =
     let none_left = c.in-None.ensures.steps.0 in
     let counted = c.loop-item.item-iterator.rest.ok.0 in

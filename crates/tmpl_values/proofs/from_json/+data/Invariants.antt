@@ -5,8 +5,8 @@ use Rattle.tmpl_values.specs.Json.{tree_items, tree_entries}
 use Rattle.tmpl_values.proofs.RestLemmas.{before, before_entries}
 use Rattle.tmpl_values.proofs.from_json.+data.Given as goal
 
-abbrev pub invariant-row_of-loop-item : goal.invariant-row_of-loop-item
-invariant-row_of-loop-item l =
+abbrev pub invariant-list_of-loop-item : goal.invariant-list_of-loop-item
+invariant-list_of-loop-item l =
     tree_items (items_view l.fn.items.items) ≡ option_map (before l.converted.items) (tree_items (items_view (into_iter_items l.item-iterator)))
 
 abbrev pub invariant-table_of-loop-key : goal.invariant-table_of-loop-key

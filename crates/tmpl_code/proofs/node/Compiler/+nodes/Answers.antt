@@ -55,7 +55,7 @@ put_with-returns t c =
     on_ok_weaker _ (λ headed. tail.put_with (set_view a.site.set.now) c.requires (header_of p.header.now) (nodes_in p.body.now) (nodes_in p.other.now)
     c.in_ok-skip.skip c.in_ok-skip-2.skip _ _ c.declares-kept.result
     c.in_ok-put_ended.ensures refl c.in_ok-push.ensures.code c.in_ok-put_dotted_part.ensures
-    (c.in_ok-short.ensures.value ∙ c.in_ok-declared_in.ensures) (c.in_ok-short-2.ensures.value ∙ c.declared_count.ensures)
+    (c.in_ok-to_u32.ensures.value ∙ c.in_ok-declared_in.ensures) (c.in_ok-to_u32-2.ensures.value ∙ c.declared_count.ensures)
     (c.in_ok-skip.ensures ∙ ap (λ n. length (code_of c.put_ended.new.self.code) - n) c.len-end.ensures)
     (c.in_ok-skip-2.ensures ∙ ap (λ n. length (code_of c.put_dotted_part.new.self.code) - n) c.len-second.ensures) c.declares-kept.ensures
     c.in_ok-push-2.ensures.code refl headed) c.put_header.ensures
@@ -66,7 +66,7 @@ put_range-returns t c =
     let p = a.parts in
     on_ok_weaker _ (λ piped. tail.put_range (set_view a.site.set.now) c.requires (header_of p.header.now) (nodes_in p.body.now) (nodes_in p.other.now)
     a.line c.in_ok-skip.skip c.in_ok-skip-2.skip _ _ c.declares_key-key.result
-    _ refl (c.in_ok-short.ensures.value ∙ c.in_ok-declared_in.ensures)
+    _ refl (c.in_ok-to_u32.ensures.value ∙ c.in_ok-declared_in.ensures)
     c.in_ok-put_end.ensures c.in_ok-put_nodes.ensures refl c.in_ok-push.ensures.code
     c.len-after.ensures refl c.len-below.ensures c.in_ok-put_turns.ensures
     c.in_ok-count.ensures (c.in_ok-skip.ensures ∙ ap (λ n. length (code_of c.put_nodes.new.self.code) - n) c.len-after.ensures)

@@ -1,7 +1,7 @@
 use Rattle.std.proofs.Common.{◌∙◌, ◌++◌, [], ◌∷◌, ap}
 use Rattle.std.specs.Option.{is_some}
-use Rattle.tmpl_code.specs.declared.scope.Cell as held
-use Rattle.tmpl_code.specs.declared.scope.Cell.TheVariants.{Variable}
+use Rattle.tmpl_code.specs.declared.scope.ScopeCell as held
+use Rattle.tmpl_code.specs.declared.scope.ScopeCell.TheVariants.{Variable}
 use Rattle.tmpl_code.specs.computed.Cells.{layout_in, place_named, place_of}
 use Rattle.tmpl_code.proofs.ScopeLemmas.{is-placed, link-is, placed-less, rest-linked, top-is}
 use Rattle.tmpl_code.proofs.scope.Scope.forget.Goals as goal
@@ -13,7 +13,7 @@ take_place-requires c =
     let v = c.in-Some-Variable in
     let name = v.name.now in
     ap is_some (old.placed name ∙ ap (place_named name) (top-is old.cells.items rest (Variable v.name v.hidden)
-    (v.ensures.items ∙ ap (λ (c : held.Cell). rest ++ c ∷ []) v.field-0-is)))
+    (v.ensures.items ∙ ap (λ (c : held.ScopeCell). rest ++ c ∷ []) v.field-0-is)))
     ∙ is-placed name (layout_in rest)
 
 pub invariant_of-self : goal.invariant_of-self
@@ -22,7 +22,7 @@ invariant_of-self c =
     let rest = c.pop.new.self.items in
     let v = c.in-Some-Variable in
     let top = Variable v.name v.hidden in
-    let is = v.ensures.items ∙ ap (λ (c : held.Cell). rest ++ c ∷ []) v.field-0-is in
+    let is = v.ensures.items ∙ ap (λ (c : held.ScopeCell). rest ++ c ∷ []) v.field-0-is in
     record {
       placed = λ q. c.take_place.ensures q
           ∙ placed-less v.name.now q (layout_in rest) v.hidden (place_of old.newest q) (link-is old.cells.items rest top is old.linked)

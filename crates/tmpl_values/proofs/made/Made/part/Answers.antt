@@ -1,13 +1,13 @@
 use Rattle.std.proofs.Common.{◌∙◌, ◌+◌, ◌-◌, ◌≤◌, Bool, ap, sym, subst, arith, length, slice_range, drop, List, ℕ}
 use Rattle.std.proofs.lemmas.List.{length-take}
-use Rattle.tmpl_values.specs.computed.Buffer.{buffer_bytes, is_counted}
+use Rattle.tmpl_values.specs.computed.OwnedBytes.{owned_bytes, is_counted}
 use Rattle.tmpl_values.proofs.BytesLemmas.{range-range}
 use Rattle.tmpl_values.proofs.made.Made.part.Goals as goal
 
 pub returns : goal.returns
 returns c =
     let inside = c.self.inside in
-    let bytes : List ℕ = buffer_bytes inside.buffer in
+    let bytes : List ℕ = owned_bytes inside.buffer in
     let within : inside.start + c.args.j ≤ inside.end =
     let long_enough = length-take (inside.end - inside.start) (drop inside.start bytes) in
     let long : c.args.j ≤ length (slice_range bytes inside.start inside.end) =

@@ -1,11 +1,12 @@
-//! A guess at what templates need that call one another. Nothing rests on it: `bound.rt` looks whether it holds.
+//! Guesses how many cells of a stack templates need that call one another. Nothing rests on it: `bound.rt` looks whether
+//! it holds.
 //!
 //! A template that calls none on a cycle has no allowance; every other one has the largest need on a cycle for each call
 //! level. A weight is what a template and its heaviest callee need beyond that.
+use crate::call_graph::{CallGraph, Edge, reversed, topological_order};
 use crate::claims::Claims;
-use crate::cost::larger;
 use crate::instruction::Instruction;
-use crate::ties::{Tie, Ties, at, filled, peel, put, turned};
+use crate::numbers::{at, put, repeat};
 use std::alloc::{AllocError, Global};
 
 /// What templates claim, in the order of a set: the weight of the heaviest, and the largest allowance.
@@ -20,7 +21,7 @@ pub(crate) struct Guess {
 #[derive(Drop)]
 struct Order {
     /// Those that each of them calls.
-    called: Ties,
+    called: CallGraph,
     /// Those that call none in a cycle, each after all that it calls.
     below: Vec<usize>,
     /// Those in cycles of calls, and between cycles.
@@ -29,7 +30,7 @@ struct Order {
     above: Vec<usize>,
 }
 
-/// A guess for templates that need so much and have this code.
+/// A guess for templates with these needs and this code.
 pub(crate) fn guess_weights(
     alloc: Global,
     needs: &[usize],
@@ -40,7 +41,7 @@ pub(crate) fn guess_weights(
     let order = order_by(alloc, needs.len(), calls.as_slice())?;
     let each = most_of(needs, order.between.as_slice());
     let allowances = allowances_for(alloc, needs.len(), order.below.as_slice(), each)?;
-    let mut weights = filled(alloc, needs.len(), 0)?;
+    let mut weights = repeat(alloc, needs.len(), 0)?;
     weigh_in(&order, needs, allowances.as_slice(), weights.as_mut_slice());
     let fixed = most(weights.as_slice());
     Ok(Guess {
@@ -54,12 +55,12 @@ pub(crate) fn guess_weights(
 }
 
 /// The order of this many templates by their calls.
-fn order_by(alloc: Global, count: usize, calls: &[Tie]) -> Result<Order, AllocError> {
-    let callers = turned(alloc, calls)?;
-    let called = Ties::new(alloc, count, calls)?;
-    let calling = Ties::new(alloc, count, callers.as_slice())?;
-    let below = peel(alloc, count, calls, &calling)?;
-    let above = peel(alloc, count, callers.as_slice(), &called)?;
+fn order_by(alloc: Global, count: usize, calls: &[Edge]) -> Result<Order, AllocError> {
+    let callers = reversed(alloc, calls)?;
+    let called = CallGraph::new(alloc, count, calls)?;
+    let calling = CallGraph::new(alloc, count, callers.as_slice())?;
+    let below = topological_order(alloc, count, calls, &calling)?;
+    let above = topological_order(alloc, count, callers.as_slice(), &called)?;
     let between = rest(alloc, count, below.as_slice(), above.as_slice())?;
     Ok(Order {
         called,
@@ -76,7 +77,7 @@ fn allowances_for(
     below: &[usize],
     each: usize,
 ) -> Result<Vec<usize>, AllocError> {
-    let mut allowances = filled(alloc, count, each)?;
+    let mut allowances = repeat(alloc, count, each)?;
     for number in below {
         put(allowances.as_mut_slice(), *number, 0);
     }
@@ -91,12 +92,12 @@ fn weigh_in(order: &Order, needs: &[usize], allowances: &[usize], weights: &mut 
     weigh_above(called, needs, allowances, order.above.as_slice(), weights);
 }
 
-/// The calls in code, each as a tie from the template that calls to the one that is called.
+/// The calls in code, each as an edge from the template that calls to the one that is called.
 fn calls_in(
     alloc: Global,
     instructions: &[Instruction],
     starts: &[usize],
-) -> Result<Vec<Tie>, AllocError> {
+) -> Result<Vec<Edge>, AllocError> {
     let mut calls = Vec::new(alloc);
     // how many templates have begun
     let mut begun = 0usize;
@@ -105,7 +106,7 @@ fn calls_in(
             begun += 1;
         }
         if let Instruction::Invoke(number) = instruction {
-            calls.push(Tie {
+            calls.push(Edge {
                 from: begun.saturating_sub(1),
                 to: *number as usize,
             })?;
@@ -121,7 +122,7 @@ fn rest(
     below: &[usize],
     above: &[usize],
 ) -> Result<Vec<usize>, AllocError> {
-    let mut listed = filled(alloc, count, 0)?;
+    let mut listed = repeat(alloc, count, 0)?;
     mark(listed.as_mut_slice(), below);
     mark(listed.as_mut_slice(), above);
     let mut rest = Vec::new(alloc);
@@ -142,31 +143,27 @@ fn mark(marks: &mut [usize], list: &[usize]) {
 
 /// The greatest of some weights.
 fn most(weights: &[usize]) -> usize {
-    let mut most = 0;
-    for weight in weights {
-        most = larger(most, *weight);
-    }
-    most
+    weights.iter().fold(0, |most, weight| most.max(*weight))
 }
 
 /// The most that one of these templates needs.
 fn most_of(needs: &[usize], numbers: &[usize]) -> usize {
     let mut most = 0;
     for number in numbers {
-        most = larger(most, at(needs, *number));
+        most = most.max(at(needs, *number));
     }
     most
 }
 
 /// The weight of the heaviest that a template calls.
-fn heaviest(called: &Ties, number: usize, weights: &[usize]) -> usize {
+fn heaviest(called: &CallGraph, number: usize, weights: &[usize]) -> usize {
     let mut heaviest = 0;
     let mut next = called.newest(number);
     for _ in 0..called.len() {
         let Some(link) = called.link(next) else {
             break;
         };
-        heaviest = larger(heaviest, at(weights, link.to));
+        heaviest = heaviest.max(at(weights, link.to));
         next = link.older;
     }
     heaviest
@@ -174,7 +171,7 @@ fn heaviest(called: &Ties, number: usize, weights: &[usize]) -> usize {
 
 /// Weighs a template by those that it calls.
 fn weigh(
-    called: &Ties,
+    called: &CallGraph,
     needs: &[usize],
     allowances: &[usize],
     number: usize,
@@ -186,7 +183,7 @@ fn weigh(
 
 /// Weighs templates that stand after all that they call.
 fn weigh_below(
-    called: &Ties,
+    called: &CallGraph,
     needs: &[usize],
     allowances: &[usize],
     numbers: &[usize],
@@ -198,7 +195,7 @@ fn weigh_below(
 }
 
 /// Weighs templates in cycles alike: by the heaviest outside that one of them calls.
-fn weigh_between(called: &Ties, numbers: &[usize], weights: &mut [usize]) {
+fn weigh_between(called: &CallGraph, numbers: &[usize], weights: &mut [usize]) {
     let heaviest = heaviest_of(called, numbers, weights);
     for number in numbers {
         put(weights, *number, heaviest);
@@ -206,17 +203,17 @@ fn weigh_between(called: &Ties, numbers: &[usize], weights: &mut [usize]) {
 }
 
 /// The weight of the heaviest that these templates call.
-fn heaviest_of(called: &Ties, numbers: &[usize], weights: &[usize]) -> usize {
+fn heaviest_of(called: &CallGraph, numbers: &[usize], weights: &[usize]) -> usize {
     let mut most = 0;
     for number in numbers {
-        most = larger(most, heaviest(called, *number, weights));
+        most = most.max(heaviest(called, *number, weights));
     }
     most
 }
 
 /// Weighs templates that stand before all that they call.
 fn weigh_above(
-    called: &Ties,
+    called: &CallGraph,
     needs: &[usize],
     allowances: &[usize],
     numbers: &[usize],
