@@ -9,7 +9,7 @@ use Rattle.tmpl_syntax.specs.Set.{Template}
 use Rattle.tmpl_tool.specs.Outcome.{Answer}
 use Rattle.tmpl_tool.specs.Source.{Bytes, Files}
 use Rattle.tmpl_tool.specs.Tool as tool
-use Rattle.tmpl_tool.specs.Tool.{Parse, Stop, added, answer_of, asked_name, bad_words, data_found, data_in, loaded, named_run, no_read}
+use Rattle.tmpl_tool.specs.Tool.{Parse, Early, added, answer_of, asked_name, bad_words, data_found, data_in, loaded, named_run, no_read}
 use Rattle.tmpl_values.specs.Stage.{and_then}
 use Rattle.tmpl_tool.specs.Tool.{stop_answer, stop_if, with_file}
 use Rattle.tmpl_tool.proofs.StageLemmas.{and_then-and_then}
@@ -69,7 +69,7 @@ answers_as_command parse words files w asked lent lends called input holds =
 pub answers_but_for_name : AnswersButForName
 answers_but_for_name one other parse rules print files name input = go input (each_added parse [] files) print
   where
-    after : Bytes → Bytes → Result (List Template) Stop → Bool → Answer
+    after : Bytes → Bytes → Result (List Template) Early → Bool → Answer
     after called input r p = answer_of (and_then r (λ set.
         and_then (stop_if p (tool.printed set)) (λ u. and_then (data_lent called input) (λ v. named_run rules name set v))))
 
@@ -82,7 +82,7 @@ answers_but_for_name one other parse rules print files name input = go input (ea
     with_flaw set (Ok v) = (refl, refl, inl refl)
     with_flaw set (Err flaw) = (refl, refl, inr (flaw, refl, refl))
 
-    go : (input : Bytes) (r : Result (List Template) Stop) (p : Bool) → Same (after one input r p) (after other input r p)
+    go : (input : Bytes) (r : Result (List Template) Early) (p : Bool) → Same (after one input r p) (after other input r p)
     go input (Err s) p = (refl, refl, inl refl)
     go input (Ok set) true = (refl, refl, inl refl)
     go [] (Ok set) false = (refl, refl, inl refl)
@@ -94,7 +94,7 @@ pub renders_as_kept : RendersAsKept
 renders_as_kept parse rules print files name input set loads value found = rw (loads, found) refl
 
 -- a stage after which nothing comes
-or_no_more : (r : Result (List Template) Stop) → and_then r (λ s. Ok s) ≡ r
+or_no_more : (r : Result (List Template) Early) → and_then r (λ s. Ok s) ≡ r
 or_no_more (Ok s) = refl
 or_no_more (Err stop) = refl
 

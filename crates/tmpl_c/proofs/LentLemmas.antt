@@ -16,7 +16,7 @@ use Rattle.tmpl_tool.specs.Inputs.{said_of}
 use Rattle.tmpl_tool.specs.Outcome.{Answer, Outcome, Says}
 use Rattle.tmpl_tool.specs.Source.{Bytes}
 use Rattle.tmpl_tool.specs.Tool as tool
-use Rattle.tmpl_tool.specs.Tool.{IsParse, Parse, Stop, added, answer_of, named_run, only_text, stop_answer, stop_if}
+use Rattle.tmpl_tool.specs.Tool.{IsParse, Parse, Early, added, answer_of, named_run, only_text, stop_answer, stop_if}
 use Rattle.tmpl_tool.specs.declared.stop.Stop.TheVariants as stop
 use Rattle.tmpl_tool.proofs.MessageLemmas.{nothing_out, nothing_put}
 use Rattle.tmpl_tool.proofs.ParseLemmas.{for_each}
@@ -58,7 +58,7 @@ quiet (halt.Stop (stop.NotWhole m)) = refl
 quiet (halt.Stop stop.OutOfMemory) = tt
 
 module _ (a : Answer) (t : Told) (err : Sunk) (code : ℕ) where
-  stop_outcome : (o : Option Stop) → IfSome o (λ s. (stop_answer s).text ≡ []) → IfSome o (λ s. a ≡ stop_answer s) → code ≡ (said_of o).status
+  stop_outcome : (o : Option Early) → IfSome o (λ s. (stop_answer s).text ≡ []) → IfSome o (λ s. a ≡ stop_answer s) → code ≡ (said_of o).status
       → Says (said_of o).line err → Outcome a (sunk t t) err code
   stop_outcome None empty is status says = nothing_out a t err code status says
   stop_outcome (Some s) empty is status says =

@@ -10,7 +10,7 @@ use Rattle.tmpl_syntax.specs.declared.set.Set.{Set}
 use Rattle.tmpl_meaning.specs.Meaning.{Rules}
 use Rattle.tmpl_tool.specs.Outcome.{Answer, memory_line}
 use Rattle.tmpl_tool.specs.Source.{Bytes}
-use Rattle.tmpl_tool.specs.Tool.{Stop, answer_of, named_run, printed, stop_answer, stop_if}
+use Rattle.tmpl_tool.specs.Tool.{Early, answer_of, named_run, printed, stop_answer, stop_if}
 use Rattle.tmpl_values.specs.Stage.{and_then}
 use Rattle.tmpl_c.specs.Filled.{Fills, Seen}
 
@@ -27,12 +27,12 @@ value_in kept = option_map value_of kept
 -- ---- an offer
 
 -- what was offered was accepted, and is kept: no line, and status 0
-abbrev pub Accepted : {T : Type 0} → Result T Stop → T → ℕ → Seen → ℕ → Type 0
+abbrev pub Accepted : {T : Type 0} → Result T Early → T → ℕ → Seen → ℕ → Type 0
 Accepted offered new room err code = (offered ≡ Ok new) × Fills [] room err × (code ≡ 0)
 
 -- it is refused, what was kept before is kept, and the line and the status are those of why
-abbrev pub Declined : {T : Type 0} → Result T Stop → T → T → ℕ → Seen → ℕ → Type 0
-Declined offered old new room err code = (stop : Stop) × (offered ≡ Err stop) × (new ≡ old)
+abbrev pub Declined : {T : Type 0} → Result T Early → T → T → ℕ → Seen → ℕ → Type 0
+Declined offered old new room err code = (stop : Early) × (offered ≡ Err stop) × (new ≡ old)
     × Fills (stop_answer stop).line room err × (code ≡ (stop_answer stop).status)
 
 -- memory was refused, and what was kept before is kept
@@ -40,7 +40,7 @@ abbrev pub Unmade : {T : Type 0} → T → T → ℕ → Seen → ℕ → Type 0
 Unmade old new room err code = (new ≡ old) × Fills memory_line room err × (code ≡ 7)
 
 -- one of the three
-abbrev pub Keeps : {T : Type 0} → Result T Stop → T → T → ℕ → Seen → ℕ → Type 0
+abbrev pub Keeps : {T : Type 0} → Result T Early → T → T → ℕ → Seen → ℕ → Type 0
 Keeps offered old new room err code =
     Accepted offered new room err code ⊎ (Declined offered old new room err code ⊎ Unmade old new room err code)
 

@@ -10,7 +10,7 @@ use Rattle.tmpl_syntax.specs.Set.{Template, tree_named}
 use Rattle.tmpl_meaning.specs.Meaning.{Rules, ran}
 use Rattle.tmpl_tool.specs.Outcome.{Answer}
 use Rattle.tmpl_tool.specs.Source.{Bytes, Files}
-use Rattle.tmpl_tool.specs.Tool.{Parse, Stop, asked_by, asked_name, bad_words, flawed, no_read, printed, refused}
+use Rattle.tmpl_tool.specs.Tool.{Parse, Early, asked_by, asked_name, bad_words, flawed, no_read, printed, refused}
 use Rattle.tmpl_tool.specs.Tool.{run_answer, stop_answer, tool_answer, unnamed}
 use Rattle.tmpl_tool.specs.Words.{Wanted, wanted_in}
 use Rattle.tmpl_c.specs.Filled.{Rendered, Seen}
@@ -46,7 +46,7 @@ Prints = (parse : Parse) (rules : Rules) (files : List (Bytes × Bytes)) (name i
 abbrev pub StopsAtData : Type 0
 StopsAtData = (parse : Parse) (rules : Rules) (files : List (Bytes × Bytes)) (name input : Bytes)
     → (set : List Template) → each_added parse [] files ≡ Ok set
-    → (stop : Stop) → data_lent (codes "data") input ≡ Err stop
+    → (stop : Early) → data_lent (codes "data") input ≡ Err stop
     → render_answer parse rules false files name input ≡ stop_answer stop
 
 -- then a name that no template has is, with status 4
@@ -125,7 +125,7 @@ KeepsOffered = IsKeptAsOffered (List Template) × IsKeptAsOffered (Option Value)
 
 -- with any other what was kept is kept
 abbrev pub IsKeptAsBefore : (T : Type 0) → Type 0
-IsKeptAsBefore T = (offered : Result T Stop) (old new : T) (room : ℕ) (err : Seen) (code : ℕ)
+IsKeptAsBefore T = (offered : Result T Early) (old new : T) (room : ℕ) (err : Seen) (code : ℕ)
     → Keeps offered old new room err code → code ≢ 0 → new ≡ old
 
 -- .. templates as data

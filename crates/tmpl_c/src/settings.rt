@@ -4,6 +4,7 @@ ghost use Rattle.tmpl_meaning.specs.View.{rules_of};
 ghost use Rattle.tmpl_c.specs.Lent.{limit, mode_numbered, rules_in};
 
 use tmpl_run::{MissingKey, Options};
+use tmpl_tool::{DEFAULT_DEPTH, DEFAULT_STEPS, MOST_DEPTH, MOST_STEPS};
 
 /// How a template is to be run. All zeros ask for the defaults.
 #[repr(C)]
@@ -51,7 +52,7 @@ pub(crate) fn options_in(settings: &Settings) -> Options
 {
     Options {
         missing_key: mode_numbered(settings.missing_key),
-        depth: limit(1000, 100_000, settings.depth as u64) as u32,
-        steps: limit(1_000_000_000, 4_611_686_018_427_387_904, settings.steps),
+        depth: limit(DEFAULT_DEPTH, MOST_DEPTH, settings.depth as u64) as u32,
+        steps: limit(DEFAULT_STEPS, MOST_STEPS, settings.steps),
     }
 }

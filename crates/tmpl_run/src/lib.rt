@@ -3,12 +3,12 @@
 #![tactic(auto)]
 
 mod at_once;
-mod call;
 mod control;
 mod execute;
 mod fault;
 mod flow;
 mod halt;
+mod invoke;
 mod laws;
 mod listing;
 mod machine;

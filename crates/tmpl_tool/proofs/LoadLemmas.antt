@@ -15,7 +15,7 @@ use Rattle.tmpl_syntax.specs.declared.fault.ParseFault.{ParseFault}
 use Rattle.tmpl_syntax.proofs.FileLemmas.{parsed-long}
 use Rattle.tmpl_tool.specs.Source.{Asked, Bytes, Files, TellsFront}
 use Rattle.tmpl_tool.specs.Tool as tool
-use Rattle.tmpl_tool.specs.Tool.{Failing, Stop, file_reads, loaded, no_read, with_file}
+use Rattle.tmpl_tool.specs.Tool.{Failing, Early, file_reads, loaded, no_read, with_file}
 use Rattle.tmpl_values.specs.Stage.{and_then}
 use Rattle.tmpl_tool.specs.Inputs.{Adds, ComesOf, StopsAt}
 use Rattle.tmpl_tool.specs.declared.stop.Stop as held
@@ -101,7 +101,7 @@ module _ (before between after : Option (List Bytes)) (files : Files) (start : L
   )
 
   -- a file that stops the program
-  pub stops_there : (s : Option Stop) → StopsAt (Asked between after) (λ fails. with_file parsed files (fails 0) set name) (λ fails. name ∷ []) s
+  pub stops_there : (s : Option Early) → StopsAt (Asked between after) (λ fails. with_file parsed files (fails 0) set name) (λ fails. name ∷ []) s
       → StopsAt (Asked before after) (λ fails. loaded parsed files fails 0 start names) (λ fails. file_reads parsed files fails 0 start names) s
   stops_there None (front, rest, e, asked) =
       let tail = option_map_or (λ s. file_reads parsed files no_read (suc i) s left) (result_ok (with_file parsed files false set name)) [] in

@@ -8,7 +8,7 @@ use Rattle.tmpl_tool.specs.Source.{Bytes, Files}
 use Rattle.tmpl_tool.specs.Laws.{GivesHelp, Prints, RefusesWords, Runs, StopsAtData, StopsAtDataRead, StopsAtFile, StopsAtName, StopsAtRead}
 use Rattle.tmpl_tool.specs.Laws.{TellsFailedWrite, TellsReads, TellsRefusedMemory}
 use Rattle.tmpl_tool.specs.Tool as tool
-use Rattle.tmpl_tool.specs.Tool.{Failing, Parse, Stop, answer_of, asked_by, loaded, with_file}
+use Rattle.tmpl_tool.specs.Tool.{Failing, Parse, Early, answer_of, asked_by, loaded, with_file}
 use Rattle.tmpl_values.specs.Stage.{and_then}
 use Rattle.tmpl_tool.specs.computed.Load.{after_words}
 
@@ -19,7 +19,7 @@ pub refuses_words : RefusesWords
 refuses_words parse words files fails helps none = rw (helps, none) refl
 
 -- a stage after two is the same as one after the second
-pub and_then-and_then : (r : Result (List Template) Stop) (f g h : List Template → Result (List Template) Stop) → ((s : List Template) → f s ≡ and_then (g s) h)
+pub and_then-and_then : (r : Result (List Template) Early) (f g h : List Template → Result (List Template) Early) → ((s : List Template) → f s ≡ and_then (g s) h)
     → and_then r f ≡ and_then (and_then r g) h
 and_then-and_then (Ok s) f g h same = same s
 and_then-and_then (Err stop) f g h same = refl
@@ -71,11 +71,11 @@ fault-other : (o : Option Fault) → ◌≢◌ {A = ℕ} (option_map_or (λ (f :
 fault-other None e = omega (arith, e)
 fault-other (Some f) e = omega (arith, e)
 
-stop-other : (s : Stop) → (tool.stop_answer s).status ≢ 7
+stop-other : (s : Early) → (tool.stop_answer s).status ≢ 7
 stop-other tool.help e = omega (arith, e)
 stop-other _ e = omega (arith, e)
 
-answer-other : (r : Result Ran Stop) → (answer_of r).status ≢ 7
+answer-other : (r : Result Ran Early) → (answer_of r).status ≢ 7
 answer-other (Ok r) = fault-other r.fault
 answer-other (Err s) = stop-other s
 

@@ -17,7 +17,7 @@ use Rattle.tmpl_tool.specs.Help.{asks_help}
 use Rattle.tmpl_tool.specs.Source.{Asked, Bytes, Files}
 use Rattle.tmpl_tool.specs.Outcome.{Says}
 use Rattle.tmpl_tool.specs.Tool as tool
-use Rattle.tmpl_tool.specs.Tool.{Failing, Follows, MadeOf, Observed, Parse, Stop, answer_of, asked_by, data_found, data_wanted, file_reads}
+use Rattle.tmpl_tool.specs.Tool.{Failing, Follows, MadeOf, Observed, Parse, Early, answer_of, asked_by, data_found, data_wanted, file_reads}
 use Rattle.tmpl_tool.specs.Tool.{loaded, no_read, stop_answer, stop_if, tool_answer, tool_reads}
 use Rattle.tmpl_values.specs.Stage.{and_then}
 use Rattle.tmpl_tool.specs.Inputs.{Counts, StopsAt, inputs_of, inputs_reads, said_of, stop_seen}
@@ -28,25 +28,25 @@ use Rattle.tmpl_tool.proofs.LoadLemmas.{all_succeed, asked-append, nat_eq-add, o
 use Rattle.tmpl_tool.proofs.MessageLemmas.{nothing_out, nothing_put}
 
 -- the data after a set
-abbrev with_data : List Template → Result (Option Value) Stop → Result (List Template × Option Value) Stop
+abbrev with_data : List Template → Result (Option Value) Early → Result (List Template × Option Value) Early
 with_data set r = result_map_both (λ input. (set, input)) (λ s. s) r
 
 -- what is read for the templates, and after them
 abbrev template_reads : Files → Wanted → Failing → List Bytes
 template_reads files w fails = file_reads parsed files fails 0 [] w.files
 
-abbrev after_templates : Wanted → Result (List Template) Stop → List Bytes
+abbrev after_templates : Wanted → Result (List Template) Early → List Bytes
 after_templates w r = option_map_or (λ set. option_to_list (data_wanted w)) (result_ok r) []
 
 module _ (files : Files) (w : Wanted) where
   module _ (Made : List Bytes → Type 0) where
     -- where a template file stops the program nothing is read after it
-    no_more : (fails : Failing) (s : Stop) → loaded parsed files fails 0 [] w.files ≡ Err s → Made (template_reads files w fails)
+    no_more : (fails : Failing) (s : Early) → loaded parsed files fails 0 [] w.files ≡ Err s → Made (template_reads files w fails)
         → Made (inputs_reads parsed files w fails)
     no_more fails s h made = rw (h, append-nil (template_reads files w fails)) made
 
     -- a template file stops the program
-    pub load_stops : (s : Option Stop) → StopsAt Made (λ fails. loaded parsed files fails 0 [] w.files) (template_reads files w) s
+    pub load_stops : (s : Option Early) → StopsAt Made (λ fails. loaded parsed files fails 0 [] w.files) (template_reads files w) s
         → StopsAt Made (inputs_of parsed files w) (inputs_reads parsed files w) s
     load_stops None (front, rest, e, made) =
         let more = after_templates w (loaded parsed files no_read 0 [] w.files) in
@@ -67,7 +67,7 @@ module _ (files : Files) (w : Wanted) where
       after_files more = asked-append before between after (template_reads files w no_read) (option_to_list w.data_file) asked more
 
       -- the data stops the program
-      pub data_stops : (s : Option Stop)
+      pub data_stops : (s : Option Early)
           → StopsAt (Asked between after) (λ fails. data_found files (fails 0) w.data_file) (λ fails. option_to_list w.data_file) s
           → StopsAt (Asked before after) (inputs_of parsed files w) (inputs_reads parsed files w) s
       data_stops None (front, rest, e, more) =
@@ -98,21 +98,21 @@ module _ (parse : Parse) (files : Files) (w : Wanted) where
   beyond b true set d = refl
   beyond b false set d = found (data_found files b d)
     where
-      found : (r : Result (Option Value) Stop) → and_then r (rendered w set) ≡ and_then (with_data set r) (λ i. rendered w i.0 i.1)
+      found : (r : Result (Option Value) Early) → and_then r (rendered w set) ≡ and_then (with_data set r) (λ i. rendered w i.0 i.1)
       found (Ok input) = refl
       found (Err s) = refl
 
   pub after_inputs : (fails : Failing) → after_words parse files w fails ≡ and_then (inputs_of parse files w fails) (λ i. finished w i.0 i.1)
   after_inputs fails = from (loaded parse files fails 0 [] w.files)
     where
-      from : (r : Result (List Template) Stop)
+      from : (r : Result (List Template) Early)
           → and_then r (after_set files fails w)
           ≡ and_then (and_then r (λ set. with_data set (data_found files (fails (length w.files)) (data_wanted w)))) (λ i. finished w i.0 i.1)
       from (Ok set) = beyond (fails (length w.files)) w.print set w.data_file
       from (Err s) = refl
 
   -- a stop at the inputs is the command's
-  pub stops_after : (Made : List Bytes → Type 0) (s : Option Stop) → StopsAt Made (inputs_of parse files w) (inputs_reads parse files w) s
+  pub stops_after : (Made : List Bytes → Type 0) (s : Option Early) → StopsAt Made (inputs_of parse files w) (inputs_reads parse files w) s
       → StopsAt Made (after_words parse files w) (inputs_reads parse files w) s
   stops_after Made None h = h
   stops_after Made (Some (tool.unread n)) (k, h, made) = (k, rw (after_inputs (nat_eq k), h) refl, made)
@@ -132,7 +132,7 @@ module _ (err : Sunk) (code : ℕ) where
     abbrev Comes : Type 0
     Comes = Follows (inputs_reads parse files w) (λ fails. answer_of (after_words parse files w fails)) (observed was is before after (sunk t t) err code)
 
-    stops_at : (s : Stop) → is ≡ was → (after_words parse files w no_read ≡ Err s) × Made (inputs_reads parse files w no_read)
+    stops_at : (s : Early) → is ≡ was → (after_words parse files w no_read ≡ Err s) × Made (inputs_reads parse files w no_read)
         → code ≡ (stop_answer s).status → Says (stop_answer s).line err → (stop_answer s).text ≡ [] → Comes
     stops_at s counts (h, made) status says empty =
         inl (counts, inl made, rw (h, empty) (inl (nothing_put t, status, says)))

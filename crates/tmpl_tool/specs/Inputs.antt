@@ -13,7 +13,7 @@ use Rattle.tmpl_syntax.specs.Fault.{reason_of}
 use Rattle.tmpl_syntax.specs.declared.fault.ParseFault.{ParseFault}
 use Rattle.tmpl_tool.specs.Outcome.{Answer, memory_line}
 use Rattle.tmpl_tool.specs.Source.{Asked, Bytes, Files}
-use Rattle.tmpl_tool.specs.Tool.{Failing, MadeOf, Parse, Stop, data_found, data_wanted, file_reads, flawed, loaded}
+use Rattle.tmpl_tool.specs.Tool.{Failing, MadeOf, Parse, Early, data_found, data_wanted, file_reads, flawed, loaded}
 use Rattle.tmpl_tool.specs.Tool.{no_read}
 use Rattle.tmpl_tool.specs.Tool.{not_found, only_line, refused, stop_answer, unread}
 use Rattle.tmpl_values.specs.Stage.{and_then}
@@ -23,7 +23,7 @@ use Rattle.tmpl_tool.specs.declared.stop.Stop as held
 use Rattle.tmpl_tool.specs.declared.stop.Stop.TheVariants as stop
 
 -- the set of all FILEs, and then the data of a run
-abbrev pub inputs_of : Parse → Files → Wanted → Failing → Result (List Template × Option Value) Stop
+abbrev pub inputs_of : Parse → Files → Wanted → Failing → Result (List Template × Option Value) Early
 inputs_of parse files w fails = and_then (loaded parse files fails 0 [] w.files) (λ set.
     result_map_both (λ input. (set, input)) (λ s. s) (data_found files (fails (length w.files)) (data_wanted w)))
 
@@ -38,10 +38,10 @@ abbrev pub inputs_seen : Inputs → List Template × Option Value
 inputs_seen inputs = (set_view inputs.set, option_map value_of inputs.data)
 
 -- the refusal of a template file; one for want of memory is none
-abbrev pub refusal_seen : ParseFault → Option Stop
+abbrev pub refusal_seen : ParseFault → Option Early
 refusal_seen f = option_map (λ why. refused f.file.now (f.line, why)) (reason_of f.kind)
 
-abbrev pub stop_seen : held.Stop → Option Stop
+abbrev pub stop_seen : held.Stop → Option Early
 stop_seen (stop.NotFound name) = Some (not_found name.now)
 stop_seen (stop.Failed name) = Some (unread name.now)
 stop_seen (stop.Template f) = refusal_seen f
@@ -50,29 +50,29 @@ stop_seen (stop.NotWhole name) = Some (flawed name.now not_whole)
 stop_seen stop.OutOfMemory = None
 
 -- what is said of a stop, or of want of memory
-abbrev pub said_of : Option Stop → Answer
+abbrev pub said_of : Option Early → Answer
 said_of None = record (only_line 7 []) { line = memory_line }
 said_of (Some s) = stop_answer s
 
 -- ---- what is answered
 
 -- a stage stops so, with such reads made: where just one read fails, if the stop is at that, and else where none does
-abbrev pub StopsAt : {T : Type 0} → (List Bytes → Type 0) → (Failing → Result T Stop) → (Failing → List Bytes)
-    → Option Stop → Type 0
+abbrev pub StopsAt : {T : Type 0} → (List Bytes → Type 0) → (Failing → Result T Early) → (Failing → List Bytes)
+    → Option Early → Type 0
 StopsAt Made stage reads None = MadeOf Made (reads no_read)
 StopsAt Made stage reads (Some (unread name)) =
     (k : ℕ) × (stage (nat_eq k) ≡ Err (unread name)) × Made (reads (nat_eq k))
 StopsAt Made stage reads (Some s) = (stage no_read ≡ Err s) × Made (reads no_read)
 
 -- the answer is what a stage comes to, or it is a stop of the stage, or memory was refused
-abbrev pub ComesOf : {T U : Type 0} → (List Bytes → Type 0) → (Failing → Result U Stop) → (Failing → List Bytes)
+abbrev pub ComesOf : {T U : Type 0} → (List Bytes → Type 0) → (Failing → Result U Early) → (Failing → List Bytes)
     → (T → U) → Result T held.Stop → Type 0
 ComesOf Made stage reads seen (Ok t) = (stage no_read ≡ Ok (seen t)) × Made (reads no_read)
 ComesOf Made stage reads seen (Err s) = StopsAt Made stage reads (stop_seen s)
 
 -- .. of the files that a source tells, which told before and tells after what it was asked for
 abbrev pub ComesOfFiles : {T U : Type 0} → Option Files → Option (List Bytes) → Option (List Bytes)
-    → (Files → Failing → Result U Stop) → (Files → Failing → List Bytes) → (T → U) → Result T held.Stop → Type 0
+    → (Files → Failing → Result U Early) → (Files → Failing → List Bytes) → (T → U) → Result T held.Stop → Type 0
 ComesOfFiles told before after stage reads seen r =
     IfSome told (λ files. ComesOf (Asked before after) (stage files) (reads files) seen r)
 

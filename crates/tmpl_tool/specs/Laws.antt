@@ -11,7 +11,7 @@ use Rattle.tmpl_tool.specs.Help.{asks_help}
 use Rattle.tmpl_tool.specs.Words.{HasModeNames, Modes, Wanted, tool_app, wanted, words_fault, words_rows}
 use Rattle.tmpl_tool.specs.Source.{Asked, Bytes, Files}
 use Rattle.tmpl_tool.specs.Outcome.{Answer, Outcome, Says, memory_line, write_line}
-use Rattle.tmpl_tool.specs.Tool.{Failing, Follows, IsParse, Observed, Parse, Stop, asked_by, asked_name, bad_words, data_found, help}
+use Rattle.tmpl_tool.specs.Tool.{Failing, Follows, IsParse, Observed, Parse, Early, asked_by, asked_name, bad_words, data_found, help}
 use Rattle.tmpl_tool.specs.Tool.{loaded, no_read, printed, run_answer, stop_answer, tool_answer, unnamed, unread, with_file}
 
 -- a function accepts and refuses each file by the rules
@@ -43,7 +43,7 @@ StopsAtFile = (parse : Parse) (words : List Bytes) (files : Files) (fails : Fail
     → asked_by words ≡ Ok w
     → (before : List Bytes) (name : Bytes) (beyond : List Bytes) → w.files ≡ before ++ name ∷ beyond
     → (set : List Template) → loaded parse files fails 0 [] before ≡ Ok set
-    → (stop : Stop) → with_file parse files (fails (length before)) set name ≡ Err stop
+    → (stop : Early) → with_file parse files (fails (length before)) set name ≡ Err stop
     → tool_answer parse words files fails ≡ stop_answer stop
 
 -- a read of a FILE that fails is so
@@ -69,7 +69,7 @@ GoOn parse words files fails w set = Load parse words files fails w set × (w.pr
 abbrev pub StopsAtData : Type 0
 StopsAtData = (parse : Parse) (words : List Bytes) (files : Files) (fails : Failing) (w : Wanted) (set : List Template)
     → GoOn parse words files fails w set
-    → (stop : Stop) → data_found files (fails (length w.files)) w.data_file ≡ Err stop
+    → (stop : Early) → data_found files (fails (length w.files)) w.data_file ≡ Err stop
     → tool_answer parse words files fails ≡ stop_answer stop
 
 -- .. and a read of the data that fails is so

@@ -36,21 +36,21 @@ IsParse parse = (old : List Template) (file bytes : Bytes) → Parses old file b
 
 -- ---- why nothing is run
 
-pub data Stop : Type 0 where
+pub data Early : Type 0 where
   -- help is asked for
-  help : Stop
+  help : Early
   -- the words are refused
-  bad_words : Stop
+  bad_words : Early
   -- there is no file of this name, or the read of it failed
-  not_found : Bytes → Stop
-  unread : Bytes → Stop
+  not_found : Bytes → Early
+  unread : Bytes → Early
   -- a template file is refused at this line, or the data are
-  refused : Bytes → Refusal → Stop
-  flawed : Bytes → Flaw → Stop
+  refused : Bytes → Refusal → Early
+  flawed : Bytes → Flaw → Early
   -- the set is to be printed
-  printed : List Template → Stop
+  printed : List Template → Early
   -- there is no template of this name
-  unnamed : Bytes → Stop
+  unnamed : Bytes → Early
 
 abbrev pub reason_text : Reason → Bytes
 reason_text reason.unreadable = codes "unclosed or unreadable action"
@@ -78,7 +78,7 @@ only_text text = record { text = text; line = []; status = 0; unread = false; ma
 abbrev pub only_line : ℕ → Bytes → Answer
 only_line status said = record { text = []; line = line said; status = status; unread = false; made_text = false }
 
-abbrev pub stop_answer : Stop → Answer
+abbrev pub stop_answer : Early → Answer
 stop_answer help = only_text usage
 stop_answer (printed set) = only_text (printed_set set)
 stop_answer bad_words = only_line 2 (codes "arguments refused; see tmpl --help")
@@ -124,18 +124,18 @@ run_answer r = record {
   made_text = r.made_text;
 }
 
-abbrev pub answer_of : Result Ran Stop → Answer
+abbrev pub answer_of : Result Ran Early → Answer
 answer_of (Ok r) = run_answer r
 answer_of (Err s) = stop_answer s
 
 -- ---- stages
 
 -- stops where that is so
-abbrev pub stop_if : Bool → Stop → Result (Unit {0}) Stop
+abbrev pub stop_if : Bool → Early → Result (Unit {0}) Early
 stop_if stops s = if stops then Err s else Ok tt
 
 -- what words ask for
-abbrev pub asked_by : List Bytes → Result Wanted Stop
+abbrev pub asked_by : List Bytes → Result Wanted Early
 asked_by words = and_then (stop_if (asks_help words) help) (λ u. ok_or (wanted words) bad_words)
 
 -- which reads fail, by how many go before them
@@ -146,29 +146,29 @@ abbrev pub no_read : Failing
 no_read k = false
 
 -- the bytes of a file, if the read of it does not fail
-abbrev pub read : Files → Bool → Bytes → Result Bytes Stop
+abbrev pub read : Files → Bool → Bytes → Result Bytes Early
 read files fails name = if fails then Err (unread name) else ok_or (files name) (not_found name)
 
 -- the set with the templates of a file of this name and these bytes
-abbrev pub added : Parse → List Template → Bytes → Bytes → Result (List Template) Stop
+abbrev pub added : Parse → List Template → Bytes → Bytes → Result (List Template) Early
 added parse set name bytes = result_map_both (λ s. s) (refused name) (parse set name bytes)
 
 -- the set with the templates of one more FILE
-abbrev pub with_file : Parse → Files → Bool → List Template → Bytes → Result (List Template) Stop
+abbrev pub with_file : Parse → Files → Bool → List Template → Bytes → Result (List Template) Early
 with_file parse files fails set name = and_then (read files fails name) (added parse set name)
 
 -- each FILE in turn, read and then parsed, after this many
-abbrev pub loaded : Parse → Files → Failing → ℕ → List Template → List Bytes → Result (List Template) Stop
+abbrev pub loaded : Parse → Files → Failing → ℕ → List Template → List Bytes → Result (List Template) Early
 loaded parse files fails k set [] = Ok set
 loaded parse files fails k set (name ∷ names) =
     and_then (with_file parse files (fails k) set name) (λ s. loaded parse files fails (suc k) s names)
 
 -- the data that the bytes of a file of this name are
-abbrev pub data_in : Bytes → Bytes → Result (Option Value) Stop
+abbrev pub data_in : Bytes → Bytes → Result (Option Value) Early
 data_in name bytes = result_map_both Some (flawed name) (data_of bytes)
 
 -- the data, read and parsed, if the words name a file of it
-abbrev pub data_found : Files → Bool → Option Bytes → Result (Option Value) Stop
+abbrev pub data_found : Files → Bool → Option Bytes → Result (Option Value) Early
 data_found files fails None = Ok None
 data_found files fails (Some name) = and_then (read files fails name) (data_in name)
 
@@ -181,7 +181,7 @@ abbrev pub asked_name : Wanted → Bytes
 asked_name w = unwrap_or w.name (option_map_or base_name (slice_get w.files 0) [])
 
 -- the name looked up, and the run
-abbrev pub named_run : Rules → Bytes → List Template → Option Value → Result Ran Stop
+abbrev pub named_run : Rules → Bytes → List Template → Option Value → Result Ran Early
 named_run rules name set input =
     ok_or (option_map (λ tree. ran rules set name tree input) (tree_named name set)) (unnamed name)
 

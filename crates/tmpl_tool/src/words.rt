@@ -12,6 +12,7 @@ mod arguments;
 pub(crate) mod help;
 pub(crate) mod request;
 
+use crate::limits::{DEFAULT_DEPTH, DEFAULT_STEPS, MOST_DEPTH, MOST_STEPS};
 use crate::words::arguments::command;
 use crate::words::request::{Refused, Request};
 use clap::error::ErrorKind;
@@ -78,7 +79,7 @@ fn depth_of(matches: &ArgMatches<'_>) -> u32
     ensures least { 1 ≤ result }
     ensures most { result ≤ 100000 }
 {
-    number_in(matches.get_str("depth"), 1000, 1, 100_000) as u32
+    number_in(matches.get_str("depth"), DEFAULT_DEPTH, 1, MOST_DEPTH) as u32
 }
 
 /// What `--steps` asks for.
@@ -89,12 +90,7 @@ fn steps_of(matches: &ArgMatches<'_>) -> u64
     ensures least { 1 ≤ result }
     ensures most { result ≤ 4611686018427387904 }
 {
-    number_in(
-        matches.get_str("steps"),
-        1_000_000_000,
-        1,
-        4_611_686_018_427_387_904,
-    )
+    number_in(matches.get_str("steps"), DEFAULT_STEPS, 1, MOST_STEPS)
 }
 
 /// Whether `--print` is given.

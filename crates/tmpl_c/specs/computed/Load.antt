@@ -2,17 +2,17 @@
 use Rattle.std.specs.Prelude.{◌≡◌, ◌⊎◌, ℕ, Option, Some, Result, Ok, Err, IfSome}
 use Rattle.tmpl_tool.specs.Inputs.{stop_seen}
 use Rattle.tmpl_tool.specs.Outcome.{Answer, memory_line}
-use Rattle.tmpl_tool.specs.Tool.{Stop, bad_words}
+use Rattle.tmpl_tool.specs.Tool.{Early, bad_words}
 use Rattle.tmpl_c.specs.Filled.{Fills, Seen}
 use Rattle.tmpl_c.specs.declared.load.Halt.{Halt}
 use Rattle.tmpl_c.specs.declared.load.Halt.TheVariants as halt
 
-abbrev pub halt_seen : Halt → Option Stop
+abbrev pub halt_seen : Halt → Option Early
 halt_seen halt.NotText = Some bad_words
 halt_seen (halt.Stop s) = stop_seen s
 
 -- the answer is what a stage comes to, or its stop, or memory was refused
-abbrev pub ComesTo : {T U : Type 0} → (T → U) → Result U Stop → Result T Halt → Type 0
+abbrev pub ComesTo : {T U : Type 0} → (T → U) → Result U Early → Result T Halt → Type 0
 ComesTo seen stage (Ok t) = stage ≡ Ok (seen t)
 ComesTo seen stage (Err h) = IfSome (halt_seen h) (λ s. stage ≡ Err s)
 

@@ -5,6 +5,7 @@ ghost use Rattle.clap.specs.declared.builder.ValueParser.TheVariants as vp;
 ghost use Rattle.tmpl_tool.specs.Words.{file_rule, option_rule, parsed_rule, print_rule, tool_app};
 ghost use Rattle.tmpl_tool.specs.computed.Words.{first_options};
 
+use crate::limits::{MOST_DEPTH, MOST_STEPS};
 use clap::{Arg, ArgAction, Command, value_parser};
 use std::alloc::{AllocError, Global};
 
@@ -29,7 +30,7 @@ fn depth_arg<'a>(alloc: Global) -> Arg<'a>
     ensures rule { rule_of result ≡ parsed_rule (codes "depth") (vp.Signed (pos 1) (pos 100000)) }
     ensures local { result.global ≡ false }
 {
-    option_arg(alloc, "depth").value_parser(value_parser!(u32).range(1..=100_000))
+    option_arg(alloc, "depth").value_parser(value_parser!(u32).range(1..=MOST_DEPTH as i64))
 }
 
 /// The option `--steps`.
@@ -37,7 +38,7 @@ fn steps_arg<'a>(alloc: Global) -> Arg<'a>
     ensures rule { rule_of result ≡ parsed_rule (codes "steps") (vp.Unsigned 1 4611686018427387904) }
     ensures local { result.global ≡ false }
 {
-    option_arg(alloc, "steps").value_parser(value_parser!(u64).range(1..=4_611_686_018_427_387_904))
+    option_arg(alloc, "steps").value_parser(value_parser!(u64).range(1..=MOST_STEPS))
 }
 
 /// The option `--print`, which takes no value.
