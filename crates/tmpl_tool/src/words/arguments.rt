@@ -38,7 +38,7 @@ fn steps_arg<'a>(alloc: Global) -> Arg<'a>
     ensures rule { rule_of result ≡ parsed_rule (codes "steps") (vp.Unsigned 1 4611686018427387904) }
     ensures local { result.global ≡ false }
 {
-    option_arg(alloc, "steps").value_parser(value_parser!(u64).range(1..=MOST_STEPS))
+    option_arg(alloc, "steps").value_parser(value_parser!(u64).range(1..=MOST_STEPS as i64))
 }
 
 /// The option `--print`, which takes no value.
