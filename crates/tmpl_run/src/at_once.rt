@@ -7,7 +7,7 @@ ghost use Rattle.tmpl_code.specs.View.{instruction_of, names_seen};
 ghost use Rattle.tmpl_code.specs.declared.tables.Tables.{Tables};
 ghost use Rattle.tmpl_run.specs.computed.Machines.{by_mode, untold};
 ghost use Rattle.tmpl_run.specs.computed.Output.{Grows, given_of};
-ghost use Rattle.tmpl_run.specs.computed.Plain.{IsPlain, SparedOr};
+ghost use Rattle.tmpl_run.specs.computed.Plain.{SteadyOr};
 ghost use Rattle.tmpl_run.specs.computed.Plan.{listed};
 ghost use Rattle.tmpl_run.specs.computed.Turned.{Shown, TurnedBy, is_shown, put_by, put_out, settles, shows};
 ghost use Rattle.tmpl_run.specs.computed.View.{cells_of, size_of};
@@ -72,8 +72,7 @@ impl<'m, 'a> Machine<'m, 'a> {
             (given_of (S.so_far sink.new) piece.new)
             (put_out (is_shown (listed code.entry) self.old.place) untold (act push_dot) self.old result) }
         ensures taken { Grows (S.so_far sink.old) (S.so_far sink.new) }
-        ensures plain { IsPlain self.old → SparedOr result (IsPlain self.new) }
-        ensures size { size_of self.new.stack ≡ size_of self.old.stack }
+        ensures steady { SteadyOr result self.old self.new }
     {
         if !is_shown(code, self.place) {
             return self.push_dot();
@@ -102,8 +101,7 @@ impl<'m, 'a> Machine<'m, 'a> {
             (put_out (is_shown (listed code.entry) self.old.place) (by_mode missing_key)
             (act (push_fields (names_seen names.entry))) self.old result) }
         ensures taken { Grows (S.so_far sink.old) (S.so_far sink.new) }
-        ensures plain { IsPlain self.old → SparedOr result (IsPlain self.new) }
-        ensures size { size_of self.new.stack ≡ size_of self.old.stack }
+        ensures steady { SteadyOr result self.old self.new }
     {
         if !is_shown(code, self.place) {
             return self.push_fields(missing_key, names);
@@ -131,8 +129,7 @@ impl<'m, 'a> Machine<'m, 'a> {
             (put_out (is_shown (listed code.entry) self.old.place) untold (act (push_slot slot))
             self.old result) }
         ensures taken { Grows (S.so_far sink.old) (S.so_far sink.new) }
-        ensures plain { IsPlain self.old → SparedOr result (IsPlain self.new) }
-        ensures size { size_of self.new.stack ≡ size_of self.old.stack }
+        ensures steady { SteadyOr result self.old self.new }
     {
         if !is_shown(code, self.place) {
             return self.push_slot(slot);
@@ -153,8 +150,7 @@ impl<'m, 'a> Machine<'m, 'a> {
         ensures given { IsPut (put_by result) (given_of (S.so_far sink.old) piece.old)
             (given_of (S.so_far sink.new) piece.new) (put_out true untold (act push_dot) self.old result) }
         ensures taken { Grows (S.so_far sink.old) (S.so_far sink.new) }
-        ensures plain { IsPlain self.old → SparedOr result (IsPlain self.new) }
-        ensures size { size_of self.new.stack ≡ size_of self.old.stack }
+        ensures steady { SteadyOr result self.old self.new }
     {
         self.place += 3;
         piece.show(sink, &self.dot)?;
@@ -177,8 +173,7 @@ impl<'m, 'a> Machine<'m, 'a> {
             (given_of (S.so_far sink.new) piece.new)
             (put_out true (by_mode missing_key) (act (push_fields (names_seen names.entry))) self.old result) }
         ensures taken { Grows (S.so_far sink.old) (S.so_far sink.new) }
-        ensures plain { IsPlain self.old → SparedOr result (IsPlain self.new) }
-        ensures size { size_of self.new.stack ≡ size_of self.old.stack }
+        ensures steady { SteadyOr result self.old self.new }
     {
         let val = self.field_of_dot(missing_key, names)?;
         self.place += 3;
@@ -201,8 +196,7 @@ impl<'m, 'a> Machine<'m, 'a> {
         ensures given { IsPut (put_by result) (given_of (S.so_far sink.old) piece.old)
             (given_of (S.so_far sink.new) piece.new) (put_out true untold (act (push_slot slot)) self.old result) }
         ensures taken { Grows (S.so_far sink.old) (S.so_far sink.new) }
-        ensures plain { IsPlain self.old → SparedOr result (IsPlain self.new) }
-        ensures size { size_of self.new.stack ≡ size_of self.old.stack }
+        ensures steady { SteadyOr result self.old self.new }
     {
         self.place += 3;
         self.stack.show_slot(slot, piece, sink)?;

@@ -6,7 +6,7 @@ ghost use Rattle.tmpl_meaning.specs.View.{rules_of};
 ghost use Rattle.tmpl_code.specs.Instruction as code;
 ghost use Rattle.tmpl_run.specs.Cell.{slot};
 ghost use Rattle.tmpl_run.specs.computed.Machines.{untold};
-ghost use Rattle.tmpl_run.specs.computed.Plain.{IsPlain, SparedOr};
+ghost use Rattle.tmpl_run.specs.computed.Plain.{Steady, SteadyOr};
 ghost use Rattle.tmpl_run.specs.Ready.{RoomIf};
 ghost use Rattle.tmpl_run.specs.computed.Turned.{Executed, TurnedOr, TurnedUnder};
 ghost use Rattle.tmpl_run.specs.computed.View.{cells_of, size_of};
@@ -23,8 +23,7 @@ impl<'m, 'a> Machine<'m, 'a> {
     pub(crate) fn spend(&mut self, options: &Options, line: u64) -> Result<Flow, Halt<'a>>
         requires place { self.old.place + 1 < 2 ^ 64 }
         ensures step { TurnedUnder (rules_of options.now) (λ _. Unit {0}) (code.spend line) self.old self.new result }
-        ensures plain { IsPlain self.old → SparedOr result (IsPlain self.new) }
-        ensures size { size_of self.new.stack ≡ size_of self.old.stack }
+        ensures steady { SteadyOr result self.old self.new }
     {
         self.line = line;
         if self.left == 0 {
@@ -40,8 +39,7 @@ impl<'m, 'a> Machine<'m, 'a> {
         requires place { self.old.place + 1 + skip < 2 ^ 64 }
         requires found { count ≤ length (cells_of self.old.stack) }
         ensures step { Executed untold (code.forget count skip) self.old self.new (Ok result) }
-        ensures plain { IsPlain self.old → IsPlain self.new }
-        ensures size { size_of self.new.stack ≡ size_of self.old.stack }
+        ensures steady { Steady self.old self.new }
     {
         self.stack.pop(count);
         self.place += 1 + skip;
@@ -54,8 +52,7 @@ impl<'m, 'a> Machine<'m, 'a> {
         requires body { self.old.place + 1 < 2 ^ 64 }
         requires other { truth (slot 0 (cells_of self.old.stack)) ≡ false → self.old.place + 1 + skip < 2 ^ 64 }
         ensures step { Executed untold (code.unless kept skip) self.old self.new (Ok result) }
-        ensures plain { IsPlain self.old → IsPlain self.new }
-        ensures size { size_of self.new.stack ≡ size_of self.old.stack }
+        ensures steady { Steady self.old self.new }
     {
         self.place += 1;
         if !self.stack.holds() {
@@ -77,8 +74,7 @@ impl<'m, 'a> Machine<'m, 'a> {
         ensures step { TurnedOr untold (code.enter_with kept skip) self.old self.new result }
         ensures dot { truth (slot 0 (cells_of self.old.stack)) ≡ true
             → OnOk result (is_kept self.new.dot ≡ true) }
-        ensures plain { IsPlain self.old → SparedOr result (IsPlain self.new) }
-        ensures size { size_of self.new.stack ≡ size_of self.old.stack }
+        ensures steady { SteadyOr result self.old self.new }
     {
         let Cell { val, num } = self.stack.take();
         self.place += 1;
@@ -103,8 +99,7 @@ impl<'m, 'a> Machine<'m, 'a> {
         requires place { self.old.place + 1 + skip < 2 ^ 64 }
         requires found { count + 1 + variables ≤ length (cells_of self.old.stack) }
         ensures step { Executed untold (code.end_with count variables skip) self.old self.new (Ok result) }
-        ensures plain { IsPlain self.old → IsPlain self.new }
-        ensures size { size_of self.new.stack ≡ size_of self.old.stack }
+        ensures steady { Steady self.old self.new }
     {
         self.stack.pop(count);
         let outer = self.stack.take().val;

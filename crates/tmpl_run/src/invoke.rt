@@ -4,7 +4,7 @@ ghost use Rattle.tmpl_values.specs.View.{is_kept};
 ghost use Rattle.tmpl_meaning.specs.View.{rules_of};
 ghost use Rattle.tmpl_code.specs.Instruction as code;
 ghost use Rattle.tmpl_run.specs.computed.Machines.{untold};
-ghost use Rattle.tmpl_run.specs.computed.Plain.{IsPlain, SparedOr};
+ghost use Rattle.tmpl_run.specs.computed.Plain.{Steady, SteadyOr};
 ghost use Rattle.tmpl_run.specs.computed.Turned.{Executed, TurnedUnder};
 ghost use Rattle.tmpl_run.specs.computed.View.{cells_of, size_of};
 
@@ -20,8 +20,7 @@ impl<'m, 'a> Machine<'m, 'a> {
     pub(crate) fn deepen(&mut self, options: &Options, line: u64) -> Result<Flow, Halt<'a>>
         requires place { self.old.place + 1 < 2 ^ 64 }
         ensures step { TurnedUnder (rules_of options.now) (λ _. Unit {0}) (code.deepen line) self.old self.new result }
-        ensures plain { IsPlain self.old → SparedOr result (IsPlain self.new) }
-        ensures size { size_of self.new.stack ≡ size_of self.old.stack }
+        ensures steady { SteadyOr result self.old self.new }
     {
         self.line = line;
         if self.left == 0 {
@@ -48,8 +47,7 @@ impl<'m, 'a> Machine<'m, 'a> {
         ensures step { TurnedUnder (rules_of options.now) (λ plan. slice_get plan.starts number ≡ Some start)
             (code.invoke number) self.old self.new result }
         ensures kept { OnOk result (is_kept self.new.dot ≡ true) }
-        ensures plain { IsPlain self.old → SparedOr result (IsPlain self.new) }
-        ensures size { size_of self.new.stack ≡ size_of self.old.stack }
+        ensures steady { SteadyOr result self.old self.new }
     {
         if self.left == 0 {
             return Err(Halt::Fault(RunFaultKind::StepsSpent(options.steps)));
@@ -70,8 +68,7 @@ impl<'m, 'a> Machine<'m, 'a> {
     pub(crate) fn return_from(&mut self, count: usize) -> Flow
         requires found { 1 < self.old.depth → count + 3 ≤ length (cells_of self.old.stack) }
         ensures step { Executed untold (code.return_from count) self.old self.new (Ok result) }
-        ensures plain { IsPlain self.old → IsPlain self.new }
-        ensures size { size_of self.new.stack ≡ size_of self.old.stack }
+        ensures steady { Steady self.old self.new }
     {
         if self.depth <= 1 {
             return Flow::Over;

@@ -11,7 +11,7 @@ ghost use Rattle.tmpl_code.specs.Instruction.{settle};
 ghost use Rattle.tmpl_code.specs.View.{names_seen, refusal_of};
 ghost use Rattle.tmpl_run.specs.Cell.{fresh, slot};
 ghost use Rattle.tmpl_run.specs.computed.Machines.{by_mode, state_of, untold};
-ghost use Rattle.tmpl_run.specs.computed.Plain.{IsPlain, SparedOr};
+ghost use Rattle.tmpl_run.specs.computed.Plain.{IsPlain, SparedOr, Steady, SteadyOr};
 ghost use Rattle.tmpl_run.specs.Step as pipe;
 ghost use Rattle.tmpl_run.specs.computed.Turned.{Executed, IsFound, TurnedOr};
 ghost use Rattle.tmpl_run.specs.computed.View.{cells_of, size_of};
@@ -73,8 +73,7 @@ impl<'m, 'a> Machine<'m, 'a> {
         requires room { length (cells_of self.old.stack) < size_of self.old.stack }
         requires place { self.old.place + 1 < 2 ^ 64 }
         ensures step { TurnedOr untold (act push_dot) self.old self.new result }
-        ensures plain { IsPlain self.old → SparedOr result (IsPlain self.new) }
-        ensures size { size_of self.new.stack ≡ size_of self.old.stack }
+        ensures steady { SteadyOr result self.old self.new }
     {
         self.stack.push_shared(&self.dot)?;
         self.place += 1;
@@ -107,8 +106,7 @@ impl<'m, 'a> Machine<'m, 'a> {
         requires room { length (cells_of self.old.stack) < size_of self.old.stack }
         requires place { self.old.place + 1 < 2 ^ 64 }
         ensures step { TurnedOr (by_mode missing_key) (act (push_fields (names_seen names.entry))) self.old self.new result }
-        ensures plain { IsPlain self.old → SparedOr result (IsPlain self.new) }
-        ensures size { size_of self.new.stack ≡ size_of self.old.stack }
+        ensures steady { SteadyOr result self.old self.new }
     {
         let val = self.field_of_dot(missing_key, names)?;
         self.give(val);
@@ -121,8 +119,7 @@ impl<'m, 'a> Machine<'m, 'a> {
         requires room { length (cells_of self.old.stack) < size_of self.old.stack }
         requires place { self.old.place + 1 < 2 ^ 64 }
         ensures step { TurnedOr untold (act (push_slot slot)) self.old self.new result }
-        ensures plain { IsPlain self.old → SparedOr result (IsPlain self.new) }
-        ensures size { size_of self.new.stack ≡ size_of self.old.stack }
+        ensures steady { SteadyOr result self.old self.new }
     {
         self.stack.push_slot(slot)?;
         self.place += 1;
@@ -138,8 +135,7 @@ impl<'m, 'a> Machine<'m, 'a> {
         requires found { 1 ≤ length (cells_of self.old.stack) }
         requires place { self.old.place + 1 < 2 ^ 64 }
         ensures step { TurnedOr (by_mode missing_key) (act (chained (names_seen names.entry))) self.old self.new result }
-        ensures plain { IsPlain self.old → SparedOr result (IsPlain self.new) }
-        ensures size { size_of self.new.stack ≡ size_of self.old.stack }
+        ensures steady { SteadyOr result self.old self.new }
     {
         let whole = self.stack.take().val;
         let val = field_chain(missing_key, whole, names)?;
@@ -175,8 +171,7 @@ impl<'m, 'a> Machine<'m, 'a> {
         requires place { self.old.place + 1 < 2 ^ 64 }
         requires over { decides is_or (slot 0 (cells_of self.old.stack)) ≡ true → self.old.place + 1 + skip < 2 ^ 64 }
         ensures step { Executed untold (act (decide is_or piped skip)) self.old self.new (Ok result) }
-        ensures plain { IsPlain self.old → IsPlain self.new }
-        ensures size { size_of self.new.stack ≡ size_of self.old.stack }
+        ensures steady { Steady self.old self.new }
     {
         let val = self.stack.take().val;
         self.place += 1;
@@ -194,8 +189,7 @@ impl<'m, 'a> Machine<'m, 'a> {
         requires found { 1 ≤ length (cells_of self.old.stack) }
         requires place { self.old.place + 1 < 2 ^ 64 }
         ensures step { Executed untold (act settle) self.old self.new (Ok result) }
-        ensures plain { IsPlain self.old → IsPlain self.new }
-        ensures size { size_of self.new.stack ≡ size_of self.old.stack }
+        ensures steady { Steady self.old self.new }
     {
         self.stack.settle();
         self.place += 1;

@@ -6,9 +6,9 @@ ghost use Rattle.tmpl_code.specs.Instruction as code;
 ghost use Rattle.tmpl_run.specs.Cell.{slot};
 ghost use Rattle.tmpl_run.specs.computed.Machines.{untold};
 ghost use Rattle.tmpl_run.specs.computed.Output.{Grows, given_of};
-ghost use Rattle.tmpl_run.specs.computed.Plain.{IsPlain};
+ghost use Rattle.tmpl_run.specs.computed.Plain.{Steady};
 ghost use Rattle.tmpl_run.specs.computed.Turned.{Executed};
-ghost use Rattle.tmpl_run.specs.computed.View.{cells_of, size_of};
+ghost use Rattle.tmpl_run.specs.computed.View.{cells_of};
 ghost use Rattle.tmpl_run.specs.declared.flow.Flow.TheVariants as flow;
 
 use crate::machine::Machine;
@@ -29,8 +29,7 @@ impl<'m, 'a> Machine<'m, 'a> {
         ensures given { IsPut result (given_of (S.so_far sink.old) piece.old)
             (given_of (S.so_far sink.new) piece.new) text.now }
         ensures taken { Grows (S.so_far sink.old) (S.so_far sink.new) }
-        ensures plain { IsPlain self.old → IsPlain self.new }
-        ensures size { size_of self.new.stack ≡ size_of self.old.stack }
+        ensures steady { Steady self.old self.new }
     {
         self.place += 1;
         piece.put(sink, text)
@@ -49,8 +48,7 @@ impl<'m, 'a> Machine<'m, 'a> {
         ensures given { IsPut result (given_of (S.so_far sink.old) piece.old) (given_of (S.so_far sink.new) piece.new)
             (text_of (slot 0 (cells_of self.old.stack))) }
         ensures taken { Grows (S.so_far sink.old) (S.so_far sink.new) }
-        ensures plain { IsPlain self.old → IsPlain self.new }
-        ensures size { size_of self.new.stack ≡ size_of self.old.stack }
+        ensures steady { Steady self.old self.new }
     {
         self.place += 1;
         let put = self.stack.show_slot(0, piece, sink);

@@ -8,7 +8,7 @@ ghost use Rattle.tmpl_code.specs.Instruction as code;
 ghost use Rattle.tmpl_run.specs.Cell.{slot, slot_cell};
 ghost use Rattle.tmpl_run.specs.Machine.{elements_for, variables_on};
 ghost use Rattle.tmpl_run.specs.computed.Machines.{state_of, untold};
-ghost use Rattle.tmpl_run.specs.computed.Plain.{IsPlain, Spared, SparedOr};
+ghost use Rattle.tmpl_run.specs.computed.Plain.{IsPlain, Spared, Steady, SteadyOr};
 ghost use Rattle.tmpl_run.specs.computed.Turned.{Executed, TurnedOr, TurnedUnder};
 ghost use Rattle.tmpl_run.specs.computed.View.{cells_of, size_of};
 ghost use Rattle.tmpl_run.specs.computed.Held.{has_more};
@@ -48,8 +48,7 @@ impl<'m, 'a> Machine<'m, 'a> {
             → self.old.place + 1 + skip < 2 ^ 64 }
         ensures step { TurnedUnder (rules_of options.now) (λ _. Unit {0}) (code.enter key skip)
             self.old self.new result }
-        ensures plain { IsPlain self.old → SparedOr result (IsPlain self.new) }
-        ensures size { size_of self.new.stack ≡ size_of self.old.stack }
+        ensures steady { SteadyOr result self.old self.new }
     {
         let val = self.stack.take().val;
         match visited_count(key, &val) {
@@ -81,8 +80,7 @@ impl<'m, 'a> Machine<'m, 'a> {
         requires room { length (cells_of self.old.stack) + count ≤ size_of self.old.stack }
         requires place { self.old.place + 1 < 2 ^ 64 }
         ensures step { TurnedOr untold (code.turn count) self.old self.new result }
-        ensures plain { IsPlain self.old → SparedOr result (IsPlain self.new) }
-        ensures size { size_of self.new.stack ≡ size_of self.old.stack }
+        ensures steady { SteadyOr result self.old self.new }
     {
         let Some((key, element)) = self.stack.element() else {
             unreachable!()
@@ -129,8 +127,7 @@ impl<'m, 'a> Machine<'m, 'a> {
             → self.old.place + 1 + skip < 2 ^ 64 }
         ensures step { TurnedUnder (rules_of options.now) (λ _. Unit {0}) (code.next count skip line)
             self.old self.new result }
-        ensures plain { IsPlain self.old → SparedOr result (IsPlain self.new) }
-        ensures size { size_of self.new.stack ≡ size_of self.old.stack }
+        ensures steady { SteadyOr result self.old self.new }
     {
         self.stack.pop(count);
         if !self.stack.has_more() {
@@ -156,8 +153,7 @@ impl<'m, 'a> Machine<'m, 'a> {
         requires found { count + 2 ≤ length (cells_of self.old.stack) }
         requires place { self.old.place + 1 + skip < 2 ^ 64 }
         ensures step { Executed untold (code.leave count skip) self.old self.new (Ok result) }
-        ensures plain { IsPlain self.old → IsPlain self.new }
-        ensures size { size_of self.new.stack ≡ size_of self.old.stack }
+        ensures steady { Steady self.old self.new }
     {
         self.stack.pop(count);
         let outer = self.stack.take().val;

@@ -38,7 +38,7 @@ pub(crate) struct Stack<'s, 'a> {
 
 impl<'s, 'a> Stack<'s, 'a> {
     ghost use Rattle.tmpl_run.specs.Cell.{slot, slot_cell, values_in};
-    ghost use Rattle.tmpl_run.specs.computed.Plain.{IsPlainStack, Spared};
+    ghost use Rattle.tmpl_run.specs.computed.Plain.{IsPlainStack, Spared, SteadyStack};
     ghost use Rattle.tmpl_run.specs.computed.View.{cells_of, size_of};
 
     /// No cell is live.
@@ -100,8 +100,7 @@ impl<'s, 'a> Stack<'s, 'a> {
         requires { count ≤ length (cells_of self.old) }
         ensures cells { cells_of self.new ≡ drop count (cells_of self.old) }
         ensures count { length (cells_of self.old) ≡ length (cells_of self.new) + count }
-        ensures size { size_of self.new ≡ size_of self.old }
-        ensures plain { IsPlainStack self.old → IsPlainStack self.new }
+        ensures steady { SteadyStack self.old self.new }
     {
         let old = self.top;
         self.top -= count;
@@ -143,8 +142,7 @@ impl<'s, 'a> Stack<'s, 'a> {
     pub(crate) fn holds(&mut self) -> bool
         requires { 1 ≤ length (cells_of self.old) }
         ensures cells { cells_of self.new ≡ cells_of self.old }
-        ensures size { size_of self.new ≡ size_of self.old }
-        ensures plain { IsPlainStack self.old → IsPlainStack self.new }
+        ensures steady { SteadyStack self.old self.new }
         ensures holds { result ≡ truth (slot 0 (cells_of self.old)) }
     {
         holds_at(self.cells, self.top - 1)
@@ -160,8 +158,7 @@ impl<'s, 'a> Stack<'s, 'a> {
         requires found { index < length (cells_of self.old) }
         requires countable { (S.so_far sink.old).failures < 2 ^ 64 - 1 }
         ensures cells { cells_of self.new ≡ cells_of self.old }
-        ensures size { size_of self.new ≡ size_of self.old }
-        ensures plain { IsPlainStack self.old → IsPlainStack self.new }
+        ensures steady { SteadyStack self.old self.new }
         ensures given { IsPut result (given_of (S.so_far sink.old) piece.old) (given_of (S.so_far sink.new) piece.new)
             (text_of (slot index (cells_of self.old))) }
         ensures taken { Grows (S.so_far sink.old) (S.so_far sink.new) }
@@ -210,8 +207,7 @@ impl<'s, 'a> Stack<'s, 'a> {
         requires { 1 ≤ length (cells_of self.old) }
         ensures cells { cells_of self.new
             ≡ slice_set (cells_of self.old) 0 (cell (without_null (slot 0 (cells_of self.old))) 0) }
-        ensures size { size_of self.new ≡ size_of self.old }
-        ensures plain { IsPlainStack self.old → IsPlainStack self.new }
+        ensures steady { SteadyStack self.old self.new }
     {
         if self.has_null() {
             self.set(0, Val::Nothing);
@@ -250,8 +246,7 @@ impl<'s, 'a> Stack<'s, 'a> {
     pub(crate) fn element(&mut self) -> Option<(Val<'a>, Val<'a>)>
         requires { 2 ≤ length (cells_of self.old) }
         ensures cells { cells_of self.new ≡ cells_of self.old }
-        ensures size { size_of self.new ≡ size_of self.old }
-        ensures plain { IsPlainStack self.old → IsPlainStack self.new }
+        ensures steady { SteadyStack self.old self.new }
         ensures element { option_map element_of result
             ≡ item_at (slot_cell 1 (cells_of self.old)).num (slot_cell 1 (cells_of self.old)).val }
         ensures borrowed { IfSome result (λ p. (is_made p.0 ≡ false) × (is_made p.1 ≡ false)) }
@@ -263,8 +258,7 @@ impl<'s, 'a> Stack<'s, 'a> {
     pub(crate) fn has_more(&mut self) -> bool
         requires { 2 ≤ length (cells_of self.old) }
         ensures cells { cells_of self.new ≡ cells_of self.old }
-        ensures size { size_of self.new ≡ size_of self.old }
-        ensures plain { IsPlainStack self.old → IsPlainStack self.new }
+        ensures steady { SteadyStack self.old self.new }
         ensures more { result ≡ has_more (slot_cell 1 (cells_of self.old)) }
         ensures fits { result ≡ true → (slot_cell 1 (cells_of self.old)).num + 1 < 2 ^ 64 }
     {

@@ -2,7 +2,7 @@
 ghost use Rattle.std.specs.Prelude.{◌≡◌, ◌+◌, ◌<◌, ◌≤◌, ◌^◌, length};
 ghost use Rattle.tmpl_code.specs.Instruction as code;
 ghost use Rattle.tmpl_run.specs.computed.Machines.{untold};
-ghost use Rattle.tmpl_run.specs.computed.Plain.{IsPlain, SparedOr};
+ghost use Rattle.tmpl_run.specs.computed.Plain.{SteadyOr};
 ghost use Rattle.tmpl_run.specs.Ready.{RoomIf};
 ghost use Rattle.tmpl_run.specs.computed.Turned.{TurnedOr};
 ghost use Rattle.tmpl_run.specs.computed.View.{cells_of, size_of};
@@ -19,8 +19,7 @@ impl<'m, 'a> Machine<'m, 'a> {
         requires room { RoomIf key (length (cells_of self.old.stack)) (size_of self.old.stack) }
         requires place { self.old.place + 1 < 2 ^ 64 }
         ensures step { TurnedOr untold (code.hold key) self.old self.new result }
-        ensures plain { IsPlain self.old → SparedOr result (IsPlain self.new) }
-        ensures size { size_of self.new.stack ≡ size_of self.old.stack }
+        ensures steady { SteadyOr result self.old self.new }
     {
         let Cell { val, num } = self.stack.take_shared(self.alloc)?;
         if key {
@@ -36,8 +35,7 @@ impl<'m, 'a> Machine<'m, 'a> {
         requires found { slot + 1 < length (cells_of self.old.stack) }
         requires place { self.old.place + 1 < 2 ^ 64 }
         ensures step { TurnedOr untold (code.set slot) self.old self.new result }
-        ensures plain { IsPlain self.old → SparedOr result (IsPlain self.new) }
-        ensures size { size_of self.new.stack ≡ size_of self.old.stack }
+        ensures steady { SteadyOr result self.old self.new }
     {
         let Cell { val, num } = self.stack.take_shared(self.alloc)?;
         self.stack.set(slot, val.share()?);
@@ -51,8 +49,7 @@ impl<'m, 'a> Machine<'m, 'a> {
         requires found { slot < length (cells_of self.old.stack) }
         requires place { self.old.place + 1 < 2 ^ 64 }
         ensures step { TurnedOr untold (code.set_dot slot) self.old self.new result }
-        ensures plain { IsPlain self.old → SparedOr result (IsPlain self.new) }
-        ensures size { size_of self.new.stack ≡ size_of self.old.stack }
+        ensures steady { SteadyOr result self.old self.new }
     {
         self.stack.set(slot, self.dot.share()?);
         self.place += 1;

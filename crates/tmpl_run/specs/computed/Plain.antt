@@ -4,6 +4,7 @@ use Rattle.std.specs.Prelude.{◌≡◌, false, take, Result, Ok, Err}
 use Rattle.std.specs.declared.alloc.AllocError.{AllocError}
 use Rattle.tmpl_values.specs.View.{is_made}
 use Rattle.tmpl_funcs.specs.Answer.{AreBorrowed}
+use Rattle.tmpl_run.specs.computed.View.{size_of}
 use Rattle.tmpl_run.specs.declared.machine.Machine.{Machine}
 use Rattle.tmpl_run.specs.declared.stack.Stack.{Stack}
 use Rattle.tmpl_run.specs.declared.halt.Halt.{Halt}
@@ -28,3 +29,14 @@ SparedOr (Ok a) Holds = Holds
 SparedOr (Err (stop.Fault kind)) Holds = Holds
 SparedOr (Err stop.WriteFailed) Holds = Holds
 SparedOr (Err stop.OutOfMemory) Holds = ⊥
+
+-- there are as many cells as before, and where none held a made text, none does
+abbrev pub SteadyStack : Stack → Stack → Type 0
+SteadyStack old new = (size_of new ≡ size_of old) × (IsPlainStack old → IsPlainStack new)
+
+abbrev pub Steady : Machine → Machine → Type 0
+Steady old new = (IsPlain old → IsPlain new) × (size_of new.stack ≡ size_of old.stack)
+
+-- .. and memory was not refused then
+abbrev pub SteadyOr : {A : Type 0} → Result A Halt → Machine → Machine → Type 0
+SteadyOr result old new = (IsPlain old → SparedOr result (IsPlain new)) × (size_of new.stack ≡ size_of old.stack)
