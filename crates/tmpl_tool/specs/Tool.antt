@@ -1,9 +1,9 @@
 -- The command as one function of the words and of the contents of files.
 use Rattle.std.specs.Prelude.{◌≡◌, ◌⊎◌, ◌+◌, ℕ, suc, nat_eq, Bool, true, false, List, [], ◌∷◌, ◌++◌, length, Option}
 use Rattle.std.specs.Prelude.{Some, None, Result, Ok, Err, codes, decimal, option_map, option_to_list, slice_get}
-use Rattle.std.specs.Prelude.{unwrap_or, if◌then◌else◌}
+use Rattle.std.specs.Prelude.{IfSome, unwrap_or, if◌then◌else◌}
 use Rattle.std.specs.Option.{ok_or, option_map_or}
-use Rattle.std.specs.Result.{result_map_both, result_ok}
+use Rattle.std.specs.Result.{result_err, result_map_both, result_ok}
 use Rattle.tmpl_values.specs.Value.{Value}
 use Rattle.tmpl_values.specs.Json.{Flaw, not_json, not_whole, data_of}
 use Rattle.tmpl_values.specs.Quote.{quote}
@@ -242,3 +242,13 @@ OneFailed reads answer o = (o.failed_after ≡ o.failed_before + 1) × (answer.u
 abbrev pub Follows : (Failing → List Bytes) → (Failing → Answer) → Observed → Type 0
 Follows reads answers o = NoneFailed (reads no_read) (answers no_read) o
     ⊎ ((k : ℕ) × OneFailed (reads (nat_eq k)) (answers (nat_eq k)) o)
+
+-- words that are refused, or that ask for help, are all that the command comes to, and this holds
+abbrev pub EndsAtWords : List Bytes → Type 0 → Sunk → Sunk → ℕ → Type 0
+EndsAtWords words Unread out err code =
+    IfSome (result_err (asked_by words)) (λ stop. Unread × Outcome (stop_answer stop) out err code)
+
+-- where what the files hold is told, the words and the files are
+abbrev pub FollowsFiles : List Bytes → Option Files → Observed → Type 0
+FollowsFiles words contents o = (parse : Parse) → IsParse parse
+    → IfSome contents (λ files. Follows (tool_reads parse words files) (tool_answer parse words files) o)

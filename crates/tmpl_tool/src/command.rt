@@ -1,13 +1,13 @@
 //! The command over a source and two sinks.
 ghost use Rattle.std.specs.Prelude.{◌≡◌, ◌≢◌, ◌<◌, ◌^◌, ◌-◌, IfSome, None, Ok, map, true};
-ghost use Rattle.std.specs.Result.{result_err, result_ok};
+ghost use Rattle.std.specs.Result.{result_ok};
 ghost use Rattle.std.specs.String.{string_bytes};
 ghost use Rattle.tmpl_syntax.specs.View.{hash_view};
 ghost use Rattle.tmpl_meaning.specs.Sink.{sunk};
 ghost use Rattle.tmpl_tool.specs.Help.{asks_help};
 ghost use Rattle.tmpl_tool.specs.Inputs.{inputs_of, inputs_seen};
-ghost use Rattle.tmpl_tool.specs.Outcome.{Counted, Once, Outcome};
-ghost use Rattle.tmpl_tool.specs.Tool.{Follows, IsParse, Parse, asked_by, no_read, stop_answer, tool_answer, tool_reads};
+ghost use Rattle.tmpl_tool.specs.Outcome.{Counted, Once};
+ghost use Rattle.tmpl_tool.specs.Tool.{EndsAtWords, FollowsFiles, IsParse, Parse, asked_by, no_read};
 
 use crate::answer::answer;
 use crate::files::inputs::{Inputs, read_inputs};
@@ -56,14 +56,9 @@ pub fn tool<S: Source, O: Sink, E: Sink>(
     ensures counts { Counted (O.so_far out.old).failures (O.so_far out.new).failures result.code }
     ensures cuts { Once (E.so_far err.old).failures (E.so_far err.new).failures }
     ensures help { asks_help (map (λ word. string_bytes word) words.now) ≡ true → result.code ≢ 7 }
-    ensures unasked { IfSome (result_err (asked_by (map (λ word. string_bytes word) words.now))) (λ stop.
-        (source.new ≡ source.old) × Outcome (stop_answer stop)
-        (sunk (O.so_far out.old) (O.so_far out.new))
-        (sunk (E.so_far err.old) (E.so_far err.new))
-        result.code) }
-    ensures told { (parse : Parse) → IsParse parse → IfSome (S.contents source.old) (λ files.
-        let bytes = map (λ word. string_bytes word) words.now in
-        Follows (tool_reads parse bytes files) (tool_answer parse bytes files) (record {
+    ensures unasked { EndsAtWords (map (λ word. string_bytes word) words.now) (source.new ≡ source.old)
+        (sunk (O.so_far out.old) (O.so_far out.new)) (sunk (E.so_far err.old) (E.so_far err.new)) result.code }
+    ensures told { FollowsFiles (map (λ word. string_bytes word) words.now) (S.contents source.old) (record {
           failed_before = S.failures source.old;
           failed_after = S.failures source.new;
           asked_before = S.asked source.old;
@@ -71,7 +66,7 @@ pub fn tool<S: Source, O: Sink, E: Sink>(
           out = sunk (O.so_far out.old) (O.so_far out.new);
           err = sunk (E.so_far err.old) (E.so_far err.new);
           code = result.code;
-        })) }
+        }) }
 {
     tool_keeping(alloc, NameHash::fixed(), words, source, out, err).status
 }
@@ -94,14 +89,9 @@ pub fn tool_keeping<S: Source, O: Sink, E: Sink>(
     ensures counts { Counted (O.so_far out.old).failures (O.so_far out.new).failures result.status.code }
     ensures cuts { Once (E.so_far err.old).failures (E.so_far err.new).failures }
     ensures help { asks_help (map (λ word. string_bytes word) words.now) ≡ true → result.status.code ≢ 7 }
-    ensures unasked { IfSome (result_err (asked_by (map (λ word. string_bytes word) words.now))) (λ stop.
-        (source.new ≡ source.old) × Outcome (stop_answer stop)
-        (sunk (O.so_far out.old) (O.so_far out.new))
-        (sunk (E.so_far err.old) (E.so_far err.new))
-        result.status.code) }
-    ensures told { (parse : Parse) → IsParse parse → IfSome (S.contents source.old) (λ files.
-        let bytes = map (λ word. string_bytes word) words.now in
-        Follows (tool_reads parse bytes files) (tool_answer parse bytes files) (record {
+    ensures unasked { EndsAtWords (map (λ word. string_bytes word) words.now) (source.new ≡ source.old)
+        (sunk (O.so_far out.old) (O.so_far out.new)) (sunk (E.so_far err.old) (E.so_far err.new)) result.status.code }
+    ensures told { FollowsFiles (map (λ word. string_bytes word) words.now) (S.contents source.old) (record {
           failed_before = S.failures source.old;
           failed_after = S.failures source.new;
           asked_before = S.asked source.old;
@@ -109,7 +99,7 @@ pub fn tool_keeping<S: Source, O: Sink, E: Sink>(
           out = sunk (O.so_far out.old) (O.so_far out.new);
           err = sunk (E.so_far err.old) (E.so_far err.new);
           code = result.status.code;
-        })) }
+        }) }
     ensures inputs { IfSome result.inputs (λ inputs. (hash_view inputs.set ≡ names)
         × ((parse : Parse) → IsParse parse → IfSome (S.contents source.old) (λ files.
         IfSome (result_ok (asked_by (map (λ word. string_bytes word) words.now))) (λ w.
