@@ -1,15 +1,15 @@
 -- For `put_nodes` and what it calls: layouts and weights of nodes one level at a time, by which the recursion ends and its scope fits.
-use Rattle.std.proofs.Common.{arith, ◌≡◌, ◌∙◌, ◌+◌, ◌<◌, ◌≤◌, ℕ, zero, suc, List, [], ◌∷◌, length, take, drop, get_or, refl, ap, sym}
+use Rattle.std.proofs.Common.{arith, ◌≡◌, ◌∙◌, ◌+◌, ◌<◌, ◌≤◌, ℕ, zero, suc, Option, List, [], ◌∷◌, length, take, drop, get_or, refl, ap, sym}
 use Rattle.std.proofs.lemmas.List.{at_drop_more}
 use Rattle.tmpl_grammar.specs.Tree.{Binding, unbound}
 use Rattle.tmpl_syntax.specs.Tree as tree
-use Rattle.tmpl_syntax.specs.Tree.{NodeKind, Node, Nodes, action, control_node}
+use Rattle.tmpl_syntax.specs.Tree.{NodeKind, Node, Nodes, text, action, control_node, break_node, continue_node, template_node}
 use Rattle.tmpl_syntax.specs.Set.{Template}
 use Rattle.tmpl_syntax.specs.View.{node_of, nodes_in}
 use Rattle.tmpl_syntax.specs.declared.tree.Node as held
-use Rattle.tmpl_code.specs.Code.{Code, Exit, NodeAt, NodesAt, step_of}
+use Rattle.tmpl_code.specs.Code.{Code, Exit, NodeAt, NodesAt, step_of, step_of_call}
 use Rattle.tmpl_code.specs.Layout.{Layout, bound_on, grown}
-use Rattle.tmpl_code.specs.computed.Held.{bound_off, shrunk, all_grown}
+use Rattle.tmpl_code.specs.computed.Held.{bound_off, shrunk, all_grown, number_called}
 
 -- how much there is to put
 abbrev mutual
@@ -79,3 +79,13 @@ pub nodes_more : (ts : List Template) (ns : List held.Node) (i j : ℕ) (n : hel
     → NodesAt ts (nodes_in (drop j ns)) before x new old
 nodes_more ts ns i j n x before after new start mid old h next is grew step one rest =
     rw (← nodes_from ns i j n h next is) (start, mid, step, one, rw (← grew) rest)
+
+-- the step of a node by the number of the template that it calls
+pub step_called : (ts : List Template) (line : ℕ) (n : NodeKind) (number : Option ℕ) {code rest : Code} → number ≡ number_called ts n
+    → code ≡ step_of_call line number ∷ rest → code ≡ step_of ts line n ∷ rest
+step_called ts line (template_node name given) number {rest = rest} is step = step ∙ ap (λ o. step_of_call line o ∷ rest) is
+step_called ts line (text t) number {rest = rest} is step = step ∙ ap (λ o. step_of_call line o ∷ rest) is
+step_called ts line (action h) number {rest = rest} is step = step ∙ ap (λ o. step_of_call line o ∷ rest) is
+step_called ts line (control_node c h body other) number {rest = rest} is step = step ∙ ap (λ o. step_of_call line o ∷ rest) is
+step_called ts line break_node number {rest = rest} is step = step ∙ ap (λ o. step_of_call line o ∷ rest) is
+step_called ts line continue_node number {rest = rest} is step = step ∙ ap (λ o. step_of_call line o ∷ rest) is

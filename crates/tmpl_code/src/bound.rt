@@ -97,18 +97,14 @@ fn holds_of(set: &Set, needs: &[usize], guess: &Guess, number: usize) -> bool
         → HoldsOf (set_view set.now) guess.now.claims.weights.items guess.now.claims.allowances.items
         guess.now.fixed guess.now.each number t }
 {
-    let weights = guess.claims.weights.as_slice();
-    let allowances = guess.claims.allowances.as_slice();
     let (_, tree) = set.template(number);
-    let nodes = tree.nodes.as_slice();
-    let heaviest = heaviest_of_nodes(set, weights, nodes);
-    let longest = heaviest_of_nodes(set, allowances, nodes);
-    let weight = at(weights, number);
-    let allowance = at(allowances, number);
+    let heaviest = heaviest_of_nodes(set, &guess.claims, tree.nodes.as_slice());
+    let weight = at(guess.claims.weights.as_slice(), number);
+    let allowance = at(guess.claims.allowances.as_slice(), number);
     weight <= guess.fixed
         && allowance <= guess.each
-        && longest <= allowance
-        && pays(at(needs, number), heaviest, weight, allowance)
+        && heaviest.allowance <= allowance
+        && pays(at(needs, number), heaviest.weight, weight, allowance)
 }
 
 /// Whether a template's weight and its allowance pay for what it needs and the heaviest that it calls.

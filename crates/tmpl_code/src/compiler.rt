@@ -14,7 +14,7 @@ ghost use Rattle.tmpl_code.specs.computed.Held.{IsOpen, Placed, Put, code_of, la
 use crate::bound::bound_of;
 use crate::code::Code;
 use crate::instruction::Instruction;
-use crate::node::{Compiler, Site, declared_in, grow_all, left_after, put_step, shrink};
+use crate::node::{Compiler, Site, declared_in, grow_all, left_after, number_called, put_step, shrink};
 use crate::pipeline::to_u32;
 use crate::program::{Parts, Program};
 use crate::scope::Scope;
@@ -132,8 +132,9 @@ impl<'s> Compiler<'s> {
             i -= 1;
             let node = &nodes[i];
             shrink(&mut self.scope, node);
-            self.put_node(site, node)?;
-            put_step(&mut self.code, site.set, node)?;
+            let number = number_called(site.set, node);
+            self.put_node(site, node, number)?;
+            put_step(&mut self.code, node, number)?;
             survey = survey_node(node)?.with(survey.above(left_after(node))?);
         }
         Ok(survey)

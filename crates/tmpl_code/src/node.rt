@@ -10,7 +10,7 @@ ghost use Rattle.tmpl_syntax.specs.View.{control_of, node_of, nodes_in, set_view
 ghost use Rattle.tmpl_code.specs.Code as spec;
 ghost use Rattle.tmpl_code.specs.Layout.{declared_in, grown};
 ghost use Rattle.tmpl_code.specs.computed.Held.{BoundPart, DottedPart, EndedPart, IsOpen, PartsAt, Placed, Pushed, Put};
-ghost use Rattle.tmpl_code.specs.computed.Held.{TurnsPart, all_grown, code_of, exit_seen, layout_of, shrunk};
+ghost use Rattle.tmpl_code.specs.computed.Held.{TurnsPart, all_grown, code_of, exit_seen, layout_of, number_called, shrunk};
 
 use crate::binding::{
     close, declared_count, declares, declares_key, open, put_header, put_shown, put_turn,
@@ -196,21 +196,28 @@ fn put_given(code: &mut Code, scope: &Scope<'_>, given: &Option<Pipeline>) -> Re
     }
 }
 
-/// Puts what takes the step of a node, or, for a call of a template that is there, looks whether one is left.
-pub(crate) fn put_step(code: &mut Code, set: &Set, node: &Node) -> Result<(), AllocError>
-    ensures { OnOk result (Placed (Pushed (spec.step_of (set_view set.now) (node_of node.now).line
-        (node_of node.now).what)) code.old code.new) }
+/// The number of the template that a node calls, where it calls one that is there.
+pub(crate) fn number_called(set: &Set, node: &Node) -> Option<usize>
+    ensures { result ≡ number_called (set_view set.now) (node_of node.now).what }
 {
     match &node.what {
-        NodeKind::Template(name, _) => match set.number(name.as_slice()) {
-            Some(_) => code.push(Instruction::Deepen(node.line)),
-            None => code.push(Instruction::Spend(node.line)),
-        },
+        NodeKind::Template(name, _) => set.number(name.as_slice()),
         NodeKind::Text(_)
         | NodeKind::Action(_)
         | NodeKind::Control(_)
         | NodeKind::Break
-        | NodeKind::Continue => code.push(Instruction::Spend(node.line)),
+        | NodeKind::Continue => None,
+    }
+}
+
+/// Puts what takes the step of a node, or, for a call of the template of this number, looks whether one is left.
+#[tactic(auto, using(tmpl_syntax::proofs::ViewLemmas::nodes, crate::proofs::TailLemmas::ends))]
+pub(crate) fn put_step(code: &mut Code, node: &Node, number: Option<usize>) -> Result<(), AllocError>
+    ensures { OnOk result (Placed (Pushed (spec.step_of_call (node_of node.now).line number)) code.old code.new) }
+{
+    match number {
+        Some(_) => code.push(Instruction::Deepen(node.line)),
+        None => code.push(Instruction::Spend(node.line)),
     }
 }
 
@@ -240,17 +247,24 @@ impl<'s> Compiler<'s> {
             i -= 1;
             let node = &nodes[i];
             shrink(&mut self.scope, node);
-            self.put_node(site, node)?;
-            put_step(&mut self.code, site.set, node)?;
+            let number = number_called(site.set, node);
+            self.put_node(site, node, number)?;
+            put_step(&mut self.code, node, number)?;
         }
         Ok(())
     }
 
-    /// Puts a node whose step is taken.
+    /// Puts a node whose step is taken. The number is that of the template that it calls.
     #[cycle(nodes)]
     #[tactic(auto, using(tmpl_syntax::proofs::ViewLemmas::controls, crate::proofs::TailLemmas::ends))]
-    pub(crate) fn put_node(&mut self, site: Site<'_>, node: &'s Node) -> Result<(), AllocError>
-        requires { IsOpen site.exit (code_of self.old.code) (layout_of self.old.scope) }
+    pub(crate) fn put_node(
+        &mut self,
+        site: Site<'_>,
+        node: &'s Node,
+        number: Option<usize>,
+    ) -> Result<(), AllocError>
+        requires exit { IsOpen site.exit (code_of self.old.code) (layout_of self.old.scope) }
+        requires number { number ≡ number_called (set_view site.set.now) (node_of node.now).what }
         ensures { OnOk result (Put
             (spec.NodeAt (set_view site.entry.set.now) (node_of node.now).line (node_of node.now).what)
             site.entry.exit self.old self.new) }
@@ -265,7 +279,6 @@ impl<'s> Compiler<'s> {
             NodeKind::Break => put_break(&mut self.code, &self.scope, site.exit),
             NodeKind::Continue => put_continue(&mut self.code, &self.scope, site.exit),
             NodeKind::Template(name, given) => {
-                let number = site.set.number(name.as_slice());
                 put_template(&mut self.code, &self.scope, name, number, given)
             }
         }

@@ -11,7 +11,7 @@ use Rattle.tmpl_grammar.specs.declared.tree.Control.{Control}
 use Rattle.tmpl_syntax.specs.Tree as tree
 use Rattle.tmpl_syntax.specs.Tree.{NodeKind, text, action, control_node, break_node, continue_node, template_node}
 use Rattle.tmpl_syntax.specs.Tree.{Nodes}
-use Rattle.tmpl_syntax.specs.Set.{Template}
+use Rattle.tmpl_syntax.specs.Set.{Template, number_of}
 use Rattle.tmpl_syntax.specs.View.{nodes_in}
 use Rattle.tmpl_code.specs.Code.{argument_count, operand_count, CallBy, CountedAt, JunctionAt, OperandsAt}
 use Rattle.tmpl_code.specs.Code.{Code, Ended, Exit, NodeAt, NodesAt, NodesPart, Stretch, TreeAt, TurnAt}
@@ -135,3 +135,8 @@ LastStarts all [] (n ∷ ns) code = ⊥
 LastStarts all (t ∷ ts) [] code = ⊥
 LastStarts all (t ∷ ts) (n ∷ ns) code =
     (n ≤ length code) × ((rest : Code) × TreeAt all t.1.nodes (last_of n code) rest) × LastStarts all ts ns code
+
+-- the number of the template that a node calls, where it calls one that is there
+abbrev pub number_called : List Template → NodeKind → Option ℕ
+number_called ts (template_node name given) = number_of name ts
+number_called ts n = None

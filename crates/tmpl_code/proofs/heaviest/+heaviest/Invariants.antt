@@ -16,5 +16,6 @@ decreases-heaviest_of_nodes-loop-i l = l.i
 abbrev pub invariant-heaviest_of_nodes-loop-i : goal.invariant-heaviest_of_nodes-loop-i
 invariant-heaviest_of_nodes-loop-i l = record {
   within : l.i ≤ length l.nodes;
-  heaviest : l.heaviest ≡ heaviest_of_nodes (set_view l.set) l.weights (nodes_in (drop l.i l.nodes));
+  weight : l.heaviest.weight ≡ heaviest_of_nodes (set_view l.set) l.claims.weights.items (nodes_in (drop l.i l.nodes));
+  allowance : l.heaviest.allowance ≡ heaviest_of_nodes (set_view l.set) l.claims.allowances.items (nodes_in (drop l.i l.nodes));
 }

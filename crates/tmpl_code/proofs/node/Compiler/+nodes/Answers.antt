@@ -5,7 +5,7 @@ use Rattle.tmpl_grammar.specs.View.{binding_of, header_of}
 use Rattle.tmpl_syntax.specs.View.{node_of, nodes_in, set_view}
 use Rattle.tmpl_code.specs.Code.{NodeAt}
 use Rattle.tmpl_code.specs.computed.Held.{Put, code_of}
-use Rattle.tmpl_code.proofs.NodeLemmas.{item-weight}
+use Rattle.tmpl_code.proofs.NodeLemmas.{item-weight, step_called}
 use Rattle.tmpl_code.proofs.TailLemmas as tail
 use Rattle.tmpl_code.specs.declared.node.Compiler.{Compiler}
 use Rattle.tmpl_code.proofs.TailLemmas.{ends_both}
@@ -17,8 +17,11 @@ put_nodes-put_node-requires t c =
     let item = c.index-nodes-i.result in
     let below = item-weight c.args.nodes.now (l.i - 1) item (omega arith) c.index-nodes-i.is in (
       omega (arith, below),
-      tail.node_open (record { code = l.self.code; scope = c.shrink.new.scope }) c.requires l.invariant (l.i - 1) item (omega arith)
-          (omega arith) c.index-nodes-i.is refl c.shrink.ensures,
+      (
+        tail.node_open (record { code = l.self.code; scope = c.shrink.new.scope }) c.requires l.invariant (l.i - 1) item (omega arith)
+            (omega arith) c.index-nodes-i.is refl c.shrink.ensures,
+        c.number_called-number.ensures,
+      ),
     )
 
 pub put_nodes-loop-i-preserved : goal.put_nodes-loop-i-preserved
@@ -27,7 +30,7 @@ put_nodes-loop-i-preserved t c =
     let item = c.index-nodes-i.result in
     tail.put_more (record { code = l.self.code; scope = c.shrink.new.scope }) c.requires l.invariant (l.i - 1) item (omega arith) (omega arith)
     c.index-nodes-i.is refl c.shrink.ensures c.in_ok-put_node.ensures
-    c.in_ok-put_step.ensures.code refl
+    (step_called _ _ (node_of item).what _ c.number_called-number.ensures c.in_ok-put_step.ensures.code) refl
 
 pub put_nodes-returns : goal.put_nodes-returns
 put_nodes-returns t c = tail.put_all (omega arith) c.loop-i.invariant
