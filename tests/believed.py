@@ -25,6 +25,9 @@ ROOTS = (
     ("tmpl_c", "src/lib.rt", 'pub extern "C" fn tmpl_set_add('),
     ("tmpl_c", "src/lib.rt", 'pub extern "C" fn tmpl_data_read('),
     ("tmpl_c", "src/lib.rt", 'pub extern "C" fn tmpl_render_set('),
+    ("tmpl_c", "src/lib.rt", 'pub extern "C" fn tmpl_program_make('),
+    ("tmpl_c", "src/lib.rt", 'pub extern "C" fn tmpl_render_program('),
+    ("tmpl_c", "src/lib.rt", 'pub extern "C" fn tmpl_render_text('),
 )
 # the lines of each crate that are believed, at most
 MOST = {
@@ -35,7 +38,8 @@ MOST = {
     "tmpl_syntax": 352,
     "tmpl_meaning": 223,
     "tmpl_tool": 243,
-    "tmpl_c": 76,
+    "tmpl_engine": 2,
+    "tmpl_c": 88,
 }
 
 WORD = r"[^\s(){}.,;]+"

@@ -1,8 +1,11 @@
 // Tries bindings/c/tmpl.hpp: prints what each call gives, a line each. tests/library.py knows what they are.
 #include "tmpl.hpp"
 
+#include <atomic>
 #include <cstdio>
 #include <string>
+#include <thread>
+#include <vector>
 
 template <class Call> static void tell(const char *name, Call call) {
     try {
@@ -13,6 +16,18 @@ template <class Call> static void tell(const char *name, Call call) {
     } catch (const std::bad_alloc &) {
         std::printf("%s: no memory\n", name);
     }
+}
+
+// how many renders of eight threads over one object were right
+static int serve(tmpl::templates &pages) {
+    std::atomic<int> right{0};
+    std::vector<std::thread> threads;
+    for (int number = 0; number < 8; number++) threads.emplace_back([&, number] {
+        tmpl::data own("{\"name\": " + std::to_string(number) + "}");
+        for (int i = 0; i < 5000; i++) right += pages.render("n", own) == std::to_string(number) + " again";
+    });
+    for (auto &it : threads) it.join();
+    return right;
 }
 
 int main() {
@@ -39,5 +54,12 @@ int main() {
     again.add("n", "{{.name}} again");
     tmpl::data kept = std::move(ada);
     tell("moved", [&] { return again.render("n", kept); });
+    tmpl::data shared = kept.share();
+    kept = tmpl::data();
+    tell("shared", [&] { return again.render("n", shared); });
+    tell("threads", [&] { return std::to_string(serve(again)); });
+    again.add("n", "{{.name}} once more");
+    tell("after one more file", [&] { return again.render("n", shared); });
+    again.add("n", "{{.name}} again");
     tell("printed", [&] { return again.render("", none, printed); });
 }

@@ -1,8 +1,9 @@
 """Tries the engine as a C library, bindings/out/libtmpl.so and libtmpl.a, which `make lib` builds of what was proved. The rows of
 tests/rows that need no words and no files of the system go through one call each, by the Python wrapper, and through its `render_bytes`:
 text, line and status must be those of the row, but that lines call the data `data`. So must those of two renders of a set and data that
-are kept. Rows with short texts and lines are called with room of each size. tests/library.c refuses each allocation of calls in turn,
-runs two threads, and runs under valgrind where that is there. The header is compiled as C and as C++, what is installed is used by
+are kept, and of a program that is kept, into lent memory. Rows with short texts and lines are called with room of each size.
+tests/library.c refuses each allocation of calls in turn, renders in eight threads at the same time, looks that memory stays flat, and runs
+under valgrind where that is there. The header is compiled as C and as C++, what is installed is used by
 pkg-config, the wheel for Python is unpacked and used, and the programs of docs/EMBEDDING.md and README.md for C and Python are run; so
 is examples/letters.py where Dask's scheduler is there. With --bindings it runs those for Go and Rust, and the tests of these two
 bindings, where Go and Cargo are installed, and nothing else."""
@@ -29,11 +30,15 @@ OUT = f"{BINDINGS}/out"
 LEAST = 1400  # rows
 SIZES = 24  # bytes up to which texts and lines are called with room of each size
 LEAST_SIZES = 30900  # calls for that
-LEAST_CASES = 500  # of tests/library.c
+LEAST_CASES = 20000  # of tests/library.c
 GUARD = b"\xa5" * 8  # after lent memory
 SWITCHES = {b"--data", b"--missingkey", b"--name", b"--depth", b"--steps"}
 BLOCK = re.compile(r"^```(c|cpp|python|go|rust)\n(.*?)^```\n+(?:It puts out\n+)?```text\n(.*?)^```$", re.MULTILINE | re.DOTALL)
-NAMES = ["tmpl_data_free", "tmpl_data_read", "tmpl_render", "tmpl_render_set", "tmpl_set_add", "tmpl_set_free", "tmpl_version"]
+NAMES = [
+    *("tmpl_data_free", "tmpl_data_read", "tmpl_data_share", "tmpl_program_free", "tmpl_program_make", "tmpl_program_share", "tmpl_render"),
+    *("tmpl_render_program", "tmpl_render_set", "tmpl_render_text", "tmpl_set_add", "tmpl_set_free", "tmpl_set_print", "tmpl_text_free"),
+    "tmpl_version",
+]
 WARNINGS = ["-Wall", "-Wextra", "-pedantic", "-Werror"]
 
 
@@ -134,8 +139,24 @@ def judge_kept(call):
         came = stop if refused else came_of(lambda: templates.render_bytes(call.name, call.data, **how))
         if came != wanted:
             wrong.append(f"    kept, it gives {came[0]} {harness.short(came[1])} {came[2]!r}")
+    if not refused and (is_print or row.status != tmpl.DATA):
+        wrong += lent_by(templates, call)
     templates.close()
     return f"{row.name}, kept", 1, wrong
+
+
+def lent_by(templates, call):
+    """What is wrong of the renders of what is kept into lent memory: of the set, and of the program where the set is not printed."""
+    worker, wrong, settings = templates._worker(), [], tmpl._Settings(*call.settings)
+    tmpl._LIBRARY.tmpl_data_read(worker.data, call.data, len(call.data), tmpl._Lent(99).buffer)
+    handles = {"set": templates._set} if settings.print else {"set": templates._set, "program": worker.program}
+    for name, handle in handles.items():
+        out, err = tmpl._Lent(len(call.row.out) + 1), tmpl._Lent(len(call.line) + 1)
+        render = getattr(tmpl._LIBRARY, f"tmpl_render_{name}")
+        status = render(settings, handle, worker.data, call.name, len(call.name), out.buffer, err.buffer)
+        got = (status, out.output(), err.output())
+        wrong += [] if got == (call.row.status, call.row.out, call.line) else [f"    of a {name}, it gives {got}"]
+    return wrong
 
 
 def judge_refusals():
@@ -164,8 +185,9 @@ def judge_refusals():
 
 def came_with(templates, name):
     """A render with the data that is there, as no wrapper makes one."""
-    status, out, err = templates.render_into(name.encode(), tmpl._Settings(), 64, 64)
-    return out.output() if status == 0 else err.output()
+    worker = templates._idle[-1]
+    words = (tmpl._Settings(), worker.program, worker.data, name.encode(), len(name), worker.text, worker.line)
+    return worker.text.copied() if tmpl._LIBRARY.tmpl_render_text(*words) == 0 else worker.line.copied()
 
 
 def guarded(size):
@@ -365,6 +387,9 @@ CALLS_IN_CPP = [
     'no name of a file: 2 "tmpl: arguments refused; see tmpl --help" after ""',
     'no JSON: 5 "tmpl: data: number not whole or out of range" after ""',
     "moved: 9 Ada again",
+    "shared: 9 Ada again",
+    "threads: 5 40000",
+    "after one more file: 13 Ada once more",
     'printed: 37 {{define "n"}}{{.name}} again{{end}}',
 ]
 
@@ -372,7 +397,7 @@ CALLS_IN_CPP = [
 def judge_cpp(folder):
     """The header for C++: tests/library.cc over libtmpl.a, and under valgrind."""
     words = [f"-I{BINDINGS}/c", f"{harness.TOP}/tests/library.cc", f"{OUT}/libtmpl.a"]
-    program, wrong = compiled(folder, "library-cpp", ["c++", "-std=c++17", "-g", *WARNINGS], *words)
+    program, wrong = compiled(folder, "library-cpp", ["c++", "-std=c++17", "-g", "-pthread", *WARNINGS], *words)
     status, said = (1, "") if wrong else ran(program)
     lines = said.split("\n")
     wrong += [f"    got {got[:200]}" for got, wanted in zip(lines, CALLS_IN_CPP) if got != wanted]

@@ -1,11 +1,27 @@
 /* tmpl: templates of the language of Go's text/template over data in JSON, as a library.
  *
- * One call, tmpl_render, does everything. It keeps nothing from one call to the next: no pointer, no memory, no state. So
- * calls may run in any number of threads, each with buffers of its own. It only borrows memory; nothing has to be freed.
+ * For one render: tmpl_render. It does everything in one call, and keeps nothing from one call to the next.
  *
- * To render more than once, keep the templates in a tmpl_set and the data in a tmpl_data: see the end of this file.
+ * For many, as in a server, parse the templates once and read each data once:
  *
- * Strings have a size and no zero at their end. No pointer may be null, also where its size is 0: "" will do.
+ *     tmpl_set_add        the templates of each file, into a tmpl_set
+ *     tmpl_program_make   the tmpl_program of the set, once all files are added
+ *     tmpl_program_share  the same program once more for each thread, before the threads start, or under a lock
+ *     tmpl_data_read      data, in the thread that renders them
+ *     tmpl_render_text    the text, in memory of the library's own, which the next call uses again
+ *
+ * What may be done from which thread:
+ *
+ * - tmpl_render and tmpl_version from any number of threads at the same time.
+ * - A tmpl_set, tmpl_program, tmpl_data or tmpl_text, a *handle*, is given to one call at a time, of whatever thread, also where
+ *   the call changes nothing that one could see. Nothing else reads or writes the struct during the call.
+ * - Calls on different handles run at the same time, also where these share a program or data: so a thread has handles of
+ *   its own, and waits for no other. tmpl_program_share and tmpl_data_share make one, and copy neither templates nor data.
+ * - A handle goes from one thread to another by what orders the two: a lock, the start or the end of a thread, or an atomic
+ *   of sequential order.
+ *
+ * Strings have a size and no zero at their end. No pointer may be null, also where its size is 0: "" will do. No two pointers
+ * of a call lead to the same memory, but that what is `const` may be lent twice, and to any number of threads.
  *
  * Not to be called from a signal handler, nor from a forked child of a process with threads.
  */
@@ -38,15 +54,17 @@ typedef struct tmpl_file {
     size_t size;       /* how many bytes that is; more than 16,777,216 are refused */
 } tmpl_file;
 
-/* How to run a template. All zeros are the defaults. */
+/* How to run a template. All zeros are the defaults. Each limit that a run comes to is a fault, TMPL_FAULT. */
 typedef struct tmpl_settings {
-    uint64_t steps;      /* how many steps a run may take; 0: 1,000,000,000 */
-    uint32_t depth;      /* how deep calls of templates may be nested; 0: 1,000; above 100,000: 100,000 */
+    uint64_t steps;      /* how many nodes and turns of a `range` a run may take; 0: 1,000,000,000. They are not time: one step
+                            may print a large value. Nor are they bytes of text */
+    uint32_t depth;      /* how deep calls of templates may be nested; 0: 1,000; above 100,000: 100,000. Each takes memory for
+                            the values of its template */
     uint8_t missing_key; /* what a missing key gives: 0 default, 1 invalid, 2 zero, 3 error, as the option --missingkey */
     uint8_t print;       /* 1: print the set of templates, and run nothing; the name and the data are not looked at */
 } tmpl_settings;
 
-/* Memory for output. A call writes it from its first byte on. */
+/* Memory for output that the caller lends. A call writes it from its first byte on. */
 typedef struct tmpl_buffer {
     char *bytes;   /* lent by the caller */
     size_t size;   /* how many bytes are lent */
@@ -68,36 +86,75 @@ typedef struct tmpl_buffer {
  * Gives one of the statuses above. The same arguments give the same text, line and status, unless memory is refused.
  * The text is gathered in memory of the call's own, so that it can be counted, and then copied to `out`.
  *
- * `settings`, `files` and what they point to, `name` and `data` are only read, and may be shared by threads. `out`,
- * `err` and their memory lie apart from each other and from all else, and no other thread uses them during the call. */
+ * `settings`, `files` and what they point to, `name` and `data` are only read. `out`, `err` and their memory lie apart from
+ * each other and from all else, and no other thread uses them during the call. */
 uint8_t tmpl_render(const tmpl_settings *settings, const tmpl_file *files, size_t file_count,
                     const char *name, size_t name_size, const char *data, size_t data_size,
                     tmpl_buffer *out, tmpl_buffer *err);
 
-/* Templates and data that are kept: parsed and read once, and rendered as often as you like.
+/* ---- what is kept from call to call
  *
- * All zeros are an empty one, as in `tmpl_set set = {0};`. Leave what the pointer points to alone, make no copies, and
- * give one of them to one call at a time, of whatever thread. Free it once you are done: its memory is the library's. One
- * that was freed is an empty one again, so that freeing it twice does no harm. */
-typedef struct tmpl_set { void *held; } tmpl_set;   /* empty: no templates */
-typedef struct tmpl_data { void *held; } tmpl_data; /* empty: no data, and dot is nothing */
+ * All zeros are an empty handle, as in `tmpl_set set = {0};`. Leave what its pointers point to alone, make no copies of the
+ * struct, and free it once you are done: its memory is the library's. One that was freed is an empty one again, so that
+ * freeing it twice does no harm. Handles that share something are freed in any order. */
+typedef struct tmpl_set { void *held; } tmpl_set;         /* templates, parsed; empty: none */
+typedef struct tmpl_program { void *held; } tmpl_program; /* templates as they are run; empty: none */
+typedef struct tmpl_data { void *held; } tmpl_data;       /* one JSON value; empty: no data, and dot is nothing */
+
+/* A text in memory of the library's own. Read it until the next call that is given it. */
+typedef struct tmpl_text {
+    const char *bytes; /* where it lies. Where it is empty this may be null or any other pointer */
+    size_t size;       /* how many bytes it has */
+    void *held;
+} tmpl_text;
 
 /* Adds the templates of a file to a set, after those of earlier files. Gives TMPL_OK, TMPL_NOT_TEXT, TMPL_REFUSED or
  * TMPL_MEMORY, and `err` takes the line that tmpl_render would say. Where it is not TMPL_OK the set is as it was. */
 uint8_t tmpl_set_add(tmpl_set *set, const tmpl_file *file, tmpl_buffer *err);
 
+/* Prints a set, as tmpl_render does with `print`. Gives TMPL_OK, or TMPL_MEMORY and a beginning of the text. */
+uint8_t tmpl_set_print(tmpl_set *set, tmpl_text *text);
+
 /* Frees a set. It is empty then. */
 void tmpl_set_free(tmpl_set *set);
+
+/* Makes a program of what the set has now, in the place of the program that was there. The set may take more files then, or
+ * be freed: the program stays what it is. Gives TMPL_OK, or TMPL_MEMORY and leaves the program that was there. */
+uint8_t tmpl_program_make(tmpl_set *set, tmpl_program *program);
+
+/* Makes `copy` a second handle of the same program, in the place of what was there. Gives TMPL_OK, or TMPL_MEMORY and leaves
+ * what was there. */
+uint8_t tmpl_program_share(tmpl_program *program, tmpl_program *copy);
+
+/* Frees a program: the handle, and the program itself with its last handle. */
+void tmpl_program_free(tmpl_program *program);
 
 /* Reads one JSON value in the place of the data that was there; of size 0 there is no data. Gives TMPL_OK, TMPL_DATA or
  * TMPL_MEMORY, and `err` takes the line. Where it is not TMPL_OK the data is as it was. */
 uint8_t tmpl_data_read(tmpl_data *data, const char *bytes, size_t size, tmpl_buffer *err);
 
-/* Frees data. It is empty then. */
+/* Makes `copy` a second handle of the same data, in the place of what was there. Gives TMPL_OK, or TMPL_MEMORY and leaves
+ * what was there. */
+uint8_t tmpl_data_share(tmpl_data *data, tmpl_data *copy);
+
+/* Frees data: the handle, and the data itself with its last handle. */
 void tmpl_data_free(tmpl_data *data);
 
-/* Renders the template of this name of a set, with data that is kept, as tmpl_render does with the files and the data that
- * these were made of. Both are as they were then. No two of the arguments are the same. */
+/* Renders the template of this name of a program, with data that is kept, as tmpl_render does with the files and the data that
+ * these were made of; `print` of the settings is not looked at. Text and line go to texts of the library's own, whatever their
+ * size, so it never gives TMPL_FULL. With TMPL_MEMORY `text` has a beginning of the text, and `line` nothing. Program and data
+ * are as they were then. */
+uint8_t tmpl_render_text(const tmpl_settings *settings, tmpl_program *program, tmpl_data *data, const char *name,
+                         size_t name_size, tmpl_text *text, tmpl_text *line);
+
+/* Frees a text. It is empty then. */
+void tmpl_text_free(tmpl_text *text);
+
+/* The same render into memory that the caller lends. Where the text does not fit, it gives TMPL_FULL, and has to be made again. */
+uint8_t tmpl_render_program(const tmpl_settings *settings, tmpl_program *program, tmpl_data *data, const char *name,
+                            size_t name_size, tmpl_buffer *out, tmpl_buffer *err);
+
+/* The same of a set, which is compiled at the first render and kept so until a file is added. With `print` it prints the set. */
 uint8_t tmpl_render_set(const tmpl_settings *settings, tmpl_set *set, tmpl_data *data, const char *name,
                         size_t name_size, tmpl_buffer *out, tmpl_buffer *err);
 

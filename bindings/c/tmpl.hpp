@@ -1,15 +1,17 @@
 // tmpl for C++17: template files that are parsed once and data that is read once, over tmpl.h. What does not end well is thrown:
-// `tmpl::error`, and `std::bad_alloc` where memory is refused. Each object is used by one call at a time. One that was moved from is only destroyed
-// or given another.
+// `tmpl::error`, and `std::bad_alloc` where memory is refused. Any number of threads use one `templates` at the same time, and no render waits
+// for another; a `data` is used by one call at a time, so a thread has one of its own. One that was moved from is only destroyed or given another.
 #ifndef TMPL_HPP
 #define TMPL_HPP
 
 #include <memory>
+#include <mutex>
 #include <new>
 #include <stdexcept>
 #include <string>
 #include <string_view>
 #include <utility>
+#include <vector>
 
 #include "tmpl.h"
 
@@ -27,61 +29,113 @@ namespace inside {
 
 // no pointer may be null, also where its size is 0
 inline const char *start(std::string_view it) { return it.data() != nullptr ? it.data() : ""; }
+inline std::string copied(const tmpl_text &it) { return it.size != 0 ? std::string(it.bytes, it.size) : std::string(); }
 
-// the text of a call, which is made again with more memory where its text or its line does not fit
-template <class Call> std::string whole(Call call, std::size_t room) {
-    std::string text(room, '\0'), line(4096, '\0');
-    while (true) {
-        tmpl_buffer out = {text.data(), text.size(), 0, 0}, err = {line.data(), line.size(), 0, 0};
-        const int status = call(out, err);
-        if (status == TMPL_MEMORY) throw std::bad_alloc();
-        if (out.needed > text.size() || err.needed > line.size()) {
-            if (out.needed > text.size()) text.resize(out.needed);
-            if (err.needed > line.size()) line.resize(err.needed);
-            continue;
-        }
-        text.resize(out.taken);
-        if (status == TMPL_OK) return text;
-        throw error(status, line.substr(0, err.taken - (err.taken != 0)), std::move(text)); // without its newline
+inline void judge(int status, std::string line = {}, std::string text = {}) {
+    if (status == TMPL_MEMORY) throw std::bad_alloc();
+    if (status != TMPL_OK) throw error(status, line.substr(0, line.size() - 1), std::move(text)); // without its newline
+}
+
+// a call that says a line, which is made again with more memory where that does not fit
+template <class Call> void accept(Call call) {
+    for (std::string line(4096, '\0');; ) {
+        tmpl_buffer err = {line.data(), line.size(), 0, 0};
+        const int status = call(&err);
+        if (err.needed <= line.size()) return judge(status, line.substr(0, err.taken));
+        line.resize(err.needed);
     }
 }
 
-struct freed {
-    void operator()(tmpl_set *it) const { tmpl_set_free(it), delete it; }
-    void operator()(tmpl_data *it) const { tmpl_data_free(it), delete it; }
+template <class T, void (*Free)(T *)> struct handle : T {
+    handle() : T{} {}
+    handle(const handle &) = delete;
+    ~handle() { Free(this); }
 };
+using set = handle<tmpl_set, tmpl_set_free>;
+using program = handle<tmpl_program, tmpl_program_free>;
+using value = handle<tmpl_data, tmpl_data_free>;
+using text = handle<tmpl_text, tmpl_text_free>;
 
 } // namespace inside
 
 /// One JSON value that is read once; without bytes there is no data, and dot is nothing.
 class data {
-    std::unique_ptr<tmpl_data, inside::freed> held{new tmpl_data{}};
+    std::unique_ptr<inside::value> held{new inside::value};
     friend class templates;
 
 public:
     explicit data(std::string_view json = "") {
-        const auto read = [&](tmpl_buffer &, tmpl_buffer &err) { return tmpl_data_read(held.get(), inside::start(json), json.size(), &err); };
-        inside::whole(read, 0);
+        inside::accept([&](tmpl_buffer *err) { return tmpl_data_read(held.get(), inside::start(json), json.size(), err); });
+    }
+
+    /// The same value once more, as for another thread. It is not copied.
+    data share() {
+        data copy;
+        inside::judge(tmpl_data_share(held.get(), copy.held.get()));
+        return copy;
     }
 };
 
 /// Template files that are parsed once, and rendered as often as you like.
 class templates {
-    std::unique_ptr<tmpl_set, inside::freed> held{new tmpl_set{}};
+    // what one render at a time needs
+    struct worker {
+        inside::program program;
+        inside::text text, line;
+        unsigned long version = 0;
+    };
+    struct kept {
+        std::mutex gate; // of all that is here, but held during no render
+        inside::set set;
+        inside::program program;
+        std::vector<std::unique_ptr<worker>> idle;
+        unsigned long version = 0, made = 0;
+    };
+    std::unique_ptr<kept> held{new kept};
+
+    std::unique_ptr<worker> take() {
+        const std::lock_guard<std::mutex> lock(held->gate);
+        if (held->version != held->made) inside::judge(tmpl_program_make(&held->set, &held->program)), held->made = held->version;
+        if (!held->idle.empty()) {
+            auto it = std::move(held->idle.back());
+            held->idle.pop_back();
+            return it;
+        }
+        auto it = std::make_unique<worker>();
+        it->version = held->version;
+        inside::judge(tmpl_program_share(&held->program, &it->program));
+        return it;
+    }
+
+    void give(std::unique_ptr<worker> it) {
+        const std::lock_guard<std::mutex> lock(held->gate);
+        if (it->version == held->version) held->idle.push_back(std::move(it));
+    }
 
 public:
     /// Adds the templates of a file of this path, after those of earlier files. Where it throws, the templates are as they were.
     void add(std::string_view path, std::string_view bytes) {
         const tmpl_file file = {inside::start(path), path.size(), inside::start(bytes), bytes.size()};
-        inside::whole([&](tmpl_buffer &, tmpl_buffer &err) { return tmpl_set_add(held.get(), &file, &err); }, 0);
+        const std::lock_guard<std::mutex> lock(held->gate);
+        inside::accept([&](tmpl_buffer *err) { return tmpl_set_add(&held->set, &file, err); });
+        held->version++, held->idle.clear();
     }
 
     /// The text of the template of this name. All zeros are the default settings.
     std::string render(std::string_view name, data &with, const tmpl_settings &how = {}) {
-        const auto render_once = [&](tmpl_buffer &out, tmpl_buffer &err) {
-            return tmpl_render_set(&how, held.get(), with.held.get(), inside::start(name), name.size(), &out, &err);
-        };
-        return inside::whole(render_once, 1 << 16);
+        auto it = take();
+        const int status = how.print != 1
+            ? tmpl_render_text(&how, &it->program, with.held.get(), inside::start(name), name.size(), &it->text, &it->line)
+            : print(it->text);
+        std::string text = inside::copied(it->text), line = inside::copied(it->line);
+        give(std::move(it));
+        return inside::judge(status, std::move(line), text), text;
+    }
+
+private:
+    int print(tmpl_text &text) {
+        const std::lock_guard<std::mutex> lock(held->gate);
+        return tmpl_set_print(&held->set, &text);
     }
 };
 

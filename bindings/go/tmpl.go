@@ -11,6 +11,7 @@ import "C"
 
 import (
 	"bytes"
+	"errors"
 	"io"
 	"runtime"
 	"strings"
@@ -48,9 +49,13 @@ type Error struct {
 
 func (e *Error) Error() string { return e.Line }
 
+// ErrMemory says that memory was refused.
+var ErrMemory = errors.New("tmpl: out of memory")
+
 const (
-	full = 6
-	room = 1 << 16 // bytes of text that are lent first
+	refused = 7       // the status of refused memory
+	line    = 1 << 12 // bytes of a line that are lent first
+	kept    = 1 << 20 // a text of more bytes is given back after its render
 )
 
 // lent copies bytes to memory of C, which has at least one byte; it is given back by C.free.
@@ -58,22 +63,6 @@ func lent(bytes []byte) *C.char {
 	at := C.malloc(C.size_t(len(bytes) + 1))
 	copy(unsafe.Slice((*byte)(at), len(bytes)+1), bytes)
 	return (*C.char)(at)
-}
-
-// taken is the output in memory of C, which may be longer than what a C.int counts.
-func taken(b *C.tmpl_buffer) []byte {
-	return unsafe.Slice((*byte)(unsafe.Pointer(b.bytes)), int(b.taken))
-}
-
-// grown gives the buffer as much memory as its output needs.
-func grown(b *C.tmpl_buffer) bool {
-	if b.needed <= b.size {
-		return false
-	}
-	C.free(unsafe.Pointer(b.bytes))
-	b.size = b.needed
-	b.bytes = (*C.char)(C.malloc(b.size))
-	return true
 }
 
 // settingsOf is how C has the options.
@@ -95,59 +84,122 @@ func freed(file C.tmpl_file) {
 	C.free(unsafe.Pointer(file.bytes))
 }
 
-// written makes a call with memory for its text and its line, and again with more where one of them does not fit. Then it writes the text.
-func written(w io.Writer, call func(out, line *C.tmpl_buffer) C.uint8_t) error {
-	out, line := C.tmpl_buffer{size: room}, C.tmpl_buffer{size: room}
-	out.bytes, line.bytes = (*C.char)(C.malloc(room)), (*C.char)(C.malloc(room))
-	defer func() { C.free(unsafe.Pointer(out.bytes)); C.free(unsafe.Pointer(line.bytes)) }()
-	for {
-		status := call(&out, &line)
-		isMore := grown(&line)
-		if status == full && grown(&out) || status != 0 && status != full && isMore {
-			continue
+// ended is the error of a call that ended with this status and said this line.
+func ended(status C.uint8_t, said []byte) error {
+	switch status {
+	case 0:
+		return nil
+	case refused:
+		return ErrMemory
+	}
+	return &Error{int(status), strings.TrimSuffix(string(said), "\n")}
+}
+
+// accepted makes a call that says a line, and makes it again with more memory where the line does not fit.
+func accepted(call func(err *C.tmpl_buffer) C.uint8_t) error {
+	for size := C.size_t(line); ; {
+		err := C.tmpl_buffer{bytes: (*C.char)(C.malloc(size)), size: size}
+		status := call(&err)
+		said := C.GoBytes(unsafe.Pointer(err.bytes), C.int(err.taken))
+		C.free(unsafe.Pointer(err.bytes))
+		if err.needed <= size {
+			return ended(status, said)
 		}
-		if _, err := w.Write(taken(&out)); err != nil {
+		size = err.needed
+	}
+}
+
+// bytesOf is a text of the library, which may be longer than what a C.int counts. It lies there until the next call.
+func bytesOf(text *C.tmpl_text) []byte {
+	return unsafe.Slice((*byte)(unsafe.Pointer(text.bytes)), int(text.size))
+}
+
+// Render writes the text of the template of this name to w. No data is data of no bytes. The error is an *Error, ErrMemory, or what w said.
+func Render(w io.Writer, files []File, name string, data []byte, options Options) error {
+	var templates Templates
+	defer templates.Close()
+	for _, file := range files {
+		if err := templates.Add(file); err != nil {
 			return err
 		}
-		if status != 0 {
-			return &Error{int(status), strings.TrimSuffix(string(taken(&line)), "\n")}
-		}
-		return nil
 	}
+	return templates.Execute(w, name, data, options)
 }
 
-// Render writes the text of the template of this name to w. No data is data of no bytes. The error is an *Error, or what w said.
-func Render(w io.Writer, files []File, name string, data []byte, options Options) error {
-	settings := settingsOf(options)
-	array := (*C.tmpl_file)(C.calloc(C.size_t(len(files)+1), C.sizeof_tmpl_file))
-	defer C.free(unsafe.Pointer(array))
-	slots := unsafe.Slice(array, len(files)+1)
-	for i, file := range files {
-		slots[i] = fileOf(file)
-		defer freed(slots[i])
-	}
-	template, input := lent([]byte(name)), lent(data)
-	defer C.free(unsafe.Pointer(template))
-	defer C.free(unsafe.Pointer(input))
-	return written(w, func(out, line *C.tmpl_buffer) C.uint8_t {
-		return C.tmpl_render(&settings, array, C.size_t(len(files)), template, C.size_t(len(name)), input, C.size_t(len(data)), out, line)
-	})
-}
-
-// Templates are template files that are parsed once. Data is read anew where it differs from that of the call before. Any number of
-// goroutines may use one: its calls wait for one another. The zero value has no templates. Do not copy it after its first call.
+// Templates are template files that are parsed once. Any number of goroutines may use one at the same time, and no render waits for
+// another one. Data is read anew where it differs from that of a render before. The zero value has no templates. Do not copy it after
+// its first call.
 type Templates struct {
-	mutex  sync.Mutex
-	set    *C.tmpl_set
-	data   *C.tmpl_data
-	isRead bool   // whether data is what read says
-	read   []byte // the data of the call before
+	mutex   sync.Mutex // of all that is here, but held during no render
+	set     C.tmpl_set
+	program C.tmpl_program
+	idle    []*worker
+	version int  // how often there were other templates
+	isMade  bool // whether program is that of set
+	isOpen  bool // whether a finalizer frees it
 }
 
-// opened gives the memory of C that holds templates and data, which is given back with t.
-func (t *Templates) opened() {
-	if t.set == nil {
-		t.set, t.data = (*C.tmpl_set)(C.calloc(1, C.sizeof_tmpl_set)), (*C.tmpl_data)(C.calloc(1, C.sizeof_tmpl_data))
+// worker is what one render at a time needs: a handle of the program, data, and two texts, which are used again.
+type worker struct {
+	program    C.tmpl_program
+	data       C.tmpl_data
+	text, line C.tmpl_text
+	version    int
+	isRead     bool   // whether data is what read says
+	read       []byte // the data of a render before
+}
+
+func (w *worker) free() {
+	C.tmpl_program_free(&w.program)
+	C.tmpl_data_free(&w.data)
+	C.tmpl_text_free(&w.text)
+	C.tmpl_text_free(&w.line)
+}
+
+func (w *worker) readAnew(data []byte) error {
+	input := lent(data)
+	defer C.free(unsafe.Pointer(input))
+	w.isRead = false
+	err := accepted(func(err *C.tmpl_buffer) C.uint8_t { return C.tmpl_data_read(&w.data, input, C.size_t(len(data)), err) })
+	if err == nil {
+		w.isRead, w.read = true, append(w.read[:0], data...)
+	}
+	return err
+}
+
+// execute renders once, and writes the text.
+func (w *worker) execute(to io.Writer, name string, data []byte, options Options) error {
+	if !w.isRead || !bytes.Equal(data, w.read) {
+		if err := w.readAnew(data); err != nil {
+			return err
+		}
+	}
+	settings, template := settingsOf(options), lent([]byte(name))
+	defer C.free(unsafe.Pointer(template))
+	status := C.tmpl_render_text(&settings, &w.program, &w.data, template, C.size_t(len(name)), &w.text, &w.line)
+	_, err := to.Write(bytesOf(&w.text))
+	if w.text.size > kept {
+		C.tmpl_text_free(&w.text)
+	}
+	if err != nil {
+		return err
+	}
+	return ended(status, bytesOf(&w.line))
+}
+
+// renew frees what renders the templates that were there. The mutex is locked.
+func (t *Templates) renew() {
+	for _, it := range t.idle {
+		it.free()
+	}
+	t.idle, t.isMade = nil, false
+	t.version++
+}
+
+// open sees to it that what is kept is freed with t. The mutex is locked.
+func (t *Templates) open() {
+	if !t.isOpen {
+		t.isOpen = true
 		runtime.SetFinalizer(t, (*Templates).Close)
 	}
 }
@@ -156,52 +208,81 @@ func (t *Templates) opened() {
 func (t *Templates) Add(file File) error {
 	t.mutex.Lock()
 	defer t.mutex.Unlock()
-	t.opened()
+	t.open()
 	held := fileOf(file)
 	defer freed(held)
-	return written(io.Discard, func(_, line *C.tmpl_buffer) C.uint8_t { return C.tmpl_set_add(t.set, &held, line) })
+	err := accepted(func(err *C.tmpl_buffer) C.uint8_t { return C.tmpl_set_add(&t.set, &held, err) })
+	if err == nil {
+		t.renew()
+	}
+	return err
+}
+
+// take gives what no other render uses.
+func (t *Templates) take() (*worker, error) {
+	t.mutex.Lock()
+	defer t.mutex.Unlock()
+	t.open()
+	if last := len(t.idle) - 1; last >= 0 {
+		it := t.idle[last]
+		t.idle = t.idle[:last]
+		return it, nil
+	}
+	if !t.isMade && C.tmpl_program_make(&t.set, &t.program) != 0 {
+		return nil, ErrMemory
+	}
+	t.isMade = true
+	it := &worker{version: t.version}
+	if C.tmpl_program_share(&t.program, &it.program) != 0 {
+		return nil, ErrMemory
+	}
+	return it, nil
+}
+
+// give takes it back, unless it renders what was there before.
+func (t *Templates) give(it *worker) {
+	t.mutex.Lock()
+	defer t.mutex.Unlock()
+	if it.version == t.version {
+		t.idle = append(t.idle, it)
+	} else {
+		it.free()
+	}
+}
+
+// print writes the printed set.
+func (t *Templates) print(w io.Writer) error {
+	var text C.tmpl_text
+	defer C.tmpl_text_free(&text)
+	t.mutex.Lock()
+	status := C.tmpl_set_print(&t.set, &text)
+	t.mutex.Unlock()
+	if _, err := w.Write(bytesOf(&text)); err != nil {
+		return err
+	}
+	return ended(status, nil)
 }
 
 // Execute writes the text of the template of this name to w, as Render does.
 func (t *Templates) Execute(w io.Writer, name string, data []byte, options Options) error {
-	t.mutex.Lock()
-	defer t.mutex.Unlock()
-	t.opened()
-	settings, template := settingsOf(options), lent([]byte(name))
-	defer C.free(unsafe.Pointer(template))
-	if !options.Print && (!t.isRead || !bytes.Equal(data, t.read)) {
-		if err := t.readAnew(data); err != nil {
-			return err
-		}
+	if options.Print {
+		return t.print(w)
 	}
-	return written(w, func(out, line *C.tmpl_buffer) C.uint8_t {
-		return C.tmpl_render_set(&settings, t.set, t.data, template, C.size_t(len(name)), out, line)
-	})
-}
-
-func (t *Templates) readAnew(data []byte) error {
-	input := lent(data)
-	defer C.free(unsafe.Pointer(input))
-	t.isRead = false
-	err := written(io.Discard, func(_, line *C.tmpl_buffer) C.uint8_t {
-		return C.tmpl_data_read(t.data, input, C.size_t(len(data)), line)
-	})
-	if err == nil {
-		t.isRead, t.read = true, append(t.read[:0], data...)
+	it, err := t.take()
+	if err != nil {
+		return err
 	}
-	return err
+	defer t.give(it)
+	return it.execute(w, name, data, options)
 }
 
 // Close gives back what t keeps, at once. It has no templates then.
 func (t *Templates) Close() {
 	t.mutex.Lock()
 	defer t.mutex.Unlock()
-	if t.set != nil {
-		C.tmpl_set_free(t.set)
-		C.tmpl_data_free(t.data)
-		C.free(unsafe.Pointer(t.set))
-		C.free(unsafe.Pointer(t.data))
-		t.set, t.data, t.isRead = nil, nil, false
-		runtime.SetFinalizer(t, nil)
-	}
+	t.renew()
+	C.tmpl_set_free(&t.set)
+	C.tmpl_program_free(&t.program)
+	t.isOpen = false
+	runtime.SetFinalizer(t, nil)
 }

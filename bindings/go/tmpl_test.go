@@ -118,3 +118,37 @@ func TestGoroutines(t *testing.T) {
 	}
 	all.Wait()
 }
+
+// Files are added while others render: each render is of what was there before or after.
+func TestFilesAddedMeanwhile(t *testing.T) {
+	var pages Templates
+	if err := pages.Add(File{Name: "m", Bytes: []byte("{{.}} 0")}); err != nil {
+		t.Fatal(err)
+	}
+	var all sync.WaitGroup
+	for n := 0; n < 4; n++ {
+		all.Add(1)
+		go func(n int) {
+			defer all.Done()
+			for k := n * 2000; k < n*2000+2000; k++ {
+				var out strings.Builder
+				value, file := 0, 0
+				err := pages.Execute(&out, "m", []byte(fmt.Sprint(k)), Options{})
+				if _, e := fmt.Sscan(out.String(), &value, &file); err != nil || e != nil || value != k || file > 50 {
+					t.Error(out.String(), err, e)
+					return
+				}
+			}
+		}(n)
+	}
+	for file := 1; file <= 50; file++ {
+		if err := pages.Add(File{Name: "n", Bytes: []byte(fmt.Sprintf("{{define \"m\"}}{{.}} %d{{end}}", file))}); err != nil {
+			t.Error(err)
+		}
+	}
+	all.Wait()
+	var out strings.Builder
+	if err := pages.Execute(&out, "m", []byte("1"), Options{}); err != nil || out.String() != "1 50" {
+		t.Error(out.String(), err)
+	}
+}

@@ -15,7 +15,8 @@ Files = Union[Mapping[Text, Text], Iterable[Tuple[Text, Text]]]
 
 OK, FAULT, NOT_TEXT, REFUSED, DATA, FULL, MEMORY = 0, 1, 2, 4, 5, 6, 7
 MISSING_KEY = {"default": 0, "invalid": 1, "zero": 2, "error": 3}
-ROOM = 1 << 16  # bytes of text that are lent first
+LINE = 1 << 12  # bytes of a line that are lent first
+KEPT = 1 << 20  # a text of more bytes is given back after its render
 
 
 # the place in a line: in a refused file, and in a run that stopped; a quoted name has no bare quote
@@ -70,9 +71,18 @@ class _Buffer(ctypes.Structure):
 
 
 class _Kept(ctypes.Structure):
-    """A tmpl_set or a tmpl_data; all zeros are an empty one."""
+    """A tmpl_set, a tmpl_program or a tmpl_data; all zeros are an empty one."""
 
     _fields_ = [("held", ctypes.c_void_p)]
+
+
+class _Text(ctypes.Structure):
+    """A tmpl_text; all zeros are an empty one."""
+
+    _fields_ = [("bytes", ctypes.c_void_p), ("size", ctypes.c_size_t), ("held", ctypes.c_void_p)]
+
+    def copied(self):
+        return ctypes.string_at(self.bytes, self.size) if self.size else b""
 
 
 def _library():
@@ -82,13 +92,23 @@ def _library():
     buffers = (ctypes.POINTER(_Buffer), ctypes.POINTER(_Buffer))
     it.tmpl_render.restype = ctypes.c_uint8
     it.tmpl_render.argtypes = [ctypes.POINTER(_Settings), ctypes.POINTER(_File), ctypes.c_size_t, *text, *text, *buffers]
-    kept, err = ctypes.POINTER(_Kept), ctypes.POINTER(_Buffer)
-    it.tmpl_set_add.restype = it.tmpl_data_read.restype = it.tmpl_render_set.restype = ctypes.c_uint8
-    it.tmpl_set_free.restype = it.tmpl_data_free.restype = None
-    it.tmpl_set_add.argtypes = [kept, ctypes.POINTER(_File), err]
-    it.tmpl_data_read.argtypes = [kept, *text, err]
-    it.tmpl_set_free.argtypes = it.tmpl_data_free.argtypes = [kept]
-    it.tmpl_render_set.argtypes = [ctypes.POINTER(_Settings), kept, kept, *text, *buffers]
+    kept, err, owned, settings = (ctypes.POINTER(it) for it in (_Kept, _Buffer, _Text, _Settings))
+    calls = {
+        "tmpl_set_add": [kept, ctypes.POINTER(_File), err],
+        "tmpl_set_print": [kept, owned],
+        "tmpl_program_make": [kept, kept],
+        "tmpl_program_share": [kept, kept],
+        "tmpl_data_read": [kept, *text, err],
+        "tmpl_data_share": [kept, kept],
+        "tmpl_render_text": [settings, kept, kept, *text, owned, owned],
+        "tmpl_render_program": [settings, kept, kept, *text, *buffers],
+        "tmpl_render_set": [settings, kept, kept, *text, *buffers],
+    }
+    for name, words in calls.items():
+        getattr(it, name).restype, getattr(it, name).argtypes = ctypes.c_uint8, words
+    for name, word in (("set", kept), ("program", kept), ("data", kept), ("text", owned)):
+        free = getattr(it, f"tmpl_{name}_free")
+        free.restype, free.argtypes = None, [word]
     it.tmpl_version.restype = ctypes.c_char_p
     it.tmpl_version.argtypes = []
     return it
@@ -163,30 +183,30 @@ def render_into(files, name, data, settings, size, line_size):
     return status, out, err
 
 
-def _whole(call, data=None):
-    """The text of a call that is given memory for text and line, and called again with more where one of them does not fit. `data` is
-    the value that it reads, if any."""
-    size = line_size = ROOM
+def _said(status, line, text=b"", data=None):
+    """Raises what a call says that did not end well. `data` is the value that it read, if any."""
+    line = line.decode("utf-8", "replace").rstrip("\n")
+    if status == MEMORY:
+        raise MemoryError(line or "tmpl: out of memory")
+    if status != OK:
+        raise TemplateError(status, line, text, _refused_number(data) if status == DATA else None)
+
+
+def _accepted(call, data=None):
+    """Makes a call that says one line, which is given memory for it, and made again with more where the line does not fit."""
+    size = LINE
     while True:
-        status, out, err = call(size, line_size)
-        if status == MEMORY:
-            raise MemoryError(err.output().decode("utf-8", "replace").rstrip("\n"))
-        if status == OK:
-            return out.output()
-        if status != FULL and not err.is_cut():
-            where = _refused_number(data) if status == DATA else None
-            raise TemplateError(status, err.output().decode("utf-8", "replace").rstrip("\n"), out.output(), where)
-        size, line_size = max(size, out.buffer.needed), max(line_size, err.buffer.needed)
+        err = _Lent(size)
+        status = call(err.buffer)
+        if not err.is_cut():
+            return _said(status, err.output(), data=data)
+        size = err.buffer.needed
 
 
-def render_bytes(
-    files: Files, name: Optional[Text] = None, data: Any = None, missing_key: str = "default", depth: int = 0, steps: int = 0,
-    printed: bool = False, floats: str = "refuse",
-) -> bytes:
+def render_bytes(files: Files, name: Optional[Text] = None, data: Any = None, **options: Any) -> bytes:
     """What `render` gives, as bytes, which need be no text."""
-    settings, data = _settings(missing_key, depth, steps, printed), _value(data, floats)
-    read = _json(data)
-    return _whole(lambda size, line_size: render_into(files, name, read, settings, size, line_size), data)
+    with Templates(files) as templates:
+        return templates.render_bytes(name, data, **options)
 
 
 def render(files: Files, name: Optional[Text] = None, data: Any = None, **options: Any) -> str:
@@ -207,15 +227,44 @@ def version() -> str:
 __version__ = version().split()[1]
 
 
+class _Worker:
+    """What one render at a time needs: a handle of the program, data that it read last, and two texts, which are used again."""
+
+    def __init__(self, program, version):
+        self.program, self.data, self.text, self.line = _Kept(), _Kept(), _Text(), _Text()
+        self.version, self.read = version, None
+        _said(_LIBRARY.tmpl_program_share(program, self.program), b"")
+
+    def render(self, name, read, settings, data):
+        """The text of a render. `read` is JSON, of the value `data`; what was read before is not read again."""
+        if read != self.read:
+            self.read = None
+            _accepted(lambda err: _LIBRARY.tmpl_data_read(self.data, read, len(read), err), data)
+            self.read = read
+        status = _LIBRARY.tmpl_render_text(settings, self.program, self.data, name, len(name), self.text, self.line)
+        text, line = self.text.copied(), self.line.copied()
+        if self.text.size > KEPT:
+            _LIBRARY.tmpl_text_free(self.text)
+        _said(status, line, text)
+        return text
+
+    def __del__(self):
+        _LIBRARY.tmpl_program_free(self.program)
+        _LIBRARY.tmpl_data_free(self.data)
+        _LIBRARY.tmpl_text_free(self.text)
+        _LIBRARY.tmpl_text_free(self.line)
+
+
 class Templates:
     """Template files that are parsed once, and rendered as often as you like: `Templates(files).render(name, data)`.
 
-    `files` are as those of `render`. Data is read anew where its JSON differs from that of the render before. Any number of threads may
-    use one object: its calls wait for one another. Its memory is given back with it, by `close`, or at the end of a `with`."""
+    `files` are as those of `render`. Any number of threads may use one object at the same time, and no render waits for another one.
+    Each thread that renders at the same time as others has handles of its own here, and data is read anew where its JSON differs from
+    that which these read last. The memory is given back with the object, by `close`, or at the end of a `with`."""
 
     def __init__(self, files: Files = ()):
-        self._set, self._data, self._read, self._first = _Kept(), _Kept(), None, None
-        self._lock = threading.Lock()
+        self._set, self._program, self._idle, self._version, self._made, self._first = _Kept(), _Kept(), [], 0, False, None
+        self._lock = threading.Lock()  # of all that is here, but held during no render
         for path, what in files.items() if hasattr(files, "items") else files:
             self.add(path, what)
 
@@ -223,8 +272,31 @@ class Templates:
         """Adds the templates of one more file, or raises TemplateError and leaves them as they are."""
         path, what = _encoded(path), _encoded(what)
         with self._lock:
-            _whole(lambda size, line_size: self.add_into(path, what, line_size))
+            _accepted(lambda err: _LIBRARY.tmpl_set_add(self._set, _File(path, len(path), what, len(what)), err))
             self._first = path.rpartition(b"/")[2] if self._first is None else self._first
+            self._renew()
+
+    def _renew(self):
+        """What renders what was there before is not used again."""
+        self._version, self._made, self._idle = self._version + 1, False, []
+
+    def _worker(self):
+        with self._lock:
+            if self._idle:
+                return self._idle.pop()
+            if not self._made:
+                _said(_LIBRARY.tmpl_program_make(self._set, self._program), b"")
+                self._made = True
+            return _Worker(self._program, self._version)
+
+    def _printed(self):
+        text = _Text()
+        try:
+            with self._lock:
+                _said(_LIBRARY.tmpl_set_print(self._set, text), b"")
+            return text.copied()
+        finally:
+            _LIBRARY.tmpl_text_free(text)
 
     def render_bytes(
         self, name: Optional[Text] = None, data: Any = None, missing_key: str = "default", depth: int = 0, steps: int = 0,
@@ -233,13 +305,15 @@ class Templates:
         """What `render` gives, as bytes."""
         settings, data = _settings(missing_key, depth, steps, printed), _value(data, floats)
         read = _json(data)
-        with self._lock:
-            name = _encoded((self._first or b"") if name is None else name)
-            if read != self._read and not printed:
-                self._read = None
-                _whole(lambda size, line_size: self.read_into(read, line_size), data)
-                self._read = read
-            return _whole(lambda size, line_size: self.render_into(name, settings, size, line_size))
+        if printed:
+            return self._printed()
+        worker = self._worker()
+        try:
+            return worker.render(_encoded((self._first or b"") if name is None else name), read, settings, data)
+        finally:
+            with self._lock:
+                if worker.version == self._version:
+                    self._idle.append(worker)
 
     def render(self, name: Optional[Text] = None, data: Any = None, **options: Any) -> str:
         """The text of the template of this name: by default that of the first file. Options and errors are those of `render`."""
@@ -249,27 +323,12 @@ class Templates:
         """The text for each of these data, one after the other. The first that does not end well raises its error."""
         return (self.render(name, data, **options) for data in datas)
 
-    def add_into(self, path, what, line_size):
-        """One call: its status, and the memory that holds its line, as `render_into` gives it."""
-        err = _Lent(line_size)
-        return _LIBRARY.tmpl_set_add(self._set, _File(path, len(path), what, len(what)), err.buffer), _Lent(0), err
-
-    def read_into(self, data, line_size):
-        """The same of data."""
-        err = _Lent(line_size)
-        return _LIBRARY.tmpl_data_read(self._data, data, len(data), err.buffer), _Lent(0), err
-
-    def render_into(self, name, settings, size, line_size):
-        """The same of a render."""
-        out, err = _Lent(size), _Lent(line_size)
-        return _LIBRARY.tmpl_render_set(settings, self._set, self._data, name, len(name), out.buffer, err.buffer), out, err
-
     def close(self) -> None:
         """Frees templates and data. It has none then."""
         with self._lock:
             _LIBRARY.tmpl_set_free(self._set)
-            _LIBRARY.tmpl_data_free(self._data)
-            self._read = None
+            _LIBRARY.tmpl_program_free(self._program)
+            self._renew()
 
     def __enter__(self) -> Templates:
         return self

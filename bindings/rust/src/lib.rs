@@ -2,6 +2,9 @@
 use std::fmt;
 use std::sync::{Mutex, MutexGuard, PoisonError};
 
+/// A text of more bytes than these is given back after its render.
+const KEPT: usize = 1 << 20;
+
 /// How to run a template. The default is all zeros.
 #[repr(C)]
 #[derive(Clone, Copy, Debug, Default)]
@@ -32,9 +35,17 @@ struct RawBuffer {
     needed: usize,
 }
 
-/// A set, or data; null is an empty one.
+/// A set, a program, or data; null is an empty one.
 #[repr(C)]
 struct RawKept {
+    held: *mut u8,
+}
+
+/// A text that the library owns.
+#[repr(C)]
+struct RawText {
+    bytes: *const u8,
+    size: usize,
     held: *mut u8,
 }
 
@@ -44,10 +55,15 @@ extern "C" {
         data: *const u8, data_size: usize, out: *mut RawBuffer, err: *mut RawBuffer) -> u8;
     fn tmpl_set_add(set: *mut RawKept, file: *const RawFile, err: *mut RawBuffer) -> u8;
     fn tmpl_data_read(data: *mut RawKept, bytes: *const u8, size: usize, err: *mut RawBuffer) -> u8;
-    fn tmpl_render_set(settings: *const Settings, set: *mut RawKept, data: *mut RawKept, name: *const u8, name_size: usize,
-        out: *mut RawBuffer, err: *mut RawBuffer) -> u8;
+    fn tmpl_set_print(set: *mut RawKept, text: *mut RawText) -> u8;
+    fn tmpl_program_make(set: *mut RawKept, program: *mut RawKept) -> u8;
+    fn tmpl_program_share(program: *mut RawKept, copy: *mut RawKept) -> u8;
+    fn tmpl_render_text(settings: *const Settings, program: *mut RawKept, data: *mut RawKept, name: *const u8, name_size: usize,
+        text: *mut RawText, line: *mut RawText) -> u8;
     fn tmpl_set_free(set: *mut RawKept);
+    fn tmpl_program_free(program: *mut RawKept);
     fn tmpl_data_free(data: *mut RawKept);
+    fn tmpl_text_free(text: *mut RawText);
 }
 
 fn raw_file(name: &str, bytes: &[u8]) -> RawFile {
@@ -94,87 +110,174 @@ pub fn render_into(
     (status, Extent { taken: o.taken, needed: o.needed }, Extent { taken: e.taken, needed: e.needed })
 }
 
-/// The text of a call that is given memory for text and line, and made again with more where one of them does not fit.
-fn whole(room: usize, mut call: impl FnMut(&mut [u8], &mut [u8]) -> (u8, Extent, Extent)) -> Result<Vec<u8>, Error> {
-    let (mut out, mut line) = (vec![0; room], vec![0; 1 << 12]);
+/// How a call ended: an error with the status and the line, but where all went well.
+fn ended(status: u8, line: &[u8], text: Vec<u8>) -> Result<Vec<u8>, Error> {
+    match status {
+        0 => Ok(text),
+        7 => Err(Error { status, line: "tmpl: out of memory\n".to_string(), text }),
+        _ => Err(Error { status, line: String::from_utf8_lossy(line).into_owned(), text }),
+    }
+}
+
+/// Makes a call that says a line, and makes it again with more memory where the line does not fit.
+fn accepted(mut call: impl FnMut(&mut RawBuffer) -> u8) -> Result<(), Error> {
+    let mut line = vec![0; 1 << 12];
     loop {
-        let (status, text, said) = call(&mut out, &mut line);
-        let is_cut = said.needed > line.len();
-        if status == 6 || is_cut {
-            out.resize(out.len().max(text.needed), 0);
-            line.resize(line.len().max(said.needed), 0);
-            continue;
+        let mut err = raw_buffer(&mut line);
+        let status = call(&mut err);
+        let (taken, needed) = (err.taken, err.needed);
+        if needed <= line.len() {
+            return ended(status, &line[..taken], Vec::new()).map(drop);
         }
-        out.truncate(text.taken);
-        return match status {
-            0 => Ok(out),
-            _ => Err(Error { status, line: String::from_utf8_lossy(&line[..said.taken]).into_owned(), text: out }),
-        };
+        line.resize(needed, 0);
     }
 }
 
 /// The text of the template of this name of the files.
 pub fn render(files: &[(&str, &[u8])], name: &str, data: &[u8], settings: &Settings) -> Result<Vec<u8>, Error> {
-    whole(1 << 16, |out, line| render_into(files, name, data, settings, out, line))
+    let templates = Templates::new();
+    for (path, bytes) in files {
+        templates.add(path, bytes)?;
+    }
+    templates.render(name, data, settings)
 }
 
-/// Template files that are parsed once. Data is read anew where it differs from that of the call before. Any number of threads may
-/// use one: its calls wait for one another.
-pub struct Templates {
-    kept: Mutex<Box<Kept>>, // in a box, since what C keeps is not moved
+impl RawKept {
+    const EMPTY: RawKept = RawKept { held: std::ptr::null_mut() };
 }
 
-struct Kept {
-    set: RawKept,
-    data: RawKept,
-    read: Option<Vec<u8>>, // the data of the call before
+impl RawText {
+    const EMPTY: RawText = RawText { bytes: std::ptr::null(), size: 0, held: std::ptr::null_mut() };
+
+    fn to_vec(&self) -> Vec<u8> {
+        match self.size {
+            0 => Vec::new(),
+            // SAFETY: the library has that many bytes there until its next call.
+            size => unsafe { std::slice::from_raw_parts(self.bytes, size) }.to_vec(),
+        }
+    }
 }
 
-// SAFETY: what is kept is memory of the heap alone, and a call may come from any thread, one at a time.
-unsafe impl Send for Kept {}
-
-impl Drop for Kept {
+impl Drop for RawText {
     fn drop(&mut self) {
-        // SAFETY: both are what the library made, or null.
+        // SAFETY: it is what the library made, or empty.
+        unsafe { tmpl_text_free(self) }
+    }
+}
+
+/// What one render at a time needs: a handle of the program, data, and two texts, which are used again.
+struct Worker {
+    program: RawKept,
+    data: RawKept,
+    text: RawText,
+    line: RawText,
+    version: u64,
+    read: Option<Vec<u8>>, // the data of a render before
+}
+
+// SAFETY: a handle is memory of the heap alone, and goes from thread to thread under the lock of its `Templates`.
+unsafe impl Send for Worker {}
+
+impl Drop for Worker {
+    fn drop(&mut self) {
+        // SAFETY: both are what the library made, or empty.
         unsafe {
-            tmpl_set_free(&mut self.set);
+            tmpl_program_free(&mut self.program);
             tmpl_data_free(&mut self.data);
         }
     }
 }
 
-impl Kept {
+impl Worker {
     fn read(&mut self, data: &[u8]) -> Result<(), Error> {
         if self.read.as_deref() == Some(data) {
             return Ok(());
         }
         self.read = None;
         let kept = &mut self.data;
-        whole(0, |_, line| {
-            // SAFETY: each pointer and size are those of one slice, which is lent for the call.
-            said(line, |err| unsafe { tmpl_data_read(kept, data.as_ptr(), data.len(), err) })
-        })?;
+        // SAFETY: each pointer and size are those of one slice, which is lent for the call.
+        accepted(|err| unsafe { tmpl_data_read(kept, data.as_ptr(), data.len(), err) })?;
         self.read = Some(data.to_vec());
         Ok(())
     }
+
+    fn render(&mut self, name: &str, data: &[u8], settings: &Settings) -> Result<Vec<u8>, Error> {
+        self.read(data)?;
+        // SAFETY: the handles are four, no other call has them, and the name is lent for the call.
+        let status = unsafe {
+            tmpl_render_text(settings, &mut self.program, &mut self.data, name.as_ptr(), name.len(), &mut self.text, &mut self.line)
+        };
+        let text = self.text.to_vec();
+        if text.len() > KEPT {
+            self.text = RawText::EMPTY;
+        }
+        ended(status, &self.line.to_vec(), text)
+    }
 }
 
-/// A call that only says a line.
-fn said(line: &mut [u8], call: impl FnOnce(&mut RawBuffer) -> u8) -> (u8, Extent, Extent) {
-    let mut err = raw_buffer(line);
-    let status = call(&mut err);
-    (status, Extent { taken: 0, needed: 0 }, Extent { taken: err.taken, needed: err.needed })
+/// Template files that are parsed once. Any number of threads may use one at the same time, and no render waits for another one. Data is
+/// read anew where it differs from that of a render before.
+pub struct Templates {
+    kept: Mutex<Kept>, // held during no render
+}
+
+struct Kept {
+    set: RawKept,
+    program: RawKept,
+    idle: Vec<Box<Worker>>,
+    version: u64,  // how often there were other templates
+    is_made: bool, // whether the program is that of the set
+}
+
+// SAFETY: as that of a worker.
+unsafe impl Send for Kept {}
+
+impl Drop for Kept {
+    fn drop(&mut self) {
+        // SAFETY: both are what the library made, or empty.
+        unsafe {
+            tmpl_set_free(&mut self.set);
+            tmpl_program_free(&mut self.program);
+        }
+    }
+}
+
+impl Kept {
+    /// What no other render uses.
+    fn take(&mut self) -> Result<Box<Worker>, Error> {
+        if let Some(worker) = self.idle.pop() {
+            return Ok(worker);
+        }
+        if !self.is_made {
+            // SAFETY: the handles are two, and no other call has them.
+            ended(unsafe { tmpl_program_make(&mut self.set, &mut self.program) }, b"", Vec::new())?;
+            self.is_made = true;
+        }
+        let (text, line) = (RawText::EMPTY, RawText::EMPTY);
+        let (version, program, data) = (self.version, RawKept::EMPTY, RawKept::EMPTY);
+        let mut worker = Box::new(Worker { program, data, text, line, version, read: None });
+        // SAFETY: the handles are two, and no other call has them.
+        ended(unsafe { tmpl_program_share(&mut self.program, &mut worker.program) }, b"", Vec::new())?;
+        Ok(worker)
+    }
+
+    /// Takes it back, unless it renders what was there before.
+    fn give(&mut self, worker: Box<Worker>) {
+        if worker.version == self.version {
+            self.idle.push(worker);
+        }
+    }
 }
 
 impl Templates {
     /// No templates, and no data.
     pub fn new() -> Templates {
-        let empty = || RawKept { held: std::ptr::null_mut() };
-        Templates { kept: Mutex::new(Box::new(Kept { set: empty(), data: empty(), read: None })) }
+        let (set, program) = (RawKept::EMPTY, RawKept::EMPTY);
+        Templates { kept: Mutex::new(Kept { set, program, idle: Vec::new(), version: 0, is_made: false }) }
     }
 
     // no call of the library panics, so what is kept is whole also where a thread that held it did
-    fn kept(&self) -> MutexGuard<'_, Box<Kept>> {
+    fn kept(&self) -> MutexGuard<'_, Kept> {
         self.kept.lock().unwrap_or_else(PoisonError::into_inner)
     }
 
@@ -183,22 +286,29 @@ impl Templates {
         let mut kept = self.kept();
         let file = raw_file(path, bytes);
         // SAFETY: the file is lent for the call.
-        whole(0, |_, line| said(line, |err| unsafe { tmpl_set_add(&mut kept.set, &file, err) })).map(drop)
+        accepted(|err| unsafe { tmpl_set_add(&mut kept.set, &file, err) })?;
+        kept.idle.clear();
+        kept.version += 1;
+        kept.is_made = false;
+        Ok(())
     }
 
     /// The text of the template of this name. No data is data of no bytes.
     pub fn render(&self, name: &str, data: &[u8], settings: &Settings) -> Result<Vec<u8>, Error> {
-        let mut guard = self.kept();
-        let kept: &mut Kept = &mut guard;
-        if settings.print == 0 {
-            kept.read(data)?;
+        if settings.print == 1 {
+            return self.print();
         }
-        whole(1 << 16, |out, line| {
-            let (mut o, mut e) = (raw_buffer(out), raw_buffer(line));
-            // SAFETY: set and data are two, and each pointer and size are those of one slice, which is lent for the call.
-            let status = unsafe { tmpl_render_set(settings, &mut kept.set, &mut kept.data, name.as_ptr(), name.len(), &mut o, &mut e) };
-            (status, Extent { taken: o.taken, needed: o.needed }, Extent { taken: e.taken, needed: e.needed })
-        })
+        let mut worker = self.kept().take()?;
+        let text = worker.render(name, data, settings);
+        self.kept().give(worker);
+        text
+    }
+
+    fn print(&self) -> Result<Vec<u8>, Error> {
+        let mut text = RawText::EMPTY;
+        // SAFETY: the handles are two, and no other call has them.
+        let status = unsafe { tmpl_set_print(&mut self.kept().set, &mut text) };
+        ended(status, b"", text.to_vec())
     }
 }
 

@@ -82,3 +82,27 @@ fn threads() {
         }
     });
 }
+
+// files are added while others render: each render is of what was there before or after
+#[test]
+fn files_added_meanwhile() {
+    let pages = tmpl::Templates::new();
+    pages.add("m", b"{{.}} 0").unwrap();
+    std::thread::scope(|scope| {
+        for n in 0..4 {
+            let pages = &pages;
+            scope.spawn(move || {
+                for k in 0..2_000 {
+                    let data = format!("{}", n * 2_000 + k);
+                    let text = String::from_utf8(pages.render("m", data.as_bytes(), &tmpl::Settings::default()).unwrap()).unwrap();
+                    let (value, file) = text.split_once(' ').unwrap();
+                    assert!(value == data && file.parse::<u32>().unwrap() <= 50, "{text}");
+                }
+            });
+        }
+        for file in 1..=50 {
+            pages.add("n", format!("{{{{define \"m\"}}}}{{{{.}}}} {file}{{{{end}}}}").as_bytes()).unwrap();
+        }
+    });
+    assert_eq!(pages.render("m", b"1", &tmpl::Settings::default()).unwrap(), b"1 50");
+}

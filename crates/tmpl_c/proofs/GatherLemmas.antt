@@ -1,5 +1,5 @@
 -- For `fill`: what was gathered is what a call comes to, as far as no memory was refused.
-use Rattle.std.proofs.Common.{◌≡◌, ◌≢◌, ◌∙◌, ◌+◌, ◌++◌, ◌<◌, ◌≤◌, ℕ, Bool, true, false, [], ◌∷◌, Some, ap, arith, length, refl, sym, inl, inr}
+use Rattle.std.proofs.Common.{◌≡◌, ◌≢◌, ◌∙◌, ◌+◌, ◌++◌, ◌<◌, ◌≤◌, ℕ, Bool, true, false, [], ◌∷◌, Some, ap, arith, length, refl, subst, sym, inl, inr}
 use Rattle.std.proofs.lemmas.Bool.{le-leb, lt-leb}
 use Rattle.std.proofs.lemmas.List.{append-nil}
 use Rattle.std.specs.Prelude.{if◌then◌else◌}
@@ -7,6 +7,8 @@ use Rattle.tmpl_meaning.specs.Sink.{Begun, Sunk, Told, sunk}
 use Rattle.tmpl_tool.specs.Outcome.{Answer, Outcome, memory_line, write_line}
 use Rattle.tmpl_tool.specs.Source.{Bytes}
 use Rattle.tmpl_c.specs.Filled.{Fills, Rendered, Seen, fits}
+use Rattle.tmpl_c.specs.Texts.{Holds}
+use Rattle.tmpl_c.specs.computed.Gathering.{untouched}
 
 abbrev pub holding : Bytes → ℕ → Told
 holding bytes failures = record { bytes = Some bytes; failures = failures }
@@ -71,3 +73,29 @@ module _ (a : Answer) (all line : Bytes) (f g code : ℕ) (o : Outcome a (sunk (
         let same : length all ≡ length a.text = ap length is.0 in
         let yes : fits room a ≡ true = le-leb (length a.text) room (omega (arith, same, most)) in
         inl (fills_text, rw (yes, sym is.1) says, rw yes is.2)
+
+-- ---- where text and line are kept
+module _ (a : Answer) (all line : Bytes) (f g code : ℕ) (o : Outcome a (sunk (holding [] 0) (holding all f)) (sunk (holding [] 0) (holding line g)) code) where
+  -- memory was refused
+  pub refused_holds : (said : Bytes) → said ≡ [] → Holds a all said 7
+  refused_holds said none = let front = outcome_front a all f _ code o in inr (front.0, front.1, none, refl)
+
+  -- it was not
+  pub exact_holds : (code ≢ 7) × (f ≡ 0) × (g ≡ 0) → Holds a all line code
+  exact_holds fine = inl (outcome_exact a all line f g code o fine)
+
+-- memory was refused before anything was put
+pub nothing_holds : (a : Answer) (text line : Bytes) → text ≡ [] → line ≡ [] → Holds a text line 7
+nothing_holds a text line t l = inr (a.text, ap (λ (xs : Bytes). xs ++ a.text) (sym t), l, refl)
+
+-- an answer without a line leaves none
+pub without_line : (a : Answer) (text line : Bytes) (code : ℕ) → a.line ≡ [] → Holds a text line code → Holds a text [] code
+without_line a text line code none (inl h) = inl (h.0, sym none, h.2)
+without_line a text line code none (inr h) = inr (h.0, h.1, refl, h.3)
+
+-- what comes to sinks that hold nothing, told of the two
+pub from_nothing : (a : Answer) (o e out err : Told) (code : ℕ) → o ≡ untouched → e ≡ untouched → Outcome a (sunk o out) (sunk e err) code
+    → Outcome a (sunk untouched out) (sunk untouched err) code
+from_nothing a o e out err code empty none comes =
+    subst (λ (t : Told). Outcome a (sunk t out) (sunk untouched err) code) empty
+    (subst (λ (t : Told). Outcome a (sunk o out) (sunk t err) code) none comes)

@@ -1,12 +1,13 @@
 -- For the law on what a caller sees: what lent memory holds after a render, and the settings of all zeros.
-use Rattle.std.proofs.Common.{◌≡◌, ◌∙◌, ◌++◌, ℕ, Bool, true, false, List, [], length, arith, refl, sym, ap, inl, inr, append_assoc}
+use Rattle.std.proofs.Common.{◌≡◌, ◌≢◌, ◌∙◌, ◌++◌, ℕ, Bool, true, false, List, [], length, refl, sym, ap, inl, inr, append_assoc}
 use Rattle.std.specs.Prelude.{leb, take, drop, if◌then◌else◌}
 use Rattle.std.proofs.lemmas.Bool.{leb-true}
-use Rattle.std.proofs.lemmas.List.{take-append-drop, take_all}
-use Rattle.tmpl_tool.specs.Outcome.{Answer}
+use Rattle.std.proofs.lemmas.List.{append-nil, take-append-drop, take_all}
+use Rattle.tmpl_syntax.specs.Set.{Template}
 use Rattle.tmpl_tool.specs.Source.{Bytes}
 use Rattle.tmpl_c.specs.Filled.{Fills, Seen, fits}
-use Rattle.tmpl_c.specs.Laws.{HasDefaults, HoldsFront, HoldsWhole}
+use Rattle.tmpl_c.specs.Held.{Replaces}
+use Rattle.tmpl_c.specs.Laws.{HasDefaults, HoldsFront, HoldsWhole, ReplacesAsOffered, TextHoldsFront, TextHoldsWhole}
 
 pub holds_whole : HoldsWhole
 holds_whole a room line_room out err (inl h) = by (fits room a) refl h.2
@@ -30,4 +31,25 @@ holds_front a room line_room out err code (inr ((front, rest, is, fills), line, 
 pub has_defaults : HasDefaults
 has_defaults s steps depth mode = rw (steps, depth, mode) refl
 
+pub text_whole : TextHoldsWhole
+text_whole a text line (inl h) = (h.0, h.1, sym h.2)
+text_whole a text line (inr h) = let wrong = h.3 in cc
+
+pub text_front : TextHoldsFront
+text_front a text line code (inl h) = ([], sym h.0 ∙ sym (append-nil text))
+text_front a text line code (inr h) = (h.0, h.1)
+
+kept_offered : (offered old new : List Template) → Replaces offered old new 0 → new ≡ offered
+kept_offered offered old new (inl h) = h.0
+kept_offered offered old new (inr h) = let wrong = h.1 in cc
+
+kept_before : (offered old new : List Template) (code : ℕ) → Replaces offered old new code → code ≢ 0 → new ≡ old
+kept_before offered old new code (inl h) not = absurd (not h.1)
+kept_before offered old new code (inr h) not = h.0
+
+pub replaces : ReplacesAsOffered
+replaces = (kept_offered, kept_before)
+
 pub ruleset seen = (holds_whole, has_defaults)
+
+pub ruleset texts = (text_whole, text_front, replaces)

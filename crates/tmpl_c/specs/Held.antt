@@ -3,7 +3,6 @@ use Rattle.std.specs.Prelude.{◌≡◌, ◌⊎◌, ℕ, Bool, List, [], Option,
 use Rattle.std.specs.Option.{option_map_or}
 use Rattle.tmpl_values.specs.Value.{Value}
 use Rattle.tmpl_values.specs.View.{value_of}
-use Rattle.tmpl_values.specs.declared.data.Data.{Data}
 use Rattle.tmpl_syntax.specs.Set.{Template}
 use Rattle.tmpl_syntax.specs.View.{set_view}
 use Rattle.tmpl_syntax.specs.declared.set.Set.{Set}
@@ -12,7 +11,10 @@ use Rattle.tmpl_tool.specs.Outcome.{Answer, memory_line}
 use Rattle.tmpl_tool.specs.Source.{Bytes}
 use Rattle.tmpl_tool.specs.Tool.{Early, answer_of, named_run, printed, stop_answer, stop_if}
 use Rattle.tmpl_values.specs.Stage.{and_then}
+use Rattle.tmpl_engine.specs.View as engine
+use Rattle.tmpl_engine.specs.declared.rendering.Renderer.{Renderer}
 use Rattle.tmpl_c.specs.Filled.{Fills, Seen}
+use Rattle.tmpl_c.specs.declared.shared_data.SharedData.{SharedData}
 
 -- ---- what is kept
 
@@ -20,9 +22,13 @@ use Rattle.tmpl_c.specs.Filled.{Fills, Seen}
 abbrev pub templates_in : Option Set → List Template
 templates_in kept = option_map_or set_view kept []
 
+-- those of the set that a program was made of, as they were then
+abbrev pub templates_run : Option Renderer → List Template
+templates_run kept = option_map_or engine.templates_in kept []
+
 -- the value of data that is kept, if any is
-abbrev pub value_in : Option Data → Option Value
-value_in kept = option_map value_of kept
+abbrev pub value_in : Option SharedData → Option Value
+value_in kept = option_map (λ s. value_of s.data.value) kept
 
 -- ---- an offer
 
@@ -43,6 +49,10 @@ Unmade old new room err code = (new ≡ old) × Fills memory_line room err × (c
 abbrev pub Keeps : {T : Type 0} → Result T Early → T → T → ℕ → Seen → ℕ → Type 0
 Keeps offered old new room err code =
     Accepted offered new room err code ⊎ (Declined offered old new room err code ⊎ Unmade old new room err code)
+
+-- what was offered is kept, with status 0; or memory was refused, and what was kept before is
+abbrev pub Replaces : {T : Type 0} → T → T → T → ℕ → Type 0
+Replaces offered old new code = ((new ≡ offered) × (code ≡ 0)) ⊎ ((new ≡ old) × (code ≡ 7))
 
 -- ---- a render
 

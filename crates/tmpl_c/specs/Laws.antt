@@ -14,8 +14,9 @@ use Rattle.tmpl_tool.specs.Tool.{Parse, Early, asked_by, asked_name, bad_words, 
 use Rattle.tmpl_tool.specs.Tool.{run_answer, stop_answer, tool_answer, unnamed}
 use Rattle.tmpl_tool.specs.Words.{Wanted, wanted_in}
 use Rattle.tmpl_c.specs.Filled.{Rendered, Seen}
-use Rattle.tmpl_c.specs.Held.{Keeps, held_answer}
+use Rattle.tmpl_c.specs.Held.{Keeps, Replaces, held_answer}
 use Rattle.tmpl_c.specs.Lent.{data_lent, each_added, lent_answer, render_answer, rules_in, with_lent}
+use Rattle.tmpl_c.specs.Texts.{Holds}
 use Rattle.tmpl_c.specs.declared.settings.Settings.{Settings}
 
 -- ---- the stages
@@ -147,3 +148,16 @@ HoldsFront = (a : Answer) (room line_room : ℕ) (out err : Seen) (code : ℕ) �
 -- settings of all zeros are the options of a command whose words name none
 abbrev pub HasDefaults : Type 0
 HasDefaults = (s : Settings) → s.steps ≡ 0 → s.depth ≡ 0 → s.missing_key ≡ 0 → rules_in s ≡ (wanted_in []).rules
+
+-- with status 0 a text is the whole text of the answer, there is no line that the answer has not, and that is its status
+abbrev pub TextHoldsWhole : Type 0
+TextHoldsWhole = (a : Answer) (text line : Bytes) → Holds a text line 0 → (text ≡ a.text) × (line ≡ a.line) × (a.status ≡ 0)
+
+-- with any status it is a beginning of it
+abbrev pub TextHoldsFront : Type 0
+TextHoldsFront = (a : Answer) (text line : Bytes) (code : ℕ) → Holds a text line code → (rest : Bytes) × (a.text ≡ text ++ rest)
+
+-- with status 0 a handle has what was offered, and else what it had
+abbrev pub ReplacesAsOffered : Type 0
+ReplacesAsOffered = ((offered old new : List Template) → Replaces offered old new 0 → new ≡ offered)
+    × ((offered old new : List Template) (code : ℕ) → Replaces offered old new code → code ≢ 0 → new ≡ old)

@@ -4,3 +4,4 @@ pub mod Laws
 pub mod Lent
 pub mod Handles
 pub mod Held
+pub mod Texts

@@ -1,17 +1,17 @@
 //! Data that the caller keeps: none where it is all zeros.
-ghost use Rattle.std.specs.Prelude.{◌≡◌, option_map};
+ghost use Rattle.std.specs.Prelude.{◌≡◌, IfErr, IfOk, option_map};
 ghost use Rattle.std.specs.Coded.{coded_option};
 ghost use Rattle.std.specs.declared.option.Option.{Option};
 ghost use Rattle.std.specs.declared.option.Option.TheVariants.{None, Some};
-ghost use Rattle.tmpl_values.specs.declared.data.Data.{Data};
-ghost use Rattle.tmpl_values.specs.contracts.data.Data.{the_row};
+ghost use Rattle.tmpl_c.specs.declared.shared_data.SharedData.{SharedData};
+ghost use Rattle.tmpl_c.specs.contracts.shared_data.SharedData.{the_row};
 
 use crate::loose::{Loose, boxed};
-use std::alloc::Global;
+use crate::shared_data::SharedData;
+use std::alloc::{AllocError, Global};
 use std::marker::Model;
 use std::mem;
 use std::ptr::null_mut;
-use tmpl_values::Data;
 
 /// Data that the caller keeps: none where it is all zeros.
 ///
@@ -19,11 +19,11 @@ use tmpl_values::Data;
 #[repr(C)]
 pub struct DataHandle {
     at: *mut u8,
-    pub ghost held: { Option Data } by { coded_option the_row.coded },
+    pub ghost held: { Option SharedData } by { coded_option the_row.coded },
 }
 
 impl Model for DataHandle {
-    ghost use Rattle.tmpl_values.specs.contracts.data.Data.{the_row};
+    ghost use Rattle.tmpl_c.specs.contracts.shared_data.SharedData.{the_row};
     ghost use Rattle.tmpl_c.specs.Handles.{kept};
 
     ghost also_owns = { λ h. kept the_row h.at h.held };
@@ -36,14 +36,14 @@ impl DataHandle {
         DataHandle { at: null_mut() }
     }
 
-    fn of(loose: Loose<Data, Global>) -> DataHandle
+    fn of(loose: Loose<SharedData, Global>) -> DataHandle
         ensures { result.held ≡ Some loose.value }
     {
         let Loose { at, alloc: _ } = loose;
         DataHandle { at: at as *mut u8 }
     }
 
-    fn open(self, alloc: Global) -> Option<Loose<Data, Global>>
+    fn open(self, alloc: Global) -> Option<Loose<SharedData, Global>>
         ensures { option_map (λ l. l.value) result ≡ self.held }
     {
         let DataHandle { at } = self;
@@ -51,14 +51,14 @@ impl DataHandle {
             None
         } else {
             Some(Loose {
-                at: at as *mut Data,
+                at: at as *mut SharedData,
                 alloc,
             })
         }
     }
 
     /// Takes out what is kept.
-    pub(crate) fn take(&mut self, alloc: Global) -> Option<Box<Data>>
+    pub(crate) fn take(&mut self, alloc: Global) -> Option<Box<SharedData>>
         ensures taken { option_map (λ b. b.value) result ≡ self.old.held }
         ensures left { self.new.held ≡ None }
     {
@@ -66,9 +66,19 @@ impl DataHandle {
     }
 
     /// Keeps this, and frees what was kept.
-    pub(crate) fn put(&mut self, alloc: Global, value: Box<Data>)
+    pub(crate) fn put(&mut self, alloc: Global, value: Box<SharedData>)
         ensures { self.new.held ≡ Some value.value }
     {
         drop(boxed(mem::replace(self, DataHandle::of(Loose::of(value))).open(alloc)));
+    }
+
+    /// Keeps this, and frees what was kept. An error is want of memory, and leaves what was kept.
+    pub(crate) fn keep(&mut self, alloc: Global, value: SharedData) -> Result<(), AllocError>
+        ensures new { IfOk result (λ u. self.new.held ≡ Some value) }
+        ensures old { IfErr result (λ e. self.new.held ≡ self.old.held) }
+    {
+        let value = Box::new(alloc, value)?;
+        self.put(alloc, value);
+        Ok(())
     }
 }

@@ -1,13 +1,28 @@
-//! Output that is gathered before it goes to lent memory.
-use std::alloc::AllocError;
+//! Output that is gathered before it goes to the caller.
+ghost use Rattle.std.specs.Prelude.{◌≡◌};
+ghost use Rattle.tmpl_c.specs.computed.Gathering.{told_of, untouched};
+
+use std::alloc::{AllocError, Global};
 use tmpl_run::{Sink, SinkFault};
 
 /// All that was put, in memory of its own: so a put fails only where memory is refused.
 #[derive(Drop)]
-pub(crate) struct Gathered {
+pub struct Gathered {
     pub(crate) bytes: Vec<u8>,
     /// How many puts failed.
     pub(crate) failures: u64,
+}
+
+impl Gathered {
+    /// Nothing yet.
+    pub(crate) fn new(alloc: Global) -> Gathered
+        ensures { told_of result ≡ untouched }
+    {
+        Gathered {
+            bytes: Vec::new(alloc),
+            failures: 0,
+        }
+    }
 }
 
 impl Sink for Gathered {

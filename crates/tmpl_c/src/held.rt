@@ -1,15 +1,24 @@
 //! A render of what the caller keeps.
-ghost use Rattle.std.specs.Prelude.{◌≡◌, option_map};
+ghost use Rattle.std.specs.Prelude.{◌≡◌, ◌<◌, ◌^◌, ◌-◌, [], option_map};
 ghost use Rattle.tmpl_values.specs.View.{value_of};
-ghost use Rattle.tmpl_c.specs.Held.{templates_in, value_in};
-ghost use Rattle.tmpl_c.specs.computed.Extents.{IsFilled, answer_by};
+ghost use Rattle.tmpl_meaning.specs.Sink.{sunk};
+ghost use Rattle.tmpl_tool.specs.Outcome.{Answer, Outcome};
+ghost use Rattle.tmpl_tool.specs.Tool.{printed, stop_answer};
+ghost use Rattle.tmpl_c.specs.Held.{templates_in, templates_run, value_in};
+ghost use Rattle.tmpl_c.specs.Texts.{Holds, bytes_in};
+ghost use Rattle.tmpl_c.specs.computed.Extents.{IsFilled, answer_by, run_by, templates_lent};
+ghost use Rattle.tmpl_c.specs.computed.Gathering.{told_of, untouched};
 
 use crate::data_handle::DataHandle;
-use crate::render::{Filled, fill_held};
+use crate::gathered::Gathered;
+use crate::program_handle::ProgramHandle;
+use crate::render::{Filled, PIECE_SIZE, fill_held, hand_over, is_refused};
 use crate::set_handle::SetHandle;
-use crate::settings::Settings;
+use crate::settings::{Settings, options_in};
+use crate::text::Text;
 use std::alloc::Global;
-use tmpl_engine::Engine;
+use tmpl_engine::{Engine, RenderError, Renderer};
+use tmpl_tool::{print, tell_end};
 use tmpl_values::Data;
 
 /// Renders a set that is kept, or one of no templates, with this data.
@@ -64,9 +73,214 @@ pub(crate) fn render(
     match data.take(alloc) {
         None => render_with(alloc, settings, set, None, name, out, err),
         Some(kept) => {
-            let told = render_with(alloc, settings, set, Some(&kept), name, out, err);
+            let told = render_with(alloc, settings, set, Some(&kept.data), name, out, err);
             data.put(alloc, kept);
             told
         }
     }
+}
+
+/// Runs the template of this name of a program, or of one of no templates.
+fn run_with(
+    alloc: Global,
+    settings: &Settings,
+    renderer: Option<&Renderer>,
+    name: &[u8],
+    data: Option<&Data>,
+    out: &mut Gathered,
+    err: &mut Gathered,
+) -> u8
+    requires out { out.old.failures < 2 ^ 64 - 1 }
+    requires err { err.old.failures < 2 ^ 64 - 1 }
+    ensures { Outcome (run_by settings.now (templates_lent renderer.entry) name.now (option_map (λ d. value_of d.now) «data».entry))
+        (sunk (told_of out.old) (told_of out.new)) (sunk (told_of err.old) (told_of err.new)) result }
+{
+    match renderer {
+        None => tell_end(Err(RenderError::NoTemplate), name, err).code,
+        Some(renderer) => {
+            let options = options_in(settings);
+            let mut piece = [0; PIECE_SIZE];
+            let piece = piece.as_mut_slice();
+            let end = renderer.render_through(alloc, name, data, &options, piece, out);
+            tell_end(end, name, err).code
+        }
+    }
+}
+
+/// Runs the template of this name of a program that is kept, with this data.
+fn run_kept(
+    alloc: Global,
+    settings: &Settings,
+    program: &mut ProgramHandle,
+    name: &[u8],
+    data: Option<&Data>,
+    out: &mut Gathered,
+    err: &mut Gathered,
+) -> u8
+    requires out { out.old.failures < 2 ^ 64 - 1 }
+    requires err { err.old.failures < 2 ^ 64 - 1 }
+    ensures outcome { Outcome (run_by settings.now (templates_run program.old.held) name.now (option_map (λ d. value_of d.now) «data».entry))
+        (sunk (told_of out.old) (told_of out.new)) (sunk (told_of err.old) (told_of err.new)) result }
+    ensures program { program.new.held ≡ program.old.held }
+{
+    match program.take(alloc) {
+        None => run_with(alloc, settings, None, name, data, out, err),
+        Some(kept) => {
+            let code = run_with(alloc, settings, Some(&kept), name, data, out, err);
+            program.put(alloc, kept);
+            code
+        }
+    }
+}
+
+/// Runs the template of this name of a program that is kept, with data that is kept. Both are taken out for that, and
+/// put back.
+fn run_program(
+    alloc: Global,
+    settings: &Settings,
+    program: &mut ProgramHandle,
+    data: &mut DataHandle,
+    name: &[u8],
+    out: &mut Gathered,
+    err: &mut Gathered,
+) -> u8
+    requires out { out.old.failures < 2 ^ 64 - 1 }
+    requires err { err.old.failures < 2 ^ 64 - 1 }
+    ensures outcome { Outcome (run_by settings.now (templates_run program.old.held) name.now (value_in «data».old.held))
+        (sunk (told_of out.old) (told_of out.new)) (sunk (told_of err.old) (told_of err.new)) result }
+    ensures program { program.new.held ≡ program.old.held }
+    ensures kept { «data».new.held ≡ «data».old.held }
+{
+    match data.take(alloc) {
+        None => run_kept(alloc, settings, program, name, None, out, err),
+        Some(kept) => {
+            let code = run_kept(alloc, settings, program, name, Some(&kept.data), out, err);
+            data.put(alloc, kept);
+            code
+        }
+    }
+}
+
+/// Renders a program into lent memory.
+pub(crate) fn render_program(
+    alloc: Global,
+    settings: &Settings,
+    program: &mut ProgramHandle,
+    data: &mut DataHandle,
+    name: &[u8],
+    out: &mut [u8],
+    err: &mut [u8],
+) -> Filled
+    ensures outcome { IsFilled (run_by settings.now (templates_run program.old.held) name.now (value_in «data».old.held))
+        out.old out.new err.old err.new result }
+    ensures program { program.new.held ≡ program.old.held }
+    ensures kept { «data».new.held ≡ «data».old.held }
+{
+    let mut text = Gathered::new(alloc);
+    let mut line = Gathered::new(alloc);
+    let code = run_program(alloc, settings, program, data, name, &mut text, &mut line);
+    hand_over(code, &text, &line, out, err)
+}
+
+/// The status of a render whose text and line are kept: there is no line where memory was refused.
+fn settle(code: u8, text: &Gathered, line: &mut Gathered) -> u8
+    ensures { (a : Answer) → Outcome a (sunk untouched (told_of text.now)) (sunk untouched (told_of line.old)) code
+        → Holds a text.now.bytes.items line.new.bytes.items result }
+{
+    if is_refused(code, text, line) {
+        line.bytes.clear();
+        return 7;
+    }
+    code
+}
+
+/// Renders a program to two sinks that hold nothing yet.
+fn gather(
+    alloc: Global,
+    settings: &Settings,
+    program: &mut ProgramHandle,
+    data: &mut DataHandle,
+    name: &[u8],
+    out: &mut Gathered,
+    err: &mut Gathered,
+) -> u8
+    requires empty { (told_of out.old ≡ untouched) × (told_of err.old ≡ untouched) }
+    ensures outcome { Holds (run_by settings.now (templates_run program.old.held) name.now (value_in «data».old.held))
+        out.new.bytes.items err.new.bytes.items result }
+    ensures program { program.new.held ≡ program.old.held }
+    ensures kept { «data».new.held ≡ «data».old.held }
+{
+    let code = run_program(alloc, settings, program, data, name, out, err);
+    settle(code, out, err)
+}
+
+/// Renders a program into texts of the library's own.
+pub(crate) fn render_text(
+    alloc: Global,
+    settings: &Settings,
+    program: &mut ProgramHandle,
+    data: &mut DataHandle,
+    name: &[u8],
+    text: &mut Text,
+    line: &mut Text,
+) -> u8
+    ensures outcome { Holds (run_by settings.now (templates_run program.old.held) name.now (value_in «data».old.held))
+        (bytes_in text.new.held) (bytes_in line.new.held) result }
+    ensures program { program.new.held ≡ program.old.held }
+    ensures kept { «data».new.held ≡ «data».old.held }
+{
+    let out = text.take_empty(alloc);
+    let err = line.take_empty(alloc);
+    let Some(mut out) = out else {
+        return 7;
+    };
+    let Some(mut err) = err else {
+        return 7;
+    };
+    let code = gather(alloc, settings, program, data, name, &mut out, &mut err);
+    text.put(alloc, out);
+    line.put(alloc, err);
+    code
+}
+
+/// Prints what a set has, or nothing.
+fn print_kept(alloc: Global, set: &mut SetHandle, out: &mut Gathered, err: &mut Gathered) -> u8
+    requires out { out.old.failures < 2 ^ 64 - 1 }
+    requires err { err.old.failures < 2 ^ 64 - 1 }
+    ensures outcome { Outcome (stop_answer (printed (templates_in set.old.held)))
+        (sunk (told_of out.old) (told_of out.new)) (sunk (told_of err.old) (told_of err.new)) result }
+    ensures set { set.new.held ≡ set.old.held }
+{
+    match set.take(alloc) {
+        None => print(alloc, Engine::new(alloc).templates(), out, err).code,
+        Some(engine) => {
+            let code = print(alloc, engine.templates(), out, err).code;
+            set.put(alloc, engine);
+            code
+        }
+    }
+}
+
+/// Prints a set to a sink that holds nothing yet.
+fn gather_printed(alloc: Global, set: &mut SetHandle, out: &mut Gathered) -> u8
+    requires empty { told_of out.old ≡ untouched }
+    ensures outcome { Holds (stop_answer (printed (templates_in set.old.held))) out.new.bytes.items [] result }
+    ensures set { set.new.held ≡ set.old.held }
+{
+    let mut line = Gathered::new(alloc);
+    let code = print_kept(alloc, set, out, &mut line);
+    settle(code, out, &mut line)
+}
+
+/// Prints a set into a text of the library's own.
+pub(crate) fn print_text(alloc: Global, set: &mut SetHandle, text: &mut Text) -> u8
+    ensures outcome { Holds (stop_answer (printed (templates_in set.old.held))) (bytes_in text.new.held) [] result }
+    ensures set { set.new.held ≡ set.old.held }
+{
+    let Some(mut out) = text.take_empty(alloc) else {
+        return 7;
+    };
+    let code = gather_printed(alloc, set, &mut out);
+    text.put(alloc, out);
+    code
 }

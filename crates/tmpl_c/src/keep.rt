@@ -1,12 +1,12 @@
 //! What is offered is kept, or said why not.
-ghost use Rattle.std.specs.Prelude.{◌≡◌, [], codes, length, option_map};
+ghost use Rattle.std.specs.Prelude.{◌≡◌, [], IfErr, IfOk, Some, codes, length};
 ghost use Rattle.tmpl_values.specs.View.{value_of};
 ghost use Rattle.tmpl_syntax.specs.computed.Parse.{parsed};
 ghost use Rattle.tmpl_engine.specs.View.{templates_of};
 ghost use Rattle.tmpl_tool.specs.Inputs.{said_of};
 ghost use Rattle.tmpl_tool.specs.Outcome.{memory_line};
 ghost use Rattle.tmpl_c.specs.Filled.{Fills};
-ghost use Rattle.tmpl_c.specs.Held.{Keeps, templates_in, value_in};
+ghost use Rattle.tmpl_c.specs.Held.{Keeps, Replaces, templates_in, templates_run, value_in};
 ghost use Rattle.tmpl_c.specs.Lent.{data_lent, pair_of, with_lent};
 ghost use Rattle.tmpl_c.specs.computed.Extents.{extent_seen};
 ghost use Rattle.tmpl_c.specs.computed.Load.{IsSaid, halt_seen};
@@ -15,10 +15,13 @@ use crate::data_handle::DataHandle;
 use crate::gathered::Gathered;
 use crate::lent::File;
 use crate::load::{Halt, add_file, read_data, tell};
+use crate::program_handle::ProgramHandle;
 use crate::render::{Extent, copy_to, say_refused};
 use crate::set_handle::SetHandle;
-use std::alloc::Global;
+use crate::shared_data::SharedData;
+use std::alloc::{AllocError, Global};
 use tmpl_engine::Engine;
+use tmpl_values::Data;
 
 /// What is said of an offer.
 #[derive(Clone, Copy, Debug)]
@@ -53,10 +56,7 @@ fn say_no_memory(err: &mut [u8]) -> Said
 fn say(alloc: Global, why: &Halt<'_>, err: &mut [u8]) -> Said
     ensures { IsSaid (said_of (halt_seen why.now)) (length err.old) (extent_seen err.new result.line) result.status }
 {
-    let mut line = Gathered {
-        bytes: Vec::new(alloc),
-        failures: 0,
-    };
+    let mut line = Gathered::new(alloc);
     let code = tell(&mut line, why);
     if line.failures != 0 {
         return say_no_memory(err);
@@ -96,6 +96,15 @@ pub(crate) fn add(alloc: Global, kept: &mut SetHandle, file: &File<'_>, err: &mu
     said
 }
 
+/// Keeps a value. An error is want of memory, and leaves what was kept.
+fn keep_value(alloc: Global, kept: &mut DataHandle, value: Data) -> Result<(), AllocError>
+    ensures new { IfOk result (λ u. value_in kept.new.held ≡ Some (value_of value)) }
+    ensures old { IfErr result (λ e. kept.new.held ≡ kept.old.held) }
+{
+    let value = SharedData::new(alloc, value)?;
+    kept.keep(alloc, value)
+}
+
 /// Keeps data, or says why not.
 pub(crate) fn read(alloc: Global, kept: &mut DataHandle, input: &[u8], err: &mut [u8]) -> Said
     ensures { Keeps (data_lent (codes "data") input.now) (value_in kept.old.held) (value_in kept.new.held)
@@ -106,13 +115,78 @@ pub(crate) fn read(alloc: Global, kept: &mut DataHandle, input: &[u8], err: &mut
             drop(kept.take(alloc));
             say_kept(err)
         }
-        Ok(Some(value)) => match Box::new(alloc, value) {
-            Ok(value) => {
-                kept.put(alloc, value);
-                say_kept(err)
-            }
-            Err(_) => say_no_memory(err),
-        },
+        Ok(Some(value)) => {
+            let Ok(()) = keep_value(alloc, kept, value) else {
+                return say_no_memory(err);
+            };
+            say_kept(err)
+        }
         Err(why) => say(alloc, &why, err),
+    }
+}
+
+/// The status of what was kept, or of want of memory.
+fn status_of(kept: Result<(), AllocError>) -> u8
+    ensures kept { IfOk kept (λ u. result ≡ 0) }
+    ensures refused { IfErr kept (λ e. result ≡ 7) }
+{
+    match kept {
+        Ok(()) => 0,
+        Err(AllocError) => 7,
+    }
+}
+
+/// Keeps a program of what a set has now, and gives the status: 0, or 7 where memory was refused.
+pub(crate) fn make_program(alloc: Global, set: &mut SetHandle, program: &mut ProgramHandle) -> u8
+    ensures made { Replaces (templates_in set.old.held) (templates_run program.old.held) (templates_run program.new.held) result }
+    ensures set { set.new.held ≡ set.old.held }
+{
+    let Some(mut engine) = set.take(alloc) else {
+        drop(program.take(alloc));
+        return 0;
+    };
+    let made = engine.renderer(alloc);
+    set.put(alloc, engine);
+    match made {
+        Ok(renderer) => status_of(program.keep(alloc, renderer)),
+        Err(AllocError) => 7,
+    }
+}
+
+/// Keeps the same program once more, and gives the status.
+pub(crate) fn share_program(
+    alloc: Global,
+    program: &mut ProgramHandle,
+    copy: &mut ProgramHandle,
+) -> u8
+    ensures made { Replaces (templates_run program.old.held) (templates_run copy.old.held) (templates_run copy.new.held) result }
+    ensures program { program.new.held ≡ program.old.held }
+{
+    let Some(renderer) = program.take(alloc) else {
+        drop(copy.take(alloc));
+        return 0;
+    };
+    let made = renderer.share();
+    program.put(alloc, renderer);
+    match made {
+        Ok(renderer) => status_of(copy.keep(alloc, renderer)),
+        Err(AllocError) => 7,
+    }
+}
+
+/// Keeps the same data once more, and gives the status.
+pub(crate) fn share_data(alloc: Global, kept: &mut DataHandle, copy: &mut DataHandle) -> u8
+    ensures made { Replaces (value_in kept.old.held) (value_in copy.old.held) (value_in copy.new.held) result }
+    ensures kept { kept.new.held ≡ kept.old.held }
+{
+    let Some(shared) = kept.take(alloc) else {
+        drop(copy.take(alloc));
+        return 0;
+    };
+    let made = shared.share();
+    kept.put(alloc, shared);
+    match made {
+        Ok(shared) => status_of(copy.keep(alloc, shared)),
+        Err(AllocError) => 7,
     }
 }

@@ -1,7 +1,15 @@
 //! The laws of the library: its stages, and that it answers as the command does.
 ghost use Rattle.tmpl_c.specs.Laws.{AddsInTurn, AnswersAsCommand, AnswersButForName, HasDefaults, HoldsFront};
 ghost use Rattle.tmpl_c.specs.Laws.{HoldsWhole, KeepsAsBefore, KeepsOffered, Prints, RefusesName, RendersAsKept};
-ghost use Rattle.tmpl_c.specs.Laws.{Runs, StopsAtData, StopsAtFile, StopsAtTemplate};
+ghost use Rattle.tmpl_c.specs.Laws.{ReplacesAsOffered, Runs, StopsAtData, StopsAtFile, StopsAtTemplate};
+ghost use Rattle.tmpl_c.specs.Laws.{TextHoldsFront, TextHoldsWhole};
+
+use crate::gathered::Gathered;
+use crate::shared_data::SharedData;
+use std::marker::{Send, Sync};
+use std::snapshot::Snapshot;
+use tmpl_code::{Instruction, Tables};
+use tmpl_engine::Set;
 
 /// The laws of the stages: the files in turn, the printed set, the data, the name, and the run.
 #[tactic(auto, using(crate::proofs::LawLemmas::stages))]
@@ -39,3 +47,26 @@ pub fn seen_by_caller()
     ensures front { HoldsFront }
     ensures defaults { HasDefaults }
 {}
+
+/// The laws of what a caller sees of a text and of a handle that is made or shared: with status 0 the text is the whole
+/// text, and with any status a beginning of it; with status 0 the handle has what was offered, and else what it had.
+#[tactic(auto, using(crate::proofs::SeenLemmas::texts))]
+pub fn text_seen_by_caller()
+    ensures whole { TextHoldsWhole }
+    ensures front { TextHoldsFront }
+    ensures made { ReplacesAsOffered }
+{}
+
+/// What may be owned and seen by several threads.
+fn crosses<T: Send + Sync>() {}
+
+/// The law that what handles keep may be used by several threads: the templates of a set, the parts of a program, data, and
+/// a text. The toolchain proves the bound at each.
+pub fn crosses_threads() {
+    crosses::<Set>();
+    crosses::<Tables>();
+    crosses::<Vec<Instruction>>();
+    crosses::<Snapshot<Set>>();
+    crosses::<SharedData>();
+    crosses::<Gathered>();
+}

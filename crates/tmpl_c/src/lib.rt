@@ -1,12 +1,15 @@
-//! The engine for C: one call over memory that the caller lends, and calls for a set and data that the caller keeps.
+//! The engine for C: one call over memory that the caller lends, and calls for sets, programs, data and texts that the
+//! caller keeps.
 #![tactic(auto)]
 
-ghost use Rattle.std.specs.Prelude.{◌≡◌, None, codes, eqb};
-ghost use Rattle.tmpl_tool.specs.Tool.{IsParse, Parse};
+ghost use Rattle.std.specs.Prelude.{◌≡◌, [], None, codes, eqb, false};
+ghost use Rattle.tmpl_tool.specs.Tool.{IsParse, Parse, printed, stop_answer};
 ghost use Rattle.tmpl_c.specs.Filled.{Rendered, room, seen};
-ghost use Rattle.tmpl_c.specs.Held.{Keeps, held_answer, templates_in, value_in};
+ghost use Rattle.tmpl_c.specs.Held.{Keeps, Replaces, held_answer, templates_in, templates_run, value_in};
 ghost use Rattle.tmpl_c.specs.Lent.{data_lent, pair_of, pairs_of, render_answer, rules_in, with_lent};
+ghost use Rattle.tmpl_c.specs.Texts.{Holds, bytes_in};
 
+mod address;
 mod buffer;
 mod data_handle;
 mod gathered;
@@ -16,17 +19,27 @@ mod laws;
 mod lent;
 mod load;
 mod loose;
+mod program_handle;
 mod render;
 mod set_handle;
 mod settings;
+mod shared_data;
+mod text;
+mod text_handle;
 
+pub use address::Address;
 pub use buffer::Buffer;
 pub use data_handle::DataHandle;
-pub use laws::{as_command, kept, seen_by_caller, stages};
+pub use gathered::Gathered;
+pub use laws::{as_command, crosses_threads, kept, seen_by_caller, stages, text_seen_by_caller};
 pub use lent::File;
+pub use program_handle::ProgramHandle;
 pub use set_handle::SetHandle;
 pub use settings::Settings;
+pub use shared_data::SharedData;
 use std::alloc::Global;
+pub use text::Text;
+pub use text_handle::TextHandle;
 
 /// Renders the template of this name of the files, with data in JSON; no bytes are no data.
 ///
@@ -112,6 +125,16 @@ pub extern "C" fn tmpl_data_free(alloc: Global, kept: &mut DataHandle)
     drop(kept.take(alloc));
 }
 
+/// Keeps the same data once more, as for another thread: with status 0 `copy` has it too, and else, with status 7, what
+/// it had. Both are freed, in any order.
+#[unsafe(no_mangle)]
+pub extern "C" fn tmpl_data_share(alloc: Global, kept: &mut DataHandle, copy: &mut DataHandle) -> u8
+    ensures made { Replaces (value_in kept.old.held) (value_in copy.old.held) (value_in copy.new.held) result }
+    ensures kept { kept.new.held ≡ kept.old.held }
+{
+    keep::share_data(alloc, kept, copy)
+}
+
 /// Renders the template of this name of a set that the caller keeps, with data that it keeps, as `tmpl_render` does of
 /// the files and the data that these were made of. Both stay as they are.
 #[unsafe(no_mangle)]
@@ -139,4 +162,107 @@ pub extern "C" fn tmpl_render_set(
     err.taken = came.line.taken;
     err.needed = came.line.needed;
     came.status
+}
+
+/// Prints a set into a text that the library owns. The status is 0, or 7 where memory was refused: then the text is a
+/// beginning of it.
+#[unsafe(no_mangle)]
+pub extern "C" fn tmpl_set_print(alloc: Global, set: &mut SetHandle, text: &mut Text) -> u8
+    ensures outcome { Holds (stop_answer (printed (templates_in set.old.held))) (bytes_in text.new.held) [] result }
+    ensures set { set.new.held ≡ set.old.held }
+{
+    held::print_text(alloc, set, text)
+}
+
+/// Keeps a program of what a set has now, in the place of the program that was there: with status 0 that is rendered by
+/// it, whatever becomes of the set, and else, with status 7, what was rendered before.
+#[unsafe(no_mangle)]
+pub extern "C" fn tmpl_program_make(
+    alloc: Global,
+    set: &mut SetHandle,
+    program: &mut ProgramHandle,
+) -> u8
+    ensures made { Replaces (templates_in set.old.held) (templates_run program.old.held) (templates_run program.new.held) result }
+    ensures set { set.new.held ≡ set.old.held }
+{
+    keep::make_program(alloc, set, program)
+}
+
+/// Keeps the same program once more, as for another thread: with status 0 `copy` has it too, and else, with status 7,
+/// what it had. Both are freed, in any order.
+#[unsafe(no_mangle)]
+pub extern "C" fn tmpl_program_share(
+    alloc: Global,
+    program: &mut ProgramHandle,
+    copy: &mut ProgramHandle,
+) -> u8
+    ensures made { Replaces (templates_run program.old.held) (templates_run copy.old.held) (templates_run copy.new.held) result }
+    ensures program { program.new.held ≡ program.old.held }
+{
+    keep::share_program(alloc, program, copy)
+}
+
+/// Frees a program, which has no templates then.
+#[unsafe(no_mangle)]
+pub extern "C" fn tmpl_program_free(alloc: Global, program: &mut ProgramHandle)
+    ensures { program.new.held ≡ None }
+{
+    drop(program.take(alloc));
+}
+
+/// Renders the template of this name of a program, with data that the caller keeps, as `tmpl_render_set` does of the
+/// set when the program was made. `print` of the settings is not looked at. Both stay as they are.
+#[unsafe(no_mangle)]
+pub extern "C" fn tmpl_render_program(
+    alloc: Global,
+    settings: &Settings,
+    program: &mut ProgramHandle,
+    kept: &mut DataHandle,
+    name: &[u8],
+    out: &mut Buffer<'_>,
+    err: &mut Buffer<'_>,
+) -> u8
+    ensures outcome { Rendered
+        (held_answer (rules_in settings.now) false (templates_run program.old.held) name.now (value_in kept.old.held))
+        (room out.old) (seen out.new) (room err.old) (seen err.new) result }
+    ensures lent { (out.new.bytes.ghost_name ≡ out.old.bytes.ghost_name)
+        × (err.new.bytes.ghost_name ≡ err.old.bytes.ghost_name) }
+    ensures program { program.new.held ≡ program.old.held }
+    ensures kept { kept.new.held ≡ kept.old.held }
+{
+    let done = held::render_program(alloc, settings, program, kept, name, out.bytes, err.bytes);
+    out.taken = done.text.taken;
+    out.needed = done.text.needed;
+    err.taken = done.line.taken;
+    err.needed = done.line.needed;
+    done.status
+}
+
+/// Does what `tmpl_render_program` does, and keeps text and line in memory of the library's own, which is used again by
+/// the next call. Nothing is cut, so there is no status 6. With status 7 there is no line.
+#[unsafe(no_mangle)]
+pub extern "C" fn tmpl_render_text(
+    alloc: Global,
+    settings: &Settings,
+    program: &mut ProgramHandle,
+    kept: &mut DataHandle,
+    name: &[u8],
+    text: &mut Text,
+    line: &mut Text,
+) -> u8
+    ensures outcome { Holds
+        (held_answer (rules_in settings.now) false (templates_run program.old.held) name.now (value_in kept.old.held))
+        (bytes_in text.new.held) (bytes_in line.new.held) result }
+    ensures program { program.new.held ≡ program.old.held }
+    ensures kept { kept.new.held ≡ kept.old.held }
+{
+    held::render_text(alloc, settings, program, kept, name, text, line)
+}
+
+/// Frees a text, which is empty then.
+#[unsafe(no_mangle)]
+pub extern "C" fn tmpl_text_free(alloc: Global, text: &mut Text)
+    ensures { text.new.held.held ≡ None }
+{
+    drop(text.take(alloc));
 }

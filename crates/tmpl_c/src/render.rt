@@ -22,7 +22,7 @@ use tmpl_tool::{print, render_prepared};
 use tmpl_values::Data;
 
 /// How many bytes of the text wait until they are gathered together.
-const PIECE_SIZE: usize = 256;
+pub(crate) const PIECE_SIZE: usize = 256;
 
 /// The line where the text does not fit.
 static FULL: &[u8] = b"tmpl: write failed\n";
@@ -101,18 +101,8 @@ fn run_prepared(
     render_prepared(alloc, &options, prepared, name, data, piece, out, err).code
 }
 
-/// Nothing yet.
-fn gathered(alloc: Global) -> Gathered
-    ensures { told_of result ≡ untouched }
-{
-    Gathered {
-        bytes: Vec::new(alloc),
-        failures: 0,
-    }
-}
-
 /// Whether memory was refused, by the status or by a sink.
-fn is_refused(code: u8, text: &Gathered, line: &Gathered) -> bool
+pub(crate) fn is_refused(code: u8, text: &Gathered, line: &Gathered) -> bool
     ensures { result ≡ false → (code ≢ 7) × (text.now.failures ≡ 0) × (line.now.failures ≡ 0) }
 {
     code == 7 || text.failures != 0 || line.failures != 0
@@ -145,7 +135,13 @@ pub(crate) fn say_refused(err: &mut [u8]) -> Extent
 }
 
 /// Copies what was gathered to lent memory, and says why the text is not all there.
-fn hand_over(code: u8, text: &Gathered, line: &Gathered, out: &mut [u8], err: &mut [u8]) -> Filled
+pub(crate) fn hand_over(
+    code: u8,
+    text: &Gathered,
+    line: &Gathered,
+    out: &mut [u8],
+    err: &mut [u8],
+) -> Filled
     ensures { (a : Answer) → Outcome a (sunk untouched (told_of text.now)) (sunk untouched (told_of line.now)) code
         → IsFilled a out.old out.new err.old err.new result }
 {
@@ -186,8 +182,8 @@ pub(crate) fn fill(
         (render_answer parse (rules_in settings.now) (eqb settings.now.print 1) (pairs_of files.now) name.now input.now)
         out.old out.new err.old err.new result }
 {
-    let mut text = gathered(alloc);
-    let mut line = gathered(alloc);
+    let mut text = Gathered::new(alloc);
+    let mut line = Gathered::new(alloc);
     let code = render_to(alloc, settings, files, name, input, &mut text, &mut line);
     hand_over(code, &text, &line, out, err)
 }
@@ -231,8 +227,8 @@ pub(crate) fn fill_held(
         out.old out.new err.old err.new result }
     ensures same { engine.new ≡ engine.old }
 {
-    let mut text = gathered(alloc);
-    let mut line = gathered(alloc);
+    let mut text = Gathered::new(alloc);
+    let mut line = Gathered::new(alloc);
     let code = render_held(alloc, settings, engine, name, data, &mut text, &mut line);
     hand_over(code, &text, &line, out, err)
 }

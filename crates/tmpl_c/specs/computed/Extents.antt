@@ -1,11 +1,13 @@
 -- What is seen of memory to which output was copied.
-use Rattle.std.specs.Prelude.{eqb, length, List, Option}
+use Rattle.std.specs.Prelude.{eqb, false, length, List, Option, option_map}
+use Rattle.std.specs.Borrow.{Bor}
 use Rattle.tmpl_values.specs.Value.{Value}
 use Rattle.tmpl_syntax.specs.Set.{Template}
 use Rattle.tmpl_tool.specs.Outcome.{Answer}
 use Rattle.tmpl_tool.specs.Source.{Bytes}
 use Rattle.tmpl_c.specs.Filled.{Rendered, Seen}
-use Rattle.tmpl_c.specs.Held.{held_answer}
+use Rattle.tmpl_engine.specs.declared.rendering.Renderer.{Renderer}
+use Rattle.tmpl_c.specs.Held.{held_answer, templates_run}
 use Rattle.tmpl_c.specs.Lent.{rules_in}
 use Rattle.tmpl_c.specs.declared.render.Extent.{Extent}
 use Rattle.tmpl_c.specs.declared.render.Filled.{Filled}
@@ -22,3 +24,11 @@ IsFilled a out out_now err err_now f = Rendered a (length out) (extent_seen out_
 -- what a render of kept templates and data comes to, by these settings
 abbrev pub answer_by : Settings → List Template → Bytes → Option Value → Answer
 answer_by settings set name value = held_answer (rules_in settings) (eqb settings.print 1) set name value
+
+-- .. of a program, which is not printed
+abbrev pub run_by : Settings → List Template → Bytes → Option Value → Answer
+run_by settings set name value = held_answer (rules_in settings) false set name value
+
+-- the templates of a program that is lent, if one is
+abbrev pub templates_lent : Option (Bor Renderer) → List Template
+templates_lent lent = templates_run (option_map (λ r. r.now) lent)

@@ -1,0 +1,9 @@
+-- `empty` owns nothing.
+use Rattle.tmpl_c.proofs.HandleWalks.{empty_meets}
+use Rattle.tmpl_c.proofs.HandleForms.{program_form}
+use Rattle.tmpl_c.specs.contracts.program_handle.ProgramHandle.empty.Key.{name as #self}
+use Rattle.tmpl_c.proofs.program_handle.ProgramHandle.empty.Statement.{statement}
+use Rattle.tmpl_c.proofs.program_handle.ProgramHandle.empty.Code as code
+
+pub empty_spec : {M : Type 1} → statement M
+empty_spec 𝓤 𝓛 𝓜 𝓡 wired = empty_meets program_form 𝓛 𝓜 𝓡 #self (code.unfolded 𝓤 𝓛.H 𝓜 𝓡 wired)

@@ -1,0 +1,9 @@
+-- `of` takes the loose box apart.
+use Rattle.tmpl_c.proofs.HandleWalks.{of_meets}
+use Rattle.tmpl_c.proofs.HandleForms.{text_form}
+use Rattle.tmpl_c.specs.contracts.text_handle.TextHandle.of.Key.{name as #self}
+use Rattle.tmpl_c.proofs.text_handle.TextHandle.of.Statement.{statement}
+use Rattle.tmpl_c.proofs.text_handle.TextHandle.of.Code as code
+
+pub of_spec : {M : Type 1} → statement M
+of_spec 𝓤 𝓛 𝓜 𝓡 wired = of_meets text_form 𝓛 𝓜 𝓡 #self (code.unfolded 𝓤 𝓛.H 𝓜 𝓡 wired)

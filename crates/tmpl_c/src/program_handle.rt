@@ -1,0 +1,84 @@
+//! A program that the caller keeps: one of no templates where it is all zeros.
+ghost use Rattle.std.specs.Prelude.{◌≡◌, IfErr, IfOk, option_map};
+ghost use Rattle.std.specs.Coded.{coded_option};
+ghost use Rattle.std.specs.declared.option.Option.{Option};
+ghost use Rattle.std.specs.declared.option.Option.TheVariants.{None, Some};
+ghost use Rattle.tmpl_engine.specs.declared.rendering.Renderer.{Renderer};
+ghost use Rattle.tmpl_engine.specs.contracts.rendering.Renderer.{the_row};
+
+use crate::loose::{Loose, boxed};
+use std::alloc::{AllocError, Global};
+use std::marker::Model;
+use std::mem;
+use std::ptr::null_mut;
+use tmpl_engine::Renderer;
+
+/// A program that the caller keeps: one of no templates where it is all zeros.
+///
+/// C keeps it as one pointer. What it points to is the library's.
+#[repr(C)]
+pub struct ProgramHandle {
+    at: *mut u8,
+    pub ghost held: { Option Renderer } by { coded_option the_row.coded },
+}
+
+impl Model for ProgramHandle {
+    ghost use Rattle.tmpl_engine.specs.contracts.rendering.Renderer.{the_row};
+    ghost use Rattle.tmpl_c.specs.Handles.{kept};
+
+    ghost also_owns = { λ h. kept the_row h.at h.held };
+}
+
+impl ProgramHandle {
+    fn empty() -> ProgramHandle
+        ensures { result.held ≡ None }
+    {
+        ProgramHandle { at: null_mut() }
+    }
+
+    fn of(loose: Loose<Renderer, Global>) -> ProgramHandle
+        ensures { result.held ≡ Some loose.value }
+    {
+        let Loose { at, alloc: _ } = loose;
+        ProgramHandle { at: at as *mut u8 }
+    }
+
+    fn open(self, alloc: Global) -> Option<Loose<Renderer, Global>>
+        ensures { option_map (λ l. l.value) result ≡ self.held }
+    {
+        let ProgramHandle { at } = self;
+        if at.is_null() {
+            None
+        } else {
+            Some(Loose {
+                at: at as *mut Renderer,
+                alloc,
+            })
+        }
+    }
+
+    /// Takes out what is kept.
+    pub(crate) fn take(&mut self, alloc: Global) -> Option<Box<Renderer>>
+        ensures taken { option_map (λ b. b.value) result ≡ self.old.held }
+        ensures left { self.new.held ≡ None }
+    {
+        boxed(mem::replace(self, ProgramHandle::empty()).open(alloc))
+    }
+
+    /// Keeps this, and frees what was kept.
+    pub(crate) fn put(&mut self, alloc: Global, value: Box<Renderer>)
+        ensures { self.new.held ≡ Some value.value }
+    {
+        drop(boxed(mem::replace(self, ProgramHandle::of(Loose::of(value))).open(alloc)));
+    }
+
+    /// Keeps this, and frees what was kept. An error is want of memory, and leaves what was kept.
+    pub(crate) fn keep(&mut self, alloc: Global, value: Renderer) -> Result<(), AllocError>
+        ensures new { IfOk result (λ u. self.new.held ≡ Some value) }
+        ensures old { IfErr result (λ e. self.new.held ≡ self.old.held) }
+    {
+        let value = Box::new(alloc, value)?;
+        self.put(alloc, value);
+        Ok(())
+    }
+}
