@@ -9,7 +9,7 @@ ghost use Rattle.tmpl_schema.specs.computed.Check.{is_safe};
 ghost use Rattle.tmpl_schema.specs.computed.Safe.{EachCallee, IsCallee, NeverFailsIn};
 ghost use Rattle.tmpl_schema.specs.computed.View.{base_of, callee_of, entries_of, table_of};
 
-use crate::join::joined;
+use crate::join::{joined, null_gone};
 use crate::node::{Checker, after_nodes};
 use crate::shape::{Base, Schema, Shape, copy_shape};
 use crate::state::at_start;
@@ -168,6 +168,39 @@ fn place(table: &[Entry], name: &[u8]) -> Option<usize> {
     None
 }
 
+/// Whether a template never fails for values of this shape, by a table that is looked for.
+fn check_shape(
+    base: &Base<'_>,
+    set: &Set,
+    name: &[u8],
+    shape: &Shape,
+    mode: MissingKey,
+    stops: &[Bytes],
+) -> Result<(), Refusal>
+    ensures { OnOk result (NeverFailsIn (base_of base.now) mode stops.now (set_view set.now) name.now
+        (shape_of shape.now)) }
+{
+    let mut table: Vec<Entry> = Vec::new(base.alloc);
+    for _ in 0..2000 {
+        let checker = Checker {
+            base: *base,
+            mode,
+            table: table.as_slice(),
+        };
+        match check_all(&checker, set, stops, name, shape) {
+            Ok(()) => return Ok(()),
+            Err(Trouble::Wanted(entry)) => {
+                if grow(base, set, &mut table, entry).is_err() {
+                    return Err(Refusal::OutOfMemory);
+                }
+            }
+            Err(Trouble::OutOfMemory) => return Err(Refusal::OutOfMemory),
+            Err(Trouble::Unsafe) => return Err(Refusal::MayFail),
+        }
+    }
+    Err(Refusal::MayFail)
+}
+
 /// Whether a template never fails in a mode.
 fn check_mode(
     alloc: Global,
@@ -185,25 +218,10 @@ fn check_mode(
         limit: 400,
         alloc,
     };
-    let mut table: Vec<Entry> = Vec::new(alloc);
-    for _ in 0..2000 {
-        let checker = Checker {
-            base,
-            mode,
-            table: table.as_slice(),
-        };
-        match check_all(&checker, set, stops, name, &schema.shape) {
-            Ok(()) => return Ok(()),
-            Err(Trouble::Wanted(entry)) => {
-                if grow(&base, set, &mut table, entry).is_err() {
-                    return Err(Refusal::OutOfMemory);
-                }
-            }
-            Err(Trouble::OutOfMemory) => return Err(Refusal::OutOfMemory),
-            Err(Trouble::Unsafe) => return Err(Refusal::MayFail),
-        }
+    match null_gone(&base, &schema.shape) {
+        Ok(shape) => check_shape(&base, set, name, &shape, mode, stops),
+        Err(_) => Err(Refusal::OutOfMemory),
     }
-    Err(Refusal::MayFail)
 }
 
 /// Whether a template of the set never fails over the values of a schema: in this mode for missing keys, or, where none
