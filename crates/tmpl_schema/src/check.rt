@@ -14,19 +14,19 @@ use crate::node::{Checker, after_nodes};
 use crate::shape::{Base, Schema, Shape, copy_shape};
 use crate::state::at_start;
 use crate::table::{Callee, Entry};
-use crate::trouble::Trouble;
+use crate::trouble::{Cause, Doubt, Trouble, in_template, no_template, unsafe_by};
 use std::alloc::{AllocError, Global};
 use tmpl_meaning::MissingKey;
 use tmpl_syntax::{Set, Tree};
 use tmpl_values::Bytes;
 
 /// Why a template is not accepted.
-#[derive(Clone, Copy, Debug, PartialEq, Eq)]
+#[derive(Drop)]
 pub enum Refusal {
     /// Want of memory.
     OutOfMemory,
-    /// It may fail for a value of the schema, or it is not seen that it never does.
-    MayFail,
+    /// It may fail for a value of the schema, or it is not seen that it never does: here first.
+    MayFail(Doubt),
 }
 
 /// Whether a template is accepted for values of this shape.
@@ -61,19 +61,23 @@ fn check_callee(
 {
     match &entry.callee {
         Callee::Handed(shape) => match set.get(entry.name.as_slice()) {
-            Some(tree) => {
-                check_tree(checker, shape, tree)?;
-                Ok(())
-            }
-            None => Err(Trouble::Unsafe),
+            Some(tree) => match check_tree(checker, shape, tree) {
+                Ok(()) => Ok(()),
+                Err(trouble) => Err(in_template(
+                    checker.base.alloc,
+                    trouble,
+                    entry.name.as_slice(),
+                )),
+            },
+            None => Err(no_template(checker.base.alloc, entry.name.as_slice())),
         },
         Callee::Absent => match set.get(entry.name.as_slice()) {
-            Some(_) => Err(Trouble::Unsafe),
+            Some(_) => Err(no_template(checker.base.alloc, entry.name.as_slice())),
             None => {
                 if is_stop(stops, entry.name.as_slice()) {
                     return Ok(());
                 }
-                Err(Trouble::Unsafe)
+                Err(no_template(checker.base.alloc, entry.name.as_slice()))
             }
         },
     }
@@ -110,12 +114,14 @@ fn check_all(
         (set_view set.now) name.now (shape_of shape.now)) }
 {
     match set.get(name) {
-        Some(tree) => {
-            check_tree(checker, shape, tree)?;
-            check_callees(checker, set, stops, checker.table)?;
-            Ok(())
-        }
-        None => Err(Trouble::Unsafe),
+        Some(tree) => match check_tree(checker, shape, tree) {
+            Ok(()) => {
+                check_callees(checker, set, stops, checker.table)?;
+                Ok(())
+            }
+            Err(trouble) => Err(in_template(checker.base.alloc, trouble, name)),
+        },
+        None => Err(no_template(checker.base.alloc, name)),
     }
 }
 
@@ -168,6 +174,19 @@ fn place(table: &[Entry], name: &[u8]) -> Option<usize> {
     None
 }
 
+/// The refusal for this trouble.
+fn refusal_of(alloc: Global, trouble: Trouble) -> Refusal {
+    match trouble {
+        Trouble::Unsafe(doubt) => Refusal::MayFail(doubt),
+        Trouble::OutOfMemory => Refusal::OutOfMemory,
+        Trouble::Refused | Trouble::Wanted(_) => Refusal::MayFail(Doubt {
+            template: Bytes::new(Vec::new(alloc)),
+            line: 0,
+            cause: Cause::Command,
+        }),
+    }
+}
+
 /// Whether a template never fails for values of this shape, by a table that is looked for.
 fn check_shape(
     base: &Base<'_>,
@@ -194,11 +213,10 @@ fn check_shape(
                     return Err(Refusal::OutOfMemory);
                 }
             }
-            Err(Trouble::OutOfMemory) => return Err(Refusal::OutOfMemory),
-            Err(Trouble::Unsafe) => return Err(Refusal::MayFail),
+            Err(trouble) => return Err(refusal_of(base.alloc, trouble)),
         }
     }
-    Err(Refusal::MayFail)
+    Err(refusal_of(base.alloc, unsafe_by(base.alloc, Cause::Command)))
 }
 
 /// Whether a template never fails in a mode.
