@@ -25,6 +25,7 @@ pub(crate) struct Loaded<'a> {
 pub(crate) struct AllLoaded<'a> {
     pub(crate) templates: Vec<Loaded<'a>>,
     pub(crate) data: Option<Loaded<'a>>,
+    pub(crate) schema: Option<Loaded<'a>>,
     pub(crate) is_short: bool,
 }
 
@@ -33,6 +34,7 @@ pub(crate) fn load_all<'a>(rt: &HostRuntime, request: &Request<'a>) -> Result<Al
     let mut all = AllLoaded {
         templates: Vec::new(rt.alloc()),
         data: None,
+        schema: None,
         is_short: false,
     };
     for name in request.files.as_slice() {
@@ -44,6 +46,12 @@ pub(crate) fn load_all<'a>(rt: &HostRuntime, request: &Request<'a>) -> Result<Al
     if let Some(name) = request.data_file {
         all.data = load(rt, name, u64::MAX)?;
         if all.data.is_none() {
+            all.is_short = true;
+        }
+    }
+    if let Some(name) = request.schema_file {
+        all.schema = load(rt, name, u64::MAX)?;
+        if all.schema.is_none() {
             all.is_short = true;
         }
     }

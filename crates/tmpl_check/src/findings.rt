@@ -2,6 +2,7 @@
 
 use crate::entry::{Entry, Level};
 use crate::files::{AllLoaded, Loaded};
+use crate::schema::add_schema;
 use crate::words::Request;
 use indexmap::IndexSet;
 use std::alloc::{AllocError, Global};
@@ -138,7 +139,7 @@ impl<'a> Findings<'a> {
     }
 
     /// Adds what is wrong in data.
-    fn add_data(&mut self, alloc: Global, data: &Loaded<'a>) -> Result<(), AllocError> {
+    pub(crate) fn add_data(&mut self, alloc: Global, data: &Loaded<'a>) -> Result<(), AllocError> {
         let DataReport {
             refused,
             problems,
@@ -279,6 +280,9 @@ pub(crate) fn findings_of<'a>(
     }
     if let (Some(name), Some(first)) = (request.name, request.files.first()) {
         findings.add_asked(alloc, *first, name, &templates)?;
+    }
+    if !loaded.is_short {
+        add_schema(alloc, &mut findings, &set, request, loaded)?;
     }
     if let Some(data) = &loaded.data {
         findings.add_data(alloc, data)?;

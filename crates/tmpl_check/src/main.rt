@@ -6,6 +6,7 @@ mod files;
 mod findings;
 mod json;
 mod sarif;
+mod schema;
 mod text;
 mod words;
 

@@ -2,9 +2,13 @@
 
 use clap::{Arg, ArgAction, ArgMatches, Command};
 use std::alloc::{AllocError, Global};
+use tmpl_meaning::MissingKey;
 
 /// The words of `--format`.
 static FORMATS: [&str; 3] = ["text", "json", "sarif"];
+
+/// The words of `--missingkey`.
+static MODES: [&str; 4] = ["default", "invalid", "zero", "error"];
 
 /// How what is found is put out.
 #[derive(Clone, Copy, Debug, PartialEq, Eq)]
@@ -19,6 +23,11 @@ pub(crate) enum Format {
 pub(crate) struct Request<'a> {
     pub(crate) data_file: Option<&'a str>,
     pub(crate) name: Option<&'a str>,
+    pub(crate) schema_file: Option<&'a str>,
+    /// The mode for missing keys by which the template is checked; none where it is checked by each.
+    pub(crate) mode: Option<MissingKey>,
+    /// The names of templates that need not be there.
+    pub(crate) stops: Vec<&'a str>,
     pub(crate) format: Format,
     pub(crate) files: Vec<&'a str>,
 }
@@ -37,6 +46,21 @@ pub(crate) fn command<'a>(alloc: Global) -> Result<Command<'a>, AllocError> {
             "A file of JSON: says where it is wrong, and which numbers are not whole",
         ))?
         .arg(option_arg(alloc, "name", "NAME").help("The template that is to be rendered"))?
+        .arg(option_arg(alloc, "schema", "FILE").help(
+            "A JSON Schema: says where the template may fail over data of it",
+        ))?
+        .arg(
+            option_arg(alloc, "missingkey", "MODE")
+                .value_parser(MODES.as_slice())
+                .help("With --schema, for tmpl with this option alone, and not with each"),
+        )?
+        .arg(
+            option_arg(alloc, "stop", "NAME")
+                .action(ArgAction::Append)
+                .help(
+                    "With --schema, a template that need not be there: its call is meant to fail",
+                ),
+        )?
         .arg(
             option_arg(alloc, "format", "FORMAT")
                 .value_parser(FORMATS.as_slice())
@@ -68,12 +92,30 @@ pub(crate) fn request_of<'a>(
         Some(given) => given.iter().copied().collect(alloc)?,
         None => Vec::new(alloc),
     };
+    let stops = match matches.get_strs("stop") {
+        Some(given) => given.iter().copied().collect(alloc)?,
+        None => Vec::new(alloc),
+    };
     Ok(Request {
         data_file: matches.get_str("data"),
         name: matches.get_str("name"),
+        schema_file: matches.get_str("schema"),
+        mode: mode_named(matches.get_str("missingkey")),
+        stops,
         format: format_named(matches.get_str("format")),
         files,
     })
+}
+
+/// The mode of this word; none where there is none.
+fn mode_named(word: Option<&str>) -> Option<MissingKey> {
+    match word {
+        Some("default") => Some(MissingKey::Default),
+        Some("invalid") => Some(MissingKey::Invalid),
+        Some("zero") => Some(MissingKey::Zero),
+        Some("error") => Some(MissingKey::Error),
+        _ => None,
+    }
 }
 
 /// The format of this word; lines where there is none.

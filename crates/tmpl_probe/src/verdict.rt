@@ -98,7 +98,7 @@ pub(crate) fn put_verdict(rt: &HostRuntime, bytes: &[u8], word: &str) -> io::Res
     let stops = stops.as_slice();
     match check_schema(alloc, &set, NAME.as_bytes(), &schema(alloc)?, mode, stops) {
         Ok(()) => println!(rt; "accepted")?,
-        Err(Refusal::MayFail) => println!(rt; "may fail")?,
+        Err(Refusal::MayFail(_)) => println!(rt; "may fail")?,
         Err(Refusal::OutOfMemory) => Err(AllocError)?,
     }
     Ok(true)

@@ -1,5 +1,5 @@
 -- For the call `check_schema`: what is accepted never fails.
-use Rattle.std.proofs.Common.{◌≡◌, ◌∙◌, ℕ, Bool, true, false, List, [], ◌∷◌, Option, Some, None, IfSome, refl, sym, subst, if◌then◌else◌}
+use Rattle.std.proofs.Common.{◌≡◌, ◌∙◌, ℕ, Bool, true, false, List, [], ◌∷◌, Option, Some, None, IfSome, unwrap_or, refl, sym, subst, if◌then◌else◌}
 use Rattle.std.specs.Option.{option_map_or}
 use Rattle.std.specs.Str.{bytes_eq}
 use Rattle.tmpl_values.specs.Value.{Value, nothing}
@@ -9,15 +9,16 @@ use Rattle.tmpl_meaning.specs.Meaning.{Rules, ran}
 use Rattle.tmpl_meaning.specs.Pipeline.{without_null}
 use Rattle.tmpl_meaning.specs.declared.missing_key.MissingKey.{MissingKey}
 use Rattle.tmpl_meaning.specs.declared.missing_key.MissingKey.TheVariants as mode
-use Rattle.tmpl_schema.specs.Shape.{Shape, Schema, Fits}
+use Rattle.tmpl_schema.specs.Shape.{Shape, Schema, Fits, HasShape, stands_for}
 use Rattle.tmpl_schema.specs.Safe.{MayEnd, NeverFails}
 use Rattle.tmpl_schema.specs.declared.table.Entry as held
-use Rattle.tmpl_schema.specs.computed.Shapes.{Base}
+use Rattle.tmpl_schema.specs.computed.Shapes.{Base, null_gone}
 use Rattle.tmpl_schema.specs.computed.Check.{Callee, Table, handed, is_safe}
 use Rattle.tmpl_schema.specs.computed.Safe.{EachCallee, IsCallee, IsChecked, NeverFailsIn}
 use Rattle.tmpl_schema.specs.computed.View.{callee_of, entries_of, table_of}
 use Rattle.tmpl_schema.proofs.SafeLemmas.{runs-safely}
-use Rattle.tmpl_schema.proofs.ShapeLemmas.{same_name}
+use Rattle.tmpl_schema.proofs.NameLemmas.{meant}
+use Rattle.tmpl_schema.proofs.ShapeLemmas.{null_gone-has, same_name}
 
 module _ (base : Base) (m : MissingKey) (stops : List (List ℕ)) (set : List Template) (table : Table) where
   each-found : (es : List held.Entry) → EachCallee base m stops set table (entries_of es)
@@ -48,9 +49,19 @@ pub handed-callee : (base : Base) (m : MissingKey) (stops : List (List ℕ)) (se
     → Some t ≡ tree_named name set → is_safe base m table s t.nodes ≡ true → IsCallee base m stops set table name (handed s)
 handed-callee base m stops set table name s t named safe = (t, sym named, safe)
 
+-- a value of the shape is one of the shape without null as a run takes it
+start-has : (base : Base) (s : Shape) (input : Option Value) → HasShape (stands_for base.defs) s (unwrap_or input nothing)
+    → HasShape (stands_for base.defs) (null_gone base s) (option_map_or without_null input nothing)
+start-has base s None h = null_gone-has base (stands_for base.defs) (meant base.defs) s nothing h
+start-has base s (Some v) h = null_gone-has base (stands_for base.defs) (meant base.defs) s v h
+
 pub mode-accepted : (base : Base) (m : MissingKey) (stops : List (List ℕ)) (set : List Template) (name : List ℕ) (schema : Schema)
-    → base.defs ≡ schema.defs → NeverFailsIn base m stops set name schema.shape → NeverFails schema (Some m) stops set name
-mode-accepted base m stops set name schema same h = (h.0, h.1, λ rules input is fits. h.2 rules input is (rw same fits))
+    → base.defs ≡ schema.defs → NeverFailsIn base m stops set name (null_gone base schema.shape) → NeverFails schema (Some m) stops set name
+mode-accepted base m stops set name schema same h = (
+  h.0,
+  h.1,
+  λ rules input is fits. h.2 rules input is (start-has base schema.shape input (rw same fits)),
+)
 
 module _ (schema : Schema) (stops : List (List ℕ)) (set : List Template) (name : List ℕ) where
   pub each-mode : NeverFails schema (Some mode.Error) stops set name → NeverFails schema (Some mode.Zero) stops set name
@@ -60,12 +71,12 @@ module _ (schema : Schema) (stops : List (List ℕ)) (set : List Template) (name
     where
       -- what is said of one tree of the name is said of the other
       in_mode : (m : MissingKey) → NeverFails schema (Some m) stops set name → (rules : Rules) (input : Option Value) → m ≡ rules.missing_key
-          → Fits schema (option_map_or without_null input nothing) → IfSome (ran rules set name e.0 input).fault (λ f. MayEnd stops f.cause)
+          → Fits schema (unwrap_or input nothing) → IfSome (ran rules set name e.0 input).fault (λ f. MayEnd stops f.cause)
       in_mode m h rules input is fits =
           let same : h.0 ≡ e.0 = let one : ◌≡◌ {A = Option Tree} (Some h.0) (Some e.0) = sym h.1 ∙ e.1 in cc in
           subst (λ (t : Tree). IfSome (ran rules set name t input).fault (λ f. MayEnd stops f.cause)) same (h.2 rules input is fits)
 
-      by : (rules : Rules) (input : Option Value) → Fits schema (option_map_or without_null input nothing) → (m : MissingKey) → rules.missing_key ≡ m
+      by : (rules : Rules) (input : Option Value) → Fits schema (unwrap_or input nothing) → (m : MissingKey) → rules.missing_key ≡ m
           → IfSome (ran rules set name e.0 input).fault (λ f. MayEnd stops f.cause)
       by rules input fits mode.Error is = in_mode mode.Error e rules input (sym is) fits
       by rules input fits mode.Zero is = in_mode mode.Zero z rules input (sym is) fits

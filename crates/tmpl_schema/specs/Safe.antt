@@ -1,12 +1,10 @@
 -- What an accepted template is said to be.
-use Rattle.std.specs.Prelude.{◌≡◌, ℕ, List, Option, Some, None, IfSome, Contains}
-use Rattle.std.specs.Option.{option_map_or}
+use Rattle.std.specs.Prelude.{◌≡◌, ℕ, List, Option, Some, None, IfSome, Contains, unwrap_or}
 use Rattle.tmpl_values.specs.Value.{Value, nothing}
 use Rattle.tmpl_syntax.specs.Set.{Template, tree_named}
 use Rattle.tmpl_syntax.specs.Tree.{Tree}
 use Rattle.tmpl_meaning.specs.Fault.{Cause, steps_spent, calls_too_deep, no_template}
 use Rattle.tmpl_meaning.specs.Meaning.{Rules, ran}
-use Rattle.tmpl_meaning.specs.Pipeline.{without_null}
 use Rattle.tmpl_meaning.specs.declared.missing_key.MissingKey.{MissingKey}
 use Rattle.tmpl_schema.specs.Shape.{Schema, Fits}
 
@@ -23,10 +21,10 @@ abbrev pub Covers : Option MissingKey → MissingKey → Type 0
 Covers None m = Unit {0}
 Covers (Some asked) m = asked ≡ m
 
--- the template of this name is there, and whatever the limits, its run over each value that fits the schema has no fault
--- but those that it may have
+-- the template of this name is there, and whatever the limits, its run over each value of the data that fits the schema
+-- has no fault but those that it may have; where there is no data, nothing is its value
 abbrev pub NeverFails : Schema → Option MissingKey → List (List ℕ) → List Template → List ℕ → Type 0
 NeverFails schema asked stops set name = (t : Tree) × (tree_named name set ≡ Some t)
     × ((rules : Rules) (input : Option Value) → Covers asked rules.missing_key
-    → Fits schema (option_map_or without_null input nothing)
+    → Fits schema (unwrap_or input nothing)
     → IfSome (ran rules set name t input).fault (λ f. MayEnd stops f.cause))

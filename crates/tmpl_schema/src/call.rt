@@ -11,7 +11,7 @@ ghost use Rattle.tmpl_schema.specs.computed.View.{base_of, shapes_of};
 
 use crate::inclusion::{find, within};
 use crate::shape::{Base, Shape, either};
-use crate::trouble::Trouble;
+use crate::trouble::{Cause, Trouble, unsafe_by};
 use std::alloc::{AllocError, Global};
 use tmpl_funcs::Func;
 
@@ -126,7 +126,7 @@ fn truths_if(so: bool) -> Result<Shape, Trouble>
     if so {
         return Ok(Shape::Truths);
     }
-    Err(Trouble::Unsafe)
+    Err(Trouble::Refused)
 }
 
 /// The shapes of two arguments, and no more.
@@ -137,11 +137,11 @@ fn two_of(shapes: &Shapes) -> Result<(&Shape, &Shape), Trouble>
         Shapes::More(first) => match &first.rest {
             Shapes::More(second) => match &second.rest {
                 Shapes::Empty => Ok((&first.shape, &second.shape)),
-                Shapes::More(_) => Err(Trouble::Unsafe),
+                Shapes::More(_) => Err(Trouble::Refused),
             },
-            Shapes::Empty => Err(Trouble::Unsafe),
+            Shapes::Empty => Err(Trouble::Refused),
         },
-        Shapes::Empty => Err(Trouble::Unsafe),
+        Shapes::Empty => Err(Trouble::Refused),
     }
 }
 
@@ -152,9 +152,9 @@ fn one_of(shapes: &Shapes) -> Result<&Shape, Trouble>
     match shapes {
         Shapes::More(first) => match &first.rest {
             Shapes::Empty => Ok(&first.shape),
-            Shapes::More(_) => Err(Trouble::Unsafe),
+            Shapes::More(_) => Err(Trouble::Refused),
         },
-        Shapes::Empty => Err(Trouble::Unsafe),
+        Shapes::Empty => Err(Trouble::Refused),
     }
 }
 
@@ -175,7 +175,7 @@ fn len_shape(base: &Base<'_>, shapes: &Shapes) -> Result<Shape, Trouble>
     if is_sized_by(base, base.limit, shape) {
         return Ok(Shape::Numbers);
     }
-    Err(Trouble::Unsafe)
+    Err(Trouble::Refused)
 }
 
 /// What `eq` gives.
@@ -185,9 +185,9 @@ fn equal_shape(base: &Base<'_>, shapes: &Shapes) -> Result<Shape, Trouble>
     match shapes {
         Shapes::More(first) => match &first.rest {
             Shapes::More(_) => truths_if(comparable_to_all(base, &first.shape, &first.rest)?),
-            Shapes::Empty => Err(Trouble::Unsafe),
+            Shapes::Empty => Err(Trouble::Refused),
         },
-        Shapes::Empty => Err(Trouble::Unsafe),
+        Shapes::Empty => Err(Trouble::Refused),
     }
 }
 
@@ -225,6 +225,8 @@ pub(crate) fn call_shape(base: &Base<'_>, func: Func, shapes: &Shapes) -> Result
         Func::Le => ordered_shape(base, shapes),
         Func::Gt => ordered_shape(base, shapes),
         Func::Ge => ordered_shape(base, shapes),
-        Func::And | Func::Or | Func::Index | Func::Slice | Func::Printf => Err(Trouble::Unsafe),
+        Func::And | Func::Or | Func::Index | Func::Slice | Func::Printf => {
+            Err(unsafe_by(base.alloc, Cause::NotFollowed(func)))
+        }
     }
 }

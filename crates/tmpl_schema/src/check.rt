@@ -9,24 +9,24 @@ ghost use Rattle.tmpl_schema.specs.computed.Check.{is_safe};
 ghost use Rattle.tmpl_schema.specs.computed.Safe.{EachCallee, IsCallee, NeverFailsIn};
 ghost use Rattle.tmpl_schema.specs.computed.View.{base_of, callee_of, entries_of, table_of};
 
-use crate::join::joined;
+use crate::join::{joined, null_gone};
 use crate::node::{Checker, after_nodes};
 use crate::shape::{Base, Schema, Shape, copy_shape};
 use crate::state::at_start;
 use crate::table::{Callee, Entry};
-use crate::trouble::Trouble;
+use crate::trouble::{Cause, Doubt, Trouble, in_template, no_template, unsafe_by};
 use std::alloc::{AllocError, Global};
 use tmpl_meaning::MissingKey;
 use tmpl_syntax::{Set, Tree};
 use tmpl_values::Bytes;
 
 /// Why a template is not accepted.
-#[derive(Clone, Copy, Debug, PartialEq, Eq)]
+#[derive(Drop)]
 pub enum Refusal {
     /// Want of memory.
     OutOfMemory,
-    /// It may fail for a value of the schema, or it is not seen that it never does.
-    MayFail,
+    /// It may fail for a value of the schema, or it is not seen that it never does: here first.
+    MayFail(Doubt),
 }
 
 /// Whether a template is accepted for values of this shape.
@@ -61,19 +61,23 @@ fn check_callee(
 {
     match &entry.callee {
         Callee::Handed(shape) => match set.get(entry.name.as_slice()) {
-            Some(tree) => {
-                check_tree(checker, shape, tree)?;
-                Ok(())
-            }
-            None => Err(Trouble::Unsafe),
+            Some(tree) => match check_tree(checker, shape, tree) {
+                Ok(()) => Ok(()),
+                Err(trouble) => Err(in_template(
+                    checker.base.alloc,
+                    trouble,
+                    entry.name.as_slice(),
+                )),
+            },
+            None => Err(no_template(checker.base.alloc, entry.name.as_slice())),
         },
         Callee::Absent => match set.get(entry.name.as_slice()) {
-            Some(_) => Err(Trouble::Unsafe),
+            Some(_) => Err(no_template(checker.base.alloc, entry.name.as_slice())),
             None => {
                 if is_stop(stops, entry.name.as_slice()) {
                     return Ok(());
                 }
-                Err(Trouble::Unsafe)
+                Err(no_template(checker.base.alloc, entry.name.as_slice()))
             }
         },
     }
@@ -110,12 +114,14 @@ fn check_all(
         (set_view set.now) name.now (shape_of shape.now)) }
 {
     match set.get(name) {
-        Some(tree) => {
-            check_tree(checker, shape, tree)?;
-            check_callees(checker, set, stops, checker.table)?;
-            Ok(())
-        }
-        None => Err(Trouble::Unsafe),
+        Some(tree) => match check_tree(checker, shape, tree) {
+            Ok(()) => {
+                check_callees(checker, set, stops, checker.table)?;
+                Ok(())
+            }
+            Err(trouble) => Err(in_template(checker.base.alloc, trouble, name)),
+        },
+        None => Err(no_template(checker.base.alloc, name)),
     }
 }
 
@@ -168,6 +174,51 @@ fn place(table: &[Entry], name: &[u8]) -> Option<usize> {
     None
 }
 
+/// The refusal for this trouble.
+fn refusal_of(alloc: Global, trouble: Trouble) -> Refusal {
+    match trouble {
+        Trouble::Unsafe(doubt) => Refusal::MayFail(doubt),
+        Trouble::OutOfMemory => Refusal::OutOfMemory,
+        Trouble::Refused | Trouble::Wanted(_) => Refusal::MayFail(Doubt {
+            template: Bytes::new(Vec::new(alloc)),
+            line: 0,
+            cause: Cause::Command,
+        }),
+    }
+}
+
+/// Whether a template never fails for values of this shape, by a table that is looked for.
+fn check_shape(
+    base: &Base<'_>,
+    set: &Set,
+    name: &[u8],
+    shape: &Shape,
+    mode: MissingKey,
+    stops: &[Bytes],
+) -> Result<(), Refusal>
+    ensures { OnOk result (NeverFailsIn (base_of base.now) mode stops.now (set_view set.now) name.now
+        (shape_of shape.now)) }
+{
+    let mut table: Vec<Entry> = Vec::new(base.alloc);
+    for _ in 0..2000 {
+        let checker = Checker {
+            base: *base,
+            mode,
+            table: table.as_slice(),
+        };
+        match check_all(&checker, set, stops, name, shape) {
+            Ok(()) => return Ok(()),
+            Err(Trouble::Wanted(entry)) => {
+                if grow(base, set, &mut table, entry).is_err() {
+                    return Err(Refusal::OutOfMemory);
+                }
+            }
+            Err(trouble) => return Err(refusal_of(base.alloc, trouble)),
+        }
+    }
+    Err(refusal_of(base.alloc, unsafe_by(base.alloc, Cause::Command)))
+}
+
 /// Whether a template never fails in a mode.
 fn check_mode(
     alloc: Global,
@@ -185,25 +236,10 @@ fn check_mode(
         limit: 400,
         alloc,
     };
-    let mut table: Vec<Entry> = Vec::new(alloc);
-    for _ in 0..2000 {
-        let checker = Checker {
-            base,
-            mode,
-            table: table.as_slice(),
-        };
-        match check_all(&checker, set, stops, name, &schema.shape) {
-            Ok(()) => return Ok(()),
-            Err(Trouble::Wanted(entry)) => {
-                if grow(&base, set, &mut table, entry).is_err() {
-                    return Err(Refusal::OutOfMemory);
-                }
-            }
-            Err(Trouble::OutOfMemory) => return Err(Refusal::OutOfMemory),
-            Err(Trouble::Unsafe) => return Err(Refusal::MayFail),
-        }
+    match null_gone(&base, &schema.shape) {
+        Ok(shape) => check_shape(&base, set, name, &shape, mode, stops),
+        Err(_) => Err(Refusal::OutOfMemory),
     }
-    Err(Refusal::MayFail)
 }
 
 /// Whether a template of the set never fails over the values of a schema: in this mode for missing keys, or, where none

@@ -11,28 +11,29 @@ ghost use Rattle.tmpl_schema.specs.computed.View.{base_of};
 use crate::inclusion::find;
 use crate::join::joined;
 use crate::shape::{Base, Fields, Shape, copy_shape};
-use crate::trouble::Trouble;
+use crate::trouble::{Cause, Trouble, absent, no_fields, unsafe_by};
+use std::alloc::Global;
 use tmpl_meaning::MissingKey;
 use tmpl_values::Bytes;
 
-/// What stands for a field that is absent, if that is no fault.
-fn absent_shape(mode: MissingKey) -> Result<Shape, Trouble>
+/// What stands for a field of this name that is absent, if that is no fault.
+fn absent_shape(alloc: Global, mode: MissingKey, name: &[u8]) -> Result<Shape, Trouble>
     ensures { IfOk result (λ s. absent_shape mode ≡ Some (shape_of s)) }
 {
     match mode {
         MissingKey::Default | MissingKey::Invalid => Ok(Shape::Nothings),
         MissingKey::Zero => Ok(Shape::Nulls),
-        MissingKey::Error => Err(Trouble::Unsafe),
+        MissingKey::Error => Err(absent(alloc, name)),
     }
 }
 
 /// A field of nothing, if that is no fault.
-fn field_of_nothing(mode: MissingKey) -> Result<Shape, Trouble>
+fn field_of_nothing(alloc: Global, mode: MissingKey, name: &[u8]) -> Result<Shape, Trouble>
     ensures { IfOk result (λ s. option_map (λ t. nothings) (absent_shape mode) ≡ Some (shape_of s)) }
 {
     match mode {
         MissingKey::Default | MissingKey::Invalid | MissingKey::Zero => Ok(Shape::Nothings),
-        MissingKey::Error => Err(Trouble::Unsafe),
+        MissingKey::Error => Err(no_fields(alloc, name, &Shape::Nothings)),
     }
 }
 
@@ -40,6 +41,7 @@ fn field_of_nothing(mode: MissingKey) -> Result<Shape, Trouble>
 fn of_field(
     base: &Base<'_>,
     mode: MissingKey,
+    name: &[u8],
     required: bool,
     shape: &Shape,
 ) -> Result<Shape, Trouble>
@@ -49,7 +51,7 @@ fn of_field(
     if required {
         return Ok(shape);
     }
-    Ok(joined(base, shape, absent_shape(mode)?)?)
+    Ok(joined(base, shape, absent_shape(base.alloc, mode, name)?)?)
 }
 
 /// The field of a name of a map of these fields.
@@ -63,11 +65,11 @@ fn entry_shape(
         ≡ Some (shape_of s)) }
 {
     match fields {
-        Fields::Closed => absent_shape(mode),
-        Fields::Others(shape) => of_field(base, mode, false, shape),
+        Fields::Closed => absent_shape(base.alloc, mode, name),
+        Fields::Others(shape) => of_field(base, mode, name, false, shape),
         Fields::Field(first) => {
             if name == first.name.as_slice() {
-                of_field(base, mode, first.required, &first.shape)
+                of_field(base, mode, name, first.required, &first.shape)
             } else {
                 entry_shape(base, mode, name, &first.rest)
             }
@@ -87,12 +89,12 @@ fn field_shape_by(
         ≡ Some (shape_of s)) }
 {
     if steps == 0 {
-        return Err(Trouble::Unsafe);
+        return Err(unsafe_by(base.alloc, Cause::Command));
     }
     let fewer = steps - 1;
     match shape {
         Shape::Never => Ok(Shape::Never),
-        Shape::Nothings => field_of_nothing(mode),
+        Shape::Nothings => field_of_nothing(base.alloc, mode, name),
         Shape::Record(fields) => entry_shape(base, mode, name, fields),
         Shape::Either(one, other) => {
             let one = field_shape_by(base, fewer, mode, name, one)?;
@@ -101,10 +103,12 @@ fn field_shape_by(
         }
         Shape::Named(defined) => match find(base.definitions, defined.as_slice()) {
             Some(shape) => field_shape_by(base, fewer, mode, name, shape),
-            None => Err(Trouble::Unsafe),
+            None => Err(unsafe_by(base.alloc, Cause::Command)),
         },
-        Shape::Nulls | Shape::Truths | Shape::Numbers | Shape::Texts => Err(Trouble::Unsafe),
-        Shape::Anything | Shape::List(_) => Err(Trouble::Unsafe),
+        Shape::Nulls | Shape::Truths | Shape::Numbers | Shape::Texts => {
+            Err(no_fields(base.alloc, name, shape))
+        }
+        Shape::Anything | Shape::List(_) => Err(no_fields(base.alloc, name, shape)),
     }
 }
 

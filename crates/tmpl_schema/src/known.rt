@@ -11,7 +11,7 @@ ghost use Rattle.tmpl_schema.specs.computed.View.{base_of, is_longer, known_of, 
 use crate::inclusion::within;
 use crate::join::{joined, refined};
 use crate::shape::{Base, Shape, copy_name, copy_shape};
-use crate::trouble::Trouble;
+use crate::trouble::{Cause, Trouble, unsafe_by};
 use std::alloc::{AllocError, Global};
 use tmpl_grammar::Binding;
 use tmpl_values::Bytes;
@@ -252,10 +252,10 @@ pub(crate) fn after_both(
     let other = oldest(other, before);
     let both = all_joined(base, one, other)?;
     if !all_within(base, one, &both) {
-        return Err(Trouble::Unsafe);
+        return Err(unsafe_by(base.alloc, Cause::Variables));
     }
     if !all_within(base, other, &both) {
-        return Err(Trouble::Unsafe);
+        return Err(unsafe_by(base.alloc, Cause::Variables));
     }
     Ok(both)
 }
@@ -268,10 +268,10 @@ pub(crate) fn left_with(base: &Base<'_>, known: &Known, head: Option<&Known>) ->
     match head {
         Some(head) => {
             if !all_within(base, oldest(known, head), head) {
-                return Err(Trouble::Unsafe);
+                return Err(unsafe_by(base.alloc, Cause::Variables));
             }
             Ok(())
         }
-        None => Err(Trouble::Unsafe),
+        None => Err(unsafe_by(base.alloc, Cause::Variables)),
     }
 }

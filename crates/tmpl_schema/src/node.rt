@@ -21,7 +21,7 @@ use crate::pipeline::pipeline_shape;
 use crate::shape::{Base, Shape, copy_name, copy_shape};
 use crate::state::{State, copy_state, narrowed, narrowed_empty};
 use crate::table::{Callee, Entry, find_callee};
-use crate::trouble::Trouble;
+use crate::trouble::{Cause, Trouble, at_line, unsafe_by};
 use crate::visit::{Visit, visit_of};
 use std::alloc::{AllocError, Global};
 use tmpl_grammar::{Control, Header, Pipeline};
@@ -260,7 +260,7 @@ fn settled(
         (visit_seen visit.now) (nodes_in body.now)) (known_of known) ≡ Some (known_of ks)) }
 {
     if rounds == 0 {
-        return Err(Trouble::Unsafe);
+        return Err(unsafe_by(checker.base.alloc, Cause::Variables));
     }
     let end = turned(checker, &known, header, visit, body)?;
     if all_within(&checker.base, &end, &known) {
@@ -302,7 +302,7 @@ fn kept(
 {
     let head = settled_soon(checker, known, header, visit, body)?;
     if !all_within(&checker.base, known, &head) {
-        return Err(Trouble::Unsafe);
+        return Err(unsafe_by(checker.base.alloc, Cause::Variables));
     }
     Ok(head)
 }
@@ -360,7 +360,7 @@ fn after_control(
         ≡ Some (known_of ks)) }
 {
     if !holds_loop(head, &state.known) {
-        return Err(Trouble::Unsafe);
+        return Err(unsafe_by(checker.base.alloc, Cause::Variables));
     }
     let shape = pipeline_shape(
         &checker.base,
@@ -418,7 +418,10 @@ pub(crate) fn after_nodes(
     let State { dot, known } = state;
     let mut state = State { dot, known };
     for node in nodes {
-        state.known = after_node(checker, head, &state, node)?;
+        match after_node(checker, head, &state, node) {
+            Ok(known) => state.known = known,
+            Err(trouble) => return Err(at_line(trouble, node.line)),
+        }
     }
     Ok(state.known)
 }

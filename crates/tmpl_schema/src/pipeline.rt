@@ -17,7 +17,7 @@ use crate::join::{filled, joined, null_gone};
 use crate::known::variable_shape;
 use crate::shape::{Base, Shape, copy_shape};
 use crate::state::{State, narrowed_by};
-use crate::trouble::Trouble;
+use crate::trouble::{Cause, Trouble, of_call, unsafe_by};
 use tmpl_funcs::Func;
 use tmpl_grammar::{Command, Operand};
 use tmpl_meaning::MissingKey;
@@ -38,7 +38,7 @@ fn operand_shape(
         Operand::Fields(names) => chain_shape(base, mode, names.as_slice(), &state.dot),
         Operand::Variable { name, fields } => match variable_shape(name.as_slice(), &state.known) {
             Some(shape) => chain_shape(base, mode, fields.as_slice(), shape),
-            None => Err(Trouble::Unsafe),
+            None => Err(unsafe_by(base.alloc, Cause::Command)),
         },
         Operand::Bool(_) => Ok(Shape::Truths),
         Operand::Number(_) => Ok(Shape::Numbers),
@@ -58,9 +58,12 @@ fn bare_shape(base: &Base<'_>, func: Func) -> Result<Shape, Trouble>
         ≡ Some (shape_of s)) }
 {
     if !func.takes(0) {
-        return Err(Trouble::Unsafe);
+        return Err(unsafe_by(base.alloc, Cause::Command));
     }
-    call_shape(base, func, &Shapes::Empty)
+    match call_shape(base, func, &Shapes::Empty) {
+        Ok(shape) => Ok(shape),
+        Err(trouble) => Err(of_call(base.alloc, trouble, func)),
+    }
 }
 
 /// The shapes of the arguments of a call, of which a piped one is the last.
@@ -107,7 +110,10 @@ fn called_shape(
         (operands_in operands.now) (seen piped.entry) ≡ Some (shape_of s)) }
 {
     let shapes = argument_shapes(base, mode, state, operands, piped)?;
-    call_shape(base, func, &shapes)
+    match call_shape(base, func, &shapes) {
+        Ok(shape) => Ok(shape),
+        Err(trouble) => Err(of_call(base.alloc, trouble, func)),
+    }
 }
 
 /// The shape of an `or`, or else of an `and`, whose operands before these do not decide.
@@ -168,7 +174,7 @@ fn function_shape(
         (operands_in operands.now)) (seen piped.entry) ≡ Some (shape_of s)) }
 {
     if !func.takes(argument_count(operands, piped)) {
-        return Err(Trouble::Unsafe);
+        return Err(unsafe_by(base.alloc, Cause::Command));
     }
     match func {
         Func::And => junction_shape(base, false, mode, state, &Shape::Nothings, operands, piped),
@@ -185,7 +191,9 @@ fn function_shape(
         Func::Le => called_shape(base, mode, state, func, operands, piped),
         Func::Gt => called_shape(base, mode, state, func, operands, piped),
         Func::Ge => called_shape(base, mode, state, func, operands, piped),
-        Func::Index | Func::Slice | Func::Printf => Err(Trouble::Unsafe),
+        Func::Index | Func::Slice | Func::Printf => {
+            Err(unsafe_by(base.alloc, Cause::NotFollowed(func)))
+        }
     }
 }
 
@@ -203,10 +211,10 @@ fn alone_shape(
         (operand_of first.now)) (seen piped.entry) (operands_in rest.now) ≡ Some (shape_of s)) }
 {
     match piped {
-        Some(_) => Err(Trouble::Unsafe),
+        Some(_) => Err(unsafe_by(base.alloc, Cause::Command)),
         None => match rest {
             [] => operand_shape(base, mode, state, first),
-            [_, _more @ ..] => Err(Trouble::Unsafe),
+            [_, _more @ ..] => Err(unsafe_by(base.alloc, Cause::Command)),
         },
     }
 }
@@ -224,10 +232,10 @@ fn command_shape(
         (operands_in operands.now) (seen piped.entry) ≡ Some (shape_of s)) }
 {
     match operands {
-        [] => Err(Trouble::Unsafe),
+        [] => Err(unsafe_by(base.alloc, Cause::Command)),
         [first, rest @ ..] => match first {
             Operand::Function(func) => function_shape(base, mode, state, *func, rest, piped),
-            Operand::Nil => Err(Trouble::Unsafe),
+            Operand::Nil => Err(unsafe_by(base.alloc, Cause::Command)),
             Operand::Dot => alone_shape(base, mode, state, first, rest, piped),
             Operand::Fields(_) => alone_shape(base, mode, state, first, rest, piped),
             Operand::Variable { .. } => alone_shape(base, mode, state, first, rest, piped),

@@ -85,7 +85,7 @@ pub(crate) struct Base<'s> {
 }
 
 /// A copy of a text.
-pub(crate) fn copy_name(alloc: Global, name: &[u8]) -> Result<Bytes, AllocError>
+pub fn copy_name(alloc: Global, name: &[u8]) -> Result<Bytes, AllocError>
     ensures { IfOk result (λ copy. copy ≡ name.now) }
 {
     Ok(Bytes::new(name.to_vec(alloc)?))
@@ -93,7 +93,7 @@ pub(crate) fn copy_name(alloc: Global, name: &[u8]) -> Result<Bytes, AllocError>
 
 /// A copy of a shape.
 #[cycle(copy)]
-pub(crate) fn copy_shape(alloc: Global, shape: &Shape) -> Result<Shape, AllocError>
+pub fn copy_shape(alloc: Global, shape: &Shape) -> Result<Shape, AllocError>
     ensures { IfOk result (λ copy. shape_of copy ≡ shape_of shape.now) }
 {
     match shape {
@@ -116,7 +116,7 @@ pub(crate) fn copy_shape(alloc: Global, shape: &Shape) -> Result<Shape, AllocErr
 }
 
 /// The values of the one and of the other.
-pub(crate) fn either(alloc: Global, one: Shape, other: Shape) -> Result<Shape, AllocError>
+pub fn either(alloc: Global, one: Shape, other: Shape) -> Result<Shape, AllocError>
     ensures { IfOk result (λ both. shape_of both ≡ either (shape_of one) (shape_of other)) }
 {
     Ok(Shape::Either(Box::new(alloc, one)?, Box::new(alloc, other)?))
@@ -138,7 +138,7 @@ pub(crate) fn copy_fields(alloc: Global, fields: &Fields) -> Result<Fields, Allo
 }
 
 /// The fields with one before them.
-pub(crate) fn put_field(
+pub fn put_field(
     alloc: Global,
     name: &[u8],
     required: bool,

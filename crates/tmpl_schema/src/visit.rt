@@ -10,8 +10,8 @@ ghost use Rattle.tmpl_schema.specs.computed.View.{base_of, visit_seen};
 use crate::inclusion::find;
 use crate::join::joined;
 use crate::shape::{Base, Fields, Shape, copy_shape};
-use crate::trouble::Trouble;
-use std::alloc::AllocError;
+use crate::trouble::{Cause, Trouble, no_range, unsafe_by};
+use std::alloc::{AllocError, Global};
 use tmpl_grammar::Binding;
 
 /// The shapes of an index or key, and of an element.
@@ -36,11 +36,11 @@ fn any_field(base: &Base<'_>, fields: &Fields) -> Result<Shape, AllocError>
 }
 
 /// What a range over a number visits, where it may have these variables.
-fn number_visit(binding: &Binding) -> Result<Visit, Trouble>
+fn number_visit(alloc: Global, binding: &Binding) -> Result<Visit, Trouble>
     ensures { IfOk result (λ v. number_visit (binding_of binding.now) ≡ Some (visit_seen v)) }
 {
     match binding {
-        Binding::DeclarePair(_) => Err(Trouble::Unsafe),
+        Binding::DeclarePair(_) => Err(no_range(alloc, &Shape::Numbers)),
         Binding::Unbound => Ok(Visit {
             key: Shape::Numbers,
             element: Shape::Numbers,
@@ -77,7 +77,7 @@ fn visit_by(
         ≡ Some (visit_seen v)) }
 {
     if steps == 0 {
-        return Err(Trouble::Unsafe);
+        return Err(unsafe_by(base.alloc, Cause::Command));
     }
     let fewer = steps - 1;
     match shape {
@@ -93,7 +93,7 @@ fn visit_by(
             key: Shape::Never,
             element: Shape::Never,
         }),
-        Shape::Numbers => number_visit(binding),
+        Shape::Numbers => number_visit(base.alloc, binding),
         Shape::List(items) => Ok(Visit {
             key: Shape::Numbers,
             element: copy_shape(base.alloc, items)?,
@@ -109,9 +109,9 @@ fn visit_by(
         }
         Shape::Named(name) => match find(base.definitions, name.as_slice()) {
             Some(shape) => visit_by(base, fewer, binding, shape),
-            None => Err(Trouble::Unsafe),
+            None => Err(unsafe_by(base.alloc, Cause::Command)),
         },
-        Shape::Truths | Shape::Texts | Shape::Anything => Err(Trouble::Unsafe),
+        Shape::Truths | Shape::Texts | Shape::Anything => Err(no_range(base.alloc, shape)),
     }
 }
 

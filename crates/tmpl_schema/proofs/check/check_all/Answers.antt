@@ -9,8 +9,8 @@ use Rattle.tmpl_schema.specs.computed.View.{base_of, entries_of, table_of}
 use Rattle.tmpl_schema.proofs.AcceptLemmas.{all-accepted}
 use Rattle.tmpl_schema.proofs.check.check_all.Goals as goal
 
-pub returns-in_ok-check_callees-in-Some : goal.returns-in_ok-check_callees-in-Some
-returns-in_ok-check_callees-in-Some c =
+pub returns-in_ok-check_callees-in-Ok : goal.returns-in_ok-check_callees-in-Ok
+returns-in_ok-check_callees-in-Ok c =
     let base = base_of c.args.checker.now.base in
     let m = c.args.checker.now.mode in
     let set = set_view c.args.set.now in

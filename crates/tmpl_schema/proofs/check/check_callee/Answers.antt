@@ -9,8 +9,8 @@ use Rattle.tmpl_schema.specs.computed.View.{base_of, callee_of, table_of}
 use Rattle.tmpl_schema.proofs.AcceptLemmas.{handed-callee}
 use Rattle.tmpl_schema.proofs.check.check_callee.Goals as goal
 
-pub returns-in_ok-check_tree-in-Some : goal.returns-in_ok-check_tree-in-Some
-returns-in_ok-check_tree-in-Some c =
+pub returns-in-Ok : goal.returns-in-Ok
+returns-in-Ok c =
     let base = base_of c.args.checker.now.base in
     let m = c.args.checker.now.mode in
     let set = set_view c.args.set.now in

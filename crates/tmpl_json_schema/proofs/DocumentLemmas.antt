@@ -1,0 +1,315 @@
+-- For the call `read_schema`: a value that conforms to a document fits the shape that is read of it.
+use Rattle.std.proofs.Common.{◌≡◌, ◌⊎◌, ◌&&◌, Bool, true, false, not, List, [], ◌∷◌, ℕ, zero, suc, Option, Some, None, All, IfSome, IsSome, is_some, inl, inr, refl, sym, subst, if◌then◌else◌, codes}
+use Rattle.std.specs.Option.{option_map, option_map_or, option_and_then}
+use Rattle.std.specs.Str.{bytes_eq}
+use Rattle.std.proofs.lemmas.Bool.{false≢true, and_parts}
+use Rattle.std.proofs.lemmas.List.Elements.{All-head, All-tail}
+use Rattle.serde_json.specs.Data as json
+use Rattle.serde_json.specs.Data.{Data, Items, no_items, Members, no_members, member}
+use Rattle.serde_json.specs.Find.{get, pointer}
+use Rattle.tmpl_values.specs.Value.{Value, Entries, no_entry, entry, nothing, null, boolean, number, string, sequence, mapping, item, no_item}
+use Rattle.tmpl_values.specs.Value as value
+use Rattle.tmpl_schema.specs.Shape.{Shape, never, anything, named, record_of, Names, Defs, Fields, EachEntry, EachItem, AreDistinct, HasRequired, HasShape, IsField, stands_for}
+use Rattle.tmpl_schema.specs.View.{defs_in, shape_of}
+use Rattle.tmpl_schema.specs.declared.shape.Definition.{Definition}
+use Rattle.tmpl_schema.specs.computed.Means.{Means}
+use Rattle.tmpl_schema.proofs.NameLemmas.{meant}
+use Rattle.tmpl_schema.proofs.ShapeLemmas.{same_name, or_cases, items-has, entries-has}
+use Rattle.tmpl_json_schema.specs.Document.{IsInstance, IsOfType, IsConstant, IsOneOf, HasKeys, SomeItem, in_properties, FitsProperty, FitsProperties, FitsAdditional}
+use Rattle.tmpl_json_schema.specs.Document.{FitsItems, FitsSome, fragment_of, referred, ConformsBy, conforms_in}
+use Rattle.tmpl_json_schema.specs.declared.kinds.Kinds.{Kinds}
+use Rattle.tmpl_json_schema.specs.computed.Reading.{fold, fold_members, every_kind, both_kinds, types_in, const_in, enum_in, kinds_in, type_kinds, enum_kinds, constant_kind}
+use Rattle.tmpl_json_schema.specs.computed.Reading.{is_every_kind, by_kinds, kept, rest_of, shape_of_rest, has_content, choices_in, or_else, is_listed, reference_shape, or_shape}
+use Rattle.tmpl_json_schema.specs.computed.Reading.{choice_with, choice_shape, shape_under, required_in, required_fields, properties_in, property_fields, with_property}
+use Rattle.tmpl_json_schema.specs.computed.Reading.{fields_in, content_shape, plain_shape, object_shape, shape_by}
+use Rattle.tmpl_json_schema.specs.computed.Defined.{IsDefinition, are_defined}
+use Rattle.tmpl_json_schema.proofs.KindLemmas.{HasKind, HasParts, is-some, not-some, both-kinds, type_kinds-has, constant_kind-has, enum_kinds-has, or-one, or-other, by_kinds-has, kept-has}
+use Rattle.tmpl_json_schema.proofs.FieldLemmas.{rest-field, rest-shape, rest-required, required-fields, required-has, properties-fields, properties-has}
+
+-- ---- kinds
+
+every-kind : (v : Value) → IsInstance v → HasKind every_kind v
+every-kind nothing i = i
+every-kind null i = refl
+every-kind (boolean b) i = refl
+every-kind (number n) i = refl
+every-kind (string s) i = refl
+every-kind (sequence vs) i = refl
+every-kind (mapping es) i = refl
+
+types-has : (o : Option Data) (ks : Kinds) (v : Value) → option_map_or type_kinds o (Some every_kind) ≡ Some ks → IsInstance v → IfSome o (IsOfType v) → HasKind ks v
+types-has None ks v e i h = is-some (λ k. HasKind k v) every_kind ks e (every-kind v i)
+types-has (Some d) ks v e i h = type_kinds-has d ks v e i h
+
+const-has : (o : Option Data) (v : Value) → IsInstance v → IfSome o (IsConstant v) → HasKind (option_map_or constant_kind o every_kind) v
+const-has None v i h = every-kind v i
+const-has (Some d) v i h = constant_kind-has v d h
+
+enum-has : (o : Option Data) (ks : Kinds) (v : Value) → option_map_or enum_kinds o (Some every_kind) ≡ Some ks → IsInstance v → IfSome o (IsOneOf v) → HasKind ks v
+enum-has None ks v e i h = is-some (λ k. HasKind k v) every_kind ks e (every-kind v i)
+enum-has (Some d) ks v e i h = enum_kinds-has d ks v e h
+
+kinds-has : (d : Data) (ks : Kinds) (v : Value) → kinds_in d ≡ Some ks → IsInstance v → IfSome (get (codes "type") d) (IsOfType v)
+    → IfSome (get (codes "const") d) (IsConstant v) → IfSome (get (codes "enum") d) (IsOneOf v) → HasKind ks v
+kinds-has d ks v e i t c n = by (types_in d) refl (enum_in d) refl e
+  where
+    by : (o : Option Kinds) → types_in d ≡ o → (p : Option Kinds) → enum_in d ≡ p
+        → option_and_then (λ a. option_map (λ b. both_kinds a (both_kinds b (const_in d))) p) o ≡ Some ks → HasKind ks v
+    by None x p y f = absurd (not-some ks f)
+    by (Some a) x None y f = absurd (not-some ks f)
+    by (Some a) x (Some b) y f = is-some (λ k. HasKind k v) (both_kinds a (both_kinds b (const_in d))) ks f
+        (both-kinds a (both_kinds b (const_in d)) v (types-has (get (codes "type") d) a v x i t)
+        (both-kinds b (const_in d) v (enum-has (get (codes "enum") d) b v y i n) (const-has (get (codes "const") d) v i c)))
+
+-- ---- what stands in a schema, where what stands inside is read well
+
+module _ (N : Names) (read : Data → Option Shape) (C : Data → Value → Type 0) (ok : (d : Data) (s : Shape) (v : Value) → read d ≡ Some s → C d v → HasShape N s v) where
+  some-has : (ds : Items) (a s : Shape) (v : Value) → fold (choice_with read) a ds ≡ Some s → HasShape N a v ⊎ SomeItem (λ d. C d v) ds → HasShape N s v
+  some-has no_items a s v e h = elim h [ inl x ↦ is-some (λ t. HasShape N t v) a s e x | inr x ↦ absurd x ]
+  some-has (json.item d ds) a s v e h = by (read d) refl e (λ b f x. some-has ds b s v f x)
+    where
+      by : (o : Option Shape) → read d ≡ o → option_and_then (λ b. fold (choice_with read) b ds) (option_map (λ t. or_shape t a) o) ≡ Some s
+          → ((b : Shape) → fold (choice_with read) b ds ≡ Some s → HasShape N b v ⊎ SomeItem (λ d. C d v) ds → HasShape N s v) → HasShape N s v
+      by None is f more = absurd (not-some s f)
+      by (Some t) is f more = more (or_shape t a) f (elim h [
+        | inl x ↦ inl (or-other N t a v x)
+        | inr x ↦ elim x [ inl y ↦ inl (or-one N t a v (ok d t v is y)) | inr y ↦ inr y ]
+      ])
+
+  choice-has : (d : Data) (s : Shape) (v : Value) → choice_shape read d ≡ Some s → FitsSome C v d → HasShape N s v
+  choice-has (json.array ds) s v e h = some-has ds never s v e (inr h)
+  choice-has d s v e h = absurd (not-some s e)
+
+  -- what stands under a name, or anything
+  under-has : (o : Option Data) (s : Shape) (v : Value) → option_map_or read o (Some anything) ≡ Some s → IfSome o (λ d. C d v) → HasShape N s v
+  under-has None s v e h = is-some (λ t. HasShape N t v) anything s e tt
+  under-has (Some d) s v e h = ok d s v e h
+
+  any-items : (vs : value.Items) → EachItem (λ v. Unit {0}) vs
+  any-items no_item = tt
+  any-items (item v vs) = (tt, any-items vs)
+
+  any-entries : (P : List ℕ → Value → Type 0) (es : Entries) → EachEntry (λ k v. P k v → Unit {0}) es
+  any-entries P no_entry = tt
+  any-entries P (entry k v es) = (λ x. tt, any-entries P es)
+
+  items-of : (o : Option Data) (vs : value.Items) → IfSome o (FitsItems C (sequence vs)) → EachItem (λ v. IfSome o (λ d. C d v)) vs
+  items-of None vs h = any-items vs
+  items-of (Some d) vs h = h
+
+  -- ---- fields
+
+  module _ (ps : Option Data) (req : Option Data) (add : Option Data) (s : Shape) (gs fs : Fields) (es : Entries)
+      (rest-is : option_map_or read add (Some anything) ≡ Some s)
+      (required-is : option_map_or (required_fields ps (rest_of s)) req (Some (rest_of s)) ≡ Some gs)
+      (properties-is : option_map_or (property_fields read req gs) ps (Some gs) ≡ Some fs)
+      (keys : IfSome req (HasKeys (mapping es))) where
+    -- before the properties
+    abbrev Before : List ℕ → Value → Type 0
+    Before k v = IsField N gs k v
+
+    before-field : (k : List ℕ) (v : Value) → HasShape N s v → IsField N gs k v
+    before-field k v h = by req required-is
+      where
+        by : (o : Option Data) → option_map_or (required_fields ps (rest_of s)) o (Some (rest_of s)) ≡ Some gs → IsField N gs k v
+        by None e = is-some (λ f. IsField N f k v) (rest_of s) gs e (rest-field N s k v h)
+        by (Some (json.array ds)) e = required-fields N ps (shape_of_rest (rest_of s)) ds (rest_of s) gs k v e (rest-shape N s v h) (rest-field N s k v h)
+        by (Some d) e = absurd (not-some gs e)
+
+    before-required : HasRequired gs es
+    before-required = by req required-is keys
+      where
+        by : (o : Option Data) → option_map_or (required_fields ps (rest_of s)) o (Some (rest_of s)) ≡ Some gs → IfSome o (HasKeys (mapping es)) → HasRequired gs es
+        by None e k = is-some (λ f. HasRequired f es) (rest_of s) gs e (rest-required N s es)
+        by (Some (json.array ds)) e k = required-has N ps (shape_of_rest (rest_of s)) ds (rest_of s) gs es e k (rest-required N s es)
+        by (Some d) e k = absurd (not-some gs e)
+
+    -- a key that is no property has the shape of the rest
+    abbrev IsOther : List ℕ → Value → Type 0
+    IsOther k v = in_properties k ps ≡ false → IfSome add (λ d. C d v)
+
+    other-field : (k : List ℕ) (v : Value) → IsOther k v → in_properties k ps ≡ false → IsField N gs k v
+    other-field k v other none = before-field k v (under-has add s v rest-is (other none))
+
+    both-fields : (ms : Members) → fold_members (with_property read req) gs ms ≡ Some fs → (ws : Entries) → EachEntry (FitsProperty C ms) ws
+        → EachEntry (λ k v. in_properties k (Some (json.object ms)) ≡ false → IsField N gs k v) ws → EachEntry (IsField N fs) ws
+    both-fields ms e no_entry a b = tt
+    both-fields ms e (entry k v ws) a b = (properties-fields N read C ok req ms gs fs k v e a.0 b.0, both-fields ms e ws a.1 b.1)
+
+    each-field : IfSome ps (FitsProperties C (mapping es)) → EachEntry IsOther es → EachEntry (IsField N fs) es
+    each-field fits others = by ps properties-is fits (entries-has IsOther (λ k v. in_properties k ps ≡ false → IsField N gs k v) other-field es others)
+      where
+        by : (o : Option Data) → option_map_or (property_fields read req gs) o (Some gs) ≡ Some fs → IfSome o (FitsProperties C (mapping es))
+            → EachEntry (λ k v. in_properties k o ≡ false → IsField N gs k v) es → EachEntry (IsField N fs) es
+        by None e f a = is-some (λ g. EachEntry (IsField N g) es) gs fs e
+            (entries-has (λ k v. in_properties k None ≡ false → IsField N gs k v) (IsField N gs) (λ k v h. h refl) es a)
+        by (Some (json.object ms)) e f a = both-fields ms e es f a
+        by (Some d) e f a = absurd (not-some fs e)
+
+    each-required : HasRequired fs es
+    each-required = by ps properties-is
+      where
+        by : (o : Option Data) → option_map_or (property_fields read req gs) o (Some gs) ≡ Some fs → HasRequired fs es
+        by None e = is-some (λ f. HasRequired f es) gs fs e before-required
+        by (Some (json.object ms)) e = properties-has N read C ok req ms gs fs es e keys before-required
+        by (Some d) e = absurd (not-some fs e)
+
+  additional-of : (ps add : Option Data) (es : Entries) → IfSome add (FitsAdditional C ps (mapping es))
+      → EachEntry (λ k v. in_properties k ps ≡ false → IfSome add (λ d. C d v)) es
+  additional-of ps None es h = any-entries (λ k v. in_properties k ps ≡ false) es
+  additional-of ps (Some d) es h = h
+
+  fields-has : (d : Data) (fs : Fields) (es : Entries) → fields_in read d ≡ Some fs → AreDistinct es
+      → IfSome (get (codes "required") d) (HasKeys (mapping es)) → IfSome (get (codes "properties") d) (FitsProperties C (mapping es))
+      → IfSome (get (codes "additionalProperties") d) (FitsAdditional C (get (codes "properties") d) (mapping es)) → HasShape N (record_of fs) (mapping es)
+  fields-has d fs es e once keys fits more = by (shape_under read (codes "additionalProperties") d) refl e
+    where
+      last : (s : Shape) → shape_under read (codes "additionalProperties") d ≡ Some s → (o : Option Fields) → required_in d (rest_of s) ≡ o
+          → option_and_then (properties_in read d) o ≡ Some fs → HasShape N (record_of fs) (mapping es)
+      last s is None x f = absurd (not-some fs f)
+      last s is (Some gs) x f =
+          let ps = get (codes "properties") d in
+          let req = get (codes "required") d in
+          let add = get (codes "additionalProperties") d in (
+            once,
+            each-field ps req add s gs fs es is x f keys fits (additional-of ps add es more),
+            each-required ps req add s gs fs es is x f keys,
+          )
+
+      by : (o : Option Shape) → shape_under read (codes "additionalProperties") d ≡ o
+          → option_and_then (λ s. option_and_then (properties_in read d) (required_in d (rest_of s))) o ≡ Some fs → HasShape N (record_of fs) (mapping es)
+      by None is f = absurd (not-some fs f)
+      by (Some s) is f = last s is (required_in d (rest_of s)) refl f
+
+  -- ---- an object
+
+  module _ (root : Data) (ms : Members) (v : Value) (h : ConformsBy root C (json.object ms) v) where
+    abbrev whole : Data
+    whole = json.object ms
+
+    inside : (i : Shape) (fs : Fields) → shape_under read (codes "items") whole ≡ Some i → fields_in read whole ≡ Some fs → HasParts N i fs v
+    inside i fs e f = by v h
+      where
+        by : (w : Value) → ConformsBy root C whole w → HasParts N i fs w
+        by (sequence vs) k =
+            items-has (λ w. IfSome (get (codes "items") whole) (λ d. C d w)) (HasShape N i) (λ w. under-has (get (codes "items") whole) i w e) vs
+            (items-of (get (codes "items") whole) vs k.7)
+        by (mapping es) k = fields-has whole fs es f k.0 k.4 k.5 k.6
+        by w k = tt
+
+    content-has : (ks : Kinds) (s : Shape) → content_shape read whole ks ≡ Some s → HasKind ks v → HasShape N s v
+    content-has ks s e k = by (is_every_kind ks && not (has_content whole)) (shape_under read (codes "items") whole) refl (fields_in read whole) refl e
+      where
+        by : (c : Bool) (o : Option Shape) → shape_under read (codes "items") whole ≡ o → (p : Option Fields) → fields_in read whole ≡ p
+            → (if c then Some anything else option_and_then (λ i. option_map (by_kinds ks i) p) o) ≡ Some s → HasShape N s v
+        by true o x p y f = is-some (λ t. HasShape N t v) anything s f tt
+        by false None x p y f = absurd (not-some s f)
+        by false (Some i) x None y f = absurd (not-some s f)
+        by false (Some i) x (Some fs) y f = is-some (λ t. HasShape N t v) (by_kinds ks i fs) s f (by_kinds-has N ks i fs v k (inside i fs x y))
+
+    chosen : (c : Data) → choices_in whole ≡ Some c → FitsSome C v c
+    chosen c e = by (has_content whole) (get (codes "anyOf") whole) (get (codes "oneOf") whole) h.8 h.9 e
+      where
+        by : (b : Bool) (o p : Option Data) → IfSome o (FitsSome C v) → IfSome p (FitsSome C v) → (if b then None else or_else o p) ≡ Some c → FitsSome C v c
+        by true o p x y f = absurd (not-some c f)
+        by false None None x y f = absurd (not-some c f)
+        by false None (Some d) x y f = is-some (FitsSome C v) d c f y
+        by false (Some d) p x y f = is-some (FitsSome C v) d c f x
+
+    plain-has : (ks : Kinds) (s : Shape) → plain_shape read whole ks ≡ Some s → HasKind ks v → HasShape N s v
+    plain-has ks s e k = by (choices_in whole) refl e
+      where
+        pick : (c : Data) → choices_in whole ≡ Some c → (o : Option Shape) → choice_shape read c ≡ o → option_map (kept ks) o ≡ Some s → HasShape N s v
+        pick c is None x f = absurd (not-some s f)
+        pick c is (Some t) x f = is-some (λ u. HasShape N u v) (kept ks t) s f (kept-has N ks t v k (choice-has c t v x (chosen c is)))
+
+        by : (o : Option Data) → choices_in whole ≡ o → option_map_or (λ c. option_map (kept ks) (choice_shape read c)) o (content_shape read whole ks) ≡ Some s → HasShape N s v
+        by None is f = content-has ks s f k
+        by (Some c) is f = pick c is (choice_shape read c) refl f
+
+    all-kinds : (ks : Kinds) → kinds_in whole ≡ Some ks → HasKind ks v
+    all-kinds ks e = kinds-has whole ks v e h.0 h.1 h.2 h.3
+
+    object-has : (names : List (List ℕ))
+        → ((r : Data) (s : Shape) → reference_shape names r ≡ Some s → IfSome (referred root r) (λ d. C d v) → HasShape N s v)
+        → (s : Shape) → object_shape read names whole ≡ Some s → HasShape N s v
+    object-has names refers s e = by (get (codes "$ref") whole) h.10 e
+      where
+        rest : (o : Option Kinds) → kinds_in whole ≡ o → option_and_then (plain_shape read whole) o ≡ Some s → HasShape N s v
+        rest None is f = absurd (not-some s f)
+        rest (Some ks) is f = plain-has ks s f (all-kinds ks is)
+
+        by : (o : Option Data) → IfSome o (λ r. IfSome (referred root r) (λ d. C d v))
+            → option_map_or (reference_shape names) o (option_and_then (plain_shape read whole) (kinds_in whole)) ≡ Some s → HasShape N s v
+        by None x f = rest (kinds_in whole) refl f
+        by (Some r) x f = refers r s f x
+
+-- ---- a document
+
+-- each of the names stands for what is read at its pointer
+abbrev pub EachDefined : Data → List (List ℕ) → ℕ → Defs → Type 0
+EachDefined root names l defs = (p : List ℕ) → is_listed names p ≡ true
+    → (d : Data) × (s : Shape) × (pointer p root ≡ Some d) × (defs p ≡ Some s) × (shape_by names l d ≡ Some s)
+
+module _ (root : Data) (names : List (List ℕ)) (l : ℕ) (defs : Defs) (defined : EachDefined root names l defs) (N : Names) (means : Means defs N) where
+  module _ (C : Data → Value → Type 0) (ok : (d : Data) (s : Shape) (v : Value) → shape_by names l d ≡ Some s → C d v → HasShape N s v) where
+    refers-has : (v : Value) (r : Data) (s : Shape) → reference_shape names r ≡ Some s → IfSome (referred root r) (λ d. C d v) → HasShape N s v
+    refers-has v (json.string t) s e h = by (fragment_of t) e h
+      where
+        found : (p : List ℕ) → is_listed names p ≡ true → IfSome (pointer p root) (λ d. C d v) → N p v
+        found p is k =
+            let at = defined p is in
+            means.folds p at.1 v at.3 (ok at.0 at.1 v at.4 (subst (λ (o : Option Data). IfSome o (λ d. C d v)) at.2 k))
+
+        at : (p : List ℕ) → IfSome (pointer p root) (λ d. C d v) → (c : Bool) → is_listed names p ≡ c → (if c then Some (named p) else None) ≡ Some s → HasShape N s v
+        at p k true is f = is-some (λ u. HasShape N u v) (named p) s f (found p is k)
+        at p k false is f = absurd (not-some s f)
+
+        by : (o : Option (List ℕ)) → option_and_then (λ p. if is_listed names p then Some (named p) else None) o ≡ Some s
+            → IfSome (option_and_then (λ p. pointer p root) o) (λ d. C d v) → HasShape N s v
+        by None f k = absurd (not-some s f)
+        by (Some p) f k = at p k (is_listed names p) refl f
+    refers-has v r s e h = absurd (not-some s e)
+
+  sound : (n m : ℕ) (d : Data) (s : Shape) (v : Value) → shape_by names m d ≡ Some s → conforms_in root n d v → HasShape N s v
+  sound zero m d s v e h = absurd h
+  sound (suc n) zero d s v e h = absurd (not-some s e)
+  sound (suc n) (suc m) (json.boolean b) s v e h = by b h e
+    where
+      by : (c : Bool) → c ≡ true → Some (if c then anything else never) ≡ Some s → HasShape N s v
+      by true x f = is-some (λ t. HasShape N t v) anything s f tt
+      by false x f = absurd (false≢true x)
+  sound (suc n) (suc m) (json.object ms) s v e h =
+      object-has N (shape_by names m) (conforms_in root n) (sound n m) root ms v h names (refers-has (conforms_in root n) (sound n l) v) s e
+  sound (suc n) (suc m) d s v e h = absurd (not-some s e)
+
+-- ---- the definitions
+
+find-definition : (root : Data) (names : List (List ℕ)) (l : ℕ) (ds : List Definition) → All (IsDefinition root names l) ds → (p : List ℕ) → IsSome (defs_in ds p)
+    → (d : Data) × (s : Shape) × (pointer p root ≡ Some d) × (defs_in ds p ≡ Some s) × (shape_by names l d ≡ Some s)
+find-definition root names l [] all p is = absurd (false≢true is)
+find-definition root names l (x ∷ ds) all p is = by (bytes_eq p x.name) refl is (find-definition root names l ds (All-tail (IsDefinition root names l) x ds all) p)
+  where
+    by : (c : Bool) → bytes_eq p x.name ≡ c → IsSome (if c then Some (shape_of x.shape) else defs_in ds p)
+        → (IsSome (defs_in ds p) → (d : Data) × (s : Shape) × (pointer p root ≡ Some d) × (defs_in ds p ≡ Some s) × (shape_by names l d ≡ Some s))
+        → (d : Data) × (s : Shape) × (pointer p root ≡ Some d) × ((if c then Some (shape_of x.shape) else defs_in ds p) ≡ Some s) × (shape_by names l d ≡ Some s)
+    by true e i more =
+        let at = All-head (IsDefinition root names l) x ds all in
+        (at.0, shape_of x.shape, subst (λ (k : List ℕ). pointer k root ≡ Some at.0) (sym (same_name p x.name e)) at.1, refl, at.2)
+    by false e i more = more i
+
+listed-defined : (defs : Defs) (names : List (List ℕ)) (p : List ℕ) → are_defined defs names ≡ true → is_listed names p ≡ true → IsSome (defs p)
+listed-defined defs [] p e is = absurd (false≢true is)
+listed-defined defs (x ∷ xs) p e is =
+    let both = and_parts (is_some (defs x)) (are_defined defs xs) e in
+    elim (or_cases (bytes_eq p x) (is_listed xs p) is) [
+      | inl same ↦ subst (λ (k : List ℕ). IsSome (defs k)) (sym (same_name p x same)) both.0
+      | inr more ↦ listed-defined defs xs p both.1 more
+    ]
+
+pub document-fits : (root : Data) (names : List (List ℕ)) (l : ℕ) (ds : List Definition) (s : Shape) → All (IsDefinition root names l) ds
+    → are_defined (defs_in ds) names ≡ true → shape_by names l root ≡ Some s → (n : ℕ) (v : Value) → conforms_in root n root v
+    → HasShape (stands_for (defs_in ds)) s v
+document-fits root names l ds s all e is n v h =
+    sound root names l (defs_in ds) (λ p i. find-definition root names l ds all p (listed-defined (defs_in ds) names p e i))
+    (stands_for (defs_in ds)) (meant (defs_in ds)) n l root s v is h

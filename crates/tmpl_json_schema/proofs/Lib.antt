@@ -1,0 +1,5 @@
+pub mod KindLemmas
+pub mod FieldLemmas
+pub mod DocumentLemmas
+pub mod FoldLemmas
+pub mod SafeLemmas

@@ -1,0 +1,152 @@
+-- Which values conform to a JSON Schema (draft 2020-12), by the JSON value of its bytes. C is the core specification, V
+-- that of validation. What only narrows further is left out, as `minLength`: more values conform than by the specification.
+use Rattle.std.specs.Prelude.{◌≡◌, ◌⊎◌, ℕ, zero, suc, true, false, List, [], ◌∷◌, ◌||◌, ◌==◌, Bool, Option, Some, None, IsSome, IfSome, codes}
+use Rattle.std.specs.Option.{option_and_then}
+use Rattle.std.specs.Prelude.{if◌then◌else◌}
+use Rattle.std.specs.Str.{bytes_eq, is_utf8}
+use Rattle.percent_encoding.specs.Percent.{percent_decode}
+use Rattle.serde_json.specs.Data as json
+use Rattle.serde_json.specs.Data.{Data, Items, no_items, Members, no_members, member}
+use Rattle.serde_json.specs.Find.{get, pointer}
+use Rattle.serde_json.specs.Read.{read}
+use Rattle.tmpl_values.specs.Value.{Value, Entries, nothing, null, boolean, number, string, sequence, mapping}
+use Rattle.tmpl_values.specs.Field.{entry_at}
+use Rattle.tmpl_schema.specs.Shape.{EachItem, EachEntry, AreDistinct}
+
+-- a value that is looked at (C 4.2.1): there is one, and a map has each key once
+abbrev pub IsInstance : Value → Type 0
+IsInstance nothing = ⊥
+IsInstance (mapping es) = AreDistinct es
+IsInstance v = Unit {0}
+
+-- the type of a value (C 4.2.1); each number is whole
+abbrev pub type_of : Value → List ℕ
+type_of nothing = []
+type_of null = codes "null"
+type_of (boolean b) = codes "boolean"
+type_of (number n) = codes "integer"
+type_of (string s) = codes "string"
+type_of (sequence vs) = codes "array"
+type_of (mapping es) = codes "object"
+
+-- it has the type of this name
+abbrev pub HasType : List ℕ → Value → Type 0
+HasType name v = (name ≡ type_of v) ⊎ ((name ≡ codes "number") × (codes "integer" ≡ type_of v))
+
+-- one of these is such
+abbrev pub SomeItem : (Data → Type 0) → Items → Type 0
+SomeItem P no_items = ⊥
+SomeItem P (json.item d ds) = P d ⊎ SomeItem P ds
+
+-- the name of a type, as an item of `type`
+abbrev pub IsNameOfType : Value → Data → Type 0
+IsNameOfType v (json.string name) = HasType name v
+IsNameOfType v d = ⊥
+
+-- `type` (V 6.1.1): the name of its type, or a list of names of which one is
+abbrev pub IsOfType : Value → Data → Type 0
+IsOfType v (json.string name) = HasType name v
+IsOfType v (json.array ds) = SomeItem (IsNameOfType v) ds
+IsOfType v d = Unit {0}
+
+-- `const` (V 6.1.3): the value is this, as far as is looked: not into numbers, lists and maps
+abbrev pub IsConstant : Value → Data → Type 0
+IsConstant null json.null = Unit {0}
+IsConstant (boolean b) (json.boolean c) = b ≡ c
+IsConstant (number n) (json.number m) = Unit {0}
+IsConstant (string s) (json.string t) = s ≡ t
+IsConstant (sequence vs) (json.array ds) = Unit {0}
+IsConstant (mapping es) (json.object ms) = Unit {0}
+IsConstant v d = ⊥
+
+-- `enum` (V 6.1.2): one of these
+abbrev pub IsOneOf : Value → Data → Type 0
+IsOneOf v (json.array ds) = SomeItem (IsConstant v) ds
+IsOneOf v d = Unit {0}
+
+-- `required` (V 6.5.3): a map has each of these keys
+abbrev pub HasKey : Entries → Data → Type 0
+HasKey es (json.string k) = IsSome (entry_at k es)
+HasKey es d = Unit {0}
+
+abbrev pub EachKey : Entries → Items → Type 0
+EachKey es no_items = Unit {0}
+EachKey es (json.item d ds) = HasKey es d × EachKey es ds
+
+abbrev pub HasKeys : Value → Data → Type 0
+HasKeys (mapping es) (json.array ds) = EachKey es ds
+HasKeys v d = Unit {0}
+
+-- the properties have this name
+abbrev pub is_property : List ℕ → Members → Bool
+is_property k no_members = false
+is_property k (member l d ms) = bytes_eq k l || is_property k ms
+
+abbrev pub in_properties : List ℕ → Option Data → Bool
+in_properties k (Some (json.object ms)) = is_property k ms
+in_properties k o = false
+
+module _ (Conforms : Data → Value → Type 0) where
+  -- `properties` (C 10.3.2.1): the value of a key conforms to the schema that stands under that name
+  abbrev pub FitsProperty : Members → List ℕ → Value → Type 0
+  FitsProperty no_members k v = Unit {0}
+  FitsProperty (member l d ms) k v = (bytes_eq k l ≡ true → Conforms d v) × FitsProperty ms k v
+
+  abbrev pub FitsProperties : Value → Data → Type 0
+  FitsProperties (mapping es) (json.object ms) = EachEntry (FitsProperty ms) es
+  FitsProperties v d = Unit {0}
+
+  -- `additionalProperties` (C 10.3.2.3): the value of any other key conforms to this
+  abbrev pub FitsAdditional : Option Data → Value → Data → Type 0
+  FitsAdditional ps (mapping es) d = EachEntry (λ k v. in_properties k ps ≡ false → Conforms d v) es
+  FitsAdditional ps v d = Unit {0}
+
+  -- `items` (C 10.3.1.2), where there is no `prefixItems`: each item of a list conforms to it
+  abbrev pub FitsItems : Value → Data → Type 0
+  FitsItems (sequence vs) d = EachItem (Conforms d) vs
+  FitsItems v d = Unit {0}
+
+  -- `anyOf` (C 10.2.1.2), and of `oneOf` (C 10.2.1.3) the part that one of them is enough for
+  abbrev pub FitsSome : Value → Data → Type 0
+  FitsSome v (json.array ds) = SomeItem (λ d. Conforms d v) ds
+  FitsSome v d = Unit {0}
+
+-- what a `$ref` within the document points to (C 8.2.3.1, 9.2.1): after `#` and without the escapes of a URI a JSON Pointer
+abbrev pub fragment_of : List ℕ → Option (List ℕ)
+fragment_of [] = None
+fragment_of (b ∷ rest) = if b == 35 then Some (percent_decode rest) else None
+
+abbrev pub referred : Data → Data → Option Data
+referred root (json.string r) = option_and_then (λ p. pointer p root) (fragment_of r)
+referred root d = None
+
+-- a value conforms to what stands in a document (C 4.3.1, 4.3.2): to each keyword by itself
+abbrev pub ConformsBy : Data → (Data → Value → Type 0) → Data → Value → Type 0
+ConformsBy root Conforms (json.boolean b) v = b ≡ true
+ConformsBy root Conforms (json.object ms) v =
+    let keyword : List ℕ → Option Data = λ name. get name (json.object ms) in
+    IsInstance v
+    × IfSome (keyword (codes "type")) (IsOfType v)
+    × IfSome (keyword (codes "const")) (IsConstant v)
+    × IfSome (keyword (codes "enum")) (IsOneOf v)
+    × IfSome (keyword (codes "required")) (HasKeys v)
+    × IfSome (keyword (codes "properties")) (FitsProperties Conforms v)
+    × IfSome (keyword (codes "additionalProperties")) (FitsAdditional Conforms (keyword (codes "properties")) v)
+    × IfSome (keyword (codes "items")) (FitsItems Conforms v)
+    × IfSome (keyword (codes "anyOf")) (FitsSome Conforms v)
+    × IfSome (keyword (codes "oneOf")) (FitsSome Conforms v)
+    × IfSome (keyword (codes "$ref")) (λ r. IfSome (referred root r) (λ d. Conforms d v))
+ConformsBy root Conforms d v = Unit {0}
+
+-- .. where as many schemas are followed, one into the other
+abbrev pub conforms_in : Data → ℕ → Data → Value → Type 0
+conforms_in root zero d v = ⊥
+conforms_in root (suc n) d v = ConformsBy root (conforms_in root n) d v
+
+-- the JSON value of bytes
+abbrev pub document_of : List ℕ → Option Data
+document_of bytes = if is_utf8 bytes then read bytes else None
+
+-- a value conforms to the schema that these bytes are
+abbrev pub ConformsTo : List ℕ → Value → Type 0
+ConformsTo bytes v = (root : Data) × (document_of bytes ≡ Some root) × ((n : ℕ) × conforms_in root n root v)

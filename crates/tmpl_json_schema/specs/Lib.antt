@@ -1,0 +1,3 @@
+pub mod Document
+pub mod Safe
+pub mod computed

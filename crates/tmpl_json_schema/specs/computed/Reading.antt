@@ -1,0 +1,243 @@
+-- The shape that is computed for what stands in a document.
+use Rattle.std.specs.Prelude.{ℕ, zero, suc, Bool, true, false, not, ◌&&◌, ◌||◌, List, [], ◌∷◌, Option, Some, None}
+use Rattle.std.specs.Prelude.{if◌then◌else◌, codes, is_some}
+use Rattle.std.specs.Option.{option_map, option_map_or, option_and_then}
+use Rattle.std.specs.Str.{bytes_eq}
+use Rattle.serde_json.specs.Data as json
+use Rattle.serde_json.specs.Data.{Data, Items, no_items, Members, no_members, member}
+use Rattle.serde_json.specs.Find.{get}
+use Rattle.tmpl_schema.specs.Shape.{Shape, never, nothings, nulls, truths, numbers, texts, anything, list_of, record_of}
+use Rattle.tmpl_schema.specs.Shape.{either, named, Fields, no_field, others, field}
+use Rattle.tmpl_json_schema.specs.Document.{fragment_of}
+use Rattle.tmpl_json_schema.specs.declared.kinds.Kinds.{Kinds}
+
+-- what comes of items one after the other, unless one gives nothing
+abbrev pub fold : {A : Type 0} → (A → Data → Option A) → A → Items → Option A
+fold f a no_items = Some a
+fold f a (json.item d ds) = option_and_then (λ b. fold f b ds) (f a d)
+
+abbrev pub fold_members : {A : Type 0} → (A → List ℕ → Data → Option A) → A → Members → Option A
+fold_members f a no_members = Some a
+fold_members f a (member k d ms) = option_and_then (λ b. fold_members f b ms) (f a k d)
+
+-- ---- kinds
+
+abbrev pub every_kind : Kinds
+every_kind = record { null = true; truth = true; number = true; text = true; list = true; map = true }
+
+abbrev pub no_kind : Kinds
+no_kind = record { null = false; truth = false; number = false; text = false; list = false; map = false }
+
+abbrev pub either_kinds : Kinds → Kinds → Kinds
+either_kinds a b =
+    record { null = a.null || b.null; truth = a.truth || b.truth; number = a.number || b.number; text = a.text || b.text; list = a.list || b.list; map = a.map || b.map }
+
+abbrev pub both_kinds : Kinds → Kinds → Kinds
+both_kinds a b =
+    record { null = a.null && b.null; truth = a.truth && b.truth; number = a.number && b.number; text = a.text && b.text; list = a.list && b.list; map = a.map && b.map }
+
+abbrev pub is_every_kind : Kinds → Bool
+is_every_kind a = a.null && (a.truth && (a.number && (a.text && (a.list && a.map))))
+
+abbrev pub only_null : Kinds
+only_null = record { null = true; truth = false; number = false; text = false; list = false; map = false }
+
+abbrev pub only_truth : Kinds
+only_truth = record { null = false; truth = true; number = false; text = false; list = false; map = false }
+
+abbrev pub only_number : Kinds
+only_number = record { null = false; truth = false; number = true; text = false; list = false; map = false }
+
+abbrev pub only_text : Kinds
+only_text = record { null = false; truth = false; number = false; text = true; list = false; map = false }
+
+abbrev pub only_list : Kinds
+only_list = record { null = false; truth = false; number = false; text = false; list = true; map = false }
+
+abbrev pub only_map : Kinds
+only_map = record { null = false; truth = false; number = false; text = false; list = false; map = true }
+
+-- .. of a type's name
+abbrev pub kind_named : List ℕ → Option Kinds
+kind_named w =
+    if bytes_eq w (codes "null") then Some only_null
+    else if bytes_eq w (codes "boolean") then Some only_truth
+    else if bytes_eq w (codes "integer") then Some only_number
+    else if bytes_eq w (codes "number") then Some only_number
+    else if bytes_eq w (codes "string") then Some only_text
+    else if bytes_eq w (codes "array") then Some only_list
+    else if bytes_eq w (codes "object") then Some only_map
+    else None
+
+abbrev pub kind_with : Kinds → Data → Option Kinds
+kind_with a (json.string w) = option_map (either_kinds a) (kind_named w)
+kind_with a d = None
+
+abbrev pub type_kinds : Data → Option Kinds
+type_kinds (json.string w) = kind_named w
+type_kinds (json.array ds) = fold kind_with no_kind ds
+type_kinds d = None
+
+-- .. of a constant
+abbrev pub constant_kind : Data → Kinds
+constant_kind json.null = only_null
+constant_kind (json.boolean b) = only_truth
+constant_kind (json.number n) = only_number
+constant_kind (json.string s) = only_text
+constant_kind (json.array ds) = only_list
+constant_kind (json.object ms) = only_map
+
+abbrev pub constant_with : Kinds → Data → Option Kinds
+constant_with a d = Some (either_kinds a (constant_kind d))
+
+abbrev pub enum_kinds : Data → Option Kinds
+enum_kinds (json.array ds) = fold constant_with no_kind ds
+enum_kinds d = None
+
+-- .. by `type`, `const` and `enum`
+abbrev pub types_in : Data → Option Kinds
+types_in d = option_map_or type_kinds (get (codes "type") d) (Some every_kind)
+
+abbrev pub const_in : Data → Kinds
+const_in d = option_map_or constant_kind (get (codes "const") d) every_kind
+
+abbrev pub enum_in : Data → Option Kinds
+enum_in d = option_map_or enum_kinds (get (codes "enum") d) (Some every_kind)
+
+abbrev pub kinds_in : Data → Option Kinds
+kinds_in d = option_and_then (λ a. option_map (λ b. both_kinds a (both_kinds b (const_in d))) (enum_in d)) (types_in d)
+
+-- ---- shapes
+
+abbrev pub is_never : Shape → Bool
+is_never never = true
+is_never s = false
+
+abbrev pub or_shape : Shape → Shape → Shape
+or_shape s t = if is_never s then t else if is_never t then s else either s t
+
+abbrev pub or_if : Bool → Shape → Shape → Shape
+or_if c s t = if c then or_shape s t else t
+
+abbrev pub by_kinds : Kinds → Shape → Fields → Shape
+by_kinds ks i fs =
+    or_if ks.null nulls (or_if ks.truth truths (or_if ks.number numbers (or_if ks.text texts
+    (or_if ks.list (list_of i) (or_if ks.map (record_of fs) never)))))
+
+abbrev pub if_kind : Bool → Shape → Shape
+if_kind c s = if c then s else never
+
+-- of the values of these kinds
+abbrev pub kept : Kinds → Shape → Shape
+kept ks never = never
+kept ks nothings = never
+kept ks nulls = if_kind ks.null nulls
+kept ks truths = if_kind ks.truth truths
+kept ks numbers = if_kind ks.number numbers
+kept ks texts = if_kind ks.text texts
+kept ks (list_of s) = if_kind ks.list (list_of s)
+kept ks (record_of fs) = if_kind ks.map (record_of fs)
+kept ks (either s t) = or_shape (kept ks s) (kept ks t)
+kept ks s = s
+
+-- the fields that are not named
+abbrev pub rest_of : Shape → Fields
+rest_of s = if is_never s then no_field else others s
+
+-- .. and the shape of one of them
+abbrev pub shape_of_rest : Fields → Shape
+shape_of_rest (others s) = s
+shape_of_rest fs = never
+
+-- one more that is always there, unless it is a property
+abbrev pub with_required : Option Data → Shape → Fields → Data → Option Fields
+with_required ps r fs (json.string k) = Some (if is_some (option_and_then (get k) ps) then fs else field k true r fs)
+with_required ps r fs d = None
+
+abbrev pub required_fields : Option Data → Fields → Data → Option Fields
+required_fields ps rest (json.array ds) = fold (with_required ps (shape_of_rest rest)) rest ds
+required_fields ps rest d = None
+
+-- the key is one of these
+abbrev pub is_key : List ℕ → Items → Bool
+is_key k no_items = false
+is_key k (json.item (json.string l) ds) = bytes_eq k l || is_key k ds
+is_key k (json.item d ds) = is_key k ds
+
+abbrev pub is_required : List ℕ → Option Data → Bool
+is_required k (Some (json.array ds)) = is_key k ds
+is_required k o = false
+
+-- what stands there about fields and items
+abbrev pub has_content : Data → Bool
+has_content d =
+    is_some (get (codes "properties") d) || (is_some (get (codes "required") d)
+    || (is_some (get (codes "additionalProperties") d) || is_some (get (codes "items") d)))
+
+-- the first that there is
+abbrev pub or_else : Option Data → Option Data → Option Data
+or_else None o = o
+or_else (Some d) o = Some d
+
+-- the alternatives, where they are not beside what is said of fields and items
+abbrev pub choices_in : Data → Option Data
+choices_in d = if has_content d then None else or_else (get (codes "anyOf") d) (get (codes "oneOf") d)
+
+abbrev pub is_listed : List (List ℕ) → List ℕ → Bool
+is_listed [] x = false
+is_listed (y ∷ ys) x = bytes_eq x y || is_listed ys x
+
+-- what a `$ref` stands for, if it points to one of these
+abbrev pub reference_shape : List (List ℕ) → Data → Option Shape
+reference_shape names (json.string r) = option_and_then (λ p. if is_listed names p then Some (named p) else None) (fragment_of r)
+reference_shape names d = None
+
+abbrev pub required_in : Data → Fields → Option Fields
+required_in d rest = option_map_or (required_fields (get (codes "properties") d) rest) (get (codes "required") d) (Some rest)
+
+module _ (read : Data → Option Shape) where
+  abbrev pub choice_with : Shape → Data → Option Shape
+  choice_with s d = option_map (λ t. or_shape t s) (read d)
+
+  abbrev pub choice_shape : Data → Option Shape
+  choice_shape (json.array ds) = fold choice_with never ds
+  choice_shape d = None
+
+  abbrev pub with_property : Option Data → Fields → List ℕ → Data → Option Fields
+  with_property req fs k d = option_map (λ s. field k (is_required k req) s fs) (read d)
+
+  abbrev pub property_fields : Option Data → Fields → Data → Option Fields
+  property_fields req fs (json.object ms) = fold_members (with_property req) fs ms
+  property_fields req fs d = None
+
+  -- what stands under this name, or any value
+  abbrev pub shape_under : List ℕ → Data → Option Shape
+  shape_under name d = option_map_or read (get name d) (Some anything)
+
+  abbrev pub properties_in : Data → Fields → Option Fields
+  properties_in d fs = option_map_or (property_fields (get (codes "required") d) fs) (get (codes "properties") d) (Some fs)
+
+  abbrev pub fields_in : Data → Option Fields
+  fields_in d =
+      option_and_then (λ s. option_and_then (properties_in d) (required_in d (rest_of s))) (shape_under (codes "additionalProperties") d)
+
+  abbrev pub content_shape : Data → Kinds → Option Shape
+  content_shape d ks =
+      if is_every_kind ks && not (has_content d) then Some anything
+      else option_and_then (λ i. option_map (by_kinds ks i) (fields_in d)) (shape_under (codes "items") d)
+
+  abbrev pub plain_shape : Data → Kinds → Option Shape
+  plain_shape d ks = option_map_or (λ c. option_map (kept ks) (choice_shape c)) (choices_in d) (content_shape d ks)
+
+  abbrev pub object_shape : List (List ℕ) → Data → Option Shape
+  object_shape names d = option_map_or (reference_shape names) (get (codes "$ref") d) (option_and_then (plain_shape d) (kinds_in d))
+
+-- the shape of a schema; what stands inside it is read as many levels deep
+abbrev pub shape_read : List (List ℕ) → (Data → Option Shape) → Data → Option Shape
+shape_read names read (json.boolean b) = Some (if b then anything else never)
+shape_read names read (json.object ms) = object_shape read names (json.object ms)
+shape_read names read d = None
+
+abbrev pub shape_by : List (List ℕ) → ℕ → Data → Option Shape
+shape_by names zero d = None
+shape_by names (suc n) d = shape_read names (shape_by names n) d

@@ -1,0 +1,95 @@
+//! Why a schema is not read.
+use std::alloc::{AllocError, AllocFailed, Global};
+use tmpl_schema::Shape;
+
+/// What of a schema is refused.
+#[derive(Drop)]
+pub struct Refused {
+    /// The way to it from the top of the document, the last part first: keys, and indexes as digits.
+    pub path: Vec<String>,
+    /// What is wrong there.
+    pub text: String,
+}
+
+/// Why a schema is not read.
+#[derive(Drop)]
+pub enum SchemaFault {
+    /// Memory was refused.
+    OutOfMemory,
+    /// The bytes are not JSON.
+    NotJson,
+    /// Something in it is not understood.
+    Refused(Refused),
+}
+
+impl From<AllocError> for SchemaFault {
+    fn from(_: AllocError) -> SchemaFault {
+        SchemaFault::OutOfMemory
+    }
+}
+
+impl<T: Drop> From<AllocFailed<T>> for SchemaFault {
+    fn from(_: AllocFailed<T>) -> SchemaFault {
+        SchemaFault::OutOfMemory
+    }
+}
+
+/// A refusal of what is looked at.
+pub(crate) fn refusal(alloc: Global, text: &str) -> SchemaFault {
+    match String::from_str(alloc, text) {
+        Ok(text) => SchemaFault::Refused(Refused {
+            path: Vec::new(alloc),
+            text,
+        }),
+        Err(_) => SchemaFault::OutOfMemory,
+    }
+}
+
+/// A refusal that names what it is about.
+pub(crate) fn refusal_of(alloc: Global, before: &str, name: &str, after: &str) -> SchemaFault {
+    match sentence(alloc, before, name, after) {
+        Ok(text) => SchemaFault::Refused(Refused {
+            path: Vec::new(alloc),
+            text,
+        }),
+        Err(_) => SchemaFault::OutOfMemory,
+    }
+}
+
+/// A text of three parts, of which the second stands in quotes.
+fn sentence(alloc: Global, before: &str, name: &str, after: &str) -> Result<String, AllocError> {
+    let mut text = String::from_str(alloc, before)?;
+    text.push('"')?;
+    text.push_str(name)?;
+    text.push('"')?;
+    text.push_str(after)?;
+    Ok(text)
+}
+
+/// The fault, found under this key.
+pub(crate) fn under(alloc: Global, fault: SchemaFault, key: &str) -> SchemaFault {
+    match fault {
+        SchemaFault::Refused(refused) => {
+            let Refused { path, text } = refused;
+            let mut path = path;
+            let key = match String::from_str(alloc, key) {
+                Ok(key) => key,
+                Err(_) => return SchemaFault::OutOfMemory,
+            };
+            match path.push(key) {
+                Ok(()) => SchemaFault::Refused(Refused { path, text }),
+                Err(_) => SchemaFault::OutOfMemory,
+            }
+        }
+        SchemaFault::OutOfMemory => SchemaFault::OutOfMemory,
+        SchemaFault::NotJson => SchemaFault::NotJson,
+    }
+}
+
+/// The fault, found at this index.
+pub(crate) fn at_index(alloc: Global, fault: SchemaFault, index: usize) -> SchemaFault {
+    match format!(in alloc; "{index}") {
+        Ok(key) => under(alloc, fault, key.as_str()),
+        Err(_) => SchemaFault::OutOfMemory,
+    }
+}

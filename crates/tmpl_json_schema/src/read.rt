@@ -1,0 +1,321 @@
+//! The shape of a schema.
+#![tactic(auto, using(tmpl_schema::proofs::ViewLemmas::parts))]
+
+ghost use Rattle.std.specs.Prelude.{◌≡◌, IfOk, Some, codes};
+ghost use Rattle.std.specs.Option.{option_map, option_map_or};
+ghost use Rattle.serde_json.specs.View.{items_view, members_view, view};
+ghost use Rattle.tmpl_schema.specs.Shape.{never};
+ghost use Rattle.tmpl_schema.specs.View.{fields_of, shape_of};
+ghost use Rattle.tmpl_json_schema.specs.computed.Reading.{choice_shape, choice_with, choices_in, content_shape, fields_in, fold, fold_members};
+ghost use Rattle.tmpl_json_schema.specs.computed.Reading.{object_shape, plain_shape, properties_in, reference_shape, shape_by, shape_under, with_property};
+
+use crate::fault::{SchemaFault, at_index, refusal, refusal_of, under};
+use crate::fields::{has_content, is_required, required_in};
+use crate::keyword::check_keywords;
+use crate::kinds::{Kinds, is_every_kind, kinds_in};
+use crate::reference::{fragment_of, is_listed};
+use crate::shapes::{by_kinds, kept, or_shape, rest_of};
+use serde_json::{Map, Value};
+use std::alloc::Global;
+use tmpl_schema::{Fields, Shape, put_field};
+use tmpl_values::Bytes;
+
+/// What is asked of a document while it is read: the pointers that a `$ref` may have, and the memory for shapes.
+#[derive(Clone, Copy)]
+pub(crate) struct Reader<'s> {
+    pub(crate) names: &'s [Bytes],
+    /// How many levels of a schema are read.
+    pub(crate) levels: usize,
+    /// How many are left inside the top of the document; as many as there are where a part of it is read.
+    pub(crate) top: usize,
+    pub(crate) alloc: Global,
+}
+
+/// What a `$ref` stands for.
+fn reference_shape(reader: &Reader<'_>, reference: &Value) -> Result<Shape, SchemaFault>
+    ensures { IfOk result (λ s. reference_shape reader.now.names.now (view reference.now) ≡ Some (shape_of s)) }
+{
+    let Value::String(text) = reference else {
+        return Err(refusal(reader.alloc, "a text is wanted"));
+    };
+    match fragment_of(reader.alloc, text.as_str())? {
+        Some(pointer) => {
+            if is_listed(reader.names, pointer.as_slice()) {
+                return Ok(Shape::Named(pointer));
+            }
+            Err(refusal_of(
+                reader.alloc,
+                "nothing is at ",
+                text.as_str(),
+                " in the document",
+            ))
+        }
+        None => Err(refusal_of(
+            reader.alloc,
+            "only what begins with \"#\" is looked up, and not ",
+            text.as_str(),
+            "",
+        )),
+    }
+}
+
+/// The alternatives, where they are not beside what is said of fields and items.
+fn choices_in(schema: &Value) -> Option<&Value>
+    ensures { option_map (λ v. view v.now) result ≡ choices_in (view schema.now) }
+{
+    if has_content(schema) {
+        return None;
+    }
+    match schema.get("anyOf") {
+        Some(choices) => Some(choices),
+        None => schema.get("oneOf"),
+    }
+}
+
+/// The shape of a schema, in which as many levels are read as there are steps.
+#[cycle(read)]
+pub(crate) fn shape_by(
+    reader: &Reader<'_>,
+    steps: usize,
+    schema: &Value,
+) -> Result<Shape, SchemaFault>
+    ensures { IfOk result (λ s. shape_by reader.now.names.now steps (view schema.now) ≡ Some (shape_of s)) }
+{
+    if steps == 0 {
+        return Err(refusal(reader.alloc, "too many levels"));
+    }
+    let fewer = steps - 1;
+    match schema {
+        Value::Bool(true) => Ok(Shape::Anything),
+        Value::Bool(false) => Ok(Shape::Never),
+        Value::Object(_) => object_shape(reader, fewer, schema),
+        Value::Null | Value::Number(_) | Value::String(_) | Value::Array(_) => {
+            Err(refusal(reader.alloc, "a schema is wanted: an object, true or false"))
+        }
+    }
+}
+
+/// The shape of a schema that is an object.
+#[cycle(read)]
+fn object_shape(reader: &Reader<'_>, steps: usize, schema: &Value) -> Result<Shape, SchemaFault>
+    ensures { IfOk result (λ s. object_shape (shape_by reader.now.names.now steps) reader.now.names.now
+        (view schema.now) ≡ Some (shape_of s)) }
+{
+    check_keywords(reader.alloc, schema, steps == reader.top)?;
+    check_unused(reader, steps, schema)?;
+    match schema.get("$ref") {
+        Some(reference) => match reference_shape(reader, reference) {
+            Ok(shape) => Ok(shape),
+            Err(fault) => Err(under(reader.alloc, fault, "$ref")),
+        },
+        None => {
+            let kinds = kinds_in(reader.alloc, schema)?;
+            plain_shape(reader, steps, schema, kinds)
+        }
+    }
+}
+
+/// Reads the alternatives that give no shape, so that nothing in them is read over.
+#[cycle(read)]
+fn check_unused(reader: &Reader<'_>, steps: usize, schema: &Value) -> Result<(), SchemaFault> {
+    let is_unused = has_content(schema);
+    if let Some(choices) = schema.get("anyOf") {
+        if is_unused {
+            check_choices(reader, steps, choices, "anyOf")?;
+        }
+    }
+    if let Some(choices) = schema.get("oneOf") {
+        if is_unused || schema.get("anyOf").is_some() {
+            check_choices(reader, steps, choices, "oneOf")?;
+        }
+    }
+    Ok(())
+}
+
+/// Reads alternatives.
+#[cycle(read)]
+fn check_choices(
+    reader: &Reader<'_>,
+    steps: usize,
+    choices: &Value,
+    keyword: &str,
+) -> Result<(), SchemaFault> {
+    match choice_shape(reader, steps, choices) {
+        Ok(_) => Ok(()),
+        Err(fault) => Err(under(reader.alloc, fault, keyword)),
+    }
+}
+
+/// The shape of a schema without a `$ref`.
+#[cycle(read)]
+fn plain_shape(
+    reader: &Reader<'_>,
+    steps: usize,
+    schema: &Value,
+    kinds: Kinds,
+) -> Result<Shape, SchemaFault>
+    ensures { IfOk result (λ s. plain_shape (shape_by reader.now.names.now steps) (view schema.now) kinds
+        ≡ Some (shape_of s)) }
+{
+    match choices_in(schema) {
+        Some(choices) => match choice_shape(reader, steps, choices) {
+            Ok(shape) => Ok(kept(reader.alloc, kinds, shape)?),
+            Err(fault) => Err(under(reader.alloc, fault, chosen_by(schema))),
+        },
+        None => content_shape(reader, steps, schema, kinds),
+    }
+}
+
+/// The keyword under which the alternatives stand that give the shape.
+fn chosen_by(schema: &Value) -> &'static str {
+    if schema.get("anyOf").is_some() {
+        "anyOf"
+    } else {
+        "oneOf"
+    }
+}
+
+/// The shape of any of these.
+#[cycle(read)]
+fn choice_shape(reader: &Reader<'_>, steps: usize, choices: &Value) -> Result<Shape, SchemaFault>
+    ensures { IfOk result (λ s. choice_shape (shape_by reader.now.names.now steps) (view choices.now)
+        ≡ Some (shape_of s)) }
+{
+    match choices {
+        Value::Array(choices) => some_shape(reader, steps, choices.as_slice()),
+        _ => Err(refusal(reader.alloc, "a list of schemas is wanted")),
+    }
+}
+
+/// The shape of any of the schemas.
+#[cycle(read)]
+fn some_shape(reader: &Reader<'_>, steps: usize, choices: &[Value]) -> Result<Shape, SchemaFault>
+    ensures { IfOk result (λ s. fold (choice_with (shape_by reader.now.names.now steps)) never
+        (items_view choices.now) ≡ Some (shape_of s)) }
+{
+    let mut shape = Shape::Never;
+    let mut index: usize = 0;
+    for choice in choices {
+        match shape_by(reader, steps, choice) {
+            Ok(one) => shape = or_shape(reader.alloc, one, shape)?,
+            Err(fault) => return Err(at_index(reader.alloc, fault, index)),
+        }
+        index = index.saturating_add(1);
+    }
+    Ok(shape)
+}
+
+/// The shape of values of these kinds, by what is said of fields and items.
+#[cycle(read)]
+fn content_shape(
+    reader: &Reader<'_>,
+    steps: usize,
+    schema: &Value,
+    kinds: Kinds,
+) -> Result<Shape, SchemaFault>
+    ensures { IfOk result (λ s. content_shape (shape_by reader.now.names.now steps) (view schema.now) kinds
+        ≡ Some (shape_of s)) }
+{
+    if is_every_kind(kinds) && !has_content(schema) {
+        return Ok(Shape::Anything);
+    }
+    let item = items_shape(reader, steps, schema)?;
+    let fields = fields_in(reader, steps, schema)?;
+    Ok(by_kinds(reader.alloc, kinds, item, fields)?)
+}
+
+/// The shape of items.
+#[cycle(read)]
+fn items_shape(reader: &Reader<'_>, steps: usize, schema: &Value) -> Result<Shape, SchemaFault>
+    ensures { IfOk result (λ s. shape_under (shape_by reader.now.names.now steps) (codes "items") (view schema.now)
+        ≡ Some (shape_of s)) }
+{
+    match schema.get("items") {
+        Some(items) => match shape_by(reader, steps, items) {
+            Ok(shape) => Ok(shape),
+            Err(fault) => Err(under(reader.alloc, fault, "items")),
+        },
+        None => Ok(Shape::Anything),
+    }
+}
+
+/// The shape of fields that are not named.
+#[cycle(read)]
+fn additional_shape(reader: &Reader<'_>, steps: usize, schema: &Value) -> Result<Shape, SchemaFault>
+    ensures { IfOk result (λ s. shape_under (shape_by reader.now.names.now steps) (codes "additionalProperties")
+        (view schema.now) ≡ Some (shape_of s)) }
+{
+    match schema.get("additionalProperties") {
+        Some(additional) => match shape_by(reader, steps, additional) {
+            Ok(shape) => Ok(shape),
+            Err(fault) => Err(under(reader.alloc, fault, "additionalProperties")),
+        },
+        None => Ok(Shape::Anything),
+    }
+}
+
+/// The fields of a map.
+#[cycle(read)]
+fn fields_in(reader: &Reader<'_>, steps: usize, schema: &Value) -> Result<Fields, SchemaFault>
+    ensures { IfOk result (λ fs. fields_in (shape_by reader.now.names.now steps) (view schema.now)
+        ≡ Some (fields_of fs)) }
+{
+    let additional = additional_shape(reader, steps, schema)?;
+    let rest = rest_of(reader.alloc, additional)?;
+    let fields = required_in(reader.alloc, schema, rest)?;
+    properties_in(reader, steps, schema, fields)
+}
+
+/// The fields, with the properties before them.
+#[cycle(read)]
+fn properties_in(
+    reader: &Reader<'_>,
+    steps: usize,
+    schema: &Value,
+    fields: Fields,
+) -> Result<Fields, SchemaFault>
+    ensures { IfOk result (λ fs. properties_in (shape_by reader.now.names.now steps) (view schema.now)
+        (fields_of fields) ≡ Some (fields_of fs)) }
+{
+    match schema.get("properties") {
+        Some(Value::Object(members)) => {
+            match property_fields(reader, steps, schema.get("required"), fields, members) {
+                Ok(fields) => Ok(fields),
+                Err(fault) => Err(under(reader.alloc, fault, "properties")),
+            }
+        }
+        Some(_) => Err(under(
+            reader.alloc,
+            refusal(reader.alloc, "an object of schemas is wanted"),
+            "properties",
+        )),
+        None => Ok(fields),
+    }
+}
+
+/// The fields, with these properties before them.
+#[cycle(read)]
+fn property_fields(
+    reader: &Reader<'_>,
+    steps: usize,
+    required: Option<&Value>,
+    fields: Fields,
+    members: &Map<String, Value>,
+) -> Result<Fields, SchemaFault>
+    ensures { IfOk result (λ fs. fold_members (with_property (shape_by reader.now.names.now steps)
+        (option_map (λ v. view v.now) required.entry)) (fields_of fields) (members_view members.now.entries)
+        ≡ Some (fields_of fs)) }
+{
+    let mut fields = fields;
+    for (name, property) in members.iter() {
+        let key = name.as_str();
+        match shape_by(reader, steps, property) {
+            Ok(shape) => {
+                let is_required = is_required(key.as_bytes(), required);
+                fields = put_field(reader.alloc, key.as_bytes(), is_required, shape, fields)?;
+            }
+            Err(fault) => return Err(under(reader.alloc, fault, key)),
+        }
+    }
+    Ok(fields)
+}

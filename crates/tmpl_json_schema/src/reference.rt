@@ -1,0 +1,49 @@
+//! What a `$ref` points to.
+ghost use Rattle.std.specs.Prelude.{◌≡◌, IfOk, IfSome, Some};
+ghost use Rattle.serde_json.specs.Find.{pointer as points_to};
+ghost use Rattle.serde_json.specs.View.{view};
+ghost use Rattle.tmpl_json_schema.specs.Document.{fragment_of};
+ghost use Rattle.tmpl_json_schema.specs.computed.Reading.{is_listed};
+
+use percent_encoding::percent_decode;
+use serde_json::Value;
+use std::alloc::{AllocError, Global};
+use std::str::from_utf8;
+use tmpl_values::Bytes;
+
+/// The most definitions that a schema may have.
+pub(crate) const MOST_DEFINITIONS: usize = 1_000;
+
+/// Whether it is one of the names.
+pub(crate) fn is_listed(names: &[Bytes], name: &[u8]) -> bool
+    ensures { result ≡ is_listed names.now name.now }
+{
+    match names {
+        [] => false,
+        [first, rest @ ..] => name == first.as_slice() || is_listed(rest, name),
+    }
+}
+
+/// The JSON Pointer of a reference within the document, without the escapes of a URI; none where it points elsewhere.
+pub(crate) fn fragment_of(alloc: Global, reference: &str) -> Result<Option<Bytes>, AllocError>
+    ensures { IfOk result (λ o. o ≡ fragment_of reference.now) }
+{
+    match reference.as_bytes() {
+        [b'#', rest @ ..] => {
+            let mut bytes = Vec::new(alloc);
+            percent_decode(rest).append_to(&mut bytes)?;
+            Ok(Some(Bytes::new(bytes)))
+        }
+        _ => Ok(None),
+    }
+}
+
+/// What a pointer points to in a document.
+pub(crate) fn pointed<'r>(root: &'r Value, pointer: &[u8]) -> Option<&'r Value>
+    ensures { IfSome result (λ v. points_to pointer.now (view root.now) ≡ Some (view v.now)) }
+{
+    match from_utf8(pointer) {
+        Ok(path) => root.pointer(path),
+        Err(_) => None,
+    }
+}

@@ -1,0 +1,299 @@
+//! A schema of a document's bytes.
+#![tactic(auto, using(tmpl_schema::proofs::ViewLemmas::parts))]
+
+ghost use Rattle.std.specs.Prelude.{◌≡◌, ℕ, All, IfOk, is_some};
+ghost use Rattle.serde_json.specs.View.{view};
+ghost use Rattle.tmpl_values.specs.Value.{Value as DataValue};
+ghost use Rattle.tmpl_schema.specs.Shape.{Fits};
+ghost use Rattle.tmpl_schema.specs.View.{defs_in, schema_of};
+ghost use Rattle.tmpl_json_schema.specs.Document.{ConformsTo, conforms_in};
+ghost use Rattle.tmpl_json_schema.specs.computed.Defined.{IsDefinition, are_defined};
+
+use crate::fault::{SchemaFault, refusal, refusal_of, under};
+use crate::read::{Reader, shape_by};
+use crate::reference::{MOST_DEFINITIONS, fragment_of, is_listed, pointed};
+use serde_json::{Error, Value};
+use std::alloc::{AllocError, Global};
+use std::str::from_utf8;
+use tmpl_schema::{Definition, Schema, Shape, copy_name};
+use tmpl_values::Bytes;
+
+/// How many levels of a document are read: more than JSON may have.
+const LEVELS: usize = 200;
+
+/// The most values that a document may have, each item and member counted.
+const MOST_VALUES: usize = 10_000;
+
+impl From<Error> for SchemaFault {
+    fn from(error: Error) -> SchemaFault {
+        if error.is_memory() {
+            SchemaFault::OutOfMemory
+        } else {
+            SchemaFault::NotJson
+        }
+    }
+}
+
+/// How many values there are, as far as they are counted.
+fn count_values(value: &Value, counted: usize) -> usize {
+    let mut count = counted.saturating_add(1);
+    match value {
+        Value::Array(items) => {
+            for item in items {
+                if count <= MOST_VALUES {
+                    count = count_values(item, count);
+                }
+            }
+        }
+        Value::Object(members) => {
+            for (_, member) in members.iter() {
+                if count <= MOST_VALUES {
+                    count = count_values(member, count);
+                }
+            }
+        }
+        Value::Null | Value::Bool(_) | Value::Number(_) | Value::String(_) => {}
+    }
+    count
+}
+
+/// Adds the pointers of each `$ref` that points into the document.
+fn add_names(
+    alloc: Global,
+    root: &Value,
+    value: &Value,
+    names: &mut Vec<Bytes>,
+) -> Result<(), AllocError> {
+    match value {
+        Value::Array(items) => {
+            for item in items {
+                add_names(alloc, root, item, names)?;
+            }
+        }
+        Value::Object(members) => {
+            for (key, member) in members.iter() {
+                if key.as_str() == "$ref" {
+                    add_name(alloc, root, member, names)?;
+                }
+                add_names(alloc, root, member, names)?;
+            }
+        }
+        Value::Null | Value::Bool(_) | Value::Number(_) | Value::String(_) => {}
+    }
+    Ok(())
+}
+
+/// Adds the pointer of a `$ref`, if it points into the document and is new.
+fn add_name(
+    alloc: Global,
+    root: &Value,
+    reference: &Value,
+    names: &mut Vec<Bytes>,
+) -> Result<(), AllocError> {
+    let Value::String(text) = reference else {
+        return Ok(());
+    };
+    let Some(name) = fragment_of(alloc, text.as_str())? else {
+        return Ok(());
+    };
+    if names.len() > MOST_DEFINITIONS || is_listed(names.as_slice(), name.as_slice()) {
+        return Ok(());
+    }
+    if pointed(root, name.as_slice()).is_some() {
+        names.push(name)?;
+    }
+    Ok(())
+}
+
+/// The reader of what a pointer points to: the empty one points to the top.
+fn reader_at<'s>(reader: &Reader<'s>, name: &[u8]) -> Reader<'s>
+    ensures { result.names.now ≡ reader.now.names.now }
+{
+    let top = if name.is_empty() {
+        reader.levels.saturating_sub(1)
+    } else {
+        reader.levels
+    };
+    Reader { top, ..*reader }
+}
+
+/// The definition of what a pointer points to.
+fn definition_of(reader: &Reader<'_>, root: &Value, name: &[u8]) -> Result<Definition, SchemaFault>
+    ensures { IfOk result (λ d. IsDefinition (view root.now) reader.now.names.now reader.now.levels d) }
+{
+    let Some(value) = pointed(root, name) else {
+        return Err(refusal(
+            reader.alloc,
+            "a reference points to nothing in the document",
+        ));
+    };
+    let shape = shape_by(&reader_at(reader, name), reader.levels, value)?;
+    let name = copy_name(reader.alloc, name)?;
+    Ok(Definition { name, shape })
+}
+
+/// The definitions of what these pointers point to.
+fn definitions_of(reader: &Reader<'_>, root: &Value) -> Result<Vec<Definition>, SchemaFault>
+    ensures { IfOk result (λ ds. All (IsDefinition (view root.now) reader.now.names.now reader.now.levels) ds.items) }
+{
+    let mut definitions = Vec::new(reader.alloc);
+    for name in reader.names {
+        definitions.push(definition_of(reader, root, name.as_slice())?)?;
+    }
+    Ok(definitions)
+}
+
+/// Whether there is a definition of this name.
+fn is_defined(definitions: &[Definition], name: &[u8]) -> bool
+    ensures { result ≡ is_some (defs_in definitions.now name.now) }
+{
+    match definitions {
+        [] => false,
+        [first, rest @ ..] => name == first.name.as_slice() || is_defined(rest, name),
+    }
+}
+
+/// Whether there is a definition of each name.
+fn are_defined(definitions: &[Definition], names: &[Bytes]) -> bool
+    ensures { result ≡ are_defined (defs_in definitions.now) names.now }
+{
+    match names {
+        [] => true,
+        [first, rest @ ..] => {
+            is_defined(definitions, first.as_slice()) && are_defined(definitions, rest)
+        }
+    }
+}
+
+/// The shape of the definition of a name.
+fn shape_named<'s>(definitions: &'s [Definition], name: &[u8]) -> Option<&'s Shape> {
+    for definition in definitions {
+        if definition.name.as_slice() == name {
+            return Some(&definition.shape);
+        }
+    }
+    None
+}
+
+/// Adds the names that are alternatives of a shape.
+fn add_alternatives<'s>(shape: &'s Shape, reached: &mut Vec<&'s [u8]>) -> Result<(), AllocError> {
+    match shape {
+        Shape::Either(one, other) => {
+            add_alternatives(one, reached)?;
+            add_alternatives(other, reached)
+        }
+        Shape::Named(name) => {
+            let name = name.as_slice();
+            if !reached.as_slice().contains(&name) {
+                reached.push(name)?;
+            }
+            Ok(())
+        }
+        Shape::Never
+        | Shape::Nothings
+        | Shape::Nulls
+        | Shape::Truths
+        | Shape::Numbers
+        | Shape::Texts => Ok(()),
+        Shape::Anything | Shape::List(_) | Shape::Record(_) => Ok(()),
+    }
+}
+
+/// Whether a definition leads back to itself through alternatives and references alone.
+fn leads_back(
+    alloc: Global,
+    definitions: &[Definition],
+    start: &Definition,
+) -> Result<bool, AllocError> {
+    let mut reached: Vec<&[u8]> = Vec::new(alloc);
+    add_alternatives(&start.shape, &mut reached)?;
+    for next in 0..=definitions.len() {
+        let Some(name) = reached.get(next) else {
+            return Ok(false);
+        };
+        let name: &[u8] = *name;
+        if name == start.name.as_slice() {
+            return Ok(true);
+        }
+        if let Some(shape) = shape_named(definitions, name) {
+            add_alternatives(shape, &mut reached)?;
+        }
+    }
+    Ok(false)
+}
+
+/// Refuses definitions that lead back to themselves through alternatives and references alone.
+fn check_definitions(alloc: Global, definitions: &[Definition]) -> Result<(), SchemaFault> {
+    for definition in definitions {
+        if leads_back(alloc, definitions, definition)? {
+            return Err(match from_utf8(definition.name.as_slice()) {
+                Ok(name) => refusal_of(alloc, "what is at ", name, " stands for itself"),
+                Err(_) => refusal(alloc, "a definition stands for itself"),
+            });
+        }
+    }
+    Ok(())
+}
+
+/// Reads each schema under this keyword at the top, so that nothing in it is read over.
+fn check_members(reader: &Reader<'_>, root: &Value, keyword: &str) -> Result<(), SchemaFault> {
+    let Some(Value::Object(members)) = root.get(keyword) else {
+        return Ok(());
+    };
+    for (name, schema) in members.iter() {
+        if let Err(fault) = shape_by(reader, reader.levels, schema) {
+            let fault = under(reader.alloc, fault, name.as_str());
+            return Err(under(reader.alloc, fault, keyword));
+        }
+    }
+    Ok(())
+}
+
+/// The pointers of the references in a document.
+fn names_in(alloc: Global, root: &Value) -> Result<Vec<Bytes>, SchemaFault> {
+    if count_values(root, 0) > MOST_VALUES {
+        return Err(refusal(alloc, "more than 10000 values"));
+    }
+    let mut names = Vec::new(alloc);
+    add_names(alloc, root, root, &mut names)?;
+    if names.len() > MOST_DEFINITIONS {
+        return Err(refusal(alloc, "references to more than 1000 places"));
+    }
+    Ok(names)
+}
+
+/// The schema of a document, of which as many levels are read.
+fn schema_in(alloc: Global, levels: usize, root: &Value) -> Result<Schema, SchemaFault>
+    ensures { IfOk result (λ s. (n : ℕ) (v : DataValue) → conforms_in (view root.now) n (view root.now) v
+        → Fits (schema_of s) v) }
+{
+    let names = names_in(alloc, root)?;
+    let parts = Reader {
+        names: names.as_slice(),
+        levels,
+        top: levels,
+        alloc,
+    };
+    check_members(&parts, root, "$defs")?;
+    check_members(&parts, root, "definitions")?;
+    let shape = shape_by(&reader_at(&parts, b""), levels, root)?;
+    let definitions = definitions_of(&parts, root)?;
+    if !are_defined(definitions.as_slice(), names.as_slice()) {
+        return Err(refusal(alloc, "a reference has no definition"));
+    }
+    check_definitions(alloc, definitions.as_slice())?;
+    Ok(Schema { definitions, shape })
+}
+
+/// The schema that a file of JSON Schema (draft 2020-12) is: each value that conforms to the file fits it.
+///
+/// # Errors
+///
+/// `NotJson` where the bytes are not JSON, `Refused` where a keyword in it is not one that is understood, or what stands
+/// under it is not what it wants, and `OutOfMemory` where memory is refused.
+pub fn read_schema(alloc: Global, bytes: &[u8]) -> Result<Schema, SchemaFault>
+    ensures { IfOk result (λ s. (v : DataValue) → ConformsTo bytes.now v → Fits (schema_of s) v) }
+{
+    let root = Value::from_slice(alloc, bytes)?;
+    schema_in(alloc, LEVELS, &root)
+}

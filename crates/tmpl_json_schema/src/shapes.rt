@@ -1,0 +1,118 @@
+//! Shapes put together by kinds.
+#![tactic(auto, using(tmpl_schema::proofs::ViewLemmas::parts))]
+
+ghost use Rattle.std.specs.Prelude.{◌≡◌, IfOk};
+ghost use Rattle.tmpl_schema.specs.View.{fields_of, shape_of};
+ghost use Rattle.tmpl_json_schema.specs.computed.Reading.{by_kinds, if_kind, is_never, kept, or_if, or_shape, rest_of, shape_of_rest};
+
+use crate::kinds::Kinds;
+use std::alloc::{AllocError, Global};
+use tmpl_schema::{Fields, Shape, copy_shape, either};
+
+/// Whether there is no value.
+fn is_never(shape: &Shape) -> bool
+    ensures { result ≡ is_never (shape_of shape.now) }
+{
+    match shape {
+        Shape::Never => true,
+        Shape::Nothings
+        | Shape::Nulls
+        | Shape::Truths
+        | Shape::Numbers
+        | Shape::Texts
+        | Shape::Anything => false,
+        Shape::List(_) | Shape::Record(_) | Shape::Either(..) | Shape::Named(_) => false,
+    }
+}
+
+/// The values of the one and of the other.
+pub(crate) fn or_shape(alloc: Global, one: Shape, other: Shape) -> Result<Shape, AllocError>
+    ensures { IfOk result (λ s. shape_of s ≡ or_shape (shape_of one) (shape_of other)) }
+{
+    if is_never(&one) {
+        return Ok(other);
+    }
+    if is_never(&other) {
+        return Ok(one);
+    }
+    either(alloc, one, other)
+}
+
+/// Those of the other, and of the one if that is asked for.
+fn or_if(alloc: Global, is_asked: bool, one: Shape, other: Shape) -> Result<Shape, AllocError>
+    ensures { IfOk result (λ s. shape_of s ≡ or_if is_asked (shape_of one) (shape_of other)) }
+{
+    if is_asked {
+        return or_shape(alloc, one, other);
+    }
+    Ok(other)
+}
+
+/// The values of these kinds, with such items and fields.
+pub(crate) fn by_kinds(
+    alloc: Global,
+    kinds: Kinds,
+    item: Shape,
+    fields: Fields,
+) -> Result<Shape, AllocError>
+    ensures { IfOk result (λ s. shape_of s ≡ by_kinds kinds (shape_of item) (fields_of fields)) }
+{
+    let shape = or_if(alloc, kinds.map, Shape::Record(fields), Shape::Never)?;
+    let list = Shape::List(Box::new(alloc, item)?);
+    let shape = or_if(alloc, kinds.list, list, shape)?;
+    let shape = or_if(alloc, kinds.text, Shape::Texts, shape)?;
+    let shape = or_if(alloc, kinds.number, Shape::Numbers, shape)?;
+    let shape = or_if(alloc, kinds.truth, Shape::Truths, shape)?;
+    or_if(alloc, kinds.null, Shape::Nulls, shape)
+}
+
+/// The values, if that is asked for.
+fn if_kind(is_asked: bool, shape: Shape) -> Shape
+    ensures { shape_of result ≡ if_kind is_asked (shape_of shape) }
+{
+    if is_asked { shape } else { Shape::Never }
+}
+
+/// Those of these kinds.
+pub(crate) fn kept(alloc: Global, kinds: Kinds, shape: Shape) -> Result<Shape, AllocError>
+    ensures { IfOk result (λ s. shape_of s ≡ kept kinds (shape_of shape)) }
+{
+    match shape {
+        Shape::Never => Ok(Shape::Never),
+        Shape::Nothings => Ok(Shape::Never),
+        Shape::Nulls => Ok(if_kind(kinds.null, Shape::Nulls)),
+        Shape::Truths => Ok(if_kind(kinds.truth, Shape::Truths)),
+        Shape::Numbers => Ok(if_kind(kinds.number, Shape::Numbers)),
+        Shape::Texts => Ok(if_kind(kinds.text, Shape::Texts)),
+        Shape::List(items) => Ok(if_kind(kinds.list, Shape::List(items))),
+        Shape::Record(fields) => Ok(if_kind(kinds.map, Shape::Record(fields))),
+        Shape::Either(one, other) => {
+            let one = kept(alloc, kinds, Box::into_inner(one))?;
+            let other = kept(alloc, kinds, Box::into_inner(other))?;
+            or_shape(alloc, one, other)
+        }
+        Shape::Anything => Ok(Shape::Anything),
+        Shape::Named(name) => Ok(Shape::Named(name)),
+    }
+}
+
+/// The fields of this shape that are not named.
+pub(crate) fn rest_of(alloc: Global, shape: Shape) -> Result<Fields, AllocError>
+    ensures { IfOk result (λ fs. fields_of fs ≡ rest_of (shape_of shape)) }
+{
+    if is_never(&shape) {
+        return Ok(Fields::Closed);
+    }
+    Ok(Fields::Others(Box::new(alloc, shape)?))
+}
+
+/// The shape of a field that is not named.
+pub(crate) fn shape_of_rest(alloc: Global, fields: &Fields) -> Result<Shape, AllocError>
+    ensures { IfOk result (λ s. shape_of s ≡ shape_of_rest (fields_of fields.now)) }
+{
+    match fields {
+        Fields::Others(shape) => copy_shape(alloc, shape),
+        Fields::Closed => Ok(Shape::Never),
+        Fields::Field(_) => Ok(Shape::Never),
+    }
+}
