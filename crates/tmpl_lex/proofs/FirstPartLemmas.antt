@@ -47,7 +47,7 @@ pub ends-same : (ts us : List held_token.Token) (o : held_opened.Opened) → end
 ends-same ts us o = grind arith
 
 -- the bytes end with what stands after the end, if there is one
-at-ends : (after : List ℕ) → IfSome (ends_at (opened (past_left after))) (λ e. EndsWith after e.rest)
+pub at-ends : (after : List ℕ) → IfSome (ends_at (opened (past_left after))) (λ e. EndsWith after e.rest)
 at-ends after = go (opened (past_left after)) (opened-closed 0 (past_left after))
   where
     beyond : (e : End) (ps : List Piece) → HasClosed 0 (past_left after) e ps → EndsWith after e.rest
@@ -81,7 +81,7 @@ module _ (file : List ℕ) (rest : held.Rest) (left : IsLeft file rest) (before 
           (omega (arith, parts), simp (stretch-is after at.front e.rest at.is) (omega (arith, left.lines, ap length is, whole, parts, a, b, fits)))
 
   -- what is left after an end is so also of the whole rest
-  rest-same : (e : Option End) → IfSome e (λ e. EndsWith after e.rest)
+  pub rest-same : (e : Option End) → IfSome e (λ e. EndsWith after e.rest)
       → option_map (rest_past after here) e ≡ option_map (rest_past rest.bytes.now rest.line) e
   rest-same None at = refl
   rest-same (Some e) at =

@@ -1,4 +1,5 @@
 pub mod ActionLemmas
+pub mod BeginLemmas
 pub mod CutExamples
 pub mod CutLemmas
 pub mod FirstPartLemmas

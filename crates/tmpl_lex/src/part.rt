@@ -1,5 +1,6 @@
 //! The parts of a file, one after the other: a text, and what stands after it.
 ghost use Rattle.std.specs.Prelude.{◌≡◌, ◌≤◌, ◌<◌, ◌+◌, ◌^◌, ℕ, [], IfOk, List, None, Some, false, length, option_map};
+ghost use Rattle.tmpl_lex.specs.Begin.{BeginsBy};
 ghost use Rattle.tmpl_lex.specs.Part.{IsCutBy, IsLeft, IsLeftAfter, pieces_after, pieces_in};
 ghost use Rattle.tmpl_lex.specs.Place.{StandsAt};
 ghost use Rattle.tmpl_lex.specs.Text as count;
@@ -45,6 +46,8 @@ pub struct Part<'b> {
     /// The text, which may be empty.
     pub text: &'b [u8],
     pub after: AfterText,
+    /// How many bytes of the file stand before the `{{` after the text, and all of them where there is none.
+    pub opens: usize,
     /// What is left after it, if anything is to be cut there.
     pub rest: Option<Rest<'b>>,
 }
@@ -79,6 +82,7 @@ pub fn first_part<'b>(
     requires { IsLeft file.now rest }
     ensures cuts { IfOk result (λ p. IsCutBy rest.entry (pieces_in tokens.new.items p) p.rest) }
     ensures placed { IfOk result (λ p. StandsAt file.now p.start p.text.now) }
+    ensures begins { IfOk result (λ p. BeginsBy file.now rest.entry tokens.new.items p) }
     ensures left { IfOk result (λ p. IsLeftAfter file.now rest.entry p.rest) }
 {
     match split_pair(rest.bytes, b'{', b'{') {
@@ -99,6 +103,7 @@ fn part_before<'b>(
     requires first { Some (before.now, after.now) ≡ split_open rest.bytes.now }
     ensures cuts { IfOk result (λ p. IsCutBy rest.entry (pieces_in tokens.new.items p) p.rest) }
     ensures placed { IfOk result (λ p. StandsAt file.now p.start p.text.now) }
+    ensures begins { IfOk result (λ p. BeginsBy file.now rest.entry tokens.new.items p) }
     ensures left { IfOk result (λ p. IsLeftAfter file.now rest.entry p.rest) }
 {
     let (taken, kept) = split_leading(before, rest.trims);
@@ -112,6 +117,7 @@ fn part_before<'b>(
         start,
         text,
         after: after_of(here, opened),
+        opens: file.len() - rest.bytes.len() + before.len(),
         rest: rest_after(after, here, opened),
     })
 }
@@ -122,6 +128,7 @@ fn last_part<'b>(file: &'b [u8], rest: Rest<'b>) -> Part<'b>
     requires last { None ≡ split_open rest.bytes.now }
     ensures cuts { (tokens : List held.Token) → IsCutBy rest.entry (pieces_in tokens result) result.rest }
     ensures placed { StandsAt file.now result.start result.text.now }
+    ensures begins { (tokens : List held.Token) → BeginsBy file.now rest.entry tokens result }
     ensures left { IsLeftAfter file.now rest.entry result.rest }
 {
     let (taken, text) = split_leading(rest.bytes, rest.trims);
@@ -130,6 +137,7 @@ fn last_part<'b>(file: &'b [u8], rest: Rest<'b>) -> Part<'b>
         start: file.len() - rest.bytes.len() + taken.len(),
         text,
         after: AfterText::Nothing,
+        opens: file.len(),
         rest: None,
     }
 }

@@ -1,10 +1,10 @@
 -- All that is refused of a file: its first refused action, and then what is refused of the list in which that is mended.
 -- These are our own rules; which action is the first, and why, is told by `Place`.
 use Rattle.std.specs.Prelude.{◌≡◌, ℕ, zero, suc, ◌+◌, Bool, true, false, List, [], ◌∷◌, ◌++◌, Option, Some, None, length, map, find, not, codes}
-use Rattle.std.specs.Prelude.{if◌then◌else◌}
-use Rattle.std.specs.List.{AllZip, filter_map}
+use Rattle.std.specs.Prelude.{if◌then◌else◌, nat_eq, ◌||◌}
+use Rattle.std.specs.List.{AllZip, filter_map, starts_with}
 use Rattle.std.specs.Str.{bytes_eq}
-use Rattle.tmpl_lex.specs.Piece.{Token, Piece, text, action, unreadable}
+use Rattle.tmpl_lex.specs.Piece.{Token, Piece, action}
 use Rattle.tmpl_lex.specs.Text.{newlines}
 use Rattle.tmpl_lex.specs.Cut.{Cuts}
 use Rattle.tmpl_lex.specs.declared.piece.TokenKind.{TokenKind}
@@ -13,11 +13,10 @@ use Rattle.tmpl_grammar.specs.Action.{Action, opening, else_branch, define_actio
 use Rattle.tmpl_grammar.specs.declared.tree.Control.TheVariants.{If, With, Range}
 use Rattle.tmpl_syntax.specs.Fault as reason
 use Rattle.tmpl_syntax.specs.Fault.{Reason, reason_of}
-use Rattle.tmpl_syntax.specs.Item.{ItemKind, Item, item, action_item, IsItem}
+use Rattle.tmpl_syntax.specs.Item.{ItemKind, item, action_item, IsItem}
 use Rattle.tmpl_syntax.specs.Language.{every_action}
 use Rattle.tmpl_syntax.specs.declared.refused.Refused.{Refused}
 use Rattle.tmpl_syntax.specs.Place.Opening as opened
-use Rattle.tmpl_syntax.specs.Place.Role as role
 use Rattle.tmpl_syntax.specs.Place.Role.{Name, Names, Role, plain, opener, else_part, closer, names_given, role_of}
 use Rattle.tmpl_syntax.specs.Place.Body.{IsFine, IsFirstRefused, IsLeftOpen}
 
@@ -93,15 +92,23 @@ is_white kind = false
 abbrev pub first_word : List Token → List ℕ
 first_word ts = word_of (find (λ t. not (is_white t.kind)) ts)
 
--- an action that is not read counts as a bare opening or end by its first word, and else as not there
+-- the words that open a part, with those of other languages that do
+abbrev pub opens_if : List ℕ → Bool
+opens_if word = bytes_eq word (codes "if") || bytes_eq word (codes "unless")
+
+abbrev pub opens_range : List ℕ → Bool
+opens_range word = bytes_eq word (codes "range") || bytes_eq word (codes "for") || bytes_eq word (codes "foreach") || bytes_eq word (codes "each")
+
+-- an action that is not read counts as a bare opening or end by its first word, and else as not there; what begins with
+-- `end` ends a part
 abbrev pub by_word : List ℕ → Names → Role
 by_word word names =
-    if bytes_eq word (codes "if") then opener (opened.control If) names
+    if opens_if word then opener (opened.control If) names
     else if bytes_eq word (codes "with") then opener (opened.control With) names
-    else if bytes_eq word (codes "range") then opener (opened.control Range) names
+    else if opens_range word then opener (opened.control Range) names
     else if bytes_eq word (codes "define") then opener opened.block names
     else if bytes_eq word (codes "block") then opener opened.block names
-    else if bytes_eq word (codes "end") then closer
+    else if starts_with nat_eq word (codes "end") then closer
     else plain names
 
 -- one that is read counts as a bare opening or else branch if it is one, a `define` as a `block`, and else as not there

@@ -167,19 +167,36 @@ fn kind_by_action(action: &Action) -> MendKind
 fn kind_by_word(word: &[u8]) -> MendKind
     ensures { (names : Names) → mend_kind result names ≡ spec.by_word word.now names }
 {
-    if word == b"if".as_slice() {
+    if opens_if(word) {
         MendKind::Open(Control::If)
     } else if word == b"with".as_slice() {
         MendKind::Open(Control::With)
-    } else if word == b"range".as_slice() {
+    } else if opens_range(word) {
         MendKind::Open(Control::Range)
     } else if word == b"define".as_slice() || word == b"block".as_slice() {
         MendKind::OpenBlock
-    } else if word == b"end".as_slice() {
+    } else if word.starts_with(b"end") {
         MendKind::Close
     } else {
         MendKind::Absent
     }
+}
+
+/// Whether this word opens an `if`, also in another language.
+fn opens_if(word: &[u8]) -> bool
+    ensures { result ≡ spec.opens_if word.now }
+{
+    word == b"if".as_slice() || word == b"unless".as_slice()
+}
+
+/// Whether this word opens a `range`, also in another language.
+fn opens_range(word: &[u8]) -> bool
+    ensures { result ≡ spec.opens_range word.now }
+{
+    word == b"range".as_slice()
+        || word == b"for".as_slice()
+        || word == b"foreach".as_slice()
+        || word == b"each".as_slice()
 }
 
 /// The word that comes first in an action, and nothing where something else does.

@@ -5,6 +5,7 @@ use Rattle.tmpl_lex.specs.computed.Trim.{left_marked}
 use Rattle.tmpl_lex.specs.computed.View.{opened_of}
 use Rattle.tmpl_lex.proofs.FirstPartLemmas.{texts-put, ends-same, end-within, part-before}
 use Rattle.tmpl_lex.proofs.PartLemmas.{split-is}
+use Rattle.tmpl_lex.proofs.BeginLemmas.{begins-by}
 use Rattle.tmpl_lex.proofs.PlaceLemmas.{StandsAt-trimmed}
 use Rattle.tmpl_lex.proofs.part.part_before.Goals as goal
 
@@ -32,5 +33,8 @@ returns c =
       placed = StandsAt-trimmed file rest.bytes.now before (123 ∷ 123 ∷ after) c.split_leading.result.0.now kept c.trim_end-text.result.now rest.trims
           (left_marked after) _ c.requires.left.ends (split-is 123 123 rest.bytes.now (before, after) (sym c.requires.first)).is
           c.split_leading.ensures.taken c.split_leading.ensures.kept trimmed refl;
+      begins = begins-by file rest c.requires.left before after c.requires.first o (c.in_ok-opened.ensures ∙ ap opened c.skip_left_marker.ensures)
+          c.read_opened.new.tokens.items c.after_of.result (simp c.newlines-2.ensures.value at c.after_of.ensures c.read_opened.new.tokens.items)
+          c.rest_after.result (simp c.newlines-2.ensures.value at c.rest_after.ensures c.read_opened.new.tokens.items) _ put;
       left = part.1;
     }
