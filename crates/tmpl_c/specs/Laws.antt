@@ -110,7 +110,7 @@ RendersAsKept = (parse : Parse) (rules : Rules) (print : Bool) (files : List (By
     → (value : Option Value) → data_lent (codes "data") input ≡ Ok value
     → render_answer parse rules print files name input ≡ held_answer rules print set name value
 
--- after files that are accepted, one more comes to what it comes to when it is added to the set that they make
+-- a file after files that are accepted gives the answer that it gives when it is added to the set of their templates
 abbrev pub AddsInTurn : Type 0
 AddsInTurn = (parse : Parse) (before : List (Bytes × Bytes)) (f : Bytes × Bytes)
     → (set : List Template) → each_added parse [] before ≡ Ok set

@@ -58,7 +58,7 @@ data_lent called (b ∷ bs) = data_in called (b ∷ bs)
 
 -- ---- the function
 
--- what a call comes to: each file, the printed set or else the data, the name, and the run
+-- the answer of a call: each file, the printed set or else the data, the name, and the run
 abbrev pub lent_answer : Bytes → Parse → Rules → Bool → List (Bytes × Bytes) → Bytes → Bytes → Answer
 lent_answer called parse rules print files name input = answer_of
     (and_then (each_added parse [] files) (λ set.

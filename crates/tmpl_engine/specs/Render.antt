@@ -1,4 +1,4 @@
--- What a render of a template by its name comes to, as its sink saw it.
+-- The result of a render of a template by its name, as its sink saw it.
 use Rattle.std.specs.Prelude.{◌≡◌, ◌⊎◌, List, ℕ, Option, Some, None, Result, Ok, Err, option_map}
 use Rattle.std.specs.Borrow.{Bor}
 use Rattle.tmpl_values.specs.Value.{Value}

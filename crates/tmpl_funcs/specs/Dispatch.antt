@@ -1,4 +1,4 @@
--- What a call comes to.
+-- The result of a call.
 use Rattle.std.specs.Prelude.{◌≡◌, true, List, length, Result, Ok, Err}
 use Rattle.tmpl_values.specs.Value.{Value}
 use Rattle.tmpl_values.specs.View.{val_of}

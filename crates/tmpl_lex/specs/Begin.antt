@@ -14,8 +14,9 @@ use Rattle.tmpl_lex.specs.Text.{newlines, text_piece}
 abbrev pub IsUncommented : List ℕ → Type 0
 IsUncommented bs = (line : ℕ) (body : List ℕ) (trims : Bool) (after : List ℕ) → Closed line body trims after [] → bs ≡ body ++ after → ⊥
 
--- of the pieces that bytes are cut into, that at this place is an action whose `{{` stands after this many bytes of the file;
--- the bytes stand after so many of it, the first of them on this line, and `right` says that a right trim marker stands before
+-- bytes are what is left of a file after the first `start` of them, beginning on this line; `right` says that a right trim
+-- marker stands before. Of the pieces that they are cut into, the one at this place is an action, and its `{{` stands after
+-- this many bytes of the file
 pub data Begins : ℕ → Bool → ℕ → List ℕ → ℕ → ℕ → Type 0 where
   -- the first `{{`, where no comment begins
   here : {start line : ℕ} {right : Bool} {before opening rest : List ℕ} {texts : List Piece}

@@ -111,7 +111,7 @@ IsNoLimit (steps_spent limit) = ⊥
 IsNoLimit (calls_too_deep limit) = ⊥
 IsNoLimit cause = Unit {0}
 
--- a run comes to its end, or to a fault that is no limit's
+-- a run reaches its end, or a fault that is no limit's
 abbrev pub IsWithinLimits : Ran → Type 0
 IsWithinLimits r = MatchOption r.fault (Unit {0}) (λ f. IsNoLimit f.cause)
 
@@ -135,7 +135,7 @@ LimitsOnlyCut =
 abbrev pub unplaced_fault : Fault → List ℕ × Cause
 unplaced_fault f = (f.template, f.cause)
 
--- what a run comes to, without the file and the line of its fault
+-- the result of a run, without the file and the line of its fault
 pub record Unplaced : Type 0 where
   pub text : List ℕ
   pub fault : Option (List ℕ × Cause)
@@ -157,7 +157,7 @@ AlikeRunAlike =
     → unplaced (ran rules set name t input) ≡ unplaced (ran rules other name u input)
 
 -- where what is printed of a set is accepted, with no set there, as a file that has the base name of one of its
--- templates, each of them comes to the same but for the file and the line of a fault
+-- templates, each of them has the same result but for the file and the line of a fault
 abbrev pub PrintedRunsAlike : Type 0
 PrintedRunsAlike =
     (rules : Rules) (ts new : List Template) (file name : List ℕ) (own t : Tree) (input : Option Value)

@@ -40,7 +40,7 @@ pub fn alike_run_alike()
 {}
 
 /// The law that what is printed of a set renders the same: where it is accepted as a file of the base name of one of
-/// its templates, each of them comes to the same text, and to a fault of the same template and cause.
+/// its templates, each of them gives the same text, and a fault of the same template and cause.
 pub fn printed_runs_alike()
     ensures { PrintedRunsAlike }
 {}

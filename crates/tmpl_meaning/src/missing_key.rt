@@ -1,4 +1,4 @@
-//! Fields, and what a field comes to for which a map has no entry.
+//! Fields, and the value of a field for which a map has no entry.
 ghost use Rattle.std.specs.Prelude.{◌≡◌, false};
 ghost use Rattle.tmpl_values.specs.Field.{field_at, missing, of_nothing};
 ghost use Rattle.tmpl_values.specs.View.{is_made, val_of};
@@ -9,7 +9,7 @@ ghost use Rattle.tmpl_meaning.specs.View.{value_seen};
 use crate::fault::RunFaultKind;
 use tmpl_values::{Bytes, Field, Val};
 
-/// What a field comes to for which a map has no entry. The words are those of the option `missingkey`
+/// The value of a field for which a map has no entry. The words are those of the option `missingkey`
 /// of Go's `text/template`; what each does with nothing and null is our own rule.
 #[derive(Clone, Copy, Debug, PartialEq, Eq)]
 pub enum MissingKey {
@@ -49,7 +49,7 @@ impl MissingKey {
         }
     }
 
-    /// What a map comes to that has no entry of this name.
+    /// The value of a field of this name of a map that has no such entry.
     fn absent_entry(self, name: &[u8]) -> Result<Val<'_>, RunFaultKind<'_>>
         ensures value { value_seen result ≡ field_value self name.now missing }
         ensures borrowed { IsBorrowed result }
@@ -61,7 +61,7 @@ impl MissingKey {
         }
     }
 
-    /// What nothing comes to, which has no entries.
+    /// The value of a field of nothing, which has no entries.
     fn field_of_nothing(self, name: &[u8]) -> Result<Val<'_>, RunFaultKind<'_>>
         ensures value { value_seen result ≡ field_value self name.now of_nothing }
         ensures borrowed { IsBorrowed result }

@@ -6,7 +6,7 @@ use crate::missing_key::MissingKey;
 /// How a template is to be run.
 #[derive(Clone, Copy, Debug)]
 pub struct Options {
-    /// What a field comes to for which a map has no entry.
+    /// The value of a field for which a map has no entry.
     pub missing_key: MissingKey,
     /// How deep calls of templates may go, the starting template counted.
     pub depth: u32,

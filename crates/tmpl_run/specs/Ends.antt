@@ -16,7 +16,7 @@ Comes After (goes t) end = After t
 Comes After (ended r) end = r ≡ end
 Comes After stuck end = ⊥
 
--- in at most this many turns it comes to this end; each of them is ready, and none gets stuck
+-- it reaches this end in at most this many turns, each of which is ready, and none gets stuck
 abbrev pub RunsTo : Plan → ℕ → ℕ → State → Ran → Type 0
 RunsTo plan room zero s end = ⊥
 RunsTo plan room (suc n) s end =

@@ -17,7 +17,7 @@ abbrev pub IsPlanLinked : Plan → Type 0
 IsPlanLinked plan = Starts plan.templates plan.templates plan.starts plan.code
 
 -- over a stack of as many cells as each chain of calls from it needs that is no longer than the depth, a run that
--- starts at a template comes to just the text, the fault and the mark that the template means: each turn is ready, and
+-- starts at a template gives just the text, the fault and the mark that the template means: each turn is ready, and
 -- none gets stuck
 abbrev pub ComesToMeaning : Type 0
 ComesToMeaning =
@@ -35,7 +35,7 @@ DepthByChains =
     → depth ≤ rules.depth_limit
     → ran (record rules { depth_limit = depth }) ts t.0 t.1 input ≡ ran rules ts t.0 t.1 input
 
--- of a state that comes to an end there are never more cells than that
+-- a state that ends never has more cells than that
 abbrev pub StaysWithin : Type 0
 StaysWithin =
     (plan : Plan) (size : ℕ) (s t : State) (end : Ran) → Ends plan size s end → length s.cells ≤ size
@@ -60,7 +60,7 @@ EachTurnLessens = (plan : Plan) (s t : State) → next_of plan s ≡ goes t → 
 abbrev pub most_turns : Plan → ℕ
 most_turns plan = 2 * length plan.code * (plan.rules.step_limit + 1)
 
--- a run that starts at a template, and comes to an end, comes to it in at most this many turns; `ComesToMeaning` says
+-- a run that starts at a template, and ends, takes at most this many turns; `ComesToMeaning` says
 -- when it does
 abbrev pub TurnsAreBounded : Type 0
 TurnsAreBounded =

@@ -1,4 +1,4 @@
--- What a run comes to, as its sink saw it.
+-- The result of a run, as its sink saw it.
 use Rattle.std.specs.Prelude.{◌≡◌, true, None, Some, Result, Ok, Err}
 use Rattle.tmpl_meaning.specs.Meaning.{Ran}
 use Rattle.tmpl_meaning.specs.Sink.{Begun, Cut, Sunk, Whole}

@@ -8,7 +8,7 @@ pub fn comes_to_meaning()
     ensures { ComesToMeaning }
 {}
 
-/// The law that a run comes to the same whatever depth is allowed beyond the longest chain of calls.
+/// The law that a run has the same result whatever depth is allowed beyond the longest chain of calls.
 pub fn depth_by_chains()
     ensures { DepthByChains }
 {}

@@ -64,7 +64,7 @@ StopsAt Made stage reads (Some (unread name)) =
     (k : ℕ) × (stage (nat_eq k) ≡ Err (unread name)) × Made (reads (nat_eq k))
 StopsAt Made stage reads (Some s) = (stage no_read ≡ Err s) × Made (reads no_read)
 
--- the answer is what a stage comes to, or it is a stop of the stage, or memory was refused
+-- the answer is the result of a stage, or it is a stop of the stage, or memory was refused
 abbrev pub ComesOf : {T U : Type 0} → (List Bytes → Type 0) → (Failing → Result U Early) → (Failing → List Bytes)
     → (T → U) → Result T held.Stop → Type 0
 ComesOf Made stage reads seen (Ok t) = (stage no_read ≡ Ok (seen t)) × Made (reads no_read)

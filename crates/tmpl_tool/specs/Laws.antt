@@ -106,7 +106,7 @@ TellsRefusedMemory =
     → let a = tool_answer parse words files fails in
     Begun (if a.made_text then a.text else []) out × Says memory_line err
 
--- where memory is not refused and no read fails, the reads are all that the command comes to
+-- where memory is not refused and no read fails, all the reads are made
 abbrev pub TellsReads : Type 0
 TellsReads = (reads : Failing → List Bytes) (answers : Failing → Answer) (o : Observed) → Follows reads answers o
     → o.code ≢ 7 → o.failed_after ≡ o.failed_before → Asked o.asked_before o.asked_after (reads no_read)

@@ -1,9 +1,9 @@
--- What is observed of the two sinks and the status, where the command comes to an end.
+-- What is observed of the two sinks and the status, where the command ends.
 use Rattle.std.specs.Prelude.{◌≡◌, ◌≢◌, ◌+◌, ◌⊎◌, ◌++◌, ℕ, Bool, [], codes, if◌then◌else◌}
 use Rattle.tmpl_meaning.specs.Sink.{Begun, Cut, Sunk, Whole}
 use Rattle.tmpl_tool.specs.Source.{Bytes}
 
--- what the command comes to
+-- the answer of the command
 pub record Answer : Type 0 where
   -- what is put out
   pub text : Bytes
@@ -37,7 +37,7 @@ Exact a out err code = Whole a.text out × (code ≡ a.status) × Says a.line er
 abbrev pub Unwritten : Answer → Sunk → Sunk → ℕ → Type 0
 Unwritten a out err code = Cut a.text out × (code ≡ 6) × Says write_line err
 
--- memory was refused: a beginning of the text, and nothing unless the command comes to a run that makes text
+-- memory was refused: a beginning of the text, and nothing unless the command runs a template that makes text
 abbrev pub Refused : Answer → Sunk → Sunk → ℕ → Type 0
 Refused a out err code = Begun (if a.made_text then a.text else []) out × (code ≡ 7) × Says memory_line err
 

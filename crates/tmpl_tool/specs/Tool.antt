@@ -187,7 +187,7 @@ named_run rules name set input =
 
 -- ---- the command
 
--- what it comes to: the words, each FILE, the printed set or else the data, the name, and the run
+-- its answer: the words, each FILE, the printed set or else the data, the name, and the run
 abbrev pub tool_answer : Parse → List Bytes → Files → Failing → Answer
 tool_answer parse words files fails = answer_of
     (and_then (asked_by words) (λ w.
@@ -243,7 +243,7 @@ abbrev pub Follows : (Failing → List Bytes) → (Failing → Answer) → Obser
 Follows reads answers o = NoneFailed (reads no_read) (answers no_read) o
     ⊎ ((k : ℕ) × OneFailed (reads (nat_eq k)) (answers (nat_eq k)) o)
 
--- words that are refused, or that ask for help, are all that the command comes to, and this holds
+-- the answer to words that are refused, or that ask for help, depends on them alone, and this holds
 abbrev pub EndsAtWords : List Bytes → Type 0 → Sunk → Sunk → ℕ → Type 0
 EndsAtWords words Unread out err code =
     IfSome (result_err (asked_by words)) (λ stop. Unread × Outcome (stop_answer stop) out err code)

@@ -21,7 +21,7 @@ abbrev pub IsFilled : Answer → Bytes → Bytes → Bytes → Bytes → Filled 
 IsFilled a out out_now err err_now f = Rendered a (length out) (extent_seen out_now f.text)
     (length err) (extent_seen err_now f.line) f.status
 
--- what a render of kept templates and data comes to, by these settings
+-- the answer of a render of kept templates and data, by these settings
 abbrev pub answer_by : Settings → List Template → Bytes → Option Value → Answer
 answer_by settings set name value = held_answer (rules_in settings) (eqb settings.print 1) set name value
 

@@ -11,7 +11,7 @@ abbrev pub halt_seen : Halt → Option Early
 halt_seen halt.NotText = Some bad_words
 halt_seen (halt.Stop s) = stop_seen s
 
--- the answer is what a stage comes to, or its stop, or memory was refused
+-- the answer is the result of a stage, or its stop, or memory was refused
 abbrev pub ComesTo : {T U : Type 0} → (T → U) → Result U Early → Result T Halt → Type 0
 ComesTo seen stage (Ok t) = stage ≡ Ok (seen t)
 ComesTo seen stage (Err h) = IfSome (halt_seen h) (λ s. stage ≡ Err s)

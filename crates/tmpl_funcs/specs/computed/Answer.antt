@@ -1,4 +1,4 @@
--- What a function of the table comes to.
+-- The result of a function of the table.
 use Rattle.std.specs.Prelude.{◌≡◌, Result, Ok, Err}
 use Rattle.tmpl_values.specs.Value.{Value}
 use Rattle.tmpl_values.specs.View.{val_of}

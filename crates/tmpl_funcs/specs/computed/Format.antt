@@ -1,4 +1,4 @@
--- What the adding of a part of a format's text comes to.
+-- The result of adding a part of a format's text.
 use Rattle.std.specs.Prelude.{◌≡◌, ◌<◌, ◌≤◌, ℕ, length, drop, List, ◌++◌, Option, Some, None, option_map, Result, Ok}
 use Rattle.std.specs.Prelude.{Err, option_and_then}
 use Rattle.std.specs.Borrow.{Bor}

@@ -1,4 +1,4 @@
--- The reading of a form part by part, and what it comes to.
+-- The reading of a form part by part, and its result.
 use Rattle.std.specs.Prelude.{◌≡◌, ◌&&◌, ◌+◌, ◌-◌, ◌*◌, ◌==◌, nat_le, List, [], ◌∷◌, ℕ, Bool, true, ◌++◌, drop, fold, length}
 use Rattle.std.specs.Prelude.{slice_index, Option, Some, None, option_map, option_and_then, if◌then◌else◌}
 use Rattle.std.specs.Borrow.{Bor}

@@ -1,4 +1,4 @@
--- What the loop of a run comes to, before what waits is put out.
+-- The result of the loop of a run, before what waits is put out.
 use Rattle.std.specs.Prelude.{◌≡◌, ◌⊎◌, true, ℕ, List, [], Option, None, Some, option_map, Result, Ok, Err}
 use Rattle.tmpl_meaning.specs.Meaning.{Ran}
 use Rattle.tmpl_meaning.specs.Sink.{IsPut, Puts}
@@ -17,7 +17,7 @@ use Rattle.tmpl_run.specs.declared.halt.Halt.TheVariants as stop
 use Rattle.tmpl_run.specs.declared.fault.RunError.{RunError}
 use Rattle.tmpl_run.specs.declared.fault.RunError.TheVariants as error
 
--- a machine that has put nothing out yet comes to this end, over its stack
+-- a machine that has put nothing out yet reaches this end, over its stack
 abbrev pub ComesTo : Plan → Machine → Ran → Type 0
 ComesTo plan m end = Ends plan (size_of m.stack) (state_of m) end
 

@@ -152,7 +152,7 @@ Shown plan i m n (Err stop.WriteFailed) =
     IsThere (value_by plan i (state_of m)) × (state_of n ≡ record (state_of m) { place = m.place + 3 })
 Shown plan i m n (Err stop.OutOfMemory) = Unit {0}
 
--- ---- what a turn of the loop comes to, by whether it carries out three instructions
+-- ---- the result of a turn of the loop, by whether it carries out three instructions
 
 abbrev pub TurnedBy : Bool → Plan → Instruction → Machine → Machine → Result Flow Halt → Type 0
 TurnedBy false plan i m n r = Executed plan i m n r
