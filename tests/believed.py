@@ -37,7 +37,7 @@ MOST = {
     "tmpl_grammar": 302,
     "tmpl_syntax": 352,
     "tmpl_meaning": 223,
-    "tmpl_tool": 243,
+    "tmpl_tool": 249,
     "tmpl_engine": 2,
     "tmpl_c": 88,
 }
