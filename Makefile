@@ -80,8 +80,9 @@ install: $(PROGRAM) $(CHECKER) install-documents
 	install -D -m 755 $(CHECKER) "$$DESTDIR$$PREFIX/bin/tmpl-check"
 	! command -v strip > /dev/null || strip "$$DESTDIR$$PREFIX/bin/tmpl" "$$DESTDIR$$PREFIX/bin/tmpl-check"
 	! command -v $(OBJCOPY) > /dev/null || { note=$$(mktemp) && python3 packaging/pages.py --build > "$$note" && \
-		for program in tmpl tmpl-check; do $(OBJCOPY) --remove-section .tmpl.build --add-section ".tmpl.build=$$note" \
-			"$$DESTDIR$$PREFIX/bin/$$program" || exit 1; done && rm "$$note"; }
+		for program in tmpl tmpl-check; do \
+			$(OBJCOPY) --remove-section .tmpl.build --add-section ".tmpl.build=$$note" "$$DESTDIR$$PREFIX/bin/$$program" || exit 1; \
+		done && rm "$$note"; }
 	install -D -m 644 completions/tmpl.bash "$$DESTDIR$$PREFIX/share/bash-completion/completions/tmpl"
 	install -D -m 644 completions/tmpl-check.bash "$$DESTDIR$$PREFIX/share/bash-completion/completions/tmpl-check"
 	install -D -m 644 -t "$$DESTDIR$$PREFIX/share/zsh/site-functions" completions/_tmpl completions/_tmpl-check

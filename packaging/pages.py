@@ -1,7 +1,7 @@
 """Places the documents and the man pages as an installed program has them: `pages.py ROOT PREFIX`, where ROOT is the folder that stands
 for PREFIX, such as `$DESTDIR$PREFIX`. What they say of PREFIX, which is /usr/local in the repository, is said of this one. A link to
 what is not installed becomes its text, and the foot of each man page says from which commit and by which logic the program was made.
-`pages.py --build` prints this as one line, which is the file BUILD, and which `make install` also puts into the program, as a section
+`pages.py --build` prints this as one line, which is the file BUILD, and which `make install` also puts into both programs, as a section
 that is not loaded."""
 import glob
 import os

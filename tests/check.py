@@ -1,20 +1,23 @@
 #!/usr/bin/env python3
 """Runs tmpl-check over files with what is wrong in them, worked out by hand, and holds it against tmpl on random files.
 
-The first error must be at the line and of the reason that tmpl tells, and there must be one exactly where tmpl refuses the file.
+The first error must be at the line and of the reason that tmpl tells, and there must be one exactly where tmpl refuses the file. What is
+put out as SARIF is held against the rules of its specification, which `sarif_faults` names by their sections.
 """
 import json
 import os
 import random
 import re
+import shutil
 import subprocess
 import sys
 import tempfile
+import urllib.parse
 
 from harness import CHECKER as CHECK
 from harness import PROGRAM as TMPL
 from harness import SECONDS, build_shim, closing
-from rows_check import DATA, ROWS
+from rows_check import DATA, FILES, ROWS
 
 LINE = re.compile(r"(.+?):([1-9][0-9]*):([1-9][0-9]*): (error|warning): (.*)")
 
@@ -45,7 +48,7 @@ def hold(title, what, expected, came, failures):
 
 def rows(folder, failures):
     """Each row by its lines and its status, and as JSON and SARIF."""
-    for title, text, lines in ROWS:
+    for title, text, lines in ROWS + FILES:
         write(folder, "m", text)
         status, out, err = run(CHECK, ["m"], folder)
         hold(title, "lines", "".join(f"m:{line}\n" for line in lines), out.decode(), failures)
@@ -70,13 +73,112 @@ def forms(folder, words, title, lines, failures):
     hold(title, "JSON", lines, told, failures)
     status, out, _ = run(CHECK, ["--format", "sarif", *words], folder)
     log = json.loads(out)
-    hold(title, "version of SARIF", ("2.1.0", 1), (log["version"], len(log["runs"])), failures)
+    hold(title, "faults of SARIF", [], list(sarif_faults(log)), failures)
     told = []
     for it in log["runs"][0]["results"]:
         (place,) = it["locations"]
         region = place["physicalLocation"]["region"]
         told.append(f"{region['startLine']}:{region['startColumn']}: {it['level']}: {it['message']['text']}")
     hold(title, "SARIF", lines, told, failures)
+
+
+# what an object of SARIF 2.1.0 may have that tmpl-check puts out, by the section of its specification: the properties that it must have, and
+# those of the others that are used here
+OBJECTS = {
+    "3.13 sarifLog": ({"version", "runs"}, {"$schema"}),
+    "3.14 run": ({"tool"}, {"results", "columnKind"}),
+    "3.18 tool": ({"driver"}, set()),
+    "3.19 toolComponent": ({"name"}, {"rules"}),
+    "3.49 reportingDescriptor": ({"id"}, {"shortDescription"}),
+    "3.12 multiformatMessageString": ({"text"}, set()),
+    "3.27 result": ({"message"}, {"ruleId", "level", "locations"}),
+    "3.11 message": ({"text"}, set()),
+    "3.28 location": (set(), {"physicalLocation"}),
+    "3.29 physicalLocation": ({"artifactLocation"}, {"region"}),
+    "3.4 artifactLocation": ({"uri"}, set()),
+    "3.30 region": ({"startLine", "startColumn"}, set()),
+}
+# RFC 3986: a reference of these characters alone, and `%` only before two hexadecimal digits
+URI = re.compile(r"(?:[A-Za-z0-9\-._~:/?#\[\]@!$&'()*+,;=]|%[0-9A-Fa-f]{2})+")
+
+
+def sarif_faults(log):
+    """What is wrong with a log, by the sections of the specification of SARIF 2.1.0."""
+
+    def shaped(section, it):
+        must, may = OBJECTS[section]
+        if not isinstance(it, dict) or not must <= set(it) <= must | may:
+            yield f"{section}: {it!r}"
+
+    def text(section, it):
+        yield from shaped(section, it)
+        if not isinstance(it.get("text"), str) or not it["text"]:
+            yield f"{section}.text: {it!r}"
+
+    yield from shaped("3.13 sarifLog", log)
+    if log["version"] != "2.1.0":
+        yield f"3.13.2 version: {log['version']!r}"
+    for each in log["runs"]:
+        yield from shaped("3.14 run", each)
+        yield from shaped("3.18 tool", each["tool"])
+        driver = each["tool"]["driver"]
+        yield from shaped("3.19 toolComponent", driver)
+        if each.get("columnKind") != "unicodeCodePoints":  # else columns would count units of UTF-16
+            yield f"3.14.17 columnKind: {each.get('columnKind')!r}"
+        ids = [rule["id"] for rule in driver["rules"]]
+        if len(set(ids)) != len(ids):
+            yield f"3.19.23 rules: {ids!r}"
+        for rule in driver["rules"]:
+            yield from shaped("3.49 reportingDescriptor", rule)
+            yield from text("3.12 multiformatMessageString", rule["shortDescription"])
+        for result in each["results"]:
+            yield from shaped("3.27 result", result)
+            yield from text("3.11 message", result["message"])
+            if result["ruleId"] not in ids:
+                yield f"3.27.5 ruleId: {result['ruleId']!r}"
+            if result["level"] not in ("none", "note", "warning", "error"):
+                yield f"3.27.10 level: {result['level']!r}"
+            for place in result["locations"]:
+                yield from shaped("3.28 location", place)
+                yield from shaped("3.29 physicalLocation", place["physicalLocation"])
+                file = place["physicalLocation"]["artifactLocation"]
+                yield from shaped("3.4 artifactLocation", file)
+                if not URI.fullmatch(file["uri"]):
+                    yield f"3.4.3 uri: {file['uri']!r}"
+                region = place["physicalLocation"]["region"]
+                yield from shaped("3.30 region", region)
+                for name in ("startLine", "startColumn"):
+                    if not isinstance(region[name], int) or region[name] < 1:
+                        yield f"3.30.5, 3.30.6 {name}: {region[name]!r}"
+
+
+def uris(folder, failures):
+    """The names of files as URIs: each gives its name again, relative to the folder or from the root on."""
+    for name, uri in [("m", "m"), ("a b.tmpl", "a%20b.tmpl"), ("50%.tmpl", "50%25.tmpl"), ("é.tmpl", "%C3%A9.tmpl"), ("c:d?#[].tmpl", "c%3Ad%3F%23%5B%5D.tmpl"),
+                      ("sub/x-1_2~3.tmpl", "sub/x-1_2~3.tmpl"), (f"{folder}/m", "file://" + urllib.parse.quote(f"{folder}/m"))]:
+        os.makedirs(os.path.dirname(os.path.join(folder, name)), exist_ok=True)
+        write(folder, name, "{{name}}")
+        log = json.loads(run(CHECK, ["--format", "sarif", name], folder)[1])
+        hold(name, "faults of SARIF", [], list(sarif_faults(log)), failures)
+        (result,) = log["runs"][0]["results"]
+        told = result["locations"][0]["physicalLocation"]["artifactLocation"]["uri"]
+        hold(name, "URI", uri, told, failures)
+        hold(name, "name of the URI", name, urllib.parse.unquote(told.removeprefix("file://")), failures)
+
+
+def version(folder, failures):
+    """`--version` says what `make install` writes into the program, and in a checkout that nothing is written there."""
+    untold = b"tmpl-check of a checkout: make install writes into it which build it is\n"
+    hold("--version", "in a checkout", (0, untold, b""), run(CHECK, ["--version"], folder), failures)
+    if not shutil.which("objcopy"):
+        print("objcopy is not there: no build is written into a copy of the program")
+        return
+    for given, told in [("tmpl 0~git1 proved by the logic 2 of kit-3\n", b"tmpl-check of tmpl 0~git1 proved by the logic 2 of kit-3\n"),
+                        ("x" * 5000, b"tmpl-check of " + b"x" * 5000 + b"\n"), (b"\xff", untold)]:
+        write(folder, "note", given)
+        copy = os.path.join(folder, "copy")
+        subprocess.run(["objcopy", "--add-section", f".tmpl.build={folder}/note", CHECK, copy], check=True)
+        hold("--version", f"with {given[:20]!r} written", (0, told, b""), run(copy, ["--version"], folder), failures)
 
 
 def same_refusal(folder, title, failures):
@@ -90,7 +192,7 @@ def same_refusal(folder, title, failures):
     first = errors[0] if errors else None
     told = first and f"tmpl: m:{first[2]}: {first[5].split(': ')[0]}\n"
     hold(title, "first error beside tmpl", err.decode(), told, failures)
-    # what is said of it comes of the walk, which therefore found the same refusal first
+    # what is said of it is found apart, by what begins at the same place
     hold(title, "what is said of the first error", True, bool(first) and ": " in first[5], failures)
     places = [(int(found[2]), int(found[3])) for found in errors]
     hold(title, "each place once and in order", sorted(set(places)), places, failures)
@@ -165,11 +267,13 @@ def main():
     with tempfile.TemporaryDirectory(dir="/dev/shm" if os.access("/dev/shm", os.W_OK) else None) as folder:
         rows(folder, failures)
         words(folder, failures)
+        uris(folder, failures)
+        version(folder, failures)
         refused_memory(folder, failures)
         draws(folder, count, seed, failures)
     for failure in failures[:20]:
         print(failure)
-    passed = len(ROWS) + len(DATA) + count - len(failures)
+    passed = len(ROWS) + len(FILES) + len(DATA) + count - len(failures)
     return closing(max(passed, 0), len(failures))
 
 

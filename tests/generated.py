@@ -33,7 +33,7 @@ def output(*words, **how):
 
 
 def made():
-    for folder in ("man", "completions"):
+    for folder in ("man", "completions", "migration"):
         yield f"what {folder}/make.py makes", (0, ""), output(sys.executable, f"{harness.TOP}/{folder}/make.py", "--check")
 
 

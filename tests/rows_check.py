@@ -34,7 +34,11 @@ ROWS = [
         "1:11: " + UNREADABLE + '"/if" begins no action: a part begins with if, with or range and ends with end']),
     ("a name of a template without quotes", "{{template page .}}", ["1:1: " + NOT_UNDERSTOOD + 'no function "page": write "page"',
         ]),
-    ("a slip", "{{rnage .x}}{{.}}{{end}}", ["1:1: " + NOT_UNDERSTOOD + 'no function "rnage": write range']),
+    ("a slip", "{{rnage .x}}{{.}}{{end}}", ["1:1: " + NOT_UNDERSTOOD + 'no function "rnage": write range', "1:18: " + OUT_OF_PLACE + END]),
+    ("an unless", "{{unless .x}}a{{else}}b{{end}}", ["1:1: " + NOT_UNDERSTOOD + 'no function "unless": write {{if not .x}}']),
+    ("an each", "{{each .xs}}{{.}}{{break}}{{end}}", ["1:1: " + NOT_UNDERSTOOD + 'no function "each": write {{range .list}}']),
+    ("a function of a module", "{{strings.ToUpper .x}}", ["1:1: " + NOT_UNDERSTOOD
+        + 'no function "strings": write a template of examples/quotes, as {{template "upper" .x}}']),
     ("another slip", "{{lenght .x}}", ["1:1: " + NOT_UNDERSTOOD + 'no function "lenght": write len .x']),
     # each kind of token
     ("no token", "{{ }}", ["1:1: " + NOT_UNDERSTOOD + "the action is empty"]),
@@ -82,6 +86,26 @@ ROWS = [
     ("after one that can't be read", "{{.a ! .b}}\n{{name}}\n{{.c}}{{end}}", [
         "1:1: " + UNREADABLE + 'unexpected "!": write not .b', "2:1: " + NOT_UNDERSTOOD + 'no function "name": write .name',
         "3:7: " + OUT_OF_PLACE + END]),
+    ("a part around one that can't be read", "{{range .x}}{{.a ! .b}}{{end}}{{nofun 1}}", [
+        "1:13: " + UNREADABLE + 'unexpected "!": write not .b', "1:31: " + NOT_UNDERSTOOD + 'no function "nofun"']),
+    ("a part that can't be read", "{{if .a >= 1}}{{else}}{{end}}{{end}}", [
+        "1:1: " + UNREADABLE + '">=" is no operand: write ge .a 1', "1:30: " + OUT_OF_PLACE + END]),
+    ("a variable of one that can't be read", "{{$x := .a + 1}}{{$x}}",
+     ["1:1: " + UNREADABLE + 'unexpected "+": there is no arithmetic; compute it in the data']),
+    ("what is left open around one that can't be read", "{{if .x}}{{.a ! .b}}", [
+        "1:10: " + UNREADABLE + 'unexpected "!": write not .b', "1:21: " + OPEN + '"if" of line 1 is open at the end of the file']),
+    ("one of two lines that can't be read", "{{.a !\n .b}}\n{{name}}é{{name}}", [
+        "1:1: " + UNREADABLE + 'unexpected "!": write not .b', "3:1: " + NOT_UNDERSTOOD + 'no function "name": write .name',
+        "3:10: " + NOT_UNDERSTOOD + 'no function "name": write .name']),
+    ("two that can't be read, and one that can", "é{{.a !}}{{nofun 1}}{{'a}}", [
+        "1:2: " + UNREADABLE + 'unexpected "!": write not .x', "1:10: " + NOT_UNDERSTOOD + 'no function "nofun"',
+        "1:21: " + UNREADABLE + "a character in quotes is not closed in its line; a text stands in double quotes"]),
+    ("a variable of a part that ended", "{{if $y := .a}}{{$y}}{{end}}{{$y}}", ["1:29: " + UNDECLARED + 'variable "$y" is not declared']),
+    ("a variable of the part before an else", "{{if .a}}{{$y := 1}}{{$y}}{{else if $y}}{{end}}",
+     ["1:27: " + UNDECLARED + 'variable "$y" is not declared']),
+    ("before a trim marker", " \n  {{- name}}", ["2:3: " + NOT_UNDERSTOOD + 'no function "name": write .name']),
+    ("after a comment", "{{/* {{ */}}{{name}}", ["1:13: " + NOT_UNDERSTOOD + 'no function "name": write .name']),
+    ("after a text like an action", '{{"{{"}}{{name}}', ["1:9: " + NOT_UNDERSTOOD + 'no function "name": write .name']),
     ("columns in characters", "é☃{{name}}\t{{name}}", ["1:3: " + NOT_UNDERSTOOD + 'no function "name": write .name',
         "1:12: " + NOT_UNDERSTOOD + 'no function "name": write .name']),
     ("an action of several lines", "\n {{if\n  .x ==\n 1}}{{end}}", ["2:2: " + NOT_UNDERSTOOD + '"==" is no operand: write eq .x 1']),
@@ -117,4 +141,101 @@ DATA = [
     ("a number with a zero first", "[01]", ["1:3: " + JSON + "this is no number of JSON"]),
     ("a fraction before what is not JSON", "[1.5, x]", ["1:7: " + JSON + "a value is wanted"]),
     ("a key twice", '{"a": 1, "b": {"a": 2, "a": 3}}', ["1:24: warning: .b.a: the key is given twice, and the last counts"]),
+]
+
+# whole files, as people write them who come from other tools
+FILES = [
+    ("Helm: a deployment", """apiVersion: apps/v1
+kind: Deployment
+metadata:
+  name: {{ include "shop.fullname" . }}
+  labels:
+    {{- include "shop.labels" . | nindent 4 }}
+spec:
+  replicas: {{ .Values.replicaCount | default 1 }}
+  template:
+    spec:
+      {{- with .Values.imagePullSecrets }}
+      imagePullSecrets:
+        {{- toYaml . | nindent 8 }}
+      {{- end }}
+      containers:
+        - name: {{ .Chart.Name | quote }}
+""", ["4:9: " + NOT_UNDERSTOOD + 'no function "include": write {{template "name" .}}',
+      "6:5: " + NOT_UNDERSTOOD + 'no function "include": write {{template "name" .}}',
+      "8:13: " + NOT_UNDERSTOOD + 'no function "default": write or .x "d"',
+      "13:9: " + NOT_UNDERSTOOD + 'no function "toYaml": write {{template "to json" .x}} of examples/quotes',
+      "16:17: " + NOT_UNDERSTOOD
+      + 'no function "quote": write printf "%q" .x, or a template of examples/quotes for YAML, JSON or a shell']),
+    ("Helm: names", """{{- define "shop.name" -}}
+{{- default .Chart.Name .Values.nameOverride | trunc 63 | trimSuffix "-" }}
+{{- end }}
+{{- if and .Values.ingress.enabled (not (hasKey .Values "host")) }}
+{{- fail "no host" }}
+{{- end }}
+""", ["2:1: " + NOT_UNDERSTOOD + 'no function "default": write or .x "d"',
+      "4:1: " + NOT_UNDERSTOOD + 'no function "hasKey": write ne (index .x "k") nil',
+      "5:1: " + NOT_UNDERSTOOD + 'no function "fail": use --missingkey error']),
+    ("Helm: ports by a sum", """{{- range $i := until (int .Values.count) }}
+port: {{ add 8000 $i }}
+{{- end }}
+""", ["1:1: " + NOT_UNDERSTOOD + 'no function "until": write {{range 5}}',
+      "2:7: " + NOT_UNDERSTOOD + 'no function "add": there is no arithmetic: compute it in the data']),
+    ("gomplate: the environment", """listen {{ getenv "PORT" "80" }};
+{{ if eq (.Env.TLS | strings.ToLower) "on" }}tls{{ end }}
+{{ (ds "config").title | toUpper }}
+""", ["1:8: " + NOT_UNDERSTOOD + 'no function "getenv": put it into the data: a run reads only the files of its command line',
+      "2:1: " + NOT_UNDERSTOOD + 'no function "strings": write a template of examples/quotes, as {{template "upper" .x}}',
+      "3:1: " + NOT_UNDERSTOOD + 'no function "ds": put it into the data: a run reads only the files of its command line']),
+    ("consul-template: an upstream", """upstream web {
+{{ range service "web" }}
+  server {{ .Address }}:{{ .Port }};
+{{ else }}
+  server 127.0.0.1:65535;
+{{ end }}
+}
+root {{ key "web/root" }};
+""", ["2:1: " + NOT_UNDERSTOOD + 'no function "service": put it into the data: a run reads only the files of its command line',
+      "8:6: " + NOT_UNDERSTOOD + 'no function "key": put it into the data: a run reads only the files of its command line']),
+    ("Jinja: a list", """{{ title }}
+{{ for item in items }}
+  {{ item.name }}: {{ item.price * 2 }}
+{{ endfor }}
+""", ["1:1: " + NOT_UNDERSTOOD + 'no function "title": change the text in the data',
+      "2:1: " + NOT_UNDERSTOOD + 'no function "for": write {{range .list}}',
+      "3:3: " + NOT_UNDERSTOOD + 'no function "item"',
+      "3:20: " + UNREADABLE + 'unexpected "*": there is no arithmetic; compute it in the data',
+      "4:1: " + NOT_UNDERSTOOD + 'no function "endfor": write {{end}}']),
+    ("Handlebars: a list", """{{#each people}}
+  {{#if admin}}*{{else}}-{{/if}} {{name}}
+{{/each}}
+""", ["1:1: " + UNREADABLE + '"#each" begins no action: a part begins with if, with or range and ends with end',
+      "2:3: " + UNREADABLE + '"#if" begins no action: a part begins with if, with or range and ends with end',
+      "2:26: " + UNREADABLE + '"/if" begins no action: a part begins with if, with or range and ends with end',
+      "2:34: " + NOT_UNDERSTOOD + 'no function "name": write .name',
+      "3:1: " + UNREADABLE + '"/each" begins no action: a part begins with if, with or range and ends with end']),
+    ("operators as in programs", """{{if .age >= 18 && .name != "Ada"}}
+{{.list[0]}}
+{{else if !.ok}}
+{{.a.b-c}}
+{{end}}
+""", ["1:1: " + UNREADABLE + '">=" is no operand: write ge .age 18',
+      "2:1: " + UNREADABLE + 'unexpected "[": write index, as in index .list 0',
+      "3:1: " + UNREADABLE + 'unexpected "!": write not .ok',
+      "4:1: " + UNREADABLE + 'unexpected "-": write index .a "b-c"']),
+    ("fields and numbers", """{{name}} {{.s.0}} {{1.5}}
+{{if .name == "Ada"}}{{.n | add 1}}{{end}}
+{{range $i, $e := .xs}}{{if $i}}, {{end}}{{$e}}{{end}}
+{{$total}}
+""", ["1:1: " + NOT_UNDERSTOOD + 'no function "name": write .name',
+      "1:10: " + NOT_UNDERSTOOD + 'no field ".0": write index .s 0',
+      "1:19: " + NOT_UNDERSTOOD + "number 1.5 is not whole",
+      "2:1: " + NOT_UNDERSTOOD + '"==" is no operand: write eq .name "Ada"',
+      "2:22: " + NOT_UNDERSTOOD + 'no function "add": there is no arithmetic: compute it in the data',
+      "4:1: " + UNDECLARED + 'variable "$total" is not declared']),
+    ("a part that is not closed", """{{define "row"}}
+<td>{{.}}</td>
+{{if .x}}
+{{end}}
+""", ["5:1: " + OPEN + '"define" of line 1 is open at the end of the file']),
 ]

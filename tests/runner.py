@@ -33,7 +33,7 @@ TESTS = {
     "rendered-by-rattle": f"{BY_RATTLE} python3 {harness.TESTS}/rendered.py",
     **{name: f"{name}.py" for name in (
         "places", "tables", "prefixes", "printing", "random_sets", "calls", "kept", "instructions", "lent_memory", "writes", "sweep",
-        "memory", "counts", "hostile", "generated", "quotes", "documents", "library", "ports", "web", "check", "verdicts",
+        "memory", "counts", "hostile", "generated", "quotes", "documents", "library", "ports", "web", "check", "migration", "verdicts",
     )},
 }
 

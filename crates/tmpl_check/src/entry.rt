@@ -1,5 +1,6 @@
 //! What is found, and why the command may end before it is told.
 
+use crate::rule::Rule;
 use std::alloc::{AllocError, AllocFailed};
 
 /// How grave it is.
@@ -26,8 +27,7 @@ pub(crate) struct Entry<'a> {
     pub(crate) level: Level,
     pub(crate) line: u64,
     pub(crate) column: u64,
-    /// What kind of thing it is, in words with hyphens.
-    pub(crate) rule: &'static str,
+    pub(crate) rule: Rule,
     pub(crate) text: String,
 }
 

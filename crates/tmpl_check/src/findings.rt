@@ -2,15 +2,16 @@
 
 use crate::entry::{Entry, Level};
 use crate::files::{AllLoaded, Loaded};
+use crate::rule::{
+    KEY_GIVEN_TWICE, NEVER_CALLED, NO_SUCH_TEMPLATE, Rule, SUSPICIOUS, data_rule_of, rule_of,
+};
 use crate::schema::add_schema;
 use crate::words::Request;
 use indexmap::IndexSet;
 use std::alloc::{AllocError, Global};
-use tmpl_problems::{
-    DataProblem, DataReason, DataReport, Named, Problem, Refusals, Survey, check_data, check_file,
-    data_words, reason_words, survey_file,
-};
-use tmpl_syntax::{NameHash, ParseKind, Set, base_name};
+use tmpl_data_problems::{DataProblem, DataReason, DataReport, check_data};
+use tmpl_problems::{Named, Problem, Problems, Survey, check_file, reason_words, survey_file};
+use tmpl_syntax::{NameHash, Set, base_name};
 
 /// What is found, file by file.
 #[derive(Debug, Drop)]
@@ -31,17 +32,18 @@ impl<'a> Findings<'a> {
         self.entries.iter().any(|entry| entry.level == Level::Error)
     }
 
-    /// Adds the refusals of a file.
-    fn add_refusals(
+    /// Adds what is wrong in a file.
+    fn add_problems(
         &mut self,
         alloc: Global,
         file: &'a str,
-        refusals: Refusals,
+        problems: Problems,
     ) -> Result<(), AllocError> {
-        let Refusals { first, more } = refusals;
-        self.entries.push(refusal_entry(alloc, file, first)?)?;
-        for problem in more.into_iter() {
-            self.entries.push(refusal_entry(alloc, file, problem)?)?;
+        for problem in problems.refused.into_iter() {
+            self.entries.push(problem_entry(alloc, file, problem)?)?;
+        }
+        for problem in problems.beyond.into_iter() {
+            self.entries.push(problem_entry(alloc, file, problem)?)?;
         }
         Ok(())
     }
@@ -51,7 +53,7 @@ impl<'a> Findings<'a> {
         &mut self,
         file: &'a str,
         place: (u64, u64),
-        rule: &'static str,
+        rule: Rule,
         text: String,
     ) -> Result<(), AllocError> {
         self.entries.push(Entry {
@@ -82,14 +84,14 @@ impl<'a> Findings<'a> {
             self.warn(
                 file,
                 (warning.line, warning.column),
-                "suspicious",
+                SUSPICIOUS,
                 warning.text,
             )?;
         }
         for call in called.as_slice() {
             if !templates.defined.contains(call.name) {
                 let text = about(alloc, "no file defines the template ", call.name, "")?;
-                self.warn(file, (call.line, call.column), "no-such-template", text)?;
+                self.warn(file, (call.line, call.column), NO_SUCH_TEMPLATE, text)?;
             }
         }
         Ok(())
@@ -110,7 +112,7 @@ impl<'a> Findings<'a> {
                 self.warn(
                     file,
                     (definition.line, definition.column),
-                    "never-called",
+                    NEVER_CALLED,
                     text,
                 )?;
             }
@@ -135,7 +137,7 @@ impl<'a> Findings<'a> {
             asked.as_bytes(),
             " of --name",
         )?;
-        self.warn(file, (1, 1), "no-such-template", text)
+        self.warn(file, (1, 1), NO_SUCH_TEMPLATE, text)
     }
 
     /// Adds what is wrong in data.
@@ -152,7 +154,7 @@ impl<'a> Findings<'a> {
             self.warn(
                 data.name,
                 (warning.line, warning.column),
-                "key-given-twice",
+                KEY_GIVEN_TWICE,
                 warning.text,
             )?;
         }
@@ -167,7 +169,7 @@ impl<'a> Findings<'a> {
         reason: DataReason,
         problems: Vec<DataProblem>,
     ) -> Result<(), AllocError> {
-        let words = data_words(reason);
+        let words = reason.words();
         if problems.is_empty() {
             self.entries.push(data_entry(file, reason, (1, 1), String::from_str(alloc, words)?))?;
         }
@@ -181,49 +183,35 @@ impl<'a> Findings<'a> {
 
 /// Something wrong in data.
 fn data_entry<'a>(file: &'a str, reason: DataReason, place: (u64, u64), text: String) -> Entry<'a> {
-    let rule = match reason {
-        DataReason::NotJson => "not-json",
-        DataReason::NotWhole => "number-not-whole",
-    };
     Entry {
         file,
         level: Level::Error,
         line: place.0,
         column: place.1,
-        rule,
+        rule: data_rule_of(reason),
         text,
     }
 }
 
-/// A refusal of a file.
-fn refusal_entry<'a>(
+/// Something wrong in a file.
+fn problem_entry<'a>(
     alloc: Global,
     file: &'a str,
     problem: Problem,
 ) -> Result<Entry<'a>, AllocError> {
+    let refusal = problem.refusal;
     Ok(Entry {
         file,
         level: Level::Error,
-        line: problem.line,
-        column: problem.column,
-        rule: rule_of(problem.kind),
-        text: joined(alloc, reason_words(problem.kind), problem.detail.as_str())?,
+        line: refusal.refused.line,
+        column: refusal.column,
+        rule: rule_of(refusal.refused.kind),
+        text: joined(
+            alloc,
+            reason_words(refusal.refused.kind),
+            problem.detail.as_str(),
+        )?,
     })
-}
-
-/// The rule that a refusal for this reason breaks.
-fn rule_of(kind: ParseKind) -> &'static str {
-    match kind {
-        ParseKind::Unreadable => "unreadable",
-        ParseKind::NotAnAction => "not-understood",
-        ParseKind::OutOfPlace => "out-of-place",
-        ParseKind::UndeclaredVariable => "undeclared-variable",
-        ParseKind::OpenAtEnd => "open-at-end",
-        ParseKind::NestedTooDeeply => "nested-too-deeply",
-        ParseKind::TooLong => "too-long",
-        ParseKind::SecondDefinition => "second-definition",
-        ParseKind::OutOfMemory => "out-of-memory",
-    }
 }
 
 /// A reason and what more is said of it.
@@ -263,15 +251,8 @@ pub(crate) fn findings_of<'a>(
     let templates = templates_in(alloc, hash, loaded.templates.as_slice(), surveys.as_slice())?;
     let mut set = Set::with_hash(alloc, hash);
     for (file, survey) in loaded.templates.as_slice().iter().zip(surveys.into_iter()) {
-        if let Some(refusals) = check_file(
-            alloc,
-            &mut set,
-            hash,
-            file.name,
-            file.bytes.as_slice(),
-        )? {
-            findings.add_refusals(alloc, file.name, refusals)?;
-        }
+        let problems = check_file(alloc, &mut set, hash, file.name, file.bytes.as_slice())?;
+        findings.add_problems(alloc, file.name, problems)?;
         if let Some(asked) = request.name {
             let defined = survey.defined.as_slice();
             findings.add_uncalled(alloc, file.name, asked, defined, &templates)?;

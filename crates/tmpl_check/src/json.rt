@@ -18,23 +18,22 @@ pub(crate) fn document(alloc: Global, findings: &Findings<'_>) -> Result<String,
 
 /// Adds what is found as an object.
 fn push_entry(alloc: Global, out: &mut String, entry: &Entry<'_>) -> Result<(), AllocError> {
-    let file = quoted(alloc, entry.file)?;
-    let text = quoted(alloc, entry.text.as_str())?;
+    out.push_str("{\"file\":")?;
+    push_quoted(alloc, out, entry.file)?;
     let line = entry.line;
     let column = entry.column;
     let level = entry.level.word();
-    let rule = entry.rule;
+    let rule = entry.rule.id;
     write!(
         out,
-        "{{\"file\":{file},\"line\":{line},\"column\":{column},"
+        ",\"line\":{line},\"column\":{column},\"level\":\"{level}\",\"rule\":\"{rule}\",\"text\":"
     )?;
-    write!(
-        out,
-        "\"level\":\"{level}\",\"rule\":\"{rule}\",\"text\":{text}}}"
-    )
+    push_quoted(alloc, out, entry.text.as_str())?;
+    out.push_str("}")
 }
 
-/// A text as JSON.
-pub(crate) fn quoted(alloc: Global, text: &str) -> Result<String, AllocError> {
-    Value::String(String::from_str(alloc, text)?).to_string(alloc)
+/// Adds a text as JSON.
+pub(crate) fn push_quoted(alloc: Global, out: &mut String, text: &str) -> Result<(), AllocError> {
+    let value = Value::String(String::from_str(alloc, text)?);
+    out.push_str(value.to_string(alloc)?.as_str())
 }

@@ -1,15 +1,18 @@
 //! The command `tmpl-check`: says all that is wrong in template files and data, where, and what to write instead.
 #![tactic(auto)]
 
+mod build;
 mod entry;
 mod files;
 mod findings;
 mod json;
+mod rule;
 mod sarif;
 mod schema;
 mod text;
 mod words;
 
+use crate::build::version_line;
 use crate::entry::Stop;
 use crate::findings::{Findings, findings_of};
 use crate::words::{Format, Request, command, request_of};
@@ -51,6 +54,10 @@ fn run(rt: &HostRuntime) -> Result<u8, Stop> {
             check(rt, &request)
         }
         Err(error) if error.kind() == ErrorKind::OutOfMemory => Err(Stop::OutOfMemory),
+        Err(error) if error.kind() == ErrorKind::DisplayVersion => {
+            write_all(rt, version_line(rt)?.as_str())?;
+            Ok(0)
+        }
         Err(error) => match error.print(rt) {
             Ok(()) if error.use_stderr() => Ok(2),
             Ok(()) => Ok(0),

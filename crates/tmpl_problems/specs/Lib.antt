@@ -1,3 +1,2 @@
-pub mod Judged
-pub mod JudgedData
-pub mod Place
+pub mod Checked
+pub mod Words

@@ -1,18 +1,22 @@
 //! The call that says all that is wrong in a file.
-ghost use Rattle.std.specs.Prelude.{◌≡◌, IfOk};
+ghost use Rattle.std.specs.Prelude.{◌≡◌, All, IfOk, length, map, take};
 ghost use Rattle.tmpl_syntax.specs.View.{set_view};
-ghost use Rattle.tmpl_problems.specs.Judged.{IsJudged};
+ghost use Rattle.tmpl_refusals.specs.Column.{IsPlace};
+ghost use Rattle.tmpl_refusals.specs.Examine.{Examined, IsLocated, refused_in};
+ghost use Rattle.tmpl_problems.specs.Checked.{refusal_in};
 
 use crate::definitions::second_definition;
-use crate::detail::left_open;
-use crate::problem::{Problem, Refusals};
-use crate::walk::walk_actions;
+use crate::explain::explain;
+use crate::merge::{beyond_of, merge};
+use crate::problem::{Problem, Problems};
+use crate::readable::read_on;
 use std::alloc::{AllocError, Global};
-use tmpl_syntax::{NameHash, ParseKind, Set, parse_file};
+use tmpl_refusals::{Place, Refusal, examine_file};
+use tmpl_syntax::{NameHash, ParseKind, Set};
 
-/// Adds the templates of a file to the set, or says all for which it is refused: the first refused action, then those
-/// that are refused where each refused one before counts as not there, or as the bare opening, `else` or `end` that its
-/// first word is. After a refusal the set is as it was.
+/// Adds the templates of a file to the set, or says all for which it is refused, in the order of the file: what `examine_file`
+/// gives, each with what is wrong in words; and what more is wrong after an action that can't be read. After a refusal the set
+/// is as it was.
 ///
 /// # Errors
 ///
@@ -23,114 +27,167 @@ pub fn check_file(
     hash: NameHash,
     file: &str,
     bytes: &[u8],
-) -> Result<Option<Refusals>, AllocError>
-    ensures { IfOk result (λ refusals. IsJudged (set_view set.old) file.now bytes.now (set_view set.new) refusals) }
+) -> Result<Problems, AllocError>
+    ensures examined { IfOk result (λ p. Examined (set_view set.old) file.now bytes.now (set_view set.new)
+        (map refused_in (map refusal_in p.refused.items))) }
+    ensures located { IfOk result (λ p. All (IsLocated bytes.now) (map refusal_in p.refused.items)) }
 {
-    match parse_file(alloc, set, file, bytes) {
-        Ok(()) => Ok(None),
-        Err(fault) => match fault.kind {
-            ParseKind::OutOfMemory => Err(AllocError),
-            kind => Ok(Some(refusals_from(alloc, hash, file, bytes, fault.line, kind)?)),
-        },
-    }
+    let refusals = examine_file(alloc, hash, set, file, bytes)?;
+    Ok(explained(alloc, hash, file, bytes, refusals.as_slice())?)
 }
 
-/// The refusals of a file that the parser refuses at this line for this reason.
-fn refusals_from(
+/// The refusals of a file, each with what is wrong in words, and what more is wrong.
+fn explained(
     alloc: Global,
     hash: NameHash,
     file: &str,
     bytes: &[u8],
-    line: u64,
-    kind: ParseKind,
-) -> Result<Refusals, AllocError>
-    ensures line { IfOk result (λ refusals. refusals.first.line ≡ line) }
-    ensures kind { IfOk result (λ refusals. refusals.first.kind ≡ kind) }
+    refusals: &[Refusal],
+) -> Result<Problems, AllocError>
+    requires { All (IsLocated bytes.now) refusals.now }
+    ensures refused { IfOk result (λ p. map refused_in (map refusal_in p.refused.items) ≡ map refused_in refusals.now) }
+    ensures located { IfOk result (λ p. All (IsLocated bytes.now) (map refusal_in p.refused.items)) }
 {
-    let more = Vec::new(alloc);
-    match kind {
-        ParseKind::TooLong => Ok(Refusals {
-            first: first_problem(
-                line,
-                kind,
-                String::from_str(alloc, "a file has at most 16,777,216 bytes")?,
-            ),
-            more,
-        }),
-        ParseKind::SecondDefinition => {
-            let found = second_definition(alloc, hash, file, bytes, line)?;
-            Ok(Refusals {
-                first: Problem {
-                    line,
-                    kind,
-                    ..found
-                },
-                more,
-            })
+    match kind_in(refusals) {
+        None => Ok(alone(alloc, refusals, String::new(alloc))?),
+        Some(ParseKind::TooLong) => {
+            let detail = String::from_str(alloc, "a file has at most 16,777,216 bytes")?;
+            Ok(alone(alloc, refusals, detail)?)
         }
-        _ => walked(alloc, hash, bytes, line, kind),
+        Some(ParseKind::SecondDefinition) => {
+            let second = second_definition(alloc, hash, file, bytes, line_in(refusals))?;
+            let moved = moved_to(alloc, bytes, second.place, refusals)?;
+            Ok(alone(alloc, moved.as_slice(), second.detail)?)
+        }
+        Some(_) => Ok(of_actions(alloc, hash, bytes, refusals)?),
     }
 }
 
-/// A problem at the first column.
-fn first_problem(line: u64, kind: ParseKind, detail: String) -> Problem
-    ensures line { result.line ≡ line }
-    ensures kind { result.kind ≡ kind }
-{
-    Problem {
-        start: 0,
-        line,
-        column: 1,
-        kind,
-        detail,
+/// Why a file is refused that has these refusals, if it is.
+fn kind_in(refusals: &[Refusal]) -> Option<ParseKind> {
+    Some(refusals.first()?.refused.kind)
+}
+
+/// The line at which a file is refused that has these refusals.
+fn line_in(refusals: &[Refusal]) -> u64 {
+    match refusals {
+        [] => 1,
+        [first, ..] => first.refused.line,
     }
 }
 
-/// The refusals that a walk over the actions finds, of which the first is at this line for this reason.
-fn walked(
+/// These refusals, of which those of a second definition are at this place.
+fn moved_to(
     alloc: Global,
-    hash: NameHash,
     bytes: &[u8],
-    line: u64,
-    kind: ParseKind,
-) -> Result<Refusals, AllocError>
-    ensures line { IfOk result (λ refusals. refusals.first.line ≡ line) }
-    ensures kind { IfOk result (λ refusals. refusals.first.kind ≡ kind) }
+    place: Place,
+    refusals: &[Refusal],
+) -> Result<Vec<Refusal>, AllocError>
+    requires place { IsPlace bytes.now place }
+    requires located { All (IsLocated bytes.now) refusals.now }
+    ensures refused { IfOk result (λ v. map refused_in v.items ≡ map refused_in refusals.now) }
+    ensures located { IfOk result (λ v. All (IsLocated bytes.now) v.items) }
 {
-    let mut problems = problems_in(alloc, hash, bytes)?;
-    let is_found = problems
-        .first()
-        .is_some_and(|problem| problem.line == line && problem.kind == kind);
-    if is_found && problems.len() > 0 {
-        let first = Problem {
-            line,
-            kind,
-            ..problems.remove(0)
-        };
-        return Ok(Refusals {
-            first,
-            more: problems,
-        });
+    let mut moved = Vec::new(alloc);
+    for refusal in refusals {
+        moved.push(placed(bytes, place, *refusal))?;
     }
-    Ok(Refusals {
-        first: first_problem(line, kind, String::new(alloc)),
-        more: problems,
+    Ok(moved)
+}
+
+/// The refusal, at this place if it is of a second definition.
+fn placed(bytes: &[u8], place: Place, refusal: Refusal) -> Refusal
+    requires place { IsPlace bytes.now place }
+    requires located { IsLocated bytes.now refusal }
+    ensures refused { result.refused ≡ refusal.refused }
+    ensures located { IsLocated bytes.now result }
+{
+    match refusal.refused.kind {
+        ParseKind::SecondDefinition => Refusal {
+            start: place.start,
+            column: place.column,
+            ..refusal
+        },
+        _ => refusal,
+    }
+}
+
+/// These refusals, of which the first has this detail.
+fn alone(alloc: Global, refusals: &[Refusal], detail: String) -> Result<Problems, AllocError>
+    ensures { IfOk result (λ p. map refusal_in p.refused.items ≡ refusals.now) }
+{
+    let mut details = Vec::new(alloc);
+    details.push(detail)?;
+    Ok(Problems {
+        refused: with_details(alloc, refusals, &mut details)?,
+        beyond: Vec::new(alloc),
     })
 }
 
-/// The problems that a walk over the actions finds.
-fn problems_in(alloc: Global, hash: NameHash, bytes: &[u8]) -> Result<Vec<Problem>, AllocError> {
-    let walk = walk_actions(alloc, hash, bytes)?;
-    let open = walk.open_at_end();
-    let mut problems = walk.problems;
-    if let Some((frame, depth)) = open {
-        let end = frame.place.at(bytes, bytes.len());
+/// The refusals of the actions of a file.
+fn of_actions(
+    alloc: Global,
+    hash: NameHash,
+    bytes: &[u8],
+    refusals: &[Refusal],
+) -> Result<Problems, AllocError>
+    ensures { IfOk result (λ p. map refusal_in p.refused.items ≡ refusals.now) }
+{
+    let mut found = found_in(alloc, hash, bytes, refusals)?;
+    let mut details = Vec::new(alloc);
+    for _ in refusals {
+        if let Some(problem) = found.pop() {
+            details.push(problem.detail)?;
+        }
+    }
+    details.reverse();
+    Ok(Problems {
+        refused: with_details(alloc, refusals, &mut details)?,
+        beyond: beyond_of(alloc, bytes, found)?,
+    })
+}
+
+/// What is wrong with the actions of a file that has these refusals, the last one first: as many as they, and then what is wrong
+/// after an action that can't be read.
+fn found_in(
+    alloc: Global,
+    hash: NameHash,
+    bytes: &[u8],
+    refusals: &[Refusal],
+) -> Result<Vec<Problem>, AllocError> {
+    match refusals {
+        [.., last] if matches!(last.refused.kind, ParseKind::Unreadable) => {
+            let readable = read_on(alloc, bytes)?;
+            let mut set = Set::with_hash(alloc, hash);
+            let told = examine_file(alloc, hash, &mut set, "", readable.bytes.as_slice())?;
+            let problems = explain(alloc, hash, readable.bytes.as_slice(), told.as_slice())?;
+            merge(alloc, readable.gaps, problems)
+        }
+        _ => {
+            let mut problems = explain(alloc, hash, bytes, refusals)?;
+            problems.reverse();
+            Ok(problems)
+        }
+    }
+}
+
+/// These refusals, each with the last of the details that are left.
+fn with_details(
+    alloc: Global,
+    refusals: &[Refusal],
+    details: &mut Vec<String>,
+) -> Result<Vec<Problem>, AllocError>
+    ensures { IfOk result (λ v. map refusal_in v.items ≡ refusals.now) }
+{
+    let mut problems = Vec::new(alloc);
+    for refusal in refusals {
+        let detail = match details.pop() {
+            Some(text) => text,
+            None => String::new(alloc),
+        };
         problems.push(Problem {
-            start: end.start,
-            line: end.line,
-            column: end.column,
-            kind: ParseKind::OpenAtEnd,
-            detail: left_open(alloc, frame, depth)?,
+            refusal: *refusal,
+            detail,
         })?;
     }
     Ok(problems)

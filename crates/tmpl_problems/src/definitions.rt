@@ -1,14 +1,14 @@
 //! The templates that a file defines and calls, by the tokens of its actions.
+ghost use Rattle.std.specs.Prelude.{IfOk};
+ghost use Rattle.tmpl_refusals.specs.Column.{IsPlace};
 
-use crate::action::significant;
-use crate::place::Place;
-use crate::problem::Problem;
-use crate::scan::{opened_at, rest_after};
-use crate::sentence::Sentence;
+use crate::scan::place_in;
 use indexmap::IndexMap;
 use std::alloc::{AllocError, Global};
+use tmpl_hints::{Sentence, significant};
 use tmpl_lex::{Rest, Token, TokenKind, first_part};
-use tmpl_syntax::{NameHash, ParseKind, base_name};
+use tmpl_refusals::Place;
+use tmpl_syntax::{NameHash, base_name};
 
 /// The name in quotes that stands second in an action which begins with this word; none where it has a backslash.
 pub(crate) fn name_after<'b>(tokens: &[Token<'b>], words: &[&[u8]]) -> Option<&'b [u8]> {
@@ -22,6 +22,13 @@ pub(crate) fn name_after<'b>(tokens: &[Token<'b>], words: &[&[u8]]) -> Option<&'
     }
 }
 
+/// A second definition: where it is, and what is said of it.
+#[derive(Drop)]
+pub(crate) struct Second {
+    pub(crate) place: Place,
+    pub(crate) detail: String,
+}
+
 /// The second definition on this line, and where the first of its name is.
 pub(crate) fn second_definition(
     alloc: Global,
@@ -29,56 +36,49 @@ pub(crate) fn second_definition(
     file: &str,
     bytes: &[u8],
     line: u64,
-) -> Result<Problem, AllocError> {
-    let headers: [&[u8]; 2] = [b"define", b"block"];
-    let mut first: IndexMap<&[u8], Place, NameHash> = IndexMap::with_hasher(alloc, hash);
+) -> Result<Second, AllocError>
+    ensures { IfOk result (λ s. IsPlace bytes.now s.place) }
+{
+    let mut first: IndexMap<&[u8], u64, NameHash> = IndexMap::with_hasher(alloc, hash);
     let mut tokens = Vec::new(alloc);
     let mut place = Place::first();
     let mut rest = Rest::of(bytes);
     loop {
         let part = first_part(bytes, rest, &mut tokens)?;
-        let opened = opened_at(bytes, rest);
-        if let (Some(opened), Some(name)) = (opened, name_after(tokens.as_slice(), &headers)) {
-            place = place.at(bytes, opened.start);
-            match first.get(name) {
+        if let Some(name) = name_after(tokens.as_slice(), &[b"define", b"block"]) {
+            place = place_in(place, bytes, part.opens);
+            match first.get(name).copied() {
                 Some(earlier) if place.line == line => {
-                    return second_problem(alloc, name, place, *earlier);
+                    return Ok(Second {
+                        place,
+                        detail: second_text(alloc, name, earlier)?,
+                    });
                 }
                 Some(_) => {}
                 None => {
-                    first.insert(name, place)?;
+                    first.insert(name, place.line)?;
                 }
             }
         }
-        match rest_after(bytes, rest, part) {
+        match part.rest {
             Some(next) => rest = next,
             None => break,
         }
     }
     let name = base_name(file);
-    match first.get(name) {
-        Some(earlier) => second_problem(alloc, name, Place::first(), *earlier),
-        None => second_problem(alloc, name, Place::first(), Place::first()),
-    }
+    let earlier = first.get(name).copied().unwrap_or(1);
+    Ok(Second {
+        place: Place::first(),
+        detail: second_text(alloc, name, earlier)?,
+    })
 }
 
-/// What is said of a second definition of this name.
-fn second_problem(
-    alloc: Global,
-    name: &[u8],
-    place: Place,
-    earlier: Place,
-) -> Result<Problem, AllocError> {
+/// What is said of a second definition of this name, of which the first is on this line.
+fn second_text(alloc: Global, name: &[u8], earlier: u64) -> Result<String, AllocError> {
     let said = Sentence::new(alloc)
         .say("second definition of ")?
         .quote(name)?
         .say(", the first in line ")?
-        .count(earlier.line)?;
-    Ok(Problem {
-        start: place.start,
-        line: place.line,
-        column: place.column,
-        kind: ParseKind::SecondDefinition,
-        detail: said.done(),
-    })
+        .count(earlier)?;
+    Ok(said.done())
 }

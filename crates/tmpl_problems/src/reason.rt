@@ -1,9 +1,13 @@
 //! The words for a reason.
+ghost use Rattle.std.specs.Prelude.{◌≡◌};
+ghost use Rattle.tmpl_problems.specs.Words.{words_for};
 
 use tmpl_syntax::ParseKind;
 
 /// Why a file is refused, in the words that `tmpl` has for it.
-pub fn reason_words(kind: ParseKind) -> &'static str {
+pub fn reason_words(kind: ParseKind) -> &'static str
+    ensures { result.now ≡ words_for kind }
+{
     match kind {
         ParseKind::Unreadable => "unclosed or unreadable action",
         ParseKind::NotAnAction => "action not understood",

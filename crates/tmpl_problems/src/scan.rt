@@ -1,29 +1,18 @@
 //! The actions of a file, also those after one that can't be read.
 ghost use Rattle.std.specs.Prelude.{◌≡◌, ◌≤◌, ◌<◌, ◌+◌, length};
 ghost use Rattle.tmpl_lex.specs.Part.{IsLeft, IsLeftAfter};
+ghost use Rattle.tmpl_refusals.specs.Column.{IsPlace};
 
-use tmpl_lex::{AfterText, Part, Rest, is_space};
+use tmpl_hints::opens_comment;
+use tmpl_lex::{AfterText, Part, Rest};
+use tmpl_refusals::Place;
 
-/// What begins with a `{{`: how many bytes of the file stand before it, and the bytes after it.
-#[derive(Clone, Copy, Debug)]
-pub(crate) struct Opened<'b> {
-    pub(crate) start: usize,
-    pub(crate) after: &'b [u8],
-}
-
-/// What begins with the first `{{` that is left of a file.
-pub(crate) fn opened_at<'b>(file: &[u8], rest: Rest<'b>) -> Option<Opened<'b>> {
-    let before = pair_at(rest.bytes, b'{')?;
-    let after = rest.bytes.get(before.saturating_add(2)..)?;
-    let start = file.len().saturating_sub(after.len()).saturating_sub(2);
-    Some(Opened { start, after })
-}
-
-/// How many bytes stand before the first place where this byte stands twice.
-fn pair_at(bytes: &[u8], byte: u8) -> Option<usize> {
-    bytes
-        .windows(2)
-        .position(|pair| pair.iter().all(|b| *b == byte))
+/// The place of this byte of a file, or of its end if it has fewer.
+pub(crate) fn place_in(place: Place, file: &[u8], start: usize) -> Place
+    requires { IsPlace file.now place }
+    ensures { IsPlace file.now result }
+{
+    place.at(file, start.min(file.len()))
 }
 
 /// What is left after a part; after an action that can't be read, what stands after its first `}}`, or from the next
@@ -34,31 +23,25 @@ pub(crate) fn rest_after<'b>(file: &'b [u8], rest: Rest<'b>, part: Part<'b>) -> 
     ensures { IsLeftAfter file.now rest.entry result }
 {
     match part.after {
-        AfterText::Unreadable(_) => rest_past(file, rest, skipped(rest)?),
+        AfterText::Unreadable(_) => rest_past(file, rest, skipped(file, rest, part.opens)?),
         _ => part.rest,
     }
 }
 
-/// How many bytes an action takes that can't be read, with the text before it; none where nothing is left after it. A
-/// comment that is not closed takes all up to its `*/`.
-fn skipped(rest: Rest<'_>) -> Option<usize> {
-    let open = pair_at(rest.bytes, b'{')?.saturating_add(2);
-    let inside = rest.bytes.get(open..)?;
+/// How many bytes of what is left stand before the end of the action that begins there and can't be read; none where nothing
+/// is left after it. A comment that is not closed takes all up to its `*/`.
+fn skipped(file: &[u8], rest: Rest<'_>, opens: usize) -> Option<usize> {
+    let inside = file.get(opens.saturating_add(2)..)?;
     let taken = if opens_comment(inside) {
         comment_len(inside)?
     } else {
         next_delimiter(inside)?
     };
-    Some(open.saturating_add(taken))
-}
-
-/// Whether a comment begins with these bytes after a `{{`.
-pub(crate) fn opens_comment(inside: &[u8]) -> bool {
-    match inside {
-        [b'/', b'*', ..] => true,
-        [b'-', space, b'/', b'*', ..] => is_space(*space),
-        _ => false,
-    }
+    let after = file
+        .len()
+        .saturating_sub(inside.len())
+        .saturating_add(taken);
+    after.checked_sub(file.len().saturating_sub(rest.bytes.len()))
 }
 
 /// How many bytes a comment takes with its `*/`.

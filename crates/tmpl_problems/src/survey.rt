@@ -1,13 +1,13 @@
 //! What is suspicious in a file, though it is not refused: names that nothing uses, and texts that look like actions.
 
 use crate::definitions::name_after;
-use crate::place::Place;
-use crate::scan::{opened_at, rest_after};
-use crate::sentence::Sentence;
-use crate::variables::{declared, used};
+use crate::scan::{place_in, rest_after};
+use crate::variables::{declaration_len, declared, name_in};
 use indexmap::IndexMap;
 use std::alloc::{AllocError, Global};
-use tmpl_lex::{Part, Rest, Token, TokenKind, first_part};
+use tmpl_hints::Sentence;
+use tmpl_lex::{AfterText, Rest, Token, TokenKind, first_part};
+use tmpl_refusals::Place;
 use tmpl_syntax::NameHash;
 
 /// What is suspicious at a place.
@@ -66,10 +66,16 @@ pub fn survey_file<'b>(
     let mut rest = Rest::of(file);
     loop {
         let part = first_part(file, rest, &mut tokens)?;
-        place = surveyor.pass_text(file, place, part)?;
-        if let Some(opened) = opened_at(file, rest) {
-            place = place.at(file, opened.start);
-            surveyor.pass_action(place, tokens.as_slice())?;
+        if let Some(before) = suspicious_at(part.text) {
+            place = place_in(place, file, part.start.saturating_add(before));
+            surveyor.pass_text(place, part.text.get(before..).unwrap_or(&[]))?;
+        }
+        if part.after != AfterText::Nothing {
+            if wants_place(tokens.as_slice()) {
+                place = place_in(place, file, part.opens);
+                surveyor.pass_names(place, tokens.as_slice())?;
+            }
+            surveyor.pass_uses(tokens.as_slice());
         }
         match rest_after(file, rest, part) {
             Some(next) => rest = next,
@@ -92,24 +98,13 @@ impl<'b> Surveyor<'b> {
         }
     }
 
-    /// Looks at the text of a part, and says where it got.
-    fn pass_text(
-        &mut self,
-        file: &[u8],
-        place: Place,
-        part: Part<'_>,
-    ) -> Result<Place, AllocError> {
-        let Some(before) = suspicious_at(part.text) else {
-            return Ok(place);
-        };
-        let here = place.at(file, part.start.saturating_add(before));
-        let sign = part.text.get(before..).unwrap_or(&[]);
+    /// Notes what is suspicious in a text, which there begins so.
+    fn pass_text(&mut self, place: Place, sign: &[u8]) -> Result<(), AllocError> {
         let text = match sign {
             [b'}', ..] => "\"}}\" closes no action: it is text",
             _ => "\"{ {\" begins no action: it is text",
         };
-        self.warn(here, String::from_str(self.alloc, text)?)?;
-        Ok(here)
+        self.warn(place, String::from_str(self.alloc, text)?)
     }
 
     /// Notes a warning.
@@ -123,8 +118,8 @@ impl<'b> Surveyor<'b> {
         Ok(())
     }
 
-    /// Looks at the tokens of an action.
-    fn pass_action(&mut self, place: Place, tokens: &[Token<'b>]) -> Result<(), AllocError> {
+    /// Notes the templates that an action defines and calls, and the variables that it declares.
+    fn pass_names(&mut self, place: Place, tokens: &[Token<'b>]) -> Result<(), AllocError> {
         let definers: [&[u8]; 2] = [b"define", b"block"];
         let callers: [&[u8]; 2] = [b"template", b"block"];
         if let Some(name) = name_after(tokens, &definers) {
@@ -133,21 +128,19 @@ impl<'b> Surveyor<'b> {
         if let Some(name) = name_after(tokens, &callers) {
             self.survey.called.push(named_at(name, place))?;
         }
-        self.pass_variables(place, tokens)
+        self.declare(place, tokens)
     }
 
-    /// Looks at the variables of an action.
-    fn pass_variables(&mut self, place: Place, tokens: &[Token<'b>]) -> Result<(), AllocError> {
-        if !tokens.iter().any(|token| token.kind == TokenKind::Variable) {
-            return Ok(());
-        }
-        let uses = used(self.alloc, tokens)?;
-        for name in uses.as_slice() {
-            if let Some(variable) = self.variables.get_mut(*name) {
-                variable.is_used = true;
+    /// Notes the variables that an action uses.
+    fn pass_uses(&mut self, tokens: &[Token<'b>]) {
+        let (_, rest) = tokens.split_at(declaration_len(tokens));
+        for token in rest {
+            if let Some(name) = name_in(token) {
+                if let Some(variable) = self.variables.get_mut(name) {
+                    variable.is_used = true;
+                }
             }
         }
-        self.declare(place, tokens)
     }
 
     /// Notes the variables that an action declares. Of two, the first has to be there for the second to be, so that it is
@@ -195,8 +188,19 @@ fn named_at(name: &[u8], place: Place) -> Named<'_> {
     }
 }
 
+/// Whether an action of these tokens may define or call a template, or declare a variable.
+fn wants_place(tokens: &[Token<'_>]) -> bool {
+    tokens.iter().any(|token| matches!(
+        token.kind,
+        TokenKind::String | TokenKind::RawString | TokenKind::Declare
+    ))
+}
+
 /// How many bytes of a text stand before the first `{ {` or `}}` in it.
 fn suspicious_at(text: &[u8]) -> Option<usize> {
+    if !text.iter().any(|b| *b == b'{' || *b == b'}') {
+        return None;
+    }
     let closed = text.windows(2).position(|pair| pair == b"}}".as_slice());
     let opened = text.windows(3).position(|three| three == b"{ {".as_slice());
     match (opened, closed) {

@@ -13,7 +13,7 @@ pub(crate) fn name_in<'b>(token: &Token<'b>) -> Option<&'b [u8]> {
 }
 
 /// How many tokens stand before the first `:=`; none of it where there is no `:=`.
-fn declaration_len(tokens: &[Token<'_>]) -> usize
+pub(crate) fn declaration_len(tokens: &[Token<'_>]) -> usize
     ensures { result ≤ length tokens.now }
 {
     match tokens
@@ -31,17 +31,20 @@ pub(crate) fn declared<'b>(
     tokens: &[Token<'b>],
 ) -> Result<Vec<&'b [u8]>, AllocError> {
     let (front, _) = tokens.split_at(declaration_len(tokens));
-    names_among(alloc, front)
+    all_names(alloc, front)
 }
 
 /// The names that an action uses or assigns.
 pub(crate) fn used<'b>(alloc: Global, tokens: &[Token<'b>]) -> Result<Vec<&'b [u8]>, AllocError> {
     let (_, rest) = tokens.split_at(declaration_len(tokens));
-    names_among(alloc, rest)
+    all_names(alloc, rest)
 }
 
 /// The names of the variables among tokens.
-fn names_among<'b>(alloc: Global, tokens: &[Token<'b>]) -> Result<Vec<&'b [u8]>, AllocError> {
+pub(crate) fn all_names<'b>(
+    alloc: Global,
+    tokens: &[Token<'b>],
+) -> Result<Vec<&'b [u8]>, AllocError> {
     let mut names = Vec::new(alloc);
     for token in tokens {
         if let Some(name) = name_in(token) {

@@ -1,11 +1,11 @@
 -- For `examine`: the refusals of a file, each place once; and the first is why the file is refused.
-use Rattle.std.proofs.Common.{◌≡◌, ◌∙◌, ◌≤◌, ◌<◌, ℕ, ◌+◌, Bool, true, false, List, [], ◌∷◌, ◌++◌, Option, Some, None, refl, sym, ap, subst, map, length, drop, get_or, append_assoc, append-nil}
+use Rattle.std.proofs.Common.{◌≡◌, ◌∙◌, ◌≤◌, ◌<◌, ℕ, ◌+◌, Bool, true, false, List, [], ◌∷◌, ◌++◌, Option, Some, refl, sym, ap, subst, map, length, drop, get_or, append_assoc, append-nil}
 use Rattle.std.specs.Prelude.{◌≢◌, if◌then◌else◌, Result, Ok, Err, Vec, IfOk}
 use Rattle.std.specs.declared.alloc.Global.{Global}
 use Rattle.std.specs.declared.alloc.AllocError.{AllocError}
 use Rattle.tmpl_syntax.specs.declared.fault.ParseKind.{ParseKind}
 use Rattle.tmpl_syntax.specs.declared.fault.ParseKind.TheVariants as kinds
-use Rattle.std.proofs.lemmas.List.{drop_more, drop_all, map-append}
+use Rattle.std.proofs.lemmas.List.{drop_more, drop_all}
 use Rattle.tmpl_syntax.specs.Fault as reason
 use Rattle.tmpl_syntax.specs.Fault.{Reason, reason_of}
 use Rattle.tmpl_syntax.specs.Laws.{IsOfItems}
@@ -15,7 +15,8 @@ use Rattle.tmpl_syntax.specs.Refusals.{Found, HasRefusals, Shown, show, shown}
 use Rattle.tmpl_syntax.specs.Set.{Template}
 use Rattle.tmpl_syntax.specs.declared.refused.Refused.{Refused}
 use Rattle.tmpl_syntax.proofs.FirstRefusalLemmas.{finds_refusal}
-use Rattle.tmpl_refusals.specs.Examine.{is_at, firsts_after, firsts, AreOf, Examined}
+use Rattle.tmpl_refusals.specs.declared.refusal.Refusal.{Refusal}
+use Rattle.tmpl_refusals.specs.Examine.{refused_in, is_at, is_unreadable, firsts_after, firsts, AreOf, Examined}
 
 -- ---- each place once
 
@@ -28,16 +29,23 @@ module _ (all : List Refused) (i : ℕ) (r : Refused) (lt : i < length all) (is 
   here : Keeps all kept last (r ∷ drop (i + 1) all)
   here = subst (λ rs. Keeps all kept last rs) (drop_more all i r lt ∙ ap (λ x. x ∷ drop (i + 1) all) (sym is)) k
 
-  chosen : (b : Bool) → is_at last r.place ≡ b
-      → firsts_after last (map shown (r ∷ drop (i + 1) all))
-      ≡ (if b then firsts_after (Some r.place) (map shown (drop (i + 1) all)) else shown r ∷ firsts_after (Some r.place) (map shown (drop (i + 1) all)))
-  chosen b e = ap (λ c. if c then firsts_after (Some r.place) (map shown (drop (i + 1) all)) else shown r ∷ firsts_after (Some r.place) (map shown (drop (i + 1) all))) e
+  abbrev later : List Shown
+  later = firsts_after (Some r.place) (map shown (drop (i + 1) all))
+
+  chosen : (b u : Bool) → is_at last r.place ≡ b → is_unreadable (reason_of r.kind) ≡ u
+      → firsts_after last (map shown (r ∷ drop (i + 1) all)) ≡ (if b then later else shown r ∷ (if u then [] else later))
+  chosen b u e f = ap (λ c. if c then later else shown r ∷ (if is_unreadable (reason_of r.kind) then [] else later)) e
+      ∙ ap (λ c. if b then later else shown r ∷ (if c then [] else later)) f
 
   pub keeps-same : is_at last r.place ≡ true → Keeps all kept (Some r.place) (drop (i + 1) all)
-  keeps-same e = here ∙ ap (λ ss. kept ++ ss) (chosen true e)
+  keeps-same e = here ∙ ap (λ ss. kept ++ ss) (chosen true (is_unreadable (reason_of r.kind)) e refl)
 
-  pub keeps-more : is_at last r.place ≡ false → Keeps all (kept ++ shown r ∷ []) (Some r.place) (drop (i + 1) all)
-  keeps-more e = here ∙ ap (λ ss. kept ++ ss) (chosen false e) ∙ sym (append_assoc kept (shown r ∷ []) (firsts_after (Some r.place) (map shown (drop (i + 1) all))))
+  pub keeps-more : is_at last r.place ≡ false → is_unreadable (reason_of r.kind) ≡ false → Keeps all (kept ++ shown r ∷ []) (Some r.place) (drop (i + 1) all)
+  keeps-more e f = here ∙ ap (λ ss. kept ++ ss) (chosen false false e f) ∙ sym (append_assoc kept (shown r ∷ []) later)
+
+  -- nothing is kept after one that can't be read
+  pub keeps-last : is_at last r.place ≡ false → is_unreadable (reason_of r.kind) ≡ true → kept ++ shown r ∷ [] ≡ firsts (map shown all)
+  keeps-last e f = sym (here ∙ ap (λ ss. kept ++ ss) (chosen false true e f))
 
 pub keeps-all : (all : List Refused) (i : ℕ) (kept : List Shown) (last : Option ℕ) → length all ≤ i → Keeps all kept last (drop i all) → kept ≡ firsts (map shown all)
 keeps-all all i kept last le k = sym (k ∙ ap (λ rs. kept ++ firsts_after last (map shown rs)) (drop_all i all le) ∙ append-nil kept)
@@ -52,7 +60,7 @@ first-shown : (file bytes : List ℕ) (line : ℕ) (why : Reason) (rs : List Fou
     → HasRefusals bytes rs → (place : ℕ) × (more : List Shown) × (firsts (map show rs) ≡ (place, line, Some why) ∷ more)
 first-shown file bytes line why rs is r a =
     let (place, more, e) = finds_refusal file bytes line why rs is r a in
-    (place, firsts_after (Some place) (map show more), ap (λ fs. firsts (map show fs)) e)
+    (place, _, ap (λ fs. firsts (map show fs)) e)
 
 module _ (old : List Template) (path bytes : List ℕ) (new : List Template) (line : ℕ) (why : Reason) (same : new ≡ old) where
   all-of : (is : IsOfItems why) → ((ss : List Shown) (rs : List Found) → HasRefusals bytes rs → ss ≡ firsts (map show rs) → AreOf bytes why ss)
@@ -95,8 +103,9 @@ items_examined old path bytes new line kinds.OpenAtEnd t s m same p v (rs, a, e)
 
 pub examined_result : (old : List Template) (path bytes : List ℕ) (new : List Template) (line : ℕ) (kind : ParseKind)
     → kind ≢ kinds.TooLong → kind ≢ kinds.SecondDefinition → kind ≢ kinds.OutOfMemory → new ≡ old
-    → ParsesUnless old path bytes line (reason_of kind) → (r : Result (Vec Refused Global) AllocError)
-    → IfOk r (λ v. (rs : List Found) × HasRefusals bytes rs × (map shown v.items ≡ firsts (map show rs)))
-    → IfOk r (λ v. Examined old path bytes new v.items)
-examined_result old path bytes new line kind t s m same p (Ok v) f = items_examined old path bytes new line kind t s m same p v.items f
+    → ParsesUnless old path bytes line (reason_of kind) → (r : Result (Vec Refusal Global) AllocError)
+    → IfOk r (λ v. (rs : List Found) × HasRefusals bytes rs × (map shown (map refused_in v.items) ≡ firsts (map show rs)))
+    → IfOk r (λ v. Examined old path bytes new (map refused_in v.items))
+examined_result old path bytes new line kind t s m same p (Ok v) f =
+    items_examined old path bytes new line kind t s m same p (map refused_in v.items) f
 examined_result old path bytes new line kind t s m same p (Err e) f = f

@@ -1,1 +1,2 @@
 pub mod ExamineLemmas
+pub mod LocateLemmas

@@ -1,2 +1,3 @@
 pub mod Column
 pub mod Examine
+pub mod computed

@@ -1,8 +1,11 @@
 //! A file added to the set, or all that is refused of it, and where.
 #![tactic(auto)]
 
-mod column;
 mod examine;
+mod locate;
+mod place;
+mod refusal;
 
-pub use column::column_at;
 pub use examine::examine_file;
+pub use place::Place;
+pub use refusal::Refusal;

@@ -1,0 +1,121 @@
+//! The rules that what is found breaks.
+
+use tmpl_data_problems::DataReason;
+use tmpl_syntax::ParseKind;
+
+/// A rule: its name, in words with hyphens, and what it asks for.
+#[derive(Clone, Copy, Debug)]
+pub(crate) struct Rule {
+    pub(crate) id: &'static str,
+    pub(crate) text: &'static str,
+}
+
+pub(crate) const UNREADABLE: Rule = Rule {
+    id: "unreadable",
+    text: "An action is closed by \"}}\", and tokens stand in it.",
+};
+
+pub(crate) const NOT_UNDERSTOOD: Rule = Rule {
+    id: "not-understood",
+    text: "The tokens of an action fit together, and each function is there.",
+};
+
+pub(crate) const OUT_OF_PLACE: Rule = Rule {
+    id: "out-of-place",
+    text: "An end, else, break, continue or define stands where it belongs to something.",
+};
+
+pub(crate) const UNDECLARED_VARIABLE: Rule = Rule {
+    id: "undeclared-variable",
+    text: "A variable is declared before it is used, in the same part or around it.",
+};
+
+pub(crate) const OPEN_AT_END: Rule = Rule {
+    id: "open-at-end",
+    text: "Each if, with, range, define and block has its end.",
+};
+
+pub(crate) const NESTED_TOO_DEEPLY: Rule = Rule {
+    id: "nested-too-deeply",
+    text: "At most 500 controls and blocks are open, and 100 parentheses.",
+};
+
+pub(crate) const TOO_LONG: Rule = Rule {
+    id: "too-long",
+    text: "A file has at most 16,777,216 bytes.",
+};
+
+pub(crate) const SECOND_DEFINITION: Rule = Rule {
+    id: "second-definition",
+    text: "A file defines a template once.",
+};
+
+pub(crate) const NOT_JSON: Rule = Rule {
+    id: "not-json",
+    text: "Data is JSON.",
+};
+
+pub(crate) const NUMBER_NOT_WHOLE: Rule = Rule {
+    id: "number-not-whole",
+    text: "A number of data is whole and has 64 signed bits.",
+};
+
+pub(crate) const SUSPICIOUS: Rule = Rule {
+    id: "suspicious",
+    text: "A variable is used, and a text does not look like an action.",
+};
+
+pub(crate) const NO_SUCH_TEMPLATE: Rule = Rule {
+    id: "no-such-template",
+    text: "A file defines the template that is called or asked for.",
+};
+
+pub(crate) const NEVER_CALLED: Rule = Rule {
+    id: "never-called",
+    text: "A template is called, or is the one that is asked for.",
+};
+
+pub(crate) const KEY_GIVEN_TWICE: Rule = Rule {
+    id: "key-given-twice",
+    text: "An object of data has a key once.",
+};
+
+/// All rules.
+pub(crate) static RULES: [Rule; 14] = [
+    UNREADABLE,
+    NOT_UNDERSTOOD,
+    OUT_OF_PLACE,
+    UNDECLARED_VARIABLE,
+    OPEN_AT_END,
+    NESTED_TOO_DEEPLY,
+    TOO_LONG,
+    SECOND_DEFINITION,
+    NOT_JSON,
+    NUMBER_NOT_WHOLE,
+    SUSPICIOUS,
+    NO_SUCH_TEMPLATE,
+    NEVER_CALLED,
+    KEY_GIVEN_TWICE,
+];
+
+/// The rule that a refusal for this reason breaks; want of memory is told otherwise.
+pub(crate) fn rule_of(kind: ParseKind) -> Rule {
+    match kind {
+        ParseKind::Unreadable | ParseKind::OutOfMemory => UNREADABLE,
+        ParseKind::NotAnAction => NOT_UNDERSTOOD,
+        ParseKind::OutOfPlace => OUT_OF_PLACE,
+        ParseKind::UndeclaredVariable => UNDECLARED_VARIABLE,
+        ParseKind::OpenAtEnd => OPEN_AT_END,
+        ParseKind::NestedTooDeeply => NESTED_TOO_DEEPLY,
+        ParseKind::TooLong => TOO_LONG,
+        ParseKind::SecondDefinition => SECOND_DEFINITION,
+    }
+}
+
+/// The rule that data breaks which is refused for this reason.
+pub(crate) fn data_rule_of(reason: DataReason) -> Rule {
+    match reason {
+        DataReason::NotJson => NOT_JSON,
+        DataReason::NotWhole => NUMBER_NOT_WHOLE,
+    }
+}

@@ -1,0 +1,476 @@
+//! What is wrong with an action that is refused.
+
+use crate::action::{Open, Opening, Role, significant};
+use crate::instead::instead_of;
+use crate::near::near;
+use crate::operators::{Operator, operator_at, show_left};
+use crate::sentence::Sentence;
+use std::alloc::{AllocError, Global};
+use tmpl_funcs::Func;
+use tmpl_grammar::{Reading, read_action};
+use tmpl_lex::{Token, TokenKind};
+
+/// What is wrong with an action whose tokens have no reading.
+pub fn detail_of(alloc: Global, tokens: &[Token<'_>]) -> Result<String, AllocError> {
+    let said = Sentence::new(alloc);
+    let Some(first) = significant(tokens, 0) else {
+        return Ok(said.say("the action is empty")?.done());
+    };
+    if let Some(flaw) = first_flaw(alloc, tokens)? {
+        return flaw_text(alloc, tokens, flaw);
+    }
+    Ok(shape_text(said, first, tokens)?.done())
+}
+
+/// What is wrong with a token where it stands.
+#[derive(Clone, Copy)]
+enum Flaw {
+    /// A comparison or `||`, of which a part is this token.
+    Operator(Operator),
+    /// A word that is no function, keyword or constant.
+    NoFunction,
+    /// A keyword where none may stand.
+    Keyword,
+    /// A field whose name begins with a digit.
+    Index,
+    /// No constant, though it is written as one.
+    Constant,
+    /// A `)` that closes nothing.
+    Unopened,
+    /// A `(` that is not closed.
+    Unclosed,
+    /// A constant or a dot after a bar.
+    AfterBar,
+    /// A bar with no command beside it.
+    LooseBar,
+    /// A token that may not stand there.
+    Stray,
+    /// An operand directly after another.
+    Joined,
+}
+
+/// The first token with a flaw, by its number among all.
+fn first_flaw(alloc: Global, tokens: &[Token<'_>]) -> Result<Option<(usize, Flaw)>, AllocError> {
+    for (index, _) in tokens.iter().enumerate() {
+        if let Some(flaw) = flaw_at(alloc, tokens, index)? {
+            return Ok(Some((index, flaw)));
+        }
+    }
+    Ok(unbalanced(tokens))
+}
+
+/// The flaw of the token of this number.
+fn flaw_at(alloc: Global, tokens: &[Token<'_>], index: usize) -> Result<Option<Flaw>, AllocError> {
+    let Some(token) = tokens.get(index) else {
+        return Ok(None);
+    };
+    if let Some(operator) = operator_at(tokens, index) {
+        return Ok(Some(Flaw::Operator(operator)));
+    }
+    match token.kind {
+        TokenKind::Word => Ok(word_flaw(tokens, index, token.bytes)),
+        TokenKind::Field => Ok(field_flaw(tokens, index, token.bytes)),
+        TokenKind::Number | TokenKind::Character | TokenKind::String | TokenKind::RawString => {
+            constant_flaw(alloc, tokens, index)
+        }
+        TokenKind::Comma | TokenKind::Declare | TokenKind::Assign => {
+            Ok(binding_flaw(tokens, index))
+        }
+        TokenKind::Pipe => Ok(bar_flaw(tokens, index)),
+        TokenKind::LeftParenthesis | TokenKind::RightParenthesis => {
+            Ok(parenthesis_flaw(tokens, index))
+        }
+        TokenKind::Dot => Ok(dot_flaw(tokens, index)),
+        TokenKind::Variable => Ok(joined_flaw(tokens, index)),
+        TokenKind::Space => Ok(None),
+    }
+}
+
+/// The token before this one, white space too.
+fn before<'b>(tokens: &[Token<'b>], index: usize) -> Option<Token<'b>> {
+    tokens.get(index.checked_sub(1)?).copied()
+}
+
+/// The nearest token before this one that is no white space.
+pub(crate) fn significant_before<'b>(tokens: &[Token<'b>], index: usize) -> Option<Token<'b>> {
+    let front = tokens.get(..index)?;
+    front
+        .iter()
+        .rev()
+        .find(|token| token.kind != TokenKind::Space)
+        .copied()
+}
+
+/// The nearest token after this one that is no white space.
+pub(crate) fn significant_after<'b>(tokens: &[Token<'b>], index: usize) -> Option<Token<'b>> {
+    significant(tokens.get(index.saturating_add(1)..)?, 0)
+}
+
+/// The flaw of a word.
+fn word_flaw(tokens: &[Token<'_>], index: usize, word: &[u8]) -> Option<Flaw> {
+    let earlier = significant_before(tokens, index);
+    if is_keyword(word) {
+        return match earlier {
+            None => None,
+            Some(token) if token.bytes == b"else".as_slice() => None,
+            Some(_) => Some(Flaw::Keyword),
+        };
+    }
+    if is_constant(word) {
+        return after_bar(tokens, index).or(joined_flaw(tokens, index));
+    }
+    match Func::named(word) {
+        Some(_) => joined_flaw(tokens, index),
+        None => Some(Flaw::NoFunction),
+    }
+}
+
+/// Whether a word begins an action.
+pub(crate) fn is_keyword(word: &[u8]) -> bool {
+    let keywords: [&[u8]; 10] = [
+        b"if",
+        b"with",
+        b"range",
+        b"else",
+        b"end",
+        b"break",
+        b"continue",
+        b"define",
+        b"template",
+        b"block",
+    ];
+    keywords.iter().any(|keyword| *keyword == word)
+}
+
+/// Whether a word is a constant.
+fn is_constant(word: &[u8]) -> bool {
+    word == b"true".as_slice() || word == b"false".as_slice() || word == b"nil".as_slice()
+}
+
+/// The flaw of a field.
+fn field_flaw(tokens: &[Token<'_>], index: usize, bytes: &[u8]) -> Option<Flaw> {
+    match bytes {
+        [_, first, ..] if first.is_ascii_digit() => Some(Flaw::Index),
+        _ => match before(tokens, index) {
+            Some(token) if is_value(token.kind) && !may_have_field(token.kind) => Some(
+                Flaw::Joined,
+            ),
+            _ => None,
+        },
+    }
+}
+
+/// The flaw of a dot.
+fn dot_flaw(tokens: &[Token<'_>], index: usize) -> Option<Flaw> {
+    after_bar(tokens, index).or(joined_flaw(tokens, index))
+}
+
+/// The flaw of a constant.
+fn constant_flaw(
+    alloc: Global,
+    tokens: &[Token<'_>],
+    index: usize,
+) -> Result<Option<Flaw>, AllocError> {
+    let Some(alone) = tokens.get(index..index.saturating_add(1)) else {
+        return Ok(None);
+    };
+    match read_action(alloc, alone)? {
+        Reading::Read(_) => Ok(after_bar(tokens, index).or(joined_flaw(tokens, index))),
+        _ => Ok(Some(Flaw::Constant)),
+    }
+}
+
+/// Whether a token stands after a bar, where a constant or a dot may not.
+fn after_bar(tokens: &[Token<'_>], index: usize) -> Option<Flaw> {
+    match significant_before(tokens, index) {
+        Some(token) if token.kind == TokenKind::Pipe => Some(Flaw::AfterBar),
+        _ => None,
+    }
+}
+
+/// Whether an operand stands directly after another.
+fn joined_flaw(tokens: &[Token<'_>], index: usize) -> Option<Flaw> {
+    match before(tokens, index) {
+        Some(token) if is_value(token.kind) => Some(Flaw::Joined),
+        _ => None,
+    }
+}
+
+/// Whether a token of this kind ends an operand.
+fn is_value(kind: TokenKind) -> bool {
+    !matches!(
+        kind,
+        TokenKind::Space
+            | TokenKind::Declare
+            | TokenKind::Assign
+            | TokenKind::Comma
+            | TokenKind::Pipe
+            | TokenKind::LeftParenthesis
+    )
+}
+
+/// Whether a field may stand directly after a token of this kind.
+fn may_have_field(kind: TokenKind) -> bool {
+    matches!(
+        kind,
+        TokenKind::Field | TokenKind::Variable | TokenKind::RightParenthesis
+    )
+}
+
+/// The flaw of a `,`, `:=` or `=`: these stand after a variable.
+fn binding_flaw(tokens: &[Token<'_>], index: usize) -> Option<Flaw> {
+    match significant_before(tokens, index) {
+        Some(token) if token.kind == TokenKind::Variable => None,
+        _ => Some(Flaw::Stray),
+    }
+}
+
+/// The flaw of a bar.
+fn bar_flaw(tokens: &[Token<'_>], index: usize) -> Option<Flaw> {
+    match (
+        significant_before(tokens, index),
+        significant_after(tokens, index),
+    ) {
+        (Some(left), Some(right))
+            if is_value(left.kind) && right.kind != TokenKind::RightParenthesis => { None }
+        _ => Some(Flaw::LooseBar),
+    }
+}
+
+/// The flaw of a parenthesis.
+fn parenthesis_flaw(tokens: &[Token<'_>], index: usize) -> Option<Flaw> {
+    match tokens.get(index) {
+        Some(token) if token.kind == TokenKind::LeftParenthesis => joined_flaw(tokens, index),
+        _ => None,
+    }
+}
+
+/// The first `)` that closes nothing, or the first `(` of those outside all others that is not closed.
+fn unbalanced(tokens: &[Token<'_>]) -> Option<(usize, Flaw)> {
+    let mut depth = 0_usize;
+    let mut outermost = 0;
+    for (index, token) in tokens.iter().enumerate() {
+        match token.kind {
+            TokenKind::LeftParenthesis => {
+                if depth == 0 {
+                    outermost = index;
+                }
+                depth = depth.saturating_add(1);
+            }
+            TokenKind::RightParenthesis => match depth.checked_sub(1) {
+                Some(outside) => depth = outside,
+                None => return Some((index, Flaw::Unopened)),
+            },
+            _ => {}
+        }
+    }
+    if depth > 0 {
+        Some((outermost, Flaw::Unclosed))
+    } else {
+        None
+    }
+}
+
+/// What is said of a flaw.
+fn flaw_text(alloc: Global, tokens: &[Token<'_>], at: (usize, Flaw)) -> Result<String, AllocError> {
+    let (index, flaw) = at;
+    let bytes = match tokens.get(index) {
+        Some(token) => token.bytes,
+        None => &[],
+    };
+    let said = Sentence::new(alloc);
+    let said = match flaw {
+        Flaw::Operator(operator) => operator.text(said, tokens, index)?,
+        Flaw::NoFunction => no_function(said, tokens, index, bytes)?,
+        Flaw::Keyword => said
+            .quote(bytes)?
+            .say(" stands first in an action of its own")?,
+        Flaw::Index => index_text(said, tokens, index, bytes)?,
+        Flaw::Constant => constant_text(said, bytes)?,
+        Flaw::Unopened => said.say("\")\" closes no \"(\"")?,
+        Flaw::Unclosed => said.say("\"(\" is not closed")?,
+        Flaw::AfterBar => said
+            .quote(bytes)?
+            .say(" takes no value, so it may not stand after \"|\"")?,
+        Flaw::LooseBar => said.say("\"|\" stands between two commands")?,
+        Flaw::Stray => said.say("unexpected ")?.quote(bytes)?,
+        Flaw::Joined => said.say("a space is wanted before ")?.quote(bytes)?,
+    };
+    Ok(said.done())
+}
+
+/// What is said of a word that names no function.
+fn no_function(
+    said: Sentence,
+    tokens: &[Token<'_>],
+    index: usize,
+    word: &[u8],
+) -> Result<Sentence, AllocError> {
+    let said = said.say("no function ")?.quote(word)?;
+    if let Some(text) = instead_of(word) {
+        return said.say(": ")?.say(text);
+    }
+    if let Some(name) = near(word) {
+        return said.say(": write ")?.say(name);
+    }
+    let alone = significant_before(tokens, index).is_none()
+        && significant_after(tokens, index).is_none();
+    let is_name = significant_before(tokens, index).is_some_and(|token| is_name_keyword(
+        token.bytes,
+    ));
+    if is_name {
+        said.say(": write ")?.quote(word)
+    } else if alone {
+        said.say(": write .")?.show(word)
+    } else {
+        Ok(said)
+    }
+}
+
+/// Whether a name in quotes stands after this word.
+fn is_name_keyword(word: &[u8]) -> bool {
+    word == b"template".as_slice() || word == b"define".as_slice() || word == b"block".as_slice()
+}
+
+/// What is said of a field whose name begins with a digit.
+fn index_text(
+    said: Sentence,
+    tokens: &[Token<'_>],
+    index: usize,
+    bytes: &[u8],
+) -> Result<Sentence, AllocError> {
+    let said = said.say("no field ")?.quote(bytes)?.say(": write index ")?;
+    let said = match before(tokens, index) {
+        Some(token) if may_have_field(token.kind) => show_left(said, tokens, index)?,
+        _ => said.say(".")?,
+    };
+    match bytes {
+        [_, name @ ..] if name.iter().all(|b| b.is_ascii_digit()) => said.say(" ")?.show(name),
+        [_, name @ ..] => said.say(" \"")?.show(name)?.say("\""),
+        [] => Ok(said),
+    }
+}
+
+/// What is said of a constant that is none.
+fn constant_text(said: Sentence, bytes: &[u8]) -> Result<Sentence, AllocError> {
+    match bytes {
+        [b'"' | b'`' | b'\'', ..] => said
+            .show(bytes)?
+            .say(" is no constant: look at what stands after its \"\\\""),
+        _ if bytes.iter().any(|b| *b == b'.') => said
+            .say("number ")?
+            .show(bytes)?
+            .say(" is not whole"),
+        _
+            if bytes
+                .iter()
+                .all(|b| b.is_ascii_digit() || *b == b'-' || *b == b'+') => {
+            said.say("number ")?
+                .show(bytes)?
+                .say(" is out of range or has an 8 or 9 after a first 0")
+        }
+        _ => said.show(bytes)?.say(" is no whole number"),
+    }
+}
+
+/// What is said of an action in which each token alone may stand where it does.
+fn shape_text(
+    said: Sentence,
+    first: Token<'_>,
+    tokens: &[Token<'_>],
+) -> Result<Sentence, AllocError> {
+    let word = first.bytes;
+    let is_alone = significant(tokens, 1).is_none();
+    if word == b"end".as_slice() || word == b"break".as_slice() || word == b"continue".as_slice() {
+        said.quote(word)?.say(" stands alone")
+    } else if is_name_keyword(word) {
+        said.say("after ")?.quote(word)?.say(
+            " stands a name in quotes, and after that what it is given",
+        )
+    } else if word == b"else".as_slice() {
+        said.say("after \"else\" stands nothing, or \"if\" or \"with\" and a value")
+    } else if is_keyword(word) && is_alone {
+        said.say("after ")?.quote(word)?.say(" stands a value")
+    } else {
+        said.say("the parts of the action do not fit together")
+    }
+}
+
+/// What is said of an action that is out of place.
+pub fn misplaced(alloc: Global, role: Role, outside: Option<Open>) -> Result<String, AllocError> {
+    let said = Sentence::new(alloc);
+    let said = match role {
+        Role::End => said.say(
+            "\"end\" closes nothing: no if, with, range, define or block is open",
+        )?,
+        Role::Jump => said.say("break and continue stand in the body of a range")?,
+        Role::Open(Opening::Define) => inside_text(
+            said.say("a define stands in no other part")?,
+            outside,
+        )?,
+        Role::Else(_) => else_text(said, outside)?,
+        _ => said,
+    };
+    Ok(said.done())
+}
+
+/// Says what is open.
+fn inside_text(said: Sentence, outside: Option<Open>) -> Result<Sentence, AllocError> {
+    match outside {
+        Some(open) => said
+            .say(": \"")?
+            .say(open.opening.word())?
+            .say("\" of line ")?
+            .count(open.line)?
+            .say(" is open"),
+        None => Ok(said),
+    }
+}
+
+/// What is said of an else that is out of place.
+fn else_text(said: Sentence, outside: Option<Open>) -> Result<Sentence, AllocError> {
+    match outside {
+        None => said.say("\"else\" belongs to no if, with or range"),
+        Some(open) => match open.opening {
+            Opening::Define | Opening::Block => {
+                inside_text(
+                    said.say("\"else\" belongs to no if, with or range")?,
+                    outside,
+                )
+            }
+            _ => inside_text(
+                said.say("a second \"else\", or one with another control than that which is open")?,
+                outside,
+            ),
+        },
+    }
+}
+
+/// What is said of a name that is not in scope.
+pub fn undeclared(alloc: Global, name: &[u8]) -> Result<String, AllocError> {
+    Ok(
+        Sentence::new(alloc)
+            .say("variable \"$")?
+            .show(name)?
+            .say("\" is not declared")?
+            .done(),
+    )
+}
+
+/// What is said of what is open at the end of a file.
+pub fn left_open(alloc: Global, open: Open, depth: usize) -> Result<String, AllocError> {
+    let said = Sentence::new(alloc)
+        .say("\"")?
+        .say(open.opening.word())?
+        .say("\" of line ")?
+        .count(open.line)?
+        .say(" is open at the end of the file")?;
+    let said = if depth > 1 {
+        said.say(", inside ")?
+            .count(depth.saturating_sub(1) as u64)?
+            .say(" more")?
+    } else {
+        said
+    };
+    Ok(said.done())
+}

@@ -1,0 +1,129 @@
+//! What is wrong with an action that is not closed, or that has a place where no token begins.
+ghost use Rattle.std.specs.Prelude.{◌≤◌, length};
+
+use crate::operators::{first_word, operator_in, show_left};
+use crate::sentence::Sentence;
+use std::alloc::{AllocError, Global};
+use tmpl_lex::{Token, TokenKind, is_space};
+
+/// How many bytes the left trim marker after a `{{` has.
+pub fn marker_len(after: &[u8]) -> usize
+    ensures { result ≤ length after.now }
+{
+    match after {
+        [b'-', space, ..] if is_space(*space) => 2,
+        _ => 0,
+    }
+}
+
+/// Whether a comment begins with these bytes after a `{{`.
+pub fn opens_comment(inside: &[u8]) -> bool {
+    match inside {
+        [b'/', b'*', ..] => true,
+        [b'-', space, b'/', b'*', ..] => is_space(*space),
+        _ => false,
+    }
+}
+
+/// What is wrong there, in words. The tokens are those before the place where none begins.
+pub fn unreadable(alloc: Global, tokens: &[Token<'_>], after: &[u8]) -> Result<String, AllocError> {
+    let said = Sentence::new(alloc);
+    if opens_comment(after) {
+        return Ok(
+            said.say("a comment ends with \"*/}}\", or with \"*/\", a space and \"-}}\"")?
+                .done(),
+        );
+    }
+    let bytes = after.get(read_len(tokens, after)..).unwrap_or(&[]);
+    Ok(said_of(said, tokens, bytes)?.done())
+}
+
+/// How many bytes of an action were read as tokens, with its marker.
+fn read_len(tokens: &[Token<'_>], after: &[u8]) -> usize {
+    let mut len = marker_len(after);
+    for token in tokens {
+        len = len.saturating_add(token.bytes.len());
+    }
+    len
+}
+
+/// What is said of bytes with which no token begins.
+fn said_of(said: Sentence, tokens: &[Token<'_>], bytes: &[u8]) -> Result<Sentence, AllocError> {
+    if let Some(operator) = operator_in(bytes) {
+        let rest = bytes.get(operator.sign.len()..).unwrap_or(&[]);
+        return operator.text_between(said, tokens, rest);
+    }
+    match bytes {
+        [] => said.say("\"{{\" is not closed by \"}}\""),
+        [b'{', b'{', ..] => said.say("\"{{\" inside an action: is \"}}\" missing before it?"),
+        [b'"', ..] => said.say(
+            "a text in quotes is not closed in its line; one of several lines stands in backquotes",
+        ),
+        [b'\'', ..] => said.say(
+            "a character in quotes is not closed in its line; a text stands in double quotes",
+        ),
+        [b'`', ..] => said.say("a text in backquotes is not closed"),
+        [b'!', rest @ ..] => not_text(said, first_word(rest)),
+        [b'[', ..] => said.say("unexpected \"[\": write index, as in index .list 0"),
+        [b'%', ..] => said.say(
+            "unexpected \"%\": an action stands between \"{{\" and \"}}\" alone",
+        ),
+        [b'#' | b'/' | b'^', ..] if tokens.len() == 0 => said.quote(first_word(bytes))?.say(
+            " begins no action: a part begins with if, with or range and ends with end",
+        ),
+        [b'?' | b':', ..] => said
+            .say("unexpected ")?
+            .quote(first_byte(bytes))?
+            .say(": write {{if P}}A{{else}}B{{end}}"),
+        [b'-', ..] if ends_with_field(tokens) => key_text(said, tokens, bytes),
+        [b'+' | b'-' | b'*' | b'/' | b'^', ..] => said
+            .say("unexpected ")?
+            .quote(first_byte(bytes))?
+            .say(": there is no arithmetic; compute it in the data"),
+        [b'&', ..] => said.say("unexpected \"&\": write and"),
+        _ => said.say("unexpected ")?.quote(first_byte(bytes)),
+    }
+}
+
+/// What is said of a `!` before this word.
+fn not_text(said: Sentence, word: &[u8]) -> Result<Sentence, AllocError> {
+    let said = said.say("unexpected \"!\": write not ")?;
+    if word.is_empty() {
+        said.say(".x")
+    } else {
+        said.show(word)
+    }
+}
+
+/// Whether the last token is a field.
+fn ends_with_field(tokens: &[Token<'_>]) -> bool {
+    matches!(tokens.last(), Some(token) if token.kind == TokenKind::Field)
+}
+
+/// What is said of a key with a `-` that is written as a field.
+fn key_text(said: Sentence, tokens: &[Token<'_>], bytes: &[u8]) -> Result<Sentence, AllocError> {
+    let index = tokens.len().saturating_sub(1);
+    let name = match tokens.last() {
+        Some(token) => token.bytes.get(1..).unwrap_or(&[]),
+        None => &[],
+    };
+    let said = said.say("unexpected \"-\": write index ")?;
+    let said = match tokens.get(index.saturating_sub(1)) {
+        Some(token) if index > 0 && is_chained(token.kind) => show_left(said, tokens, index)?,
+        _ => said.say(".")?,
+    };
+    said.say(" \"")?
+        .show(name)?
+        .show(first_word(bytes))?
+        .say("\"")
+}
+
+/// Whether a field may stand directly after a token of this kind.
+fn is_chained(kind: TokenKind) -> bool {
+    matches!(kind, TokenKind::Field | TokenKind::Variable)
+}
+
+/// The first byte.
+fn first_byte(bytes: &[u8]) -> &[u8] {
+    bytes.get(..1).unwrap_or(&[])
+}
