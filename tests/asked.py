@@ -20,6 +20,7 @@ library.tmpl = tmpl
 LEAST = 1400  # rows that are calls
 LONGEST = 2000  # bytes of a call that is changed
 STEPS = 20_000  # that a changed one may take at most
+ROOM = 1 << 16  # bytes for text and line; what does not fit is left out
 BYTES = b"{}()\"'`\\-|.,$:=/* \n\t09ax\xc3\xa9\xff"
 HEAD = struct.Struct("<QIBB2xI")
 
@@ -90,7 +91,7 @@ def of_changes(calls, count, seed=1):
     draw, small = random.Random(seed), [it for it in calls if it.size() <= LONGEST]
     while count:
         it = changed(draw, *draw.sample(small, 2))
-        status, out, err = tmpl.render_into(it.files, it.name, it.data, tmpl._Settings(*it.settings), tmpl.ROOM, tmpl.ROOM)
+        status, out, err = tmpl.render_into(it.files, it.name, it.data, tmpl._Settings(*it.settings), ROOM, ROOM)
         if status not in (tmpl.FULL, tmpl.MEMORY):
             it.came = status, out.output(), err.output()
             yield it

@@ -17,6 +17,7 @@
  *   the call changes nothing that one could see. Nothing else reads or writes the struct during the call.
  * - Calls on different handles run at the same time, also where these share a program or data: so a thread has handles of
  *   its own, and waits for no other. tmpl_program_share and tmpl_data_share make one, and copy neither templates nor data.
+ *   A call writes to each handle that it is given, so keep those of a thread in memory of its own.
  * - A handle goes from one thread to another by what orders the two: a lock, the start or the end of a thread, or an atomic
  *   of sequential order.
  *

@@ -6,7 +6,8 @@ const MISSING_KEY = { default: 0, invalid: 1, zero: 2, error: 3 };
 const STEPS = 10_000_000; // what a run may take where nothing is said of it
 const ROOM = 1 << 16; // bytes of text that are lent first
 const LINE = 1 << 12; // bytes of a line that are lent first
-const FILE = 32, SETTINGS = 16, BUFFER = 32, KEPT = 8; // bytes of the structs of tmpl.h, whose pointers have 64 bits
+const FILE = 32, SETTINGS = 16, BUFFER = 32, KEPT = 8, TEXT = 24; // bytes of the structs of tmpl.h, whose pointers have 64 bits
+const SET = 0, PROGRAM = 1, DATA = 2, OUT = 3, SAID = 4; // the parts of what templates keep
 
 const encoder = new TextEncoder();
 const decoder = new TextDecoder("utf-8", { ignoreBOM: true });
@@ -177,6 +178,12 @@ class Lent {
         for (let number = 0; number < words.length; number++) all[first + number] = BigInt(words[number]);
     }
 
+    /** What a text holds. */
+    text(part) {
+        const { bytes, words } = this.#host.view(), first = this.at[part] / 8, begin = Number(words[first]);
+        return bytes.slice(begin, begin + Number(words[first + 1]));
+    }
+
     /** What a buffer over another part took, and how many bytes there were for it. */
     taken(part, over) {
         const { bytes, words } = this.#host.view(), first = this.at[part] / 8, begin = this.at[over];
@@ -220,17 +227,17 @@ class Engine {
 /** Gives back what is kept for an object that nobody has any more. */
 const forgotten = new FinalizationRegistry((free) => free());
 
-/** Frees a set and its data, and what was lent for them. */
+/** Frees what templates keep, and what was lent for it. */
 const freeing = (host, lent) => () => {
     if (!lent.isThere()) return;
-    host.call("tmpl_set_free", lent.pointer(0));
-    host.call("tmpl_data_free", lent.pointer(1));
+    ["set", "program", "data", "text", "text"].forEach((kind, part) => host.call(`tmpl_${kind}_free`, lent.pointer(part)));
     lent.give();
 };
 
 class Templates {
     #host;
-    #lent; // the set and the data; none before the first file, and once they are freed
+    #lent; // the set, its program, the data and two texts; none before the first file, and once they are freed
+    #isMade; // whether the program is that of the set
     #free;
     #files = [];
     #read; // the JSON of the data that is there, where it is known
@@ -245,19 +252,32 @@ class Templates {
         this.#settle();
         this.#parse(this.#lent, file);
         this.#files.push(file);
+        this.#isMade = false;
     }
 
     renderBytes(name, data, options) {
         const settings = settingsOf(options), json = jsonOf(data);
         const run = encoded(name ?? (this.#files.length ? baseOf(this.#files[0][0]) : ""));
         this.#settle();
-        if (!options?.printed) this.#readAnew(json);
+        const at = (part) => this.#lent.pointer(part);
+        if (options?.printed) return this.#whole(this.#host.call("tmpl_set_print", at(SET), at(OUT)));
+        this.#readAnew(json);
+        if (!this.#isMade) this.#whole(this.#host.call("tmpl_program_make", at(SET), at(PROGRAM)));
+        this.#isMade = true;
         return this.#host.lend([SETTINGS, run.length], (lent) => {
             lent.words(0, ...settings);
             lent.put(1, run);
-            const words = [lent.pointer(0), this.#lent.pointer(0), this.#lent.pointer(1), lent.pointer(1), BigInt(run.length)];
-            return this.#host.whole((out, err) => this.#host.call("tmpl_render_set", ...words, out, err), 2 * json.length);
+            const words = [lent.pointer(0), at(PROGRAM), at(DATA), lent.pointer(1), BigInt(run.length), at(OUT), at(SAID)];
+            return this.#whole(this.#host.call("tmpl_render_text", ...words));
         });
+    }
+
+    /** The text of a call that ended with this status, which was put into a text of the module's own. */
+    #whole(status) {
+        if (status === MEMORY) throw new MemoryError("tmpl: out of memory");
+        const text = this.#lent.text(OUT);
+        if (status === OK) return text;
+        throw new TemplateError(status, decoder.decode(this.#lent.text(SAID)).replace(/\n$/, ""), text);
     }
 
     render(name, data, options) {
@@ -273,15 +293,15 @@ class Templates {
     /** Has the files in the instance that there is: none was there before the first one, and a trap takes all. */
     #settle() {
         if (this.#lent?.isThere()) return;
-        const lent = new Lent(this.#host, [KEPT, KEPT]), free = freeing(this.#host, lent);
+        const lent = new Lent(this.#host, [KEPT, KEPT, KEPT, TEXT, TEXT]), free = freeing(this.#host, lent);
         try {
-            lent.words(0, 0, 0);
+            lent.words(SET, 0, 0, 0, 0, 0, 0, 0, 0, 0);
             for (const it of this.#files) this.#parse(lent, it);
         } catch (error) {
             free();
             throw error;
         }
-        [this.#lent, this.#free, this.#read] = [lent, free, new Uint8Array()];
+        [this.#lent, this.#free, this.#read, this.#isMade] = [lent, free, new Uint8Array(), false];
         forgotten.unregister(this);
         forgotten.register(this, free, this);
     }
@@ -291,7 +311,7 @@ class Templates {
             lent.words(0, lent.at[1], path.length, lent.at[2], what.length);
             lent.put(1, path);
             lent.put(2, what);
-            this.#told("tmpl_set_add", kept.pointer(0), lent.pointer(0));
+            this.#told("tmpl_set_add", kept.pointer(SET), lent.pointer(0));
         });
     }
 
@@ -301,7 +321,7 @@ class Templates {
         this.#read = undefined;
         this.#host.lend([json.length], (lent) => {
             lent.put(0, json);
-            this.#told("tmpl_data_read", this.#lent.pointer(1), lent.pointer(0), BigInt(json.length));
+            this.#told("tmpl_data_read", this.#lent.pointer(DATA), lent.pointer(0), BigInt(json.length));
         });
         this.#read = json.slice();
     }

@@ -24,7 +24,8 @@ TOOLS = f"{build.rtlib.KIT}/toolchain/bin"
 TARGET = "wasm64-unknown-unknown"
 LAYOUT = "e-m:e-p:64:64-p10:8:8-p20:8:8-i64:64-i128:128-n32:64-S128-ni:1:10:20"
 FEATURES = ("bulk-memory", "bulk-memory-opt", "mutable-globals", "nontrapping-fptoint", "sign-ext")  # in browsers since 2021
-OF_A_PROCESSOR = re.compile(r"@llvm\.(x86|aarch64)\.|\basm ")
+# an empty one only keeps the compiler from moving accesses past it, as around a count of owners
+OF_A_PROCESSOR = re.compile(r'@llvm\.(x86|aarch64)\.|\basm (?!sideeffect "", "~\{memory\}")')
 OF_X86 = '"probe-stack"="inline-asm" "stack-probe-size"="3072" "target-cpu"="x86-64"'
 OURS = ("memory_take", "memory_give")  # what the caller lends memory by
 STACK = 1 << 20  # bytes; it lies below all else, so that a call past its end is a trap

@@ -149,13 +149,15 @@ HoldsFront = (a : Answer) (room line_room : ℕ) (out err : Seen) (code : ℕ) �
 abbrev pub HasDefaults : Type 0
 HasDefaults = (s : Settings) → s.steps ≡ 0 → s.depth ≡ 0 → s.missing_key ≡ 0 → rules_in s ≡ (wanted_in []).rules
 
--- with status 0 a text is the whole text of the answer, there is no line that the answer has not, and that is its status
+-- with status 0 text and line are the whole ones of the answer, and that is its status
 abbrev pub TextHoldsWhole : Type 0
-TextHoldsWhole = (a : Answer) (text line : Bytes) → Holds a text line 0 → (text ≡ a.text) × (line ≡ a.line) × (a.status ≡ 0)
+TextHoldsWhole = (a : Answer) (text line : Bytes) → Holds a text line 0
+    → (text ≡ a.text) × (line ≡ a.line) × (a.status ≡ 0)
 
 -- with any status it is a beginning of it
 abbrev pub TextHoldsFront : Type 0
-TextHoldsFront = (a : Answer) (text line : Bytes) (code : ℕ) → Holds a text line code → (rest : Bytes) × (a.text ≡ text ++ rest)
+TextHoldsFront = (a : Answer) (text line : Bytes) (code : ℕ) → Holds a text line code
+    → (rest : Bytes) × (a.text ≡ text ++ rest)
 
 -- with status 0 a handle has what was offered, and else what it had
 abbrev pub ReplacesAsOffered : Type 0

@@ -92,7 +92,8 @@ fn run_with(
 ) -> u8
     requires out { out.old.failures < 2 ^ 64 - 1 }
     requires err { err.old.failures < 2 ^ 64 - 1 }
-    ensures { Outcome (run_by settings.now (templates_lent renderer.entry) name.now (option_map (λ d. value_of d.now) «data».entry))
+    ensures { Outcome (run_by settings.now (templates_lent renderer.entry) name.now
+        (option_map (λ d. value_of d.now) «data».entry))
         (sunk (told_of out.old) (told_of out.new)) (sunk (told_of err.old) (told_of err.new)) result }
 {
     match renderer {
@@ -119,7 +120,8 @@ fn run_kept(
 ) -> u8
     requires out { out.old.failures < 2 ^ 64 - 1 }
     requires err { err.old.failures < 2 ^ 64 - 1 }
-    ensures outcome { Outcome (run_by settings.now (templates_run program.old.held) name.now (option_map (λ d. value_of d.now) «data».entry))
+    ensures outcome { Outcome (run_by settings.now (templates_run program.old.held) name.now
+        (option_map (λ d. value_of d.now) «data».entry))
         (sunk (told_of out.old) (told_of out.new)) (sunk (told_of err.old) (told_of err.new)) result }
     ensures program { program.new.held ≡ program.old.held }
 {
@@ -171,7 +173,8 @@ pub(crate) fn render_program(
     out: &mut [u8],
     err: &mut [u8],
 ) -> Filled
-    ensures outcome { IsFilled (run_by settings.now (templates_run program.old.held) name.now (value_in «data».old.held))
+    ensures outcome { IsFilled
+        (run_by settings.now (templates_run program.old.held) name.now (value_in «data».old.held))
         out.old out.new err.old err.new result }
     ensures program { program.new.held ≡ program.old.held }
     ensures kept { «data».new.held ≡ «data».old.held }

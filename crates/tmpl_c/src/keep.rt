@@ -138,16 +138,17 @@ fn status_of(kept: Result<(), AllocError>) -> u8
 
 /// Keeps a program of what a set has now, and gives the status: 0, or 7 where memory was refused.
 pub(crate) fn make_program(alloc: Global, set: &mut SetHandle, program: &mut ProgramHandle) -> u8
-    ensures made { Replaces (templates_in set.old.held) (templates_run program.old.held) (templates_run program.new.held) result }
+    ensures replaces { Replaces (templates_in set.old.held)
+        (templates_run program.old.held) (templates_run program.new.held) result }
     ensures set { set.new.held ≡ set.old.held }
 {
     let Some(mut engine) = set.take(alloc) else {
         drop(program.take(alloc));
         return 0;
     };
-    let made = engine.renderer(alloc);
+    let renderer = engine.renderer(alloc);
     set.put(alloc, engine);
-    match made {
+    match renderer {
         Ok(renderer) => status_of(program.keep(alloc, renderer)),
         Err(AllocError) => 7,
     }
@@ -159,16 +160,17 @@ pub(crate) fn share_program(
     program: &mut ProgramHandle,
     copy: &mut ProgramHandle,
 ) -> u8
-    ensures made { Replaces (templates_run program.old.held) (templates_run copy.old.held) (templates_run copy.new.held) result }
+    ensures replaces { Replaces (templates_run program.old.held)
+        (templates_run copy.old.held) (templates_run copy.new.held) result }
     ensures program { program.new.held ≡ program.old.held }
 {
     let Some(renderer) = program.take(alloc) else {
         drop(copy.take(alloc));
         return 0;
     };
-    let made = renderer.share();
+    let second = renderer.share();
     program.put(alloc, renderer);
-    match made {
+    match second {
         Ok(renderer) => status_of(copy.keep(alloc, renderer)),
         Err(AllocError) => 7,
     }
@@ -176,16 +178,16 @@ pub(crate) fn share_program(
 
 /// Keeps the same data once more, and gives the status.
 pub(crate) fn share_data(alloc: Global, kept: &mut DataHandle, copy: &mut DataHandle) -> u8
-    ensures made { Replaces (value_in kept.old.held) (value_in copy.old.held) (value_in copy.new.held) result }
+    ensures replaces { Replaces (value_in kept.old.held) (value_in copy.old.held) (value_in copy.new.held) result }
     ensures kept { kept.new.held ≡ kept.old.held }
 {
     let Some(shared) = kept.take(alloc) else {
         drop(copy.take(alloc));
         return 0;
     };
-    let made = shared.share();
+    let second = shared.share();
     kept.put(alloc, shared);
-    match made {
+    match second {
         Ok(shared) => status_of(copy.keep(alloc, shared)),
         Err(AllocError) => 7,
     }

@@ -54,14 +54,14 @@ pub fn seen_by_caller()
 pub fn text_seen_by_caller()
     ensures whole { TextHoldsWhole }
     ensures front { TextHoldsFront }
-    ensures made { ReplacesAsOffered }
+    ensures replaces { ReplacesAsOffered }
 {}
 
 /// What may be owned and seen by several threads.
 fn crosses<T: Send + Sync>() {}
 
-/// The law that what handles keep may be used by several threads: the templates of a set, the parts of a program, data, and
-/// a text. The toolchain proves the bound at each.
+/// The law that what handles keep may be used by several threads: the templates of a set, the parts of a program,
+/// data, and a text. The toolchain proves the bound at each.
 pub fn crosses_threads() {
     crosses::<Set>();
     crosses::<Tables>();

@@ -129,7 +129,7 @@ pub extern "C" fn tmpl_data_free(alloc: Global, kept: &mut DataHandle)
 /// it had. Both are freed, in any order.
 #[unsafe(no_mangle)]
 pub extern "C" fn tmpl_data_share(alloc: Global, kept: &mut DataHandle, copy: &mut DataHandle) -> u8
-    ensures made { Replaces (value_in kept.old.held) (value_in copy.old.held) (value_in copy.new.held) result }
+    ensures replaces { Replaces (value_in kept.old.held) (value_in copy.old.held) (value_in copy.new.held) result }
     ensures kept { kept.new.held ≡ kept.old.held }
 {
     keep::share_data(alloc, kept, copy)
@@ -182,7 +182,8 @@ pub extern "C" fn tmpl_program_make(
     set: &mut SetHandle,
     program: &mut ProgramHandle,
 ) -> u8
-    ensures made { Replaces (templates_in set.old.held) (templates_run program.old.held) (templates_run program.new.held) result }
+    ensures replaces { Replaces (templates_in set.old.held)
+        (templates_run program.old.held) (templates_run program.new.held) result }
     ensures set { set.new.held ≡ set.old.held }
 {
     keep::make_program(alloc, set, program)
@@ -196,7 +197,8 @@ pub extern "C" fn tmpl_program_share(
     program: &mut ProgramHandle,
     copy: &mut ProgramHandle,
 ) -> u8
-    ensures made { Replaces (templates_run program.old.held) (templates_run copy.old.held) (templates_run copy.new.held) result }
+    ensures replaces { Replaces (templates_run program.old.held)
+        (templates_run copy.old.held) (templates_run copy.new.held) result }
     ensures program { program.new.held ≡ program.old.held }
 {
     keep::share_program(alloc, program, copy)

@@ -84,7 +84,7 @@ impl Text {
                 Some(kept)
             }
             None => match Box::new(alloc, Gathered::new(alloc)) {
-                Ok(made) => Some(made),
+                Ok(empty) => Some(empty),
                 Err(_) => None,
             },
         }
