@@ -98,7 +98,7 @@ module _ (base : Base) (N : Names) (means : Means base.defs N) where
       by true is x more = let same : v ≡ w = cc in subst (λ (u : Value). P n u) same (subst (λ (i : List ℕ). P i v) (same_name k n is) h.0)
       by false is x more = more x h.1
 
-  entry-gives : (m : MissingKey) (n : List ℕ) (fs : Fields) (es : Entries) → EachEntry (IsField N fs) es → HasRequired fs es
+  pub entry-gives : (m : MissingKey) (n : List ℕ) (fs : Fields) (es : Entries) → EachEntry (IsField N fs) es → HasRequired fs es
       → Gives (entry_shape base m n fs) (field_value m n (option_map_or found (entry_at n es) missing))
   entry-gives m n fs es each all = by (entry_at n es) refl
     where

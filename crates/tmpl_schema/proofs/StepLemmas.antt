@@ -2,7 +2,7 @@
 use Rattle.std.proofs.Common.{◌≡◌, ◌∙◌, ◌-◌, ℕ, zero, suc, Bool, List, Option, refl, sym, subst, arith}
 use Rattle.tmpl_schema.specs.Shape.{Shape, never, either, named}
 use Rattle.tmpl_schema.specs.computed.Shapes.{Base, plain_within, some_part, within_by, null_step, may_be_null, gone_step, null_gone_by}
-use Rattle.tmpl_schema.specs.computed.Shapes.{refined_step, refined_by, field_step, field_shape_by, visit_step, visit_by, sized_step, is_sized_by}
+use Rattle.tmpl_schema.specs.computed.Shapes.{refined_step, refined_by, field_step, field_shape_by, index_step, index_shape_by, visit_step, visit_by, sized_step, is_sized_by}
 use Rattle.tmpl_schema.specs.computed.Check.{Known, settled, settled_soon, settled_step}
 use Rattle.tmpl_grammar.specs.Tree.{Binding}
 use Rattle.tmpl_meaning.specs.declared.missing_key.MissingKey.{MissingKey}
@@ -31,6 +31,10 @@ pub field-next : (base : Base) (n : ℕ) (m : MissingKey) (x : List ℕ) (s : Sh
     → field_shape_by base n m x s ≡ field_step base (field_shape_by base (n - 1) m x) m x s
 field-next base n m x s e = by_step (λ i j. field_shape_by base i m x s ≡ field_step base (field_shape_by base j m x) m x s) (λ i. refl) n e
 
+pub index-next : (base : Base) (n : ℕ) (x : List ℕ) (s : Shape) → (n ≡ 0 → ⊥)
+    → index_shape_by base n x s ≡ index_step base (index_shape_by base (n - 1) x) x s
+index-next base n x s e = by_step (λ i j. index_shape_by base i x s ≡ index_step base (index_shape_by base j x) x s) (λ i. refl) n e
+
 pub visit-next : (base : Base) (n : ℕ) (c : Binding) (s : Shape) → (n ≡ 0 → ⊥) → visit_by base n c s ≡ visit_step base (visit_by base (n - 1) c) c s
 visit-next base n c s e = by_step (λ i j. visit_by base i c s ≡ visit_step base (visit_by base j c) c s) (λ i. refl) n e
 
@@ -49,7 +53,7 @@ pub ruleset soon = (soon-settled)
 
 pub ruleset rounds = (settled-next)
 
-pub ruleset steps = (null-next, gone-next, refined-next, field-next, visit-next, sized-next)
+pub ruleset steps = (null-next, gone-next, refined-next, field-next, index-next, visit-next, sized-next)
 
 module _ (base : Base) (k : ℕ) where
   -- a shape of one kind, or any value

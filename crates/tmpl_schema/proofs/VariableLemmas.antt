@@ -1,29 +1,31 @@
 -- For the law `runs_safely`: the variables of a run have the shapes that are computed, and so have pipelines.
-use Rattle.std.proofs.Common.{arith, ◌≡◌, ◌∙◌, ◌+◌, ◌-◌, ◌≤◌, ◌&&◌, ◌++◌, not, option_to_list, unwrap_or, ℕ, zero, suc, Bool, true, false, List, [], ◌∷◌, Option, Some, None, Result, Ok, Err, length, drop, ap, refl, sym, subst, if◌then◌else◌}
+use Rattle.std.proofs.Common.{arith, ◌≡◌, ◌∙◌, ◌+◌, ◌-◌, ◌≤◌, ◌&&◌, ◌++◌, inl, inr, not, option_to_list, unwrap_or, ℕ, zero, suc, Bool, true, false, List, [], ◌∷◌, Option, Some, None, Result, Ok, Err, length, drop, ap, refl, sym, subst, if◌then◌else◌}
 use Rattle.std.proofs.lemmas.List.{drop-drop, length-drop}
 use Rattle.std.proofs.lemmas.Bool.{false≢true, and_parts}
 use Rattle.std.proofs.lemmas.Option.{cond_some, option_and_then_some}
 use Rattle.std.specs.Option.{option_map, option_map_or, option_and_then}
 use Rattle.std.specs.List.{find}
 use Rattle.std.specs.Str.{bytes_eq}
-use Rattle.tmpl_values.specs.Value.{Value, nothing, null, boolean}
+use Rattle.tmpl_values.specs.Value.{Value, nothing, null, boolean, string, mapping}
+use Rattle.tmpl_values.specs.Field.{found, missing, entry_at}
 use Rattle.tmpl_values.specs.Elements.{Element}
 use Rattle.tmpl_values.specs.Truth.{truth}
-use Rattle.tmpl_grammar.specs.Tree.{Operand, dot, fields, variable, nil, function, group, Operands, no_operand, operand, Pipeline, no_command, command}
+use Rattle.tmpl_grammar.specs.Tree.{Operand, dot, fields, variable, nil, text_constant, function, group, Operands, no_operand, operand, Pipeline, no_command, command}
 use Rattle.tmpl_grammar.specs.Tree.{Binding, unbound, declare, assign, declare_pair}
 use Rattle.tmpl_meaning.specs.Fault.{Cause}
-use Rattle.tmpl_meaning.specs.Pipeline.{Environment, Given, Place, chain, lookup, given, given_then, go_on, without_null, operand_value, command_value, commands_value}
+use Rattle.tmpl_meaning.specs.Pipeline.{Environment, Given, Place, chain, field_value, lookup, given, given_then, go_on, without_null, operand_value, command_value, commands_value}
 use Rattle.tmpl_meaning.specs.Meaning.{assigned, bound}
 use Rattle.tmpl_meaning.specs.declared.missing_key.MissingKey.{MissingKey}
-use Rattle.tmpl_schema.specs.Shape.{Shape, nothings, HasShape, Names}
+use Rattle.tmpl_meaning.specs.declared.missing_key.MissingKey.TheVariants as mode
+use Rattle.tmpl_schema.specs.Shape.{Shape, never, nothings, record_of, either, named, HasShape, Names}
 use Rattle.tmpl_schema.specs.computed.Means.{Means}
-use Rattle.tmpl_schema.specs.computed.Shapes.{Base, within, both, filled, null_gone, refined, chain_shape}
+use Rattle.tmpl_schema.specs.computed.Shapes.{Base, within, both, filled, null_gone, refined, chain_shape, entry_shape, index_shape, index_shape_by}
 use Rattle.tmpl_schema.specs.computed.Calls.{call_shape, shape_by_function}
 use Rattle.tmpl_schema.specs.computed.Check.{narrowed_by, narrowed_by_all, narrowed_empty, deciding_shape, passing_shape, passed, operand_shapes, junction_shape, commands_shape}
 use Rattle.tmpl_schema.specs.computed.Check.{Known, State, variable_shape, assigned_shape, bound_shapes, refined_variable, all_within, all_joined, last_of, if_within}
-use Rattle.tmpl_schema.specs.computed.Check.{after_both, operand_shape, command_shape, pipeline_shape, narrowed}
+use Rattle.tmpl_schema.specs.computed.Check.{after_both, operand_shape, indexed_shape, command_shape, pipeline_shape, narrowed}
 use Rattle.tmpl_schema.proofs.ShapeLemmas.{same_name, within-has, null_gone-has}
-use Rattle.tmpl_schema.proofs.FieldLemmas.{Gives, both-left, both-right, chain-gives, filled-has, refined-has}
+use Rattle.tmpl_schema.proofs.FieldLemmas.{Gives, both-left, both-right, entry-gives, chain-gives, filled-has, refined-has}
 use Rattle.tmpl_schema.proofs.CallLemmas.{HaveShapes, call-gives}
 use Rattle.tmpl_funcs.specs.Func.{takes}
 use Rattle.tmpl_funcs.specs.declared.func.Func.{Func}
@@ -184,11 +186,44 @@ module _ (base : Base) (N : Names) (means : Means base.defs N) where
   called-gives f ps pv p (Some ss) (Ok vs) b h = (call-gives base N means) f (ss ++ option_to_list ps) (vs ++ option_to_list pv) (with-piped ps pv p ss vs h)
   called-gives f ps pv p (Some ss) (Err cause) b h = absurd h
 
-  by_function-gives : (f : Func) (a b c : Option Shape) (x y z : Given Value) → (Gives base N means) a x.result → (Gives base N means) b y.result → (Gives base N means) c z.result
-      → (Gives base N means) (shape_by_function f a b c) (by_function f x y z).result
-  by_function-gives func.And a b c x y z h i j = i
-  by_function-gives func.Or a b c x y z h i j = j
-  by_function-gives _ a b c x y z h i j = h
+  by_function-gives : (f : Func) (a b c e : Option Shape) (x y z : Given Value) → (Gives base N means) a x.result → (Gives base N means) b y.result → (Gives base N means) c z.result
+      → (f ≡ func.Index → (Gives base N means) e x.result) → (Gives base N means) (shape_by_function f a b c e) (by_function f x y z).result
+  by_function-gives func.And a b c e x y z h i j k = i
+  by_function-gives func.Or a b c e x y z h i j k = j
+  by_function-gives func.Index a b c e x y z h i j k = k refl
+  by_function-gives _ a b c e x y z h i j k = h
+
+  -- ---- `index` by a key
+
+  told-entry : (s : Option Shape) (n : List ℕ) (o : Option Value) → (Gives base N means) s (field_value mode.Zero n (option_map_or found o missing))
+      → (Gives base N means) s (Ok (unwrap_or o null))
+  told-entry s n None h = h
+  told-entry s n (Some w) h = h
+
+  index-gives : (i : ℕ) (n : List ℕ) (s : Shape) (v : Value) → HasShape N s v → (Gives base N means) (index_shape_by base i n s) (applied func.Index (v ∷ string n ∷ [])).result
+  index-gives zero n s v h = tt
+  index-gives (suc i) n never v h = absurd h
+  index-gives (suc i) n (record_of fs) (mapping es) h =
+      told-entry (entry_shape base mode.Zero n fs) n (entry_at n es) ((entry-gives base N means) mode.Zero n fs es h.1 h.2)
+  index-gives (suc i) n (record_of fs) _ h = absurd h
+  index-gives (suc i) n (either s t) v h = elim h [
+    | inl x ↦ (both-left base N means) (index_shape_by base i n s) (index_shape_by base i n t) (applied func.Index (v ∷ string n ∷ [])).result (index-gives i n s v x)
+    | inr x ↦ (both-right base N means) (index_shape_by base i n s) (index_shape_by base i n t) (applied func.Index (v ∷ string n ∷ [])).result (index-gives i n t v x)
+  ]
+  index-gives (suc i) n (named y) v h = by (base.defs y) refl (λ s. index-gives i n s v)
+    where
+      by : (o : Option Shape) → base.defs y ≡ o → ((s : Shape) → HasShape N s v → (Gives base N means) (index_shape_by base i n s) (applied func.Index (v ∷ string n ∷ [])).result)
+          → (Gives base N means) (option_and_then (index_shape_by base i n) o) (applied func.Index (v ∷ string n ∷ [])).result
+      by None is f = tt
+      by (Some s) is f = f s (means.unfolds y s v is h)
+  index-gives (suc i) n _ v h = tt
+
+  indexed-after : (o : Option Shape) (x : Result Value Cause) (a b : Bool) (n : List ℕ) → (Gives base N means) o x
+      → (Gives base N means) (option_and_then (index_shape base n) o)
+      (go_on (go_on x a (λ w. given (Ok (w ∷ string n ∷ [])))).result b (λ vs. applied func.Index (vs ++ []))).result
+  indexed-after None x a b n h = tt
+  indexed-after (Some s) (Ok v) a b n h = index-gives base.limit n s v h
+  indexed-after (Some s) (Err cause) a b n h = absurd h
 
   by_count-gives : (f : Func) (t : Bool) (o : Option Shape) (g : Given Value) → (Gives base N means) o g.result → (Gives base N means) (if t then o else None) (by_count f t g).result
   by_count-gives f true o g h = h
@@ -257,13 +292,27 @@ module _ (base : Base) (N : Names) (means : Means base.defs N) where
           go-gives _ _ (operand_shape base m k o) (operand_value (place m d env) o).result (operand_value (place m d env) o).made_text (operand-gives o k fits)
           (junction-step is_or o os k ps pv fits (junction-gives os is_or ps pv p))
 
+      indexed-gives : (os : Operands) (k : State) (ps : Option Shape) (pv : Option Value) → Fits k d env → Piped ps pv
+          → (Gives base N means) (indexed_shape base m k os ps) (given_then (operand_values (place m d env) os) (λ vs. applied func.Index (vs ++ option_to_list pv))).result
+      indexed-gives no_operand k ps pv fits p = tt
+      indexed-gives (operand o (operand (text_constant n) no_operand)) k None None fits p =
+          indexed-after (operand_shape base m k o) (operand_value (place m d env) o).result (operand_value (place m d env) o).made_text
+          (operand_values (place m d env) (operand o (operand (text_constant n) no_operand))).made_text n (operand-gives o k fits)
+      indexed-gives (operand o (operand _ no_operand)) k None None fits p = tt
+      indexed-gives (operand o (operand _ no_operand)) k None (Some v) fits p = absurd p
+      indexed-gives (operand o (operand _ no_operand)) k (Some s) pv fits p = tt
+      indexed-gives (operand o (operand _ (operand _ _))) k ps pv fits p = tt
+      indexed-gives (operand o no_operand) k ps pv fits p = tt
+
       command-gives : (os : Operands) (k : State) (ps : Option Shape) (pv : Option Value) → Fits k d env → Piped ps pv
           → (Gives base N means) (command_shape base m k os ps) (command_value (place m d env) os pv).result
       command-gives (operand (function f) os) k ps pv fits p =
           rw (piped-count ps pv p) (by_count-gives f (takes f (operand_count os + length (option_to_list ps))) _ _
-          (by_function-gives f _ _ _ _ _ _
+          (by_function-gives f _ _ _ _ _ _ _
           (called-gives f ps pv p (operand_shapes base m k os) (operand_values (place m d env) os).result (operand_values (place m d env) os).made_text (operands-give os k fits))
-          (junction-gives os false ps pv p k nothings nothing fits tt) (junction-gives os true ps pv p k nothings nothing fits tt)))
+          (junction-gives os false ps pv p k nothings nothing fits tt) (junction-gives os true ps pv p k nothings nothing fits tt)
+          (λ e. subst (λ (g : Func). (Gives base N means) (indexed_shape base m k os ps) (given_then (operand_values (place m d env) os) (λ vs. applied g (vs ++ option_to_list pv))).result)
+          (sym e) (indexed-gives os k ps pv fits p))))
       command-gives (operand nil _) k ps pv fits p = tt
       command-gives (operand o no_operand) k None None fits p = operand-gives o k fits
       command-gives _ k None (Some v) fits p = absurd p

@@ -5,7 +5,7 @@ ghost use Rattle.std.specs.Prelude.{◌≡◌, IfOk, Some};
 ghost use Rattle.std.specs.Option.{option_map};
 ghost use Rattle.tmpl_schema.specs.Shape.{nothings};
 ghost use Rattle.tmpl_schema.specs.View.{fields_of, shape_of};
-ghost use Rattle.tmpl_schema.specs.computed.Shapes.{absent_shape, chain_shape, entry_shape, field_shape_by, of_field};
+ghost use Rattle.tmpl_schema.specs.computed.Shapes.{absent_shape, chain_shape, entry_shape, field_shape_by, index_shape, index_shape_by, of_field};
 ghost use Rattle.tmpl_schema.specs.computed.View.{base_of};
 
 use crate::inclusion::find;
@@ -129,4 +129,44 @@ pub(crate) fn chain_shape(
             chain_shape(base, mode, rest, &shape)
         }
     }
+}
+
+/// The entry of a key, or null, if `index` gives it of each value.
+fn index_shape_by(
+    base: &Base<'_>,
+    steps: usize,
+    name: &[u8],
+    shape: &Shape,
+) -> Result<Shape, Trouble>
+    ensures { IfOk result (λ s. index_shape_by (base_of base.now) steps name.now (shape_of shape.now)
+        ≡ Some (shape_of s)) }
+{
+    if steps == 0 {
+        return Err(unsafe_by(base.alloc, Cause::Command));
+    }
+    let fewer = steps - 1;
+    match shape {
+        Shape::Never => Ok(Shape::Never),
+        Shape::Record(fields) => entry_shape(base, MissingKey::Zero, name, fields),
+        Shape::Either(one, other) => {
+            let one = index_shape_by(base, fewer, name, one)?;
+            let other = index_shape_by(base, fewer, name, other)?;
+            Ok(joined(base, one, other)?)
+        }
+        Shape::Named(defined) => match find(base.definitions, defined.as_slice()) {
+            Some(shape) => index_shape_by(base, fewer, name, shape),
+            None => Err(unsafe_by(base.alloc, Cause::Command)),
+        },
+        Shape::Nothings | Shape::Nulls | Shape::Truths | Shape::Numbers | Shape::Texts => {
+            Err(Trouble::Refused)
+        }
+        Shape::Anything | Shape::List(_) => Err(Trouble::Refused),
+    }
+}
+
+/// The entry of a key, or null, if `index` gives it of each value, as far as is looked.
+pub(crate) fn index_shape(base: &Base<'_>, name: &[u8], shape: &Shape) -> Result<Shape, Trouble>
+    ensures { IfOk result (λ s. index_shape (base_of base.now) name.now (shape_of shape.now) ≡ Some (shape_of s)) }
+{
+    index_shape_by(base, base.limit, name, shape)
 }

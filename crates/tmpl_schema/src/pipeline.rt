@@ -2,17 +2,18 @@
 #![tactic(auto, using(tmpl_grammar::proofs::ViewLemmas::group_seen, crate::proofs::ViewLemmas::parts, crate::proofs::ViewLemmas::arguments))]
 
 ghost use Rattle.std.specs.Prelude.{◌≡◌, ◌+◌, [], IfOk, None, Some, if◌then◌else◌, length, option_to_list};
+ghost use Rattle.std.specs.Option.{option_map};
 ghost use Rattle.tmpl_grammar.specs.Tree.{function, operand};
 ghost use Rattle.tmpl_grammar.specs.View.{commands_in, operand_of, operands_in};
 ghost use Rattle.tmpl_meaning.specs.Pipeline.{operand_count};
 ghost use Rattle.tmpl_schema.specs.View.{shape_of};
 ghost use Rattle.tmpl_schema.specs.computed.Calls.{call_shape};
-ghost use Rattle.tmpl_schema.specs.computed.Check.{alone, command_shape, commands_shape, junction_shape, operand_shape, pipeline_shape};
+ghost use Rattle.tmpl_schema.specs.computed.Check.{alone, command_shape, commands_shape, index_key, indexed_shape, junction_shape, operand_shape, pipeline_shape, text_of};
 ghost use Rattle.tmpl_schema.specs.computed.View.{argument_shapes, base_of, called_shape, seen, shapes_of, state_of};
 ghost use Rattle.tmpl_funcs.specs.Func.{takes};
 
 use crate::call::{Shapes, call_shape, put_argument};
-use crate::field::chain_shape;
+use crate::field::{chain_shape, index_shape};
 use crate::join::{filled, joined, null_gone};
 use crate::known::variable_shape;
 use crate::shape::{Base, Shape, copy_shape};
@@ -160,6 +161,61 @@ fn argument_count(operands: &[Operand], piped: Option<&Shape>) -> u64
     }
 }
 
+/// The text of a constant.
+fn text_of(operand: &Operand) -> Option<&[u8]>
+    ensures { option_map (λ k. k.now) result ≡ text_of (operand_of operand.now) }
+{
+    match operand {
+        Operand::Text(text) => Some(text.as_slice()),
+        Operand::Dot | Operand::Fields(_) | Operand::Variable { .. } => None,
+        Operand::Bool(_) | Operand::Number(_) | Operand::Nil | Operand::Function(_) => None,
+        Operand::Group { .. } => None,
+    }
+}
+
+/// The key of an `index` of one text, after its first operand.
+fn index_key<'o>(operands: &'o [Operand], piped: Option<&Shape>) -> Option<&'o [u8]>
+    ensures { option_map (λ k. k.now) result ≡ index_key (operands_in operands.now) (seen piped.entry) }
+{
+    match operands {
+        [] => None,
+        [first, rest @ ..] => match rest {
+            [] => match piped {
+                Some(_) => None,
+                None => text_of(first),
+            },
+            [_, _more @ ..] => None,
+        },
+    }
+}
+
+/// The shape of an `index`.
+#[cycle(pipeline)]
+fn indexed_shape(
+    base: &Base<'_>,
+    mode: MissingKey,
+    state: &State,
+    operands: &[Operand],
+    piped: Option<&Shape>,
+) -> Result<Shape, Trouble>
+    ensures { IfOk result (λ s. indexed_shape (base_of base.now) mode (state_of state.now)
+        (operands_in operands.now) (seen piped.entry) ≡ Some (shape_of s)) }
+{
+    match operands {
+        [] => Err(unsafe_by(base.alloc, Cause::NotFollowed(Func::Index))),
+        [first, rest @ ..] => match index_key(rest, piped) {
+            Some(name) => {
+                let shape = operand_shape(base, mode, state, first)?;
+                match index_shape(base, name, &shape) {
+                    Ok(entry) => Ok(entry),
+                    Err(trouble) => Err(of_call(base.alloc, trouble, Func::Index)),
+                }
+            }
+            None => Err(unsafe_by(base.alloc, Cause::NotFollowed(Func::Index))),
+        },
+    }
+}
+
 /// The shape of a command that calls a function.
 #[cycle(pipeline)]
 fn function_shape(
@@ -191,9 +247,8 @@ fn function_shape(
         Func::Le => called_shape(base, mode, state, func, operands, piped),
         Func::Gt => called_shape(base, mode, state, func, operands, piped),
         Func::Ge => called_shape(base, mode, state, func, operands, piped),
-        Func::Index | Func::Slice | Func::Printf => {
-            Err(unsafe_by(base.alloc, Cause::NotFollowed(func)))
-        }
+        Func::Index => indexed_shape(base, mode, state, operands, piped),
+        Func::Slice | Func::Printf => Err(unsafe_by(base.alloc, Cause::NotFollowed(func))),
     }
 }
 

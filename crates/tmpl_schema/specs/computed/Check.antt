@@ -16,7 +16,7 @@ use Rattle.tmpl_funcs.specs.Func.{takes}
 use Rattle.tmpl_funcs.specs.declared.func.Func.{Func}
 use Rattle.tmpl_funcs.specs.declared.func.Func.TheVariants.{And, Not}
 use Rattle.tmpl_meaning.specs.Pipeline.{operand_count}
-use Rattle.tmpl_schema.specs.computed.Shapes.{Base, within, joined, both, filled, null_gone, refined, chain_shape, Visit, visit_of}
+use Rattle.tmpl_schema.specs.computed.Shapes.{Base, within, joined, both, filled, null_gone, refined, chain_shape, index_shape, Visit, visit_of}
 use Rattle.tmpl_schema.specs.computed.Calls.{call_shape, shape_by_function}
 
 -- the shapes of the variables in scope, the newest first
@@ -46,6 +46,16 @@ abbrev pub alone : Option Shape → Option Shape → Operands → Option Shape
 alone s None no_operand = s
 alone s None (operand o os) = None
 alone s (Some piped) os = None
+
+-- the text of a constant
+abbrev pub text_of : Operand → Option (List ℕ)
+text_of (text_constant bytes) = Some bytes
+text_of o = None
+
+-- the key of an `index` of one text, after its first operand
+abbrev pub index_key : Operands → Option Shape → Option (List ℕ)
+index_key (operand o no_operand) None = text_of o
+index_key os piped = None
 
 -- dot, and the variables
 pub record State : Type 0 where
@@ -153,11 +163,18 @@ module _ (base : Base) where
         option_and_then (λ s. both base (Some (deciding_shape is_or s))
         (junction_shape is_or m (passed is_or o k) (passing_shape is_or s) os piped)) (operand_shape m k o)
 
+    -- the operands of an `index`
+    pub indexed_shape : MissingKey → State → Operands → Option Shape → Option Shape
+    indexed_shape m k no_operand piped = None
+    indexed_shape m k (operand o os) piped =
+        option_and_then (λ name. option_and_then (index_shape base name) (operand_shape m k o)) (index_key os piped)
+
     pub command_shape : MissingKey → State → Operands → Option Shape → Option Shape
     command_shape m k (operand (function f) os) piped =
         if takes f (operand_count os + length (option_to_list piped)) then
         shape_by_function f (option_and_then (λ ss. call_shape base f (ss ++ option_to_list piped)) (operand_shapes m k os))
-        (junction_shape false m k nothings os piped) (junction_shape true m k nothings os piped) else None
+        (junction_shape false m k nothings os piped) (junction_shape true m k nothings os piped)
+        (indexed_shape m k os piped) else None
     command_shape m k (operand nil os) piped = None
     command_shape m k (operand o os) piped = alone (operand_shape m k o) piped os
     command_shape m k no_operand piped = None

@@ -254,6 +254,21 @@ module _ (base : Base) where
   chain_shape m [] s = Some s
   chain_shape m (n ∷ ns) s = option_and_then (chain_shape m ns) (field_shape m n s)
 
+  -- what `index` gives for a key, if it gives something of each value: the entry, or null
+  abbrev pub index_step : (Shape → Option Shape) → List ℕ → Shape → Option Shape
+  index_step f name never = Some never
+  index_step f name (record_of fs) = entry_shape Zero name fs
+  index_step f name (either s t) = both (f s) (f t)
+  index_step f name (named x) = option_and_then f (base.defs x)
+  index_step f name s = None
+
+  abbrev pub index_shape_by : ℕ → List ℕ → Shape → Option Shape
+  index_shape_by zero name s = None
+  index_shape_by (suc n) name s = index_step (index_shape_by n name) name s
+
+  abbrev pub index_shape : List ℕ → Shape → Option Shape
+  index_shape name s = index_shape_by base.limit name s
+
   -- ---- elements
 
   abbrev pub any_field : Fields → Shape

@@ -26,3 +26,6 @@ decreases-alone_shape l = 8 * weight (operand_of l.first.now) + 1
 
 abbrev pub decreases-operand_shape : goal.decreases-operand_shape
 decreases-operand_shape l = 8 * weight (operand_of l.operand.now)
+
+abbrev pub decreases-indexed_shape : goal.decreases-indexed_shape
+decreases-indexed_shape l = 8 * weights (operands_in l.operands.now) + 1
