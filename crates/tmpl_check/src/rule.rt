@@ -80,8 +80,18 @@ pub(crate) const KEY_GIVEN_TWICE: Rule = Rule {
     text: "An object of data has a key once.",
 };
 
+pub(crate) const SCHEMA_NOT_UNDERSTOOD: Rule = Rule {
+    id: "schema-not-understood",
+    text: "A schema has keywords that are known, each with a value that it takes.",
+};
+
+pub(crate) const MAY_FAIL: Rule = Rule {
+    id: "may-fail",
+    text: "A template renders without a fault whatever data of the schema it is given.",
+};
+
 /// All rules.
-pub(crate) static RULES: [Rule; 14] = [
+pub(crate) static RULES: [Rule; 16] = [
     UNREADABLE,
     NOT_UNDERSTOOD,
     OUT_OF_PLACE,
@@ -96,6 +106,8 @@ pub(crate) static RULES: [Rule; 14] = [
     NO_SUCH_TEMPLATE,
     NEVER_CALLED,
     KEY_GIVEN_TWICE,
+    SCHEMA_NOT_UNDERSTOOD,
+    MAY_FAIL,
 ];
 
 /// The rule that a refusal for this reason breaks; want of memory is told otherwise.

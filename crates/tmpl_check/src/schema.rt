@@ -3,6 +3,7 @@
 use crate::entry::{Entry, Level};
 use crate::files::{AllLoaded, Loaded};
 use crate::findings::Findings;
+use crate::rule::{MAY_FAIL, SCHEMA_NOT_UNDERSTOOD};
 use crate::words::Request;
 use std::alloc::{AllocError, Global};
 use std::str::from_utf8;
@@ -84,7 +85,7 @@ fn schema_entry<'a>(
         level: Level::Error,
         line,
         column,
-        rule: "schema-not-understood",
+        rule: SCHEMA_NOT_UNDERSTOOD,
         text,
     })
 }
@@ -114,7 +115,7 @@ fn doubt_entry<'a>(
         level: Level::Error,
         line: doubt.line.max(1),
         column: 1,
-        rule: "may-fail",
+        rule: MAY_FAIL,
         text: cause_text(alloc, &doubt.cause)?,
     };
     let Some(tree) = set.get(doubt.template.as_slice()) else {
