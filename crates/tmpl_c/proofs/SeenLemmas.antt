@@ -1,13 +1,19 @@
 -- For the law on what a caller sees: what lent memory holds after a render, and the settings of all zeros.
-use Rattle.std.proofs.Common.{◌≡◌, ◌≢◌, ◌∙◌, ◌++◌, ℕ, Bool, true, false, List, [], length, refl, sym, ap, inl, inr, append_assoc}
-use Rattle.std.specs.Prelude.{leb, take, drop, if◌then◌else◌}
+use Rattle.std.proofs.Common.{◌≡◌, ◌≢◌, ◌∙◌, ◌++◌, ℕ, Bool, true, false, List, [], length, refl, subst, sym, ap, inl, inr, append_assoc}
+use Rattle.std.specs.Prelude.{Option, Some, None, leb, option_map, take, drop, if◌then◌else◌}
 use Rattle.std.proofs.lemmas.Bool.{leb-true}
 use Rattle.std.proofs.lemmas.List.{append-nil, take-append-drop, take_all}
-use Rattle.tmpl_syntax.specs.Set.{Template}
+use Rattle.std.specs.Option.{ok_or, option_map_or}
+use Rattle.tmpl_values.specs.Value.{Value}
+use Rattle.tmpl_syntax.specs.Set.{Template, tree_named}
+use Rattle.tmpl_syntax.specs.Tree.{Tree}
+use Rattle.tmpl_meaning.specs.Meaning.{Fault, Rules, ran}
+use Rattle.tmpl_tool.specs.Tool.{answer_of, unnamed}
 use Rattle.tmpl_tool.specs.Source.{Bytes}
 use Rattle.tmpl_c.specs.Filled.{Fills, Seen, fits}
 use Rattle.tmpl_c.specs.Held.{Replaces}
-use Rattle.tmpl_c.specs.Laws.{HasDefaults, HoldsFront, HoldsWhole, ReplacesAsOffered, TextHoldsFront, TextHoldsWhole}
+use Rattle.tmpl_c.specs.Laws.{HasDefaults, HoldsFront, HoldsWhole, IsTextStatus, ReplacesAsOffered}
+use Rattle.tmpl_c.specs.Laws.{TextHasStatus, TextHoldsFront, TextHoldsWhole}
 
 pub holds_whole : HoldsWhole
 holds_whole a room line_room out err (inl h) = by (fits room a) refl h.2
@@ -39,6 +45,19 @@ pub text_front : TextHoldsFront
 text_front a text line code (inl h) = ([], sym h.0 ∙ sym (append-nil text))
 text_front a text line code (inr h) = (h.0, h.1)
 
+fault_status : (f : Option Fault) → IsTextStatus (option_map_or (λ f. 1) f 0)
+fault_status None = inl refl
+fault_status (Some f) = inr (inl refl)
+
+answer_status : (rules : Rules) (set : List Template) (name : Bytes) (value : Option Value) (found : Option Tree)
+    → IsTextStatus (answer_of (ok_or (option_map (λ tree. ran rules set name tree value) found) (unnamed name))).status
+answer_status rules set name value None = inr (inr (inl refl))
+answer_status rules set name value (Some tree) = fault_status (ran rules set name tree value).fault
+
+pub text_status : TextHasStatus
+text_status rules set name value text line code (inl h) = subst IsTextStatus (sym h.2) (answer_status rules set name value (tree_named name set))
+text_status rules set name value text line code (inr h) = subst IsTextStatus (sym h.3) (inr (inr (inr refl)))
+
 kept_offered : (offered old new : List Template) → Replaces offered old new 0 → new ≡ offered
 kept_offered offered old new (inl h) = h.0
 kept_offered offered old new (inr h) = let wrong = h.1 in cc
@@ -52,4 +71,4 @@ replaces = (kept_offered, kept_before)
 
 pub ruleset seen = (holds_whole, has_defaults)
 
-pub ruleset texts = (text_whole, text_front, replaces)
+pub ruleset texts = (text_whole, text_front, text_status, replaces)

@@ -159,6 +159,14 @@ abbrev pub TextHoldsFront : Type 0
 TextHoldsFront = (a : Answer) (text line : Bytes) (code : ℕ) → Holds a text line code
     → (rest : Bytes) × (a.text ≡ text ++ rest)
 
+-- the status of a render into a text is 0, 1, 4 or 7: none says that the text does not fit
+abbrev pub IsTextStatus : ℕ → Type 0
+IsTextStatus code = (code ≡ 0) ⊎ ((code ≡ 1) ⊎ ((code ≡ 4) ⊎ (code ≡ 7)))
+
+abbrev pub TextHasStatus : Type 0
+TextHasStatus = (rules : Rules) (set : List Template) (name : Bytes) (value : Option Value) (text line : Bytes) (code : ℕ)
+    → Holds (held_answer rules false set name value) text line code → IsTextStatus code
+
 -- with status 0 a handle has what was offered, and else what it had
 abbrev pub ReplacesAsOffered : Type 0
 ReplacesAsOffered = ((offered old new : List Template) → Replaces offered old new 0 → new ≡ offered)

@@ -2,7 +2,7 @@
 ghost use Rattle.tmpl_c.specs.Laws.{AddsInTurn, AnswersAsCommand, AnswersButForName, HasDefaults, HoldsFront};
 ghost use Rattle.tmpl_c.specs.Laws.{HoldsWhole, KeepsAsBefore, KeepsOffered, Prints, RefusesName, RendersAsKept};
 ghost use Rattle.tmpl_c.specs.Laws.{ReplacesAsOffered, Runs, StopsAtData, StopsAtFile, StopsAtTemplate};
-ghost use Rattle.tmpl_c.specs.Laws.{TextHoldsFront, TextHoldsWhole};
+ghost use Rattle.tmpl_c.specs.Laws.{TextHasStatus, TextHoldsFront, TextHoldsWhole};
 
 use crate::gathered::Gathered;
 use crate::shared_data::SharedData;
@@ -49,11 +49,13 @@ pub fn seen_by_caller()
 {}
 
 /// The laws of what a caller sees of a text and of a handle that is made or shared: with status 0 the text is the whole
-/// text, and with any status a beginning of it; with status 0 the handle has what was offered, and else what it had.
+/// text, and with any status a beginning of it; no status says that it does not fit. With status 0 the handle has what
+/// was offered, and else what it had.
 #[tactic(auto, using(crate::proofs::SeenLemmas::texts))]
 pub fn text_seen_by_caller()
     ensures whole { TextHoldsWhole }
     ensures front { TextHoldsFront }
+    ensures status { TextHasStatus }
     ensures replaces { ReplacesAsOffered }
 {}
 
