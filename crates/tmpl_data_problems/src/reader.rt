@@ -364,8 +364,8 @@ impl<'b> Reader<'b> {
     }
 }
 
-/// Adds a piece of the file, of which two dots follow the beginning where it is long. Where that cuts a character, its bytes from
-/// 80h are shown as `?`.
+/// Adds a piece of the file, of which two dots follow the beginning where it is long. Where that cuts a character, its
+/// bytes from 80h are shown as `?`.
 fn show(said: &mut String, bytes: &[u8]) -> Result<(), AllocError> {
     let front = bytes.get(..MOST_SHOWN).unwrap_or(bytes);
     match from_utf8(front) {

@@ -74,7 +74,8 @@ pub fn role_of(tokens: &[Token<'_>]) -> Role {
     role_named(first)
 }
 
-/// What an action of these tokens counts as that has no reading: a bare opening or end by its first word, or as not there.
+/// What an action of these tokens counts as that has no reading: a bare opening or end by its first word, or as not
+/// there.
 pub fn role_unread(tokens: &[Token<'_>]) -> Role {
     match role_named(word_at(tokens, 0)) {
         Role::Jump => Role::Plain,

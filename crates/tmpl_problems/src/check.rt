@@ -14,9 +14,9 @@ use std::alloc::{AllocError, Global};
 use tmpl_refusals::{Place, Refusal, examine_file};
 use tmpl_syntax::{NameHash, ParseKind, Set};
 
-/// Adds the templates of a file to the set, or says all for which it is refused, in the order of the file: what `examine_file`
-/// gives, each with what is wrong in words; and what more is wrong after an action that can't be read. After a refusal the set
-/// is as it was.
+/// Adds the templates of a file to the set, or says all for which it is refused, in the order of the file: what
+/// `examine_file` gives, each with what is wrong in words; and what more is wrong after an action that can't be read.
+/// After a refusal the set is as it was.
 ///
 /// # Errors
 ///
@@ -147,8 +147,8 @@ fn of_actions(
     })
 }
 
-/// What is wrong with the actions of a file that has these refusals, the last one first: as many as they, and then what is wrong
-/// after an action that can't be read.
+/// What is wrong with the actions of a file that has these refusals, the last one first: as many as they, and then what
+/// is wrong after an action that can't be read.
 fn found_in(
     alloc: Global,
     hash: NameHash,

@@ -6,8 +6,8 @@ use crate::scan::place_in;
 use std::alloc::{AllocError, Global};
 use tmpl_refusals::Place;
 
-/// The actions that can't be read, and what is wrong where they can, in one list, the last one first. Of two at one place the
-/// former stays.
+/// The actions that can't be read, and what is wrong where they can, in one list, the last one first. Of two at one
+/// place the former stays.
 pub(crate) fn merge(
     alloc: Global,
     gaps: Vec<Problem>,

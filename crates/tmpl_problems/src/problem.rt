@@ -15,7 +15,7 @@ pub struct Problem {
 pub struct Problems {
     /// All that is refused of it; nothing where it is accepted.
     pub refused: Vec<Problem>,
-    /// What is found after an action that can't be read, which is then the last that is refused: if that ends where it seems
-    /// to end, and so does each other one that can't be read.
+    /// What is found after an action that can't be read, which is then the last that is refused: if that ends where it
+    /// seems to end, and so does each other one that can't be read.
     pub beyond: Vec<Problem>,
 }

@@ -20,8 +20,9 @@ pub(crate) struct Readable {
     count: usize,
 }
 
-/// Reads on after each action that can't be read: from its first `}}` on, or from the next `{{` on, if that comes first. In
-/// its place stand its tokens up to where none begins and a comma, which no action has there, so that it is refused.
+/// Reads on after each action that can't be read: from its first `}}` on, or from the next `{{` on, if that comes
+/// first. In its place stand its tokens up to where none begins and a comma, which no action has there, so that it is
+/// refused.
 pub(crate) fn read_on(alloc: Global, file: &[u8]) -> Result<Readable, AllocError> {
     let mut readable = Readable::new(alloc);
     let mut tokens = Vec::new(alloc);
@@ -151,8 +152,8 @@ fn gap_at(place: Place, count: usize, detail: String) -> Problem {
     }
 }
 
-/// What stands between `{{` and `}}` in the place of an action that can't be read, at most this many bytes: the word of a part of
-/// Handlebars, or the tokens that were read and a comma.
+/// What stands between `{{` and `}}` in the place of an action that can't be read, at most this many bytes: the word of
+/// a part of Handlebars, or the tokens that were read and a comma.
 fn kept_in(
     alloc: Global,
     action: &[u8],

@@ -28,8 +28,8 @@ pub(crate) fn rest_after<'b>(file: &'b [u8], rest: Rest<'b>, part: Part<'b>) -> 
     }
 }
 
-/// How many bytes of what is left stand before the end of the action that begins there and can't be read; none where nothing
-/// is left after it. A comment that is not closed takes all up to its `*/`.
+/// How many bytes of what is left stand before the end of the action that begins there and can't be read; none where
+/// nothing is left after it. A comment that is not closed takes all up to its `*/`.
 fn skipped(file: &[u8], rest: Rest<'_>, opens: usize) -> Option<usize> {
     let inside = file.get(opens.saturating_add(2)..)?;
     let taken = if opens_comment(inside) {

@@ -143,8 +143,8 @@ impl<'b> Surveyor<'b> {
         }
     }
 
-    /// Notes the variables that an action declares. Of two, the first has to be there for the second to be, so that it is
-    /// not used says nothing.
+    /// Notes the variables that an action declares. Of two, the first has to be there for the second to be, so that it
+    /// is not used says nothing.
     fn declare(&mut self, place: Place, tokens: &[Token<'b>]) -> Result<(), AllocError> {
         let names = declared(self.alloc, tokens)?;
         let count = names.len();

@@ -10,8 +10,9 @@ use crate::refusal::Refusal;
 use std::alloc::{AllocError, Global};
 use tmpl_syntax::{NameHash, ParseKind, Refused, Set, parse_file, refusals};
 
-/// Adds the templates of a file to the set, as `parse_file` does, or gives all that is refused of the file, and where: the first
-/// is why it is refused, an action is told of once, and nothing after one that can't be read. The names in it are hashed so.
+/// Adds the templates of a file to the set, as `parse_file` does, or gives all that is refused of the file, and where:
+/// the first is why it is refused, an action is told of once, and nothing after one that can't be read. The names in it
+/// are hashed so.
 ///
 /// # Errors
 ///
@@ -23,7 +24,8 @@ pub fn examine_file(
     file: &str,
     bytes: &[u8],
 ) -> Result<Vec<Refusal>, AllocError>
-    ensures examined { IfOk result (λ v. Examined (set_view set.old) file.now bytes.now (set_view set.new) (map refused_in v.items)) }
+    ensures examined { IfOk result (λ v. Examined (set_view set.old) file.now bytes.now (set_view set.new)
+        (map refused_in v.items)) }
     ensures located { IfOk result (λ v. All (IsLocated bytes.now) v.items) }
 {
     match parse_file(alloc, set, file, bytes) {

@@ -69,7 +69,8 @@ fn after_count(after: AfterText) -> usize
     }
 }
 
-/// Adds the next of all refusals, if it is that of what stands after a text, and there. Says up to where columns were counted.
+/// Adds the next of all refusals, if it is that of what stands after a text, and there. Says up to where columns were
+/// counted.
 fn locate_after(
     bytes: &[u8],
     all: &[Refused],
@@ -128,7 +129,8 @@ fn locate_action(
 
 /// Whether an action is refused for this.
 fn is_of_action(kind: ParseKind) -> bool
-    ensures { (bytes : List ℕ) (place start : ℕ) → result ≡ true → BeginsAt bytes place start → StartsAt bytes kind place start }
+    ensures { (bytes : List ℕ) (place start : ℕ) → result ≡ true → BeginsAt bytes place start
+        → StartsAt bytes kind place start }
 {
     match kind {
         ParseKind::Unreadable
@@ -143,7 +145,8 @@ fn is_of_action(kind: ParseKind) -> bool
     }
 }
 
-/// All refusals, once the last is added that is of no action. Each other one is of an action, and was added where that stands.
+/// All refusals, once the last is added that is of no action. Each other one is of an action, and was added where that
+/// stands.
 fn locate_end(
     bytes: &[u8],
     all: &[Refused],

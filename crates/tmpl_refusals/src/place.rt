@@ -27,8 +27,8 @@ impl Place {
         }
     }
 
-    /// The place of the byte of the same file before which this many stand. It takes time by how many bytes stand between the
-    /// two places, if it is a later one.
+    /// The place of the byte of the same file before which this many stand. It takes time by how many bytes stand
+    /// between the two places, if it is a later one.
     pub fn at(self, file: &[u8], start: usize) -> Place
         requires place { IsPlace file.now self }
         requires within { start ≤ length file.now }

@@ -9,6 +9,7 @@ pub struct Refusal {
     /// How many bytes of the file stand before the `{{` of a refused action; all of them where something is open at the
     /// end, and none where the file is too long.
     pub start: usize,
-    /// Its column, counted from 1 by characters: a byte of 80h to BFh, with which a character of UTF-8 goes on, counts none.
+    /// Its column, counted from 1 by characters: a byte of 80h to BFh, with which a character of UTF-8 goes on, counts
+    /// none.
     pub column: u64,
 }
