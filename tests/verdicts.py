@@ -89,11 +89,12 @@ def write(folder, name, what):
 
 
 def checked(folder, schema, template, words):
-    """The status of tmpl-check over a template and a schema, and what it puts out."""
+    """The status of tmpl-check over a template and a schema, and what it puts out, without warnings."""
     write(folder, "s", schema if isinstance(schema, str) else json.dumps(schema))
     write(folder, "t", template)
     ended = subprocess.run([harness.CHECKER, "--schema", "s", *words, "t"], cwd=folder, capture_output=True, timeout=harness.SECONDS, check=False)
-    return ended.returncode, ended.stdout.decode() + ended.stderr.decode()
+    lines = (ended.stdout + ended.stderr).decode().splitlines(keepends=True)
+    return ended.returncode, "".join(line for line in lines if ": warning: " not in line)
 
 
 def placed(text, token):
