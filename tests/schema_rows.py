@@ -93,3 +93,21 @@ UNREAD = [
 ] + [("the keyword " + word, '{"%s": {}}' % word, '"%s"' % word, '/%s: the keyword "%s" is not understood' % (word, word)) for word in
      ("allOf", "not", "if", "then", "else", "prefixItems", "contains", "patternProperties", "propertyNames", "dependentSchemas", "unevaluatedItems",
       "unevaluatedProperties", "$anchor", "$dynamicRef", "$dynamicAnchor", "$vocabulary", "id", "dependencies", "additionalItems", "nullable")]
+
+# the templates of examples/ with a schema each, and what is said of them where they are refused
+PERSON = {"$ref": "#/$defs/person", "$defs": {"person": {"type": "object", "required": ["name"], "properties": {
+    "name": TEXT, "reports": {"type": "array", "items": {"$ref": "#/$defs/person"}}}}}}
+EXAMPLES = [
+    ("hello", of({"name": TEXT}), None),
+    ("page", of({"site": TEXT, "title": TEXT, "articles": {"type": "array", "items": of({"title": TEXT, "text": TEXT})}}), None),
+    ("report", of({"project": TEXT, "build": of({"number": WHOLE, "passed": {"type": "boolean"}, "tags": ITEMS, "skipped": ITEMS, "note": TEXT,
+                                                 "seconds": {"type": "object", "additionalProperties": WHOLE}},
+                                                ["number", "passed", "tags", "seconds", "skipped"])}), None),
+    ("report", of({"project": TEXT, "build": of({"number": WHOLE, "passed": {"type": "boolean"}, "tags": ITEMS, "seconds": {"type": "object"}, "note": TEXT},
+                                                ["number", "passed", "tags", "seconds"])}), ".skipped may be absent: the schema does not require it"),
+    ("service", of({"description": TEXT, "after": TEXT, "user": TEXT, "restart": {"enum": ["no", "on-failure", "always"]},
+                    "paths": of({"home": TEXT, "program": TEXT}), "listen": of({"address": TEXT, "port": WHOLE})}), None),
+    ("library", of({"app": TEXT, "version": TEXT, "registry": TEXT, "ports": {"type": "array", "items": of({"name": TEXT, "port": WHOLE, "protocol": TEXT}, ["name", "port"])}},
+                   ["app", "version", "ports"]), '"printf" is not followed by this check'),
+    ("tree", PERSON, '"printf" is not followed by this check'),
+]

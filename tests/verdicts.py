@@ -116,6 +116,19 @@ def row_results():
             wanted = f"s:{placed(schema, token)}: error: schema not understood: {said}\n"
             came = checked(folder, schema, "text", [])
             yield f"schema: {title}", 1, [] if came == (1, wanted) else [f"    {came}, and not {wanted!r}"]
+        for name, schema, said in schema_rows.EXAMPLES:
+            example = f"{harness.TOP}/examples/{name}"
+            with open(f"{example}/args", encoding="utf-8") as it:
+                files = [f"{example}/{word}" for word in it.read().split() if word.endswith(".tmpl")]
+            write(folder, "s", schema)
+            ended = ran([harness.CHECKER, "--schema", f"{folder}/s", *files])
+            lines = [line for line in ended.stdout.decode().splitlines() if ": warning: " not in line]
+            good = lines == [] if said is None else len(lines) == 1 and lines[0].endswith(f": error: may fail: {said}")
+            yield f"example {name}", 1, [] if good else [f"    {lines}, and not {said}"]
+            with open(f"{example}/data.json", encoding="utf-8") as it:
+                data = json.load(it)
+            if said is None:
+                yield f"data of example {name}", 1, [] if conforming.conforms(schema, schema, data) else ["    it does not conform"]
         came = checked(folder, '{"type": "object",}', "text", [])
         yield "schema that is not JSON", 1, [] if came[0] == 1 and came[1].startswith("s:1:19: error: not JSON: ") else [f"    {came}"]
 
