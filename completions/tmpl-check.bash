@@ -15,10 +15,13 @@ _tmpl_check() {
     case $before in
     --data) compopt -o filenames 2>/dev/null; mapfile -t COMPREPLY < <(compgen -f -- "$word"); return ;;
     --name) :; return ;;
+    --schema) compopt -o filenames 2>/dev/null; mapfile -t COMPREPLY < <(compgen -f -- "$word"); return ;;
+    --missingkey) mapfile -t COMPREPLY < <(compgen -W "default invalid zero error" -- "$word"); return ;;
+    --stop) :; return ;;
     --format) mapfile -t COMPREPLY < <(compgen -W "text json sarif" -- "$word"); return ;;
     esac
     if [[ $word == -* ]]; then
-        mapfile -t COMPREPLY < <(compgen -W "--data --name --format --help" -- "$word")
+        mapfile -t COMPREPLY < <(compgen -W "--data --name --schema --missingkey --stop --format --help" -- "$word")
     else
         compopt -o filenames 2>/dev/null
         mapfile -t COMPREPLY < <(compgen -f -- "$word")

@@ -181,39 +181,52 @@ fn push_bytes(text: &mut String, bytes: &[u8]) -> Result<(), AllocError> {
     }
 }
 
-/// The column, on this line of a file, of what the cause names, or of the first action, or else 1.
+/// The column, on this line of a file, of the action with what the cause names, or of the first action, or else 1.
 fn column_in(file: &[u8], line: u64, cause: &Cause) -> u64 {
     let mut at: u64 = 1;
     for text in file.split(|byte| *byte == b'\n') {
         if at == line {
-            return match cause {
-                Cause::Absent(name) | Cause::NoFields(name, _) => column_of(text, name.as_slice()),
-                Cause::NoTemplate(name) => column_of(text, name.as_slice()),
-                Cause::Arguments(func) | Cause::NotFollowed(func) => {
-                    column_of(text, func.name().as_bytes())
-                }
-                Cause::Range(_) | Cause::Variables | Cause::Command => column_of(text, b"{{"),
-            };
+            return column_of(text, cause);
         }
         at = at.saturating_add(1);
     }
     1
 }
 
-/// The column of the action of a line in which the word stands first, or of its first action, or else 1.
-fn column_of(line: &[u8], word: &[u8]) -> u64 {
-    let mut action: usize = 0;
+/// The column of the action of a line in which what the cause names stands first, or of its first action, or else 1.
+fn column_of(line: &[u8], cause: &Cause) -> u64 {
+    let mut action: Option<usize> = None;
+    let mut first: Option<usize> = None;
     for start in 0..line.len() {
         let rest = line.get(start..).unwrap_or(&[]);
         if rest.starts_with(b"{{") {
-            action = start;
-        } else if rest.starts_with(word) && action > 0 {
-            break;
-        } else if rest.starts_with(word) && line.starts_with(b"{{") {
+            action = Some(start);
+            if first.is_none() {
+                first = action;
+            }
+        }
+        if action.is_some() && is_named(rest, cause) {
+            first = action;
             break;
         }
     }
-    columns_in(line.get(..action).unwrap_or(&[]))
+    columns_in(line.get(..first.unwrap_or(0)).unwrap_or(&[]))
+}
+
+/// Whether a text begins with what the cause names.
+fn is_named(text: &[u8], cause: &Cause) -> bool {
+    match cause {
+        Cause::Absent(name) | Cause::NoFields(name, _) => match text {
+            [b'.', rest @ ..] => rest.starts_with(name.as_slice()),
+            _ => false,
+        },
+        Cause::NoTemplate(name) => text.starts_with(name.as_slice()),
+        Cause::Arguments(func) | Cause::NotFollowed(func) => {
+            text.starts_with(func.name().as_bytes())
+        }
+        Cause::Range(_) => text.starts_with(b"range"),
+        Cause::Variables | Cause::Command => false,
+    }
 }
 
 /// The column after these bytes of a line.

@@ -8,11 +8,11 @@ ghost use Rattle.tmpl_code.specs.Room.{largest_need};
 ghost use Rattle.tmpl_code.specs.computed.Weights.{AreEnough, Hold, HoldsOf, IsBound};
 
 use crate::claims::Claims;
-use crate::stack_weights::{Guess, guess_weights};
 use crate::heaviest::heaviest_of_nodes;
 use crate::instruction::Instruction;
-use crate::survey::Survey;
 use crate::numbers::at;
+use crate::stack_weights::{Guess, guess_weights};
+use crate::survey::Survey;
 use std::alloc::{AllocError, Global};
 use tmpl_syntax::Set;
 

@@ -131,4 +131,3 @@ fn release(
     }
     Ok(())
 }
-

@@ -14,7 +14,9 @@ ghost use Rattle.tmpl_code.specs.computed.Held.{IsOpen, Placed, Put, code_of, la
 use crate::bound::bound_of;
 use crate::code::Code;
 use crate::instruction::Instruction;
-use crate::node::{Compiler, Site, declared_in, grow_all, left_after, number_called, put_step, shrink};
+use crate::node::{
+    Compiler, Site, declared_in, grow_all, left_after, number_called, put_step, shrink,
+};
 use crate::pipeline::to_u32;
 use crate::program::{Parts, Program};
 use crate::scope::Scope;

@@ -21,7 +21,7 @@ mod survey;
 mod tables;
 
 pub use compiler::compile;
-pub use instruction::{Instruction, CommandError};
+pub use instruction::{CommandError, Instruction};
 pub use laws::formed_slots;
 pub use program::{Entry, Parts, Program};
 pub use tables::{Names, Span, Tables, letters_at};

@@ -212,7 +212,11 @@ pub(crate) fn number_called(set: &Set, node: &Node) -> Option<usize>
 
 /// Puts what takes the step of a node, or, for a call of the template of this number, looks whether one is left.
 #[tactic(auto, using(tmpl_syntax::proofs::ViewLemmas::nodes, crate::proofs::TailLemmas::ends))]
-pub(crate) fn put_step(code: &mut Code, node: &Node, number: Option<usize>) -> Result<(), AllocError>
+pub(crate) fn put_step(
+    code: &mut Code,
+    node: &Node,
+    number: Option<usize>,
+) -> Result<(), AllocError>
     ensures { OnOk result (Placed (Pushed (spec.step_of_call (node_of node.now).line number)) code.old code.new) }
 {
     match number {
@@ -355,7 +359,12 @@ impl<'s> Compiler<'s> {
     /// Puts a range.
     #[cycle(nodes)]
     #[tactic(auto, using(crate::proofs::TailLemmas::ends, crate::proofs::TailLemmas::longer))]
-    fn put_range(&mut self, site: Site<'_>, line: u32, parts: ControlParts<'s>) -> Result<(), AllocError>
+    fn put_range(
+        &mut self,
+        site: Site<'_>,
+        line: u32,
+        parts: ControlParts<'s>,
+    ) -> Result<(), AllocError>
         requires { IsOpen site.exit (code_of self.old.code) (layout_of self.old.scope) }
         ensures { OnOk result (Put (PartsAt (set_view site.entry.set.now) line control.Range parts.entry)
             site.entry.exit self.old self.new) }

@@ -9,7 +9,7 @@ ghost use Rattle.tmpl_code.specs.Layout.{slot_named};
 ghost use Rattle.tmpl_code.specs.computed.Held.{CalledAt, Ends, Placed, code_of, decided, layout_of};
 
 use crate::code::Code;
-use crate::instruction::{Instruction, CommandError};
+use crate::instruction::{CommandError, Instruction};
 use crate::scope::Scope;
 use std::alloc::AllocError;
 use tmpl_funcs::Func;

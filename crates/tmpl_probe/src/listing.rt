@@ -2,7 +2,7 @@
 //! place where it ends.
 use std::io::{self, Write};
 use std::str;
-use tmpl_code::{Instruction, Names, Program, CommandError, Tables, letters_at};
+use tmpl_code::{CommandError, Instruction, Names, Program, Tables, letters_at};
 use tmpl_funcs::Func;
 
 /// Puts out the name of each template and then its instructions.

@@ -20,7 +20,7 @@ use crate::flow::Flow;
 use crate::halt::Halt;
 use crate::machine::Machine;
 use crate::stack::piped_count;
-use tmpl_code::{Names, CommandError, letters_at};
+use tmpl_code::{CommandError, Names, letters_at};
 use tmpl_funcs::{CallError, CallFault, Func};
 use tmpl_meaning::{MissingKey, RunFaultKind, decides, without_null};
 use tmpl_values::Val;

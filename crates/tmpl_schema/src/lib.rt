@@ -18,7 +18,7 @@ mod visit;
 
 pub use check::{Refusal, check_schema};
 pub use laws::runs_safely;
-pub use trouble::{Cause, Doubt};
 pub use shape::{
     Definition, Field, Fields, Schema, Shape, copy_name, copy_shape, either, put_field,
 };
+pub use trouble::{Cause, Doubt};

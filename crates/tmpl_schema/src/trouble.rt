@@ -127,7 +127,9 @@ pub(crate) fn at_line(trouble: Trouble, line: u64) -> Trouble {
                 return Trouble::Unsafe(doubt);
             }
             let Doubt {
-                template, cause, ..
+                template,
+                cause,
+                ..
             } = doubt;
             Trouble::Unsafe(Doubt {
                 template,

@@ -114,7 +114,12 @@ fn put(alloc: Global, parts: &mut OpenParts, item: Item) -> Result<(), AllocErro
 }
 
 /// Puts an action before the items that are after it.
-fn put_action(alloc: Global, parts: &mut OpenParts, line: u64, action: Action) -> Result<(), AllocError>
+fn put_action(
+    alloc: Global,
+    parts: &mut OpenParts,
+    line: u64,
+    action: Action,
+) -> Result<(), AllocError>
     ensures { IfOk result (λ u. parts_of parts.new
         ≡ spec.parts_with (item line (action_item (action_of action))) (parts_of parts.old)) }
 {

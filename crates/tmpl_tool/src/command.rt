@@ -59,14 +59,14 @@ pub fn tool<S: Source, O: Sink, E: Sink>(
     ensures unasked { EndsAtWords (map (λ word. string_bytes word) words.now) (source.new ≡ source.old)
         (sunk (O.so_far out.old) (O.so_far out.new)) (sunk (E.so_far err.old) (E.so_far err.new)) result.code }
     ensures told { FollowsFiles (map (λ word. string_bytes word) words.now) (S.contents source.old) (record {
-          failed_before = S.failures source.old;
-          failed_after = S.failures source.new;
-          asked_before = S.asked source.old;
-          asked_after = S.asked source.new;
-          out = sunk (O.so_far out.old) (O.so_far out.new);
-          err = sunk (E.so_far err.old) (E.so_far err.new);
-          code = result.code;
-        }) }
+      failed_before = S.failures source.old;
+      failed_after = S.failures source.new;
+      asked_before = S.asked source.old;
+      asked_after = S.asked source.new;
+      out = sunk (O.so_far out.old) (O.so_far out.new);
+      err = sunk (E.so_far err.old) (E.so_far err.new);
+      code = result.code;
+    }) }
 {
     tool_keeping(alloc, NameHash::fixed(), words, source, out, err).status
 }
@@ -92,14 +92,14 @@ pub fn tool_keeping<S: Source, O: Sink, E: Sink>(
     ensures unasked { EndsAtWords (map (λ word. string_bytes word) words.now) (source.new ≡ source.old)
         (sunk (O.so_far out.old) (O.so_far out.new)) (sunk (E.so_far err.old) (E.so_far err.new)) result.status.code }
     ensures told { FollowsFiles (map (λ word. string_bytes word) words.now) (S.contents source.old) (record {
-          failed_before = S.failures source.old;
-          failed_after = S.failures source.new;
-          asked_before = S.asked source.old;
-          asked_after = S.asked source.new;
-          out = sunk (O.so_far out.old) (O.so_far out.new);
-          err = sunk (E.so_far err.old) (E.so_far err.new);
-          code = result.status.code;
-        }) }
+      failed_before = S.failures source.old;
+      failed_after = S.failures source.new;
+      asked_before = S.asked source.old;
+      asked_after = S.asked source.new;
+      out = sunk (O.so_far out.old) (O.so_far out.new);
+      err = sunk (E.so_far err.old) (E.so_far err.new);
+      code = result.status.code;
+    }) }
     ensures inputs { IfSome result.inputs (λ inputs. (hash_view inputs.set ≡ names)
         × ((parse : Parse) → IsParse parse → IfSome (S.contents source.old) (λ files.
         IfSome (result_ok (asked_by (map (λ word. string_bytes word) words.now))) (λ w.

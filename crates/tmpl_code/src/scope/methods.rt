@@ -4,7 +4,7 @@ ghost use Rattle.tmpl_code.specs.Layout.{slot_named};
 ghost use Rattle.tmpl_code.specs.computed.Held.{layout_of};
 
 use super::newest::{place, put_place, take_place};
-use super::{ScopeCell, Scope};
+use super::{Scope, ScopeCell};
 use std::alloc::{AllocError, Global};
 use std::collections::BTreeMap;
 

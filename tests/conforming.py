@@ -1,0 +1,153 @@
+"""Which values conform to a JSON Schema, by a reading of its own, and schemas, values and templates that are drawn at random."""
+import json
+
+TYPES = {"null": type(None), "boolean": bool, "integer": int, "number": int, "string": str, "array": list, "object": dict}
+NARROWING = ("minimum", "maximum", "exclusiveMinimum", "exclusiveMaximum", "minLength", "minItems")
+FIELDS = ("a", "b", "c")
+HEAD = "https://json-schema.org/draft/2020-12/schema"
+
+
+def has_type(name, value):
+    return type(value) is TYPES[name]
+
+
+def is_equal(one, other):
+    """Equality of JSON: true is not 1."""
+    return json.dumps(one, sort_keys=True) == json.dumps(other, sort_keys=True)
+
+
+def pointed(root, reference):
+    """What a reference within a document points to; the names in the schemas that are drawn have no escapes but these."""
+    at = root
+    for part in filter(None, reference[1:].replace("%25", "%").split("/")):
+        at = at[part.replace("~1", "/").replace("~0", "~")]
+    return at
+
+
+def conforms(root, schema, value):
+    """Whether a value conforms to a schema of a document: each keyword says so by itself."""
+    if isinstance(schema, bool):
+        return schema
+    rules = {
+        "type": lambda it: any(has_type(name, value) for name in ([it] if isinstance(it, str) else it)),
+        "const": lambda it: is_equal(it, value),
+        "enum": lambda it: any(is_equal(one, value) for one in it),
+        "required": lambda it: not isinstance(value, dict) or all(key in value for key in it),
+        "properties": lambda it: not isinstance(value, dict) or all(conforms(root, it[key], value[key]) for key in it if key in value),
+        "additionalProperties": lambda it: not isinstance(value, dict)
+        or all(conforms(root, it, value[key]) for key in value if key not in schema.get("properties", {})),
+        "items": lambda it: not isinstance(value, list) or all(conforms(root, it, one) for one in value),
+        "anyOf": lambda it: any(conforms(root, one, value) for one in it),
+        "oneOf": lambda it: sum(conforms(root, one, value) for one in it) == 1,
+        "$ref": lambda it: conforms(root, pointed(root, it), value),
+        "minimum": lambda it: type(value) is not int or value >= it,
+        "maximum": lambda it: type(value) is not int or value <= it,
+        "exclusiveMinimum": lambda it: type(value) is not int or value > it,
+        "exclusiveMaximum": lambda it: type(value) is not int or value < it,
+        "minLength": lambda it: not isinstance(value, str) or len(value) >= it,
+        "minItems": lambda it: not isinstance(value, list) or len(value) >= it,
+    }
+    return all(rules[keyword](it) for keyword, it in schema.items() if keyword in rules)
+
+
+def drawn_schema(draw, depth):
+    """A schema, in which names of definitions may stand."""
+    kind = draw.random()
+    if depth == 0 or kind < 0.25:
+        return draw.choice([
+            True, {}, {"type": "string"}, {"type": "integer"}, {"type": "boolean"}, {"type": "null"}, {"type": ["string", "null"]},
+            {"type": "number", draw.choice(NARROWING[:4]): draw.randrange(-2, 3)}, {"type": "string", "minLength": draw.randrange(2)},
+            {"const": draw.choice([None, True, 0, 1, "", "x", [], {}, [1], {"a": 1}])}, {"enum": draw.sample([None, False, True, 0, 1, "", "x", []], 3)},
+            {"type": "string", "enum": ["", "x", 1]}, {"$ref": "#/$defs/" + draw.choice(["n", "m~1o", "p%25q"])}, {"$ref": "#"}])
+    if kind < 0.4:
+        return {"type": "array", "items": drawn_schema(draw, depth - 1), **({"minItems": 1} if draw.random() < 0.3 else {})}
+    if kind < 0.5:
+        out = {draw.choice(["anyOf", "oneOf"]): [drawn_schema(draw, depth - 1) for _ in range(draw.randrange(1, 4))]}
+        return {**out, "type": ["object", "string"]} if draw.random() < 0.3 else out
+    return drawn_object(draw, depth)
+
+
+def drawn_object(draw, depth):
+    """A schema of maps, mostly."""
+    names = [name for name in FIELDS if draw.random() < 0.6]
+    out = {"properties": {name: drawn_schema(draw, depth - 1) for name in names}}
+    if draw.random() < 0.85:
+        out["type"] = "object" if draw.random() < 0.8 else ["object", "null"]
+    if draw.random() < 0.8:
+        out["required"] = [name for name in FIELDS if draw.random() < 0.6]
+    more = draw.random()
+    if more < 0.5:
+        out["additionalProperties"] = False
+    elif more < 0.7:
+        out["additionalProperties"] = drawn_schema(draw, depth - 1)
+    return out
+
+
+def drawn_document(draw):
+    """A whole document, whose definitions do not stand for themselves."""
+    names = {name: {"type": "object", "required": ["a"], "properties": {"a": drawn_schema(draw, 0), "b": {"type": "array", "items": drawn_schema(draw, 1)}}}
+             for name in ("n", "m/o", "p%q")}
+    return {"$schema": HEAD, "title": "drawn", **drawn_object(draw, 3), "$defs": names}
+
+
+def drawn_value(draw, root, schema, depth):
+    """A value that may conform to a schema, and mostly does."""
+    if depth < 0 or schema is False or draw.random() < 0.03:
+        return draw.choice([None, True, 0, "", "x", [], {}])
+    if schema is True or not schema:
+        return draw.choice([None, True, False, 0, 7, "", "x", [], ["y"], {}, {"a": 1}])
+    if "$ref" in schema:
+        return drawn_value(draw, root, pointed(root, schema["$ref"]), depth - 1)
+    if "const" in schema:
+        return schema["const"]
+    if "enum" in schema:
+        return draw.choice(schema["enum"])
+    for keyword in ("anyOf", "oneOf"):
+        if keyword in schema:
+            return drawn_value(draw, root, draw.choice(schema[keyword]), depth)
+    types = schema.get("type", "object")
+    name = types if isinstance(types, str) else draw.choice(types)
+    return drawn_of_type(draw, root, schema, depth, name)
+
+
+def drawn_of_type(draw, root, schema, depth, name):
+    if name == "object":
+        listed = schema.get("properties", {})
+        wanted = [key for key in FIELDS if key in schema.get("required", []) or draw.random() < 0.4]
+        more = schema.get("additionalProperties", True)
+        return {key: drawn_value(draw, root, listed.get(key, more), depth - 1) for key in wanted if listed.get(key, more) is not False}
+    if name == "array":
+        return [drawn_value(draw, root, schema.get("items", True), depth - 1) for _ in range(draw.randrange(schema.get("minItems", 0), 3))]
+    return {"null": None, "boolean": draw.random() < 0.5, "integer": draw.randrange(-2, 4), "number": draw.randrange(-2, 4),
+            "string": draw.choice(["x", "", "long"])}[name]
+
+
+def drawn_path(draw, scope):
+    """An operand: dot or a variable, and fields."""
+    return draw.choice(scope) + draw.choice(["", ".a", ".b", ".c", ".a.b"]) if scope[0] != "." or draw.random() < 0.3 else "." + draw.choice(["a", "b", "c", "a.b", "b.a"])
+
+
+def drawn_line(draw, depth, scope):
+    """A part of a template, over dot and the variables in scope."""
+    path = drawn_path(draw, scope)
+    kind = draw.randrange(9) if depth else 0
+    inner = "".join(drawn_line(draw, depth - 1, scope) for _ in range(draw.randrange(1, 3))) if depth else ""
+    if kind == 0:
+        return draw.choice(["{{%s}}", "{{print %s}}", "{{%s | html}}", "{{not %s}}", "{{len %s}}", "{{lt %s 3}}", "{{eq %s 1}}", '{{index %s "a"}}',
+                            '{{index (index %s "a") "b"}}', '{{or %s "none"}}', "{{and %s 1}}"]) % path
+    if kind in (1, 2):
+        return "{{if %s}}%s%s" % (path, inner, draw.choice(["{{end}}", "{{else}}none{{end}}"]))
+    if kind in (3, 4):
+        return "{{with %s}}%s{{end}}" % (path, inner)
+    if kind == 5:
+        return "{{with $x := %s}}%s{{end}}" % (path, drawn_line(draw, depth - 1, ["$x", "."]))
+    if kind == 6:
+        return "{{range $i, $e := %s}}{{$i}}%s{{else}}none{{end}}" % (path, drawn_line(draw, depth - 1, ["$e", "."]))
+    if kind == 7:
+        return "{{range %s}}%s{{end}}" % (path, inner)
+    return '{{template "w" %s}}' % path
+
+
+def drawn_template(draw):
+    """Lines, each of which may be refused by itself."""
+    return [drawn_line(draw, 2, ["."]) for _ in range(draw.randrange(2, 6))]
