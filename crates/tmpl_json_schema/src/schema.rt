@@ -165,11 +165,11 @@ fn are_defined(definitions: &[Definition], names: &[Bytes]) -> bool
     }
 }
 
-/// The shape of the definition of a name.
-fn shape_named<'s>(definitions: &'s [Definition], name: &[u8]) -> Option<&'s Shape> {
-    for definition in definitions {
+/// The place of the definition of a name.
+fn place_of(definitions: &[Definition], name: &[u8]) -> Option<usize> {
+    for (place, definition) in definitions.iter().enumerate() {
         if definition.name.as_slice() == name {
-            return Some(&definition.shape);
+            return Some(place);
         }
     }
     None
@@ -199,24 +199,59 @@ fn add_alternatives<'s>(shape: &'s Shape, reached: &mut Vec<&'s [u8]>) -> Result
     }
 }
 
-/// Whether a definition leads back to itself through alternatives and references alone.
-fn leads_back(
+/// The places of the definitions that a shape leads to through alternatives and references alone.
+fn places_in(
     alloc: Global,
     definitions: &[Definition],
-    start: &Definition,
-) -> Result<bool, AllocError> {
-    let mut reached: Vec<&[u8]> = Vec::new(alloc);
-    add_alternatives(&start.shape, &mut reached)?;
-    for next in 0..=definitions.len() {
-        let Some(name) = reached.get(next) else {
-            return Ok(false);
-        };
-        let name: &[u8] = *name;
-        if name == start.name.as_slice() {
-            return Ok(true);
+    shape: &Shape,
+) -> Result<Vec<usize>, AllocError> {
+    let mut names: Vec<&[u8]> = Vec::new(alloc);
+    add_alternatives(shape, &mut names)?;
+    let mut places = Vec::new(alloc);
+    for name in names.as_slice() {
+        if let Some(place) = place_of(definitions, *name) {
+            places.push(place)?;
         }
-        if let Some(shape) = shape_named(definitions, name) {
-            add_alternatives(shape, &mut reached)?;
+    }
+    Ok(places)
+}
+
+/// Adds the places that were not seen before.
+fn add_places(
+    found: &[usize],
+    seen: &mut Vec<bool>,
+    reached: &mut Vec<usize>,
+) -> Result<(), AllocError> {
+    for place in found {
+        if let Some(is_seen) = seen.get_mut(*place) {
+            if !*is_seen {
+                *is_seen = true;
+                reached.push(*place)?;
+            }
+        }
+    }
+    Ok(())
+}
+
+/// Whether the definition of this place leads back to itself, where each leads to these places.
+fn leads_back(alloc: Global, next: &[Vec<usize>], start: usize) -> Result<bool, AllocError> {
+    let mut seen: Vec<bool> = Vec::new(alloc);
+    for _ in next {
+        seen.push(false)?;
+    }
+    let mut reached: Vec<usize> = Vec::new(alloc);
+    if let Some(found) = next.get(start) {
+        add_places(found.as_slice(), &mut seen, &mut reached)?;
+    }
+    for index in 0..=next.len() {
+        match reached.get(index).copied() {
+            Some(place) if place == start => return Ok(true),
+            Some(place) => {
+                if let Some(found) = next.get(place) {
+                    add_places(found.as_slice(), &mut seen, &mut reached)?;
+                }
+            }
+            None => return Ok(false),
         }
     }
     Ok(false)
@@ -224,8 +259,12 @@ fn leads_back(
 
 /// Refuses definitions that lead back to themselves through alternatives and references alone.
 fn check_definitions(alloc: Global, definitions: &[Definition]) -> Result<(), SchemaFault> {
+    let mut next = Vec::new(alloc);
     for definition in definitions {
-        if leads_back(alloc, definitions, definition)? {
+        next.push(places_in(alloc, definitions, &definition.shape)?)?;
+    }
+    for (place, definition) in definitions.iter().enumerate() {
+        if leads_back(alloc, next.as_slice(), place)? {
             return Err(match from_utf8(definition.name.as_slice()) {
                 Ok(name) => refusal_of(alloc, "what is at ", name, " stands for itself"),
                 Err(_) => refusal(alloc, "a definition stands for itself"),

@@ -29,12 +29,24 @@ abbrev pub no_kind : Kinds
 no_kind = record { null = false; truth = false; number = false; text = false; list = false; map = false }
 
 abbrev pub either_kinds : Kinds → Kinds → Kinds
-either_kinds a b =
-    record { null = a.null || b.null; truth = a.truth || b.truth; number = a.number || b.number; text = a.text || b.text; list = a.list || b.list; map = a.map || b.map }
+either_kinds a b = record {
+  null = a.null || b.null;
+  truth = a.truth || b.truth;
+  number = a.number || b.number;
+  text = a.text || b.text;
+  list = a.list || b.list;
+  map = a.map || b.map;
+}
 
 abbrev pub both_kinds : Kinds → Kinds → Kinds
-both_kinds a b =
-    record { null = a.null && b.null; truth = a.truth && b.truth; number = a.number && b.number; text = a.text && b.text; list = a.list && b.list; map = a.map && b.map }
+both_kinds a b = record {
+  null = a.null && b.null;
+  truth = a.truth && b.truth;
+  number = a.number && b.number;
+  text = a.text && b.text;
+  list = a.list && b.list;
+  map = a.map && b.map;
+}
 
 abbrev pub is_every_kind : Kinds → Bool
 is_every_kind a = a.null && (a.truth && (a.number && (a.text && (a.list && a.map))))
