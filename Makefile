@@ -41,14 +41,14 @@ demo:
 # the gate: every proof from nothing, then the tests over the program that it left, as each of the two compilers built it; tests/run runs some
 test:
 	@$(NEEDS_RT)
-	python3 tests/runner.py
+	tests/run
 
 # proves the engine as a C library and builds it: bindings/out/libtmpl.a and libtmpl.so
 lib: $(STATIC_LIBRARY) $(SHARED_LIBRARY)
 
 # the tests of the bindings for Go and Rust, where Go and Cargo are installed
 test-bindings:
-	python3 tests/library.py --bindings
+	python3 -m tests.check.library --bindings
 
 # proves one crate, CRATE=NAME, over what earlier runs kept in out/
 check:
@@ -59,20 +59,20 @@ check:
 # tries the wrong bodies in crates/NAME/edits, each of which the prover must refuse: of every crate, or of CRATE=NAME
 edits:
 	@$(NEEDS_RT)
-	python3 tests/edits.py $${CRATE:+"$$CRATE"}
+	python3 -m tests.gate.edits $${CRATE:+"$$CRATE"}
 
 # times the program, the C library and what is built for other places beside others
 bench: $(PROGRAM) $(PROBE) lib
-	python3 tests/bench.py
-	python3 tests/bench_ports.py
+	python3 -m tests.bench.bench
+	python3 -m tests.bench.bench_ports
 
 # fuzzes the C library by coverage, 10,000,000 inputs, and holds what was kept against meaning.py; it needs clang with libFuzzer
 fuzz: $(PROGRAM) $(PROVED_LIBRARY)
-	python3 tests/fuzz/fuzz.py
+	python3 -m tests.fuzz.fuzz
 
 # renders random templates by the program and by Go's own text/template; it needs Go
 compare: $(PROGRAM)
-	python3 tests/go/compare.py
+	python3 -m tests.go.compare
 
 # copies the programs, man pages, completions, templates for quoting, documents and examples to PREFIX, /usr/local if it is not set
 install: $(PROGRAM) $(CHECKER) install-documents

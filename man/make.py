@@ -117,7 +117,7 @@ def blocks(text):
         elif fenced:
             held.append(line)
         elif line.startswith("<!-- "):
-            continue  # it is for tests/documents.py
+            continue  # it is for tests/gate/documents.py
         elif kind == "list" and line.startswith("  ") and line.strip():
             held.append(line)
         elif kind in ("code", "list") and not line.strip():

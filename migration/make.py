@@ -3,7 +3,7 @@ gomplate, consul-template and Jinja what serves here. With `--check` it writes n
 
 In functions.json a tool has rows: what it has there (`there`) and what serves here (`here`), as the document has them; what stands there
 in backquotes and is no template (`other`); and what tmpl-check says of the functions of these names (`says`), where backquotes stand around
-what can be copied. tests/migration.py tries all of it."""
+what can be copied. tests/check/migration.py tries all of it."""
 import json
 import os
 import re

@@ -13,8 +13,8 @@ import sys
 import tempfile
 
 TOP = os.path.dirname(os.path.dirname(os.path.abspath(__file__)))
-sys.path.insert(0, f"{TOP}/tests")
-import proved
+sys.path.insert(0, TOP)
+from tests.gate import proved
 
 rtlib = proved.toolchain()
 OLDEST = "--cpu=x86-64"

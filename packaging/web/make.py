@@ -16,9 +16,9 @@ import tempfile
 
 HERE = os.path.dirname(os.path.abspath(__file__))
 TOP = os.path.dirname(os.path.dirname(HERE))
-sys.path[:0] = [f"{TOP}/tests", f"{TOP}/packaging"]
+sys.path[:0] = [TOP, f"{TOP}/packaging"]
 import build
-import harness
+from tests.lib import harness
 
 TOOLS = f"{build.rtlib.KIT}/toolchain/bin"
 TARGET = "wasm64-unknown-unknown"

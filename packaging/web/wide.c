@@ -1,5 +1,5 @@
 /* Arithmetic of 128 bits that the compiler calls by these names for processors without it, as its own library has it. The compiler's
-   library is not there for WebAssembly. No proof covers this; tests/web.py holds it against a processor's own. */
+   library is not there for WebAssembly. No proof covers this; tests/check/web.py holds it against a processor's own. */
 
 typedef __UINT64_TYPE__ uint64_t;
 typedef __int128 wide;

@@ -24,13 +24,11 @@ import subprocess
 import sys
 import unicodedata
 
+from tests.check import printing, random_sets
+from tests.lib import harness
+from tests.oracle import meaning
+
 HERE = os.path.dirname(os.path.abspath(__file__))
-TESTS = os.path.dirname(HERE)
-sys.path.insert(0, TESTS)
-import random_sets
-import harness
-import meaning
-import printing
 
 COUNT = 10_000_000
 DRAWS = 3000  # random sets among the seeds

@@ -17,10 +17,9 @@ import subprocess
 import sys
 import tempfile
 
-HERE = os.path.dirname(os.path.abspath(__file__))
-sys.path.insert(0, os.path.dirname(HERE))
-import harness
+from tests.lib import harness
 
+HERE = os.path.dirname(os.path.abspath(__file__))
 KEYS = ["a", "b", "name", "Items", "x_1", "é"]
 WORDS = ["", "a", "Ada", "x<y & \"z\"", "é→", "two words", "tab\there", "'quote'", "0", "long " * 5, "line\nbreak"]
 NUMBERS = [0, 1, -1, 7, 42, 255, -255, 1000, 2**31, 2**63 - 1, -(2**63)]

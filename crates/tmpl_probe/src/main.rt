@@ -5,8 +5,7 @@
 //! into pieces. Each puts out how many nanoseconds it took, and so do calls: `call`, a JSON file with a list of
 //! arguments, the name of the function, and how many; and `share`, a file that is made a text of, and how many times
 //! that is shared. A template: `parse` into a set, `compile` the set; `code` puts out how many bytes its code takes,
-//! and `list` puts out the code. `verdict`, a template and a mode for missing keys or `each`, puts out whether the check
-//! against a schema of its own accepts it.
+//! and `list` puts out the code.
 //!
 //! `room DEPTH`, and the words of a command, puts out how many cells the set of its files needs at this depth, and
 //! whether it makes text; after no words the set is empty.
@@ -40,7 +39,6 @@ mod running;
 mod single;
 mod sink;
 mod sweep;
-mod verdict;
 
 use crate::often::call_tool_often;
 use crate::parts::with_file;

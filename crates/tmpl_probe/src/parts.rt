@@ -2,7 +2,6 @@
 use crate::calls::{call_often, share_often};
 use crate::listing::put_listing;
 use crate::single::{data_of, set_of};
-use crate::verdict::put_verdict;
 use std::alloc::Global;
 use std::io::{self, BufWriter, Write};
 use std::rt::Clock;
@@ -133,7 +132,6 @@ pub(crate) fn with_file(rt: &HostRuntime, part: &str, words: &[String]) -> io::R
     match more {
         [] => with_bytes(rt, part, file.as_str(), bytes),
         [count] if part == "share" => share(rt, rt.alloc(), bytes, count.as_str()),
-        [mode] if part == "verdict" => put_verdict(rt, bytes, mode.as_str()),
         [name, count] if part == "call" => {
             call_over(rt, rt.alloc(), bytes, name.as_str(), count.as_str())
         }

@@ -1,0 +1,65 @@
+// Tries bindings/c/tmpl.hpp: prints what each call gives, a line each. tests/check/library.py knows what they are.
+#include "tmpl.hpp"
+
+#include <atomic>
+#include <cstdio>
+#include <string>
+#include <thread>
+#include <vector>
+
+template <class Call> static void tell(const char *name, Call call) {
+    try {
+        const std::string text = call();
+        std::printf("%s: %zu %.40s\n", name, text.size(), text.c_str());
+    } catch (const tmpl::error &it) {
+        std::printf("%s: %d \"%s\" after \"%s\"\n", name, it.status, it.what(), it.text.c_str());
+    } catch (const std::bad_alloc &) {
+        std::printf("%s: no memory\n", name);
+    }
+}
+
+// how many renders of eight threads over one object were right
+static int serve(tmpl::templates &pages) {
+    std::atomic<int> right{0};
+    std::vector<std::thread> threads;
+    for (int number = 0; number < 8; number++) threads.emplace_back([&, number] {
+        tmpl::data own("{\"name\": " + std::to_string(number) + "}");
+        for (int i = 0; i < 5000; i++) right += pages.render("n", own) == std::to_string(number) + " again";
+    });
+    for (auto &it : threads) it.join();
+    return right;
+}
+
+int main() {
+    tmpl::templates pages;
+    tmpl::data none, ada(R"({"name": "Ada"})");
+    pages.add("m", "Hello, {{.name}}!");
+    pages.add("loud", "a{{range 30000}}0123456789{{end}}{{len .}}");
+    const tmpl_settings printed = {0, 0, 0, 1}, strict = {0, 0, 3, 0}, short_run = {1, 0, 0, 0};
+    tell("with data", [&] { return pages.render("m", ada); });
+    tell("without", [&] { return pages.render("m", none); });
+    tell("a missing key", [&] { return pages.render("m", none, strict); });
+    tell("a long text", [&] { return pages.render("loud", ada); });
+    tell("few steps", [&] { return pages.render("m", ada, short_run); });
+    tell("no template", [&] { return pages.render({}, ada); });
+    tell("a long name", [&] { return pages.render(std::string(5000, 'x'), ada); });
+    tell("refused", [&] { return pages.add("n", "{{"), std::string(); });
+    tell("no name of a file", [&] { return pages.add("\xff", ""), std::string(); });
+    tell("no JSON", [&] { return tmpl::data("[1.5]"), std::string(); });
+    const tmpl::templates moved = std::move(pages);
+    tmpl::templates again = tmpl::templates();
+    again.add("m", {});
+    again.add("m", "{{.name}}");
+    again = tmpl::templates();
+    again.add("n", "{{.name}} again");
+    tmpl::data kept = std::move(ada);
+    tell("moved", [&] { return again.render("n", kept); });
+    tmpl::data shared = kept.share();
+    kept = tmpl::data();
+    tell("shared", [&] { return again.render("n", shared); });
+    tell("threads", [&] { return std::to_string(serve(again)); });
+    again.add("n", "{{.name}} once more");
+    tell("after one more file", [&] { return again.render("n", shared); });
+    again.add("n", "{{.name}} again");
+    tell("printed", [&] { return again.render("", none, printed); });
+}

@@ -1,0 +1,650 @@
+"""Tries the engine as a C library, bindings/out/libtmpl.so and libtmpl.a, which `make lib` builds of what was proved. The rows of
+tests/rows that need no words and no files of the system go through one call each, by the Python wrapper, and through its `render_bytes`:
+text, line and status must be those of the row, but that lines call the data `data`. So must those of two renders of a set and data that
+are kept, and of a program that is kept, into lent memory. Rows with short texts and lines are called with room of each size.
+tests/check/library.c refuses each allocation of calls in turn, renders in eight threads at the same time, looks that memory stays flat, and runs
+under valgrind where that is there. The header is compiled as C and as C++, what is installed is used by
+pkg-config, the wheel for Python is unpacked and used, and the programs of docs/EMBEDDING.md and README.md for C and Python are run; so
+is examples/letters.py where Dask's scheduler is there. With --bindings it runs those for Go and Rust, and the tests of these two
+bindings, where Go and Cargo are installed, and nothing else."""
+import base64
+import gc
+import hashlib
+import os
+import pickle
+import re
+import resource
+import shutil
+import subprocess
+import sys
+import tempfile
+import zipfile
+from concurrent.futures import ThreadPoolExecutor
+from decimal import Decimal
+
+from tests.lib import harness
+
+BINDINGS = f"{harness.TOP}/bindings"
+OUT = f"{BINDINGS}/out"
+LEAST = 1400  # rows
+SIZES = 24  # bytes up to which texts and lines are called with room of each size
+LEAST_SIZES = 30900  # calls for that
+LEAST_CASES = 20000  # of tests/check/library.c
+GUARD = b"\xa5" * 8  # after lent memory
+SWITCHES = {b"--data", b"--missingkey", b"--name", b"--depth", b"--steps"}
+BLOCK = re.compile(r"^```(c|cpp|python|go|rust)\n(.*?)^```\n+(?:It puts out\n+)?```text\n(.*?)^```$", re.MULTILINE | re.DOTALL)
+NAMES = [
+    *("tmpl_data_free", "tmpl_data_read", "tmpl_data_share", "tmpl_program_free", "tmpl_program_make", "tmpl_program_share", "tmpl_render"),
+    *("tmpl_render_program", "tmpl_render_set", "tmpl_render_text", "tmpl_set_add", "tmpl_set_free", "tmpl_set_print", "tmpl_text_free"),
+    "tmpl_version",
+]
+WARNINGS = ["-Wall", "-Wextra", "-pedantic", "-Werror"]
+
+
+def ran(*words, **how):
+    """The status and all output of a program."""
+    it = subprocess.run(words, stdin=subprocess.DEVNULL, stdout=subprocess.PIPE, stderr=subprocess.STDOUT, **how)
+    return it.returncode, it.stdout.decode(errors="replace")
+
+
+# ---- rows
+
+
+class Call:
+    """A row as one call."""
+
+    def __init__(self, row, files, name, data, settings, line):
+        self.row, self.files, self.name, self.data, self.settings, self.line = row, files, name, data, settings, line
+
+    def into(self, size, line_size):
+        return tmpl.render_into(self.files, self.name, self.data, tmpl._Settings(*self.settings), size, line_size)
+
+
+def options_of(words):
+    """The options as a dict, or none where a word is no option of a run."""
+    found, rest = {}, iter(words)
+    for word in rest:
+        key, is_joined, value = word.partition(b"=")
+        if key in SWITCHES:
+            found[key] = value if is_joined else next(rest)
+        elif word == b"--print":
+            found[word] = b""
+        else:
+            return None
+    return found
+
+
+def call_of(row):
+    """The call that a row is, or none where it needs words or files of the system."""
+    if row.status in (2, 3) or row.pipes or row.stdin is not None or row.stdout != "pipe" or row.stderr != "pipe":
+        return None
+    words, files, data = harness.parted(row.words)
+    options = options_of(words)
+    if options is None or b"-h" in row.words or b"--help" in row.words:
+        return None
+    held = [(name, row.files.get(os.fsdecode(name))) for name in files]
+    is_print = b"--print" in options
+    what = b"" if data is None or is_print else row.files.get(os.fsdecode(data))
+    if any(it is None for _, it in held) or what is None or (what == b"" and data is not None and not is_print):
+        return None  # no file is read, and no bytes are no data
+    name = options.get(b"--name", os.path.basename(files[0]))
+    mode = tmpl.MISSING_KEY[options.get(b"--missingkey", b"default").decode()]
+    settings = (int(options.get(b"--steps", 0)), int(options.get(b"--depth", 0)), mode, int(is_print))
+    line = row.err.replace(b"tmpl: " + data + b":", b"tmpl: data:", 1) if row.status == tmpl.DATA else row.err
+    return Call(row, held, name, what, settings, line)
+
+
+def judge(call):
+    """One call with room for all, and the same by the wrapper."""
+    row = call.row
+    status, out, err = call.into(len(row.out) + 1, len(call.line) + 1)
+    got, wanted = (status, out.output(), err.output()), (row.status, row.out, call.line)
+    needed = (out.buffer.needed, err.buffer.needed)
+    wrong = [f"    got {got[0]} {harness.short(got[1])} {harness.short(got[2])}"] if got != wanted else []
+    if needed != (len(row.out), len(call.line)):
+        wrong.append(f"    it says that it needs {needed}")
+    steps, depth, mode, is_print = call.settings
+    how = {"missing_key": list(tmpl.MISSING_KEY)[mode], "depth": depth, "steps": steps, "printed": bool(is_print)}
+    try:
+        came = (0, tmpl.render_bytes(call.files, call.name, call.data, **how), "")
+    except tmpl.TemplateError as error:
+        came = (error.status, error.text, error.line)
+    if came != (row.status, row.out, call.line.decode("utf-8", "replace").rstrip("\n")):
+        wrong.append(f"    the wrapper gives {came[0]} {harness.short(came[1])} {came[2]!r}")
+    return row.name, 1, wrong
+
+
+def came_of(call):
+    """The status, text and line of a call of the wrapper."""
+    try:
+        return 0, call() or b"", ""
+    except tmpl.TemplateError as error:
+        return error.status, error.text, error.line
+
+
+def judge_kept(call):
+    """The same by what is kept: the files added once, the data read once, and two renders."""
+    row, wrong = call.row, []
+    steps, depth, mode, is_print = call.settings
+    how = {"missing_key": list(tmpl.MISSING_KEY)[mode], "depth": depth, "steps": steps, "printed": bool(is_print)}
+    wanted = (row.status, row.out, call.line.decode("utf-8", "replace").rstrip("\n"))
+    templates, stop = tmpl.Templates(), None
+    for path, what in call.files:
+        stop = came_of(lambda: templates.add(path, what))
+        if stop[0]:
+            break
+    refused = stop is not None and stop[0] != 0
+    for _ in range(2):
+        came = stop if refused else came_of(lambda: templates.render_bytes(call.name, call.data, **how))
+        if came != wanted:
+            wrong.append(f"    kept, it gives {came[0]} {harness.short(came[1])} {came[2]!r}")
+    if not refused and (is_print or row.status != tmpl.DATA):
+        wrong += lent_by(templates, call)
+    templates.close()
+    return f"{row.name}, kept", 1, wrong
+
+
+def lent_by(templates, call):
+    """What is wrong of the renders of what is kept into lent memory: of the set, and of the program where the set is not printed."""
+    worker, wrong, settings = templates._worker(), [], tmpl._Settings(*call.settings)
+    tmpl._LIBRARY.tmpl_data_read(worker.data, call.data, len(call.data), tmpl._Lent(99).buffer)
+    handles = {"set": templates._set} if settings.print else {"set": templates._set, "program": worker.program}
+    for name, handle in handles.items():
+        out, err = tmpl._Lent(len(call.row.out) + 1), tmpl._Lent(len(call.line) + 1)
+        render = getattr(tmpl._LIBRARY, f"tmpl_render_{name}")
+        status = render(settings, handle, worker.data, call.name, len(call.name), out.buffer, err.buffer)
+        got = (status, out.output(), err.output())
+        wrong += [] if got == (call.row.status, call.row.out, call.line) else [f"    of a {name}, it gives {got}"]
+    return wrong
+
+
+def judge_refusals():
+    """What is refused leaves what was kept as it was, and what is freed is empty."""
+    templates = tmpl.Templates({"a": "one {{.}}"})
+    nothing = (0, b"one <no value>", "")
+    cases = [
+        ("a file is refused", lambda: templates.add("b", '{{define "a"}}two{{end}}{{'), (4, b"", "tmpl: b:1: unclosed or unreadable action")),
+        ("the set is as it was", lambda: templates.render_bytes(data=b"1"), (0, b"one 1", "")),
+        ("data is refused", lambda: templates.render_bytes(data=b"[1.5]"), (5, b"", "tmpl: data: number not whole or out of range")),
+        ("the data is as it was", lambda: came_with(templates, "a"), (0, b"one 1", "")),
+        ("a name of a file is no text", lambda: templates.add(b"\xff", ""), (2, b"", "tmpl: arguments refused; see tmpl --help")),
+        ("a file after it", lambda: templates.add("c", '{{define "a"}}three {{.}}{{end}}'), (0, b"", "")),
+        ("it replaces the first", lambda: templates.render_bytes(data=b"1"), (0, b"three 1", "")),
+        ("freed", templates.close, (0, b"", "")),
+        ("freed twice", templates.close, (0, b"", "")),
+        ("the set is empty", lambda: templates.render_bytes(), (4, b"", 'tmpl: no template "a"')),
+        ("the printed set is empty", lambda: templates.render_bytes(printed=True), (0, b"", "")),
+        ("it may be filled again", lambda: templates.add("a", "one {{.}}"), (0, b"", "")),
+        ("there is no data", lambda: templates.render_bytes(), nothing),
+    ]
+    for name, call, wanted in cases:
+        got = came_of(call)
+        yield f"kept: {name}", 1, [] if got == wanted else [f"    got {got}"]
+
+
+def came_with(templates, name):
+    """A render with the data that is there, as no wrapper makes one."""
+    worker = templates._idle[-1]
+    words = (tmpl._Settings(), worker.program, worker.data, name.encode(), len(name), worker.text, worker.line)
+    return worker.text.copied() if tmpl._LIBRARY.tmpl_render_text(*words) == 0 else worker.line.copied()
+
+
+def guarded(size):
+    """Memory of this many bytes, with a guard after it."""
+    lent = tmpl._Lent(size)
+    lent.memory = tmpl.ctypes.create_string_buffer(b"\xa5" * size + GUARD, size + len(GUARD))
+    lent.buffer.bytes = tmpl.ctypes.addressof(lent.memory)
+    return lent
+
+
+def is_shown(lent, size, text):
+    """Whether memory of this many bytes holds as much of the text as it has room for, and the guard stands."""
+    taken = min(size, len(text))
+    whole = text[:taken] + b"\xa5" * (size - taken) + GUARD
+    return lent.memory.raw == whole and (lent.buffer.taken, lent.buffer.needed) == (taken, len(text))
+
+
+def judge_sizes(call):
+    """Calls with each size of room for the text, and then for the line: how many, and what is wrong of them."""
+    text, line, count, wrong = call.row.out, call.line, 0, []
+    sizes = [(size, 64) for size in range(len(text) + 2)] + [(len(text), size) for size in range(len(line) + 2)]
+    held, lent = tmpl._Lent, None
+    for size, line_size in sizes:
+        memory = iter([guarded(size), guarded(line_size)])
+        tmpl._Lent = lambda _: next(memory)
+        try:
+            status, out, err = call.into(size, line_size)
+        finally:
+            tmpl._Lent = held
+        fits = len(text) <= size
+        said = line if fits else b"tmpl: write failed\n"
+        wanted = call.row.status if fits else tmpl.FULL
+        if status != wanted or not is_shown(out, size, text) or not is_shown(err, line_size, said):
+            wrong.append(f"    room for {size} and {line_size}: {status} {out.memory.raw!r} {err.memory.raw!r}")
+        count += 1
+    return f"{call.row.name}, each size", count, wrong
+
+
+THREADS = 8
+RENDERS = 1000  # of each thread
+
+
+def render_often(templates, number):
+    """How many renders of a thread gave another text than that of its own data."""
+    return sum(templates.render(data={"n": number, "k": turn}) != f"{number} {turn}" for turn in range(RENDERS))
+
+
+def grown_by(count):
+    """The kilobytes by which the process grows by this many large texts, while the cyclic collector is off."""
+    gc.disable()
+    try:
+        before = resource.getrusage(resource.RUSAGE_SELF).ru_maxrss
+        for _ in range(count):
+            tmpl.render_bytes({"m": "{{range 300000}}0123456789{{end}}"})
+        return resource.getrusage(resource.RUSAGE_SELF).ru_maxrss - before
+    finally:
+        gc.enable()
+
+
+def raised(call):
+    """The error of a call: its kind, what it says, and where the data has a number that is refused."""
+    try:
+        return call()
+    except (tmpl.TemplateError, ValueError) as error:
+        return type(error).__name__, str(error), getattr(error, "where", None)
+
+
+REFUSED_NUMBER = "tmpl: data: number not whole or out of range"
+
+
+def judge_options():
+    """What the wrapper for Python makes of values with a fraction, of options that are none, of several data, and of a `with`."""
+    prices = {"names": ["a"], "prices": [1, {"net": 9.9, "gross": Decimal("11.80")}]}
+    text = {"m": "{{range .prices}}{{.}} {{end}}"}
+    with tmpl.Templates({"m": "{{.n}}"}) as templates:
+        many = list(templates.render_many("m", [{"n": 1}, {"n": "b"}, {"n": 2.5}], floats="text"))
+        half = templates.render_many("m", [{"n": 1}, {"n": 2.5}])
+        cases = [
+            ("several data", many, ["1", "b", "2.5"]),
+            ("the first of two data", next(half), "1"),
+            ("the second, which is refused", raised(lambda: next(half)), ("TemplateError", f"{REFUSED_NUMBER} (.n)", ".n")),
+            ("the data before is as it was", templates.render("m", {"n": 1}), "1"),
+        ]
+    of_options = [
+        ("a closed set", lambda: templates.render("m"), ("TemplateError", 'tmpl: no template "m"', None)),
+        ("floats as texts", lambda: tmpl.render(text, "m", prices, floats="text"), "1 map[gross:11.80 net:9.9] "),
+        ("a float", lambda: tmpl.render(text, "m", {"prices": [1, {"net": 9.9}]}), ("TemplateError", f"{REFUSED_NUMBER} (.prices.1.net)", ".prices.1.net")),
+        ("a large number beside a float", lambda: tmpl.render(text, "m", [1.5, 1 << 63], floats="text"), ("TemplateError", f"{REFUSED_NUMBER} (.1)", ".1")),
+        ("a float alone", lambda: tmpl.render(text, "m", 0.5), ("TemplateError", f"{REFUSED_NUMBER} (.)", ".")),
+        ("a number of bytes", lambda: tmpl.render(text, "m", b"[1.5]"), ("TemplateError", REFUSED_NUMBER, None)),
+        ("a mode that is none", lambda: tmpl.render(text, missing_key="empty"), ("ValueError", "missing_key is one of 'default', 'invalid', 'zero', 'error', not 'empty'", None)),
+        ("floats as nothing", lambda: tmpl.render(text, floats="whole"), ("ValueError", "floats is 'refuse' or 'text', not 'whole'", None)),
+    ]
+    limits = "depth is from 0 to 2^32 - 1, and steps from 0 to 2^64 - 1"
+    for name, value in (("depth", 1 << 32), ("depth", -1), ("steps", 1 << 64), ("steps", -1)):
+        of_options.append((f"{name} {value}", lambda it={name: value}: tmpl.render(text, **it), ("ValueError", limits, None)))
+    for name, got, wanted in [*cases, *((name, raised(call), wanted) for name, call, wanted in of_options)]:
+        yield f"the wrapper: {name}", 1, [] if got == wanted else [f"    got {got}"]
+
+
+# files, data, and the file, the line and the template that an error names
+PLACES = [
+    ({"m": "\n{{"}, None, ("m", 2, None)),
+    ({"d:1: in x/m": "\n\n{{nope}}"}, None, ("d:1: in x/m", 3, None)),
+    ({"d:7: in \"q\": /m": '{{define "a\\"\\n\\x80\u00fc"}}\n{{nil}}{{end}}{{template "a\\"\\n\\x80\u00fc"}}'}, None,
+     ('d:7: in "q": /m', 2, 'a"\n\ufffd\u00fc')),
+    ({"m": "{{range 1}}\n{{len .}}{{end}}"}, None, ("m", 2, "m")),
+    ({"x": "no such name"}, None, (None, None, None)),
+    ({"m": "{{.}}"}, 1.5, (None, None, None)),
+]
+
+
+def judge_wrapper():
+    """What the wrapper for Python owes besides texts: threads that share templates, errors that pass between processes, and memory
+    that is given back as soon as a text is."""
+    templates = tmpl.Templates({"m": "{{.n}} {{.k}}"})
+    with ThreadPoolExecutor(THREADS) as pool:
+        wrong = sum(pool.map(lambda number: render_often(templates, number), range(THREADS)))
+    yield "8 threads over one set", THREADS * RENDERS, [f"    {wrong} renders were wrong"] if wrong else []
+    try:
+        templates.render("none")
+        yield "an error that is pickled", 1, ["    there was none"]
+    except tmpl.TemplateError as error:
+        again = pickle.loads(pickle.dumps(error))
+        same = (again.status, again.line, again.text, str(again)) == (4, 'tmpl: no template "none"', b"", 'tmpl: no template "none"')
+        yield "an error that is pickled", 1, [] if same else [f"    {again!r}"]
+    for files, data, wanted in PLACES:
+        try:
+            tmpl.render(files, "m", data)
+            came = None
+        except tmpl.TemplateError as error:
+            came = pickle.loads(pickle.dumps(error))
+            came = came.file, came.line_number, came.template
+        yield f"the place of an error: {wanted}", 1, [] if came == wanted else [f"    {came}"]
+    grown_by(2)
+    more = grown_by(20)
+    yield "the memory of large texts", 1, [f"    it grew by {more} kB"] if more > 4096 else []
+
+
+def judge_names():
+    """Names that are no UTF-8: of a file, and of a template."""
+    settings = tmpl._Settings()
+    refused = (2, b"", b"tmpl: arguments refused; see tmpl --help\n")
+    cases = [
+        ("the name of a file is not UTF-8", [(b"\xff", b"text")], b"\xff", refused),
+        ("the name of the second file is not UTF-8", [(b"m", b"text"), (b"m\xc3", b"text")], b"m", refused),
+        ("a file is refused before the name of the next one", [(b"m", b"{{"), (b"\xff", b"")], b"m", (4, b"", b"tmpl: m:1: unclosed or unreadable action\n")),
+        ("a template's name need not be UTF-8", [(b"m", b'{{define "\xff"}}text{{end}}')], b"\xff", (4, b"", b'tmpl: no template "\\xff"\n')),
+        ("no file", [], b"m", (4, b"", b'tmpl: no template "m"\n')),
+    ]
+    for name, files, template, wanted in cases:
+        status, out, err = tmpl.render_into(files, template, b"", settings, 64, 64)
+        got = (status, out.output(), err.output())
+        yield name, 1, [] if got == wanted else [f"    got {got}"]
+
+
+# ---- C and C++
+
+
+def compiled(folder, name, compiler, *words):
+    """The path of a program, and what is wrong where it can't be compiled."""
+    path = f"{folder}/{name}"
+    status, said = ran(*compiler, *words, "-o", path)
+    return path, [f"    {said}"] if status else []
+
+
+def judge_c(folder):
+    """tests/check/library.c over libtmpl.a, and under valgrind."""
+    wraps = [f"-Wl,--wrap={it}" for it in ("malloc", "realloc", "free")]
+    program, wrong = compiled(
+        folder, "library", ["cc", "-std=gnu11", "-O1", "-g", *WARNINGS], f"-I{BINDINGS}/c", f"{harness.TESTS}/check/library.c", f"{OUT}/libtmpl.a", "-pthread", *wraps
+    )
+    if wrong:
+        yield "tests/check/library.c", 1, wrong
+        return
+    status, said = ran(program)
+    print(said.rstrip())
+    counts = re.search(r"^(\d+) cases, 0 failed$", said, re.MULTILINE)
+    few = not counts or int(counts[1]) < LEAST_CASES
+    yield "tests/check/library.c", int(counts[1]) if counts else 1, [f"    {said}"] if status or few else []
+    if shutil.which("valgrind"):
+        status, said = ran("valgrind", "-q", "--error-exitcode=9", "--leak-check=full", program, "few")
+        yield "tests/check/library.c under valgrind", 1, [f"    {said}"] if status else []
+    else:
+        print("valgrind is not there")
+
+
+CALLS_IN_CPP = [
+    "with data: 11 Hello, Ada!",
+    "without: 18 Hello, <no value>!",
+    'a missing key: 1 "tmpl: m:1: in "m": no entry for key "name"" after "Hello, "',
+    f"a long text: {1 + 30000 * 10 + 1} a{('0123456789' * 4)[:39]}",
+    'few steps: 1 "tmpl: m:1: in "m": more than 1 steps" after "Hello, "',
+    'no template: 4 "tmpl: no template """ after ""',
+    f'a long name: 4 "tmpl: no template "{"x" * 5000}"" after ""',
+    'refused: 4 "tmpl: n:1: unclosed or unreadable action" after ""',
+    'no name of a file: 2 "tmpl: arguments refused; see tmpl --help" after ""',
+    'no JSON: 5 "tmpl: data: number not whole or out of range" after ""',
+    "moved: 9 Ada again",
+    "shared: 9 Ada again",
+    "threads: 5 40000",
+    "after one more file: 13 Ada once more",
+    'printed: 37 {{define "n"}}{{.name}} again{{end}}',
+]
+
+
+def judge_cpp(folder):
+    """The header for C++: tests/check/library.cc over libtmpl.a, and under valgrind."""
+    words = [f"-I{BINDINGS}/c", f"{harness.TESTS}/check/library.cc", f"{OUT}/libtmpl.a"]
+    program, wrong = compiled(folder, "library-cpp", ["c++", "-std=c++17", "-g", "-pthread", *WARNINGS], *words)
+    status, said = (1, "") if wrong else ran(program)
+    lines = said.split("\n")
+    wrong += [f"    got {got[:200]}" for got, wanted in zip(lines, CALLS_IN_CPP) if got != wanted]
+    yield "tests/check/library.cc", len(CALLS_IN_CPP), wrong + [f"    {status}: {len(lines)} lines"] * ((status, len(lines)) != (0, len(CALLS_IN_CPP) + 2))
+    if shutil.which("valgrind") and not wrong:
+        status, said = ran("valgrind", "-q", "--error-exitcode=9", "--leak-check=full", program)
+        yield "tests/check/library.cc under valgrind", 1, [f"    {said}"] if status else []
+
+
+HEADER = r"""
+#include "tmpl.h"
+#include <stdio.h>
+int main(void) {
+    char text[16], line[64];
+    tmpl_settings settings = {0, 0, 0, 0};
+    tmpl_file file = {"m", 1, "{{.}}", 5};
+    tmpl_buffer out = {text, sizeof text, 0, 0}, err = {line, sizeof line, 0, 0};
+    int status = tmpl_render(&settings, &file, 1, "m", 1, "[1,2]", 5, &out, &err);
+    printf("%d %.*s\n", status, (int)out.taken, out.bytes);
+    return 0;
+}
+"""
+
+
+def judge_header(folder):
+    """The header in C and C++, over the shared library and over the static one, and as it is installed."""
+    root = f"{folder}/a root"
+    status, said = ran("make", "-s", "-C", harness.TOP, "install-lib", f"DESTDIR={root}", "PREFIX=/usr")
+    yield "make install-lib", 1, [f"    {said}"] if status else []
+    for name, text in (("header.c", HEADER), ("header.cc", HEADER)):
+        with open(f"{folder}/{name}", "w", encoding="utf-8") as it:
+            it.write(text)
+    libraries = {"static": [f"{OUT}/libtmpl.a"], "shared": [f"-L{OUT}", "-ltmpl", f"-Wl,-rpath,{OUT}"]}
+    installed = [f"-I{root}/usr/include", f"-L{root}/usr/lib", "-ltmpl", f"-Wl,-rpath,{root}/usr/lib"]
+    ways = [(kind, [f"-I{BINDINGS}/c"], words) for kind, words in libraries.items()] + [("installed", [], installed)]
+    for language, compiler, file in (("C", ["cc", "-std=c99"], "header.c"), ("C++", ["c++", "-std=c++11"], "header.cc")):
+        for kind, flags, words in ways:
+            program, wrong = compiled(folder, f"{language}-{kind}", [*compiler, *WARNINGS], *flags, f"{folder}/{file}", *words)
+            got = (1, "") if wrong else ran(program)
+            yield f"the header in {language}, {kind}", 1, wrong or ([] if got == (0, "0 [1 2]\n") else [f"    got {got}"])
+    if shutil.which("pkg-config"):
+        environment = {**os.environ, "PKG_CONFIG_PATH": f"{root}/usr/lib/pkgconfig"}
+        got = ran("pkg-config", "--cflags", "--libs", "--define-variable=prefix=/opt/x", "tmpl", env=environment)
+        yield "pkg-config", 1, [] if got == (0, "-I/opt/x/include -L/opt/x/lib -ltmpl \n") or got == (0, "-I/opt/x/include -L/opt/x/lib -ltmpl\n") else [f"    got {got}"]
+    status, said = ran("make", "-s", "-C", harness.TOP, "uninstall", f"DESTDIR={root}", "PREFIX=/usr")
+    left = [name for _, folders, names in os.walk(root) for name in folders + names]
+    yield "make uninstall", 1, [f"    {said} {left}"] if status or left != ["usr"] else []
+
+
+RECORDED = re.compile(r"(.+),sha256=(.+),(\d+)")
+
+
+def judge_wheel(folder):
+    """The wheel of the binding for Python: that it holds what its list says, and that a program runs by it."""
+    status, path = ran(sys.executable, f"{harness.TOP}/packaging/make.py", "wheel")
+    if status:
+        return "the wheel", 1, [f"    {path}"]
+    home, wrong = f"{folder}/wheel", []
+    with zipfile.ZipFile(path.strip()) as held:
+        held.extractall(home)
+        names = held.namelist()
+        lines = held.read(next(it for it in names if it.endswith("/RECORD"))).decode().splitlines()
+        for name, total, size in (it.groups() for it in map(RECORDED.fullmatch, lines) if it):
+            what = held.read(name)
+            is_right = total == base64.urlsafe_b64encode(hashlib.sha256(what).digest()).rstrip(b"=").decode() and int(size) == len(what)
+            wrong += [] if is_right else [f"    its list is wrong of {name}"]
+    if sorted(names) != sorted(it.rsplit(",", 2)[0] for it in lines):
+        wrong.append(f"    its list names {lines}, and it holds {names}")
+    program = 'import tmpl; print(tmpl.__file__, tmpl.render({"m": "{{.}}"}, "m", [1, 2]))'
+    environment = {key: value for key, value in os.environ.items() if key != "LIBTMPL"}
+    got = ran(sys.executable, "-c", program, env={**environment, "PYTHONPATH": home}, cwd=folder)
+    return "the wheel", 1, wrong + ([] if got == (0, f"{home}/tmpl/__init__.py [1 2]\n") else [f"    got {got}"])
+
+
+def judge_names_of(path):
+    """That the library shows no names but its own."""
+    status, said = ran("nm", "-D", "--defined-only", path) if path.endswith(".so") else ran("nm", "-g", "--defined-only", path)
+    names = [line.split()[-1] for line in said.splitlines() if len(line.split()) == 3]
+    return f"the names of {os.path.basename(path)}", 1, [] if sorted(names) == NAMES and not status else [f"    {names}"]
+
+
+def judge_marks():
+    """That all names are found as it is loaded, and that loaders can refuse older processors than those it is compiled for."""
+    status, said = ran("readelf", "-dnW", f"{OUT}/libtmpl.so")
+    missing = [it for it in ("BIND_NOW", "x86 ISA needed: x86-64-v2") if it not in said]
+    return "what loaders read of it", 1, [f"    {status}: it lacks {missing}"] if status or missing else []
+
+
+def judge_version():
+    """That the library says which build it is, with the logic of this toolchain."""
+    logic = re.search(r"logic ([0-9a-f]+)", ran("rt", "version")[1])[1]
+    wanted = rf"tmpl (0~git\d+\.[0-9a-f]{{12}}(\+changed)?|of no commit) proved by the logic {logic} of \S.*"
+    said = tmpl.version()
+    return "which build it is", 1, [] if re.fullmatch(wanted, said) else [f"    it says {said}"]
+
+
+# ---- documents and bindings
+
+
+def programs():
+    """The programs of docs/EMBEDDING.md and README.md: language, text, and what they put out."""
+    found = []
+    for page in ("docs/EMBEDDING.md", "README.md"):
+        with open(f"{harness.TOP}/{page}", encoding="utf-8") as it:
+            found += BLOCK.findall(it.read())
+    return found
+
+
+def judge_program(folder, language, text, wanted):
+    """A program of the document, compiled and run."""
+    home = tempfile.mkdtemp(prefix=f"{language}-", dir=folder)
+    run = {"c": run_c, "cpp": run_cpp, "python": run_python, "go": run_go, "rust": run_rust}[language]
+    got = run(home, text)
+    lines = sum(bool(line.strip()) for line in text.splitlines())
+    wrong = [] if got == (0, wanted) else [f"    got {got}"]
+    return f"a program that the documents show: {language}", 1, wrong + [f"    {lines} lines"] * (lines > 15)
+
+
+# letters by Dask: how many, and what each is, by the rules
+LETTERS = 12000
+
+
+def letter(number):
+    balance = number * 7919 % 2000 - 1000
+    said = f"you owe us {-balance}" if balance < 0 else f"you have {balance}"
+    return f"Dear Customer {number},\n{said} euros.\n".encode()
+
+
+def with_dask():
+    """A Python that has Dask's scheduler; none where there is none."""
+    for python in (sys.executable, "/usr/bin/python3"):
+        found = os.path.exists(python) and subprocess.run([python, "-c", "import distributed"], stderr=subprocess.DEVNULL, check=False)
+        if found and found.returncode == 0:
+            return python
+    return None
+
+
+def letters_by_dask(folder):
+    """Runs examples/letters.py, also with a worker that is killed: every letter must be there, once, and be that of the rules."""
+    python = with_dask()
+    if not python:
+        print("examples/letters.py is left out, since Dask's scheduler is not there")
+        return
+    wanted = b"".join(letter(it) for it in range(LETTERS))
+    environment = {**os.environ, "LIBTMPL": f"{OUT}/libtmpl.so", "PYTHONPATH": f"{BINDINGS}/python"}
+    for options in ([], ["--kill"]):
+        home = tempfile.mkdtemp(prefix="letters-", dir=folder)
+        words = [python, f"{harness.TOP}/examples/letters.py", str(LETTERS), home, *options]
+        how = {"env": environment, "cwd": folder, "stdout": subprocess.PIPE, "stderr": subprocess.DEVNULL, "timeout": 120}
+        done = subprocess.run(words, check=False, **how)
+        text = b""
+        for name in sorted(it for it in os.listdir(home) if it.endswith(".txt")):
+            with open(f"{home}/{name}", "rb") as it:
+                text += it.read()
+        wrong = [] if done.returncode == 0 and text == wanted else [f"    status {done.returncode}, {len(text)} bytes of {len(wanted)}"]
+        wrong += [] if done.stdout.startswith(b"%d letters, " % LETTERS) else [f"    it says {done.stdout}"]
+        yield f"letters by Dask {' '.join(options)}".strip(), 1, wrong
+
+
+def written(path, text):
+    os.makedirs(os.path.dirname(path), exist_ok=True)
+    with open(path, "w", encoding="utf-8") as it:
+        it.write(text)
+
+
+def run_c(home, text):
+    written(f"{home}/hello.c", text)
+    words = [f"-I{BINDINGS}/c", f"{home}/hello.c", f"-L{OUT}", "-ltmpl", f"-Wl,-rpath,{OUT}"]
+    program, wrong = compiled(home, "hello", ["cc", *WARNINGS], *words)
+    return (1, wrong) if wrong else ran(program)
+
+
+def run_cpp(home, text):
+    written(f"{home}/hello.cc", text)
+    words = [f"-I{BINDINGS}/c", f"{home}/hello.cc", f"-L{OUT}", "-ltmpl", f"-Wl,-rpath,{OUT}"]
+    program, wrong = compiled(home, "hello", ["c++", "-std=c++17", *WARNINGS], *words)
+    return (1, wrong) if wrong else ran(program)
+
+
+def run_python(home, text):
+    written(f"{home}/hello.py", text)
+    environment = {**os.environ, "PYTHONPATH": f"{BINDINGS}/python", "LIBTMPL": f"{OUT}/libtmpl.so"}
+    return ran(sys.executable, f"{home}/hello.py", env=environment)
+
+
+def run_go(home, text):
+    written(f"{home}/main.go", text)
+    written(f"{home}/go.mod", f"module hello\n\ngo 1.17\n\nrequire tmpl v0.0.0\n\nreplace tmpl => {BINDINGS}/go\n")
+    return ran("go", "run", ".", cwd=home, env={**os.environ, "GOFLAGS": "-mod=mod"})
+
+
+def run_rust(home, text):
+    written(f"{home}/src/main.rs", text)
+    written(f"{home}/Cargo.toml", f'[package]\nname = "hello"\nversion = "0.0.0"\nedition = "2021"\n\n[dependencies]\ntmpl = {{ path = "{BINDINGS}/rust" }}\n')
+    return ran("cargo", "run", "--quiet", "--offline", cwd=home)
+
+
+TOOLS = {"go": ("go", ["go", "test", "-race", "./..."]), "rust": ("cargo", ["cargo", "test", "--quiet", "--offline"])}
+
+
+def judge_bindings(folder):
+    """The tests and the programs of the bindings whose tools are installed."""
+    for language, (tool, words) in TOOLS.items():
+        if not shutil.which(tool):
+            print(f"{tool} is not there, so the binding for {language} is not tried")
+            continue
+        home = f"{folder}/binding-{language}"
+        shutil.copytree(f"{BINDINGS}/{language}", home, ignore=shutil.ignore_patterns("target"))
+        environment = {**os.environ, "LIBTMPL_DIR": OUT, "CGO_CFLAGS": f"-I{BINDINGS}/c", "CGO_LDFLAGS": f"-L{OUT} -Wl,-rpath,{OUT}"}
+        status, said = ran(*words, cwd=home, env={**environment, "CARGO_TARGET_DIR": f"{folder}/target"})
+        yield f"the tests of the binding for {language}", 1, [f"    {said}"] if status else []
+        for it in programs():
+            if it[0] == language:
+                yield judge_program(folder, *it)
+
+
+def main(words):
+    global tmpl
+    status, said = ran("make", "-s", "-C", harness.TOP, "lib")
+    if status:
+        print(said)
+        return harness.closing(0, 1)
+    with tempfile.TemporaryDirectory() as folder:
+        if words == ["--bindings"]:
+            passed, failed, _ = harness.tally(list(judge_bindings(folder)))
+            return harness.closing(passed, failed)
+        os.environ["LIBTMPL"] = f"{OUT}/libtmpl.so"
+        sys.path.insert(0, f"{BINDINGS}/python")
+        import tmpl
+
+        calls = [call for call in map(call_of, harness.read_rows()) if call]
+        passed, failed, runs = harness.tally(map(judge, calls))
+        failed += harness.too_few("rows went through the library", runs, LEAST)
+        told = harness.tally(map(judge_kept, calls))
+        failed += told[1] + harness.too_few("rows went through what is kept", told[2], LEAST)
+        passed += told[0]
+        small = [call for call in calls if len(call.row.out) <= SIZES and len(call.line) <= 2 * SIZES]
+        told = harness.tally(map(judge_sizes, small))
+        failed += told[1] + harness.too_few("calls with room of some size", told[2], LEAST_SIZES)
+        passed += told[0]
+        results = [*judge_names(), *judge_refusals(), *judge_wrapper(), *judge_options(), *judge_c(folder), *judge_cpp(folder), *judge_header(folder)]
+        results += [judge_names_of(f"{OUT}/libtmpl.so"), judge_names_of(f"{OUT}/libtmpl.a"), judge_version(), judge_marks()]
+        results += [judge_wheel(folder)]
+        results += [judge_program(folder, *it) for it in programs() if it[0] in ("c", "cpp", "python")]
+        results += letters_by_dask(folder)
+        told = harness.tally(results)
+        return harness.closing(passed + told[0], failed + told[1])
+
+
+if __name__ == "__main__":
+    sys.exit(main(sys.argv[1:]))

@@ -1,0 +1,211 @@
+"""Tries the program and the C library in the places to which `make static` and `make aarch64` bring them. Each row of tests/rows goes
+through the static program, as rendered.py has it; some go through it on a processor that has nothing beyond the first x86-64. In a root without
+any other file it renders an example. What is for aarch64 runs by QEMU: the rows that are calls, and 20,000 changed ones, go through the
+library, by asked.c, where the text and the line of a changed one must be those of the library that is built here; the other rows, and every
+eighth of those, go through the program. With --long all of them do. The packages of both are made twice, and must have the same bytes.
+
+What needs a program that is not installed is left out, and counted."""
+import json
+import multiprocessing
+import os
+import re
+import shutil
+import subprocess
+import sys
+import tempfile
+
+from tests.check import asked, rendered
+from tests.lib import harness
+
+PORTS = f"{harness.TOP}/packaging/out"
+CHANGED = 20_000
+SOME = 16  # each this many rows go through the static program on an old processor
+CALLS = 8  # each this many rows that are calls go through the program for aarch64
+LEAST = 1500  # rows of a program
+HELLO = f"{harness.TOP}/examples/hello"
+IMAGE = re.compile(r"^```dockerfile\n(FROM scratch\n.*?)^```$", re.MULTILINE | re.DOTALL)
+
+
+def ran(*words, **how):
+    """The status and all output of a program."""
+    given = {} if "input" in how else {"stdin": subprocess.DEVNULL}
+    it = subprocess.run(words, stdout=subprocess.PIPE, stderr=subprocess.STDOUT, **given, **how)
+    return it.returncode, it.stdout.decode(errors="replace")
+
+
+def written(path, text):
+    """A file with this text, by its path."""
+    with open(path, "w", encoding="utf-8") as it:
+        it.write(text)
+    return path
+
+
+# ---- rows
+
+
+def start():
+    global RUNNER
+    RUNNER = harness.Runner()
+
+
+def judge_row(row):
+    return rendered.check(RUNNER, row)
+
+
+def judge_rows(what, program, rows):
+    """Rows through a program, in as many processes as there are processors."""
+    harness.PROGRAM = program
+    with multiprocessing.get_context("fork").Pool(harness.processes(), start) as pool:
+        wrong = [f"    {row.name}: {line}" for row, lines in zip(rows, pool.map(judge_row, rows, chunksize=8)) for line in lines]
+        pool.close()
+        pool.join()
+    print(f"{len(rows)} rows went through {what}")
+    return what, len(rows), wrong
+
+
+def by_qemu(folder, name, machine, program, *flags):
+    """A program that runs another one by QEMU."""
+    path = f"{folder}/{name}"
+    words = [f'-DQEMU="{shutil.which(machine)}"', f'-DPROGRAM="{program}"', *flags]
+    subprocess.run(["cc", "-O1", *words, f"{harness.TESTS}/ports/by_qemu.c", "-o", path], check=True)
+    return path
+
+
+# ---- an empty root
+
+
+def way_into_roots():
+    """What runs a program in another root: with the rights of root, or in a name space of its own; none where neither is allowed."""
+    for way in (["chroot"], ["unshare", "--map-root-user", "chroot"]):
+        if shutil.which(way[0]) and ran(*way, "/", "/bin/true")[0] == 0:
+            return way
+    return None
+
+
+def judge_root(folder, way, program, what):
+    """A program in a root that has no file but its own and those of an example."""
+    root = f"{folder}/{what}-root"
+    shutil.copytree(HELLO, root)
+    shutil.copy(program, f"{root}/tmpl")
+    with open(f"{HELLO}/expected", encoding="utf-8") as it:
+        wanted = it.read()
+    cases = [
+        (["--data", "data.json", "hello.tmpl"], (0, wanted)),
+        (["--data", "no.json", "hello.tmpl"], (3, "tmpl: no.json: no such file\n")),
+    ]
+    wrong = []
+    for words, come in cases:
+        got = ran(*way, root, "/tmpl", *words)
+        wrong += [] if got == come else [f"    {words}: got {got}"]
+    return f"{what}, in an empty root", len(cases), wrong
+
+
+def judge_image(folder, way, program):
+    """The image from nothing of docs/CONTAINERS.md, as a folder, with the data as its standard input."""
+    with open(f"{harness.TOP}/docs/CONTAINERS.md", encoding="utf-8") as it:
+        lines = IMAGE.search(it.read())[1].splitlines()
+    root = f"{folder}/image"
+    os.makedirs(root)
+    given = {"tmpl": program, "site.tmpl": written(f"{folder}/site.tmpl", "listen {{.port}};\n")}
+    for kind, rest in (it.split(" ", 1) for it in lines):
+        if kind == "COPY":
+            name, to = rest.split()
+            shutil.copy(given[name], f"{root}{to}")
+        elif kind == "WORKDIR":
+            os.makedirs(f"{root}{rest}")
+        elif kind == "ENTRYPOINT":
+            got = ran(*way, root, *json.loads(rest), input=b'{"port": 80}')
+    return "the image of docs/CONTAINERS.md", 1, [] if got == (0, "listen 80;\n") else [f"    got {got}"]
+
+
+# ---- the library, and packages
+
+
+def judge_library(folder):
+    """The library for aarch64, held to the rows and to what the one that is built here says."""
+    calls = asked.of_rows()
+    rows = asked.write(f"{folder}/rows", calls)
+    changes = asked.write(f"{folder}/changes", asked.of_changes(calls, CHANGED))
+    program = f"{folder}/asked"
+    words = ["-O2", "-Wall", "-Wextra", "-static", f"-I{harness.TOP}/bindings/c"]
+    status, said = ran("aarch64-linux-gnu-gcc", *words, f"{harness.TESTS}/ports/asked.c", f"{PORTS}/aarch64/libtmpl.a", "-o", program)
+    if not status:
+        status, said = ran("qemu-aarch64", program, f"{folder}/rows", f"{folder}/changes")
+    print(f"{rows} rows and {changes} changed calls went through the library for aarch64")
+    is_right = status == 0 and said == f"{rows + changes} passed, 0 failed\n" and rows >= asked.LEAST
+    return "the library for aarch64", rows + changes, [] if is_right else [f"    {said}"]
+
+
+def made(*words):
+    """What was packed, by its path."""
+    status, said = ran(sys.executable, f"{harness.TOP}/packaging/make.py", *words)
+    if status:
+        raise ValueError(said)
+    path = said.splitlines()[-1]
+    with open(path, "rb") as it:
+        return it.read(), path
+
+
+def judge_packages(port):
+    """The packages of a port, made twice, of which the second must be as the first; and the one for Debian is tried."""
+    wrong = []
+    for kind in ("tar", "deb"):
+        one, path = made(kind, port)
+        other, _ = made(kind, port)
+        wrong += [] if one == other else [f"    {path} has other bytes when it is made again"]
+    status, said = ran(f"{harness.TOP}/packaging/try.sh", path)
+    return f"the packages: {port}", 3, wrong + ([f"    {said}"] if status else [])
+
+
+# ---- all
+
+
+def of_arm(rows, is_long):
+    """The rows that go through the program for aarch64."""
+    calls = {it.name for it in rows if asked.library.call_of(it)}
+    some = {name for name in sorted(calls)[::CALLS]}
+    return [it for it in rows if is_long or it.name in some or it.name not in calls]
+
+
+def parts(folder, skip, is_long):
+    """All results. What is left out is told to `skip`."""
+    static, arm, rows, way = f"{PORTS}/static/tmpl", f"{PORTS}/aarch64/tmpl", harness.read_rows(), way_into_roots()
+    yield judge_rows("the static program", static, rows)
+    yield judge_packages("static")
+    if way:
+        yield judge_root(folder, way, static, "the static program")
+        yield judge_image(folder, way, static)
+    else:
+        skip("no program may be run in another root here")
+    if shutil.which("qemu-x86_64"):
+        old = by_qemu(folder, "old", "qemu-x86_64", static, '-DCPU="qemu64"')
+        yield judge_rows("the static program, on the first x86-64", old, rows[::SOME])
+    else:
+        skip("qemu-x86_64 is not there, so no older processor was tried: install qemu-user")
+    if not shutil.which("aarch64-linux-gnu-gcc"):
+        skip("aarch64-linux-gnu-gcc is not there, so nothing was built for aarch64: install gcc-aarch64-linux-gnu and libc6-dev-arm64-cross")
+        return
+    if not shutil.which("qemu-aarch64"):
+        skip("qemu-aarch64 is not there, so what is for aarch64 was not run: install qemu-user")
+        return
+    yield judge_packages("aarch64")
+    yield judge_rows("the program for aarch64", by_qemu(folder, "arm", "qemu-aarch64", arm), of_arm(rows, is_long))
+    yield judge_library(folder)
+
+
+def main(words):
+    targets = ["static", *["aarch64"] * bool(shutil.which("aarch64-linux-gnu-gcc")), "lib"]
+    status, said = ran("make", "-s", "-C", harness.TOP, *targets)
+    if status:
+        print(said)
+        return harness.closing(0, 1)
+    skipped = []
+    with tempfile.TemporaryDirectory() as folder:
+        passed, failed, runs = harness.tally(parts(folder, skipped.append, words == ["--long"]))
+    failed += harness.too_few("cases were run", runs, LEAST)
+    print(*(f"skipped: {it}" for it in skipped), f"{len(skipped)} parts were skipped", sep="\n")
+    return harness.closing(passed, failed)
+
+
+if __name__ == "__main__":
+    sys.exit(main(sys.argv[1:]))

@@ -1,0 +1,233 @@
+"""Has tmpl-check check templates against one schema, by each mode for missing keys, and compares the verdicts with those worked out by hand:
+the proof says that an accepted template never fails, and a check that refuses all would keep it. Then each accepted template is rendered over
+data of the schema, by each mode, and must end well, or at the call of `stop`; and each that is refused over data of the schema for which it
+fails.
+
+Then it is held to rows over a JSON Schema each, and to random ones: a template that it accepts is rendered over values that conform, and
+none may fail. `verdicts.py SEED COUNT` draws others. Where the Python package jsonschema is installed, what conforms is held to it."""
+import itertools
+import json
+import os
+import random
+import subprocess
+import sys
+import tempfile
+
+from tests.lib import conforming, harness
+from tests.rows import schema_rows
+
+try:
+    import jsonschema
+except ImportError:
+    jsonschema = None
+
+MODES = ("default", "invalid", "zero", "error")
+LEAF = {"name": "leaf", "items": []}
+TREE = {"name": "root", "items": [LEAF, {"name": "", "items": [LEAF]}]}
+NAME = {"name": {"type": "string"}}
+NAMED = {"type": "object", "required": ["name"], "properties": NAME, "additionalProperties": False}
+# `n` is a number, `items` maps with a name, `tree` a map with a name and items that are such maps, and `user`, which may be left out, a map
+# with a name
+SCHEMA = {
+    "type": "object",
+    "required": ["n", "items", "tree"],
+    "additionalProperties": False,
+    "properties": {
+        "n": {"type": "integer"},
+        "items": {"type": "array", "items": NAMED},
+        "tree": {"$ref": "#/$defs/tree"},
+        "user": NAMED,
+    },
+    "$defs": {
+        "tree": {
+            "type": "object",
+            "required": ["name", "items"],
+            "additionalProperties": False,
+            "properties": {**NAME, "items": {"type": "array", "items": {"$ref": "#/$defs/tree"}}},
+        }
+    },
+}
+# data of the schema
+DATA = [
+    {"n": n, "items": items, "tree": tree, **user}
+    for n, items, tree, user in itertools.product(
+        (0, 7), ([], [{"name": "a"}, {"name": ""}]), (LEAF, TREE), ({}, {"user": {"name": "Ada"}})
+    )
+]
+STOPPED = b': no template "stop"\n'
+# a template that never fails, and the modes by which it is accepted
+ACCEPTED = [
+    ("text", ("each",)),
+    ("{{.n}}{{range .items}}{{.name}}, {{end}}", ("each",)),
+    ("{{range $i, $e := .items}}{{if $i}}, {{end}}{{$e.name}}{{else}}none{{end}}", ("each",)),
+    ('{{define "w"}}{{.name}}{{range .items}}{{template "w" .}}{{end}}{{end}}{{template "w" .tree}}', ("each",)),
+    ("{{$x := 0}}{{range .items}}{{$x = .name}}{{end}}{{print $x}}", ("each",)),
+    ("{{if lt .n 3}}{{len .items}}{{end}}", ("each",)),
+    ('{{if .items}}{{range .items}}{{html .name}}{{end}}{{else}}{{template "stop"}}{{end}}', ("each",)),
+    ("{{with .user}}{{.name}}{{end}}{{if .user}}{{.user.name}}{{end}}", ("default",)),
+]
+# one that may fail, the mode, and data for which it does
+REFUSED = [
+    ("{{.x}}", "error", DATA[0]),
+    ("{{.user.name}}", "error", DATA[0]),
+    ("{{with .user}}{{.name}}{{end}}", "error", DATA[0]),
+    ("{{range .n}}{{.name}}{{end}}", "each", {**DATA[0], "n": 1}),
+    ('{{lt .n "a"}}', "each", DATA[0]),
+    ("{{len .n}}", "default", DATA[0]),
+    ('{{template "w"}}', "each", DATA[0]),
+    ("{{range .items}}{{.n}}{{end}}", "error", {**DATA[0], "items": [{"name": "a"}]}),
+    ("{{range .items}}{{.name.x}}{{end}}", "default", {**DATA[0], "items": [{"name": "a"}]}),
+    ("{{index .items 0}}", "default", DATA[0]),
+    ('{{define "w"}}{{.name}}{{range .items}}{{template "w" .name}}{{end}}{{end}}{{template "w" .tree}}', "default", {**DATA[0], "tree": TREE}),
+]
+
+
+def ran(words):
+    return subprocess.run(words, stdout=subprocess.PIPE, stderr=subprocess.PIPE, timeout=harness.SECONDS, check=False)
+
+
+def rendered(template, mode, data):
+    """What came of a render."""
+    with tempfile.TemporaryDirectory(dir=harness.MEMORY) as folder:
+        for name, what in (("t", template), ("d", json.dumps(data))):
+            with open(f"{folder}/{name}", "w", encoding="utf-8") as it:
+                it.write(what)
+        return ran([harness.PROGRAM, "--missingkey", mode, "--data", f"{folder}/d", f"{folder}/t"])
+
+
+def write(folder, name, what):
+    with open(f"{folder}/{name}", "w", encoding="utf-8") as it:
+        it.write(what if isinstance(what, str) else json.dumps(what))
+
+
+def checked(folder, schema, template, words):
+    """The status of tmpl-check over a template and a schema, and what it puts out, without warnings."""
+    write(folder, "s", schema if isinstance(schema, str) else json.dumps(schema))
+    write(folder, "t", template)
+    ended = subprocess.run([harness.CHECKER, "--schema", "s", *words, "t"], cwd=folder, capture_output=True, timeout=harness.SECONDS, check=False)
+    lines = (ended.stdout + ended.stderr).decode().splitlines(keepends=True)
+    return ended.returncode, "".join(line for line in lines if ": warning: " not in line)
+
+
+def verdict(template, mode):
+    """Whether tmpl-check accepts a template by a mode, over the schema of above."""
+    words = ["--stop", "stop"] + ([] if mode == "each" else ["--missingkey", mode])
+    with tempfile.TemporaryDirectory(dir=harness.MEMORY) as folder:
+        status, out = checked(folder, SCHEMA, template, words)
+    if status == 1 and ": error: may fail: " in out:
+        return "may fail"
+    return "accepted" if (status, out) == (0, "") else f"status {status}: {out}"
+
+
+def placed(text, token):
+    """The line and the column of what stands in a text, of ASCII, for the first time."""
+    front = text[: text.index(token)] if token else ""
+    return f"{front.count(chr(10)) + 1}:{len(front) - front.rfind(chr(10))}"
+
+
+def row_results():
+    """The rows over a JSON Schema."""
+    with tempfile.TemporaryDirectory(dir=harness.MEMORY) as folder:
+        for title, schema, template, words in schema_rows.ACCEPTED:
+            came = checked(folder, schema, template, words)
+            yield f"accepted: {title}", 1, [] if came == (0, "") else [f"    {came}, and not accepted"]
+        for title, schema, template, words, line in schema_rows.REFUSED:
+            came = checked(folder, schema, template, words)
+            yield f"refused: {title}", 1, [] if came == (1, f"t:{line}\n") else [f"    {came}, and not {line}"]
+        for title, schema, token, said in schema_rows.UNREAD:
+            wanted = f"s:{placed(schema, token)}: error: schema not understood: {said}\n"
+            came = checked(folder, schema, "text", [])
+            yield f"schema: {title}", 1, [] if came == (1, wanted) else [f"    {came}, and not {wanted!r}"]
+        for name, schema, said in schema_rows.EXAMPLES:
+            example = f"{harness.TOP}/examples/{name}"
+            with open(f"{example}/args", encoding="utf-8") as it:
+                files = [f"{example}/{word}" for word in it.read().split() if word.endswith(".tmpl")]
+            write(folder, "s", schema)
+            ended = ran([harness.CHECKER, "--schema", f"{folder}/s", *files])
+            lines = [line for line in ended.stdout.decode().splitlines() if ": warning: " not in line]
+            good = lines == [] if said is None else len(lines) == 1 and lines[0].endswith(f": error: may fail: {said}")
+            yield f"example {name}", 1, [] if good else [f"    {lines}, and not {said}"]
+            with open(f"{example}/data.json", encoding="utf-8") as it:
+                data = json.load(it)
+            if said is None:
+                yield f"data of example {name}", 1, [] if conforming.conforms(schema, schema, data) else ["    it does not conform"]
+        came = checked(folder, '{"type": "object",}', "text", [])
+        yield "schema that is not JSON", 1, [] if came[0] == 1 and came[1].startswith("s:1:19: error: not JSON: ") else [f"    {came}"]
+
+
+def accepted_part(folder, schema, lines, words):
+    """What is left of a template once the lines are taken out that are refused."""
+    lines = ['{{define "w"}}{{print .}}{{end}}', *lines]
+    for _ in range(len(lines)):
+        status, out = checked(folder, schema, "\n".join(lines), words)
+        if status == 0:
+            return "\n".join(lines)
+        place = out.split(":")
+        if status != 1 or place[0] != "t":
+            raise ValueError(f"status {status}: {out}")
+        lines[int(place[1]) - 1] = ""
+    return None
+
+
+def drawn_results(seed, count):
+    """Random schemas, templates that are accepted, and values that conform."""
+    tried = 0
+    with tempfile.TemporaryDirectory(dir=harness.MEMORY) as folder:
+        for number in range(seed, seed + count):
+            draw = random.Random(number)
+            schema = conforming.drawn_document(draw)
+            mode = draw.choice(("each", *MODES))
+            words = [] if mode == "each" else ["--missingkey", mode]
+            values = [conforming.drawn_value(draw, schema, schema, 5) for _ in range(12)]
+            good = [value for value in values if conforming.conforms(schema, schema, value)][:3]
+            if jsonschema is not None:
+                theirs = [jsonschema.Draft202012Validator(schema).is_valid(value) for value in values]
+                ours = [conforming.conforms(schema, schema, value) for value in values]
+                yield f"what conforms to schema {number}", 1, [] if theirs == ours else [f"    {json.dumps(schema)}: {list(zip(values, theirs, ours))}"]
+            template = accepted_part(folder, schema, conforming.drawn_template(draw), words)
+            if not good or template is None:
+                continue
+            for one, value in itertools.product(modes_of(mode), good):
+                came = rendered(template, one, value)
+                tried += 1
+                said = f"    {json.dumps(schema)}\n    {template!r} over {json.dumps(value)}: {came.stderr!r}"
+                yield f"drawn {number} by {one}", 1, [] if came.returncode == 0 else [said]
+    yield "renders of drawn templates", 1, [] if tried > count else [f"    {tried} alone"]
+
+
+def modes_of(mode):
+    return MODES if mode == "each" else (mode,)
+
+
+def results():
+    for template, modes in ACCEPTED:
+        for mode in modes:
+            said = verdict(template, mode)
+            yield f"{template} by {mode}", 1, [] if said == "accepted" else [f"    {said!r}, and not accepted"]
+            for one, data in itertools.product(modes_of(mode), DATA):
+                came = rendered(template, one, data)
+                good = came.returncode == 0 or came.returncode == 1 and came.stderr.endswith(STOPPED)
+                yield f"{template} by {one} over {data}", 1, [] if good else [f"    status {came.returncode}: {came.stderr!r}"]
+    for template, mode, data in REFUSED:
+        said = verdict(template, mode)
+        yield f"{template} by {mode}", 1, [] if said == "may fail" else [f"    {said!r}, and not refused"]
+        came = [rendered(template, one, data).returncode for one in modes_of(mode)]
+        yield f"{template} by {mode} over {data}", 1, [] if 1 in came else [f"    no render failed: {came}"]
+
+
+def main():
+    if not harness.is_built():
+        print("there is no program: build it by `make`")
+        return harness.closing(0, 1)
+    if not os.access(harness.CHECKER, os.X_OK):
+        print("there is no tmpl-check: build it by `make`")
+        return harness.closing(0, 1)
+    if jsonschema is None:
+        print("what conforms is not held to the package jsonschema, which is not installed")
+    seed, count = map(int, sys.argv[1:3]) if len(sys.argv) > 2 else (1, 400)
+    passed, failed, _ = harness.tally(itertools.chain(results(), row_results(), drawn_results(seed, count)))
+    return harness.closing(passed, failed)
+
+
+if __name__ == "__main__":
+    sys.exit(main())

@@ -1,0 +1,219 @@
+"""Tries the edits crates/NAME/edits/*.edit as the gate tries those of must-fail/: the prover must refuse each. This is
+done on a copy of the repository, where they take the place of those of must-fail/, over what earlier runs kept in out/.
+
+    edits.py [NAME..]     tries the edits of these crates, or of all; RT_JOBS=N takes N crates side by side, else one
+    edits.py --apply      only looks whether each edit of edits/ and of must-fail/ still applies to its file, and, where the crate has
+                          changed since, has the compiler's front end read each of edits/ over the libraries that `rt ci` left, so that
+                          one which no longer compiles is found
+
+When all edits of a crate were refused, or read and found to compile, a checksum of its source and of its edits is written to
+tests/gate/edits.seen."""
+import hashlib
+import os
+import re
+import shutil
+import subprocess
+import sys
+import tempfile
+from concurrent.futures import ThreadPoolExecutor
+
+from tests.lib import harness
+
+FOLDERS = ("edits", "must-fail")
+REFUSED = ": refused, as it must be"
+SEEN = f"{harness.TESTS}/gate/edits.seen"
+READ = "only=0 proved=0"  # what a check of no function says at its end
+
+
+def edits_in(folder):
+    return sorted(it for it in os.listdir(folder) if not it.endswith(".md")) if os.path.isdir(folder) else []
+
+
+def rt(folder, *words):
+    """What the toolchain says, both streams in one."""
+    streams = {"stdin": subprocess.DEVNULL, "stdout": subprocess.PIPE, "stderr": subprocess.STDOUT}
+    return subprocess.run(["rt", *words], cwd=folder, errors="replace", **streams).stdout
+
+
+def take_edits(crate, kind):
+    """Has the edits of that folder of the repository stand in must-fail/ of a crate of the copy, in place of all others."""
+    shutil.rmtree(f"{crate}/must-fail", ignore_errors=True)
+    source = f"{harness.TOP}/crates/{os.path.basename(crate)}/{kind}"
+    if os.path.isdir(source):
+        shutil.copytree(source, f"{crate}/must-fail")
+
+
+def unfit(crate):
+    """The edits in must-fail/ of a crate of the copy that can't be applied, and why."""
+    names = edits_in(f"{crate}/must-fail")
+    told = {it: "its name does not end in .edit" for it in names if not it.endswith(".edit")}
+    # what lays out a crate's files also says which edits do not apply
+    said = rt(crate, "fmt") if names else ""
+    told.update(re.findall(r"note: must-fail/(\S+) cannot be applied, so [^:]*: (.*)", said))
+    return told
+
+
+def apply(room, crates, kind):
+    """Prints which edits do not apply, leaves them out of the copy, and counts those that do and those that do not."""
+    passed = failed = 0
+    for name in crates:
+        crate = f"{room}/crates/{name}"
+        take_edits(crate, kind)
+        told = unfit(crate)
+        for edit, why in told.items():
+            print(f"BAD EDIT crates/{name}/{kind}/{edit}: {why}", flush=True)
+            os.remove(f"{crate}/must-fail/{edit}")
+        left = len(edits_in(f"{crate}/must-fail"))
+        passed, failed = passed + left, failed + len(told)
+    return passed, failed
+
+
+def attempt(room, name):
+    """Tries a crate's edits, and counts those that were refused and those that were not."""
+    wanted = edits_in(f"{room}/crates/{name}/must-fail")
+    if not wanted:
+        return 0, 0
+    said = rt(room, "must-fail", name).splitlines()
+    told = [it.partition(" ")[2] for it in said if it.startswith("rt: must-fail ")]
+    refused = sum(REFUSED in it for it in told)
+    # where a library is not proved, no edit is tried
+    print(*([it.partition(" ")[2] for it in told] or said[-20:]), sep="\n", flush=True)
+    return refused, len(wanted) - refused
+
+
+def checksum(name):
+    """Of the source of a crate, and of its edits."""
+    told = hashlib.sha256()
+    for folder in ("src", "edits"):
+        for place, folders, files in os.walk(f"{harness.TOP}/crates/{name}/{folder}"):
+            folders.sort()
+            for file in sorted(files):
+                with open(f"{place}/{file}", "rb") as it:
+                    told.update(os.path.relpath(f"{place}/{file}", harness.TOP).encode() + b"\0" + it.read() + b"\0")
+    return told.hexdigest()
+
+
+def seen():
+    """The checksums of the crates, by name, at which all their edits were refused or read."""
+    if not os.path.exists(SEEN):
+        return {}
+    with open(SEEN, encoding="ascii") as it:
+        return dict(line.split() for line in it)
+
+
+def record(names):
+    """Writes down that all edits of these crates were refused or read."""
+    told = {**seen(), **{name: checksum(name) for name in names}}
+    with open(SEEN, "w", encoding="ascii") as it:
+        it.writelines(f"{name} {told[name]}\n" for name in sorted(told))
+
+
+def compiles(crate, edit):
+    """What the compiler's front end says against a crate with this edit; nothing where it takes it."""
+    with open(f"{crate}/must-fail/{edit}", encoding="utf-8") as it:
+        lines = it.read().splitlines()
+    path = f"{crate}/{lines[0].partition(': ')[2]}"
+    with open(path, encoding="utf-8") as it:
+        before = text = it.read()
+    olds = [line[len("old: ") :] for line in lines[1:] if line.startswith("old: ")]
+    news = [line[len("new: ") :] for line in lines[1:] if line.startswith("new: ")]
+    for old, new in zip(olds, news):
+        text = text.replace(old, new, 1)
+    with open(path, "w", encoding="utf-8") as it:
+        it.write(text)
+    said = rt(crate, "check", "--only", "")
+    with open(path, "w", encoding="utf-8") as it:
+        it.write(before)
+    told = re.findall(r"^src/\S+ error.*$", said, re.MULTILINE)[:3]
+    # a check that was stopped, or that lacked a library, says nothing of the body
+    return told if told or READ in said else ["it was not read: " + " ".join(said.splitlines()[-1:])]
+
+
+def copied(room):
+    """Copies the repository, with links to the libraries that `rt ci` left in it: each crate's edits are read in a copy of their own, since
+    the crates above one that has an edit would be read over it."""
+    shutil.copytree(f"{harness.TOP}/crates", f"{room}/crates", ignore=shutil.ignore_patterns("out"))
+    for name in os.listdir(f"{room}/crates"):
+        libraries = f"{harness.TOP}/crates/{name}/out/rlib"
+        if os.path.isdir(libraries):
+            shutil.copytree(libraries, f"{room}/crates/{name}/out/rlib", copy_function=linked)
+    for name in ("crates.txt", "HANDLES"):
+        shutil.copy(f"{harness.TOP}/{name}", room)
+
+
+def linked(source, to):
+    try:
+        os.link(source, to)
+    except OSError:
+        shutil.copy2(source, to)
+
+
+def read_edits(name):
+    """Has the front end read the edits of a crate: how many it takes and how many not."""
+    with tempfile.TemporaryDirectory(prefix="edits-") as room:
+        copied(room)
+        return read_edits_in(f"{room}/crates/{name}", name)
+
+
+def read_edits_in(crate, name):
+    passed = failed = 0
+    take_edits(crate, "edits")
+    for edit in edits_in(f"{crate}/must-fail"):
+        said = compiles(crate, edit)
+        print(*[f"BAD EDIT crates/{name}/edits/{edit}: {it}" for it in said], sep="\n", end="\n" * bool(said), flush=True)
+        passed, failed = passed + (not said), failed + bool(said)
+    return passed, failed
+
+
+def read_changed(crates):
+    """Has the front end read the edits of those crates that changed since: how many it takes and how many not."""
+    told = seen()
+    changed = [it for it in crates if edits_in(f"{harness.TOP}/crates/{it}/edits") and told.get(it) != checksum(it)]
+    with ThreadPoolExecutor(int(os.environ.get("RT_JOBS") or 1)) as pool:
+        came = [(name, pool.submit(read_edits, name)) for name in changed]
+        for name, it in came:
+            if not it.result()[1]:
+                record([name])
+    return tuple(map(sum, zip((0, 0), *(it.result() for _, it in came))))
+
+
+def attempt_all(room, every, crates):
+    """Tries the edits of these crates, RT_JOBS crates side by side."""
+    jobs = int(os.environ.get("RT_JOBS") or 1)
+    if jobs > 1:
+        # so that no two of them build one library at the same time
+        for name in every:
+            if os.path.isfile(f"{room}/crates/{name}/src/lib.rt"):
+                rt(f"{room}/crates/{name}", "lib", "--jobs", "1")
+    with ThreadPoolExecutor(jobs) as pool:
+        return list(pool.map(lambda it: attempt(room, it), crates))
+
+
+def main(words):
+    only_apply = words == ["--apply"]
+    every = sorted(os.listdir(f"{harness.TOP}/crates"))
+    crates = every if only_apply else words or every
+    unknown = [it for it in crates if it not in every]
+    if unknown:
+        sys.exit(f"there is no crate {unknown[0]}")
+    with tempfile.TemporaryDirectory(prefix="edits-") as room:
+        ignored = shutil.ignore_patterns("out") if only_apply else None
+        shutil.copytree(f"{harness.TOP}/crates", f"{room}/crates", ignore=ignored)
+        for name in ("crates.txt", "HANDLES"):
+            shutil.copy(f"{harness.TOP}/{name}", room)
+        kinds = FOLDERS if only_apply else FOLDERS[:1]
+        counted = [apply(room, crates, it) for it in kinds]
+        if only_apply:
+            counted.append(read_changed(crates))
+        else:
+            bad = counted[0][1]
+            came = attempt_all(room, every, crates)
+            counted = [(0, bad), *came]
+            if bad:
+                print(f"BAD EDIT: {bad} can't be applied, as told at the start")
+            record(name for name, (refused, others) in zip(crates, came) if refused and not others)
+    return harness.closing(*map(sum, zip(*counted)))
+
+
+if __name__ == "__main__":
+    sys.exit(main(sys.argv[1:]))
