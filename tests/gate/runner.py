@@ -2,7 +2,7 @@
 such a line, or with a status that it does not explain, counts as one failure. What `make test` runs stands here, in TESTS, and nowhere else.
 
     tests/run                all that `make test` runs: the proofs from nothing, then each test over the program that they left
-    tests/run NAME..         these alone, by their names
+    tests/run NAME..         these alone, by their names; the name of a folder, as fault, is all of it
     tests/run -k TEXT ..     of tests over rows only the rows, and examples, whose names hold the text
     tests/run -j N ..        N checks and N processes side by side, in place of as many as there are processors
     tests/run --list         the names, each with the first words of what it does
@@ -38,13 +38,13 @@ TESTS = {
         "instructions", "hostile", "quotes", "library", "ports", "web", "problems", "migration", "verdicts",
     )},
 }
-MODULE = re.compile(r"(gate|check|fault)\.(\w+)")
+MODULE = re.compile(r"(gate|check|fault)\.\w+")
 
 
 def command(name):
     """The words of the command of a test."""
     words = shlex.split(TESTS[name])
-    return [sys.executable, "-m", f"tests.{words[0]}", *words[1:]] if MODULE.fullmatch(words[0]) else words
+    return [sys.executable, "-m", f"tests.{words[0]}", *words[1:]] if MODULE.match(words[0]) else words
 
 
 def run(name):
@@ -86,6 +86,12 @@ def checks():
     return max(1, min(harness.processes(), free // MEMORY))
 
 
+def chosen(names):
+    """The tests of these names, of which one may be that of a folder."""
+    folders = {it.partition(".")[0] for it in TESTS.values() if MODULE.match(it)}
+    return [test for name in names for test in ([it for it in TESTS if TESTS[it].startswith(f"{name}.")] if name in folders else [name])]
+
+
 def purpose(name):
     """What a test does, by the first words of its script."""
     module = next((it for it in command(name) if it.startswith("tests.")), None)
@@ -98,11 +104,12 @@ def purpose(name):
 def asked():
     """The words of the command line."""
     parser = argparse.ArgumentParser(prog="tests/run", description="Runs tests: all that `make test` runs, or those that are named.")
-    parser.add_argument("names", metavar="NAME", nargs="*", help="a test, by the name that --list gives")
+    parser.add_argument("names", metavar="NAME", nargs="*", help="a test, by the name that --list gives, or a folder of them")
     parser.add_argument("-k", metavar="TEXT", help="only rows whose names hold the text")
     parser.add_argument("-j", metavar="N", type=int, help="how many checks and processes run side by side")
     parser.add_argument("--list", action="store_true", help="list the tests")
     given = parser.parse_args()
+    given.names = chosen(given.names)
     unknown = [it for it in given.names if it not in TESTS]
     if unknown:
         parser.error(f"there is no test {unknown[0]}: --list lists them")
