@@ -1,6 +1,6 @@
 pub mod BackwardLemmas
 pub mod BoundLemmas
-pub mod FormedLemmas
+pub mod FormedSlotLemmas
 pub mod HeldLemmas
 pub mod NodeLemmas
 pub mod OperandLemmas

@@ -8,7 +8,7 @@ pub mod PartLemmas
 pub mod PairLemmas
 pub mod PlaceLemmas
 pub mod QuotedLemmas
-pub mod StandLemmas
+pub mod OneTokenLemmas
 pub mod SpellsLemmas
 pub mod TextLemmas
 pub mod TokenExamples

@@ -18,7 +18,7 @@ use Rattle.tmpl_lex.specs.computed.Token.{front_token}
 use Rattle.tmpl_lex.specs.computed.Trim.{End, right_delimiter}
 use Rattle.tmpl_lex.proofs.ActionLemmas.{drop-sub_one, inside-closed, inside-token, front_token-some}
 use Rattle.tmpl_lex.proofs.PartLemmas.{absent-split, split-is}
-use Rattle.tmpl_lex.proofs.StandLemmas.{Ends, found-ends, closes-found, found, stands}
+use Rattle.tmpl_lex.proofs.OneTokenLemmas.{Ends, found-ends, closes-found, found, stands}
 
 -- ---- tokens and an end
 

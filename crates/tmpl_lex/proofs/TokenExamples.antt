@@ -8,7 +8,7 @@ use Rattle.tmpl_lex.specs.Bytes.{is_space}
 use Rattle.tmpl_lex.specs.Delimiter.{closes_marked}
 use Rattle.tmpl_lex.specs.Piece.{Token}
 use Rattle.tmpl_lex.specs.Token.{IsToken, space, number, field, dot, string, at_marker, no_byte, a_byte, an_escape}
-use Rattle.tmpl_lex.proofs.StandLemmas.{found}
+use Rattle.tmpl_lex.proofs.OneTokenLemmas.{found}
 
 abbrev token : TokenKind → String → Token
 token k bytes = record { kind = k; bytes = codes bytes }

@@ -6,7 +6,7 @@ use Rattle.tmpl_syntax.specs.Tree.{NodeKind, Nodes, control_node, template_node}
 use Rattle.tmpl_syntax.specs.Set.{Template}
 use Rattle.tmpl_meaning.specs.Meaning.{Rules, Run, calls_within, setting_of, stepped}
 use Rattle.tmpl_meaning.specs.Laws.{NodeAdds, NodesAdd}
-use Rattle.tmpl_meaning.proofs.KeptLemmas.{CallsKeep, Keeps, NodeHas, NodesHave, calls-kept, nodes-kept, spend-kept, stepped-kept}
+use Rattle.tmpl_meaning.proofs.EachPartLemmas.{CallsKeep, Keeps, NodeHas, NodesHave, calls-kept, nodes-kept, spend-kept, stepped-kept}
 
 abbrev pub Adds : Run → Run → Type 0
 Adds r q = (more : List ℕ) × (q.text ≡ r.text ++ more)

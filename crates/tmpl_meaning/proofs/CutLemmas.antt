@@ -21,7 +21,7 @@ use Rattle.tmpl_meaning.specs.Meaning.{Calls, End, Next, Rules, Run, Setting, af
 use Rattle.tmpl_meaning.specs.Meaning.{meanings, scope, setting_of, shown, spend, stepped, turns, visited, with_bound, with_pipeline, with_value}
 use Rattle.tmpl_meaning.proofs.PartLemmas.{over}
 use Rattle.tmpl_meaning.proofs.AddLemmas.{adds, any-node, any-nodes, calls-add}
-use Rattle.tmpl_meaning.proofs.KeptLemmas.{CallsKeep, Kept, end-kept, nodes-kept, stepped-kept, turn-kept, turns-kept}
+use Rattle.tmpl_meaning.proofs.EachPartLemmas.{CallsKeep, Kept, end-kept, nodes-kept, stepped-kept, turn-kept, turns-kept}
 use Rattle.tmpl_meaning.proofs.PartLemmas.{apart, choosing, controlling, handing, on_end, on_turn, one_of, returned, run_called, scoped}
 use Rattle.tmpl_meaning.proofs.PartLemmas.{spend_if, started, turn}
 use Rattle.tmpl_meaning.proofs.PartLemmas.{uncalled, without_key}

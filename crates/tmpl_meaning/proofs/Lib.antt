@@ -2,9 +2,9 @@ pub mod AddLemmas
 pub mod AlikeLemmas
 pub mod CutLemmas
 pub mod Examples
-pub mod FormedLemmas
+pub mod FormedRunLemmas
 pub mod JoinLemmas
-pub mod KeptLemmas
+pub mod EachPartLemmas
 pub mod LawExamples
 pub mod LimitLemmas
 pub mod PartLemmas

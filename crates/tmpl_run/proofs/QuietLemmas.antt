@@ -18,7 +18,7 @@ use Rattle.tmpl_meaning.specs.Pipeline.{Given, Place, command_value, commands_va
 use Rattle.tmpl_meaning.specs.Meaning.{Rules, Run, calls_within, ran, setting_of}
 use Rattle.tmpl_meaning.specs.Sink.{Sunk}
 use Rattle.tmpl_meaning.proofs.PartLemmas.{decided, started}
-use Rattle.tmpl_meaning.proofs.KeptLemmas.{Keeps, NodeHas, NodesHave, calls-kept, nodes-kept}
+use Rattle.tmpl_meaning.proofs.EachPartLemmas.{Keeps, NodeHas, NodesHave, calls-kept, nodes-kept}
 use Rattle.tmpl_code.specs.MakesText.{commands_make_text, node_makes_text, nodes_make_text, operand_makes_text, operands_make_text, pipeline_makes_text}
 use Rattle.tmpl_code.specs.MakesText.{set_makes_text}
 use Rattle.tmpl_run.specs.Laws.{TextIsNamed}

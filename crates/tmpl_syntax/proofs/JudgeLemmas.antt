@@ -13,7 +13,7 @@ use Rattle.tmpl_syntax.specs.Place.Body.{joins, TakesElse, IsLoop, IsMisplaced, 
 use Rattle.tmpl_syntax.proofs.NameLemmas.{Clears, clears, in-nothing, knows-clears}
 use Rattle.tmpl_syntax.proofs.PlaceLemmas.{same-opening, one-last, even-here, levels-listed, levels-most, no-else, InLoop}
 use Rattle.tmpl_syntax.proofs.ScopeLemmas.{to-scope, from-scope, at-place, at-place-back, else-sees, else-seen}
-use Rattle.tmpl_syntax.proofs.StandLemmas.{Here, Stands, here-of, looped}
+use Rattle.tmpl_syntax.proofs.OpenStackLemmas.{Here, Stands, here-of, looped}
 use Rattle.tmpl_syntax.proofs.StepLemmas.{joins-own, joins-no-range}
 use Rattle.tmpl_syntax.specs.Place.Opening.{Opening}
 use Rattle.tmpl_syntax.specs.Place.Opening as opened

@@ -7,7 +7,7 @@ pub mod FormedLemmas
 pub mod ItemLemmas
 pub mod JoinLemmas
 pub mod JudgeLemmas
-pub mod KeptLemmas
+pub mod SetInvariantLemmas
 pub mod LanguageExamples
 pub mod LargerLemmas
 pub mod LeadsLemmas
@@ -28,7 +28,7 @@ pub mod SecondLemmas
 pub mod SetLemmas
 pub mod SiteLemmas
 pub mod SpellingLemmas
-pub mod StandLemmas
+pub mod OpenStackLemmas
 pub mod StepLemmas
 pub mod VerdictLemmas
 pub mod ViewLemmas

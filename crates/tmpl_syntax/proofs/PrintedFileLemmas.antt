@@ -21,7 +21,7 @@ use Rattle.tmpl_syntax.specs.Print.Printed.{Said, said, said_text, nodes_said, t
 use Rattle.tmpl_syntax.specs.Print.Laws.{AcceptsPrinted, IsSameSet, Says, newline_nodes, unlined_definition, unlined_template}
 use Rattle.tmpl_syntax.proofs.AcceptedLemmas.{nodes-passes, roles_said, says-roles}
 use Rattle.tmpl_syntax.proofs.FormedLemmas.{fine-back, passes, passes-fine}
-use Rattle.tmpl_syntax.proofs.KeptLemmas.{kept-printable}
+use Rattle.tmpl_syntax.proofs.SetInvariantLemmas.{kept-printable}
 use Rattle.tmpl_syntax.proofs.PrintedLemmas.{has-said, set-is-said, set-leads}
 use Rattle.tmpl_syntax.proofs.ReadingLemmas.{fold-defined}
 use Rattle.tmpl_syntax.proofs.SameSetLemmas.{blank-own, each-stays, not-first, own-alike, same-set}

@@ -14,7 +14,7 @@ use Rattle.tmpl_syntax.proofs.PlaceLemmas.{cut, Same, shut-at, same-ended, same-
 use Rattle.tmpl_syntax.proofs.PlaceLemmas.{alike-even, one-alike, levels-else, else_before, has-before}
 use Rattle.tmpl_syntax.proofs.ScopeLemmas.{Reaches, from_action, from_else_branch, Brought, Sees, declared_at, brings, brought-late, sees-opened}
 use Rattle.tmpl_syntax.proofs.ScopeLemmas.{sees-ranged, else-sees, else-seen}
-use Rattle.tmpl_syntax.proofs.StandLemmas.{looped, Here, Stood, closed_at, Stands, here-of, stands-moves, here-control, here-template}
+use Rattle.tmpl_syntax.proofs.OpenStackLemmas.{looped, Here, Stood, closed_at, Stands, here-of, stands-moves, here-control, here-template}
 use Rattle.tmpl_syntax.specs.Place.Opening.{Opening}
 use Rattle.tmpl_syntax.specs.Place.Opening as opened
 use Rattle.tmpl_grammar.specs.declared.tree.Control.{Control}

@@ -17,7 +17,7 @@ use Rattle.tmpl_syntax.proofs.NameLemmas.{Clears, faultless, in-nothing}
 use Rattle.tmpl_syntax.proofs.PlaceLemmas.{no_level, same-piece}
 use Rattle.std.specs.Bool.{Decides}
 use Rattle.std.proofs.lemmas.Bool.Decides.{not_from_Decides}
-use Rattle.tmpl_syntax.proofs.StandLemmas.{Stands, here-of}
+use Rattle.tmpl_syntax.proofs.OpenStackLemmas.{Stands, here-of}
 use Rattle.tmpl_syntax.proofs.StepLemmas.{stands-opened, stands-ended, stands-passed, stands-parted}
 use Rattle.tmpl_syntax.proofs.JudgeLemmas.{IsTooDeep, in_levels, in_parentheses, IsUndeclared, placed, deep, declared}
 use Rattle.std.proofs.lemmas.List.{drop_all, drop_more}

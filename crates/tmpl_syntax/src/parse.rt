@@ -127,7 +127,7 @@ pub(crate) fn shared(alloc: Global, bytes: Vec<u8>) -> Result<Arc<Bytes>, AllocE
 }
 
 /// Adds the templates of a file with these items and bytes to the set.
-#[tactic(auto, using(crate::proofs::FileLemmas::added_items, crate::proofs::KeptLemmas::kept))]
+#[tactic(auto, using(crate::proofs::FileLemmas::added_items, crate::proofs::SetInvariantLemmas::kept))]
 fn add_items(
     alloc: Global,
     set: &mut Set,

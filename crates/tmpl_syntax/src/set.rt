@@ -130,7 +130,7 @@ impl Set {
 
     /// Adds templates, one by one: a new name goes last, and a name that is there keeps its place and gets
     /// the new body, unless that is blank. All of them are added, or the set is as it was.
-    #[tactic(auto, using(crate::proofs::KeptLemmas::kept), unfolding(crate::specs::View::set_view))]
+    #[tactic(auto, using(crate::proofs::SetInvariantLemmas::kept), unfolding(crate::specs::View::set_view))]
     pub(crate) fn define_all(&mut self, templates: Vec<(Vec<u8>, Tree)>) -> Result<(), AllocError>
         requires { AreKept (map template_of templates.items) }
         ensures ok { OnOk result (set_view self.new

@@ -1,4 +1,4 @@
-use Rattle.tmpl_lex.proofs.StandLemmas.{found-at, stands, one}
+use Rattle.tmpl_lex.proofs.OneTokenLemmas.{found-at, stands, one}
 use Rattle.tmpl_lex.proofs.laws.one_token.Goals as goal
 
 pub returns : goal.returns

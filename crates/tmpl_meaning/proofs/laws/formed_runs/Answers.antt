@@ -1,4 +1,4 @@
-use Rattle.tmpl_meaning.proofs.FormedLemmas.{finds-names, ends-in-range, stays-in-scope}
+use Rattle.tmpl_meaning.proofs.FormedRunLemmas.{finds-names, ends-in-range, stays-in-scope}
 use Rattle.tmpl_meaning.proofs.laws.formed_runs.Goals as goal
 
 pub returns : goal.returns

@@ -5,7 +5,7 @@ use Rattle.tmpl_syntax.specs.computed.View.{definition_of, item_of}
 use Rattle.tmpl_syntax.specs.Parse.{base_name, template_in}
 use Rattle.tmpl_syntax.specs.computed.Parse.{checked, all_from, items_of}
 use Rattle.tmpl_grammar.proofs.PrintableTokenLemmas.{bytes-drop}
-use Rattle.tmpl_syntax.proofs.KeptLemmas.{file-kept}
+use Rattle.tmpl_syntax.proofs.SetInvariantLemmas.{file-kept}
 use Rattle.tmpl_syntax.proofs.parse.add_items.Goals as goal
 
 pub define_all-requires : goal.define_all-requires

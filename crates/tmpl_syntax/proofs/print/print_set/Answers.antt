@@ -7,7 +7,7 @@ use Rattle.tmpl_syntax.specs.Print.Laws.{SetBack}
 use Rattle.std.specs.List.{flat_map}
 use Rattle.tmpl_syntax.specs.Print.Printed.{template_said}
 use Rattle.tmpl_syntax.specs.computed.Print.{page_with}
-use Rattle.tmpl_syntax.proofs.KeptLemmas.{kept-printable}
+use Rattle.tmpl_syntax.proofs.SetInvariantLemmas.{kept-printable}
 use Rattle.tmpl_syntax.proofs.PageLemmas.{page_nothing}
 use Rattle.tmpl_syntax.proofs.PrintedLemmas.{set_reads_same}
 use Rattle.tmpl_syntax.proofs.SetLemmas.{Entry}

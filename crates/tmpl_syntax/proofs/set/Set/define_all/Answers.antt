@@ -2,7 +2,7 @@ use Rattle.std.proofs.Common.{◌≡◌, ◌∙◌, List, ap, map, subst, sym}
 use Rattle.tmpl_syntax.specs.Kept.{IsSet}
 use Rattle.tmpl_syntax.specs.Set.{defined_each}
 use Rattle.tmpl_syntax.specs.View.{entries_view, template_of}
-use Rattle.tmpl_syntax.proofs.KeptLemmas.{each-kept, each-own}
+use Rattle.tmpl_syntax.proofs.SetInvariantLemmas.{each-kept, each-own}
 use Rattle.tmpl_syntax.proofs.SetLemmas.{Entry}
 use Rattle.tmpl_syntax.proofs.set.Set.define_all.Goals as goal
 

@@ -6,7 +6,7 @@ use Rattle.tmpl_syntax.specs.Set.{tree_named}
 use Rattle.tmpl_syntax.specs.declared.set.Set.{Set}
 use Rattle.tmpl_syntax.specs.declared.tree.Tree as held
 use Rattle.tmpl_syntax.proofs.SetLemmas.{lookup-view}
-use Rattle.tmpl_syntax.proofs.KeptLemmas.{found-kept}
+use Rattle.tmpl_syntax.proofs.SetInvariantLemmas.{found-kept}
 use Rattle.tmpl_syntax.proofs.set.Set.get.Goals as goal
 
 copied : (o : Option (Bor held.Tree)) → option_map (λ (t : Bor held.Tree). tree_of t.now) o ≡ option_map tree_of (option_copied o)

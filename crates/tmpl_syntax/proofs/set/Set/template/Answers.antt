@@ -4,7 +4,7 @@ use Rattle.tmpl_syntax.specs.View.{entries_view, set_view, template_of}
 use Rattle.tmpl_syntax.specs.Kept.{IsSet}
 use Rattle.tmpl_syntax.specs.declared.set.Set.{Set}
 use Rattle.tmpl_syntax.proofs.SetLemmas.{Entry}
-use Rattle.tmpl_syntax.proofs.KeptLemmas.{at-kept}
+use Rattle.tmpl_syntax.proofs.SetInvariantLemmas.{at-kept}
 use Rattle.tmpl_syntax.proofs.set.Set.template.Goals as goal
 
 -- what stands at a number of the entries
