@@ -13,7 +13,7 @@ use tmpl_engine::RenderError;
 use tmpl_run::run;
 use tmpl_syntax::{NameHash, ParseKind, Set};
 use tmpl_tool::{
-    Inputs, Refused, Request, Status, Stop, asked_name, read_inputs, request_of, tell_end,
+    Inputs, Request, Status, Stop, WordsFault, asked_name, read_inputs, request_of, tell_end,
 };
 use tmpl_values::{Cell, Data, Val};
 
@@ -64,8 +64,8 @@ fn loan_in(words: &[String; 6]) -> Option<Loan> {
 fn request_in<'a>(rt: &HostRuntime, words: &'a [String]) -> io::Result<Option<Request<'a>>> {
     match request_of(rt.alloc(), words) {
         Ok(request) => Ok(Some(request)),
-        Err(Refused::Words) => Ok(None),
-        Err(Refused::OutOfMemory) => Err(AllocError)?,
+        Err(WordsFault::NotAccepted) => Ok(None),
+        Err(WordsFault::OutOfMemory) => Err(AllocError)?,
     }
 }
 

@@ -3,11 +3,11 @@ use Rattle.std.specs.Prelude.{◌≡◌, Option, Some, None, Result, Ok, Err}
 use Rattle.tmpl_tool.specs.Words.{Wanted}
 use Rattle.tmpl_tool.specs.View.{seen}
 use Rattle.tmpl_tool.specs.declared.words.request.Request.{Request}
-use Rattle.tmpl_tool.specs.declared.words.request.Refused.{Refused}
-use Rattle.tmpl_tool.specs.declared.words.request.Refused.TheVariants.{Words, OutOfMemory}
+use Rattle.tmpl_tool.specs.declared.words.request.WordsFault.{WordsFault}
+use Rattle.tmpl_tool.specs.declared.words.request.WordsFault.TheVariants.{NotAccepted, OutOfMemory}
 
 -- the request is what is wanted, or nothing is, or memory ran out
-abbrev pub Asks : Option Wanted → Result Request Refused → Type 0
+abbrev pub Asks : Option Wanted → Result Request WordsFault → Type 0
 Asks asked (Ok request) = asked ≡ Some (seen request)
-Asks asked (Err Words) = asked ≡ None
+Asks asked (Err NotAccepted) = asked ≡ None
 Asks asked (Err OutOfMemory) = Unit {0}

@@ -16,7 +16,7 @@ use crate::messages::lines::{out_of_memory, refuse, words_refused};
 use crate::render::put_out;
 use crate::status::Status;
 use crate::words::help::asks_help;
-use crate::words::request::Refused;
+use crate::words::request::WordsFault;
 use crate::words::request_of;
 use std::alloc::Global;
 use tmpl_run::Sink;
@@ -116,8 +116,8 @@ pub fn tool_keeping<S: Source, O: Sink, E: Sink>(
             },
             Err(stop) => stopped(refuse(err, &stop)),
         },
-        Err(Refused::Words) => stopped(words_refused(err)),
-        Err(Refused::OutOfMemory) => stopped(out_of_memory(err)),
+        Err(WordsFault::NotAccepted) => stopped(words_refused(err)),
+        Err(WordsFault::OutOfMemory) => stopped(out_of_memory(err)),
     }
 }
 

@@ -23,5 +23,5 @@ pub use messages::lines::{out_of_memory, refuse, words_refused, write_failed};
 pub use render::{asked_name, render_named, render_prepared, tell_end};
 pub use status::Status;
 pub use stop::Stop;
-pub use words::request::{Refused, Request};
+pub use words::request::{Request, WordsFault};
 pub use words::request_of;

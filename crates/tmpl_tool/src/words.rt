@@ -14,7 +14,7 @@ pub(crate) mod request;
 
 use crate::limits::{DEFAULT_DEPTH, DEFAULT_STEPS, MOST_DEPTH, MOST_STEPS};
 use crate::words::arguments::command;
-use crate::words::request::{Refused, Request};
+use crate::words::request::{Request, WordsFault};
 use clap::error::ErrorKind;
 use clap::{ArgMatches, Error};
 use std::alloc::{AllocError, Global};
@@ -147,18 +147,18 @@ fn options_in(matches: &ArgMatches<'_>) -> Options
 }
 
 /// Why clap did not take the words.
-fn refusal(error: &Error) -> Refused
-    ensures { result ≡ Refused.Words → kind_of error.now ≢ ErrorKind.OutOfMemory }
+fn refusal(error: &Error) -> WordsFault
+    ensures { result ≡ WordsFault.NotAccepted → kind_of error.now ≢ ErrorKind.OutOfMemory }
 {
     if error.kind() == ErrorKind::OutOfMemory {
-        Refused::OutOfMemory
+        WordsFault::OutOfMemory
     } else {
-        Refused::Words
+        WordsFault::NotAccepted
     }
 }
 
 /// Clap's matches of the words.
-fn parse<'a>(alloc: Global, words: &'a [String]) -> Result<ArgMatches<'a>, Refused>
+fn parse<'a>(alloc: Global, words: &'a [String]) -> Result<ArgMatches<'a>, WordsFault>
     ensures { Parses (map (λ word. string_bytes word) words.entry.now) result }
 {
     match command(alloc, MODES.as_slice())?.try_get_matches_from(words) {
@@ -168,7 +168,7 @@ fn parse<'a>(alloc: Global, words: &'a [String]) -> Result<ArgMatches<'a>, Refus
 }
 
 /// What the words ask for. The first word is the program's name.
-pub fn request_of<'a>(alloc: Global, words: &'a [String]) -> Result<Request<'a>, Refused>
+pub fn request_of<'a>(alloc: Global, words: &'a [String]) -> Result<Request<'a>, WordsFault>
     ensures { Asks (wanted (map (λ word. string_bytes word) words.entry.now)) result }
 {
     let matches = parse(alloc, words)?;

@@ -1,6 +1,6 @@
 //! What the words of the command line ask for.
 ghost use Rattle.std.specs.Prelude.{◌≡◌};
-ghost use Rattle.tmpl_tool.specs.declared.words.request.Refused.TheVariants.{OutOfMemory};
+ghost use Rattle.tmpl_tool.specs.declared.words.request.WordsFault.TheVariants.{OutOfMemory};
 
 use std::alloc::AllocError;
 use thiserror::Error;
@@ -20,19 +20,19 @@ pub struct Request<'a> {
     pub files: Vec<&'a str>,
 }
 
-/// Why words were not taken.
+/// Why words are not taken.
 #[derive(Clone, Copy, Debug, PartialEq, Eq, Error)]
-pub enum Refused {
+pub enum WordsFault {
     #[error("arguments refused")]
-    Words,
+    NotAccepted,
     #[error("out of memory")]
     OutOfMemory,
 }
 
-impl From<AllocError> for Refused {
+impl From<AllocError> for WordsFault {
     ghost from_gives = { λ _ e. e ≡ OutOfMemory };
 
-    fn from(_error: AllocError) -> Refused {
-        Refused::OutOfMemory
+    fn from(_error: AllocError) -> WordsFault {
+        WordsFault::OutOfMemory
     }
 }

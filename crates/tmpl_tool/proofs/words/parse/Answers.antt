@@ -5,8 +5,8 @@ use Rattle.clap.specs.declared.error.ErrorKind.{ErrorKind}
 use Rattle.clap.specs.declared.error.ErrorKind.TheVariants.{OutOfMemory}
 use Rattle.tmpl_tool.specs.Words.{HasModeNames, words_fault}
 use Rattle.tmpl_tool.specs.computed.Words.{Parses}
-use Rattle.tmpl_tool.specs.declared.words.request.Refused.{Refused}
-use Rattle.tmpl_tool.specs.declared.words.request.Refused.TheVariants as refused
+use Rattle.tmpl_tool.specs.declared.words.request.WordsFault.{WordsFault}
+use Rattle.tmpl_tool.specs.declared.words.request.WordsFault.TheVariants as fault
 use Rattle.tmpl_tool.proofs.CommandLemmas.{among-some, app-fault, app-free, app-rows, app-simple}
 use Rattle.tmpl_tool.proofs.words.parse.Goals as goal
 
@@ -19,11 +19,11 @@ returns-in-Ok c =
       (c.in-Ok.ensures.matches (app-simple _ named _ is)).0 ∙ app-rows _ named _ is words,
     )
 
-failed : (words : List Text) (k : ErrorKind) (r : Refused) → (r ≡ refused.Words → k ≢ OutOfMemory) → (k ≡ OutOfMemory) ⊎ IsAmong k (words_fault words)
+failed : (words : List Text) (k : ErrorKind) (r : WordsFault) → (r ≡ fault.NotAccepted → k ≢ OutOfMemory) → (k ≡ OutOfMemory) ⊎ IsAmong k (words_fault words)
     → Parses words (Err r)
-failed words k refused.OutOfMemory not has = tt
-failed words k refused.Words not (inl e) = absurd (not refl e)
-failed words k refused.Words not (inr h) = among-some k (words_fault words) h
+failed words k fault.OutOfMemory not has = tt
+failed words k fault.NotAccepted not (inl e) = absurd (not refl e)
+failed words k fault.NotAccepted not (inr h) = among-some k (words_fault words) h
 
 pub returns-in-Err : goal.returns-in-Err
 returns-in-Err c =
