@@ -14,12 +14,12 @@ use tmpl_lex::{Token, TokenKind};
 pub fn detail_of(alloc: Global, tokens: &[Token<'_>]) -> Result<String, AllocError> {
     let said = Sentence::new(alloc);
     let Some(first) = significant(tokens, 0) else {
-        return Ok(said.say("the action is empty")?.done());
+        return said.say("the action is empty").done();
     };
     if let Some(flaw) = first_flaw(alloc, tokens)? {
         return flaw_text(alloc, tokens, flaw);
     }
-    Ok(shape_text(said, first, tokens)?.done())
+    shape_text(said, first, tokens).done()
 }
 
 /// What is wrong with a token where it stands.
@@ -280,38 +280,33 @@ fn flaw_text(alloc: Global, tokens: &[Token<'_>], at: (usize, Flaw)) -> Result<S
     };
     let said = Sentence::new(alloc);
     let said = match flaw {
-        Flaw::Operator(operator) => operator.text(said, tokens, index)?,
-        Flaw::NoFunction => no_function(said, tokens, index, bytes)?,
+        Flaw::Operator(operator) => operator.text(said, tokens, index),
+        Flaw::NoFunction => no_function(said, tokens, index, bytes),
         Flaw::Keyword => said
-            .quote(bytes)?
-            .say(" stands first in an action of its own")?,
-        Flaw::Index => index_text(said, tokens, index, bytes)?,
-        Flaw::Constant => constant_text(said, bytes)?,
-        Flaw::Unopened => said.say("\")\" closes no \"(\"")?,
-        Flaw::Unclosed => said.say("\"(\" is not closed")?,
+            .quote(bytes)
+            .say(" stands first in an action of its own"),
+        Flaw::Index => index_text(said, tokens, index, bytes),
+        Flaw::Constant => constant_text(said, bytes),
+        Flaw::Unopened => said.say("\")\" closes no \"(\""),
+        Flaw::Unclosed => said.say("\"(\" is not closed"),
         Flaw::AfterBar => said
-            .quote(bytes)?
-            .say(" takes no value, so it may not stand after \"|\"")?,
-        Flaw::LooseBar => said.say("\"|\" stands between two commands")?,
-        Flaw::Stray => said.say("unexpected ")?.quote(bytes)?,
-        Flaw::Joined => said.say("a space is wanted before ")?.quote(bytes)?,
+            .quote(bytes)
+            .say(" takes no value, so it may not stand after \"|\""),
+        Flaw::LooseBar => said.say("\"|\" stands between two commands"),
+        Flaw::Stray => said.say("unexpected ").quote(bytes),
+        Flaw::Joined => said.say("a space is wanted before ").quote(bytes),
     };
-    Ok(said.done())
+    said.done()
 }
 
 /// What is said of a word that names no function.
-fn no_function(
-    said: Sentence,
-    tokens: &[Token<'_>],
-    index: usize,
-    word: &[u8],
-) -> Result<Sentence, AllocError> {
-    let said = said.say("no function ")?.quote(word)?;
+fn no_function(said: Sentence, tokens: &[Token<'_>], index: usize, word: &[u8]) -> Sentence {
+    let said = said.say("no function ").quote(word);
     if let Some(text) = instead_of(word) {
-        return said.say(": ")?.say(text);
+        return said.say(": ").say(text);
     }
     if let Some(name) = near(word) {
-        return said.say(": write ")?.say(name);
+        return said.say(": write ").say(name);
     }
     let alone = significant_before(tokens, index).is_none()
         && significant_after(tokens, index).is_none();
@@ -319,11 +314,11 @@ fn no_function(
         token.bytes,
     ));
     if is_name {
-        said.say(": write ")?.quote(word)
+        said.say(": write ").quote(word)
     } else if alone {
-        said.say(": write .")?.show(word)
+        said.say(": write .").show(word)
     } else {
-        Ok(said)
+        said
     }
 }
 
@@ -333,64 +328,55 @@ fn is_name_keyword(word: &[u8]) -> bool {
 }
 
 /// What is said of a field whose name begins with a digit.
-fn index_text(
-    said: Sentence,
-    tokens: &[Token<'_>],
-    index: usize,
-    bytes: &[u8],
-) -> Result<Sentence, AllocError> {
-    let said = said.say("no field ")?.quote(bytes)?.say(": write index ")?;
+fn index_text(said: Sentence, tokens: &[Token<'_>], index: usize, bytes: &[u8]) -> Sentence {
+    let said = said.say("no field ").quote(bytes).say(": write index ");
     let said = match before(tokens, index) {
-        Some(token) if may_have_field(token.kind) => show_left(said, tokens, index)?,
-        _ => said.say(".")?,
+        Some(token) if may_have_field(token.kind) => show_left(said, tokens, index),
+        _ => said.say("."),
     };
     match bytes {
-        [_, name @ ..] if name.iter().all(|b| b.is_ascii_digit()) => said.say(" ")?.show(name),
-        [_, name @ ..] => said.say(" \"")?.show(name)?.say("\""),
-        [] => Ok(said),
+        [_, name @ ..] if name.iter().all(|b| b.is_ascii_digit()) => said.say(" ").show(name),
+        [_, name @ ..] => said.say(" \"").show(name).say("\""),
+        [] => said,
     }
 }
 
 /// What is said of a constant that is none.
-fn constant_text(said: Sentence, bytes: &[u8]) -> Result<Sentence, AllocError> {
+fn constant_text(said: Sentence, bytes: &[u8]) -> Sentence {
     match bytes {
         [b'"' | b'`' | b'\'', ..] => said
-            .show(bytes)?
+            .show(bytes)
             .say(" is no constant: look at what stands after its \"\\\""),
         _ if bytes.iter().any(|b| *b == b'.') => said
-            .say("number ")?
-            .show(bytes)?
+            .say("number ")
+            .show(bytes)
             .say(" is not whole"),
         _
             if bytes
                 .iter()
                 .all(|b| b.is_ascii_digit() || *b == b'-' || *b == b'+') => {
-            said.say("number ")?
-                .show(bytes)?
+            said.say("number ")
+                .show(bytes)
                 .say(" is out of range or has an 8 or 9 after a first 0")
         }
-        _ => said.show(bytes)?.say(" is no whole number"),
+        _ => said.show(bytes).say(" is no whole number"),
     }
 }
 
 /// What is said of an action in which each token alone may stand where it does.
-fn shape_text(
-    said: Sentence,
-    first: Token<'_>,
-    tokens: &[Token<'_>],
-) -> Result<Sentence, AllocError> {
+fn shape_text(said: Sentence, first: Token<'_>, tokens: &[Token<'_>]) -> Sentence {
     let word = first.bytes;
     let is_alone = significant(tokens, 1).is_none();
     if word == b"end".as_slice() || word == b"break".as_slice() || word == b"continue".as_slice() {
-        said.quote(word)?.say(" stands alone")
+        said.quote(word).say(" stands alone")
     } else if is_name_keyword(word) {
-        said.say("after ")?.quote(word)?.say(
+        said.say("after ").quote(word).say(
             " stands a name in quotes, and after that what it is given",
         )
     } else if word == b"else".as_slice() {
         said.say("after \"else\" stands nothing, or \"if\" or \"with\" and a value")
     } else if is_keyword(word) && is_alone {
-        said.say("after ")?.quote(word)?.say(" stands a value")
+        said.say("after ").quote(word).say(" stands a value")
     } else {
         said.say("the parts of the action do not fit together")
     }
@@ -402,44 +388,44 @@ pub fn misplaced(alloc: Global, role: Role, outside: Option<Open>) -> Result<Str
     let said = match role {
         Role::End => said.say(
             "\"end\" closes nothing: no if, with, range, define or block is open",
-        )?,
-        Role::Jump => said.say("break and continue stand in the body of a range")?,
+        ),
+        Role::Jump => said.say("break and continue stand in the body of a range"),
         Role::Open(Opening::Define) => inside_text(
-            said.say("a define stands in no other part")?,
+            said.say("a define stands in no other part"),
             outside,
-        )?,
-        Role::Else(_) => else_text(said, outside)?,
+        ),
+        Role::Else(_) => else_text(said, outside),
         _ => said,
     };
-    Ok(said.done())
+    said.done()
 }
 
 /// Says what is open.
-fn inside_text(said: Sentence, outside: Option<Open>) -> Result<Sentence, AllocError> {
+fn inside_text(said: Sentence, outside: Option<Open>) -> Sentence {
     match outside {
         Some(open) => said
-            .say(": \"")?
-            .say(open.opening.word())?
-            .say("\" of line ")?
-            .count(open.line)?
+            .say(": \"")
+            .say(open.opening.word())
+            .say("\" of line ")
+            .count(open.line)
             .say(" is open"),
-        None => Ok(said),
+        None => said,
     }
 }
 
 /// What is said of an else that is out of place.
-fn else_text(said: Sentence, outside: Option<Open>) -> Result<Sentence, AllocError> {
+fn else_text(said: Sentence, outside: Option<Open>) -> Sentence {
     match outside {
         None => said.say("\"else\" belongs to no if, with or range"),
         Some(open) => match open.opening {
             Opening::Define | Opening::Block => {
                 inside_text(
-                    said.say("\"else\" belongs to no if, with or range")?,
+                    said.say("\"else\" belongs to no if, with or range"),
                     outside,
                 )
             }
             _ => inside_text(
-                said.say("a second \"else\", or one with another control than that which is open")?,
+                said.say("a second \"else\", or one with another control than that which is open"),
                 outside,
             ),
         },
@@ -448,29 +434,27 @@ fn else_text(said: Sentence, outside: Option<Open>) -> Result<Sentence, AllocErr
 
 /// What is said of a name that is not in scope.
 pub fn undeclared(alloc: Global, name: &[u8]) -> Result<String, AllocError> {
-    Ok(
-        Sentence::new(alloc)
-            .say("variable \"$")?
-            .show(name)?
-            .say("\" is not declared")?
-            .done(),
-    )
+    Sentence::new(alloc)
+        .say("variable \"$")
+        .show(name)
+        .say("\" is not declared")
+        .done()
 }
 
 /// What is said of what is open at the end of a file.
 pub fn left_open(alloc: Global, open: Open, depth: usize) -> Result<String, AllocError> {
     let said = Sentence::new(alloc)
-        .say("\"")?
-        .say(open.opening.word())?
-        .say("\" of line ")?
-        .count(open.line)?
-        .say(" is open at the end of the file")?;
+        .say("\"")
+        .say(open.opening.word())
+        .say("\" of line ")
+        .count(open.line)
+        .say(" is open at the end of the file");
     let said = if depth > 1 {
-        said.say(", inside ")?
-            .count(depth.saturating_sub(1) as u64)?
-            .say(" more")?
+        said.say(", inside ")
+            .count(depth.saturating_sub(1) as u64)
+            .say(" more")
     } else {
         said
     };
-    Ok(said.done())
+    said.done()
 }

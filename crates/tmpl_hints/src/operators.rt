@@ -1,7 +1,6 @@
 //! Operators of other languages, and the functions that serve here.
 
 use crate::sentence::Sentence;
-use std::alloc::AllocError;
 use tmpl_lex::{Token, TokenKind};
 
 /// An operator, and the function in its place.
@@ -58,14 +57,9 @@ fn sign(sign: &'static [u8], function: &'static str) -> Operator {
 
 impl Operator {
     /// What is said of it, where it begins with the token of this number.
-    pub(crate) fn text(
-        self,
-        said: Sentence,
-        tokens: &[Token<'_>],
-        index: usize,
-    ) -> Result<Sentence, AllocError> {
-        let said = self.begin(said)?;
-        let said = show_left(said, tokens, index)?.say(" ")?;
+    pub(crate) fn text(self, said: Sentence, tokens: &[Token<'_>], index: usize) -> Sentence {
+        let said = self.begin(said);
+        let said = show_left(said, tokens, index).say(" ");
         show_right(said, tokens.get(index.saturating_add(2)..))
     }
 
@@ -75,32 +69,28 @@ impl Operator {
         said: Sentence,
         tokens: &[Token<'_>],
         after: &[u8],
-    ) -> Result<Sentence, AllocError> {
-        let said = self.begin(said)?;
-        let said = show_left(said, tokens, tokens.len())?.say(" ")?;
+    ) -> Sentence {
+        let said = self.begin(said);
+        let said = show_left(said, tokens, tokens.len()).say(" ");
         said.show(first_word(after))
     }
 
     /// What is said of it up to its operands.
-    fn begin(self, said: Sentence) -> Result<Sentence, AllocError> {
-        said.quote(self.sign)?
-            .say(" is no operand: write ")?
-            .say(self.function)?
+    fn begin(self, said: Sentence) -> Sentence {
+        said.quote(self.sign)
+            .say(" is no operand: write ")
+            .say(self.function)
             .say(" ")
     }
 }
 
 /// Shows the operand before the token of this number.
-pub(crate) fn show_left(
-    said: Sentence,
-    tokens: &[Token<'_>],
-    index: usize,
-) -> Result<Sentence, AllocError> {
+pub(crate) fn show_left(said: Sentence, tokens: &[Token<'_>], index: usize) -> Sentence {
     let mut said = said;
     for token in operand_before(tokens, index) {
-        said = said.show(token.bytes)?;
+        said = said.show(token.bytes);
     }
-    Ok(said)
+    said
 }
 
 /// The tokens of the operand before the token of this number.
@@ -122,18 +112,18 @@ fn operand_before<'t, 'b>(tokens: &'t [Token<'b>], index: usize) -> &'t [Token<'
 }
 
 /// Shows the operand with which tokens begin.
-fn show_right(said: Sentence, tokens: Option<&[Token<'_>]>) -> Result<Sentence, AllocError> {
+fn show_right(said: Sentence, tokens: Option<&[Token<'_>]>) -> Sentence {
     let mut said = said;
     let mut begun = false;
     for token in tokens.unwrap_or(&[]) {
         if is_inside(token.kind) {
             begun = true;
-            said = said.show(token.bytes)?;
+            said = said.show(token.bytes);
         } else if begun {
-            return Ok(said);
+            return said;
         }
     }
-    Ok(said)
+    said
 }
 
 /// Whether a token of this kind may be a part of an operand that is shown.

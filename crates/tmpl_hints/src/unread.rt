@@ -29,13 +29,12 @@ pub fn opens_comment(inside: &[u8]) -> bool {
 pub fn unreadable(alloc: Global, tokens: &[Token<'_>], after: &[u8]) -> Result<String, AllocError> {
     let said = Sentence::new(alloc);
     if opens_comment(after) {
-        return Ok(
-            said.say("a comment ends with \"*/}}\", or with \"*/\", a space and \"-}}\"")?
-                .done(),
-        );
+        return said
+            .say("a comment ends with \"*/}}\", or with \"*/\", a space and \"-}}\"")
+            .done();
     }
     let bytes = after.get(read_len(tokens, after)..).unwrap_or(&[]);
-    Ok(said_of(said, tokens, bytes)?.done())
+    said_of(said, tokens, bytes).done()
 }
 
 /// How many bytes of an action were read as tokens, with its marker.
@@ -48,7 +47,7 @@ fn read_len(tokens: &[Token<'_>], after: &[u8]) -> usize {
 }
 
 /// What is said of bytes with which no token begins.
-fn said_of(said: Sentence, tokens: &[Token<'_>], bytes: &[u8]) -> Result<Sentence, AllocError> {
+fn said_of(said: Sentence, tokens: &[Token<'_>], bytes: &[u8]) -> Sentence {
     if let Some(operator) = operator_in(bytes) {
         let rest = bytes.get(operator.sign.len()..).unwrap_or(&[]);
         return operator.text_between(said, tokens, rest);
@@ -68,26 +67,26 @@ fn said_of(said: Sentence, tokens: &[Token<'_>], bytes: &[u8]) -> Result<Sentenc
         [b'%', ..] => said.say(
             "unexpected \"%\": an action stands between \"{{\" and \"}}\" alone",
         ),
-        [b'#' | b'/' | b'^', ..] if tokens.len() == 0 => said.quote(first_word(bytes))?.say(
+        [b'#' | b'/' | b'^', ..] if tokens.len() == 0 => said.quote(first_word(bytes)).say(
             " begins no action: a part begins with if, with or range and ends with end",
         ),
         [b'?' | b':', ..] => said
-            .say("unexpected ")?
-            .quote(first_byte(bytes))?
+            .say("unexpected ")
+            .quote(first_byte(bytes))
             .say(": write {{if P}}A{{else}}B{{end}}"),
         [b'-', ..] if ends_with_field(tokens) => key_text(said, tokens, bytes),
         [b'+' | b'-' | b'*' | b'/' | b'^', ..] => said
-            .say("unexpected ")?
-            .quote(first_byte(bytes))?
+            .say("unexpected ")
+            .quote(first_byte(bytes))
             .say(": there is no arithmetic; compute it in the data"),
         [b'&', ..] => said.say("unexpected \"&\": write and"),
-        _ => said.say("unexpected ")?.quote(first_byte(bytes)),
+        _ => said.say("unexpected ").quote(first_byte(bytes)),
     }
 }
 
 /// What is said of a `!` before this word.
-fn not_text(said: Sentence, word: &[u8]) -> Result<Sentence, AllocError> {
-    let said = said.say("unexpected \"!\": write not ")?;
+fn not_text(said: Sentence, word: &[u8]) -> Sentence {
+    let said = said.say("unexpected \"!\": write not ");
     if word.is_empty() {
         said.say(".x")
     } else {
@@ -101,21 +100,18 @@ fn ends_with_field(tokens: &[Token<'_>]) -> bool {
 }
 
 /// What is said of a key with a `-` that is written as a field.
-fn key_text(said: Sentence, tokens: &[Token<'_>], bytes: &[u8]) -> Result<Sentence, AllocError> {
+fn key_text(said: Sentence, tokens: &[Token<'_>], bytes: &[u8]) -> Sentence {
     let index = tokens.len().saturating_sub(1);
     let name = match tokens.last() {
         Some(token) => token.bytes.get(1..).unwrap_or(&[]),
         None => &[],
     };
-    let said = said.say("unexpected \"-\": write index ")?;
+    let said = said.say("unexpected \"-\": write index ");
     let said = match tokens.get(index.saturating_sub(1)) {
-        Some(token) if index > 0 && is_chained(token.kind) => show_left(said, tokens, index)?,
-        _ => said.say(".")?,
+        Some(token) if index > 0 && is_chained(token.kind) => show_left(said, tokens, index),
+        _ => said.say("."),
     };
-    said.say(" \"")?
-        .show(name)?
-        .show(first_word(bytes))?
-        .say("\"")
+    said.say(" \"").show(name).show(first_word(bytes)).say("\"")
 }
 
 /// Whether a field may stand directly after a token of this kind.

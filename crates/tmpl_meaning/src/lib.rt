@@ -4,7 +4,6 @@
 #![tactic(auto)]
 
 mod fault;
-mod fixed;
 mod laws;
 mod missing_key;
 mod options;
@@ -12,7 +11,6 @@ mod sink;
 mod values;
 
 pub use fault::{RunFault, RunFaultKind};
-pub use fixed::{Fixed, Full};
 pub use laws::{adds_to_text, formed_runs, joins_by_table};
 pub use missing_key::MissingKey;
 pub use options::Options;

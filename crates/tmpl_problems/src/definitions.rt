@@ -75,10 +75,10 @@ pub(crate) fn second_definition(
 
 /// What is said of a second definition of this name, of which the first is on this line.
 fn second_text(alloc: Global, name: &[u8], earlier: u64) -> Result<String, AllocError> {
-    let said = Sentence::new(alloc)
-        .say("second definition of ")?
-        .quote(name)?
-        .say(", the first in line ")?
-        .count(earlier)?;
-    Ok(said.done())
+    Sentence::new(alloc)
+        .say("second definition of ")
+        .quote(name)
+        .say(", the first in line ")
+        .count(earlier)
+        .done()
 }

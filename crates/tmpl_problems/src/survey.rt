@@ -211,11 +211,9 @@ fn suspicious_at(text: &[u8]) -> Option<usize> {
 
 /// What is said of a variable of this name that nothing uses.
 fn unused(alloc: Global, name: &[u8]) -> Result<String, AllocError> {
-    Ok(
-        Sentence::new(alloc)
-            .say("variable \"$")?
-            .show(name)?
-            .say("\" is never used")?
-            .done(),
-    )
+    Sentence::new(alloc)
+        .say("variable \"$")
+        .show(name)
+        .say("\" is never used")
+        .done()
 }

@@ -5,8 +5,8 @@ ghost use Rattle.tmpl_meaning.specs.Sink.{as_puts};
 ghost use Rattle.tmpl_tool.specs.Outcome.{line};
 ghost use Rattle.tmpl_tool.specs.computed.View.{part_bytes, parts_bytes};
 
+use crate::messages::fixed::{Fixed, Full};
 use itoa::Buffer;
-use tmpl_meaning::{Fixed, Full};
 use tmpl_run::{Sink, SinkFault, WholePuts, put_all};
 use tmpl_values::{Put, put_quoted};
 

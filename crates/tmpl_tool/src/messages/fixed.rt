@@ -5,15 +5,15 @@ use tmpl_values::Put;
 
 /// A text does not fit.
 #[derive(Clone, Copy, Debug)]
-pub struct Full;
+pub(crate) struct Full;
 
 /// Memory that takes texts after the bytes before `end`, until one does not fit: of that it takes nothing.
 #[derive(Drop)]
-pub struct Fixed<'m> {
-    pub bytes: &'m mut [u8],
-    pub end: usize,
+pub(crate) struct Fixed<'m> {
+    pub(crate) bytes: &'m mut [u8],
+    pub(crate) end: usize,
     /// How many texts did not fit.
-    pub failures: u64,
+    pub(crate) failures: u64,
     ghost within: { end ≤ length bytes.now },
 }
 
