@@ -104,7 +104,7 @@ for (const [what, source] of Object.entries({
 check("a response that failed", await load(new Response("", { status: 404 })).catch((error) => error.message), ": status 404");
 check("it imports nothing", WebAssembly.Module.imports(new WebAssembly.Module(bytes)), []);
 
-/** The module with so many pages of memory at most, in the place of its own limit, which takes three bytes. */
+/** The module with this many pages of memory at most, in the place of its own limit, which takes three bytes. */
 function limited(pages) {
     const made = Buffer.from(bytes);
     let at = 8;
@@ -118,7 +118,7 @@ function limited(pages) {
         const size = number();
         at += size;
     }
-    for (let skipped = 0; skipped < 4; skipped++) number(); // its size, one memory, with a limit, of so many pages at first
+    for (let skipped = 0; skipped < 4; skipped++) number(); // its size, one memory, with a limit, of as many pages as it begins with
     made.set([(pages & 0x7f) | 0x80, ((pages >> 7) & 0x7f) | 0x80, pages >> 14], at);
     return made;
 }

@@ -4,7 +4,7 @@ use std::alloc::{AllocError, Global};
 use tmpl_funcs::{Func, call};
 use tmpl_values::{Cell, Data, Val};
 
-/// Calls a function so often, and tells whether it answered each time. Between two calls nothing takes memory.
+/// Calls a function as often as is asked, and tells whether it answered each time. Between two calls nothing takes memory.
 pub(crate) fn call_often(
     alloc: Global,
     func: Func,
@@ -34,7 +34,7 @@ fn answers(alloc: Global, func: Func, cells: &mut [Cell<'_>]) -> bool {
     }
 }
 
-/// Makes a text of these bytes that can be shared, shares it so often, and tells whether each share is that text.
+/// Makes a text of these bytes that can be shared, shares it as often as is asked, and tells whether each share is that text.
 pub(crate) fn share_often(alloc: Global, bytes: &[u8], count: u64) -> Result<bool, AllocError> {
     let made = Val::made(Vec::from_slice(alloc, bytes)?)?;
     let mut all = true;

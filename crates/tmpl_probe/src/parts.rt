@@ -68,7 +68,7 @@ fn call_over(
     Ok(all)
 }
 
-/// Shares a made text so often, and says how long that took.
+/// Shares a made text as often as is asked, and says how long that took.
 fn share(rt: &(impl Print + Clock), alloc: Global, bytes: &[u8], count: &str) -> io::Result<bool> {
     let Ok(count) = count.parse::<u64>() else {
         return Ok(false);
