@@ -18,9 +18,8 @@ ROWS = [
     (
         "x",
         """template "m"
-        0 spend line 1
-        1 put "x"
-        2 return 0""",
+        0 put "x" line 1
+        1 return 0""",
     ),
     (
         "{{.a.b}}",
@@ -116,11 +115,10 @@ ROWS = [
         6 push slot 0
         7 settle
         8 show
-        9 forget 1 -> 13
-        10 spend line 1
-        11 put "no"
-        12 forget 1 -> 13
-        13 return 0""",
+        9 forget 1 -> 12
+        10 put "no" line 1
+        11 forget 1 -> 12
+        12 return 0""",
     ),
     # where nothing is to be forgotten or passed over, nothing ends a part
     (
@@ -129,19 +127,16 @@ ROWS = [
         0 spend line 1
         1 push .a
         2 settle
-        3 unless -> 6
-        4 spend line 1
-        5 put "x"
-        6 spend line 1
-        7 push .b
-        8 settle
-        9 unless -> 13
-        10 spend line 1
-        11 put "y"
-        12 forget 0 -> 15
-        13 spend line 1
-        14 put "z"
-        15 return 0""",
+        3 unless -> 5
+        4 put "x" line 1
+        5 spend line 1
+        6 push .b
+        7 settle
+        8 unless -> 11
+        9 put "y" line 1
+        10 forget 0 -> 12
+        11 put "z" line 1
+        12 return 0""",
     ),
     # a break out of a `with` forgets the dot that it saved, and goes after the range and its else part
     (
@@ -150,21 +145,19 @@ ROWS = [
         0 spend line 1
         1 push dot
         2 settle
-        3 enter -> 15
+        3 enter -> 14
         4 turn 0
-        5 spend line 1
-        6 put "\n"
-        7 spend line 2
-        8 push .k
-        9 settle
-        10 enter with -> 14
-        11 spend line 2
-        12 leave 1 -> 17
-        13 end with 0 0 -> 14
-        14 next 0 line 1 -> 17
-        15 spend line 2
-        16 put "none"
-        17 return 0""",
+        5 put "\n" line 1
+        6 spend line 2
+        7 push .k
+        8 settle
+        9 enter with -> 13
+        10 spend line 2
+        11 leave 1 -> 15
+        12 end with 0 0 -> 13
+        13 next 0 line 1 -> 15
+        14 put "none" line 2
+        15 return 0""",
     ),
     (
         "{{range $i, $e := .a}}{{with $x := $e}}{{continue}}{{end}}{{end}}",
@@ -191,22 +184,21 @@ ROWS = [
     (
         '{{template "t" 1}}{{template "u"}}{{template "none"}}{{define "t"}}x{{end}}{{define "u"}}{{end}}',
         """template "t"
-        0 spend line 1
-        1 put "x"
-        2 return 0
+        0 put "x" line 1
+        1 return 0
         template "u"
-        3 return 0
+        2 return 0
         template "m"
-        4 deepen line 1
-        5 push 1
-        6 settle
-        7 invoke 0
-        8 deepen line 1
-        9 push nothing
-        10 invoke 1
-        11 spend line 1
-        12 refuse template "none"
-        13 return 0""",
+        3 deepen line 1
+        4 push 1
+        5 settle
+        6 invoke 0
+        7 deepen line 1
+        8 push nothing
+        9 invoke 1
+        10 spend line 1
+        11 refuse template "none"
+        12 return 0""",
     ),
     # what the form of a command refuses stands where the run would get to it
     (

@@ -7,9 +7,9 @@ use Rattle.tmpl_syntax.specs.Tree.{NodeKind, Node, Nodes, text, action, control_
 use Rattle.tmpl_syntax.specs.Set.{Template}
 use Rattle.tmpl_syntax.specs.View.{node_of, nodes_in}
 use Rattle.tmpl_syntax.specs.declared.tree.Node as held
-use Rattle.tmpl_code.specs.Code.{Code, Exit, NodeAt, NodesAt, step_of, step_of_call}
+use Rattle.tmpl_code.specs.Code.{Code, Exit, NodeAt, NodesAt, StepAt, step_of_call}
 use Rattle.tmpl_code.specs.Layout.{Layout, bound_on, grown}
-use Rattle.tmpl_code.specs.computed.Held.{bound_off, shrunk, all_grown, number_called}
+use Rattle.tmpl_code.specs.computed.Held.{StepBy, bound_off, shrunk, all_grown, number_called}
 
 -- how much there is to put
 abbrev mutual
@@ -74,18 +74,18 @@ nodes_from ns i j n h next is =
 
 -- one node more
 pub nodes_more : (ts : List Template) (ns : List held.Node) (i j : ℕ) (n : held.Node) (x : Exit) (before after : Layout) (new start mid old : Code)
-    → j < length ns → i ≡ j + 1 → n ≡ get_or ns j n → after ≡ grown (node_of n).what before → new ≡ step_of ts (node_of n).line (node_of n).what ∷ start
+    → j < length ns → i ≡ j + 1 → n ≡ get_or ns j n → after ≡ grown (node_of n).what before → StepAt ts (node_of n).line (node_of n).what new start
     → NodeAt ts (node_of n).line (node_of n).what before x start mid → NodesAt ts (nodes_in (drop i ns)) after x mid old
     → NodesAt ts (nodes_in (drop j ns)) before x new old
 nodes_more ts ns i j n x before after new start mid old h next is grew step one rest =
     rw (← nodes_from ns i j n h next is) (start, mid, step, one, rw (← grew) rest)
 
 -- the step of a node by the number of the template that it calls
-pub step_called : (ts : List Template) (line : ℕ) (n : NodeKind) (number : Option ℕ) {code rest : Code} → number ≡ number_called ts n
-    → code ≡ step_of_call line number ∷ rest → code ≡ step_of ts line n ∷ rest
-step_called ts line (template_node name given) number {rest = rest} is step = step ∙ ap (λ o. step_of_call line o ∷ rest) is
-step_called ts line (text t) number {rest = rest} is step = step ∙ ap (λ o. step_of_call line o ∷ rest) is
-step_called ts line (action h) number {rest = rest} is step = step ∙ ap (λ o. step_of_call line o ∷ rest) is
-step_called ts line (control_node c h body other) number {rest = rest} is step = step ∙ ap (λ o. step_of_call line o ∷ rest) is
-step_called ts line break_node number {rest = rest} is step = step ∙ ap (λ o. step_of_call line o ∷ rest) is
-step_called ts line continue_node number {rest = rest} is step = step ∙ ap (λ o. step_of_call line o ∷ rest) is
+pub step_called : (ts : List Template) (line : ℕ) (n : NodeKind) (number : Option ℕ) (code rest : Code) → number ≡ number_called ts n
+    → StepBy line n number code rest → StepAt ts line n code rest
+step_called ts line (template_node name given) number code rest is step = step ∙ ap (λ o. step_of_call line o ∷ rest) is
+step_called ts line (text t) number code rest is step = step
+step_called ts line (action h) number code rest is step = step ∙ ap (λ o. step_of_call line o ∷ rest) is
+step_called ts line (control_node c h body other) number code rest is step = step ∙ ap (λ o. step_of_call line o ∷ rest) is
+step_called ts line break_node number code rest is step = step ∙ ap (λ o. step_of_call line o ∷ rest) is
+step_called ts line continue_node number code rest is step = step ∙ ap (λ o. step_of_call line o ∷ rest) is

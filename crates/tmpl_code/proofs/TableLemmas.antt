@@ -148,7 +148,7 @@ module _ {t u : Tables} (g : Grows t u) where
   within-span end h = rw (← counted u) (within (names_of t) (names_of u) g.names g.names_so end (rw (counted t) h))
 
   pub fits-on : (j : held.Instruction) → fits t j ≡ true → fits u j ≡ true
-  fits-on (i.Put place) h = there t.texts.items u.texts.items g.texts g.texts_so place h
+  fits-on (i.Put place line) h = there t.texts.items u.texts.items g.texts g.texts_so place h
   fits-on (i.PushText place) h = there-span place h
   fits-on (i.PushFields span) h = within-span (span.start + span.count) h
   fits-on (i.Chain span) h = within-span (span.start + span.count) h
@@ -162,7 +162,7 @@ module _ {t u : Tables} (g : Grows t u) where
   same-names s h = at-span (names_of t) (names_of u) g.names g.names_so s (rw (counted t) h)
 
   pub same-on : (j : held.Instruction) → fits t j ≡ true → instruction_of u j ≡ instruction_of t j
-  same-on (i.Put place) h = ap put (at-place t.texts.items u.texts.items g.texts g.texts_so [] place h)
+  same-on (i.Put place line) h = ap (put line) (at-place t.texts.items u.texts.items g.texts g.texts_so [] place h)
   same-on (i.PushText place) h = ap (λ n. act (push_text n)) (same-name place h)
   same-on (i.PushFields span) h = ap (λ ns. act (push_fields ns)) (same-names span h)
   same-on (i.Chain span) h = ap (λ ns. act (chained ns)) (same-names span h)

@@ -15,7 +15,7 @@ use Rattle.tmpl_syntax.specs.View.{node_of, nodes_in}
 use Rattle.tmpl_syntax.specs.declared.tree.Node as held_node
 use Rattle.tmpl_code.specs.Instruction.{Instruction, unless, enter_with, end_with, forget, enter, next}
 use Rattle.tmpl_code.specs.Layout.{Layout, declares, declares_key, declared_in}
-use Rattle.tmpl_code.specs.Code.{Code, Stretch, NodesPart, Exit, PipelineAt, HeaderAt, EndAt, NodeAt, NodesAt, step_of}
+use Rattle.tmpl_code.specs.Code.{Code, Stretch, NodesPart, Exit, PipelineAt, HeaderAt, EndAt, NodeAt, NodesAt, StepAt}
 use Rattle.tmpl_code.specs.computed.Held.{Ends, BoundPart, DottedPart, EndedPart, IsOpen, Placed, Put, TurnsPart, all_grown, code_of, exit_seen, last_of}
 use Rattle.tmpl_code.specs.computed.Held.{layout_of, shrunk}
 use Rattle.tmpl_code.specs.declared.code.Code as held_code
@@ -235,9 +235,10 @@ module _ {ts : List Template} {e : Option held_around.Around} {ns : List held_no
       open_on e (layout_of old.scope) (layout_of start.scope) beyond (omega (arith, more, long)) h
 
   pub put_more : {mid new : Compiler} → Put (NodeAt ts (node_of n).line (node_of n).what) e start mid
-      → code_of new.code ≡ step_of ts (node_of n).line (node_of n).what ∷ code_of mid.code → layout_of new.scope ≡ layout_of mid.scope
+      → StepAt ts (node_of n).line (node_of n).what (code_of new.code) (code_of mid.code) → Ends (code_of mid.code) (code_of new.code)
+      → layout_of new.scope ≡ layout_of mid.scope
       → Putting ts e ns j old new
-  put_more {mid} {new} p step kept =
+  put_more {mid} {new} p step on kept =
       let line = (node_of n).line in
       let what = (node_of n).what in
       let x = exit_seen e (code_of old.code) in
@@ -251,5 +252,5 @@ module _ {ts : List Template} {e : Option held_around.Around} {ns : List held_no
         within = omega arith;
         layout = scope;
         put = rw scope put;
-        ends = ends_on step (ends_both p.ends beyond);
+        ends = ends_both on (ends_both p.ends beyond);
       }

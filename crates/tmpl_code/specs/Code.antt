@@ -236,15 +236,17 @@ abbrev pub CallAt : List ℕ → Option ℕ → Option Pipeline → Layout → S
 CallAt name None given cells code rest = One (refuse (no_template name)) code rest
 CallAt name (Some number) given cells code rest = GivenAt given cells code (invoke number ∷ rest)
 
--- what takes the step of a node; that of a call of a template which is there is only looked for, and then how deep
--- calls are, before its pipeline, and is taken where the template begins
+-- what takes the step of a call; that of one of a template which is there is only looked for, and then how deep calls
+-- are, before its pipeline, and is taken where the template begins
 abbrev pub step_of_call : ℕ → Option ℕ → Instruction
 step_of_call line None = spend line
 step_of_call line (Some number) = deepen line
 
-abbrev pub step_of : List Template → ℕ → NodeKind → Instruction
-step_of ts line (template_node name given) = step_of_call line (number_of name ts)
-step_of ts line n = spend line
+-- what takes the step of a node before its code; nothing, where the code begins with an instruction that does
+abbrev pub StepAt : List Template → ℕ → NodeKind → Stretch
+StepAt ts line (text bytes) code rest = code ≡ rest
+StepAt ts line (template_node name given) code rest = code ≡ step_of_call line (number_of name ts) ∷ rest
+StepAt ts line n code rest = code ≡ spend line ∷ rest
 
 -- ---- controls
 
@@ -311,9 +313,9 @@ ControlAt line control.Range h in_body in_other Body Other cells exit code rest 
 -- ---- nodes
 
 abbrev mutual
-  -- a node of this line, once its step is taken; calls are of these templates
+  -- a node of this line, once its step is taken, or from the instruction on that takes it; calls are of these templates
   pub NodeAt : List Template → ℕ → NodeKind → Layout → Exit → Stretch
-  NodeAt ts line (text bytes) cells exit code rest = code ≡ put bytes ∷ rest
+  NodeAt ts line (text bytes) cells exit code rest = code ≡ put line bytes ∷ rest
   NodeAt ts line (action h) cells exit code rest =
       (mid : Code) × HeaderAt h cells code mid × ShownAt h.binding mid rest
   NodeAt ts line (control_node c h body other) cells exit code rest =
@@ -328,7 +330,7 @@ abbrev mutual
   pub NodesAt : List Template → Nodes → Layout → Exit → Stretch
   NodesAt ts tree.none cells exit code rest = code ≡ rest
   NodesAt ts (tree.then line n ns) cells exit code rest =
-      (start : Code) × (mid : Code) × (code ≡ step_of ts line n ∷ start)
+      (start : Code) × (mid : Code) × StepAt ts line n code start
       × NodeAt ts line n cells exit start mid × NodesAt ts ns (grown n cells) exit mid rest
 
 -- a whole template

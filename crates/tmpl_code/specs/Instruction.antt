@@ -29,7 +29,8 @@ pub data Operation : Type 0 where
 
 pub data Instruction : Type 0 where
   spend : ℕ → Instruction
-  put : List ℕ → Instruction
+  -- the line of its step
+  put : ℕ → List ℕ → Instruction
   act : Operation → Instruction
   show : Instruction
   -- whether a variable for an index or key is declared below

@@ -43,7 +43,7 @@ names_seen n = map (letters_at n.letters.now) n.spans.now
 -- an instruction over these tables
 abbrev pub instruction_of : Tables → held_instruction.Instruction → Instruction
 instruction_of t (i.Spend line) = spend line
-instruction_of t (i.Put place) = put (text_at t place)
+instruction_of t (i.Put place line) = put line (text_at t place)
 instruction_of t i.PushNothing = act push_nothing
 instruction_of t (i.PushBool b) = act (push_bool b)
 instruction_of t (i.PushNumber n) = act (push_number n)

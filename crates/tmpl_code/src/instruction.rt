@@ -15,13 +15,16 @@ pub enum CommandError {
 
 /// An instruction. Jumps are relative to the next instruction; slot 0 is the newest cell. A variable that a header
 /// declares stays below what its node pushes. Counts have 32 bits, and so have the places of texts and names in the
-/// tables of the program, so that an instruction takes 16 bytes.
+/// tables of the program, and a line beside another number, so that an instruction takes 16 bytes.
 #[derive(Clone, Copy)]
 pub enum Instruction {
     /// Takes a step at this line, which later faults name; stops if none is left.
     Spend(u64),
-    /// Puts out a text of the template.
-    Put(u32),
+    /// Takes a step as [`Instruction::Spend`] does, and puts out a text of the template.
+    Put {
+        text: u32,
+        line: u32,
+    },
     /// Pushes nothing, the value of what is missing.
     PushNothing,
     /// Pushes a truth value.

@@ -9,7 +9,7 @@ ghost use Rattle.tmpl_syntax.specs.Need.{left_after};
 ghost use Rattle.tmpl_syntax.specs.View.{control_of, node_of, nodes_in, set_view};
 ghost use Rattle.tmpl_code.specs.Code as spec;
 ghost use Rattle.tmpl_code.specs.Layout.{declared_in, grown};
-ghost use Rattle.tmpl_code.specs.computed.Held.{BoundPart, DottedPart, EndedPart, IsOpen, PartsAt, Placed, Pushed, Put};
+ghost use Rattle.tmpl_code.specs.computed.Held.{BoundPart, DottedPart, EndedPart, IsOpen, PartsAt, Placed, Put, StepBy};
 ghost use Rattle.tmpl_code.specs.computed.Held.{TurnsPart, all_grown, code_of, exit_seen, layout_of, number_called, shrunk};
 
 use crate::binding::{
@@ -210,18 +210,26 @@ pub(crate) fn number_called(set: &Set, node: &Node) -> Option<usize>
     }
 }
 
-/// Puts what takes the step of a node, or, for a call of the template of this number, looks whether one is left.
+/// Puts what takes the step of a node, or, for a call of the template of this number, looks whether one is left. The
+/// code of a text takes its step itself.
 #[tactic(auto, using(tmpl_syntax::proofs::ViewLemmas::nodes, crate::proofs::TailLemmas::ends))]
 pub(crate) fn put_step(
     code: &mut Code,
     node: &Node,
     number: Option<usize>,
 ) -> Result<(), AllocError>
-    ensures { OnOk result (Placed (Pushed (spec.step_of_call (node_of node.now).line number)) code.old code.new) }
+    ensures { OnOk result (Placed (StepBy (node_of node.now).line (node_of node.now).what number) code.old code.new) }
 {
-    match number {
-        Some(_) => code.push(Instruction::Deepen(node.line)),
-        None => code.push(Instruction::Spend(node.line)),
+    match &node.what {
+        NodeKind::Text(_) => Ok(()),
+        NodeKind::Action(_)
+        | NodeKind::Control(_)
+        | NodeKind::Break
+        | NodeKind::Continue
+        | NodeKind::Template(..) => match number {
+            Some(_) => code.push(Instruction::Deepen(node.line)),
+            None => code.push(Instruction::Spend(node.line)),
+        },
     }
 }
 
@@ -258,7 +266,7 @@ impl<'s> Compiler<'s> {
         Ok(())
     }
 
-    /// Puts a node whose step is taken. The number is that of the template that it calls.
+    /// Puts a node without what takes its step before it. The number is that of the template that it calls.
     #[cycle(nodes)]
     #[tactic(auto, using(tmpl_syntax::proofs::ViewLemmas::controls, crate::proofs::TailLemmas::ends))]
     pub(crate) fn put_node(
@@ -274,7 +282,7 @@ impl<'s> Compiler<'s> {
             site.entry.exit self.old self.new) }
     {
         match &node.what {
-            NodeKind::Text(text) => self.code.push_put(text),
+            NodeKind::Text(text) => self.code.push_put(text, to_u32(node.line as usize)?),
             NodeKind::Action(header) => {
                 put_shown(&mut self.code, &header.binding)?;
                 put_header(&mut self.code, &self.scope, header)

@@ -45,7 +45,7 @@ fn put_operands(
     instruction: &Instruction,
 ) -> io::Result<()> {
     match instruction {
-        Instruction::Put(place) => put_text(writer, tables.text(*place)),
+        Instruction::Put { text, .. } => put_text(writer, tables.text(*text)),
         Instruction::PushNumber(number) => write!(writer, " {number}"),
         Instruction::PushText(place) | Instruction::RefuseTemplate(place) => {
             put_text(writer, tables.name(*place))
@@ -96,7 +96,7 @@ fn either(first: bool, one: &'static str, other: &'static str) -> &'static str {
 fn words(instruction: &Instruction) -> &'static str {
     match instruction {
         Instruction::Spend(_) => "spend",
-        Instruction::Put(_) => "put",
+        Instruction::Put { .. } => "put",
         Instruction::PushNothing => "push nothing",
         Instruction::PushBool(held) => either(*held, "push true", "push false"),
         Instruction::PushNumber(_) | Instruction::PushText(_) | Instruction::PushFields(_) =>
@@ -161,7 +161,7 @@ fn variables(instruction: &Instruction) -> Option<u64> {
 fn line(instruction: &Instruction) -> Option<u64> {
     match instruction {
         Instruction::Spend(line) | Instruction::Deepen(line) => Some(*line),
-        Instruction::Next { line, .. } => Some(*line as u64),
+        Instruction::Next { line, .. } | Instruction::Put { line, .. } => Some(*line as u64),
         _ => None,
     }
 }

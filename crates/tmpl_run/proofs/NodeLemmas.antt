@@ -20,7 +20,7 @@ use Rattle.tmpl_meaning.proofs.PartLemmas.{choosing, oldest, one_of, without_key
 use Rattle.tmpl_meaning.specs.Meaning as meaning
 use Rattle.tmpl_code.specs.Instruction as code
 use Rattle.tmpl_code.specs.Layout.{Layout, bound_on, declares, slot_named, declared_in, grown}
-use Rattle.tmpl_code.specs.Code.{BindAt, Code, HeaderAt, PipelineAt, SetAt, Ended, NodeAt, NodesAt, ShownAt, step_of}
+use Rattle.tmpl_code.specs.Code.{BindAt, Code, HeaderAt, PipelineAt, SetAt, Ended, NodeAt, NodesAt, ShownAt, StepAt}
 use Rattle.tmpl_run.specs.Cell.{Cell, fresh}
 use Rattle.tmpl_run.specs.State.{State}
 use Rattle.tmpl_run.specs.Machine.{kept_on, branch, goes, top, with_dot}
@@ -178,15 +178,16 @@ module _ (way : Way) (calls : Calls) (spare : ℕ) where
   -- .. and of one whose step is to be taken
   abbrev pub StepLeads : ℕ → NodeKind → Type 0
   StepLeads line n =
-      (g : Option Ring) (lay : Layout) (fr : Frame) (here start rest : Code) (s : State) → here ≡ step_of way.plan.templates line n ∷ start
+      (g : Option Ring) (lay : Layout) (fr : Frame) (here start rest : Code) (s : State) → StepAt way.plan.templates line n here start
       → NodeAt way.plan.templates line n lay (exit_of g) start rest → Here g lay fr here (need_of_node n) s → length fr + left_after n ≤ way.room
       → ways.After way (ways.Onward way rest (grown n lay) (grown_in n fr) s.dot) g
       (meaning.spend (set way calls) line (stepped (set way calls) line n s.dot) (run_of lay s)) → ways.Leading way s
 
-  pub spent : (line : ℕ) (n : NodeKind) → step_of way.plan.templates line n ≡ code.spend line → NodeLeads n → StepLeads line n
+  pub spent : (line : ℕ) (n : NodeKind) → ((first after : Code) → StepAt way.plan.templates line n first after → first ≡ code.spend line ∷ after)
+      → NodeLeads n → StepLeads line n
   spent line n e leads g lay fr here start rest s l at-node h room k =
       ways.spends way calls (ways.Onward way rest (grown n lay) (grown_in n fr) s.dot) g lay line start s (stepped (set way calls) line n s.dot)
-      h.stands.runs (h.stands.at ∙ l ∙ ap (λ i. i ∷ start) e) k
+      h.stands.runs (h.stands.at ∙ e here start l) k
       (λ at k. leads g lay fr start rest (ways.step_taken line s) at-node
       (record { stands = record { at = at; runs = h.stands.runs; cells = h.stands.cells }; inside = h.inside; fits = h.fits }) room k)
 

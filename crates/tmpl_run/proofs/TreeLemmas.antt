@@ -1,6 +1,6 @@
 -- For the law `comes_to_meaning`: the code of a call and of a template comes to what they mean, by induction on the depth of calls.
 use Rattle.std.proofs.lemmas.Bool.Decides.{nat_tests}
-use Rattle.std.proofs.Common.{arith, ◌≡◌, ◌∙◌, ◌+◌, ◌-◌, ◌≤◌, ◌<◌, nat_eq, nat_lt, ℕ, zero, suc, Bool, true, false, List, [], ◌∷◌, length, drop, refl, ap, sym}
+use Rattle.std.proofs.Common.{arith, ◌≡◌, ◌∙◌, ◌+◌, ◌-◌, ◌≤◌, ◌<◌, nat_eq, nat_lt, ◌++◌, ℕ, zero, suc, Bool, true, false, List, [], ◌∷◌, length, drop, refl, ap, sym}
 use Rattle.std.proofs.Common.{subst, Option, Some, None, inl, inr}
 use Rattle.std.specs.Prelude.{slice_get}
 use Rattle.tmpl_values.specs.Value.{Value, nothing}
@@ -306,10 +306,13 @@ module _ (way : Way) (first : 1 ≤ way.who.depth) (linked : Starts way.plan.tem
   abbrev set : Setting
   set = setting_of way.plan.rules calls way.me.0 way.me.1
 
-  text-leads : (bytes : List ℕ) → nodes.NodeLeads way calls spare (tree.text bytes)
-  text-leads bytes g lay fr here rest s l w room k = let st = w.stands in
-      ways.does way st.runs (st.at ∙ l) tt
-      (k _ (record { at = ways.next way s.place (st.at ∙ l); runs = st.runs; cells = st.cells }) refl refl)
+  text-leads : (line : ℕ) (bytes : List ℕ) → nodes.StepLeads way calls spare line (tree.text bytes)
+  text-leads line bytes g lay fr here start rest s l at-node w room k =
+      let st = w.stands in
+      let at = st.at ∙ l ∙ at-node in
+      ways.pays way calls (ways.Onward way rest lay fr s.dot) g lay line s (stepped set line (tree.text bytes) s.dot)
+      (λ s. goes (record s { text = s.text ++ bytes; place = s.place + 1 })) st.runs at tt refl k
+      (λ k. k _ (record { at = ways.next way s.place at; runs = st.runs; cells = st.cells }) refl refl)
 
   control-leads : (c : Control) (h : Header) (body other : Nodes) → nodes.NodesLead way calls spare body → nodes.NodesLead way calls spare other
       → nodes.NodeLeads way calls spare (tree.control_node c h body other)
@@ -319,13 +322,13 @@ module _ (way : Way) (first : 1 ≤ way.who.depth) (linked : Starts way.plan.tem
 
   mutual
     step-leads : (line : ℕ) (n : NodeKind) → Mine (λ name. NodeNames name n) → nodes.StepLeads way calls spare line n
-    step-leads line (tree.text bytes) mine = spent way calls spare line (tree.text bytes) refl (text-leads bytes)
-    step-leads line (tree.action h) mine = spent way calls spare line (tree.action h) refl (action-leads way calls spare h)
+    step-leads line (tree.text bytes) mine = text-leads line bytes
+    step-leads line (tree.action h) mine = spent way calls spare line (tree.action h) (λ first after l. l) (action-leads way calls spare h)
     step-leads line (tree.control_node c h body other) mine =
-        spent way calls spare line (tree.control_node c h body other) refl
+        spent way calls spare line (tree.control_node c h body other) (λ first after l. l)
         (control-leads c h body other (nodes-lead body (λ name names. mine name (inl names))) (nodes-lead other (λ name names. mine name (inr names))))
-    step-leads line tree.break_node mine = spent way calls spare line tree.break_node refl (break-leads way calls spare)
-    step-leads line tree.continue_node mine = spent way calls spare line tree.continue_node refl (continue-leads way calls spare)
+    step-leads line tree.break_node mine = spent way calls spare line tree.break_node (λ first after l. l) (break-leads way calls spare)
+    step-leads line tree.continue_node mine = spent way calls spare line tree.continue_node (λ first after l. l) (continue-leads way calls spare)
     step-leads line (tree.template_node name given) mine =
         call-leads way first linked n deeper depth base spare left (let own = fits-here in omega arith) line name given (mine name refl)
 

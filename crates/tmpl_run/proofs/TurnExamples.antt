@@ -4,7 +4,7 @@ use Rattle.tmpl_values.specs.Value.{nothing}
 use Rattle.tmpl_syntax.specs.Tree.{none, then, text}
 use Rattle.tmpl_meaning.specs.Meaning.{Ran}
 use Rattle.tmpl_meaning.specs.declared.missing_key.MissingKey.TheVariants.{Default}
-use Rattle.tmpl_code.specs.Instruction.{spend, put, return_from}
+use Rattle.tmpl_code.specs.Instruction.{put, return_from}
 use Rattle.tmpl_run.specs.State.{Plan, State, starting}
 use Rattle.tmpl_run.specs.Ends.{RunsTo}
 use Rattle.tmpl_run.specs.Laws.{most_turns}
@@ -15,7 +15,7 @@ plan = record {
   rules = record { missing_key = Default; step_limit = 1; depth_limit = 1 };
   templates = (codes "t", record { file = codes "f"; nodes = then 1 (text (codes "A")) none }) ∷ [];
   starts = 0 ∷ [];
-  code = spend 1 ∷ put (codes "A") ∷ return_from 0 ∷ [];
+  code = put 1 (codes "A") ∷ return_from 0 ∷ [];
 }
 
 abbrev start : State
@@ -24,11 +24,11 @@ start = starting plan 0 0 nothing
 abbrev end : Ran
 end = record { text = codes "A"; fault = None; made_text = false }
 
-in-three : RunsTo plan 3 3 start end
-in-three = (tt, (tt, (tt, refl)))
+in-two : RunsTo plan 3 2 start end
+in-two = (tt, (tt, refl))
 
-not-in-two : RunsTo plan 3 2 start end → ⊥
-not-in-two h = h.1.1
+not-in-one : RunsTo plan 3 1 start end → ⊥
+not-in-one h = h.1
 
-at-most : most_turns plan ≡ 12
+at-most : most_turns plan ≡ 8
 at-most = refl

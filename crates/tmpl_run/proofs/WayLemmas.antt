@@ -16,7 +16,7 @@ use Rattle.tmpl_code.specs.Instruction as code
 use Rattle.tmpl_code.specs.Layout.{Layout, first_layout}
 use Rattle.tmpl_run.specs.Cell.{Cell, cell}
 use Rattle.tmpl_run.specs.State.{Plan, State}
-use Rattle.tmpl_run.specs.Machine.{Turn, done, done_in, ended, goes, next_of, onto, paid_if, stuck}
+use Rattle.tmpl_run.specs.Machine.{Turn, done, done_in, ended, goes, next_of, onto, paid, paid_if, stuck}
 use Rattle.tmpl_run.specs.Ready.{Has}
 use Rattle.tmpl_run.specs.Ends.{Comes, Ends, IsReady, RunsTo}
 use Rattle.tmpl_run.proofs.SlotLemmas.{Cells, Frame, Over, dropped, env-dropped, frame_of, named, named-less, run_of}
@@ -79,6 +79,10 @@ bare r = record r { env = [] }
 
 abbrev pub step_taken : ℕ → State → State
 step_taken line s = record s { left = s.left - 1; line = line; place = s.place + 1 }
+
+-- .. by an instruction that does more
+abbrev pub paying : ℕ → State → State
+paying line s = record s { left = s.left - 1; line = line }
 
 pub cut-twice : (m n : ℕ) (r : Run) → m ≤ n → cut_to m (cut_to n r) ≡ cut_to m r
 cut-twice m n r h = ap (λ (v : Environment). record r { env = v }) (oldest-twice r.env)
@@ -215,17 +219,25 @@ module _ (way : Way) where
           subst (λ r. (t : State) → Turning g r t → Leading t) (cut-twice (named g.lay) (named lay) x.0 (named-less inside.over)) k
       by g (meaning.faulted w) inside k = k
 
-  -- the step of a node
+  -- the step of a node, taken by an instruction that may do more
+  pub pays : {i : Instruction} {is : Code} (calls : Calls) (A : Run → Type 0) (g : Option Ring) (lay : Layout) (line : ℕ) (s : State) (go : Next)
+      (more : State → Turn) → who_of s ≡ way.who → drop s.place way.plan.code ≡ i ∷ is → Has i (length s.cells) way.room
+      → done way.plan way.me i s ≡ paid way.plan way.me line s more
+      → After A g (meaning.spend (setting calls) line go (run_of lay s))
+      → (After A g (go (run_of lay (paying line s))) → Comes Leading (more (paying line s)) way.end) → Leading s
+  pays calls A g lay line s go more same at ready is k leads = does same at ready (subst (λ u. Comes Leading u way.end) (sym is) (by (nat_eq s.left 0) k))
+    where
+      by : (b : Bool) → After A g (spend_if b (setting calls) line go (run_of lay s)) → Comes Leading (paid_if b way.plan way.me line s more) way.end
+      by true k = k
+      by false k = leads k
+
+  -- .. by one that does no more
   pub spends : (calls : Calls) (A : Run → Type 0) (g : Option Ring) (lay : Layout) (line : ℕ) (is : Code) (s : State) (go : Next) → who_of s ≡ way.who
       → drop s.place way.plan.code ≡ code.spend line ∷ is
       → After A g (meaning.spend (setting calls) line go (run_of lay s))
       → (drop (s.place + 1) way.plan.code ≡ is → After A g (go (run_of lay (step_taken line s))) → Leading (step_taken line s)) → Leading s
-  spends calls A g lay line is s go same at k more = does same at tt (by (nat_eq s.left 0) k)
-    where
-      by : (b : Bool) → After A g (spend_if b (setting calls) line go (run_of lay s))
-          → Comes (λ t. Leading t) (paid_if b way.plan way.me line s (λ s. onto s.cells (s.place + 1) s)) way.end
-      by true k = k
-      by false k = more (next s.place at) k
+  spends calls A g lay line is s go same at k more =
+      pays calls A g lay line s go (λ s. onto s.cells (s.place + 1) s) same at tt refl k (more (next s.place at))
 
   -- this many cells are forgotten, and a part goes on at this place
   closed : {n place : ℕ} {rest end : Code} {big lay : Layout} {high low : Frame} {d : Value} {r : Run} {s : State} → drop place way.plan.code ≡ rest

@@ -179,7 +179,8 @@ returned_if true cs s =
 -- an instruction of this template
 abbrev pub done : Plan → Template → Instruction → State → Turn
 done plan t (code.spend line) s = paid plan t line s (λ s. onto s.cells (s.place + 1) s)
-done plan t (code.put bytes) s = goes (record s { text = s.text ++ bytes; place = s.place + 1 })
+done plan t (code.put line bytes) s =
+    paid plan t line s (λ s. goes (record s { text = s.text ++ bytes; place = s.place + 1 }))
 done plan t (code.act o) s =
     piped t o (pipe.step (record { missing_key = plan.rules.missing_key; dot = s.dot; env = [] }) o s.cells) s
 done plan t code.show s =

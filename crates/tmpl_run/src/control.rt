@@ -8,7 +8,7 @@ ghost use Rattle.tmpl_run.specs.Cell.{slot};
 ghost use Rattle.tmpl_run.specs.computed.Machines.{untold};
 ghost use Rattle.tmpl_run.specs.computed.Plain.{Steady, SteadyOr};
 ghost use Rattle.tmpl_run.specs.Ready.{RoomIf};
-ghost use Rattle.tmpl_run.specs.computed.Turned.{Executed, TurnedOr, TurnedUnder};
+ghost use Rattle.tmpl_run.specs.computed.Turned.{Executed, StepTaken, TurnedOr, TurnedUnder};
 ghost use Rattle.tmpl_run.specs.computed.View.{cells_of, size_of};
 
 use crate::flow::Flow;
@@ -19,17 +19,26 @@ use tmpl_meaning::{Options, RunFaultKind};
 use tmpl_values::Cell;
 
 impl<'m, 'a> Machine<'m, 'a> {
-    /// Takes a step at this line.
-    pub(crate) fn spend(&mut self, options: &Options, line: u64) -> Result<Flow, Halt<'a>>
-        requires place { self.old.place + 1 < 2 ^ 64 }
-        ensures step { TurnedUnder (rules_of options.now) (λ _. Unit {0}) (code.spend line) self.old self.new result }
-        ensures steady { SteadyOr result self.old self.new }
+    /// Takes a step at this line, or stops where none is left.
+    #[inline(always)]
+    pub(crate) fn take_step(&mut self, options: &Options, line: u64) -> Result<(), Halt<'a>>
+        ensures { StepTaken options.now.steps line self.old self.new result }
     {
         self.line = line;
         if self.left == 0 {
             return Err(Halt::Fault(RunFaultKind::StepsSpent(options.steps)));
         }
         self.left -= 1;
+        Ok(())
+    }
+
+    /// Takes a step at this line, and goes to the next instruction.
+    pub(crate) fn spend(&mut self, options: &Options, line: u64) -> Result<Flow, Halt<'a>>
+        requires place { self.old.place + 1 < 2 ^ 64 }
+        ensures step { TurnedUnder (rules_of options.now) (λ _. Unit {0}) (code.spend line) self.old self.new result }
+        ensures steady { SteadyOr result self.old self.new }
+    {
+        self.take_step(options, line)?;
         self.place += 1;
         Ok(Flow::On)
     }

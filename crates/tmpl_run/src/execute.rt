@@ -58,9 +58,8 @@ impl<'m, 'a> Machine<'m, 'a> {
     {
         match *instruction {
             Instruction::Spend(line) => self.spend(options, line),
-            Instruction::Put(place) => {
-                self.put_text(code.tables.text(place), piece, sink)?;
-                Ok(Flow::On)
+            Instruction::Put { text, line } => {
+                self.put_text(options, line as u64, code.tables.text(text), piece, sink)
             }
             Instruction::PushNothing => {
                 self.give(Val::Nothing);
@@ -121,10 +120,7 @@ impl<'m, 'a> Machine<'m, 'a> {
             }
             Instruction::Leave { count, skip } => Ok(self.leave(count as usize, skip as usize)),
             Instruction::Deepen(line) => self.deepen(options, line),
-            Instruction::Invoke(number) => {
-                let number = number as usize;
-                self.invoke(options, number, program.starts.as_slice()[number])
-            }
+            Instruction::Invoke(number) => self.invoke(program, options, number as usize),
             Instruction::Return(count) => Ok(self.return_from(count as usize)),
         }
     }

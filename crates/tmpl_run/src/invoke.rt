@@ -1,17 +1,19 @@
 //! Calls of templates.
-ghost use Rattle.std.specs.Prelude.{◌≡◌, ◌+◌, ◌<◌, ◌≤◌, ◌^◌, Ok, OnOk, Some, length, slice_get, true};
+ghost use Rattle.std.specs.Prelude.{◌≡◌, ◌+◌, ◌<◌, ◌≤◌, ◌^◌, Ok, OnOk, length, true};
 ghost use Rattle.tmpl_values.specs.View.{is_kept};
 ghost use Rattle.tmpl_meaning.specs.View.{rules_of};
 ghost use Rattle.tmpl_code.specs.Instruction as code;
 ghost use Rattle.tmpl_run.specs.computed.Machines.{untold};
 ghost use Rattle.tmpl_run.specs.computed.Plain.{Steady, SteadyOr};
-ghost use Rattle.tmpl_run.specs.computed.Turned.{Executed, TurnedUnder};
+ghost use Rattle.tmpl_run.specs.computed.Plan.{plan_of};
+ghost use Rattle.tmpl_run.specs.computed.Turned.{Executed, TurnedOr, TurnedUnder};
 ghost use Rattle.tmpl_run.specs.computed.View.{cells_of, size_of};
 
 use crate::flow::Flow;
 use crate::halt::Halt;
 use crate::machine::Machine;
 use crate::stack::keep;
+use tmpl_code::Parts;
 use tmpl_meaning::{Options, RunFaultKind};
 use tmpl_values::Val;
 
@@ -33,19 +35,20 @@ impl<'m, 'a> Machine<'m, 'a> {
         Ok(Flow::On)
     }
 
-    /// Takes a step and runs the template of this number, whose code starts here, over the newest value.
+    /// Takes a step and runs the template of this number over the newest value.
+    #[tactic(auto, using(crate::proofs::TurnLemmas::starts))]
     pub(crate) fn invoke(
         &mut self,
+        program: &Parts,
         options: &Options,
         number: usize,
-        start: usize,
     ) -> Result<Flow, Halt<'a>>
+        requires number { number < length program.now.starts.items }
         requires found { 1 ≤ length (cells_of self.old.stack) }
         requires room { length (cells_of self.old.stack) + 2 ≤ size_of self.old.stack }
         requires depth { self.old.depth + 1 < 2 ^ 64 }
         requires place { self.old.place + 1 < 2 ^ 64 }
-        ensures step { TurnedUnder (rules_of options.now) (λ plan. slice_get plan.starts number ≡ Some start)
-            (code.invoke number) self.old self.new result }
+        ensures step { TurnedOr (plan_of options.now program.now) (code.invoke number) self.old self.new result }
         ensures kept { OnOk result (is_kept self.new.dot ≡ true) }
         ensures steady { SteadyOr result self.old self.new }
     {
@@ -59,7 +62,7 @@ impl<'m, 'a> Machine<'m, 'a> {
         self.stack.push_shared(&self.dot)?;
         self.template = number;
         self.depth += 1;
-        self.place = start;
+        self.place = program.starts.as_slice()[number];
         Ok(Flow::On)
     }
 

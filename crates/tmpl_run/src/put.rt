@@ -2,37 +2,45 @@
 ghost use Rattle.std.specs.Prelude.{◌≡◌, ◌+◌, ◌-◌, ◌<◌, ◌≤◌, ◌^◌, Ok, length};
 ghost use Rattle.tmpl_values.specs.Text.{text_of};
 ghost use Rattle.tmpl_meaning.specs.Sink.{IsPut};
+ghost use Rattle.tmpl_meaning.specs.View.{rules_of};
 ghost use Rattle.tmpl_code.specs.Instruction as code;
 ghost use Rattle.tmpl_run.specs.Cell.{slot};
-ghost use Rattle.tmpl_run.specs.computed.Machines.{untold};
+ghost use Rattle.tmpl_run.specs.computed.Machines.{state_of, untold};
 ghost use Rattle.tmpl_run.specs.computed.Output.{Grows, given_of};
-ghost use Rattle.tmpl_run.specs.computed.Plain.{Steady};
-ghost use Rattle.tmpl_run.specs.computed.Turned.{Executed};
+ghost use Rattle.tmpl_run.specs.computed.Plain.{Steady, SteadyOr};
+ghost use Rattle.tmpl_run.specs.computed.Turned.{Executed, HoldsOfEach, added, put_by};
 ghost use Rattle.tmpl_run.specs.computed.View.{cells_of};
 ghost use Rattle.tmpl_run.specs.declared.flow.Flow.TheVariants as flow;
 
+use crate::flow::Flow;
+use crate::halt::Halt;
 use crate::machine::Machine;
 use crate::piece::LentPiece;
-use tmpl_meaning::{Sink, SinkFault};
+use tmpl_meaning::{Options, Sink, SinkFault};
 
 impl<'m, 'a> Machine<'m, 'a> {
-    /// Puts out a text of the template.
+    /// Takes a step at this line, and puts out a text of the template.
     pub(crate) fn put_text<S: Sink>(
         &mut self,
+        options: &Options,
+        line: u64,
         text: &[u8],
         piece: &mut LentPiece<'_>,
         sink: &mut S,
-    ) -> Result<(), SinkFault>
+    ) -> Result<Flow, Halt<'a>>
         requires place { self.old.place + 1 < 2 ^ 64 }
         requires failures { (S.so_far sink.old).failures < 2 ^ 64 - 1 }
-        ensures step { Executed untold (code.put text.now) self.old self.new (Ok flow.On) }
-        ensures given { IsPut result (given_of (S.so_far sink.old) piece.old)
-            (given_of (S.so_far sink.new) piece.new) text.now }
+        ensures step { HoldsOfEach (rules_of options.now) (λ plan.
+            Executed plan (code.put line text.now) self.old self.new result) }
+        ensures given { IsPut (put_by result) (given_of (S.so_far sink.old) piece.old)
+            (given_of (S.so_far sink.new) piece.new) (added (code.put line text.now) (state_of self.old)) }
         ensures taken { Grows (S.so_far sink.old) (S.so_far sink.new) }
-        ensures steady { Steady self.old self.new }
+        ensures steady { SteadyOr result self.old self.new }
     {
+        self.take_step(options, line)?;
         self.place += 1;
-        piece.put(sink, text)
+        piece.put(sink, text)?;
+        Ok(Flow::On)
     }
 
     /// Takes the newest value, and puts out its text.

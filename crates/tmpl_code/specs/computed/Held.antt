@@ -14,7 +14,7 @@ use Rattle.tmpl_syntax.specs.Tree.{Nodes}
 use Rattle.tmpl_syntax.specs.Set.{Template, number_of}
 use Rattle.tmpl_syntax.specs.View.{nodes_in}
 use Rattle.tmpl_code.specs.Code.{argument_count, operand_count, CallBy, CountedAt, JunctionAt, OperandsAt}
-use Rattle.tmpl_code.specs.Code.{Code, Ended, Exit, NodeAt, NodesAt, NodesPart, Stretch, TreeAt, TurnAt}
+use Rattle.tmpl_code.specs.Code.{Code, Ended, Exit, NodeAt, NodesAt, NodesPart, Stretch, TreeAt, TurnAt, step_of_call}
 use Rattle.tmpl_code.specs.Instruction.{Instruction, act, call_with, decide}
 use Rattle.tmpl_code.specs.Layout.{Layout, bound_on, declared_in, grown}
 use Rattle.tmpl_code.specs.View.{instruction_of}
@@ -140,3 +140,8 @@ LastStarts all (t ∷ ts) (n ∷ ns) code =
 abbrev pub number_called : List Template → NodeKind → Option ℕ
 number_called ts (template_node name given) = number_of name ts
 number_called ts n = None
+
+-- what takes the step of a node before its code, by that number
+abbrev pub StepBy : ℕ → NodeKind → Option ℕ → Stretch
+StepBy line (text bytes) number code rest = code ≡ rest
+StepBy line n number code rest = code ≡ step_of_call line number ∷ rest

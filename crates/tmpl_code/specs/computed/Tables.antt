@@ -7,7 +7,7 @@ use Rattle.tmpl_code.specs.declared.tables.Tables.{Tables}
 
 -- what an instruction names is in the tables
 abbrev pub fits : Tables → held_instruction.Instruction → Bool
-fits t (i.Put place) = nat_lt place (length t.texts.items)
+fits t (i.Put place line) = nat_lt place (length t.texts.items)
 fits t (i.PushText place) = nat_lt place (length t.spans.items)
 fits t (i.PushFields span) = nat_le (span.start + span.count) (length t.spans.items)
 fits t (i.Chain span) = nat_le (span.start + span.count) (length t.spans.items)

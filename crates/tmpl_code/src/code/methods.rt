@@ -55,12 +55,12 @@ impl Code {
         Ok(())
     }
 
-    /// Puts what puts out a text before the others.
-    pub(crate) fn push_put(&mut self, text: &Text) -> Result<(), AllocError>
-        ensures { OnOk result (Placed (Pushed (put text.now)) self.old self.new) }
+    /// Puts what takes a step at this line and puts out a text before the others.
+    pub(crate) fn push_put(&mut self, text: &Text, line: u32) -> Result<(), AllocError>
+        ensures { OnOk result (Placed (Pushed (put line text.now)) self.old self.new) }
     {
         let place = self.tables.add_text(text)?;
-        self.push(Instruction::Put(place))
+        self.push(Instruction::Put { text: place, line })
     }
 
     /// Puts what puts a text on the stack before the others.

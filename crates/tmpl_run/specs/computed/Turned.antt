@@ -1,12 +1,12 @@
 -- What a turn of a machine in memory is.
 use Rattle.std.specs.Prelude.{◌≡◌, ◌&&◌, Bool, true, false, List, ℕ, [], ◌+◌, Option, None, Some, Result, Ok, Err}
-use Rattle.std.specs.Prelude.{◌<◌, ◌≤◌, ◌^◌, length, slice_get}
+use Rattle.std.specs.Prelude.{◌-◌, ◌<◌, ◌≤◌, ◌^◌, length, nat_eq, slice_get}
 use Rattle.tmpl_values.specs.Text.{text_of}
 use Rattle.tmpl_values.specs.Value.{Value, nothing}
 use Rattle.tmpl_values.specs.View.{val_of}
 use Rattle.tmpl_values.specs.declared.value.Val.{Val}
 use Rattle.tmpl_syntax.specs.Set.{Template}
-use Rattle.tmpl_meaning.specs.Fault.{Cause}
+use Rattle.tmpl_meaning.specs.Fault.{Cause, steps_spent}
 use Rattle.tmpl_meaning.specs.Meaning.{Rules}
 use Rattle.tmpl_meaning.specs.Pipeline.{chain}
 use Rattle.tmpl_meaning.specs.declared.missing_key.MissingKey.{MissingKey}
@@ -45,9 +45,14 @@ abbrev pub mark_after : Instruction → Bool → Bool
 mark_after (code.act o) made = made_by o made
 mark_after i made = made
 
+-- what is put out where a step is taken first, by whether none is left
+abbrev pub paid_for : Bool → List ℕ → List ℕ
+paid_for true bytes = []
+paid_for false bytes = bytes
+
 -- what it puts out in a state
 abbrev pub added : Instruction → State → List ℕ
-added (code.put bytes) s = bytes
+added (code.put line bytes) s = paid_for (nat_eq s.left 0) bytes
 added code.show s = text_of (slot 0 s.cells)
 added i s = []
 
@@ -88,6 +93,14 @@ TurnedUnder rules IsSo i m n (Err (stop.Fault kind)) =
     HoldsOfEach rules (λ plan. IsSo plan → Executed plan i m n (Err (stop.Fault kind)))
 TurnedUnder rules IsSo i m n (Err stop.WriteFailed) = ⊥
 TurnedUnder rules IsSo i m n (Err stop.OutOfMemory) = Unit {0}
+
+-- a step was taken at a line, or none is left of this many
+abbrev pub StepTaken : ℕ → ℕ → Machine → Machine → Result (Unit {0}) Halt → Type 0
+StepTaken limit line m n (Ok u) = (nat_eq m.left 0 ≡ false) × (n ≡ record m { left = m.left - 1; line = line })
+StepTaken limit line m n (Err (stop.Fault kind)) =
+    (nat_eq m.left 0 ≡ true) × (cause_of kind ≡ steps_spent limit) × (n ≡ record m { line = line })
+StepTaken limit line m n (Err stop.WriteFailed) = ⊥
+StepTaken limit line m n (Err stop.OutOfMemory) = ⊥
 
 -- whether a put failed
 abbrev pub put_by : {A : Type 0} → Result A Halt → Result (Unit {0}) SinkFault

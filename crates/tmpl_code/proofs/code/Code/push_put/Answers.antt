@@ -11,4 +11,4 @@ invariant_of-self c =
 pub returns : goal.returns
 returns c =
     let there = at_end c.args.self.now.tables.texts.items c.add_text.new.self.texts.items c.args.text.now [] c.in_ok-place.place c.in_ok-place.ensures.text c.in_ok-place.ensures.place in
-    put_over c.push.result c.args.self.now _ c.push.new.self (i.Put c.in_ok-place.place) (put c.args.text.now) c.add_text.ensures.grows refl (ap put there) c.push.ensures
+    put_over c.push.result c.args.self.now _ c.push.new.self (i.Put c.in_ok-place.place c.args.line) (put c.args.line c.args.text.now) c.add_text.ensures.grows refl (ap (put c.args.line) there) c.push.ensures

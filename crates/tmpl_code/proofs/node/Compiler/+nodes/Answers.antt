@@ -30,7 +30,8 @@ put_nodes-loop-i-preserved t c =
     let item = c.index-nodes-i.result in
     tail.put_more (record { code = l.self.code; scope = c.shrink.new.scope }) c.requires l.invariant (l.i - 1) item (omega arith) (omega arith)
     c.index-nodes-i.is refl c.shrink.ensures c.in_ok-put_node.ensures
-    (step_called _ _ (node_of item).what _ c.number_called-number.ensures c.in_ok-put_step.ensures.code) refl
+    (step_called (set_view c.args.site.set.now) (node_of item).line (node_of item).what _ _ _ c.number_called-number.ensures c.in_ok-put_step.ensures.code)
+    c.in_ok-put_step.ensures.ends refl
 
 pub put_nodes-returns : goal.put_nodes-returns
 put_nodes-returns t c = tail.put_all (omega arith) c.loop-i.invariant

@@ -3,7 +3,7 @@ use Rattle.tmpl_syntax.specs.Need.{need_of_nodes}
 use Rattle.tmpl_code.specs.computed.Weights.{nodes_call}
 use Rattle.tmpl_code.specs.MakesText.{nodes_make_text}
 use Rattle.tmpl_code.proofs.NodeLemmas.{nodes_from, step_called}
-use Rattle.tmpl_syntax.specs.View.{node_of}
+use Rattle.tmpl_syntax.specs.View.{node_of, set_view}
 use Rattle.tmpl_code.proofs.TailLemmas as tail
 use Rattle.tmpl_code.proofs.node.Compiler.put_surveyed.Goals as goal
 
@@ -27,7 +27,8 @@ loop-i-preserved c =
       nodes =
           tail.put_more (record { code = l.self.code; scope = c.shrink.new.scope }) c.requires l.invariant.nodes (l.i - 1) item (omega arith) (omega arith)
           c.index-nodes-i.is refl c.shrink.ensures c.in_ok-put_node.ensures
-          (step_called _ _ (node_of item).what _ c.number_called-number.ensures c.in_ok-put_step.ensures.code) refl;
+          (step_called (set_view c.args.site.set.now) (node_of item).line (node_of item).what _ _ _ c.number_called-number.ensures c.in_ok-put_step.ensures.code)
+          c.in_ok-put_step.ensures.ends refl;
       survey = record {
         need = joined.need ∙ (λ j. max (found.need j) ((above.need ∙ (λ k. c.left_after.ensures k + after.need k)) j)) ∙ ap need_of_nodes here;
         text = joined.text ∙ (λ j. found.text j || (above.text ∙ after.text) j) ∙ ap nodes_make_text here;
