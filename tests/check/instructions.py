@@ -24,11 +24,8 @@ ROWS = [
     (
         "{{.a.b}}",
         """template "m"
-        0 spend line 1
-        1 push .a.b
-        2 settle
-        3 show
-        4 return 0""",
+        0 show .a.b line 1
+        1 return 0""",
     ),
     (
         "{{$x := 1}}{{$x = 2}}{{$x}}",
@@ -42,11 +39,8 @@ ROWS = [
         6 settle
         7 set 0
         8 forget 1 -> 9
-        9 spend line 1
-        10 push slot 0
-        11 settle
-        12 show
-        13 return 1""",
+        9 show slot 0 line 1
+        10 return 1""",
     ),
     # a value that decides passes over the other operands, and none decides after the last
     (
@@ -110,15 +104,12 @@ ROWS = [
         1 push .a
         2 settle
         3 hold
-        4 unless kept -> 10
-        5 spend line 1
-        6 push slot 0
-        7 settle
-        8 show
-        9 forget 1 -> 12
-        10 put "no" line 1
-        11 forget 1 -> 12
-        12 return 0""",
+        4 unless kept -> 7
+        5 show slot 0 line 1
+        6 forget 1 -> 9
+        7 put "no" line 1
+        8 forget 1 -> 9
+        9 return 0""",
     ),
     # where nothing is to be forgotten or passed over, nothing ends a part
     (
@@ -178,6 +169,30 @@ ROWS = [
         13 forget 1 -> 14
         14 next 2 line 1 -> 15
         15 return 0""",
+    ),
+    # dot, a variable and a field of one are shown where they lie; a field of a field of a variable is not, nor is what is in parentheses
+    (
+        "{{range $r := .}}{{.}}{{$r.name}}{{$.a.b}}{{(.)}}{{end}}",
+        """template "m"
+        0 spend line 1
+        1 push dot
+        2 settle
+        3 enter -> 18
+        4 turn 1
+        5 show dot line 1
+        6 show slot 0 .name line 1
+        7 spend line 1
+        8 push slot 3
+        9 chain .a.b
+        10 settle
+        11 show
+        12 spend line 1
+        13 push dot
+        14 settle
+        15 settle
+        16 show
+        17 next 1 line 1 -> 18
+        18 return 0""",
     ),
     # a call of a template looks for the name first, then for a step and at the depth, then at what it hands on; it takes
     # its step where the template begins

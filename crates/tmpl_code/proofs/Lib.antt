@@ -1,3 +1,4 @@
+pub mod ActionLemmas
 pub mod BackwardLemmas
 pub mod BoundLemmas
 pub mod FormedSlotLemmas

@@ -85,7 +85,7 @@ pub step_called : (ts : List Template) (line : ℕ) (n : NodeKind) (number : Opt
     → StepBy line n number code rest → StepAt ts line n code rest
 step_called ts line (template_node name given) number code rest is step = step ∙ ap (λ o. step_of_call line o ∷ rest) is
 step_called ts line (text t) number code rest is step = step
-step_called ts line (action h) number code rest is step = step ∙ ap (λ o. step_of_call line o ∷ rest) is
+step_called ts line (action h) number code rest is step = step
 step_called ts line (control_node c h body other) number code rest is step = step ∙ ap (λ o. step_of_call line o ∷ rest) is
 step_called ts line break_node number code rest is step = step ∙ ap (λ o. step_of_call line o ∷ rest) is
 step_called ts line continue_node number code rest is step = step ∙ ap (λ o. step_of_call line o ∷ rest) is

@@ -8,7 +8,7 @@ use Rattle.std.proofs.Common.{Result, OnOk, subst}
 use Rattle.std.proofs.lemmas.Result.{on_ok_weaker}
 use Rattle.std.proofs.lemmas.List.Folds.{list_all-append}
 use Rattle.std.specs.List.{list_all}
-use Rattle.tmpl_code.specs.Instruction.{Instruction, act, chained, no_template, push_fields, push_text, put, refuse}
+use Rattle.tmpl_code.specs.Instruction.{Instruction, act, chained, no_template, push_fields, push_text, put, refuse, show_fields, show_slot}
 use Rattle.tmpl_code.specs.View.{instruction_of, letters_at, name_at, names_in, names_of}
 use Rattle.tmpl_code.specs.Code.{Code}
 use Rattle.tmpl_code.specs.computed.Held.{Ends, Placed, Pushed, code_in, code_of}
@@ -152,6 +152,8 @@ module _ {t u : Tables} (g : Grows t u) where
   fits-on (i.PushText place) h = there-span place h
   fits-on (i.PushFields span) h = within-span (span.start + span.count) h
   fits-on (i.Chain span) h = within-span (span.start + span.count) h
+  fits-on (i.ShowFields span line) h = within-span (span.start + span.count) h
+  fits-on (i.ShowSlotField slot place line) h = there-span place h
   fits-on (i.RefuseTemplate place) h = there-span place h
   fits-on _ h = h
 
@@ -166,6 +168,8 @@ module _ {t u : Tables} (g : Grows t u) where
   same-on (i.PushText place) h = ap (λ n. act (push_text n)) (same-name place h)
   same-on (i.PushFields span) h = ap (λ ns. act (push_fields ns)) (same-names span h)
   same-on (i.Chain span) h = ap (λ ns. act (chained ns)) (same-names span h)
+  same-on (i.ShowFields span line) h = ap (show_fields line) (same-names span h)
+  same-on (i.ShowSlotField slot place line) h = ap (λ n. show_slot line slot (n ∷ [])) (same-name place h)
   same-on (i.RefuseTemplate place) h = ap (λ n. act (refuse (no_template n))) (same-name place h)
   same-on _ h = refl
 

@@ -3,7 +3,7 @@
 -- stands. Each case says what that of the tree's meaning says, and each tree has code: a variable that is not in scope
 -- is nothing, and a break out of no range ends the template.
 use Rattle.std.specs.Prelude.{◌≡◌, ℕ, zero, suc, ◌+◌, ◌-◌, Bool, true, false, List, [], ◌∷◌, length, drop, Option, Some}
-use Rattle.std.specs.Prelude.{None}
+use Rattle.std.specs.Prelude.{None, option_map}
 use Rattle.tmpl_funcs.specs.Func.{takes}
 use Rattle.tmpl_funcs.specs.declared.func.Func.{Func}
 use Rattle.tmpl_funcs.specs.declared.func.Func.TheVariants.{And, Or}
@@ -21,7 +21,7 @@ use Rattle.tmpl_syntax.specs.Set.{Template, number_of}
 use Rattle.tmpl_code.specs.Instruction.{not_a_function, nil_command, wrong_count, no_template, Operation}
 use Rattle.tmpl_code.specs.Instruction.{push_nothing, push_bool, push_number, push_text, push_dot, push_fields}
 use Rattle.tmpl_code.specs.Instruction.{push_slot, chained, call_with, decide, settle, refuse, Instruction, spend, put}
-use Rattle.tmpl_code.specs.Instruction.{act, show, hold, set, set_dot, unless, enter_with, end_with, forget, enter}
+use Rattle.tmpl_code.specs.Instruction.{act, show, show_fields, show_slot, hold, set, set_dot, unless, enter_with, end_with, forget, enter}
 use Rattle.tmpl_code.specs.Instruction.{turn, next, leave, deepen, invoke, return_from}
 use Rattle.tmpl_code.specs.Layout.{Layout, slot_named, bound_on, declares, declares_key, grown, declared_in}
 use Rattle.tmpl_code.specs.Layout.{first_layout}
@@ -185,6 +185,30 @@ ShownAt (declare name) code rest = code ≡ rest
 ShownAt (assign name) code rest = code ≡ forget 1 0 ∷ rest
 ShownAt (declare_pair key name) code rest = code ≡ rest
 
+-- the operand of an action that binds no variable and has no other operand
+abbrev pub sole_of : Binding → Pipeline → Option Operand
+sole_of unbound (command (operand o no_operand) no_command) = Some o
+sole_of b p = None
+
+-- what takes a step at this line and shows an operand where it lies, if that is dot, a variable, or a field of one
+abbrev pub show_of : ℕ → Operand → Layout → Option Instruction
+show_of line dot cells = Some (show_fields line [])
+show_of line (fields names) cells = Some (show_fields line names)
+show_of line (variable name []) cells = option_map (λ slot. show_slot line slot []) (slot_named name cells)
+show_of line (variable name (x ∷ [])) cells = option_map (λ slot. show_slot line slot (x ∷ [])) (slot_named name cells)
+show_of line o cells = None
+
+abbrev pub show_in : ℕ → Option Operand → Layout → Option Instruction
+show_in line None cells = None
+show_in line (Some o) cells = show_of line o cells
+
+-- an action of this line: such an instruction, or else its step, its header and its end
+abbrev pub ActionAt : Option Instruction → ℕ → Header → Layout → Stretch
+ActionAt (Some i) line h cells code rest = code ≡ i ∷ rest
+ActionAt None line h cells code rest =
+    (start : Code) × (mid : Code)
+    × (code ≡ spend line ∷ start) × HeaderAt h cells start mid × ShownAt h.binding mid rest
+
 -- the element that a range visits, assigned to the variable of a slot
 abbrev pub SetDotAt : Option ℕ → Stretch
 SetDotAt None code rest = code ≡ rest
@@ -245,6 +269,7 @@ step_of_call line (Some number) = deepen line
 -- what takes the step of a node before its code; nothing, where the code begins with an instruction that does
 abbrev pub StepAt : List Template → ℕ → NodeKind → Stretch
 StepAt ts line (text bytes) code rest = code ≡ rest
+StepAt ts line (action h) code rest = code ≡ rest
 StepAt ts line (template_node name given) code rest = code ≡ step_of_call line (number_of name ts) ∷ rest
 StepAt ts line n code rest = code ≡ spend line ∷ rest
 
@@ -317,7 +342,7 @@ abbrev mutual
   pub NodeAt : List Template → ℕ → NodeKind → Layout → Exit → Stretch
   NodeAt ts line (text bytes) cells exit code rest = code ≡ put line bytes ∷ rest
   NodeAt ts line (action h) cells exit code rest =
-      (mid : Code) × HeaderAt h cells code mid × ShownAt h.binding mid rest
+      ActionAt (show_in line (sole_of h.binding h.pipeline) cells) line h cells code rest
   NodeAt ts line (control_node c h body other) cells exit code rest =
       ControlAt line c h (declared_in body) (declared_in other) (NodesAt ts body) (NodesAt ts other) cells exit
       code rest

@@ -33,6 +33,10 @@ pub data Instruction : Type 0 where
   put : ℕ → List ℕ → Instruction
   act : Operation → Instruction
   show : Instruction
+  -- the line of its step, and the names of a chain of fields of dot
+  show_fields : ℕ → List (List ℕ) → Instruction
+  -- the line of its step, a slot, and the names of a chain of fields of its value
+  show_slot : ℕ → ℕ → List (List ℕ) → Instruction
   -- whether a variable for an index or key is declared below
   hold : Bool → Instruction
   set : ℕ → Instruction

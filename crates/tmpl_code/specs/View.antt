@@ -1,9 +1,9 @@
 -- What instructions stand for, apart from how they are held.
-use Rattle.std.specs.Prelude.{List, ℕ, [], drop, get_or, map, take}
+use Rattle.std.specs.Prelude.{List, ℕ, [], ◌∷◌, drop, get_or, map, take}
 use Rattle.tmpl_code.specs.Instruction.{CommandError, not_a_function, nil_command, wrong_count, no_template}
 use Rattle.tmpl_code.specs.Instruction.{push_nothing, push_bool, push_number, push_text, push_dot, push_fields}
 use Rattle.tmpl_code.specs.Instruction.{push_slot, chained, call_with, decide, settle, refuse, Instruction, spend, put}
-use Rattle.tmpl_code.specs.Instruction.{act, show, hold, set, set_dot, unless, enter_with, end_with, forget, enter}
+use Rattle.tmpl_code.specs.Instruction.{act, show, show_fields, show_slot, hold, set, set_dot, unless, enter_with, end_with, forget, enter}
 use Rattle.tmpl_code.specs.Instruction.{turn, next, leave, deepen, invoke, return_from}
 use Rattle.tmpl_code.specs.declared.instruction.CommandError as held_refusal
 use Rattle.tmpl_code.specs.declared.instruction.CommandError.TheVariants as r
@@ -58,6 +58,10 @@ instruction_of t i.Settle = act settle
 instruction_of t (i.Refuse why) = act (refuse (refusal_of why))
 instruction_of t (i.RefuseTemplate place) = act (refuse (no_template (name_at t place)))
 instruction_of t i.Show = show
+instruction_of t (i.ShowDot line) = show_fields line []
+instruction_of t (i.ShowFields names line) = show_fields line (names_in t names)
+instruction_of t (i.ShowSlot slot line) = show_slot line slot []
+instruction_of t (i.ShowSlotField slot name line) = show_slot line slot (name_at t name ∷ [])
 instruction_of t (i.Hold key) = hold key
 instruction_of t (i.Set slot) = set slot
 instruction_of t (i.SetDot slot) = set_dot slot

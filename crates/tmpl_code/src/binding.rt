@@ -1,9 +1,9 @@
 //! What binds the value of a pipeline: headers to code, and their variables in scope.
 #![tactic(auto, using(crate::proofs::TailLemmas::ends))]
 
-ghost use Rattle.std.specs.Prelude.{◌≡◌, OnOk, None, ◌∷◌};
+ghost use Rattle.std.specs.Prelude.{◌≡◌, OnOk, None, ◌∷◌, option_map};
 ghost use Rattle.tmpl_grammar.specs.Need.{declared_count};
-ghost use Rattle.tmpl_grammar.specs.View.{binding_of, header_of};
+ghost use Rattle.tmpl_grammar.specs.View.{binding_of, header_of, operand_of, pipeline_of};
 ghost use Rattle.tmpl_code.specs.Code as spec;
 ghost use Rattle.tmpl_code.specs.Layout.{bound_on, declares, declares_key};
 ghost use Rattle.tmpl_code.specs.computed.Held.{Ends, Placed, bound_off, code_of, layout_of};
@@ -13,7 +13,7 @@ use crate::instruction::Instruction;
 use crate::pipeline::{put_pipeline, to_u32};
 use crate::scope::Scope;
 use std::alloc::AllocError;
-use tmpl_grammar::{Binding, Header};
+use tmpl_grammar::{Binding, Header, Operand};
 
 /// Puts the pipeline of a header, and what binds its value.
 #[tactic(auto, using(crate::proofs::TailLemmas::ends, crate::proofs::TailLemmas::placed_on))]
@@ -49,8 +49,78 @@ fn put_set(code: &mut Code, slot: Option<usize>) -> Result<(), AllocError>
     }
 }
 
+/// Puts an action of this line: one instruction, where that shows what lies somewhere.
+pub(crate) fn put_action(
+    code: &mut Code,
+    scope: &Scope<'_>,
+    line: u64,
+    header: &Header,
+) -> Result<(), AllocError>
+    ensures { OnOk result (Placed (spec.ActionAt
+        (spec.show_in line (spec.sole_of (binding_of header.now.binding) (pipeline_of header.now.pipeline)) (layout_of scope.now))
+        line (header_of header.now) (layout_of scope.now)) code.old code.new) }
+{
+    match sole_operand(header) {
+        Some(Operand::Dot) => code.push(Instruction::ShowDot {
+            line: to_u32(line as usize)?,
+        }),
+        Some(Operand::Fields(names)) => {
+            code.push_show_fields(names.as_slice(), to_u32(line as usize)?)
+        }
+        Some(Operand::Variable { name, fields }) => match scope.slot(name.as_slice()) {
+            Some(slot) => match fields.as_slice() {
+                [] => code.push(Instruction::ShowSlot {
+                    slot: to_u32(slot)?,
+                    line: to_u32(line as usize)?,
+                }),
+                [field] => {
+                    code.push_show_slot_field(to_u32(slot)?, field, to_u32(line as usize)?)
+                }
+                [_, _, ..] => put_parts(code, scope, line, header),
+            },
+            None => put_parts(code, scope, line, header),
+        },
+        _ => put_parts(code, scope, line, header),
+    }
+}
+
+/// The operand of an action that binds no variable and has no other operand.
+#[tactic(auto, using(crate::proofs::ActionLemmas::soles))]
+fn sole_operand(header: &Header) -> Option<&Operand>
+    ensures { option_map (λ o. operand_of o.now) result
+        ≡ spec.sole_of (binding_of header.now.binding) (pipeline_of header.now.pipeline) }
+{
+    match &header.binding {
+        Binding::Unbound => match header.pipeline.commands.as_slice() {
+            [command] => match command.operands.as_slice() {
+                [operand] => Some(operand),
+                [] => None,
+                [_, _, ..] => None,
+            },
+            [] => None,
+            [_, _, ..] => None,
+        },
+        Binding::Declare(_) | Binding::Assign(_) | Binding::DeclarePair(_) => None,
+    }
+}
+
+/// Puts an action of this line as its step, its header and its end.
+#[tactic(auto, using(crate::proofs::TailLemmas::ends, crate::proofs::TailLemmas::placed_on))]
+fn put_parts(
+    code: &mut Code,
+    scope: &Scope<'_>,
+    line: u64,
+    header: &Header,
+) -> Result<(), AllocError>
+    ensures { OnOk result (Placed (spec.ActionAt None line (header_of header.now) (layout_of scope.now)) code.old code.new) }
+{
+    put_shown(code, &header.binding)?;
+    put_header(code, scope, header)?;
+    code.push(Instruction::Spend(line))
+}
+
 /// Puts the end of an action, whose value was bound.
-pub(crate) fn put_shown(code: &mut Code, binding: &Binding) -> Result<(), AllocError>
+fn put_shown(code: &mut Code, binding: &Binding) -> Result<(), AllocError>
     ensures { OnOk result (Placed (spec.ShownAt (binding_of binding.now)) code.old code.new) }
 {
     match binding {

@@ -62,6 +62,26 @@ pub enum Instruction {
     RefuseTemplate(u32),
     /// Pops the newest value and puts out its text.
     Show,
+    /// Takes a step as [`Instruction::Spend`] does, and puts out the text of dot.
+    ShowDot {
+        line: u32,
+    },
+    /// Takes a step, and puts out the text of a field of a field of .. of dot; stops if there is none.
+    ShowFields {
+        names: Span,
+        line: u32,
+    },
+    /// Takes a step, and puts out the text of the value of a slot.
+    ShowSlot {
+        slot: u32,
+        line: u32,
+    },
+    /// Takes a step, and puts out the text of a field of the value of a slot; stops if there is none.
+    ShowSlotField {
+        slot: u32,
+        name: u32,
+        line: u32,
+    },
     /// Makes the newest value a variable; with a declared index or key, nothing becomes one below it.
     Hold {
         key: bool,

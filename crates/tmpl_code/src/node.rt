@@ -13,7 +13,7 @@ ghost use Rattle.tmpl_code.specs.computed.Held.{BoundPart, DottedPart, EndedPart
 ghost use Rattle.tmpl_code.specs.computed.Held.{TurnsPart, all_grown, code_of, exit_seen, layout_of, number_called, shrunk};
 
 use crate::binding::{
-    close, declared_count, declares, declares_key, open, put_header, put_shown, put_turn,
+    close, declared_count, declares, declares_key, open, put_action, put_header, put_turn,
 };
 use crate::code::Code;
 use crate::instruction::Instruction;
@@ -211,7 +211,7 @@ pub(crate) fn number_called(set: &Set, node: &Node) -> Option<usize>
 }
 
 /// Puts what takes the step of a node, or, for a call of the template of this number, looks whether one is left. The
-/// code of a text takes its step itself.
+/// code of a text or an action takes its step itself.
 #[tactic(auto, using(tmpl_syntax::proofs::ViewLemmas::nodes, crate::proofs::TailLemmas::ends))]
 pub(crate) fn put_step(
     code: &mut Code,
@@ -221,15 +221,12 @@ pub(crate) fn put_step(
     ensures { OnOk result (Placed (StepBy (node_of node.now).line (node_of node.now).what number) code.old code.new) }
 {
     match &node.what {
-        NodeKind::Text(_) => Ok(()),
-        NodeKind::Action(_)
-        | NodeKind::Control(_)
-        | NodeKind::Break
-        | NodeKind::Continue
-        | NodeKind::Template(..) => match number {
-            Some(_) => code.push(Instruction::Deepen(node.line)),
-            None => code.push(Instruction::Spend(node.line)),
-        },
+        NodeKind::Text(_) | NodeKind::Action(_) => Ok(()),
+        NodeKind::Control(_) | NodeKind::Break | NodeKind::Continue | NodeKind::Template(..) =>
+            match number {
+                Some(_) => code.push(Instruction::Deepen(node.line)),
+                None => code.push(Instruction::Spend(node.line)),
+            },
     }
 }
 
@@ -284,8 +281,7 @@ impl<'s> Compiler<'s> {
         match &node.what {
             NodeKind::Text(text) => self.code.push_put(text, to_u32(node.line as usize)?),
             NodeKind::Action(header) => {
-                put_shown(&mut self.code, &header.binding)?;
-                put_header(&mut self.code, &self.scope, header)
+                put_action(&mut self.code, &self.scope, node.line, header)
             }
             NodeKind::Control(control) => self.put_control(site, node.line, control),
             NodeKind::Break => put_break(&mut self.code, &self.scope, site.exit),

@@ -50,8 +50,12 @@ fn put_operands(
         Instruction::PushText(place) | Instruction::RefuseTemplate(place) => {
             put_text(writer, tables.name(*place))
         }
-        Instruction::PushFields(span) | Instruction::Chain(span) => {
-            put_fields(writer, tables.names(*span))
+        Instruction::PushFields(span)
+        | Instruction::Chain(span)
+        | Instruction::ShowFields { names: span, .. } => put_fields(writer, tables.names(*span)),
+        Instruction::ShowSlotField { slot, name, .. } => {
+            write!(writer, " {slot} .")?;
+            writer.write_all(tables.name(*name))
         }
         Instruction::Call { func, .. } | Instruction::Refuse(CommandError::WrongCount(func)) => {
             put_func(writer, *func)
@@ -115,7 +119,9 @@ fn words(instruction: &Instruction) -> &'static str {
         Instruction::Refuse(CommandError::NilCommand) => "refuse nil",
         Instruction::Refuse(CommandError::WrongCount(_)) => "refuse the count of",
         Instruction::RefuseTemplate(_) => "refuse template",
-        Instruction::Show => "show",
+        Instruction::Show | Instruction::ShowFields { .. } => "show",
+        Instruction::ShowDot { .. } => "show dot",
+        Instruction::ShowSlot { .. } | Instruction::ShowSlotField { .. } => "show slot",
         Instruction::Hold { key } => either(*key, "hold key", "hold"),
         Instruction::Set(_) => "set",
         Instruction::SetDot(_) => "set dot",
@@ -146,6 +152,7 @@ fn count(instruction: &Instruction) -> Option<u64> {
         | Instruction::Next { count, .. }
         | Instruction::Leave { count, .. }
         | Instruction::PushSlot(count)
+        | Instruction::ShowSlot { slot: count, .. }
         | Instruction::Call { count, .. } => Some(*count as u64),
         _ => None,
     }
@@ -161,7 +168,12 @@ fn variables(instruction: &Instruction) -> Option<u64> {
 fn line(instruction: &Instruction) -> Option<u64> {
     match instruction {
         Instruction::Spend(line) | Instruction::Deepen(line) => Some(*line),
-        Instruction::Next { line, .. } | Instruction::Put { line, .. } => Some(*line as u64),
+        Instruction::Next { line, .. }
+        | Instruction::Put { line, .. }
+        | Instruction::ShowDot { line }
+        | Instruction::ShowFields { line, .. }
+        | Instruction::ShowSlot { line, .. }
+        | Instruction::ShowSlotField { line, .. } => Some(*line as u64),
         _ => None,
     }
 }

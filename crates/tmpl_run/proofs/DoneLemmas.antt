@@ -11,6 +11,7 @@ use Rattle.std.proofs.Math.Nat.{mul-le-mul_right, suc-mul}
 use Rattle.tmpl_syntax.specs.Set.{Template}
 use Rattle.tmpl_meaning.specs.Fault.{Fault}
 use Rattle.tmpl_meaning.specs.Meaning.{Ran}
+use Rattle.tmpl_meaning.specs.declared.missing_key.MissingKey.{MissingKey}
 use Rattle.tmpl_code.specs.Instruction.{Instruction, act}
 use Rattle.tmpl_run.specs.Cell.{Cell}
 use Rattle.tmpl_run.specs.State.{Plan, State}
@@ -38,13 +39,13 @@ with_told x m s = record s { text = x; made_text = m }
 
 -- what an instruction does hangs neither on the template that is told nor on what was put out before it
 pub done-told : (plan : Plan) (t : Template) (x : List ℕ) (m : Bool) (i : Instruction) (s : State)
-    → done plan t i (with_told x m s) ≡ tell t (x ++ added i s) (m || mark_after i false) (done plan no_template i (with_told [] false s))
+    → done plan t i (with_told x m s) ≡ tell t (x ++ added plan.rules.missing_key i s) (m || mark_after i false) (done plan no_template i (with_told [] false s))
 done-told plan t x m i s = grind (arith, common_steps, append-nil, or-false)
 
 -- what the instruction at a place puts out, and the mark after it
-abbrev added_at : Option Instruction → State → List ℕ
-added_at None s = []
-added_at (Some i) s = added i s
+abbrev added_at : MissingKey → Option Instruction → State → List ℕ
+added_at mode None s = []
+added_at mode (Some i) s = added mode i s
 
 abbrev pub mark_at : Option Instruction → Bool → Bool
 mark_at None made = made
@@ -65,12 +66,12 @@ module _ (plan : Plan) (s : State) where
   next-cells size t e within ready = grind (arith, common_steps, length-drop {A = Cell}, length-set {A = Cell})
 
   next-told : (me : Option Template) (i : Option Instruction) (t : State) → done_in plan me i s ≡ goes t
-      → (t.text ≡ s.text ++ added_at i s) × (t.made_text ≡ mark_at i s.made_text)
+      → (t.text ≡ s.text ++ added_at plan.rules.missing_key i s) × (t.made_text ≡ mark_at i s.made_text)
   next-told me (Some (act o)) t e = grind (arith, common_steps, append-nil, or-false)
   next-told me _ t e = grind (arith, common_steps, append-nil, or-false)
 
   last-told : (me : Option Template) (i : Option Instruction) (r : Ran) → done_in plan me i s ≡ ended r
-      → (r.text ≡ s.text ++ added_at i s) × (r.made_text ≡ mark_at i s.made_text)
+      → (r.text ≡ s.text ++ added_at plan.rules.missing_key i s) × (r.made_text ≡ mark_at i s.made_text)
   last-told me i r e = grind (arith, common_steps, append-nil, or-false)
 
 -- ---- to the end of a run
@@ -120,13 +121,13 @@ module _ (plan : Plan) (room : ℕ) (f : Ran) where
       by s (goes t) e h later =
           let told = next-told plan s (slice_get plan.templates s.template) (slice_get plan.code s.place) t e in
           let more = later t refl in
-          let put = added_at (slice_get plan.code s.place) s in (
+          let put = added_at plan.rules.missing_key (slice_get plan.code s.place) s in (
             (put ++ more.0.0, more.0.1 ∙ ap (λ l. l ++ more.0.0) told.0 ∙ append_assoc s.text put more.0.0),
             λ e. more.1 (marked (slice_get plan.code t.place) t.made_text (told.1 ∙ e)),
           )
       by s (ended r) e h later =
           let told = last-told plan s (slice_get plan.templates s.template) (slice_get plan.code s.place) r e in
-          ((added_at (slice_get plan.code s.place) s, sym (ap (λ (x : Ran). x.text) h) ∙ told.0), λ e. sym (ap (λ (x : Ran). x.made_text) h) ∙ told.1 ∙ e)
+          ((added_at plan.rules.missing_key (slice_get plan.code s.place) s, sym (ap (λ (x : Ran). x.text) h) ∙ told.0), λ e. sym (ap (λ (x : Ran). x.made_text) h) ∙ told.1 ∙ e)
       by s stuck e h later = absurd h
 
   pub text-begins : (s : State) → Ends plan room s f → Begins s.text f.text

@@ -2,16 +2,13 @@
 use Rattle.std.proofs.Common.{arith, ◌≡◌, ◌∙◌, ◌+◌, ◌||◌, ◌++◌, ◌-◌, ◌^◌, ◌<◌, ◌≤◌, ℕ, Bool, true, false, List, [], length, get_or, refl}
 use Rattle.std.proofs.Common.{ap, sym, subst, append-nil, Option, Some, None, Result, Ok, Err}
 use Rattle.std.specs.Prelude.{option_map, slice_get}
-use Rattle.std.proofs.Math.Bool.{or-false}
 use Rattle.std.proofs.lemmas.Bool.{or_parts}
 use Rattle.std.proofs.lemmas.List.{length-map}
 use Rattle.std.proofs.lemmas.Option.{slice_get-get_or, slice_get-map}
 use Rattle.tmpl_values.specs.Put.{Puts, IsPut}
-use Rattle.tmpl_values.specs.Text.{text_of}
-use Rattle.tmpl_values.specs.Value.{Value}
 use Rattle.tmpl_values.proofs.PutLemmas.{IsPut-along, IsPut-append, IsPut-nil, IsPut-stop}
 use Rattle.tmpl_syntax.specs.Set.{Template}
-use Rattle.tmpl_meaning.specs.Fault.{Cause, Fault}
+use Rattle.tmpl_meaning.specs.Fault.{Fault}
 use Rattle.tmpl_meaning.specs.Meaning.{Ran}
 use Rattle.tmpl_meaning.specs.View.{cause_of}
 use Rattle.tmpl_meaning.specs.declared.fault.RunFaultKind.{RunFaultKind}
@@ -28,7 +25,7 @@ use Rattle.tmpl_run.specs.State.{Plan, State}
 use Rattle.tmpl_run.specs.computed.Came.{Came, ComesTo, IsStopped}
 use Rattle.tmpl_run.specs.computed.Machines.{no_template, state_of}
 use Rattle.tmpl_run.specs.computed.Plain.{IsPlain, SparedOr}
-use Rattle.tmpl_run.specs.computed.Turned.{Executed, IsThere, Lands, TurnedBy, added, at_once, mark_after, put_by, put_out, text_in, value_by}
+use Rattle.tmpl_run.specs.computed.Turned.{Executed, Lands, added, mark_after, put_by, put_out}
 use Rattle.tmpl_run.specs.computed.Turned as turning
 use Rattle.tmpl_run.specs.computed.View.{size_of}
 use Rattle.tmpl_run.specs.declared.fault.RunError.{RunError}
@@ -40,7 +37,6 @@ use Rattle.tmpl_run.specs.declared.halt.Halt.TheVariants as stop
 use Rattle.tmpl_run.specs.declared.machine.Machine.{Machine}
 use Rattle.tmpl_run.proofs.DoneLemmas.{done-told, each-lessens, ends-so, falls, finds, goes-on, in-code, is-next, mark_at, next-depth, ready, retold, tell}
 use Rattle.tmpl_run.proofs.DoneLemmas.{tells-more, text-begins, with_told, work}
-use Rattle.tmpl_run.proofs.ShownLemmas.{Once, ends-shown, once-is, shown-within}
 
 -- what the loop keeps: after what was put out so far and the mark, the machine comes to the end
 pub record Stands (plan : Plan) (end : Ran) (m : Machine) (before now : Puts) : Type 0 where
@@ -84,15 +80,19 @@ module _ {plan : Plan} {end : Ran} {m : Machine} {before now : Puts} (inv : Stan
       here = ap (λ is. slice_get is m.place) same-code ∙ slice_get-map (instruction_of tables) items m.place
           ∙ ap (option_map (instruction_of tables)) (slice_get-get_or items m.place other inside)
 
+      -- what the turn puts out
+      abbrev out : List ℕ
+      out = added plan.rules.missing_key i s
+
       -- the text and the mark after a turn that puts this out
       abbrev told : List ℕ → State → State
-      told out u = with_told (inv.text ++ out) (inv.made || mark_after i false) u
+      told bytes u = with_told (inv.text ++ bytes) (inv.made || mark_after i false) u
 
-      shifted : (u : Turn) → done plan no_template i s ≡ u → done plan runs.0 i past ≡ tell runs.0 (inv.text ++ added i s) (inv.made || mark_after i false) u
-      shifted u e = done-told plan runs.0 inv.text inv.made i s ∙ ap (tell runs.0 (inv.text ++ added i s) (inv.made || mark_after i false)) e
+      shifted : (u : Turn) → done plan no_template i s ≡ u → done plan runs.0 i past ≡ tell runs.0 (inv.text ++ out) (inv.made || mark_after i false) u
+      shifted u e = done-told plan runs.0 inv.text inv.made i s ∙ ap (tell runs.0 (inv.text ++ out) (inv.made || mark_after i false)) e
 
-      next-ends : (u : State) → done plan no_template i s ≡ goes u → Ends plan room (told (added i s) u) end
-      next-ends u e = goes-on plan room end i runs.0 past here runs.1 inv.ends (told (added i s) u) (shifted (goes u) e)
+      next-ends : (u : State) → done plan no_template i s ≡ goes u → Ends plan room (told out u) end
+      next-ends u e = goes-on plan room end i runs.0 past here runs.1 inv.ends (told out u) (shifted (goes u) e)
 
       pub has : Has i (length s.cells) room
       has = ready plan room end i runs.0 past here runs.1 inv.ends
@@ -101,49 +101,28 @@ module _ {plan : Plan} {end : Ran} {m : Machine} {before now : Puts} (inv : Stan
       lands fits = by (done plan no_template i s) refl
         where
           by : (u : Turn) → done plan no_template i s ≡ u → Lands u
-          by (goes v) e = let next = in-code plan room end (told (added i s) v) (next-ends v e) in let same = same-length in omega arith
+          by (goes v) e = let next = in-code plan room end (told out v) (next-ends v e) in let same = same-length in omega arith
           by (ended r) e = tt
           by stuck e = finds plan room end i runs.0 past here runs.1 inv.ends (shifted stuck e)
 
-      -- whether the turn carries out three instructions at once
-      abbrev once : Bool
-      once = at_once (instructions_of tables items) m.place i
-
-      -- after a turn that goes on, also where a put failed in it: the run has its end after this that it puts out
-      record TurnsOn (n : Machine) (out : List ℕ) : Type 0 where
+      -- after a turn that goes on, also where a put failed in it: the run has its end after what it puts out
+      record TurnsOn (n : Machine) : Type 0 where
         pub ends : Ends plan room (told out (state_of n)) end
         pub depth : n.depth + n.left ≤ m.depth + m.left
         pub less : work (length plan.code) (state_of n) < work (length plan.code) s
 
-      first : once ≡ true → Once plan i s
-      first at-once = once-is plan i s (ap (λ code. at_once code m.place i) same-code ∙ at-once)
-
-      beyond : (n : Machine) (b : Bool) → once ≡ b → TurnedBy b plan i m n (Ok flow.On) → TurnsOn n (put_out b plan i m (Ok flow.On))
-      beyond n false o step = record {
+      beyond : (n : Machine) → Executed plan i m n (Ok flow.On) → TurnsOn n
+      beyond n step = record {
         ends = next-ends u step;
-        depth = (let less = each-lessens plan past (told (added i s) u) next in let deep = next-depth plan past (told (added i s) u) next in grind arith);
-        less = falls plan room end i runs.0 past here runs.1 inv.ends (told (added i s) u) (shifted (goes u) step);
+        depth = (let less = each-lessens plan past (told out u) next in let deep = next-depth plan past (told out u) next in grind arith);
+        less = falls plan room end i runs.0 past here runs.1 inv.ends (told out u) (shifted (goes u) step);
       }
         where
           u : State
-          u = turning.beyond i s (state_of n)
+          u = turning.beyond plan.rules.missing_key i s (state_of n)
 
-          next : next_of plan past ≡ goes (told (added i s) u)
+          next : next_of plan past ≡ goes (told out u)
           next = is-next plan room end i runs.0 past here runs.1 inv.ends ∙ shifted (goes u) step
-      beyond n true o step = by (value_by plan i s) refl step.0
-        where
-          by : (r : Result Value Cause) → value_by plan i s ≡ r → IsThere r → TurnsOn n (text_in r)
-          by (Err cause) e there = absurd there
-          by (Ok v) e there = record {
-            ends = subst (λ u. Ends plan room u end) (λ j. with_told (inv.text ++ text_of v) (made j) (sym step.1 j))
-                (ends-shown plan room end i runs.0 past here runs.1 (first o).shown v ((first o).puts runs.0 inv.text inv.made v e) inv.ends);
-            depth = let deep = ap (λ (u : State). u.depth) step.1 in let left = ap (λ (u : State). u.left) step.1 in omega (arith, deep, left);
-            less = subst (λ u. work (length plan.code) u < work (length plan.code) s) (sym step.1)
-                (let inside = shown-within plan room end i runs.0 past here runs.1 (first o).shown in omega arith);
-          }
-            where
-              made : inv.made ≡ (inv.made || mark_after i false)
-              made = sym (or-false inv.made) ∙ ap (λ b. inv.made || b) (sym (first o).mark)
 
       -- memory is refused only where the end bears the mark
       marked : (mark_after i false ≡ false → IsPlain m → ⊥) → end.made_text ≡ true
@@ -156,8 +135,8 @@ module _ {plan : Plan} {end : Ran} {m : Machine} {before now : Puts} (inv : Stan
       -- ---- by what it answers
 
       module _ (n : Machine) (after : Puts) where
-        abbrev Gave : Bool → Result Flow Halt → Type 0
-        Gave b r = IsPut (put_by r) now after (put_out b plan i m r)
+        abbrev Gave : Result Flow Halt → Type 0
+        Gave r = IsPut (put_by r) now after (put_out plan.rules.missing_key i m r)
 
         -- what a turn comes to: the loop goes on with fewer steps left, or it ended as the run does
         abbrev pub Outcome : Result Flow Halt → Type 0
@@ -166,62 +145,57 @@ module _ {plan : Plan} {end : Ran} {m : Machine} {before now : Puts} (inv : Stan
         Outcome (Err halt) = (e : RunError) → IsStopped (slice_get plan.templates m.template) n.line halt e → Came end before after (Err e)
 
         -- the run is over, or stops at a fault
-        over : (fault : Option Fault) → done plan no_template i s ≡ ended (ran_so (turning.beyond i s s) fault)
-            → IsPut {F = SinkFault} (Ok tt) now after (added i s)
+        over : (fault : Option Fault) → done plan no_template i s ≡ ended (ran_so (turning.beyond plan.rules.missing_key i s s) fault)
+            → IsPut {F = SinkFault} (Ok tt) now after out
             → IsPut {F = SinkFault} (Ok tt) before after end.text × (end.fault ≡ retold runs.0 fault)
         over fault e more =
             let so = ends-so plan room end i runs.0 past here runs.1 inv.ends _ (shifted _ e) in
             (IsPut-along (IsPut-append inv.given more) (ap (λ (q : Ran). q.text) so), sym (ap (λ (q : Ran). q.fault) so))
 
-        faulted : (kind : RunFaultKind) → Executed plan i m n (Err (stop.Fault kind)) → IsPut {F = SinkFault} (Ok tt) now after (added i s)
+        faulted : (kind : RunFaultKind) → Executed plan i m n (Err (stop.Fault kind)) → IsPut {F = SinkFault} (Ok tt) now after out
             → Outcome (Err (stop.Fault kind))
         faulted kind step more (error.Fault fault) is =
             let came = over (Some (fault_in no_template n.line (cause_of kind))) step more in
             (came.0, came.1 ∙ sym (is ∙ ap (option_map (λ t. fault_in t n.line (cause_of kind))) runs.1))
         faulted kind step more _ is = absurd is
 
-        cut : (out : List ℕ) → TurnsOn n out → IsPut {F = SinkFault} (Err (record {})) now after out → Outcome (Err stop.WriteFailed)
-        cut out b put e is =
+        cut : TurnsOn n → IsPut {F = SinkFault} (Err (record {})) now after out → Outcome (Err stop.WriteFailed)
+        cut b put e is =
             let begins = text-begins plan room end (told out (state_of n)) b.ends in
             subst (λ f. Came end before after (Err f)) (sym is)
             (IsPut-along (IsPut-stop {r = Err (record {})} begins.0 refl (IsPut-append inv.given put)) (sym begins.1))
 
-        refused : added i s ≡ [] → IsPut {F = SinkFault} (Ok tt) now after (added i s) → (mark_after i false ≡ false → IsPlain m → ⊥)
-            → Outcome (Err stop.OutOfMemory)
-        refused none more never e is = subst (λ f. Came end before after (Err f)) (sym is) (
+        refused : IsPut {F = SinkFault} (Ok tt) now after [] → (mark_after i false ≡ false → IsPlain m → ⊥) → Outcome (Err stop.OutOfMemory)
+        refused more never e is = subst (λ f. Came end before after (Err f)) (sym is) (
           inv.text ++ [],
           subst (λ l. Begins l end.text) (sym (append-nil inv.text)) (text-begins plan room end past inv.ends),
-          IsPut-along (IsPut-append inv.given more) (ap (λ l. inv.text ++ l) none),
+          IsPut-append inv.given more,
           marked never,
         )
 
-        pub turned : (r q : Result Flow Halt) → r ≡ q → TurnedBy once plan i m n r → Gave once r → size_of n.stack ≡ room
-            → (mark_after i false ≡ false → IsPlain m → SparedOr r (IsPlain n)) → Outcome q
-        turned r q same did more size spared = subst Outcome same (by once refl r did more spared)
-          where
-            on : (b : Bool) → once ≡ b → TurnedBy b plan i m n (Ok flow.On) → Gave b (Ok flow.On) → (mark_after i false ≡ false → IsPlain m → IsPlain n)
-                → Outcome (Ok flow.On)
-            on b o step more plain =
-                let later = beyond n b o step in (
-                  record {
-                    depth = let deep = inv.depth in let deeper = later.depth in omega arith;
-                    text = inv.text ++ put_out b plan i m (Ok flow.On);
-                    made = inv.made || mark_after i false;
-                    given = IsPut-append inv.given more;
-                    ends = subst (λ k. Ends plan k (told (put_out b plan i m (Ok flow.On)) (state_of n)) end) (sym size) later.ends;
-                    plain = λ e. let both = or_parts inv.made (mark_after i false) e in plain both.1 (inv.plain both.0);
-                  },
-                  later.less,
-                )
+        on : Executed plan i m n (Ok flow.On) → Gave (Ok flow.On) → size_of n.stack ≡ room → (mark_after i false ≡ false → IsPlain m → IsPlain n)
+            → Outcome (Ok flow.On)
+        on step more size plain =
+            let later = beyond n step in (
+              record {
+                depth = let deep = inv.depth in let deeper = later.depth in omega arith;
+                text = inv.text ++ out;
+                made = inv.made || mark_after i false;
+                given = IsPut-append inv.given more;
+                ends = subst (λ k. Ends plan k (told out (state_of n)) end) (sym size) later.ends;
+                plain = λ e. let both = or_parts inv.made (mark_after i false) e in plain both.1 (inv.plain both.0);
+              },
+              later.less,
+            )
 
-            by : (b : Bool) → once ≡ b → (r : Result Flow Halt) → TurnedBy b plan i m n r → Gave b r
-                → (mark_after i false ≡ false → IsPlain m → SparedOr r (IsPlain n)) → Outcome r
-            by b o (Ok flow.On) step more plain = on b o step more plain
-            by false o (Ok flow.Over) step more plain = over None step more
-            by true o (Ok flow.Over) step more plain = absurd step
-            by false o (Err (stop.Fault kind)) step more plain = faulted kind step more
-            by true o (Err (stop.Fault kind)) step more plain = faulted kind step (IsPut-along more (sym (first o).quiet))
-            by false o (Err stop.WriteFailed) step more plain = cut _ (beyond n false o step) more
-            by true o (Err stop.WriteFailed) step more plain = cut _ (beyond n true o step) more
-            by false o (Err stop.OutOfMemory) step more never = refused step more never
-            by true o (Err stop.OutOfMemory) step more never = refused (first o).quiet (IsPut-along more (sym (first o).quiet)) never
+        by : (r : Result Flow Halt) → Executed plan i m n r → Gave r → size_of n.stack ≡ room
+            → (mark_after i false ≡ false → IsPlain m → SparedOr r (IsPlain n)) → Outcome r
+        by (Ok flow.On) step more size plain = on step more size plain
+        by (Ok flow.Over) step more size plain = over None step more
+        by (Err (stop.Fault kind)) step more size plain = faulted kind step more
+        by (Err stop.WriteFailed) step more size plain = cut (beyond n step) more
+        by (Err stop.OutOfMemory) step more size never = refused more never
+
+        pub turned : (r q : Result Flow Halt) → r ≡ q → Executed plan i m n r → Gave r → size_of n.stack ≡ room
+            → (mark_after i false ≡ false → IsPlain m → SparedOr r (IsPlain n)) → Outcome q
+        turned r q same did more size spared = subst Outcome same (by r did more size spared)

@@ -14,7 +14,6 @@ pub mod ArgumentLemmas
 pub mod PieceLemmas
 pub mod OutputLemmas
 pub mod PlainLemmas
-pub mod ShownLemmas
 pub mod GoingLemmas
 pub mod StartLemmas
 pub mod RunLemmas

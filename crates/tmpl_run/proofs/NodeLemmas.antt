@@ -1,36 +1,40 @@
 -- For the law `comes_to_meaning`: the pipeline of a header and what is bound to its value, what is to be shown of the
 -- code of a node, and that the code of actions, `if` and `with` comes to what they mean.
 use Rattle.std.proofs.Common.{arith, ◌≡◌, ◌∙◌, ◌+◌, ◌≤◌, ◌||◌, ℕ, Bool, true, false, List, ◌∷◌, length, drop, refl, ap, sym, Option, Some, None, Result, Ok}
-use Rattle.std.proofs.Common.{Err, ◌++◌, suc, subst}
-use Rattle.std.specs.Prelude.{slice_set}
+use Rattle.std.proofs.Common.{Err, ◌++◌, ◌-◌, [], suc, subst}
+use Rattle.std.specs.Prelude.{option_map, slice_set}
+use Rattle.std.proofs.Math.Bool.{or-false}
 use Rattle.tmpl_values.specs.Value.{Value, nothing}
 use Rattle.tmpl_values.specs.Text.{text_of}
 use Rattle.tmpl_values.specs.Truth.{truth}
-use Rattle.tmpl_grammar.specs.Tree.{Binding, unbound, declare, assign, declare_pair, Header, Pipeline}
+use Rattle.tmpl_grammar.specs.Tree.{Binding, unbound, declare, assign, declare_pair, Header, Operand, fields, variable, no_operand, operand}
+use Rattle.tmpl_grammar.specs.Tree.{Pipeline, no_command, command}
+use Rattle.tmpl_grammar.specs.Tree as grammar
 use Rattle.tmpl_grammar.specs.Need.{declared_count, need_of_pipeline}
 use Rattle.tmpl_grammar.specs.declared.tree.Control.TheVariants as control
 use Rattle.tmpl_syntax.specs.Tree as tree
 use Rattle.tmpl_syntax.specs.Tree.{NodeKind, Nodes}
 use Rattle.tmpl_syntax.specs.Need.{left_after, need_of_node, need_of_nodes}
 use Rattle.tmpl_meaning.specs.Fault.{Cause}
-use Rattle.tmpl_meaning.specs.Pipeline.{Environment}
+use Rattle.tmpl_meaning.specs.Pipeline.{Environment, Given, chain, given, given_then, lookup, without_null}
+use Rattle.tmpl_meaning.specs.declared.missing_key.MissingKey.{MissingKey}
 use Rattle.tmpl_meaning.specs.Meaning.{Calls, Next, Run, Setting, assigned, with_bound, with_pipeline, with_value, End, meanings, shown, stepped}
 use Rattle.tmpl_meaning.specs.Meaning.{scope}
 use Rattle.tmpl_meaning.proofs.PartLemmas.{choosing, oldest, one_of, without_key}
 use Rattle.tmpl_meaning.specs.Meaning as meaning
 use Rattle.tmpl_code.specs.Instruction as code
 use Rattle.tmpl_code.specs.Layout.{Layout, bound_on, declares, slot_named, declared_in, grown}
-use Rattle.tmpl_code.specs.Code.{BindAt, Code, HeaderAt, PipelineAt, SetAt, Ended, NodeAt, NodesAt, ShownAt, StepAt}
-use Rattle.tmpl_run.specs.Cell.{Cell, fresh}
+use Rattle.tmpl_code.specs.Code.{ActionAt, BindAt, Code, show_in, show_of, sole_of, HeaderAt, PipelineAt, SetAt, Ended, NodeAt, NodesAt, ShownAt, StepAt}
+use Rattle.tmpl_run.specs.Cell.{Cell, fresh, slot}
 use Rattle.tmpl_run.specs.State.{State}
-use Rattle.tmpl_run.specs.Machine.{kept_on, branch, goes, top, with_dot}
+use Rattle.tmpl_run.specs.Machine.{kept_on, branch, fault_in, goes, put_value, ran_so, top, with_dot}
 use Rattle.tmpl_run.specs.Ready.{RoomIf}
 use Rattle.tmpl_run.specs.Ends.{Comes}
 use Rattle.tmpl_run.proofs.PipelineLemmas.{FollowsBy, Puts, found-within, given_in, pipeline-leads}
 use Rattle.tmpl_run.proofs.WayLemmas.{Ring, Stands, Way, who_of, Inside, cut_to, exit_of}
 use Rattle.tmpl_run.proofs.SlotLemmas.{Cells, First, Frame, Over, all_grown, all_grown_in, bound_in, cells-set, dropped, env-dropped, env_of, first-saved}
 use Rattle.tmpl_run.proofs.SlotLemmas.{grown_in, length-cells, length-env, named, named-less, over-binding, over-bound, over-grown, over-more}
-use Rattle.tmpl_run.proofs.SlotLemmas.{run_of, stored, stored-none}
+use Rattle.tmpl_run.proofs.SlotLemmas.{run_of, slots-are, stored, stored-none}
 use Rattle.tmpl_run.proofs.WayLemmas as ways
 
 -- after the value of a pipeline
@@ -67,6 +71,14 @@ pub record Bound (way : Way) (b : Binding) (v : Value) (lay : Layout) (fr : Fram
   pub at : drop place way.plan.code ≡ rest
   pub cells : Cells lay fr cs
   pub env : env_of lay cs ≡ written b v (env_of lay s.cells)
+
+-- null and nothing have one text
+text-settled : (v : Value) → text_of (without_null v) ≡ text_of v
+text-settled v = grind arith
+
+-- what a pipeline of one command gives whose value is this
+abbrev settled : Result Value Cause → Given Value
+settled r = given_then (given r) (λ v. given (Ok (without_null v)))
 
 module _ (way : Way) (calls : Calls) where
   abbrev pub set : Setting
@@ -203,11 +215,80 @@ module _ (way : Way) (calls : Calls) (spare : ℕ) where
       (k _ (record { at = ways.jump way place 0 (bound.at ∙ l); runs = same; cells = bound.cells }) refl (kept-env (assign x) v m bound))
   acted b g rest v m same l bound k = k _ (record { at = bound.at ∙ l; runs = same; cells = kept-cells b v bound.cells }) refl (kept-env b v m bound)
 
-  pub action-leads : (h : Header) → NodeLeads (tree.action h)
-  action-leads h g lay fr here rest s l w room k =
-      let st = w.stands in let fits = w.fits in
-      header-leads way calls (ways.Onward way rest (bound_on h.binding lay) (bound_in h.binding fr) s.dot) g h (shown h.binding) l.1 st (omega arith) room k
-      (λ v cs m place bound k. acted h.binding g rest v m st.runs l.2 bound k)
+  -- the text of a value that lies somewhere, after the step, where there is such a value
+  puts : {rest : Code} {lay : Layout} {fr : Frame} (s : State) (g : Option Ring) (line : ℕ) (r : Result Value Cause)
+      → drop (s.place + 1) way.plan.code ≡ rest → who_of s ≡ way.who → Cells lay fr s.cells
+      → ways.After way (ways.Onward way rest lay fr s.dot) g (with_value (set way calls) line (settled r).result (shown unbound)
+      (record (run_of lay (ways.paying line s)) { made_text = s.made_text || (settled r).made_text }))
+      → Comes (ways.Leading way) (put_value way.me r (ways.paying line s)) way.end
+  puts {lay = lay} s g line (Ok v) at same cells k =
+      k _ (record { at = at; runs = same; cells = cells }) refl (λ j. let r : Run = record {
+        env = env_of lay s.cells;
+        text = s.text ++ sym (text-settled v) j;
+        left = s.left - 1;
+        made_text = sym (or-false s.made_text) j;
+      } in r)
+  puts s g line (Err cause) at same cells k =
+      ap (λ m. ran_so (record s { made_text = m }) (Some (fault_in way.me line cause))) (sym (or-false s.made_text)) ∙ k
+
+  pub action-leads : (line : ℕ) (h : Header) → StepLeads line (tree.action h)
+  action-leads line h g lay fr here start rest s l at-node w room k = by h.binding h.pipeline at-node k
+    where
+      st : Stands way.plan way.who here lay fr s
+      st = w.stands
+
+      mode : MissingKey
+      mode = way.plan.rules.missing_key
+
+      whole : ActionAt None line h lay start rest → ways.Leading way s
+      whole at =
+          let A : Run → Type 0 = ways.Onward way rest (bound_on h.binding lay) (bound_in h.binding fr) s.dot in
+          let fits = w.fits in
+          ways.spends way calls A g lay line at.0 s (stepped (set way calls) line (tree.action h) s.dot) st.runs (st.at ∙ l ∙ at.2) k
+          (λ there k. header-leads way calls A g h (shown h.binding) at.3 (record { at = there; runs = st.runs; cells = st.cells }) (omega arith) room k
+          (λ v cs m place bound k. acted h.binding g rest v m st.runs at.4 bound k))
+
+      -- of an action that binds no variable, with this pipeline
+      Shows : Pipeline → Type 0
+      Shows p =
+          ways.After way (ways.Onward way rest lay fr s.dot) g
+          (meaning.spend (set way calls) line (with_pipeline (set way calls) line p s.dot (shown unbound)) (run_of lay s))
+
+      alone : Operand → Pipeline
+      alone o = command (operand o no_operand) no_command
+
+      of-dot : (names : List (List ℕ)) → start ≡ code.show_fields line names ∷ rest → Shows (alone (fields names)) → ways.Leading way s
+      of-dot names at k =
+          ways.pays way calls (ways.Onward way rest lay fr s.dot) g lay line s
+          (with_pipeline (set way calls) line (alone (fields names)) s.dot (shown unbound)) (λ s. put_value way.me (chain mode names s.dot) s) st.runs
+          (st.at ∙ l ∙ at) tt refl k
+          (λ k. puts s g line (chain mode names s.dot) (ways.next way s.place (st.at ∙ l ∙ at)) st.runs st.cells k)
+
+      of-slot : (x : List ℕ) (names : List (List ℕ)) (o : Option ℕ) → slot_named x lay ≡ o
+          → ActionAt (option_map (λ slot. code.show_slot line slot names) o) line h lay start rest → Shows (alone (variable x names)) → ways.Leading way s
+      of-slot x names None e at k = whole at
+      of-slot x names (Some j) e at k =
+          ways.pays way calls (ways.Onward way rest lay fr s.dot) g lay line s
+          (with_pipeline (set way calls) line (alone (variable x names)) s.dot (shown unbound)) (λ s. put_value way.me (chain mode names (slot j s.cells)) s)
+          st.runs (st.at ∙ l ∙ at) (let below = found-within x lay j e in let deep = st.cells.deep in omega arith) refl k
+          (λ k. subst (λ v. Comes (ways.Leading way) (put_value way.me (chain mode names v) (ways.paying line s)) way.end) (sym there)
+          (puts s g line (chain mode names (lookup x (env_of lay s.cells))) (ways.next way s.place (st.at ∙ l ∙ at)) st.runs st.cells k))
+        where
+          there : slot j s.cells ≡ lookup x (env_of lay s.cells)
+          there = let same : j ≡ 0 + j = omega arith in ap (λ n. slot n s.cells) same ∙ (slots-are lay s.cells st.cells.deep).found x j e
+
+      of-operand : (o : Operand) → ActionAt (show_of line o lay) line h lay start rest → Shows (alone o) → ways.Leading way s
+      of-operand grammar.dot at k = of-dot [] at k
+      of-operand (fields names) at k = of-dot names at k
+      of-operand (variable x []) at k = of-slot x [] (slot_named x lay) refl at k
+      of-operand (variable x (name ∷ [])) at k = of-slot x (name ∷ []) (slot_named x lay) refl at k
+      of-operand _ at k = whole at
+
+      by : (b : Binding) (p : Pipeline) → ActionAt (show_in line (sole_of b p) lay) line h lay start rest
+          → ways.After way (ways.Onward way rest (bound_on b lay) (bound_in b fr) s.dot) g
+          (meaning.spend (set way calls) line (with_pipeline (set way calls) line p s.dot (shown b)) (run_of lay s)) → ways.Leading way s
+      by unbound (command (operand o no_operand) no_command) at k = of-operand o at k
+      by _ _ at k = whole at
 
   -- ---- parts of controls
 

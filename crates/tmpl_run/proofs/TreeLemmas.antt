@@ -323,7 +323,7 @@ module _ (way : Way) (first : 1 ≤ way.who.depth) (linked : Starts way.plan.tem
   mutual
     step-leads : (line : ℕ) (n : NodeKind) → Mine (λ name. NodeNames name n) → nodes.StepLeads way calls spare line n
     step-leads line (tree.text bytes) mine = text-leads line bytes
-    step-leads line (tree.action h) mine = spent way calls spare line (tree.action h) (λ first after l. l) (action-leads way calls spare h)
+    step-leads line (tree.action h) mine = action-leads way calls spare line h
     step-leads line (tree.control_node c h body other) mine =
         spent way calls spare line (tree.control_node c h body other) (λ first after l. l)
         (control-leads c h body other (nodes-lead body (λ name names. mine name (inl names))) (nodes-lead other (λ name names. mine name (inr names))))

@@ -1,7 +1,7 @@
 -- What one instruction does.
 use Rattle.std.specs.Prelude.{ℕ, zero, suc, ◌+◌, ◌-◌, nat_eq, nat_lt, Bool, true, false, List, [], ◌∷◌, ◌++◌}
 use Rattle.std.specs.Prelude.{drop}
-use Rattle.std.specs.Prelude.{Option, Some, None, slice_get, slice_set}
+use Rattle.std.specs.Prelude.{Option, Some, None, Result, Ok, Err, slice_get, slice_set}
 use Rattle.tmpl_values.specs.Value.{Value, nothing}
 use Rattle.tmpl_values.specs.Elements.{Element, elements, pairs}
 use Rattle.tmpl_values.specs.Text.{text_of}
@@ -9,9 +9,10 @@ use Rattle.tmpl_values.specs.Truth.{truth}
 use Rattle.tmpl_syntax.specs.Set.{Template}
 use Rattle.tmpl_meaning.specs.Fault.{Cause, Fault, steps_spent, not_a_range, calls_too_deep}
 use Rattle.tmpl_meaning.specs.Meaning.{Ran}
+use Rattle.tmpl_meaning.specs.Pipeline.{chain}
 use Rattle.tmpl_code.specs.Instruction as code
 use Rattle.tmpl_code.specs.Instruction.{Operation, Instruction}
-use Rattle.tmpl_run.specs.Cell.{Cell, cell, fresh}
+use Rattle.tmpl_run.specs.Cell.{Cell, cell, fresh, slot}
 use Rattle.tmpl_run.specs.State.{Plan, State}
 use Rattle.tmpl_run.specs.Step.{Went, on, halted, lacks, made_by}
 use Rattle.tmpl_run.specs.Step as pipe
@@ -174,6 +175,13 @@ returned_if true cs s =
       place = back.num;
     }))
 
+-- ---- values that are shown where they lie
+
+-- the text of a value is put out, or there is no value
+abbrev pub put_value : Template → Result Value Cause → State → Turn
+put_value t (Ok v) s = goes (record s { text = s.text ++ text_of v; place = s.place + 1 })
+put_value t (Err cause) s = failed t s.line cause s
+
 -- ---- instructions
 
 -- an instruction of this template
@@ -185,6 +193,10 @@ done plan t (code.act o) s =
     piped t o (pipe.step (record { missing_key = plan.rules.missing_key; dot = s.dot; env = [] }) o s.cells) s
 done plan t code.show s =
     top s.cells (λ c cs. goes (record s { cells = cs; text = s.text ++ text_of c.val; place = s.place + 1 }))
+done plan t (code.show_fields line names) s =
+    paid plan t line s (λ s. put_value t (chain plan.rules.missing_key names s.dot) s)
+done plan t (code.show_slot line k names) s =
+    paid plan t line s (λ s. put_value t (chain plan.rules.missing_key names (slot k s.cells)) s)
 done plan t (code.hold key) s = top s.cells (λ c cs. onto (held key c cs) (s.place + 1) s)
 done plan t (code.set slot) s = top s.cells (λ c cs. onto (c ∷ slice_set cs slot (fresh c.val)) (s.place + 1) s)
 done plan t (code.set_dot slot) s = onto (slice_set s.cells slot (fresh s.dot)) (s.place + 1) s

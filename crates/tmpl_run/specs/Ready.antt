@@ -24,6 +24,7 @@ RoomIf false n room = Unit {0}
 -- an instruction over this many cells; where it is no step of a pipeline, it looks for the newest cells by itself
 abbrev pub Has : Instruction → ℕ → ℕ → Type 0
 Has (code.act o) n room = Fits o n room
+Has (code.show_slot line k names) n room = k < n
 Has (code.hold key) n room = RoomIf key n room
 Has (code.set slot) n room = suc slot < n
 Has (code.set_dot slot) n room = slot < n

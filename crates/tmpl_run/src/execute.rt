@@ -7,13 +7,12 @@ ghost use Rattle.tmpl_run.specs.computed.Machines.{no_template, state_of};
 ghost use Rattle.tmpl_run.specs.computed.Output.{Grows, given_of};
 ghost use Rattle.tmpl_run.specs.computed.Plain.{IsPlain, SparedOr};
 ghost use Rattle.tmpl_run.specs.Ready.{Has};
-ghost use Rattle.tmpl_run.specs.computed.Plan.{listed, plan_of};
-ghost use Rattle.tmpl_run.specs.computed.Turned.{IsAble, Lands, TurnedBy, at_once, mark_after, put_by, put_out};
+ghost use Rattle.tmpl_run.specs.computed.Plan.{plan_of};
+ghost use Rattle.tmpl_run.specs.computed.Turned.{Executed, IsAble, Lands, mark_after, put_by, put_out};
 ghost use Rattle.tmpl_run.specs.computed.View.{cells_of, size_of};
 
 use crate::flow::Flow;
 use crate::halt::Halt;
-use crate::listing::Listing;
 use crate::machine::Machine;
 use crate::operation::fault_for;
 use crate::piece::LentPiece;
@@ -22,44 +21,40 @@ use tmpl_meaning::{Options, RunFaultKind, Sink};
 use tmpl_values::Val;
 
 impl<'m, 'a> Machine<'m, 'a> {
-    /// Carries out an instruction, at once with the two after it where they show the value that it puts. It is inlined
-    /// into the loop of a run, so that its answer is not written to memory and read back for each instruction.
+    /// Carries out an instruction. It is inlined into the loop of a run, so that its answer is not written to memory and
+    /// read back for each instruction.
     #[tactic(auto, using(crate::proofs::TurnLemmas::lands))]
     #[inline(always)]
     pub(crate) fn execute<S: Sink>(
         &mut self,
-        program: &Parts,
+        program: &'a Parts,
         options: &Options,
-        code: Listing<'a>,
         instruction: &Instruction,
         piece: &mut LentPiece<'_>,
         sink: &mut S,
     ) -> Result<Flow, Halt<'a>>
         requires place { self.old.place + 1 < 2 ^ 64 }
         requires depth { self.old.depth + 1 < 2 ^ 64 }
-        requires ready { Has (instruction_of code.tables.now instruction.now) (length (cells_of self.old.stack))
+        requires ready { Has (instruction_of program.now.tables instruction.now) (length (cells_of self.old.stack))
             (size_of self.old.stack) }
-        requires lands { Lands (done (plan_of options.now program.now) no_template (instruction_of code.tables.now instruction.now)
+        requires lands { Lands (done (plan_of options.now program.now) no_template (instruction_of program.now.tables instruction.now)
             (state_of self.old)) }
-        requires able { IsAble (plan_of options.now program.now) (instruction_of code.tables.now instruction.now) (state_of self.old) }
+        requires able { IsAble (plan_of options.now program.now) (instruction_of program.now.tables instruction.now) (state_of self.old) }
         requires countable { (S.so_far sink.old).failures < 2 ^ 64 - 1 }
-        requires here { self.old.place < length code.instructions.now }
-        ensures step { let i = instruction_of code.entry.tables.now instruction.now in
-            TurnedBy (at_once (listed code.entry) self.old.place i) (plan_of options.now program.now) i
+        ensures step { Executed (plan_of options.now program.now) (instruction_of program.now.tables instruction.now)
             self.old self.new result }
-        ensures given { let i = instruction_of code.entry.tables.now instruction.now in
-            IsPut (put_by result) (given_of (S.so_far sink.old) piece.old) (given_of (S.so_far sink.new) piece.new)
-            (put_out (at_once (listed code.entry) self.old.place i) (plan_of options.now program.now) i
-            self.old result) }
+        ensures given { IsPut (put_by result) (given_of (S.so_far sink.old) piece.old)
+            (given_of (S.so_far sink.new) piece.new)
+            (put_out options.now.missing_key (instruction_of program.now.tables instruction.now) self.old result) }
         ensures taken { Grows (S.so_far sink.old) (S.so_far sink.new) }
-        ensures plain { mark_after (instruction_of code.entry.tables.now instruction.now) false ≡ false
+        ensures plain { mark_after (instruction_of program.now.tables instruction.now) false ≡ false
             → IsPlain self.old → SparedOr result (IsPlain self.new) }
         ensures size { size_of self.new.stack ≡ size_of self.old.stack }
     {
         match *instruction {
             Instruction::Spend(line) => self.spend(options, line),
             Instruction::Put { text, line } => {
-                self.put_text(options, line as u64, code.tables.text(text), piece, sink)
+                self.put_text(options, line as u64, program.tables.text(text), piece, sink)
             }
             Instruction::PushNothing => {
                 self.give(Val::Nothing);
@@ -74,21 +69,15 @@ impl<'m, 'a> Machine<'m, 'a> {
                 Ok(Flow::On)
             }
             Instruction::PushText(place) => {
-                self.give(Val::Text(code.tables.name(place)));
+                self.give(Val::Text(program.tables.name(place)));
                 Ok(Flow::On)
             }
-            Instruction::PushDot => self.put_dot(code, piece, sink),
+            Instruction::PushDot => self.push_dot(),
             Instruction::PushFields(span) => {
-                self.put_fields(
-                    options.missing_key,
-                    code.tables.names(span),
-                    code,
-                    piece,
-                    sink,
-                )
+                self.push_fields(options.missing_key, program.tables.names(span))
             }
-            Instruction::PushSlot(slot) => self.put_slot(slot as usize, code, piece, sink),
-            Instruction::Chain(span) => self.chain(options.missing_key, code.tables.names(span)),
+            Instruction::PushSlot(slot) => self.push_slot(slot as usize),
+            Instruction::Chain(span) => self.chain(options.missing_key, program.tables.names(span)),
             Instruction::Call { func, count, piped } => { self.call(func, count as usize, piped) }
             Instruction::Decide { is_or, piped, skip } => {
                 Ok(self.decide(is_or, piped, skip as usize))
@@ -96,11 +85,34 @@ impl<'m, 'a> Machine<'m, 'a> {
             Instruction::Settle => Ok(self.settle()),
             Instruction::Refuse(why) => Err(Halt::Fault(fault_for(why))),
             Instruction::RefuseTemplate(place) => {
-                Err(Halt::Fault(RunFaultKind::NoTemplate(code.tables.name(place))))
+                Err(Halt::Fault(RunFaultKind::NoTemplate(program.tables.name(place))))
             }
             Instruction::Show => {
                 self.show(piece, sink)?;
                 Ok(Flow::On)
+            }
+            Instruction::ShowDot { line } => self.show_dot(options, line as u64, piece, sink),
+            Instruction::ShowFields { names, line } => {
+                self.show_fields(
+                    options,
+                    line as u64,
+                    program.tables.names(names),
+                    piece,
+                    sink,
+                )
+            }
+            Instruction::ShowSlot { slot, line } => {
+                self.show_slot(options, line as u64, slot as usize, piece, sink)
+            }
+            Instruction::ShowSlotField { slot, name, line } => {
+                self.show_slot_field(
+                    options,
+                    line as u64,
+                    slot as usize,
+                    program.tables.name(name),
+                    piece,
+                    sink,
+                )
             }
             Instruction::Hold { key } => self.hold(key),
             Instruction::Set(slot) => self.set(slot as usize),

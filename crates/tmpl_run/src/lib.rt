@@ -2,7 +2,6 @@
 //! templates.
 #![tactic(auto)]
 
-mod at_once;
 mod control;
 mod execute;
 mod fault;
@@ -10,7 +9,6 @@ mod flow;
 mod halt;
 mod invoke;
 mod laws;
-mod listing;
 mod machine;
 mod operation;
 mod output;

@@ -21,7 +21,6 @@ ghost use Rattle.tmpl_run.specs.computed.View.{size_of};
 use crate::fault::RunError;
 use crate::flow::Flow;
 use crate::halt::Halt;
-use crate::listing::Listing;
 use crate::machine::Machine;
 use crate::piece::LentPiece;
 use crate::stack::Stack;
@@ -94,20 +93,9 @@ impl<'m, 'a> Machine<'m, 'a> {
         ensures taken { Grows (S.so_far sink.old) (S.so_far sink.new) }
     {
         let instructions = program.instructions.as_slice();
-        let code = Listing {
-            tables: &program.tables,
-            instructions,
-        };
         loop {
             let number = self.template;
-            match self.execute(
-                program,
-                options,
-                code,
-                &instructions[self.place],
-                piece,
-                sink,
-            ) {
+            match self.execute(program, options, &instructions[self.place], piece, sink) {
                 Ok(Flow::On) => {}
                 Ok(Flow::Over) => return Ok(()),
                 Err(stop) => return Err(error_for(program, number, self.line, stop)),

@@ -6,6 +6,7 @@ ghost use Rattle.std.specs.Prelude.{◌≡◌, ◌+◌, ◌-◌, ◌<◌, ◌≤
 ghost use Rattle.std.specs.Prelude.{take, false, true, ◌^◌, slice_set, if◌then◌else◌, IfOk, IfSome, IsOkAnd, OnOk};
 ghost use Rattle.std.specs.Prelude.{MatchOption};
 ghost use Rattle.tmpl_values.specs.Elements.{item_at};
+ghost use Rattle.tmpl_values.specs.Field.{field_at};
 ghost use Rattle.tmpl_values.specs.Value.{nothing};
 ghost use Rattle.tmpl_values.specs.View.{element_of, is_kept, is_made, val_of};
 ghost use Rattle.tmpl_values.specs.Text.{text_of};
@@ -14,7 +15,8 @@ ghost use Rattle.tmpl_funcs.specs.Answer.{AreBorrowed, IsBorrowed};
 ghost use Rattle.tmpl_funcs.specs.Dispatch.{IsCall};
 ghost use Rattle.tmpl_funcs.specs.Func.{is_called, makes_text};
 ghost use Rattle.tmpl_funcs.specs.View.{values_of};
-ghost use Rattle.tmpl_meaning.specs.Pipeline.{without_null};
+ghost use Rattle.tmpl_meaning.specs.Pipeline.{field_value, without_null};
+ghost use Rattle.tmpl_meaning.specs.View.{value_seen};
 ghost use Rattle.tmpl_meaning.specs.Sink.{IsPut};
 ghost use Rattle.tmpl_code.specs.Code.{piped_count};
 ghost use Rattle.tmpl_run.specs.Cell.{cell};
@@ -25,7 +27,7 @@ use crate::piece::LentPiece;
 use std::alloc::{AllocError, Global};
 use std::mem;
 use tmpl_funcs::{CallError, Func, call};
-use tmpl_meaning::{Sink, SinkFault};
+use tmpl_meaning::{MissingKey, RunFaultKind, Sink, SinkFault};
 use tmpl_values::{Cell, Val};
 
 /// The cells below `top` are live, the newest last.
@@ -146,6 +148,24 @@ impl<'s, 'a> Stack<'s, 'a> {
         ensures holds { result ≡ truth (slot 0 (cells_of self.old)) }
     {
         holds_at(self.cells, self.top - 1)
+    }
+
+    /// The field of this name of the value of a slot.
+    #[inline(always)]
+    pub(crate) fn field(
+        &mut self,
+        index: usize,
+        missing_key: MissingKey,
+        name: &'a [u8],
+    ) -> Result<Val<'a>, RunFaultKind<'a>>
+        requires { index < length (cells_of self.old) }
+        ensures cells { cells_of self.new ≡ cells_of self.old }
+        ensures steady { SteadyStack self.old self.new }
+        ensures value { value_seen result
+            ≡ field_value missing_key name.now (field_at name.now (slot index (cells_of self.old))) }
+        ensures borrowed { IsBorrowed result }
+    {
+        field_at(self.cells, self.top - 1 - index, missing_key, name)
     }
 
     /// Puts out the text of the value of a slot.
@@ -364,6 +384,25 @@ fn unowned<'a>(val: &Val<'a>) -> Option<Val<'a>>
         Val::List(items) => Some(Val::List(items)),
         Val::Map(table) => Some(Val::Map(table)),
     }
+}
+
+/// The field of this name of the value of a cell.
+#[tactic(auto, using(crate::proofs::StackLemmas::cells))]
+#[inline(always)]
+fn field_at<'a>(
+    cells: &mut [Cell<'a>],
+    at: usize,
+    missing_key: MissingKey,
+    name: &'a [u8],
+) -> Result<Val<'a>, RunFaultKind<'a>>
+    requires within { at < length cells.old }
+    ensures same { cells.new ≡ cells.old }
+    ensures value { value_seen result
+        ≡ field_value missing_key name.now (field_at name.now (cell_at cells.old at).val) }
+    ensures borrowed { IsBorrowed result }
+{
+    let whole = &cells[..];
+    missing_key.field(&whole[at].val, name)
 }
 
 /// Puts out the text of the value of a cell.

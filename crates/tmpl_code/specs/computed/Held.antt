@@ -144,4 +144,5 @@ number_called ts n = None
 -- what takes the step of a node before its code, by that number
 abbrev pub StepBy : ℕ → NodeKind → Option ℕ → Stretch
 StepBy line (text bytes) number code rest = code ≡ rest
+StepBy line (action h) number code rest = code ≡ rest
 StepBy line n number code rest = code ≡ step_of_call line number ∷ rest

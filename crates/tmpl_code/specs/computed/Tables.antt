@@ -10,6 +10,8 @@ abbrev pub fits : Tables → held_instruction.Instruction → Bool
 fits t (i.Put place line) = nat_lt place (length t.texts.items)
 fits t (i.PushText place) = nat_lt place (length t.spans.items)
 fits t (i.PushFields span) = nat_le (span.start + span.count) (length t.spans.items)
+fits t (i.ShowFields names line) = nat_le (names.start + names.count) (length t.spans.items)
+fits t (i.ShowSlotField slot name line) = nat_lt name (length t.spans.items)
 fits t (i.Chain span) = nat_le (span.start + span.count) (length t.spans.items)
 fits t (i.RefuseTemplate place) = nat_lt place (length t.spans.items)
 fits t i = true

@@ -1,6 +1,7 @@
 //! What is done with the code so far.
-ghost use Rattle.std.specs.Prelude.{◌≡◌, ◌-◌, ◌≤◌, [], IfOk, OnOk, length, true};
+ghost use Rattle.std.specs.Prelude.{◌≡◌, ◌∷◌, ◌-◌, ◌≤◌, [], IfOk, OnOk, length, true};
 ghost use Rattle.tmpl_code.specs.Instruction.{act, chained, no_template, push_fields, push_text, put, refuse};
+ghost use Rattle.tmpl_code.specs.Instruction.{show_fields, show_slot};
 ghost use Rattle.tmpl_code.specs.View.{instruction_of, instructions_of};
 ghost use Rattle.tmpl_code.specs.computed.Held.{Placed, Pushed, code_of};
 ghost use Rattle.tmpl_code.specs.computed.Tables.{fits};
@@ -77,6 +78,31 @@ impl Code {
     {
         let span = self.tables.add_names(names)?;
         self.push(Instruction::PushFields(span))
+    }
+
+    /// Puts what takes a step at this line and shows a field of a field of .. of dot before the others.
+    pub(crate) fn push_show_fields(&mut self, names: &[Bytes], line: u32) -> Result<(), AllocError>
+        ensures { OnOk result (Placed (Pushed (show_fields line names.now)) self.old self.new) }
+    {
+        let span = self.tables.add_names(names)?;
+        self.push(Instruction::ShowFields { names: span, line })
+    }
+
+    /// Puts what takes a step at this line and shows a field of the value of a slot before the others.
+    pub(crate) fn push_show_slot_field(
+        &mut self,
+        slot: u32,
+        name: &Bytes,
+        line: u32,
+    ) -> Result<(), AllocError>
+        ensures { OnOk result (Placed (Pushed (show_slot line slot (name.now ∷ []))) self.old self.new) }
+    {
+        let place = self.tables.add_name(name.as_slice())?;
+        self.push(Instruction::ShowSlotField {
+            slot,
+            name: place,
+            line,
+        })
     }
 
     /// Puts what takes the newest value for a field of a field of .. of it before the others.

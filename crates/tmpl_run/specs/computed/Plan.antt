@@ -2,11 +2,9 @@
 use Rattle.tmpl_syntax.specs.View.{set_view}
 use Rattle.tmpl_meaning.specs.View.{rules_of}
 use Rattle.tmpl_meaning.specs.declared.options.Options.{Options}
-use Rattle.tmpl_code.specs.Code.{Code}
 use Rattle.tmpl_code.specs.View.{instructions_of}
 use Rattle.tmpl_code.specs.declared.program.Parts.{Parts}
 use Rattle.tmpl_run.specs.State.{Plan}
-use Rattle.tmpl_run.specs.declared.listing.Listing.{Listing}
 
 abbrev pub plan_of : Options → Parts → Plan
 plan_of options parts = record {
@@ -15,7 +13,3 @@ plan_of options parts = record {
   starts = parts.starts.items;
   code = instructions_of parts.tables parts.instructions.items;
 }
-
--- the code of a listing
-abbrev pub listed : Listing → Code
-listed l = instructions_of l.tables.now l.instructions.now

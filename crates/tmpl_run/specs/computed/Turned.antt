@@ -1,8 +1,8 @@
 -- What a turn of a machine in memory is.
-use Rattle.std.specs.Prelude.{◌≡◌, ◌&&◌, Bool, true, false, List, ℕ, [], ◌+◌, Option, None, Some, Result, Ok, Err}
-use Rattle.std.specs.Prelude.{◌-◌, ◌<◌, ◌≤◌, ◌^◌, length, nat_eq, slice_get}
+use Rattle.std.specs.Prelude.{◌≡◌, Bool, true, false, List, ℕ, [], ◌+◌, None, Result, Ok, Err}
+use Rattle.std.specs.Prelude.{◌-◌, ◌<◌, ◌≤◌, ◌^◌, length, nat_eq}
 use Rattle.tmpl_values.specs.Text.{text_of}
-use Rattle.tmpl_values.specs.Value.{Value, nothing}
+use Rattle.tmpl_values.specs.Value.{Value}
 use Rattle.tmpl_values.specs.View.{val_of}
 use Rattle.tmpl_values.specs.declared.value.Val.{Val}
 use Rattle.tmpl_syntax.specs.Set.{Template}
@@ -14,7 +14,7 @@ use Rattle.tmpl_meaning.specs.declared.sink.SinkFault.{SinkFault}
 use Rattle.tmpl_meaning.specs.View.{cause_of}
 use Rattle.tmpl_code.specs.Code.{Code}
 use Rattle.tmpl_code.specs.Instruction as code
-use Rattle.tmpl_code.specs.Instruction.{Instruction, Operation}
+use Rattle.tmpl_code.specs.Instruction.{Instruction}
 use Rattle.tmpl_run.specs.Cell.{slot}
 use Rattle.tmpl_run.specs.State.{Plan, State}
 use Rattle.tmpl_run.specs.Step.{made_by}
@@ -50,28 +50,34 @@ abbrev pub paid_for : Bool → List ℕ → List ℕ
 paid_for true bytes = []
 paid_for false bytes = bytes
 
+abbrev pub text_in : Result Value Cause → List ℕ
+text_in (Ok v) = text_of v
+text_in (Err cause) = []
+
 -- what it puts out in a state
-abbrev pub added : Instruction → State → List ℕ
-added (code.put line bytes) s = paid_for (nat_eq s.left 0) bytes
-added code.show s = text_of (slot 0 s.cells)
-added i s = []
+abbrev pub added : MissingKey → Instruction → State → List ℕ
+added mode (code.put line bytes) s = paid_for (nat_eq s.left 0) bytes
+added mode code.show s = text_of (slot 0 s.cells)
+added mode (code.show_fields line names) s = paid_for (nat_eq s.left 0) (text_in (chain mode names s.dot))
+added mode (code.show_slot line k names) s = paid_for (nat_eq s.left 0) (text_in (chain mode names (slot k s.cells)))
+added mode i s = []
 
 -- a state after it, with what it puts out and whether it makes a text
-abbrev pub beyond : Instruction → State → State → State
-beyond i s t = record t { text = added i s; made_text = mark_after i false }
+abbrev pub beyond : MissingKey → Instruction → State → State → State
+beyond mode i s t = record t { text = added mode i s; made_text = mark_after i false }
 
 -- it was carried out, and the run goes on or is over, or it stops; where a put failed it was carried out up to that
 abbrev pub Executed : Plan → Instruction → Machine → Machine → Result Flow Halt → Type 0
 Executed plan i m n (Ok flow.On) =
-    done plan no_template i (state_of m) ≡ goes (beyond i (state_of m) (state_of n))
+    done plan no_template i (state_of m) ≡ goes (beyond plan.rules.missing_key i (state_of m) (state_of n))
 Executed plan i m n (Ok flow.Over) =
-    done plan no_template i (state_of m) ≡ ended (ran_so (beyond i (state_of m) (state_of m)) None)
+    done plan no_template i (state_of m) ≡ ended (ran_so (beyond plan.rules.missing_key i (state_of m) (state_of m)) None)
 Executed plan i m n (Err (stop.Fault kind)) =
     done plan no_template i (state_of m)
-    ≡ failed no_template n.line (cause_of kind) (beyond i (state_of m) (state_of m))
+    ≡ failed no_template n.line (cause_of kind) (beyond plan.rules.missing_key i (state_of m) (state_of m))
 Executed plan i m n (Err stop.WriteFailed) =
-    done plan no_template i (state_of m) ≡ goes (beyond i (state_of m) (state_of n))
-Executed plan i m n (Err stop.OutOfMemory) = added i (state_of m) ≡ []
+    done plan no_template i (state_of m) ≡ goes (beyond plan.rules.missing_key i (state_of m) (state_of n))
+Executed plan i m n (Err stop.OutOfMemory) = Unit {0}
 
 -- .. by an instruction that puts nothing out, and may stop where memory is refused
 abbrev pub TurnedOr : Plan → Instruction → Machine → Machine → Result Flow Halt → Type 0
@@ -109,36 +115,12 @@ put_by (Err (stop.Fault kind)) = Ok tt
 put_by (Err stop.WriteFailed) = Err (record {})
 put_by (Err stop.OutOfMemory) = Ok tt
 
--- ---- a value that is shown where it lies
-
--- an instruction settles a value
-abbrev pub settles : Option Instruction → Bool
-settles (Some (code.act code.settle)) = true
-settles o = false
-
--- .. shows it
-abbrev pub shows : Option Instruction → Bool
-shows (Some code.show) = true
-shows o = false
-
--- what is put at a place is settled and shown by the two instructions after it
-abbrev pub is_shown : Code → ℕ → Bool
-is_shown all place = settles (slice_get all (place + 1)) && shows (slice_get all (place + 2))
-
--- an instruction is carried out at once with the two after it: it puts a value that lies in dot, in a field of it or
--- in a slot, and they show that
-abbrev pub at_once : Code → ℕ → Instruction → Bool
-at_once all place (code.act code.push_dot) = is_shown all place
-at_once all place (code.act (code.push_fields names)) = is_shown all place
-at_once all place (code.act (code.push_slot k)) = is_shown all place
-at_once all place i = false
-
--- the value that it puts, or why there is none
-abbrev pub value_by : Plan → Instruction → State → Result Value Cause
-value_by plan (code.act code.push_dot) s = Ok s.dot
-value_by plan (code.act (code.push_fields names)) s = chain plan.rules.missing_key names s.dot
-value_by plan (code.act (code.push_slot k)) s = Ok (slot k s.cells)
-value_by plan i s = Ok nothing
+-- what it puts out, by what it answers
+abbrev pub put_out : MissingKey → Instruction → Machine → Result Flow Halt → List ℕ
+put_out mode i m (Ok f) = added mode i (state_of m)
+put_out mode i m (Err (stop.Fault kind)) = added mode i (state_of m)
+put_out mode i m (Err stop.WriteFailed) = added mode i (state_of m)
+put_out mode i m (Err stop.OutOfMemory) = []
 
 -- a field of a field of .. of a value was found, or there is none, or memory was refused
 abbrev pub IsFound : MissingKey → List (List ℕ) → Value → Result Val Halt → Type 0
@@ -146,35 +128,3 @@ IsFound mode names v (Ok field) = Ok (val_of field) ≡ chain mode names v
 IsFound mode names v (Err (stop.Fault kind)) = Err (cause_of kind) ≡ chain mode names v
 IsFound mode names v (Err stop.WriteFailed) = ⊥
 IsFound mode names v (Err stop.OutOfMemory) = Unit {0}
-
-abbrev pub IsThere : Result Value Cause → Type 0
-IsThere (Ok v) = Unit {0}
-IsThere (Err cause) = ⊥
-
-abbrev pub text_in : Result Value Cause → List ℕ
-text_in (Ok v) = text_of v
-text_in (Err cause) = []
-
--- the three were carried out, or the first of them stops; where a put failed they were carried out up to that
-abbrev pub Shown : Plan → Instruction → Machine → Machine → Result Flow Halt → Type 0
-Shown plan i m n (Ok flow.On) =
-    IsThere (value_by plan i (state_of m)) × (state_of n ≡ record (state_of m) { place = m.place + 3 })
-Shown plan i m n (Ok flow.Over) = ⊥
-Shown plan i m n (Err (stop.Fault kind)) = Executed plan i m n (Err (stop.Fault kind))
-Shown plan i m n (Err stop.WriteFailed) =
-    IsThere (value_by plan i (state_of m)) × (state_of n ≡ record (state_of m) { place = m.place + 3 })
-Shown plan i m n (Err stop.OutOfMemory) = Unit {0}
-
--- ---- the result of a turn of the loop, by whether it carries out three instructions
-
-abbrev pub TurnedBy : Bool → Plan → Instruction → Machine → Machine → Result Flow Halt → Type 0
-TurnedBy false plan i m n r = Executed plan i m n r
-TurnedBy true plan i m n r = Shown plan i m n r
-
--- what it puts out
-abbrev pub put_out : Bool → Plan → Instruction → Machine → Result Flow Halt → List ℕ
-put_out false plan i m r = added i (state_of m)
-put_out true plan i m (Ok f) = text_in (value_by plan i (state_of m))
-put_out true plan i m (Err (stop.Fault kind)) = []
-put_out true plan i m (Err stop.WriteFailed) = text_in (value_by plan i (state_of m))
-put_out true plan i m (Err stop.OutOfMemory) = []

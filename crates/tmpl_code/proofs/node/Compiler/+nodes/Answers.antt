@@ -1,14 +1,10 @@
-use Rattle.std.proofs.Common.{◌∙◌, ◌-◌, length, refl, ap, arith, rules}
+use Rattle.std.proofs.Common.{◌∙◌, ◌-◌, length, refl, ap, arith}
 use Rattle.std.proofs.lemmas.Result.{on_ok_weaker}
-use Rattle.tmpl_syntax.specs.declared.tree.NodeKind.TheFolds.{the_lemmas}
 use Rattle.tmpl_grammar.specs.View.{binding_of, header_of}
 use Rattle.tmpl_syntax.specs.View.{node_of, nodes_in, set_view}
-use Rattle.tmpl_code.specs.Code.{NodeAt}
-use Rattle.tmpl_code.specs.computed.Held.{Put, code_of}
+use Rattle.tmpl_code.specs.computed.Held.{code_of}
 use Rattle.tmpl_code.proofs.NodeLemmas.{item-weight, step_called}
 use Rattle.tmpl_code.proofs.TailLemmas as tail
-use Rattle.tmpl_code.specs.declared.node.Compiler.{Compiler}
-use Rattle.tmpl_code.proofs.TailLemmas.{ends_both}
 use Rattle.tmpl_code.proofs.node.Compiler.+nodes.Goals as goal
 
 pub put_nodes-put_node-requires : goal.put_nodes-put_node-requires
@@ -76,12 +72,3 @@ put_range-returns t c =
     c.in_ok-count.ensures (c.in_ok-skip.ensures ∙ ap (λ n. length (code_of c.put_nodes.new.self.code) - n) c.len-after.ensures)
     (c.in_ok-skip-2.ensures ∙ ap (λ n. length (code_of c.put_turns.new.self.code) - n) c.len-second.ensures) c.declares_key-key.ensures
     c.in_ok-push-2.ensures.code refl piped) c.put_pipeline.ensures
-
-pub put_node-returns-in_ok-put_shown-in-Action : goal.put_node-returns-in_ok-put_shown-in-Action
-put_node-returns-in_ok-put_shown-in-Action t c =
-    let a = c.args in
-    let node = node_of a.node.now in
-    let shown = c.in_ok-put_shown-in-Action.ensures in
-    let after : Compiler = record { code = c.put_header.new.code; scope = a.self.now.scope } in
-    on_ok_weaker {Q = Put (NodeAt (set_view a.site.set.now) node.line node.what) a.site.exit a.self.now after} _
-    (λ headed. record { code = search (rules, the_lemmas); ends = ends_both headed.ends shown.ends; scope = refl }) c.put_header.ensures

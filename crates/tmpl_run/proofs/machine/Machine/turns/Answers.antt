@@ -41,7 +41,6 @@ execute-requires g c =
       lands = lands;
       able = able (plan_of c.args.options.now c.args.program.now) no_template (state_of c.loop-stop.self) _ lands;
       countable = omega (arith, count, few);
-      here = inside;
     }
 
 pub loop-stop-smaller : goal.loop-stop-smaller
