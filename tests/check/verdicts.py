@@ -9,6 +9,7 @@ import itertools
 import json
 import os
 import random
+import resource
 import subprocess
 import sys
 import tempfile
@@ -125,6 +126,55 @@ def placed(text, token):
     return f"{front.count(chr(10)) + 1}:{len(front) - front.rfind(chr(10))}"
 
 
+def told(words):
+    """What tmpl-check tells, without the file, the line and the column, and without warnings."""
+    lines = [line for line in ran([harness.CHECKER, *words]).stdout.decode().splitlines() if ": warning: " not in line]
+    return [line.partition(": error: may fail: ")[2] for line in lines]
+
+
+def hostile_results(folder):
+    """Schemas and templates that lead to much work: each is checked within some seconds of a processor."""
+    for title, schema, template, words, said in schema_rows.HOSTILE:
+        before = resource.getrusage(resource.RUSAGE_CHILDREN)
+        status, out = checked(folder, schema, template, words)
+        after = resource.getrusage(resource.RUSAGE_CHILDREN)
+        seconds = after.ru_utime + after.ru_stime - before.ru_utime - before.ru_stime
+        good = (status, out) == (0, "") if said is None else status == 1 and said in out
+        yield f"hostile: {title}", 1, [] if good else [f"    status {status}: {out[:300]}, and not {said}"]
+        yield f"time of: {title}", 1, [] if seconds < schema_rows.SECONDS else [f"    {seconds:.1f} seconds"]
+
+
+def example_results(folder):
+    """The templates of examples/ with a schema each, without those that quote by bytes, which are stops."""
+    for name, schema, said in schema_rows.EXAMPLES:
+        example = f"{harness.TOP}/examples/{name}"
+        with open(f"{example}/args", encoding="utf-8") as it:
+            files = [f"{example}/{word}" for word in it.read().split() if word.endswith(".tmpl") and not word.startswith("..")]
+        write(folder, "s", schema)
+        came = told(["--schema", f"{folder}/s", "--stop", "nginx", *files])
+        yield f"example {name}", 1, [] if came == ([] if said is None else [said]) else [f"    {came}, and not {said}"]
+        if said is None and os.access(f"{example}/data.json", os.R_OK):
+            with open(f"{example}/data.json", encoding="utf-8") as it:
+                yield f"data of example {name}", 1, [] if conforming.conforms(schema, schema, json.load(it)) else ["    it does not conform"]
+
+
+def cookbook_results(folder):
+    """The templates of the cookbook with a schema each."""
+    with open(f"{harness.TOP}/docs/COOKBOOK.md", encoding="utf-8") as it:
+        text = it.read()
+    for template, schema, quotes, words, said in schema_rows.COOKBOOK:
+        block = text.partition(f"<!-- save: {template} -->\n```text\n")[2].partition("```\n")[0]
+        if not block and template not in text:
+            yield f"cookbook: {template}", 1, ["    it is not in the cookbook"]
+            continue
+        write(folder, "s", schema)
+        write(folder, "t", block or template)
+        files = [f"{harness.TOP}/examples/quotes/{name}" for name in quotes]
+        came = told(["--schema", f"{folder}/s", *words, f"{folder}/t", *files])
+        good = came == [] if said is None else said in came
+        yield f"cookbook: {template}", 1, [] if good else [f"    {came}, and not {said}"]
+
+
 def row_results():
     """The rows over a JSON Schema."""
     with tempfile.TemporaryDirectory(dir=harness.MEMORY) as folder:
@@ -134,23 +184,17 @@ def row_results():
         for title, schema, template, words, line in schema_rows.REFUSED:
             came = checked(folder, schema, template, words)
             yield f"refused: {title}", 1, [] if came == (1, f"t:{line}\n") else [f"    {came}, and not {line}"]
+        for title, schema, template, words, lines in schema_rows.SEVERAL:
+            came = checked(folder, schema, template, words)
+            wanted = "".join(f"t:{line}\n" for line in lines)
+            yield f"several: {title}", 1, [] if came == (1, wanted) else [f"    {came}, and not {wanted!r}"]
         for title, schema, token, said in schema_rows.UNREAD:
             wanted = f"s:{placed(schema, token)}: error: schema not understood: {said}\n"
             came = checked(folder, schema, "text", [])
             yield f"schema: {title}", 1, [] if came == (1, wanted) else [f"    {came}, and not {wanted!r}"]
-        for name, schema, said in schema_rows.EXAMPLES:
-            example = f"{harness.TOP}/examples/{name}"
-            with open(f"{example}/args", encoding="utf-8") as it:
-                files = [f"{example}/{word}" for word in it.read().split() if word.endswith(".tmpl")]
-            write(folder, "s", schema)
-            ended = ran([harness.CHECKER, "--schema", f"{folder}/s", *files])
-            lines = [line for line in ended.stdout.decode().splitlines() if ": warning: " not in line]
-            good = lines == [] if said is None else len(lines) == 1 and lines[0].endswith(f": error: may fail: {said}")
-            yield f"example {name}", 1, [] if good else [f"    {lines}, and not {said}"]
-            with open(f"{example}/data.json", encoding="utf-8") as it:
-                data = json.load(it)
-            if said is None:
-                yield f"data of example {name}", 1, [] if conforming.conforms(schema, schema, data) else ["    it does not conform"]
+        yield from hostile_results(folder)
+        yield from example_results(folder)
+        yield from cookbook_results(folder)
         came = checked(folder, '{"type": "object",}', "text", [])
         yield "schema that is not JSON", 1, [] if came[0] == 1 and came[1].startswith("s:1:19: error: not JSON: ") else [f"    {came}"]
 
@@ -162,10 +206,10 @@ def accepted_part(folder, schema, lines, words):
         status, out = checked(folder, schema, "\n".join(lines), words)
         if status == 0:
             return "\n".join(lines)
-        place = out.split(":")
-        if status != 1 or place[0] != "t":
-            raise ValueError(f"status {status}: {out}")
-        lines[int(place[1]) - 1] = ""
+        for place in (line.split(":") for line in out.splitlines()):
+            if status != 1 or place[0] != "t":
+                raise ValueError(f"status {status}: {out}")
+            lines[int(place[1]) - 1] = ""
     return None
 
 

@@ -4,6 +4,7 @@ import json
 TYPES = {"null": type(None), "boolean": bool, "integer": int, "number": int, "string": str, "array": list, "object": dict}
 NARROWING = ("minimum", "maximum", "exclusiveMinimum", "exclusiveMaximum", "minLength", "minItems")
 FIELDS = ("a", "b", "c")
+FORMS = ("%v", "%v", "%v", "%s", "%s", "%d", "%d", "%q", "%x", "%X", "%o", "%b", "%c", "%t", "%5d", "%05d", "%+d", "% d", "%-6s", "%6s", "%.1s", "%7v", "%-v", "%+v", "%%")
 HEAD = "https://json-schema.org/draft/2020-12/schema"
 
 
@@ -124,12 +125,46 @@ def drawn_of_type(draw, root, schema, depth, name):
 
 def drawn_path(draw, scope):
     """An operand: dot or a variable, and fields."""
-    return draw.choice(scope) + draw.choice(["", ".a", ".b", ".c", ".a.b"]) if scope[0] != "." or draw.random() < 0.3 else "." + draw.choice(["a", "b", "c", "a.b", "b.a"])
+    if scope[0] == "." and draw.random() < 0.7:
+        return "." + draw.choice(["a", "b", "c", "a.b", "b.a"])
+    start, fields = draw.choice(scope), draw.choice(["", ".a", ".b", ".c", ".a.b"])
+    return fields if start == "." and fields else start + fields
+
+
+def drawn_printf(draw, scope):
+    """A call of printf, mostly with as many arguments as its format has forms, the last of which may be piped."""
+    forms = [draw.choice(FORMS) for _ in range(draw.randrange(1, 4))]
+    count = sum(form != "%%" for form in forms) + (draw.random() < 0.1)
+    paths = [draw.choice([drawn_path(draw, scope), drawn_path(draw, scope), "7", '"x"', "true", "(index . \"a\")"]) for _ in range(count)]
+    piped = paths.pop() + " | " if paths and draw.random() < 0.2 else ""
+    return "{{%s%s}}" % (piped, " ".join(["printf", '"%s"' % "-".join(forms), *paths]))
+
+
+def drawn_index(draw, scope):
+    """A call of index, by more than one key or by a key of the data."""
+    keys = [draw.choice(['"a"', '"b"', '"c"', '"a"', drawn_path(draw, scope), "0"]) for _ in range(draw.randrange(4))]
+    call = " ".join(["index", drawn_path(draw, scope), *keys])
+    return draw.choice(["{{%s}}", "{{len (%s)}}", "{{with %s}}{{printf \"%%v\" .}}{{end}}", "{{range %s}}{{.}}{{end}}"]) % call
+
+
+def drawn_comparison(draw, scope):
+    """A comparison of a path with another or a constant, and what it may tell of the path."""
+    name, path = draw.choice(["eq", "ne", "eq", "ne", "lt", "le", "gt", "ge"]), drawn_path(draw, scope)
+    asked = draw.choice([path, path, "(index %s \"a\")" % scope[0], "(index . \"a\" \"b\")"])
+    other = draw.choice(["nil", "nil", '"x"', '""', "1", "0", "true", "false", drawn_path(draw, scope)])
+    used = draw.choice(["{{len %s}}", "{{printf \"%%d\" %s}}", "{{printf \"%%s\" %s}}", "{{lt %s 3}}", "{{%s.a}}", "{{range %s}}{{end}}"])
+    used = used % draw.choice([path, ".a", ".a.b"])
+    both = draw.choice(["{{if %s}}%s{{else}}%s{{end}}", "{{if not (%s)}}%s{{else}}%s{{end}}", "{{if and (%s) %s}}%s{{end}}"])
+    if both.startswith("{{if and"):
+        return both % (f"{name} {asked} {other}", path, used)
+    return both % (f"{name} {asked} {other}", *draw.sample([used, "none"], 2))
 
 
 def drawn_line(draw, depth, scope):
     """A part of a template, over dot and the variables in scope."""
     path = drawn_path(draw, scope)
+    if draw.random() < 0.3:
+        return draw.choice([drawn_printf, drawn_index, drawn_comparison])(draw, scope)
     kind = draw.randrange(9) if depth else 0
     inner = "".join(drawn_line(draw, depth - 1, scope) for _ in range(draw.randrange(1, 3))) if depth else ""
     if kind == 0:

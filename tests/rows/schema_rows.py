@@ -44,8 +44,27 @@ ACCEPTED = [
     ("each value", True, "{{print .}}", []),
     ("index", of({"a": TEXT}, []), '{{index . "a"}}{{with index . "a"}}{{.}}{{end}}{{or (index . "a") "none"}}', []),
     ("index into a map of others", of({"a": {"type": "object", "additionalProperties": WHOLE}}), '{{print (index .a "b")}}', []),
+    ("index by several keys", of({"a": of({"b": of({"c": ITEMS})})}), '{{range index . "a" "b" "c"}}{{len .}}{{end}}{{range index .a "b" "c"}}{{end}}', []),
+    ("the last key may be missing", of({"a": of({"b": TEXT}, [])}), '{{with index . "a" "b"}}{{len .}}{{end}}', []),
+    ("index by a key of the data", of({"a": {"type": "object", "additionalProperties": WHOLE}, "k": TEXT}), "{{print (index .a .k)}}{{.k | index .a}}", []),
+    ("index by the key of a range", of({"a": {"type": "object", "additionalProperties": ITEMS}}), "{{range $k, $e := .a}}{{range index $.a $k}}{{len .}}{{end}}{{end}}", []),
+    ("index without keys", of({"a": TEXT}), "{{len (index .a)}}", []),
+    ("printf of texts", of({"a": TEXT}), r'{{printf "%s|%q|%x|%X|%v" .a .a .a .a .a}}', []),
+    ("printf of numbers", of({"a": WHOLE}), r'{{printf "%d|%o|%b|%x|%X|%c|%v" .a .a .a .a .a .a .a}}', []),
+    ("printf of truth values", of({"a": {"type": "boolean"}}), r'{{printf "%t|%v|%-6t|%6v" .a .a .a .a}}', []),
+    ("printf with flags and widths", of({"a": WHOLE, "b": TEXT}), r'{{printf "%5d|%-5d|%05d|%+d|% d|%+08x|%5c" .a .a .a .a .a .a .a}}{{printf "%9s|%-9s|%.3s|%8.2s|%-8q|%.s" .b .b .b .b .b .b}}', []),
+    ("printf of any value", of({"a": True, "b": ITEMS, "c": {"type": "object"}}), '{{printf "%v %v %v" .a .b .c}}', []),
+    ("printf of null", of({"a": {"type": ["null", "string"]}}), '{{printf "%v|%9v" .a .a}}', []),
+    ("printf of what may be absent", of({"a": TEXT}, []), '{{printf "%v" .a}}', DEFAULT),
+    ("printf of a number or a text", of({"a": {"type": ["integer", "string"]}}), '{{printf "%x %v" .a .a}}', []),
+    ("printf of two of two kinds", of({"a": {"type": ["integer", "string"]}, "b": {"type": ["string", "boolean"]}}), '{{printf "%X|%v|%d" .a .b 3}}', []),
+    ("printf without arguments", of({}), '{{printf "100%%"}}{{printf ""}}', []),
+    ("printf of what is piped", of({"a": TEXT, "b": WHOLE}), '{{.b | printf "%s: %d" .a}}{{.a | printf "%q"}}', []),
+    ("what printf gives is a text", of({"a": WHOLE}), '{{len (printf "%d" .a)}}{{lt (printf "%d" .a) "x"}}', []),
+    ("printf of a recursive definition", {"$ref": "#/$defs/node", **NODE}, '{{printf "%v" .}}{{range .kids}}{{printf "%s%v" .name .}}{{end}}', []),
 ]
 
+INDEX, PRINTF = (f'1:1: error: may fail: "{name}" may get what it refuses' for name in ("index", "printf"))
 REFUSED = [
     ("optional field", of({"a": TEXT}, []), "x\n {{.a}}", [], "2:2: error: may fail: .a may be absent: the schema does not require it"),
     ("optional field by with", of({"a": TEXT}, []), "{{with .a}}{{.}}{{end}}", [], "1:1: error: may fail: .a may be absent: the schema does not require it"),
@@ -59,9 +78,69 @@ REFUSED = [
     ("no type", of({"a": {"required": ["b"]}}), "{{.a.b}}", [], "1:1: error: may fail: .b of null, which may come here and has no fields"),
     ("alternative without the field", of({"a": {"anyOf": [of({"b": TEXT}), of({"c": TEXT})]}}), "{{.a.b}}", [], "1:1: error: may fail: .b may be absent: the schema does not require it"),
     ("a template that is not there", of({"a": TEXT}), '{{template "stop"}}', ["--stop", "other"], '1:1: error: may fail: there is no template "stop"'),
-    ("index by a number", of({"a": ITEMS}), "{{index .a 0}}", [], '1:1: error: may fail: "index" is not followed by this check'),
-    ("index of null", of({"a": {"type": ["object", "null"]}}), '{{index .a "b"}}', [], '1:1: error: may fail: "index" may get what it refuses'),
-    ("printf", of({"a": TEXT}), '{{printf "%s" .a}}', [], '1:1: error: may fail: "printf" is not followed by this check'),
+    ("index by a number", of({"a": ITEMS}), "{{index .a 0}}", [], INDEX),
+    ("index of a list by a text", of({"a": ITEMS}), '{{index .a "0"}}', [], INDEX),
+    ("index of a map by a number", of({"a": of({"b": TEXT})}), "{{index .a 0}}", [], INDEX),
+    ("index of null", of({"a": {"type": ["object", "null"]}}), '{{index .a "b"}}', [], INDEX),
+    ("index into what may be missing", of({"a": of({"b": TEXT})}, []), '{{index . "a" "b"}}', [], INDEX),
+    ("index into what an entry may not be", of({"a": {"type": "object", "additionalProperties": of({"b": TEXT})}}), '{{index .a "x" "b"}}', [], INDEX),
+    ("index by a key that may be null", of({"a": {"type": "object"}, "k": {"type": ["string", "null"]}}), "{{print (index .a .k)}}", [], INDEX),
+    ("an entry of a key of the data may be null", of({"a": {"type": "object", "additionalProperties": WHOLE}, "k": TEXT}), "{{lt (index .a .k) 3}}", [], '1:1: error: may fail: "lt" may get what it refuses'),
+    ("each entry counts for a key of the data", of({"a": of({"b": WHOLE, "c": TEXT}), "k": TEXT}), "{{if index .a .k}}{{end}}{{with index .a .k}}{{len .}}{{end}}", [], '1:46: error: may fail: "len" may get what it refuses'),
+    ("index without keys of what may be null", of({"a": {"type": ["string", "null"]}}), "{{index .a}}", [], INDEX),
+    ("printf %d of a text", of({"a": TEXT}), '{{printf "%d" .a}}', [], PRINTF),
+    ("printf %o of a text", of({"a": TEXT}), '{{printf "%o" .a}}', [], PRINTF),
+    ("printf %b of a text", of({"a": TEXT}), '{{printf "%b" .a}}', [], PRINTF),
+    ("printf %c of a text", of({"a": TEXT}), '{{printf "%c" .a}}', [], PRINTF),
+    ("printf %t of a text", of({"a": TEXT}), '{{printf "%t" .a}}', [], PRINTF),
+    ("printf %s of a number", of({"a": WHOLE}), '{{printf "%s" .a}}', [], PRINTF),
+    ("printf %q of a number", of({"a": WHOLE}), '{{printf "%q" .a}}', [], PRINTF),
+    ("printf %t of a number", of({"a": WHOLE}), '{{printf "%t" .a}}', [], PRINTF),
+    ("printf %s of a truth value", of({"a": {"type": "boolean"}}), '{{printf "%s" .a}}', [], PRINTF),
+    ("printf %d of a truth value", of({"a": {"type": "boolean"}}), '{{printf "%d" .a}}', [], PRINTF),
+    ("printf %x of a truth value", of({"a": {"type": "boolean"}}), '{{printf "%x" .a}}', [], PRINTF),
+    ("printf %s of a list", of({"a": ITEMS}), '{{printf "%s" .a}}', [], PRINTF),
+    ("printf %x of a list", of({"a": ITEMS}), '{{printf "%x" .a}}', [], PRINTF),
+    ("printf %d of a map", of({"a": {"type": "object"}}), '{{printf "%d" .a}}', [], PRINTF),
+    ("printf %s of null", of({"a": {"type": ["string", "null"]}}), '{{printf "%s" .a}}', [], PRINTF),
+    ("printf %d of a number or a text", of({"a": {"type": ["string", "integer"]}}), '{{printf "%d" .a}}', [], PRINTF),
+    ("printf %s of any value", of({"a": True}), '{{printf "%s" .a}}', [], PRINTF),
+    ("printf with a width of a list", of({"a": ITEMS}), '{{printf "%5v" .a}}', [], PRINTF),
+    ("printf with - of a list", of({"a": ITEMS}), '{{printf "%-v" .a}}', [], PRINTF),
+    ("printf with a width of a map", of({"a": {"type": "object"}}), '{{printf "%9v" .a}}', [], PRINTF),
+    ("printf with a width of any value", of({"a": True}), '{{printf "%9v" .a}}', [], PRINTF),
+    ("printf with + of a text", of({"a": TEXT}), '{{printf "%+s" .a}}', [], PRINTF),
+    ("printf with 0 of a text", of({"a": TEXT}), '{{printf "%09s" .a}}', [], PRINTF),
+    ("printf with a space of a text", of({"a": TEXT}), '{{printf "% x" .a}}', [], PRINTF),
+    ("printf with + of a truth value", of({"a": {"type": "boolean"}}), '{{printf "%+v" .a}}', [], PRINTF),
+    ("printf with + of a code", of({"a": WHOLE}), '{{printf "%+c" .a}}', [], PRINTF),
+    ("printf with a precision of a number", of({"a": WHOLE}), '{{printf "%.2d" .a}}', [], PRINTF),
+    ("printf with a precision of a quote", of({"a": TEXT}), '{{printf "%.2q" .a}}', [], PRINTF),
+    ("printf with a width of five digits", of({"a": WHOLE}), '{{printf "%12345d" .a}}', [], PRINTF),
+    ("printf without such a verb", of({"a": TEXT}), '{{printf "%z" .a}}', [], PRINTF),
+    ("printf with a % at its end", of({"a": WHOLE}), '{{printf "%d%" .a}}', [], PRINTF),
+    ("printf with too few arguments", of({"a": WHOLE}), '{{printf "%d%d" .a}}', [], PRINTF),
+    ("printf with too many arguments", of({"a": WHOLE}), '{{printf "%%" .a}}', [], PRINTF),
+    ("printf of what may be absent", of({"a": TEXT}, []), '{{printf "%s" .a}}', DEFAULT, PRINTF),
+    ("printf of what is piped in the wrong place", of({"a": TEXT, "b": WHOLE}), '{{.b | printf "%d: %s" .a}}', [], PRINTF),
+    ("printf of a second argument of two kinds", of({"a": TEXT, "b": {"type": ["string", "boolean"]}}), '{{printf "%s%s" .a .b}}', [], PRINTF),
+    ("printf of an item of two kinds", of({"a": {"type": "array", "items": {"type": ["string", "array"]}}}), '{{range .a}}{{printf "%s" .}}{{end}}', [], '1:13: error: may fail: "printf" may get what it refuses'),
+    ("printf by a format of the data", of({"a": TEXT}), "{{printf .a}}", [], '1:1: error: may fail: "printf" is not followed by this check'),
+    ("slice", of({"a": TEXT}), "{{slice .a 1}}", [], '1:1: error: may fail: "slice" is not followed by this check'),
+]
+
+# .. and where more than one line is said: each place, once, and nothing that only follows of another
+ABSENT = "%s: error: may fail: .%s may be absent: the schema does not require it"
+SEVERAL = [
+    ("each action", of({"a": TEXT}, []), "{{.a}}\n{{.b}}\n{{len .c}}", [], [ABSENT % ("1:1", "a"), ABSENT % ("2:1", "b"), ABSENT % ("3:1", "c")]),
+    ("both parts of a condition", of({"a": {"type": "boolean"}}), "{{if .a}}{{.x}}\n{{else}}{{.y}}{{end}}", [], [ABSENT % ("1:10", "x"), ABSENT % ("2:9", "y")]),
+    ("in a range and after it", of({"a": {"type": "array", "items": of({})}}), "{{range .a}}{{.x}}{{end}}\n{{.y}}", [], [ABSENT % ("1:13", "x"), ABSENT % ("2:1", "y")]),
+    ("a header and its body", of({"a": {"type": "object"}}), "{{if .x}}\n{{len .a.y}}{{end}}", [], [ABSENT % ("1:1", "x"), ABSENT % ("2:1", "y")]),
+    ("nothing follows", of({}), "{{$x := .a}}{{$x.b}}{{range $x}}{{.c}}{{end}}{{with .d}}{{.e}}{{end}}{{len $x}}", [], [ABSENT % ("1:1", "a"), ABSENT % ("1:46", "d")]),
+    ("in a template that is called twice", of({}), '{{define "w"}}{{.x}}{{end}}{{.y}}{{template "w" .}}\n{{template "w" .}}', [], [ABSENT % ("1:28", "y"), ABSENT % ("1:15", "x")]),
+    ("in a template that calls itself", of({"a": TEXT}), '{{define "w"}}{{.a}}{{.x}}{{template "w" .}}{{end}}{{template "w" .}}', [], [ABSENT % ("1:21", "x")]),
+    ("templates that are not there", of({}), 'x\n{{template "one"}}\n{{if true}}{{template "two"}}{{end}}', ["--stop", "three"],
+     ['2:1: error: may fail: there is no template "one"', '3:12: error: may fail: there is no template "two"']),
 ]
 
 # a schema that is not read, by its text; before what in it the place is, or none for its beginning; and what is said
@@ -108,6 +187,63 @@ EXAMPLES = [
     ("service", of({"description": TEXT, "after": TEXT, "user": TEXT, "restart": {"enum": ["no", "on-failure", "always"]},
                     "paths": of({"home": TEXT, "program": TEXT}), "listen": of({"address": TEXT, "port": WHOLE})}), None),
     ("library", of({"app": TEXT, "version": TEXT, "registry": TEXT, "ports": {"type": "array", "items": of({"name": TEXT, "port": WHOLE, "protocol": TEXT}, ["name", "port"])}},
-                   ["app", "version", "ports"]), '"printf" is not followed by this check'),
-    ("tree", PERSON, '"printf" is not followed by this check'),
+                   ["app", "version", "ports"]), None),
+    ("tree", PERSON, None),
+    ("nginx", of({"port": WHOLE, "hosts": ITEMS, "proxies": {"type": "object", "additionalProperties": of({"host": TEXT, "port": WHOLE})}, "root": TEXT}, ["hosts", "proxies"]), None),
+    ("proxy", of({"sites": {"type": "object", "additionalProperties": of({
+        "hosts": ITEMS, "port": WHOLE, "root": TEXT, "tls": of({"certificate": TEXT, "key": TEXT}),
+        "backends": {"type": "array", "items": of({"host": TEXT, "port": WHOLE, "weight": WHOLE})}}, ["hosts"])}}), None),
+    ("printed", of({"name": TEXT, "paid": {"type": "boolean"}, "days": WHOLE}), None),
+]
+
+# the templates of docs/COOKBOOK.md, by the name under which each is saved or as they stand there, with a schema each, the files of quotes
+# that are read too, and more words; and what is said where one is refused. Without the files of quotes their templates are stops
+MAP_OF_TEXTS = {"type": "object", "additionalProperties": TEXT}
+SITE = of({"port": WHOLE, "hosts": ITEMS, "root": TEXT}, ["hosts", "root"])
+SERVICE = of({"image": TEXT, "ports": ITEMS}, ["image"])
+DEPLOYMENT = of({"app": TEXT, "image": TEXT, "version": TEXT, "replicas": WHOLE, "environment": MAP_OF_TEXTS}, ["app", "image", "version"])
+COOKBOOK = [
+    ("deployment.tmpl", DEPLOYMENT, ["quotes.tmpl"], [], None),
+    ("deployment.tmpl", {**DEPLOYMENT, "properties": {**DEPLOYMENT["properties"], "version": {"type": ["string", "integer"]}, "app": WHOLE}}, ["quotes.tmpl"], [],
+     '"printf" may get what it refuses'),
+    ("configmap.tmpl", of({"name": TEXT, "files": MAP_OF_TEXTS}), ["quotes.tmpl"], [], None),
+    ("nginx.tmpl", of({"pid": TEXT, "sites": {"type": "array", "items": SITE}}), [], ["--stop", "nginx"], None),
+    ("nginx.tmpl", of({"pid": TEXT, "sites": {"type": "array", "items": SITE}}), ["quotes.tmpl"], [], '"index" may get what it refuses'),
+    ("app.tmpl", of({"description": TEXT, "greeting": TEXT, "title": TEXT}), [], ["--stop", "replace", "--stop", "systemd", "--stop", "systemd command"], None),
+    ("compose.tmpl", of({"services": {"type": "object", "additionalProperties": SERVICE}}), ["quotes.tmpl"], ["--stop", "to json"], None),
+    ("{{range .hosts}}{{.}}; {{end}}", of({"hosts": ITEMS}), [], [], None),
+    ("Hello, {{.GREETED}}!", of({"GREETED": TEXT}), [], [], None),
+    ("Hello, {{.GREETED}}!", of({"GREETED": TEXT}, []), [], [], ".GREETED may be absent: the schema does not require it"),
+    ("{{.port}} {{.tls.on}} {{.tls.versions}}", of({"port": WHOLE, "tls": of({"on": {"type": "boolean"}, "versions": ITEMS})}), [], [], None),
+    ("listen {{.port}};", of({"port": WHOLE}), [], [], None),
+    ('{{if gt .port 65535}}{{template "a port is at most 65535"}}{{end}}port {{.port}}', of({"port": WHOLE}), [], ["--stop", "a port is at most 65535"], None),
+    ('{{if gt .port 65535}}{{template "a port is at most 65535"}}{{end}}port {{.port}}', of({"port": WHOLE}), [], [], 'there is no template "a port is at most 65535"'),
+    ('{{index . "my-key" "0"}}', of({"my-key": of({"0": TEXT})}), [], [], None),
+    ('{{range .rows}}{{.count}} at {{printf "%6s" .price}}; {{end}}', of({"rows": {"type": "array", "items": of({"price": TEXT, "count": WHOLE})}, "limit": TEXT}), [], [], None),
+    ('{{range .rows}}{{.count}} at {{printf "%6s" .price}}; {{end}}', of({"rows": {"type": "array", "items": of({"price": {"type": ["string", "integer"]}, "count": WHOLE})}}), [], [],
+     '"printf" may get what it refuses'),
+    ("<h1>{{html .title}}</h1>", of({"title": TEXT}), [], [], None),
+]
+
+# schemas that are as large as may be, or lead to much work, with a template each, more words, and what is said; each is checked within SECONDS of a processor
+SECONDS = 10
+MANY = [f"name{number}" for number in range(9_900)]
+WIDE = {"type": "object", "properties": {name: TEXT for name in MANY[:3_200]}, "required": MANY[:3_200], "additionalProperties": False}
+ASKS = "".join("{{if .%s}}{{len .%s}}{{else}}{{range .%s}}{{end}}{{end}}" % (name, name, name) for name in ("x", "y", "z"))
+LISTS = of({"x": ITEMS, "y": ITEMS, "z": ITEMS})
+DOUBLED = {**{f"d{number}": {"anyOf": [{"$ref": f"#/$defs/d{number + 1}"}] * 2} for number in range(900)}, "d900": LISTS}
+HOSTILE = [
+    ("9,900 names in one required", {"type": "object", "required": MANY, "properties": {"x": ITEMS, "y": ITEMS, "z": ITEMS}}, ASKS, DEFAULT, None),
+    ("3,200 properties", {**WIDE, "properties": {**WIDE["properties"], **LISTS["properties"]}, "required": [*WIDE["required"], "x", "y", "z"]}, ASKS, [], None),
+    ("1,200 properties in two orders", {"anyOf": [{**WIDE, "properties": {**{name: TEXT for name in names}, **LISTS["properties"]}, "required": [*names[:600], "x", "y", "z"]}
+                                                  for names in (MANY[:1_200], MANY[1_199::-1])]}, ASKS, [], None),
+    ("1,000 maps in a map, each of its own form", of({name: of({name: TEXT}) for name in MANY[:1_000]}), "{{range .}}{{if .}}x{{end}}{{end}}", [], None),
+    ("1,100 alternatives", {"anyOf": [of({name: TEXT}) for name in MANY[:1_100]]}, "{{if .}}{{print .}}{{end}}", [], "what the variables hold after it is not followed"),
+    ("names that each stand for two others", {"$ref": "#/$defs/d0", "$defs": DOUBLED}, ASKS, [], "more than 1000 alternatives of one definition"),
+    ("names beside a large rest", {"type": "object", "required": MANY[:4_900], "additionalProperties": of({name: TEXT for name in MANY[:1_600]})}, "{{if .name7}}x{{end}}", [], "more than 10000 values"),
+    ("a name and the next in a circle", {"$ref": "#/$defs/d0", "$defs": {f"d{number}": of({"next": {"$ref": f"#/$defs/d{(number + 1) % 900}"}}) for number in range(900)}},
+     '{{define "w"}}{{with .next}}{{template "w" .}}{{end}}{{end}}{{template "w" .}}', [], None),
+    ("1,000 templates that call one another", of({"x": TEXT}), "".join('{{define "t%d"}}{{.x}}{{template "t%d" .}}{{end}}' % (number, number + 1) for number in range(1_000))
+     + '{{define "t1000"}}{{len .x}}{{end}}{{template "t0" .}}', [], None),
+    ("5,000 lines", of({"x": ITEMS, "y": ITEMS, "z": ITEMS}), "{{range .x}}{{len .}}{{end}}{{if .y}}{{len .z}}{{end}}\n" * 5_000, [], None),
 ]

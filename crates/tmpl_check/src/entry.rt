@@ -31,6 +31,15 @@ pub(crate) struct Entry<'a> {
     pub(crate) text: String,
 }
 
+impl Entry<'_> {
+    /// Whether the other says the same of the same place.
+    pub(crate) fn is_same(&self, other: &Entry<'_>) -> bool {
+        self.file == other.file
+            && (self.line == other.line && self.column == other.column)
+            && self.text.as_str() == other.text.as_str()
+    }
+}
+
 /// Why the command ends before all is told.
 #[derive(Clone, Copy, Debug)]
 pub(crate) enum Stop {

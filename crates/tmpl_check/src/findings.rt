@@ -32,6 +32,14 @@ impl<'a> Findings<'a> {
         self.entries.iter().any(|entry| entry.level == Level::Error)
     }
 
+    /// Adds what is found, unless the same was found before.
+    pub(crate) fn add_once(&mut self, entry: Entry<'a>) -> Result<(), AllocError> {
+        if !self.entries.iter().any(|other| other.is_same(&entry)) {
+            self.entries.push(entry)?;
+        }
+        Ok(())
+    }
+
     /// Adds what is wrong in a file.
     fn add_problems(
         &mut self,

@@ -42,10 +42,10 @@ pub(crate) fn add_schema<'a>(
                 .push(schema_entry(alloc, schema, &refused)?)?;
             Ok(())
         }
-        Err(CheckFault::Template(Refusal::MayFail(doubt))) => {
-            findings
-                .entries
-                .push(doubt_entry(alloc, set, *first, loaded, &doubt)?)?;
+        Err(CheckFault::Template(Refusal::MayFail(doubts))) => {
+            for doubt in doubts.as_slice() {
+                findings.add_once(doubt_entry(alloc, set, *first, loaded, doubt)?)?;
+            }
             Ok(())
         }
         Err(CheckFault::Schema(SchemaFault::OutOfMemory)) => Err(AllocError),

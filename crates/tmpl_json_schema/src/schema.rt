@@ -21,8 +21,11 @@ use tmpl_values::Bytes;
 /// How many levels of a document are read: more than JSON may have.
 const LEVELS: usize = 200;
 
-/// The most values that a document may have, each item and member counted.
+/// The most values that a document may have, each item and member counted, and those that are read more than once as often.
 const MOST_VALUES: usize = 10_000;
+
+/// The most alternatives that a definition may come to, those of each reference among them counted.
+const MOST_ALTERNATIVES: usize = 1_000;
 
 impl From<Error> for SchemaFault {
     fn from(error: Error) -> SchemaFault {
@@ -34,7 +37,26 @@ impl From<Error> for SchemaFault {
     }
 }
 
-/// How many values there are, as far as they are counted.
+/// How many names a schema requires that are no properties: each has the shape of the other properties.
+fn unlisted_count(schema: &Value) -> usize {
+    let Some(Value::Array(names)) = schema.get("required") else {
+        return 0;
+    };
+    let mut count: usize = 0;
+    for name in names {
+        let is_property = match (name, schema.get("properties")) {
+            (Value::String(name), Some(properties)) => properties.get(name.as_str()).is_some(),
+            _ => false,
+        };
+        if !is_property {
+            count = count.saturating_add(1);
+        }
+    }
+    count
+}
+
+/// How many values there are, as far as they are counted; the schema of other properties counts once more for each name
+/// that is required and no property.
 fn count_values(value: &Value, counted: usize) -> usize {
     let mut count = counted.saturating_add(1);
     match value {
@@ -46,11 +68,17 @@ fn count_values(value: &Value, counted: usize) -> usize {
             }
         }
         Value::Object(members) => {
-            for (_, member) in members.iter() {
+            let mut rest: usize = 0;
+            for (key, member) in members.iter() {
                 if count <= MOST_VALUES {
+                    let before = count;
                     count = count_values(member, count);
+                    if key.as_str() == "additionalProperties" {
+                        rest = count.saturating_sub(before);
+                    }
                 }
             }
+            count = count.saturating_add(rest.saturating_mul(unlisted_count(value)));
         }
         Value::Null | Value::Bool(_) | Value::Number(_) | Value::String(_) => {}
     }
@@ -175,45 +203,84 @@ fn place_of(definitions: &[Definition], name: &[u8]) -> Option<usize> {
     None
 }
 
-/// Adds the names that are alternatives of a shape.
-fn add_alternatives<'s>(shape: &'s Shape, reached: &mut Vec<&'s [u8]>) -> Result<(), AllocError> {
+/// Adds the places of the definitions that a shape leads to through alternatives and references alone, each as many
+/// times as it does, and gives how many other alternatives it has.
+fn add_alternatives(
+    definitions: &[Definition],
+    shape: &Shape,
+    places: &mut Vec<usize>,
+) -> Result<usize, AllocError> {
     match shape {
         Shape::Either(one, other) => {
-            add_alternatives(one, reached)?;
-            add_alternatives(other, reached)
+            let count = add_alternatives(definitions, one, places)?;
+            Ok(count.saturating_add(add_alternatives(definitions, other, places)?))
         }
         Shape::Named(name) => {
-            let name = name.as_slice();
-            if !reached.as_slice().contains(&name) {
-                reached.push(name)?;
+            if let Some(place) = place_of(definitions, name.as_slice()) {
+                places.push(place)?;
             }
-            Ok(())
+            Ok(0)
         }
         Shape::Never
         | Shape::Nothings
         | Shape::Nulls
         | Shape::Truths
         | Shape::Numbers
-        | Shape::Texts => Ok(()),
-        Shape::Anything | Shape::List(_) | Shape::Record(_) => Ok(()),
+        | Shape::Texts => Ok(1),
+        Shape::Anything | Shape::List(_) | Shape::Record(_) => Ok(1),
     }
 }
 
-/// The places of the definitions that a shape leads to through alternatives and references alone.
-fn places_in(
+/// What a definition leads to through alternatives and references alone.
+#[derive(Drop)]
+struct Alternatives {
+    /// How many there are that are no references.
+    plain: usize,
+    /// The places of the definitions that references lead to.
+    places: Vec<usize>,
+}
+
+/// What each definition leads to.
+fn alternatives_of(
     alloc: Global,
     definitions: &[Definition],
-    shape: &Shape,
-) -> Result<Vec<usize>, AllocError> {
-    let mut names: Vec<&[u8]> = Vec::new(alloc);
-    add_alternatives(shape, &mut names)?;
-    let mut places = Vec::new(alloc);
-    for name in names.as_slice() {
-        if let Some(place) = place_of(definitions, *name) {
-            places.push(place)?;
-        }
+) -> Result<Vec<Alternatives>, AllocError> {
+    let mut all = Vec::new(alloc);
+    for definition in definitions {
+        let mut places = Vec::new(alloc);
+        let plain = add_alternatives(definitions, &definition.shape, &mut places)?;
+        all.push(Alternatives { plain, places })?;
     }
-    Ok(places)
+    Ok(all)
+}
+
+/// How many alternatives these come to, by what is known of each definition, and one more than is allowed where they are
+/// too many.
+fn count_of(alternatives: &Alternatives, counts: &[usize]) -> usize {
+    let mut count = alternatives.plain;
+    for place in alternatives.places.as_slice() {
+        count = count.saturating_add(counts.get(*place).copied().unwrap_or(0));
+    }
+    count.min(MOST_ALTERNATIVES + 1)
+}
+
+/// Whether some definition comes to too many alternatives, where none leads back to itself.
+fn has_too_many(alloc: Global, all: &[Alternatives]) -> Result<bool, AllocError> {
+    let mut counts: Vec<usize> = Vec::new(alloc);
+    for alternatives in all {
+        counts.push(alternatives.plain)?;
+    }
+    for _ in all {
+        let mut more: Vec<usize> = Vec::new(alloc);
+        for alternatives in all {
+            more.push(count_of(alternatives, counts.as_slice()))?;
+        }
+        if more.as_slice() == counts.as_slice() {
+            break;
+        }
+        counts = more;
+    }
+    Ok(counts.iter().any(|count| *count > MOST_ALTERNATIVES))
 }
 
 /// Adds the places that were not seen before.
@@ -234,21 +301,21 @@ fn add_places(
 }
 
 /// Whether the definition of this place leads back to itself, where each leads to these places.
-fn leads_back(alloc: Global, next: &[Vec<usize>], start: usize) -> Result<bool, AllocError> {
+fn leads_back(alloc: Global, next: &[Alternatives], start: usize) -> Result<bool, AllocError> {
     let mut seen: Vec<bool> = Vec::new(alloc);
     for _ in next {
         seen.push(false)?;
     }
     let mut reached: Vec<usize> = Vec::new(alloc);
     if let Some(found) = next.get(start) {
-        add_places(found.as_slice(), &mut seen, &mut reached)?;
+        add_places(found.places.as_slice(), &mut seen, &mut reached)?;
     }
     for index in 0..=next.len() {
         match reached.get(index).copied() {
             Some(place) if place == start => return Ok(true),
             Some(place) => {
                 if let Some(found) = next.get(place) {
-                    add_places(found.as_slice(), &mut seen, &mut reached)?;
+                    add_places(found.places.as_slice(), &mut seen, &mut reached)?;
                 }
             }
             None => return Ok(false),
@@ -257,12 +324,9 @@ fn leads_back(alloc: Global, next: &[Vec<usize>], start: usize) -> Result<bool, 
     Ok(false)
 }
 
-/// Refuses definitions that lead back to themselves through alternatives and references alone.
+/// Refuses definitions that lead back to themselves through alternatives and references alone, or come to too many.
 fn check_definitions(alloc: Global, definitions: &[Definition]) -> Result<(), SchemaFault> {
-    let mut next = Vec::new(alloc);
-    for definition in definitions {
-        next.push(places_in(alloc, definitions, &definition.shape)?)?;
-    }
+    let next = alternatives_of(alloc, definitions)?;
     for (place, definition) in definitions.iter().enumerate() {
         if leads_back(alloc, next.as_slice(), place)? {
             return Err(match from_utf8(definition.name.as_slice()) {
@@ -270,6 +334,9 @@ fn check_definitions(alloc: Global, definitions: &[Definition]) -> Result<(), Sc
                 Err(_) => refusal(alloc, "a definition stands for itself"),
             });
         }
+    }
+    if has_too_many(alloc, next.as_slice())? {
+        return Err(refusal(alloc, "more than 1000 alternatives of one definition"));
     }
     Ok(())
 }

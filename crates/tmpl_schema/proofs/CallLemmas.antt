@@ -1,7 +1,6 @@
 -- For the law `runs_safely`: calls have the shapes that are computed.
-use Rattle.std.proofs.Common.{◌≡◌, ◌⊎◌, ℕ, zero, suc, pos, Bool, true, false, not, List, [], ◌∷◌, Option, Some, None, Result, inl, inr, refl, if◌then◌else◌, option_map, option_and_then, ok_or}
+use Rattle.std.proofs.Common.{◌≡◌, ◌∙◌, ◌⊎◌, ◌||◌, ℕ, pos, Bool, true, false, not, List, [], ◌∷◌, Option, Some, None, Result, inl, inr, refl, sym, subst, if◌then◌else◌, option_map, option_and_then, ok_or}
 use Rattle.std.proofs.lemmas.Bool.{false≢true, and_parts}
-use Rattle.std.specs.Option.{option_map_or}
 use Rattle.std.specs.Result.{result_map_both}
 use Rattle.tmpl_values.specs.Value.{Value, nothing, null, boolean, number, string, sequence, mapping}
 use Rattle.tmpl_values.specs.Compare.{equality, order}
@@ -14,12 +13,15 @@ use Rattle.tmpl_funcs.specs.declared.fault.CallFault.{CallFault}
 use Rattle.tmpl_funcs.specs.declared.fault.CallFault.TheVariants.{WrongKind, NotComparable}
 use Rattle.tmpl_meaning.specs.Fault.{Cause, call_failed}
 use Rattle.tmpl_meaning.specs.Pipeline.{applied}
-use Rattle.tmpl_schema.specs.Shape.{Shape, never, truths, numbers, texts, list_of, record_of, either, named, HasShape, Names}
+use Rattle.tmpl_schema.specs.Shape.{Shape, truths, numbers, texts, either, HasShape, Names}
 use Rattle.tmpl_schema.specs.computed.Means.{Means}
-use Rattle.tmpl_schema.specs.computed.Shapes.{Base, within, is_sized, is_sized_by}
+use Rattle.tmpl_schema.specs.declared.kind.Kind.{Kind}
+use Rattle.tmpl_schema.specs.declared.kind.Kind.TheVariants.{Blank, Truth, Number}
+use Rattle.tmpl_schema.specs.computed.Shapes.{Base, has_kind, within, is_sized}
 use Rattle.tmpl_schema.specs.computed.Calls.{one_shape, two_shapes, blank, both_of, comparable, comparable_to_all, ordered}
 use Rattle.tmpl_schema.specs.computed.Calls.{truths_if, numbers_if, equal_shape, call_shape}
 use Rattle.tmpl_schema.proofs.ShapeLemmas.{or_cases, within-has}
+use Rattle.tmpl_schema.proofs.KindLemmas.{kind_of, has_kind-has}
 use Rattle.tmpl_schema.proofs.FieldLemmas.{Gives}
 
 module _ (base : Base) (N : Names) (means : Means base.defs N) where
@@ -199,29 +201,32 @@ module _ (base : Base) (N : Names) (means : Means base.defs N) where
   IsSized None = ⊥
   IsSized (Some n) = Unit {0}
 
-  sized : (i : ℕ) (s : Shape) (v : Value) → HasShape N s v → is_sized_by base i s ≡ true → IsSized (size_of v)
-  sized zero s v h e = absurd (false≢true e)
-  sized (suc i) never v h e = absurd h
-  sized (suc i) texts (string t) h e = tt
-  sized (suc i) texts _ h e = absurd h
-  sized (suc i) (list_of s) (sequence vs) h e = tt
-  sized (suc i) (list_of s) _ h e = absurd h
-  sized (suc i) (record_of fs) (mapping es) h e = tt
-  sized (suc i) (record_of fs) _ h e = absurd h
-  sized (suc i) (either s t) v h e =
-      let p = and_parts (is_sized_by base i s) (is_sized_by base i t) e in elim h [ inl x ↦ sized i s v x p.0 | inr x ↦ sized i t v x p.1 ]
-  sized (suc i) (named y) v h e = by (base.defs y) refl e (λ s. sized i s v)
+  none_of : (a b c : Bool) → not (a || (b || c)) ≡ true → (a ≡ false) × (b ≡ false) × (c ≡ false)
+  none_of true b c e = absurd (false≢true e)
+  none_of false true c e = absurd (false≢true e)
+  none_of false false true e = absurd (false≢true e)
+  none_of false false false e = (refl, refl, refl)
+
+  -- a value of a kind that its shape has not
+  no-kind : (k : Kind) (s : Shape) (v : Value) → kind_of v ≡ k → HasShape N s v → has_kind base k s ≡ false → ⊥
+  no-kind k s v is h e = false≢true (sym e ∙ subst (λ (i : Kind). has_kind base i s ≡ true) is ((has_kind-has base N means) s v h))
+
+  sized : (s : Shape) (v : Value) → HasShape N s v → is_sized base s ≡ true → IsSized (size_of v)
+  sized s v h e = by v h (none_of (has_kind base Blank s) (has_kind base Truth s) (has_kind base Number s) e)
     where
-      by : (o : Option Shape) → base.defs y ≡ o → option_map_or (is_sized_by base i) o false ≡ true
-          → ((s : Shape) → HasShape N s v → is_sized_by base i s ≡ true → IsSized (size_of v)) → IsSized (size_of v)
-      by None is e f = absurd (false≢true e)
-      by (Some s) is e f = f s (means.unfolds y s v is h) e
-  sized (suc i) _ v h e = absurd (false≢true e)
+      by : (w : Value) → HasShape N s w → (has_kind base Blank s ≡ false) × (has_kind base Truth s ≡ false) × (has_kind base Number s ≡ false) → IsSized (size_of w)
+      by nothing h p = absurd (no-kind Blank s nothing refl h p.0)
+      by null h p = absurd (no-kind Blank s null refl h p.0)
+      by (boolean b) h p = absurd (no-kind Truth s (boolean b) refl h p.1)
+      by (number n) h p = absurd (no-kind Number s (number n) refl h p.2)
+      by (string t) h p = tt
+      by (sequence vs) h p = tt
+      by (mapping es) h p = tt
 
   size-gives : (s : Shape) (v : Value) → HasShape N s v → (c : Bool) → is_sized base s ≡ c
       → (Gives base N means) (numbers_if c) (told func.Len (ok_or (option_map (λ n. number (pos n)) (size_of v)) WrongKind))
   size-gives s v h false e = tt
-  size-gives s v h true e = by (size_of v) (sized base.limit s v h e)
+  size-gives s v h true e = by (size_of v) (sized s v h e)
     where
       by : (o : Option ℕ) → IsSized o → (Gives base N means) (Some numbers) (told func.Len (ok_or (option_map (λ n. number (pos n)) o) WrongKind))
       by None h = h

@@ -90,7 +90,7 @@ module _ (base : Base) (N : Names) (means : Means base.defs N) where
       by false is (inr x) r more = more x.1
 
   -- what holds of each entry holds of the one that is found
-  at-entry : (P : List ℕ → Value → Type 0) (n : List ℕ) (w : Value) (es : Entries) → entry_at n es ≡ Some w → EachEntry P es → P n w
+  pub at-entry : (P : List ℕ → Value → Type 0) (n : List ℕ) (w : Value) (es : Entries) → entry_at n es ≡ Some w → EachEntry P es → P n w
   at-entry P n w no_entry e h = cc
   at-entry P n w (entry k v es) e h = by (bytes_eq k n) refl e (at-entry P n w es)
     where
@@ -323,7 +323,7 @@ module _ (base : Base) (N : Names) (means : Means base.defs N) where
   list-visits s no_item i h = tt
   list-visits s (item v vs) i h = ((tt, h.0), list-visits s vs (i + 1) h.1)
 
-  any-has : (fs : Fields) (k : List ℕ) (v : Value) → IsField N fs k v → HasShape N (any_field base fs) v
+  pub any-has : (fs : Fields) (k : List ℕ) (v : Value) → IsField N fs k v → HasShape N (any_field base fs) v
   any-has no_field k v h = h
   any-has (others s) k v h = h
   any-has (field n required s fs) k v h =

@@ -1,4 +1,6 @@
+pub mod KindLemmas
 pub mod ShapeLemmas
+pub mod FormatLemmas
 pub mod FieldLemmas
 pub mod VariableLemmas
 pub mod CallLemmas

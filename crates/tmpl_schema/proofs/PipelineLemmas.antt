@@ -11,7 +11,8 @@ use Rattle.tmpl_meaning.specs.declared.missing_key.MissingKey.{MissingKey}
 use Rattle.tmpl_schema.specs.Shape.{Shape}
 use Rattle.tmpl_schema.specs.computed.Shapes.{Base}
 use Rattle.tmpl_schema.specs.computed.Calls.{call_shape}
-use Rattle.tmpl_schema.specs.computed.Check.{State, operand_shape, operand_shapes}
+use Rattle.tmpl_schema.specs.computed.Check.{State, operand_shape, operand_shapes, printed_shape, text_of}
+use Rattle.tmpl_schema.specs.computed.Formats.{printf_shape}
 use Rattle.tmpl_schema.specs.computed.View.{argument_shapes, called_shape}
 
 pub operand_count-of : (os : List held.Operand) → operand_count (operands_in os) ≡ length os
@@ -53,6 +54,17 @@ module _ (base : Base) (m : MissingKey) (k : State) where
       by None e = cc
       by (Some ts) e = let same : ts ++ option_to_list piped ≡ ss = cc in rw same call
 
+  pub printed-by : (o : Operand) (os : Operands) (piped : Option Shape) (format : List ℕ) (ss : List Shape) (s : Shape) → text_of o ≡ Some format
+      → argument_shapes base m k os piped ≡ Some ss → printf_shape base format ss ≡ Some s → printed_shape base m k (operand o os) piped ≡ Some s
+  printed-by o os piped format ss s text is call = rw text (by (operand_shapes base m k os) is)
+    where
+      by : (r : Option (List Shape)) → option_map (λ ts. ts ++ option_to_list piped) r ≡ Some ss
+          → option_and_then (λ ts. printf_shape base format (ts ++ option_to_list piped)) r ≡ Some s
+      by None e = cc
+      by (Some ts) e = let same : ts ++ option_to_list piped ≡ ss = cc in rw same call
+
 pub ruleset more = (more-arguments)
 
 pub ruleset calls = (called-by)
+
+pub ruleset formats = (printed-by)

@@ -14,8 +14,10 @@ use Rattle.tmpl_schema.specs.Shape.{either, named, Names, Fields, no_field, othe
 use Rattle.tmpl_schema.specs.Shape.{EachItem, EachEntry, HasRequired, HasShape, IsField}
 use Rattle.tmpl_schema.specs.computed.Means.{Means}
 use Rattle.tmpl_schema.specs.computed.Shapes.{Base, shape_at, is_required, requires_all, is_listed, others_within}
-use Rattle.tmpl_schema.specs.computed.Shapes.{fields_within, record_within, has_name, plain_within, some_part, within_by}
-use Rattle.tmpl_schema.specs.computed.Shapes.{within, joined, may_be_null, has_null, null_gone_by, null_gone}
+use Rattle.tmpl_schema.specs.computed.Shapes.{fields_along, fields_within, record_within, has_name, plain_within, some_part, within_by}
+use Rattle.tmpl_schema.specs.computed.Shapes.{within, joined, has_kind, null_gone_by, null_gone}
+use Rattle.tmpl_schema.specs.declared.kind.Kind.TheVariants.{Blank}
+use Rattle.tmpl_schema.proofs.KindLemmas.{has_kind-has}
 
 pub or_cases : (a c : Bool) → (a || c) ≡ true → (a ≡ true) ⊎ (c ≡ true)
 or_cases true c e = inl refl
@@ -96,14 +98,51 @@ module _ (N : Names) where
         | inr x ↦ fields_within-has w f all fs gs k v (new ∙ ap (λ (c : Bool). c || is_listed k fs) x.0) p.1 x.1
       ]
 
+  whole : (w : Shape → Shape → Bool) → ((s t : Shape) (v : Value) → w s t ≡ true → HasShape N s v → HasShape N t v)
+      → (fs gs : Fields) → record_within w fs gs ≡ true
+      → ((k : List ℕ) (v : Value) → IsField N fs k v → IsField N gs k v) × ((es : Entries) → HasRequired fs es → HasRequired gs es)
+  whole w f fs gs e =
+      let p = and_parts (fields_within w fs fs gs) (requires_all fs gs) e in
+      (λ k v. fields_within-has w f fs fs gs k v refl p.0, λ es. all-required es fs gs p.1)
+
+  -- the same of the fields at the front, as long as both have the same names
+  along-has : (w : Shape → Shape → Bool) → ((s t : Shape) (v : Value) → w s t ≡ true → HasShape N s v → HasShape N t v)
+      → (fs gs : Fields) → fields_along w fs gs ≡ true
+      → ((k : List ℕ) (v : Value) → IsField N fs k v → IsField N gs k v) × ((es : Entries) → HasRequired fs es → HasRequired gs es)
+  along-has w f (field n r s fs) (field m q t gs) e = by (bytes_eq n m) refl e (along-has w f fs gs)
+    where
+      same : (x : List ℕ) (v : Value) → m ≡ n → (r : Bool) → ((k : List ℕ) (u : Value) → IsField N fs k u → IsField N gs k u)
+          → (w s t ≡ true) → IsField N (field n r s fs) x v → IsField N (field m q t gs) x v
+      same x v is r more y h =
+          elim h [
+            | inl i ↦ inl (subst (λ (j : List ℕ). bytes_eq x j ≡ true) (sym is) i.0, f s t v y i.1)
+            | inr i ↦ inr (subst (λ (j : List ℕ). bytes_eq x j ≡ false) (sym is) i.0, more x v i.1)
+          ]
+
+      there : (es : Entries) → n ≡ m → (q r : Bool) → (not q || r) ≡ true → (r ≡ true → IsSome (entry_at n es)) → q ≡ true → IsSome (entry_at m es)
+      there es is true true y h i = subst (λ (j : List ℕ). IsSome (entry_at j es)) is (h refl)
+      there es is true false y h i = absurd (false≢true y)
+      there es is false r y h i = absurd (false≢true i)
+
+      by : (c : Bool) → bytes_eq n m ≡ c
+          → (if c then (not q || r) && (w s t && fields_along w fs gs) else record_within w (field n r s fs) (field m q t gs)) ≡ true
+          → (fields_along w fs gs ≡ true
+          → ((k : List ℕ) (v : Value) → IsField N fs k v → IsField N gs k v) × ((es : Entries) → HasRequired fs es → HasRequired gs es))
+          → ((k : List ℕ) (v : Value) → IsField N (field n r s fs) k v → IsField N (field m q t gs) k v)
+          × ((es : Entries) → HasRequired (field n r s fs) es → HasRequired (field m q t gs) es)
+      by true is y more =
+          let p = and_parts (not q || r) (w s t && fields_along w fs gs) y in
+          let u = and_parts (w s t) (fields_along w fs gs) p.1 in
+          let a = more u.1 in
+          let e = same_name n m is in
+          (λ k v. same k v (sym e) r a.0 u.0, λ es h. (there es e q r p.0 h.0, a.1 es h.1))
+      by false is y more = whole w f (field n r s fs) (field m q t gs) y
+  along-has w f fs gs e = whole w f fs gs e
+
   record_within-has : (w : Shape → Shape → Bool) → ((s t : Shape) (v : Value) → w s t ≡ true → HasShape N s v → HasShape N t v)
-      → (fs gs : Fields) (es : Entries) → record_within w fs gs ≡ true → HasShape N (record_of fs) (mapping es) → HasShape N (record_of gs) (mapping es)
+      → (fs gs : Fields) (es : Entries) → fields_along w fs gs ≡ true → HasShape N (record_of fs) (mapping es) → HasShape N (record_of gs) (mapping es)
   record_within-has w f fs gs es e h =
-      let p = and_parts (fields_within w fs fs gs) (requires_all fs gs) e in (
-        h.0,
-        entries-has (IsField N fs) (IsField N gs) (λ k v. fields_within-has w f fs fs gs k v refl p.0) es h.1,
-        all-required es fs gs p.1 h.2,
-      )
+      let p = along-has w f fs gs e in (h.0, entries-has (IsField N fs) (IsField N gs) p.0 es h.1, p.1 es h.2)
 
   -- ---- inclusion
 
@@ -201,23 +240,8 @@ module _ (base : Base) (N : Names) (means : Means base.defs N) where
 
   -- ---- null
 
-  no_null : (n : ℕ) (s : Shape) → may_be_null base n s ≡ false → HasShape N s null → ⊥
-  no_null zero s e h = false≢true (sym e)
-  no_null (suc n) nulls e h = false≢true (sym e)
-  no_null (suc n) anything e h = false≢true (sym e)
-  no_null (suc n) (either s t) e h =
-      let p = neither (may_be_null base n s) (may_be_null base n t) e in elim h [ inl x ↦ no_null n s p.0 x | inr x ↦ no_null n t p.1 x ]
-  no_null (suc n) (named x) e h = by (base.defs x) refl e (no_null n)
-    where
-      by : (o : Option Shape) → base.defs x ≡ o → option_map_or (may_be_null base n) o true ≡ false
-          → ((s : Shape) → may_be_null base n s ≡ false → HasShape N s null → ⊥) → ⊥
-      by None is e f = false≢true (sym e)
-      by (Some s) is e f = f s e (means.unfolds x s null is h)
-  no_null (suc n) _ e h = absurd h
-
-  never_null : (s : Shape) → has_null base s ≡ false → HasShape N s null → ⊥
-  unfolding has_null
-  never_null s e h = no_null base.limit s e h
+  never_null : (s : Shape) → has_kind base Blank s ≡ false → HasShape N s null → ⊥
+  never_null s e h = false≢true (sym e ∙ has_kind-has base N means s null h)
 
   null_gone_by-has : (n : ℕ) (s : Shape) (v : Value) → HasShape N s v → HasShape N (null_gone_by base n s) (without_null v)
   null_gone_by-has zero s null h = inr tt
@@ -230,7 +254,7 @@ module _ (base : Base) (N : Names) (means : Means base.defs N) where
         | inl x ↦ joined-left (null_gone_by base n s) (null_gone_by base n t) (without_null v) (null_gone_by-has n s v x)
         | inr x ↦ joined-right (null_gone_by base n s) (null_gone_by base n t) (without_null v) (null_gone_by-has n t v x)
       ]
-  null_gone_by-has (suc n) (named x) v h = by (has_null base (named x)) refl (λ s. null_gone_by-has n s v)
+  null_gone_by-has (suc n) (named x) v h = by (has_kind base Blank (named x)) refl (λ s. null_gone_by-has n s v)
     where
       known : (w : Value) → N x w → HasShape N (either (named x) nothings) (without_null w)
       known null k = inr tt
@@ -241,11 +265,11 @@ module _ (base : Base) (N : Names) (means : Means base.defs N) where
       at None is f = known v h
       at (Some s) is f = f s (means.unfolds x s v is h)
 
-      kept : (w : Value) → has_null base (named x) ≡ false → N x w → N x (without_null w)
+      kept : (w : Value) → has_kind base Blank (named x) ≡ false → N x w → N x (without_null w)
       kept null is k = absurd (never_null (named x) is k)
       kept _ is k = k
 
-      by : (c : Bool) → has_null base (named x) ≡ c
+      by : (c : Bool) → has_kind base Blank (named x) ≡ c
           → ((s : Shape) → HasShape N s v → HasShape N (null_gone_by base n s) (without_null v))
           → HasShape N (if c then option_map_or (null_gone_by base n) (base.defs x) (either (named x) nothings) else named x) (without_null v)
       by true is f = at (base.defs x) refl f

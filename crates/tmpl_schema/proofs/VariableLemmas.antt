@@ -6,26 +6,34 @@ use Rattle.std.proofs.lemmas.Option.{cond_some, option_and_then_some}
 use Rattle.std.specs.Option.{option_map, option_map_or, option_and_then}
 use Rattle.std.specs.List.{find}
 use Rattle.std.specs.Str.{bytes_eq}
-use Rattle.tmpl_values.specs.Value.{Value, nothing, null, boolean, string, mapping}
+use Rattle.tmpl_values.specs.Value.{Value, nothing, null, boolean, string, mapping, Entries}
 use Rattle.tmpl_values.specs.Field.{found, missing, entry_at}
+use Rattle.tmpl_values.specs.Stage.{and_then}
+use Rattle.tmpl_funcs.specs.Index.{indexed, indexed_by}
+use Rattle.tmpl_funcs.specs.declared.fault.CallFault.{CallFault}
+use Rattle.std.specs.Result.{result_map_both}
 use Rattle.tmpl_values.specs.Elements.{Element}
 use Rattle.tmpl_values.specs.Truth.{truth}
 use Rattle.tmpl_grammar.specs.Tree.{Operand, dot, fields, variable, nil, text_constant, function, group, Operands, no_operand, operand, Pipeline, no_command, command}
 use Rattle.tmpl_grammar.specs.Tree.{Binding, unbound, declare, assign, declare_pair}
-use Rattle.tmpl_meaning.specs.Fault.{Cause}
+use Rattle.tmpl_meaning.specs.Fault.{Cause, call_failed}
 use Rattle.tmpl_meaning.specs.Pipeline.{Environment, Given, Place, chain, field_value, lookup, given, given_then, go_on, without_null, operand_value, command_value, commands_value}
 use Rattle.tmpl_meaning.specs.Meaning.{assigned, bound}
 use Rattle.tmpl_meaning.specs.declared.missing_key.MissingKey.{MissingKey}
 use Rattle.tmpl_meaning.specs.declared.missing_key.MissingKey.TheVariants as mode
-use Rattle.tmpl_schema.specs.Shape.{Shape, never, nothings, record_of, either, named, HasShape, Names}
+use Rattle.tmpl_schema.specs.Shape.{Fields, Shape, never, nothings, nulls, texts, record_of, either, named, HasShape, IsField, Names}
+use Rattle.tmpl_schema.specs.declared.kind.Kind.TheVariants.{Blank}
+use Rattle.tmpl_schema.specs.computed.Formats.{printf_shape}
 use Rattle.tmpl_schema.specs.computed.Means.{Means}
-use Rattle.tmpl_schema.specs.computed.Shapes.{Base, within, both, filled, null_gone, refined, chain_shape, entry_shape, index_shape, index_shape_by}
+use Rattle.tmpl_schema.specs.computed.Shapes.{Base, within, both, any_field, filled, has_kind, joined, keyed_shape, null_gone, refined, chain_shape, entry_shape, index_shape, index_shape_by}
 use Rattle.tmpl_schema.specs.computed.Calls.{call_shape, shape_by_function}
 use Rattle.tmpl_schema.specs.computed.Check.{narrowed_by, narrowed_by_all, narrowed_empty, deciding_shape, passing_shape, passed, operand_shapes, junction_shape, commands_shape}
 use Rattle.tmpl_schema.specs.computed.Check.{Known, State, variable_shape, assigned_shape, bound_shapes, refined_variable, all_within, all_joined, last_of, if_within}
-use Rattle.tmpl_schema.specs.computed.Check.{after_both, operand_shape, indexed_shape, command_shape, pipeline_shape, narrowed}
-use Rattle.tmpl_schema.proofs.ShapeLemmas.{same_name, within-has, null_gone-has}
-use Rattle.tmpl_schema.proofs.FieldLemmas.{Gives, both-left, both-right, entry-gives, chain-gives, filled-has, refined-has}
+use Rattle.tmpl_schema.specs.computed.Check.{after_both, entry_along, entry_by, operand_shape, indexed_shape, printed_shape, command_shape, pipeline_shape, narrowed}
+use Rattle.tmpl_schema.proofs.KindLemmas.{has_kind-has}
+use Rattle.tmpl_schema.proofs.ShapeLemmas.{same_name, within-has, joined-left, joined-right, null_gone-has}
+use Rattle.tmpl_schema.proofs.FormatLemmas.{printf-gives}
+use Rattle.tmpl_schema.proofs.FieldLemmas.{Gives, any-has, at-entry, both-left, both-right, entry-gives, chain-gives, filled-has, refined-has}
 use Rattle.tmpl_schema.proofs.CallLemmas.{HaveShapes, call-gives}
 use Rattle.tmpl_funcs.specs.Func.{takes}
 use Rattle.tmpl_funcs.specs.declared.func.Func.{Func}
@@ -186,12 +194,14 @@ module _ (base : Base) (N : Names) (means : Means base.defs N) where
   called-gives f ps pv p (Some ss) (Ok vs) b h = (call-gives base N means) f (ss ++ option_to_list ps) (vs ++ option_to_list pv) (with-piped ps pv p ss vs h)
   called-gives f ps pv p (Some ss) (Err cause) b h = absurd h
 
-  by_function-gives : (f : Func) (a b c e : Option Shape) (x y z : Given Value) → (Gives base N means) a x.result → (Gives base N means) b y.result → (Gives base N means) c z.result
-      → (f ≡ func.Index → (Gives base N means) e x.result) → (Gives base N means) (shape_by_function f a b c e) (by_function f x y z).result
-  by_function-gives func.And a b c e x y z h i j k = i
-  by_function-gives func.Or a b c e x y z h i j k = j
-  by_function-gives func.Index a b c e x y z h i j k = k refl
-  by_function-gives _ a b c e x y z h i j k = h
+  by_function-gives : (f : Func) (a b c e p : Option Shape) (x y z : Given Value) → (Gives base N means) a x.result → (Gives base N means) b y.result → (Gives base N means) c z.result
+      → (f ≡ func.Index → (Gives base N means) e x.result) → (f ≡ func.Printf → (Gives base N means) p x.result)
+      → (Gives base N means) (shape_by_function f a b c e p) (by_function f x y z).result
+  by_function-gives func.And a b c e p x y z h i j k l = i
+  by_function-gives func.Or a b c e p x y z h i j k l = j
+  by_function-gives func.Index a b c e p x y z h i j k l = k refl
+  by_function-gives func.Printf a b c e p x y z h i j k l = l refl
+  by_function-gives _ a b c e p x y z h i j k l = h
 
   -- ---- `index` by a key
 
@@ -200,30 +210,123 @@ module _ (base : Base) (N : Names) (means : Means base.defs N) where
   told-entry s n None h = h
   told-entry s n (Some w) h = h
 
-  index-gives : (i : ℕ) (n : List ℕ) (s : Shape) (v : Value) → HasShape N s v → (Gives base N means) (index_shape_by base i n s) (applied func.Index (v ∷ string n ∷ [])).result
-  index-gives zero n s v h = tt
-  index-gives (suc i) n never v h = absurd h
-  index-gives (suc i) n (record_of fs) (mapping es) h =
-      told-entry (entry_shape base mode.Zero n fs) n (entry_at n es) ((entry-gives base N means) mode.Zero n fs es h.1 h.2)
-  index-gives (suc i) n (record_of fs) _ h = absurd h
-  index-gives (suc i) n (either s t) v h = elim h [
-    | inl x ↦ (both-left base N means) (index_shape_by base i n s) (index_shape_by base i n t) (applied func.Index (v ∷ string n ∷ [])).result (index-gives i n s v x)
-    | inr x ↦ (both-right base N means) (index_shape_by base i n s) (index_shape_by base i n t) (applied func.Index (v ∷ string n ∷ [])).result (index-gives i n t v x)
-  ]
-  index-gives (suc i) n (named y) v h = by (base.defs y) refl (λ s. index-gives i n s v)
+  abbrev told : Result Value CallFault → Result Value Cause
+  told r = result_map_both (λ v. v) (call_failed func.Index) r
+
+  -- of a map, by a key that is known or by any
+  keyed-gives : (key : Option (List ℕ)) (n : List ℕ) (fs : Fields) (es : Entries) → HasShape N (record_of fs) (mapping es)
+      → (Gives base N means) (keyed_shape base key fs) (told (indexed (mapping es) (string (unwrap_or key n))))
+  keyed-gives (Some name) n fs es h = told-entry (entry_shape base mode.Zero name fs) name (entry_at name es) ((entry-gives base N means) mode.Zero name fs es h.1 h.2)
+  keyed-gives None n fs es h = by (entry_at n es) refl
     where
-      by : (o : Option Shape) → base.defs y ≡ o → ((s : Shape) → HasShape N s v → (Gives base N means) (index_shape_by base i n s) (applied func.Index (v ∷ string n ∷ [])).result)
-          → (Gives base N means) (option_and_then (index_shape_by base i n) o) (applied func.Index (v ∷ string n ∷ [])).result
+      by : (o : Option Value) → entry_at n es ≡ o → HasShape N (joined base (any_field base fs) nulls) (unwrap_or o null)
+      by None is = (joined-right base N means) (any_field base fs) nulls null tt
+      by (Some w) is =
+          (joined-left base N means) (any_field base fs) nulls w ((any-has base N means) fs n w ((at-entry base N means) (IsField N fs) n w es is h.1))
+
+  index-gives : (i : ℕ) (key : Option (List ℕ)) (n : List ℕ) (s : Shape) (v : Value) → HasShape N s v
+      → (Gives base N means) (index_shape_by base i key s) (told (indexed v (string (unwrap_or key n))))
+  index-gives zero key n s v h = tt
+  index-gives (suc i) key n never v h = absurd h
+  index-gives (suc i) key n (record_of fs) (mapping es) h = keyed-gives key n fs es h
+  index-gives (suc i) key n (record_of fs) _ h = absurd h
+  index-gives (suc i) key n (either s t) v h = elim h [
+    | inl x ↦ (both-left base N means) (index_shape_by base i key s) (index_shape_by base i key t) (told (indexed v (string (unwrap_or key n)))) (index-gives i key n s v x)
+    | inr x ↦ (both-right base N means) (index_shape_by base i key s) (index_shape_by base i key t) (told (indexed v (string (unwrap_or key n)))) (index-gives i key n t v x)
+  ]
+  index-gives (suc i) key n (named y) v h = by (base.defs y) refl (λ s. index-gives i key n s v)
+    where
+      by : (o : Option Shape) → base.defs y ≡ o
+          → ((s : Shape) → HasShape N s v → (Gives base N means) (index_shape_by base i key s) (told (indexed v (string (unwrap_or key n)))))
+          → (Gives base N means) (option_and_then (index_shape_by base i key) o) (told (indexed v (string (unwrap_or key n))))
       by None is f = tt
       by (Some s) is f = f s (means.unfolds y s v is h)
-  index-gives (suc i) n _ v h = tt
+  index-gives (suc i) key n _ v h = tt
 
-  indexed-after : (o : Option Shape) (x : Result Value Cause) (a b : Bool) (n : List ℕ) → (Gives base N means) o x
-      → (Gives base N means) (option_and_then (index_shape base n) o)
-      (go_on (go_on x a (λ w. given (Ok (w ∷ string n ∷ [])))).result b (λ vs. applied func.Index (vs ++ []))).result
-  indexed-after None x a b n h = tt
-  indexed-after (Some s) (Ok v) a b n h = index-gives base.limit n s v h
-  indexed-after (Some s) (Err cause) a b n h = absurd h
+  entry_by-gives : (key s : Shape) (w v : Value) → HasShape N key w → HasShape N s v → (Gives base N means) (entry_by base key s) (told (indexed v w))
+  entry_by-gives key s w v g h = by (within base key texts) refl
+    where
+      text : (u : Value) → HasShape N texts u → (Gives base N means) (index_shape base None s) (told (indexed v u))
+      text (string n) k = index-gives base.limit None n s v h
+      text _ k = absurd k
+
+      by : (c : Bool) → within base key texts ≡ c → (Gives base N means) (if c then index_shape base None s else None) (told (indexed v w))
+      by true e = text w ((within-has base N means) key texts w e g)
+      by false e = tt
+
+  last-gives : (o : Option Shape) (r : Result Value CallFault) → (Gives base N means) o (told r) → (Gives base N means) o (told (and_then r (λ x. indexed_by x [])))
+  last-gives None r h = tt
+  last-gives (Some s) (Ok v) h = h
+  last-gives (Some s) (Err e) h = h
+
+  more-gives : (f : Shape → Option Shape) (g : Value → Result Value CallFault) (o : Option Shape) (r : Result Value CallFault) → (Gives base N means) o (told r)
+      → ((s : Shape) (v : Value) → HasShape N s v → (Gives base N means) (f s) (told (g v))) → (Gives base N means) (option_and_then f o) (told (and_then r g))
+  more-gives f g None r h k = tt
+  more-gives f g (Some s) (Ok v) h k = k s v h
+  more-gives f g (Some s) (Err e) h k = absurd h
+
+  none-gives : (f : Shape → Option Shape) (c : Cause) (o : Option Shape) (r : Result Value CallFault) → (Gives base N means) o (told r)
+      → ((s : Shape) (v : Value) → HasShape N s v → (Gives base N means) (f s) (Err c)) → (Gives base N means) (option_and_then f o) (Err c)
+  none-gives f c None r h k = tt
+  none-gives f c (Some s) (Ok v) h k = k s v h
+  none-gives f c (Some s) (Err e) h k = absurd h
+
+  -- what is found by the further keys, of which these are piped
+  abbrev found_by : Result (List Value) Cause → Bool → List Value → Value → Result Value Cause
+  found_by rs b ps v = (go_on rs b (λ vs. given (told (indexed_by v (vs ++ ps))))).result
+
+  -- after a key
+  key-gives : (f : Shape → Option Shape) (o : Option Shape) (rs : Result (List Value) Cause) (a b : Bool) (ps : List Value) (v w : Value)
+      → (Gives base N means) o (told (indexed v w)) → ((s : Shape) (u : Value) → HasShape N s u → (Gives base N means) (f s) (found_by rs b ps u))
+      → (Gives base N means) (option_and_then f o) (found_by (go_on rs a (λ vs. given (Ok (w ∷ vs)))).result b ps v)
+  key-gives f o (Ok vs) a b ps v w h k = more-gives f (λ u. indexed_by u (vs ++ ps)) o (indexed v w) h k
+  key-gives f o (Err c) a b ps v w h k = none-gives f c o (indexed v w) h k
+
+  keys-give : (f : Shape → Option Shape) (g : Shape → Option Shape) (o : Option Shape) (x : Result Value Cause) (rs : Result (List Value) Cause) (a b c : Bool) (ps : List Value) (v : Value)
+      → (Gives base N means) o x → ((key : Shape) (w : Value) → x ≡ Ok w → HasShape N key w → (Gives base N means) (g key) (told (indexed v w)))
+      → ((s : Shape) (u : Value) → HasShape N s u → (Gives base N means) (f s) (found_by rs b ps u))
+      → (Gives base N means) (option_and_then (λ key. option_and_then f (g key)) o) (found_by (go_on x c (λ w. go_on rs a (λ vs. given (Ok (w ∷ vs))))).result b ps v)
+  keys-give f g None x rs a b c ps v h i k = tt
+  keys-give f g (Some key) (Ok w) rs a b c ps v h i k = key-gives f (g key) rs a b ps v w (i key w refl h) k
+  keys-give f g (Some key) (Err e) rs a b c ps v h i k = absurd h
+
+  -- a value that is not nothing
+  thing-gives : (f : Shape → Option Shape) (s : Shape) (v : Value) (rs : Result (List Value) Cause) (a b : Bool) (ps : List Value) → HasShape N s v
+      → (Gives base N means) (f s) (found_by rs a ps v)
+      → (Gives base N means) (if has_kind base Blank s then None else f s) (go_on (go_on rs b (λ vs. given (Ok (v ∷ vs)))).result a (λ us. applied func.Index (us ++ ps))).result
+  thing-gives f s v rs a b ps h g = by (has_kind base Blank s) refl
+    where
+      thing : (w : Value) → has_kind base Blank s ≡ false → HasShape N s w → (vs : List Value) → told (indexed_by w (vs ++ ps)) ≡ (applied func.Index (w ∷ (vs ++ ps))).result
+      thing nothing e k vs = absurd (false≢true (sym e ∙ (has_kind-has base N means) s nothing k))
+      thing null e k vs = absurd (false≢true (sym e ∙ (has_kind-has base N means) s null k))
+      thing _ e k vs = refl
+
+      row : (rs : Result (List Value) Cause) → ((vs : List Value) → told (indexed_by v (vs ++ ps)) ≡ (applied func.Index (v ∷ (vs ++ ps))).result)
+          → (Gives base N means) (f s) (found_by rs a ps v)
+          → (Gives base N means) (f s) (go_on (go_on rs b (λ vs. given (Ok (v ∷ vs)))).result a (λ us. applied func.Index (us ++ ps))).result
+      row (Ok vs) e k = subst (λ (r : Result Value Cause). (Gives base N means) (f s) r) (e vs) k
+      row (Err c) e k = k
+
+      by : (c : Bool) → has_kind base Blank s ≡ c
+          → (Gives base N means) (if c then None else f s) (go_on (go_on rs b (λ vs. given (Ok (v ∷ vs)))).result a (λ us. applied func.Index (us ++ ps))).result
+      by true e = tt
+      by false e = row rs (thing v e h) g
+
+  indexed-after : (f : Shape → Option Shape) (o : Option Shape) (x : Result Value Cause) (rs : Result (List Value) Cause) (a b c : Bool) (ps : List Value) → (Gives base N means) o x
+      → ((s : Shape) (v : Value) → HasShape N s v → (Gives base N means) (f s) (found_by rs a ps v))
+      → (Gives base N means) (option_and_then (λ s. if has_kind base Blank s then None else f s) o)
+      (go_on (go_on x c (λ v. go_on rs b (λ vs. given (Ok (v ∷ vs))))).result a (λ us. applied func.Index (us ++ ps))).result
+  indexed-after f None x rs a b c ps h k = tt
+  indexed-after f (Some s) (Ok v) rs a b c ps h k = thing-gives f s v rs a b ps h (k s v h)
+  indexed-after f (Some s) (Err e) rs a b c ps h k = absurd h
+
+  printed-after : (format : List ℕ) (ps : Option Shape) (pv : Option Value) → Piped ps pv → (os : Option (List Shape)) (rs : Result (List Value) Cause) (a b : Bool) → GivesAll os rs
+      → (Gives base N means) (option_and_then (λ ss. printf_shape base format (ss ++ option_to_list ps)) os)
+      (go_on (go_on rs a (λ vs. given (Ok (string format ∷ vs)))).result b (λ us. applied func.Printf (us ++ option_to_list pv))).result
+  printed-after format ps pv p None rs a b h = tt
+  printed-after format ps pv p (Some ss) (Ok vs) a b h =
+      (printf-gives base N means) format (ss ++ option_to_list ps) (vs ++ option_to_list pv) (with-piped ps pv p ss vs h)
+  printed-after format ps pv p (Some ss) (Err c) a b h = absurd h
 
   by_count-gives : (f : Func) (t : Bool) (o : Option Shape) (g : Given Value) → (Gives base N means) o g.result → (Gives base N means) (if t then o else None) (by_count f t g).result
   by_count-gives f true o g h = h
@@ -292,27 +395,47 @@ module _ (base : Base) (N : Names) (means : Means base.defs N) where
           go-gives _ _ (operand_shape base m k o) (operand_value (place m d env) o).result (operand_value (place m d env) o).made_text (operand-gives o k fits)
           (junction-step is_or o os k ps pv fits (junction-gives os is_or ps pv p))
 
+      along-gives : (os : Operands) (k : State) (ps : Option Shape) (pv : Option Value) (b : Bool) → Fits k d env → Piped ps pv → (s : Shape) (v : Value) → HasShape N s v
+          → (Gives base N means) (entry_along base m k os ps s) (found_by (operand_values (place m d env) os).result b (option_to_list pv) v)
+      along-gives no_operand k None None b fits p s v h = h
+      along-gives no_operand k (Some key) (Some w) b fits p s v h = last-gives (entry_by base key s) (indexed v w) (entry_by-gives key s w v p h)
+      along-gives no_operand k None (Some w) b fits p s v h = absurd p
+      along-gives no_operand k (Some key) None b fits p s v h = absurd p
+      along-gives (operand (text_constant n) os) k ps pv b fits p s v h =
+          key-gives (entry_along base m k os ps) (index_shape base (Some n) s) (operand_values (place m d env) os).result (operand_values (place m d env) os).made_text b
+          (option_to_list pv) v (string n) (index-gives base.limit (Some n) n s v h) (λ t u. along-gives os k ps pv b fits p t u)
+      along-gives (operand o os) k ps pv b fits p s v h =
+          keys-give (entry_along base m k os ps) (λ key. entry_by base key s) (operand_shape base m k o) (operand_value (place m d env) o).result
+          (operand_values (place m d env) os).result (operand_values (place m d env) os).made_text b (operand_value (place m d env) o).made_text (option_to_list pv) v
+          (operand-gives o k fits) (λ key w e g. entry_by-gives key s w v g h) (λ t u. along-gives os k ps pv b fits p t u)
+
       indexed-gives : (os : Operands) (k : State) (ps : Option Shape) (pv : Option Value) → Fits k d env → Piped ps pv
           → (Gives base N means) (indexed_shape base m k os ps) (given_then (operand_values (place m d env) os) (λ vs. applied func.Index (vs ++ option_to_list pv))).result
       indexed-gives no_operand k ps pv fits p = tt
-      indexed-gives (operand o (operand (text_constant n) no_operand)) k None None fits p =
-          indexed-after (operand_shape base m k o) (operand_value (place m d env) o).result (operand_value (place m d env) o).made_text
-          (operand_values (place m d env) (operand o (operand (text_constant n) no_operand))).made_text n (operand-gives o k fits)
-      indexed-gives (operand o (operand _ no_operand)) k None None fits p = tt
-      indexed-gives (operand o (operand _ no_operand)) k None (Some v) fits p = absurd p
-      indexed-gives (operand o (operand _ no_operand)) k (Some s) pv fits p = tt
-      indexed-gives (operand o (operand _ (operand _ _))) k ps pv fits p = tt
-      indexed-gives (operand o no_operand) k ps pv fits p = tt
+      indexed-gives (operand o os) k ps pv fits p =
+          indexed-after (entry_along base m k os ps) (operand_shape base m k o) (operand_value (place m d env) o).result (operand_values (place m d env) os).result
+          (operand_values (place m d env) (operand o os)).made_text (operand_values (place m d env) os).made_text (operand_value (place m d env) o).made_text (option_to_list pv)
+          (operand-gives o k fits) (λ s v. along-gives os k ps pv _ fits p s v)
+
+      printed-gives : (os : Operands) (k : State) (ps : Option Shape) (pv : Option Value) → Fits k d env → Piped ps pv
+          → (Gives base N means) (printed_shape base m k os ps) (given_then (operand_values (place m d env) os) (λ vs. applied func.Printf (vs ++ option_to_list pv))).result
+      printed-gives no_operand k ps pv fits p = tt
+      printed-gives (operand (text_constant format) os) k ps pv fits p =
+          printed-after format ps pv p (operand_shapes base m k os) (operand_values (place m d env) os).result (operand_values (place m d env) os).made_text
+          (operand_values (place m d env) (operand (text_constant format) os)).made_text (operands-give os k fits)
+      printed-gives (operand _ os) k ps pv fits p = tt
 
       command-gives : (os : Operands) (k : State) (ps : Option Shape) (pv : Option Value) → Fits k d env → Piped ps pv
           → (Gives base N means) (command_shape base m k os ps) (command_value (place m d env) os pv).result
       command-gives (operand (function f) os) k ps pv fits p =
           rw (piped-count ps pv p) (by_count-gives f (takes f (operand_count os + length (option_to_list ps))) _ _
-          (by_function-gives f _ _ _ _ _ _ _
+          (by_function-gives f _ _ _ _ _ _ _ _
           (called-gives f ps pv p (operand_shapes base m k os) (operand_values (place m d env) os).result (operand_values (place m d env) os).made_text (operands-give os k fits))
           (junction-gives os false ps pv p k nothings nothing fits tt) (junction-gives os true ps pv p k nothings nothing fits tt)
           (λ e. subst (λ (g : Func). (Gives base N means) (indexed_shape base m k os ps) (given_then (operand_values (place m d env) os) (λ vs. applied g (vs ++ option_to_list pv))).result)
-          (sym e) (indexed-gives os k ps pv fits p))))
+          (sym e) (indexed-gives os k ps pv fits p))
+          (λ e. subst (λ (g : Func). (Gives base N means) (printed_shape base m k os ps) (given_then (operand_values (place m d env) os) (λ vs. applied g (vs ++ option_to_list pv))).result)
+          (sym e) (printed-gives os k ps pv fits p))))
       command-gives (operand nil _) k ps pv fits p = tt
       command-gives (operand o no_operand) k None None fits p = operand-gives o k fits
       command-gives _ k None (Some v) fits p = absurd p

@@ -1,5 +1,6 @@
 pub mod Calls
 pub mod Check
+pub mod Formats
 pub mod Means
 pub mod Safe
 pub mod Shapes

@@ -6,10 +6,11 @@ ghost use Rattle.tmpl_schema.specs.Shape.{either, truths};
 ghost use Rattle.tmpl_schema.specs.View.{shape_of};
 ghost use Rattle.tmpl_schema.specs.computed.Calls.{blank, both_of, call_shape, comparable, comparable_to_all, equal_shape, ordered};
 ghost use Rattle.tmpl_schema.specs.computed.Calls.{numbers_if, one_shape, ordered_shape, truths_if, two_shapes};
-ghost use Rattle.tmpl_schema.specs.computed.Shapes.{is_sized, is_sized_by};
+ghost use Rattle.tmpl_schema.specs.computed.Shapes.{is_sized};
 ghost use Rattle.tmpl_schema.specs.computed.View.{base_of, shapes_of};
 
-use crate::inclusion::{find, within};
+use crate::inclusion::within;
+use crate::kind::{Kind, has_kind};
 use crate::shape::{Base, Shape, either};
 use crate::trouble::{Cause, Trouble, unsafe_by};
 use std::alloc::{AllocError, Global};
@@ -36,26 +37,6 @@ pub(crate) fn put_argument(alloc: Global, shape: Shape, rest: Shapes) -> Result<
     ensures { IfOk result (λ ss. shapes_of ss ≡ shape_of shape ∷ shapes_of rest) }
 {
     Ok(Shapes::More(Box::new(alloc, Argument { shape, rest })?))
-}
-
-/// Whether each value has a size.
-fn is_sized_by(base: &Base<'_>, steps: usize, shape: &Shape) -> bool
-    ensures { result ≡ is_sized_by (base_of base.now) steps (shape_of shape.now) }
-{
-    if steps == 0 {
-        return false;
-    }
-    let fewer = steps - 1;
-    match shape {
-        Shape::Never | Shape::Texts | Shape::List(_) | Shape::Record(_) => true,
-        Shape::Either(one, other) => is_sized_by(base, fewer, one)
-            && is_sized_by(base, fewer, other),
-        Shape::Named(name) => match find(base.definitions, name.as_slice()) {
-            Some(shape) => is_sized_by(base, fewer, shape),
-            None => false,
-        },
-        Shape::Nothings | Shape::Nulls | Shape::Truths | Shape::Numbers | Shape::Anything => false,
-    }
 }
 
 /// A kind, or nothing or null.
@@ -172,10 +153,12 @@ fn len_shape(base: &Base<'_>, shapes: &Shapes) -> Result<Shape, Trouble>
         ≡ Some (shape_of s)) }
 {
     let shape = one_of(shapes)?;
-    if is_sized_by(base, base.limit, shape) {
-        return Ok(Shape::Numbers);
+    if has_kind(base, Kind::Blank, shape)
+        || (has_kind(base, Kind::Truth, shape) || has_kind(base, Kind::Number, shape))
+    {
+        return Err(Trouble::Refused);
     }
-    Err(Trouble::Refused)
+    Ok(Shape::Numbers)
 }
 
 /// What `eq` gives.

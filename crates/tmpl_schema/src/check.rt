@@ -9,13 +9,14 @@ ghost use Rattle.tmpl_schema.specs.computed.Check.{is_safe};
 ghost use Rattle.tmpl_schema.specs.computed.Safe.{EachCallee, IsCallee, NeverFailsIn};
 ghost use Rattle.tmpl_schema.specs.computed.View.{base_of, callee_of, entries_of, table_of};
 
-use crate::join::{joined, null_gone};
+use crate::join::null_gone;
 use crate::node::{Checker, after_nodes};
-use crate::shape::{Base, Schema, Shape, copy_shape};
+use crate::shape::{Base, Schema, Shape};
 use crate::state::at_start;
+use crate::survey::{Question, doubts_in, fill_table};
 use crate::table::{Callee, Entry};
-use crate::trouble::{Cause, Doubt, Trouble, in_template, no_template, unsafe_by};
-use std::alloc::{AllocError, Global};
+use crate::trouble::{Doubt, Trouble};
+use std::alloc::Global;
 use tmpl_meaning::MissingKey;
 use tmpl_syntax::{Set, Tree};
 use tmpl_values::Bytes;
@@ -25,8 +26,9 @@ use tmpl_values::Bytes;
 pub enum Refusal {
     /// Want of memory.
     OutOfMemory,
-    /// It may fail for a value of the schema, or it is not seen that it never does: here first.
-    MayFail(Doubt),
+    /// It may fail for a value of the schema, or it is not seen that it never does: at these places, of which at most 100
+    /// are told.
+    MayFail(Vec<Doubt>),
 }
 
 /// Whether a template is accepted for values of this shape.
@@ -40,7 +42,7 @@ fn check_tree(checker: &Checker<'_>, shape: &Shape, tree: &Tree) -> Result<(), T
 }
 
 /// Whether one of the names is this.
-fn is_stop(stops: &[Bytes], name: &[u8]) -> bool
+pub(crate) fn is_stop(stops: &[Bytes], name: &[u8]) -> bool
     ensures { result ≡ true → Contains stops.now name.now }
 {
     match stops {
@@ -63,21 +65,17 @@ fn check_callee(
         Callee::Handed(shape) => match set.get(entry.name.as_slice()) {
             Some(tree) => match check_tree(checker, shape, tree) {
                 Ok(()) => Ok(()),
-                Err(trouble) => Err(in_template(
-                    checker.base.alloc,
-                    trouble,
-                    entry.name.as_slice(),
-                )),
+                Err(trouble) => Err(trouble),
             },
-            None => Err(no_template(checker.base.alloc, entry.name.as_slice())),
+            None => Err(Trouble::Refused),
         },
         Callee::Absent => match set.get(entry.name.as_slice()) {
-            Some(_) => Err(no_template(checker.base.alloc, entry.name.as_slice())),
+            Some(_) => Err(Trouble::Refused),
             None => {
                 if is_stop(stops, entry.name.as_slice()) {
                     return Ok(());
                 }
-                Err(no_template(checker.base.alloc, entry.name.as_slice()))
+                Err(Trouble::Refused)
             }
         },
     }
@@ -119,71 +117,17 @@ fn check_all(
                 check_callees(checker, set, stops, checker.table)?;
                 Ok(())
             }
-            Err(trouble) => Err(in_template(checker.base.alloc, trouble, name)),
+            Err(trouble) => Err(trouble),
         },
-        None => Err(no_template(checker.base.alloc, name)),
+        None => Err(Trouble::Refused),
     }
 }
 
-/// What two calls hand over.
-fn widened(base: &Base<'_>, one: &Callee, other: &Callee) -> Result<Callee, AllocError> {
-    match (one, other) {
-        (Callee::Handed(one), Callee::Handed(other)) => {
-            let one = copy_shape(base.alloc, one)?;
-            Ok(Callee::Handed(joined(base, one, copy_shape(base.alloc, other)?)?))
-        }
-        _ => Ok(Callee::Absent),
-    }
-}
-
-/// Puts a call into the table, with what other calls of the template hand over.
-fn grow(
-    base: &Base<'_>,
-    set: &Set,
-    table: &mut Vec<Entry>,
-    entry: Entry,
-) -> Result<(), AllocError> {
-    let Entry { name, callee } = entry;
-    if set.get(name.as_slice()).is_none() {
-        table.push(Entry {
-            name,
-            callee: Callee::Absent,
-        })?;
-        return Ok(());
-    }
-    match place(table, name.as_slice()) {
-        Some(place) => match table.get_mut(place) {
-            Some(held) => {
-                let callee = widened(base, &held.callee, &callee)?;
-                held.callee = callee;
-                Ok(())
-            }
-            None => Ok(()),
-        },
-        None => Ok(table.push(Entry { name, callee })?),
-    }
-}
-
-/// Where the table has a template of this name.
-fn place(table: &[Entry], name: &[u8]) -> Option<usize> {
-    for (place, entry) in table.iter().enumerate() {
-        if entry.name.as_slice() == name {
-            return Some(place);
-        }
-    }
-    None
-}
-
-/// The refusal for this trouble.
-fn refusal_of(alloc: Global, trouble: Trouble) -> Refusal {
-    match trouble {
-        Trouble::Unsafe(doubt) => Refusal::MayFail(doubt),
-        Trouble::OutOfMemory => Refusal::OutOfMemory,
-        Trouble::Refused | Trouble::Wanted(_) => Refusal::MayFail(Doubt {
-            template: Bytes::new(Vec::new(alloc)),
-            line: 0,
-            cause: Cause::Command,
-        }),
+/// Why the template is refused: each place that may fail.
+fn refusal_of(base: &Base<'_>, question: &Question<'_>, table: &[Entry]) -> Refusal {
+    match doubts_in(base, question, table) {
+        Ok(doubts) => Refusal::MayFail(doubts),
+        Err(_) => Refusal::OutOfMemory,
     }
 }
 
@@ -199,24 +143,29 @@ fn check_shape(
     ensures { OnOk result (NeverFailsIn (base_of base.now) mode stops.now (set_view set.now) name.now
         (shape_of shape.now)) }
 {
+    let question = Question {
+        set,
+        name,
+        shape,
+        mode,
+        stops,
+    };
     let mut table: Vec<Entry> = Vec::new(base.alloc);
-    for _ in 0..2000 {
-        let checker = Checker {
-            base: *base,
-            mode,
-            table: table.as_slice(),
-        };
-        match check_all(&checker, set, stops, name, shape) {
-            Ok(()) => return Ok(()),
-            Err(Trouble::Wanted(entry)) => {
-                if grow(base, set, &mut table, entry).is_err() {
-                    return Err(Refusal::OutOfMemory);
-                }
-            }
-            Err(trouble) => return Err(refusal_of(base.alloc, trouble)),
-        }
+    match fill_table(base, &question, &mut table) {
+        Ok(true) => {}
+        Ok(false) => return Err(refusal_of(base, &question, table.as_slice())),
+        Err(_) => return Err(Refusal::OutOfMemory),
     }
-    Err(refusal_of(base.alloc, unsafe_by(base.alloc, Cause::Command)))
+    let checker = Checker {
+        base: *base,
+        mode,
+        table: table.as_slice(),
+    };
+    match check_all(&checker, set, stops, name, shape) {
+        Ok(()) => Ok(()),
+        Err(Trouble::OutOfMemory) => Err(Refusal::OutOfMemory),
+        Err(_) => Err(refusal_of(base, &question, table.as_slice())),
+    }
 }
 
 /// Whether a template never fails in a mode.

@@ -5,14 +5,14 @@ ghost use Rattle.std.specs.Prelude.{◌≡◌, IfOk, Some};
 ghost use Rattle.std.specs.Option.{option_map};
 ghost use Rattle.tmpl_schema.specs.Shape.{nothings};
 ghost use Rattle.tmpl_schema.specs.View.{fields_of, shape_of};
-ghost use Rattle.tmpl_schema.specs.computed.Shapes.{absent_shape, chain_shape, entry_shape, field_shape_by, index_shape, index_shape_by, of_field};
+ghost use Rattle.tmpl_schema.specs.computed.Shapes.{absent_shape, any_field, chain_shape, entry_shape, field_shape_by, index_shape, index_shape_by, keyed_shape, of_field};
 ghost use Rattle.tmpl_schema.specs.computed.View.{base_of};
 
 use crate::inclusion::find;
 use crate::join::joined;
 use crate::shape::{Base, Fields, Shape, copy_shape};
 use crate::trouble::{Cause, Trouble, absent, no_fields, unsafe_by};
-use std::alloc::Global;
+use std::alloc::{AllocError, Global};
 use tmpl_meaning::MissingKey;
 use tmpl_values::Bytes;
 
@@ -131,15 +131,43 @@ pub(crate) fn chain_shape(
     }
 }
 
-/// The entry of a key, or null, if `index` gives it of each value.
+/// Any of the fields.
+pub(crate) fn any_field(base: &Base<'_>, fields: &Fields) -> Result<Shape, AllocError>
+    ensures { IfOk result (λ s. shape_of s ≡ any_field (base_of base.now) (fields_of fields.now)) }
+{
+    match fields {
+        Fields::Closed => Ok(Shape::Never),
+        Fields::Others(shape) => copy_shape(base.alloc, shape),
+        Fields::Field(first) => {
+            let shape = copy_shape(base.alloc, &first.shape)?;
+            joined(base, shape, any_field(base, &first.rest)?)
+        }
+    }
+}
+
+/// What `index` gives of a map of these fields, for a key that is known or for any: the entry, or null.
+fn keyed_shape(base: &Base<'_>, key: Option<&[u8]>, fields: &Fields) -> Result<Shape, Trouble>
+    ensures { IfOk result (λ s. keyed_shape (base_of base.now) (option_map (λ k. k.now) key.entry) (fields_of fields.now)
+        ≡ Some (shape_of s)) }
+{
+    match key {
+        Some(name) => entry_shape(base, MissingKey::Zero, name, fields),
+        None => {
+            let any = any_field(base, fields)?;
+            Ok(joined(base, any, Shape::Nulls)?)
+        }
+    }
+}
+
+/// What `index` gives, if it gives something of each value.
 fn index_shape_by(
     base: &Base<'_>,
     steps: usize,
-    name: &[u8],
+    key: Option<&[u8]>,
     shape: &Shape,
 ) -> Result<Shape, Trouble>
-    ensures { IfOk result (λ s. index_shape_by (base_of base.now) steps name.now (shape_of shape.now)
-        ≡ Some (shape_of s)) }
+    ensures { IfOk result (λ s. index_shape_by (base_of base.now) steps (option_map (λ k. k.now) key.entry)
+        (shape_of shape.now) ≡ Some (shape_of s)) }
 {
     if steps == 0 {
         return Err(unsafe_by(base.alloc, Cause::Command));
@@ -147,14 +175,14 @@ fn index_shape_by(
     let fewer = steps - 1;
     match shape {
         Shape::Never => Ok(Shape::Never),
-        Shape::Record(fields) => entry_shape(base, MissingKey::Zero, name, fields),
+        Shape::Record(fields) => keyed_shape(base, key, fields),
         Shape::Either(one, other) => {
-            let one = index_shape_by(base, fewer, name, one)?;
-            let other = index_shape_by(base, fewer, name, other)?;
+            let one = index_shape_by(base, fewer, key, one)?;
+            let other = index_shape_by(base, fewer, key, other)?;
             Ok(joined(base, one, other)?)
         }
         Shape::Named(defined) => match find(base.definitions, defined.as_slice()) {
-            Some(shape) => index_shape_by(base, fewer, name, shape),
+            Some(shape) => index_shape_by(base, fewer, key, shape),
             None => Err(unsafe_by(base.alloc, Cause::Command)),
         },
         Shape::Nothings | Shape::Nulls | Shape::Truths | Shape::Numbers | Shape::Texts => {
@@ -164,9 +192,14 @@ fn index_shape_by(
     }
 }
 
-/// The entry of a key, or null, if `index` gives it of each value, as far as is looked.
-pub(crate) fn index_shape(base: &Base<'_>, name: &[u8], shape: &Shape) -> Result<Shape, Trouble>
-    ensures { IfOk result (λ s. index_shape (base_of base.now) name.now (shape_of shape.now) ≡ Some (shape_of s)) }
+/// What `index` gives for a key that is known or for any, if it gives something of each value, as far as is looked.
+pub(crate) fn index_shape(
+    base: &Base<'_>,
+    key: Option<&[u8]>,
+    shape: &Shape,
+) -> Result<Shape, Trouble>
+    ensures { IfOk result (λ s. index_shape (base_of base.now) (option_map (λ k. k.now) key.entry) (shape_of shape.now)
+        ≡ Some (shape_of s)) }
 {
-    index_shape_by(base, base.limit, name, shape)
+    index_shape_by(base, base.limit, key, shape)
 }

@@ -4,7 +4,7 @@
 ghost use Rattle.std.specs.Prelude.{◌≡◌, false};
 ghost use Rattle.std.specs.Option.{option_map_or};
 ghost use Rattle.tmpl_schema.specs.View.{defs_in, fields_of, shape_of};
-ghost use Rattle.tmpl_schema.specs.computed.Shapes.{fields_within, has_name, is_list, is_nothings, is_nulls, is_numbers, is_record, is_texts, is_truths, is_listed, is_required, others_within};
+ghost use Rattle.tmpl_schema.specs.computed.Shapes.{fields_along, fields_within, has_name, is_list, is_nothings, is_nulls, is_numbers, is_record, is_texts, is_truths, is_listed, is_required, others_within};
 ghost use Rattle.tmpl_schema.specs.computed.Shapes.{plain_within, record_within, requires_all, shape_at, some_part, within, within_by};
 ghost use Rattle.tmpl_schema.specs.computed.View.{base_of, name_within, seen};
 
@@ -96,7 +96,7 @@ fn has_name(name: &[u8], shape: &Shape) -> bool
 }
 
 /// Whether the shape is that of nothing.
-fn is_nothings(shape: &Shape) -> bool
+pub(crate) fn is_nothings(shape: &Shape) -> bool
     ensures { result ≡ is_nothings (shape_of shape.now) }
 {
     match shape {
@@ -112,7 +112,7 @@ fn is_nothings(shape: &Shape) -> bool
 }
 
 /// Whether the shape is that of null.
-fn is_nulls(shape: &Shape) -> bool
+pub(crate) fn is_nulls(shape: &Shape) -> bool
     ensures { result ≡ is_nulls (shape_of shape.now) }
 {
     match shape {
@@ -128,7 +128,7 @@ fn is_nulls(shape: &Shape) -> bool
 }
 
 /// Whether the shape is that of a truth value.
-fn is_truths(shape: &Shape) -> bool
+pub(crate) fn is_truths(shape: &Shape) -> bool
     ensures { result ≡ is_truths (shape_of shape.now) }
 {
     match shape {
@@ -144,7 +144,7 @@ fn is_truths(shape: &Shape) -> bool
 }
 
 /// Whether the shape is that of a number.
-fn is_numbers(shape: &Shape) -> bool
+pub(crate) fn is_numbers(shape: &Shape) -> bool
     ensures { result ≡ is_numbers (shape_of shape.now) }
 {
     match shape {
@@ -160,7 +160,7 @@ fn is_numbers(shape: &Shape) -> bool
 }
 
 /// Whether the shape is that of a text.
-fn is_texts(shape: &Shape) -> bool
+pub(crate) fn is_texts(shape: &Shape) -> bool
     ensures { result ≡ is_texts (shape_of shape.now) }
 {
     match shape {
@@ -298,14 +298,11 @@ fn record_within(
     fields: &Fields,
     other: &Shape,
 ) -> bool
-    ensures { result ≡ is_record (record_within (within_by (base_of base.now) names steps) (fields_of fields.now))
+    ensures { result ≡ is_record (fields_along (within_by (base_of base.now) names steps) (fields_of fields.now))
         (shape_of other.now) }
 {
     match other {
-        Shape::Record(others) => {
-            fields_within(base, names, steps, fields, fields, others)
-                && requires_all(fields, others)
-        }
+        Shape::Record(others) => fields_along(base, names, steps, fields, others),
         Shape::Never
         | Shape::Nothings
         | Shape::Nulls
@@ -314,6 +311,62 @@ fn record_within(
         | Shape::Texts => false,
         Shape::Anything | Shape::List(_) | Shape::Either(..) | Shape::Named(_) => false,
     }
+}
+
+/// Whether maps of these fields are maps of the others: the fields at the front are compared one by one as long as both
+/// have the same names, as they mostly do.
+#[cycle(within)]
+fn fields_along(
+    base: &Base<'_>,
+    names: usize,
+    steps: usize,
+    fields: &Fields,
+    others: &Fields,
+) -> bool
+    ensures { result ≡ fields_along (within_by (base_of base.now) names steps) (fields_of fields.now)
+        (fields_of others.now) }
+{
+    let mut rest = fields;
+    let mut others_rest = others;
+    while let Fields::Field(first) = rest {
+        match others_rest {
+            Fields::Field(other) => {
+                if first.name.as_slice() != other.name.as_slice() {
+                    return all_fields_within(base, names, steps, rest, others_rest);
+                }
+                if other.required && !first.required {
+                    return false;
+                }
+                if !within_by(base, names, steps, &first.shape, &other.shape) {
+                    return false;
+                }
+                rest = &first.rest;
+                others_rest = &other.rest;
+            }
+            Fields::Closed => return all_fields_within(base, names, steps, rest, others_rest),
+            Fields::Others(_) => return all_fields_within(base, names, steps, rest, others_rest),
+        }
+    }
+    match rest {
+        Fields::Closed => all_fields_within(base, names, steps, rest, others_rest),
+        Fields::Others(_) => all_fields_within(base, names, steps, rest, others_rest),
+        Fields::Field(_) => false,
+    }
+}
+
+/// Whether maps of these fields are maps of the others, whatever the order.
+#[cycle(within)]
+fn all_fields_within(
+    base: &Base<'_>,
+    names: usize,
+    steps: usize,
+    fields: &Fields,
+    others: &Fields,
+) -> bool
+    ensures { result ≡ record_within (within_by (base_of base.now) names steps) (fields_of fields.now)
+        (fields_of others.now) }
+{
+    fields_within(base, names, steps, fields, fields, others) && requires_all(fields, others)
 }
 
 /// Whether each field of the second, the last of all these, may be among the others.

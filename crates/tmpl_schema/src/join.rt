@@ -3,11 +3,12 @@
 
 ghost use Rattle.std.specs.Prelude.{◌≡◌, IfOk};
 ghost use Rattle.tmpl_schema.specs.View.{fields_of, shape_of};
-ghost use Rattle.tmpl_schema.specs.computed.Shapes.{filled, has_null, joined, may_be_null, null_gone, null_gone_by, refined, refined_by};
+ghost use Rattle.tmpl_schema.specs.computed.Shapes.{filled, joined, null_gone, null_gone_by, refined, refined_by};
 ghost use Rattle.tmpl_schema.specs.computed.Shapes.{refined_record, with_field};
 ghost use Rattle.tmpl_schema.specs.computed.View.{base_of, name_gone, name_refined};
 
 use crate::inclusion::{find, shape_at, within};
+use crate::kind::{Kind, has_kind};
 use crate::shape::{Base, Fields, Shape, copy_fields, copy_name, copy_shape, either, put_field};
 use std::alloc::{AllocError, Global};
 use tmpl_values::Bytes;
@@ -24,35 +25,6 @@ pub(crate) fn joined(base: &Base<'_>, one: Shape, other: Shape) -> Result<Shape,
         return Ok(one);
     }
     either(base.alloc, one, other)
-}
-
-/// Whether null may be among the values.
-fn may_be_null(base: &Base<'_>, steps: usize, shape: &Shape) -> bool
-    ensures { result ≡ may_be_null (base_of base.now) steps (shape_of shape.now) }
-{
-    if steps == 0 {
-        return true;
-    }
-    let fewer = steps - 1;
-    match shape {
-        Shape::Nulls | Shape::Anything => true,
-        Shape::Either(one, other) => may_be_null(base, fewer, one)
-            || may_be_null(base, fewer, other),
-        Shape::Named(name) => match find(base.definitions, name.as_slice()) {
-            Some(shape) => may_be_null(base, fewer, shape),
-            None => true,
-        },
-        Shape::Never | Shape::Nothings | Shape::Truths | Shape::Numbers | Shape::Texts => false,
-        Shape::List(_) | Shape::Record(_) => false,
-    }
-}
-
-/// Whether null may be among the values, as far as is looked.
-#[tactic(auto, unfolding(crate::specs::computed::Shapes::has_null))]
-fn has_null(base: &Base<'_>, shape: &Shape) -> bool
-    ensures { result ≡ has_null (base_of base.now) (shape_of shape.now) }
-{
-    may_be_null(base, base.limit, shape)
 }
 
 /// With nothing in place of null.
@@ -91,7 +63,7 @@ fn name_gone(base: &Base<'_>, steps: usize, name: &Bytes) -> Result<Shape, Alloc
     ensures { IfOk result (λ s. shape_of s ≡ name_gone (base_of base.now) steps name.now) }
 {
     let named = Shape::Named(copy_name(base.alloc, name.as_slice())?);
-    if !has_null(base, &named) {
+    if !has_kind(base, Kind::Blank, &named) {
         return Ok(named);
     }
     match find(base.definitions, name.as_slice()) {

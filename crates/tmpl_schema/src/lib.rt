@@ -4,14 +4,17 @@
 mod call;
 mod check;
 mod field;
+mod format;
 mod inclusion;
 mod join;
+mod kind;
 mod known;
 mod laws;
 mod node;
 mod pipeline;
 mod shape;
 mod state;
+mod survey;
 mod table;
 mod trouble;
 mod visit;

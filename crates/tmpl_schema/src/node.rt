@@ -38,7 +38,7 @@ pub(crate) struct Checker<'s> {
 }
 
 /// Where the body of an `if` or a `with` begins.
-fn in_body(
+pub(crate) fn in_body(
     base: &Base<'_>,
     control: Control,
     header: &Header,
@@ -66,7 +66,7 @@ fn in_body(
 }
 
 /// Where its other part begins.
-fn in_other(
+pub(crate) fn in_other(
     base: &Base<'_>,
     header: &Header,
     state: &State,
@@ -90,7 +90,7 @@ fn in_other(
 }
 
 /// Where a turn of a range begins.
-fn in_turn(
+pub(crate) fn in_turn(
     alloc: Global,
     header: &Header,
     visit: &Visit,
@@ -289,7 +289,7 @@ fn settled_soon(
 
 /// .. from these before it.
 #[cycle(node)]
-fn kept(
+pub(crate) fn kept(
     checker: &Checker<'_>,
     known: &Known,
     header: &Header,
@@ -382,7 +382,7 @@ fn after_control(
 
 /// After a node.
 #[cycle(node)]
-fn after_node(
+pub(crate) fn after_node(
     checker: &Checker<'_>,
     head: Option<&Known>,
     state: &State,

@@ -8,13 +8,16 @@ ghost use Rattle.tmpl_grammar.specs.View.{commands_in, operand_of, operands_in};
 ghost use Rattle.tmpl_meaning.specs.Pipeline.{operand_count};
 ghost use Rattle.tmpl_schema.specs.View.{shape_of};
 ghost use Rattle.tmpl_schema.specs.computed.Calls.{call_shape};
-ghost use Rattle.tmpl_schema.specs.computed.Check.{alone, command_shape, commands_shape, index_key, indexed_shape, junction_shape, operand_shape, pipeline_shape, text_of};
+ghost use Rattle.tmpl_schema.specs.computed.Check.{alone, command_shape, commands_shape, entry_along, entry_by, indexed_shape, junction_shape, operand_shape, pipeline_shape, printed_shape, text_of};
 ghost use Rattle.tmpl_schema.specs.computed.View.{argument_shapes, base_of, called_shape, seen, shapes_of, state_of};
 ghost use Rattle.tmpl_funcs.specs.Func.{takes};
 
 use crate::call::{Shapes, call_shape, put_argument};
 use crate::field::{chain_shape, index_shape};
+use crate::format::printf_shape;
+use crate::inclusion::within;
 use crate::join::{filled, joined, null_gone};
+use crate::kind::{Kind, has_kind};
 use crate::known::variable_shape;
 use crate::shape::{Base, Shape, copy_shape};
 use crate::state::{State, narrowed_by};
@@ -173,19 +176,43 @@ fn text_of(operand: &Operand) -> Option<&[u8]>
     }
 }
 
-/// The key of an `index` of one text, after its first operand.
-fn index_key<'o>(operands: &'o [Operand], piped: Option<&Shape>) -> Option<&'o [u8]>
-    ensures { option_map (λ k. k.now) result ≡ index_key (operands_in operands.now) (seen piped.entry) }
+/// What `index` gives for a key of this shape, which has to be a text.
+fn entry_by(base: &Base<'_>, key: &Shape, shape: &Shape) -> Result<Shape, Trouble>
+    ensures { IfOk result (λ s. entry_by (base_of base.now) (shape_of key.now) (shape_of shape.now) ≡ Some (shape_of s)) }
 {
-    match operands {
-        [] => None,
-        [first, rest @ ..] => match rest {
-            [] => match piped {
-                Some(_) => None,
-                None => text_of(first),
-            },
-            [_, _more @ ..] => None,
+    if within(base, key, &Shape::Texts) {
+        index_shape(base, None, shape)
+    } else {
+        Err(Trouble::Refused)
+    }
+}
+
+/// The shape of what `index` gives for these keys of values of the shape.
+#[cycle(pipeline)]
+fn entry_along(
+    base: &Base<'_>,
+    mode: MissingKey,
+    state: &State,
+    keys: &[Operand],
+    piped: Option<&Shape>,
+    shape: &Shape,
+) -> Result<Shape, Trouble>
+    ensures { IfOk result (λ s. entry_along (base_of base.now) mode (state_of state.now)
+        (operands_in keys.now) (seen piped.entry) (shape_of shape.now) ≡ Some (shape_of s)) }
+{
+    match keys {
+        [] => match piped {
+            Some(key) => entry_by(base, key, shape),
+            None => Ok(copy_shape(base.alloc, shape)?),
         },
+        [first, rest @ ..] => {
+            let key = operand_shape(base, mode, state, first)?;
+            let entry = match text_of(first) {
+                Some(name) => index_shape(base, Some(name), shape)?,
+                None => entry_by(base, &key, shape)?,
+            };
+            entry_along(base, mode, state, rest, piped, &entry)
+        }
     }
 }
 
@@ -203,15 +230,43 @@ fn indexed_shape(
 {
     match operands {
         [] => Err(unsafe_by(base.alloc, Cause::NotFollowed(Func::Index))),
-        [first, rest @ ..] => match index_key(rest, piped) {
-            Some(name) => {
-                let shape = operand_shape(base, mode, state, first)?;
-                match index_shape(base, name, &shape) {
-                    Ok(entry) => Ok(entry),
-                    Err(trouble) => Err(of_call(base.alloc, trouble, Func::Index)),
+        [first, rest @ ..] => {
+            let shape = operand_shape(base, mode, state, first)?;
+            if has_kind(base, Kind::Blank, &shape) {
+                return Err(unsafe_by(base.alloc, Cause::Arguments(Func::Index)));
+            }
+            match entry_along(base, mode, state, rest, piped, &shape) {
+                Ok(entry) => Ok(entry),
+                Err(trouble) => Err(of_call(base.alloc, trouble, Func::Index)),
+            }
+        }
+    }
+}
+
+/// The shape of a `printf`.
+#[cycle(pipeline)]
+#[tactic(auto, using(crate::proofs::PipelineLemmas::formats))]
+fn printed_shape(
+    base: &Base<'_>,
+    mode: MissingKey,
+    state: &State,
+    operands: &[Operand],
+    piped: Option<&Shape>,
+) -> Result<Shape, Trouble>
+    ensures { IfOk result (λ s. printed_shape (base_of base.now) mode (state_of state.now)
+        (operands_in operands.now) (seen piped.entry) ≡ Some (shape_of s)) }
+{
+    match operands {
+        [] => Err(unsafe_by(base.alloc, Cause::NotFollowed(Func::Printf))),
+        [first, rest @ ..] => match text_of(first) {
+            Some(format) => {
+                let shapes = argument_shapes(base, mode, state, rest, piped)?;
+                match printf_shape(base, format, &shapes) {
+                    Ok(shape) => Ok(shape),
+                    Err(trouble) => Err(of_call(base.alloc, trouble, Func::Printf)),
                 }
             }
-            None => Err(unsafe_by(base.alloc, Cause::NotFollowed(Func::Index))),
+            None => Err(unsafe_by(base.alloc, Cause::NotFollowed(Func::Printf))),
         },
     }
 }
@@ -248,7 +303,8 @@ fn function_shape(
         Func::Gt => called_shape(base, mode, state, func, operands, piped),
         Func::Ge => called_shape(base, mode, state, func, operands, piped),
         Func::Index => indexed_shape(base, mode, state, operands, piped),
-        Func::Slice | Func::Printf => Err(unsafe_by(base.alloc, Cause::NotFollowed(func))),
+        Func::Printf => printed_shape(base, mode, state, operands, piped),
+        Func::Slice => Err(unsafe_by(base.alloc, Cause::NotFollowed(func))),
     }
 }
 

@@ -1,7 +1,7 @@
 //! Why a check does not accept.
 use crate::shape::{Shape, copy_name};
 use crate::table::Entry;
-use std::alloc::{AllocError, Global};
+use std::alloc::{AllocError, AllocFailed, Global};
 use tmpl_funcs::Func;
 use tmpl_values::Bytes;
 
@@ -51,6 +51,12 @@ pub(crate) enum Trouble {
 
 impl From<AllocError> for Trouble {
     fn from(_: AllocError) -> Trouble {
+        Trouble::OutOfMemory
+    }
+}
+
+impl<T: Drop> From<AllocFailed<T>> for Trouble {
+    fn from(_: AllocFailed<T>) -> Trouble {
         Trouble::OutOfMemory
     }
 }

@@ -3,13 +3,14 @@
 
 ghost use Rattle.std.specs.Prelude.{◌≡◌, IfOk, Some};
 ghost use Rattle.tmpl_grammar.specs.View.{binding_of};
-ghost use Rattle.tmpl_schema.specs.View.{fields_of, shape_of};
-ghost use Rattle.tmpl_schema.specs.computed.Shapes.{any_field, both_visits, number_visit, visit_by, visit_of};
+ghost use Rattle.tmpl_schema.specs.View.{shape_of};
+ghost use Rattle.tmpl_schema.specs.computed.Shapes.{both_visits, number_visit, visit_by, visit_of};
 ghost use Rattle.tmpl_schema.specs.computed.View.{base_of, visit_seen};
 
+use crate::field::any_field;
 use crate::inclusion::find;
 use crate::join::joined;
-use crate::shape::{Base, Fields, Shape, copy_shape};
+use crate::shape::{Base, Shape, copy_shape};
 use crate::trouble::{Cause, Trouble, no_range, unsafe_by};
 use std::alloc::{AllocError, Global};
 use tmpl_grammar::Binding;
@@ -19,20 +20,6 @@ use tmpl_grammar::Binding;
 pub(crate) struct Visit {
     pub(crate) key: Shape,
     pub(crate) element: Shape,
-}
-
-/// Any field of these.
-fn any_field(base: &Base<'_>, fields: &Fields) -> Result<Shape, AllocError>
-    ensures { IfOk result (λ s. shape_of s ≡ any_field (base_of base.now) (fields_of fields.now)) }
-{
-    match fields {
-        Fields::Closed => Ok(Shape::Never),
-        Fields::Others(shape) => copy_shape(base.alloc, shape),
-        Fields::Field(first) => {
-            let shape = copy_shape(base.alloc, &first.shape)?;
-            joined(base, shape, any_field(base, &first.rest)?)
-        }
-    }
 }
 
 /// What a range over a number visits, where it may have these variables.

@@ -1,7 +1,7 @@
 -- The shapes of calls: a row for each function, by the shapes of its arguments.
 use Rattle.std.specs.Prelude.{Bool, true, ◌&&◌, ◌||◌, List, [], ◌∷◌, Option, Some, None, if◌then◌else◌}
 use Rattle.tmpl_funcs.specs.declared.func.Func.{Func}
-use Rattle.tmpl_funcs.specs.declared.func.Func.TheVariants.{And, Or, Not, Len, Index, Print, Println}
+use Rattle.tmpl_funcs.specs.declared.func.Func.TheVariants.{And, Or, Not, Len, Index, Print, Println, Printf}
 use Rattle.tmpl_funcs.specs.declared.func.Func.TheVariants.{Html, Urlquery, Eq, Ne, Lt, Le, Gt, Ge}
 use Rattle.tmpl_schema.specs.Shape.{Shape, nothings, nulls, truths, numbers, texts, either}
 use Rattle.tmpl_schema.specs.computed.Shapes.{Base, is_sized, within}
@@ -23,12 +23,14 @@ truths_if c = if c then Some truths else None
 abbrev pub numbers_if : Bool → Option Shape
 numbers_if c = if c then Some numbers else None
 
--- of the four, the one that a function is
-abbrev pub shape_by_function : Func → Option Shape → Option Shape → Option Shape → Option Shape → Option Shape
-shape_by_function And all every some index = every
-shape_by_function Or all every some index = some
-shape_by_function Index all every some index = index
-shape_by_function f all every some index = all
+-- of the five, the one that a function is
+abbrev pub shape_by_function :
+    Func → Option Shape → Option Shape → Option Shape → Option Shape → Option Shape → Option Shape
+shape_by_function And all every some index printed = every
+shape_by_function Or all every some index printed = some
+shape_by_function Index all every some index printed = index
+shape_by_function Printf all every some index printed = printed
+shape_by_function f all every some index printed = all
 
 module _ (base : Base) where
   -- both are of this kind, or nothing or null
@@ -53,7 +55,7 @@ module _ (base : Base) where
   abbrev pub ordered_shape : List Shape → Option Shape
   ordered_shape ss = two_shapes (λ s t. truths_if (ordered s t)) ss
 
-  -- what a call gives, if it never is a fault; `slice` and `printf` are not looked at, and `index` elsewhere
+  -- what a call gives, if it never is a fault; `slice` is not looked at, and `index` and `printf` elsewhere
   abbrev pub call_shape : Func → List Shape → Option Shape
   call_shape Not ss = one_shape (λ s. Some truths) ss
   call_shape Len ss = one_shape (λ s. numbers_if (is_sized base s)) ss

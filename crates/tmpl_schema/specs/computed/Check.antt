@@ -16,8 +16,11 @@ use Rattle.tmpl_funcs.specs.Func.{takes}
 use Rattle.tmpl_funcs.specs.declared.func.Func.{Func}
 use Rattle.tmpl_funcs.specs.declared.func.Func.TheVariants.{And, Not}
 use Rattle.tmpl_meaning.specs.Pipeline.{operand_count}
-use Rattle.tmpl_schema.specs.computed.Shapes.{Base, within, joined, both, filled, null_gone, refined, chain_shape, index_shape, Visit, visit_of}
+use Rattle.tmpl_schema.specs.declared.kind.Kind.TheVariants.{Blank}
+use Rattle.tmpl_schema.specs.computed.Shapes.{Base, has_kind, within, joined, both, filled, null_gone, refined, chain_shape}
+use Rattle.tmpl_schema.specs.computed.Shapes.{index_shape, Visit, visit_of}
 use Rattle.tmpl_schema.specs.computed.Calls.{call_shape, shape_by_function}
+use Rattle.tmpl_schema.specs.computed.Formats.{printf_shape}
 
 -- the shapes of the variables in scope, the newest first
 abbrev pub Known : Type 0
@@ -51,11 +54,6 @@ alone s (Some piped) os = None
 abbrev pub text_of : Operand → Option (List ℕ)
 text_of (text_constant bytes) = Some bytes
 text_of o = None
-
--- the key of an `index` of one text, after its first operand
-abbrev pub index_key : Operands → Option Shape → Option (List ℕ)
-index_key (operand o no_operand) None = text_of o
-index_key os piped = None
 
 -- dot, and the variables
 pub record State : Type 0 where
@@ -139,6 +137,15 @@ module _ (base : Base) where
   abbrev pub passed : Bool → Operand → State → State
   passed is_or o k = if is_or then k else narrowed_by o k
 
+  -- what `index` gives for a key of this shape, which has to be a text
+  abbrev pub entry_by : Shape → Shape → Option Shape
+  entry_by key s = if within base key texts then index_shape base None s else None
+
+  -- .. for a key that is this text, or has the shape
+  abbrev pub entry_for : Option (List ℕ) → Shape → Shape → Option Shape
+  entry_for (Some name) key s = index_shape base (Some name) s
+  entry_for None key s = entry_by key s
+
   abbrev mutual
     pub operand_shape : MissingKey → State → Operand → Option Shape
     operand_shape m k dot = Some k.dot
@@ -163,18 +170,32 @@ module _ (base : Base) where
         option_and_then (λ s. both base (Some (deciding_shape is_or s))
         (junction_shape is_or m (passed is_or o k) (passing_shape is_or s) os piped)) (operand_shape m k o)
 
-    -- the operands of an `index`
+    -- what `index` gives of values of the shape for all its keys
+    pub entry_along : MissingKey → State → Operands → Option Shape → Shape → Option Shape
+    entry_along m k no_operand None s = Some s
+    entry_along m k no_operand (Some key) s = entry_by key s
+    entry_along m k (operand o os) piped s =
+        option_and_then (λ key. option_and_then (entry_along m k os piped) (entry_for (text_of o) key s)) (operand_shape m k o)
+
+    -- the operands of an `index`, of which the first may not be nothing
     pub indexed_shape : MissingKey → State → Operands → Option Shape → Option Shape
     indexed_shape m k no_operand piped = None
     indexed_shape m k (operand o os) piped =
-        option_and_then (λ name. option_and_then (index_shape base name) (operand_shape m k o)) (index_key os piped)
+        option_and_then (λ s. if has_kind base Blank s then None else entry_along m k os piped s) (operand_shape m k o)
+
+    -- the operands of a `printf`, whose format is written out
+    pub printed_shape : MissingKey → State → Operands → Option Shape → Option Shape
+    printed_shape m k no_operand piped = None
+    printed_shape m k (operand o os) piped =
+        option_and_then (λ format. option_and_then (λ ss. printf_shape base format (ss ++ option_to_list piped))
+        (operand_shapes m k os)) (text_of o)
 
     pub command_shape : MissingKey → State → Operands → Option Shape → Option Shape
     command_shape m k (operand (function f) os) piped =
         if takes f (operand_count os + length (option_to_list piped)) then
         shape_by_function f (option_and_then (λ ss. call_shape base f (ss ++ option_to_list piped)) (operand_shapes m k os))
         (junction_shape false m k nothings os piped) (junction_shape true m k nothings os piped)
-        (indexed_shape m k os piped) else None
+        (indexed_shape m k os piped) (printed_shape m k os piped) else None
     command_shape m k (operand nil os) piped = None
     command_shape m k (operand o os) piped = alone (operand_shape m k o) piped os
     command_shape m k no_operand piped = None

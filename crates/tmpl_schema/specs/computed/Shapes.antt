@@ -7,6 +7,8 @@ use Rattle.std.specs.Str.{bytes_eq}
 use Rattle.tmpl_grammar.specs.Tree.{Binding, declare_pair}
 use Rattle.tmpl_meaning.specs.declared.missing_key.MissingKey.{MissingKey}
 use Rattle.tmpl_meaning.specs.declared.missing_key.MissingKey.TheVariants.{Zero, Error}
+use Rattle.tmpl_schema.specs.declared.kind.Kind.{Kind}
+use Rattle.tmpl_schema.specs.declared.kind.Kind.TheVariants.{Blank, Truth, Number, Text, Many}
 use Rattle.tmpl_schema.specs.Shape.{Shape, never, nothings, nulls, truths, numbers, texts, anything, list_of, record_of}
 use Rattle.tmpl_schema.specs.Shape.{either, named, Defs, Fields, no_field, others, field}
 
@@ -72,6 +74,13 @@ fields_within w all (field n required s fs) gs = option_map_or (w s) (shape_at n
 abbrev pub record_within : (Shape → Shape → Bool) → Fields → Fields → Bool
 record_within w fs gs = fields_within w fs fs gs && requires_all fs gs
 
+-- .. of which those at the front are compared one by one as long as both have the same names
+abbrev pub fields_along : (Shape → Shape → Bool) → Fields → Fields → Bool
+fields_along w (field n r s fs) (field m q t gs) =
+    if bytes_eq n m then (not q || r) && (w s t && fields_along w fs gs)
+    else record_within w (field n r s fs) (field m q t gs)
+fields_along w fs gs = record_within w fs gs
+
 -- this name is one of the alternatives
 abbrev pub has_name : List ℕ → Shape → Bool
 has_name x (either a b) = has_name x a || has_name x b
@@ -104,6 +113,14 @@ abbrev pub is_texts : Shape → Bool
 is_texts texts = true
 is_texts s = false
 
+-- a shape of one kind of values is of this kind
+abbrev pub is_of_kind : Kind → Shape → Bool
+is_of_kind Blank s = is_nothings s || is_nulls s
+is_of_kind Truth s = is_truths s
+is_of_kind Number s = is_numbers s
+is_of_kind Text s = is_texts s
+is_of_kind Many s = not (is_nothings s || (is_nulls s || (is_truths s || (is_numbers s || is_texts s))))
+
 abbrev pub is_list : (Shape → Bool) → Shape → Bool
 is_list p (list_of s) = p s
 is_list p s = false
@@ -120,7 +137,7 @@ plain_within w truths t = is_truths t
 plain_within w numbers t = is_numbers t
 plain_within w texts t = is_texts t
 plain_within w (list_of s) t = is_list (w s) t
-plain_within w (record_of fs) t = is_record (record_within w fs) t
+plain_within w (record_of fs) t = is_record (fields_along w fs) t
 plain_within w s t = false
 
 -- what stands for a field that is absent, if that is no fault
@@ -167,27 +184,27 @@ module _ (base : Base) where
   both (Some s) (Some t) = Some (joined s t)
   both s t = None
 
-  -- it may have null, by whether what is in it may
-  abbrev pub null_step : (Shape → Bool) → Shape → Bool
-  null_step p nulls = true
-  null_step p anything = true
-  null_step p (either s t) = p s || p t
-  null_step p (named x) = option_map_or p (base.defs x) true
-  null_step p s = false
+  -- it may have values of the kind, by whether what is in it may
+  abbrev pub kind_step : (Shape → Bool) → Kind → Shape → Bool
+  kind_step p k never = false
+  kind_step p k anything = true
+  kind_step p k (either s t) = p s || p t
+  kind_step p k (named x) = option_map_or p (base.defs x) true
+  kind_step p k s = is_of_kind k s
 
-  abbrev pub may_be_null : ℕ → Shape → Bool
-  may_be_null zero s = true
-  may_be_null (suc n) s = null_step (may_be_null n) s
+  abbrev pub may_be : ℕ → Kind → Shape → Bool
+  may_be zero k s = true
+  may_be (suc n) k s = kind_step (may_be n k) k s
 
-  unfoldable pub has_null : Shape → Bool
-  has_null s = may_be_null base.limit s
+  unfoldable pub has_kind : Kind → Shape → Bool
+  has_kind k s = may_be base.limit k s
 
   -- of what a command gives: null is nothing
   abbrev pub gone_step : (Shape → Shape) → Shape → Shape
   gone_step f nulls = nothings
   gone_step f (either s t) = joined (f s) (f t)
   gone_step f (named x) =
-      if has_null (named x) then option_map_or f (base.defs x) (either (named x) nothings) else named x
+      if has_kind Blank (named x) then option_map_or f (base.defs x) (either (named x) nothings) else named x
   gone_step f s = s
 
   abbrev pub null_gone_by : ℕ → Shape → Shape
@@ -254,27 +271,32 @@ module _ (base : Base) where
   chain_shape m [] s = Some s
   chain_shape m (n ∷ ns) s = option_and_then (chain_shape m ns) (field_shape m n s)
 
-  -- what `index` gives for a key, if it gives something of each value: the entry, or null
-  abbrev pub index_step : (Shape → Option Shape) → List ℕ → Shape → Option Shape
-  index_step f name never = Some never
-  index_step f name (record_of fs) = entry_shape Zero name fs
-  index_step f name (either s t) = both (f s) (f t)
-  index_step f name (named x) = option_and_then f (base.defs x)
-  index_step f name s = None
-
-  abbrev pub index_shape_by : ℕ → List ℕ → Shape → Option Shape
-  index_shape_by zero name s = None
-  index_shape_by (suc n) name s = index_step (index_shape_by n name) name s
-
-  abbrev pub index_shape : List ℕ → Shape → Option Shape
-  index_shape name s = index_shape_by base.limit name s
-
-  -- ---- elements
-
+  -- any of the fields
   abbrev pub any_field : Fields → Shape
   any_field no_field = never
   any_field (others s) = s
   any_field (field n required s fs) = joined s (any_field fs)
+
+  -- what `index` gives for a key that is known, or for any, if it gives something of each value: the entry, or null
+  abbrev pub keyed_shape : Option (List ℕ) → Fields → Option Shape
+  keyed_shape (Some name) fs = entry_shape Zero name fs
+  keyed_shape None fs = Some (joined (any_field fs) nulls)
+
+  abbrev pub index_step : (Shape → Option Shape) → Option (List ℕ) → Shape → Option Shape
+  index_step f key never = Some never
+  index_step f key (record_of fs) = keyed_shape key fs
+  index_step f key (either s t) = both (f s) (f t)
+  index_step f key (named x) = option_and_then f (base.defs x)
+  index_step f key s = None
+
+  abbrev pub index_shape_by : ℕ → Option (List ℕ) → Shape → Option Shape
+  index_shape_by zero key s = None
+  index_shape_by (suc n) key s = index_step (index_shape_by n key) key s
+
+  abbrev pub index_shape : Option (List ℕ) → Shape → Option Shape
+  index_shape key s = index_shape_by base.limit key s
+
+  -- ---- elements
 
   abbrev pub both_visits : Option Visit → Option Visit → Option Visit
   both_visits (Some v) (Some w) = visit (joined v.key w.key) (joined v.element w.element)
@@ -302,18 +324,5 @@ module _ (base : Base) where
   -- ---- sizes
 
   -- texts, lists and records
-  abbrev pub sized_step : (Shape → Bool) → Shape → Bool
-  sized_step p never = true
-  sized_step p texts = true
-  sized_step p (list_of s) = true
-  sized_step p (record_of fs) = true
-  sized_step p (either s t) = p s && p t
-  sized_step p (named x) = option_map_or p (base.defs x) false
-  sized_step p s = false
-
-  abbrev pub is_sized_by : ℕ → Shape → Bool
-  is_sized_by zero s = false
-  is_sized_by (suc n) s = sized_step (is_sized_by n) s
-
   abbrev pub is_sized : Shape → Bool
-  is_sized s = is_sized_by base.limit s
+  is_sized s = not (has_kind Blank s || (has_kind Truth s || has_kind Number s))

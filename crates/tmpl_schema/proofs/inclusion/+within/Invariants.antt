@@ -1,6 +1,6 @@
 use Rattle.std.proofs.Common.{◌≡◌, ◌+◌, ◌*◌}
 use Rattle.tmpl_schema.specs.View.{fields_of, shape_of}
-use Rattle.tmpl_schema.specs.computed.Shapes.{fields_within, others_within, within_by}
+use Rattle.tmpl_schema.specs.computed.Shapes.{fields_along, fields_within, others_within, within_by}
 use Rattle.tmpl_schema.specs.computed.View.{base_of}
 use Rattle.tmpl_schema.proofs.ViewLemmas.{count}
 use Rattle.tmpl_schema.proofs.inclusion.+within.Given as goal
@@ -18,7 +18,21 @@ abbrev pub decreases-items_within : goal.decreases-items_within
 decreases-items_within l = 100 * l.steps + 6
 
 abbrev pub decreases-record_within : goal.decreases-record_within
-decreases-record_within l = 100 * l.steps + 6
+decreases-record_within l = 100 * l.steps + 7
+
+abbrev pub decreases-fields_along : goal.decreases-fields_along
+decreases-fields_along l = 100 * l.steps + 6
+
+abbrev pub decreases-all_fields_within : goal.decreases-all_fields_within
+decreases-all_fields_within l = 100 * l.steps + 5
+
+abbrev pub decreases-fields_along-loop-rest : goal.decreases-fields_along-loop-rest
+decreases-fields_along-loop-rest l = count (fields_of l.rest)
+
+abbrev pub invariant-fields_along-loop-rest : goal.invariant-fields_along-loop-rest
+invariant-fields_along-loop-rest l =
+    let w = within_by (base_of l.base) l.names l.steps in
+    fields_along w (fields_of l.fields) (fields_of l.others) ≡ fields_along w (fields_of l.rest) (fields_of l.others_rest)
 
 abbrev pub decreases-fields_within : goal.decreases-fields_within
 decreases-fields_within l = 100 * l.steps + 4

@@ -28,4 +28,10 @@ abbrev pub decreases-operand_shape : goal.decreases-operand_shape
 decreases-operand_shape l = 8 * weight (operand_of l.operand.now)
 
 abbrev pub decreases-indexed_shape : goal.decreases-indexed_shape
-decreases-indexed_shape l = 8 * weights (operands_in l.operands.now) + 1
+decreases-indexed_shape l = 8 * weights (operands_in l.operands.now) + 2
+
+abbrev pub decreases-entry_along : goal.decreases-entry_along
+decreases-entry_along l = 8 * weights (operands_in l.keys.now) + 1
+
+abbrev pub decreases-printed_shape : goal.decreases-printed_shape
+decreases-printed_shape l = 8 * weights (operands_in l.operands.now) + 2
