@@ -4,6 +4,7 @@
 mod check;
 mod definitions;
 mod explain;
+mod line;
 mod merge;
 mod problem;
 mod readable;
@@ -14,6 +15,7 @@ mod survey;
 mod variables;
 
 pub use check::check_file;
+pub use line::{Finding, problem_lines, problem_text, reason_text};
 pub use problem::{Problem, Problems};
 pub use reason::reason_words;
 pub use survey::{Named, Survey, Warning, survey_file};
