@@ -9,6 +9,7 @@ use Rattle.tmpl_values.specs.Value.{Value, nothing, null, number, sequence, mapp
 use Rattle.tmpl_values.specs.Elements.{Element, elements, pairs, listed, keyed}
 use Rattle.tmpl_values.specs.Field.{found, missing, of_nothing, field_at, entry_at}
 use Rattle.tmpl_values.specs.Stage.{and_then}
+use Rattle.tmpl_values.specs.Compare.{is_nothing}
 use Rattle.tmpl_values.specs.Truth.{truth}
 use Rattle.tmpl_grammar.specs.Tree.{Binding, unbound, declare, assign, declare_pair}
 use Rattle.tmpl_meaning.specs.Fault.{Cause}
@@ -22,6 +23,12 @@ use Rattle.tmpl_schema.specs.computed.Means.{Means}
 use Rattle.tmpl_schema.specs.computed.Shapes.{Base, shape_at, with_field, both, refined_by, refined, filled, absent_shape, of_field, entry_shape}
 use Rattle.tmpl_schema.specs.computed.Shapes.{field_shape_by, field_shape, chain_shape, any_field, Visit, both_visits, visit_by, visit_of}
 use Rattle.tmpl_schema.proofs.ShapeLemmas.{same_name, joined-left, joined-right}
+
+-- what is not empty is neither nothing nor null
+pub full-thing : (v : Value) → truth v ≡ true → is_nothing v ≡ false
+full-thing nothing t = absurd (false≢true t)
+full-thing null t = absurd (false≢true t)
+full-thing _ t = refl
 
 module _ (base : Base) (N : Names) (means : Means base.defs N) where
   -- where a shape is computed there is a value, and it has the shape
@@ -136,19 +143,19 @@ module _ (base : Base) (N : Names) (means : Means base.defs N) where
 
   -- ---- narrowing
 
-  -- fields of nothing and of null are empty
-  of_nothing-empty : (m : MissingKey) (ns : List (List ℕ)) (x : Value) → chain m ns nothing ≡ Ok x → truth x ≡ true → ⊥
-  of_nothing-empty m [] x e t = let same : nothing ≡ x = cc in false≢true (ap truth same ∙ t)
+  -- fields of nothing and of null are nothing or null
+  of_nothing-empty : (m : MissingKey) (ns : List (List ℕ)) (x : Value) → chain m ns nothing ≡ Ok x → is_nothing x ≡ false → ⊥
+  of_nothing-empty m [] x e t = let same : nothing ≡ x = cc in false≢true (sym (ap is_nothing same ∙ t))
   of_nothing-empty mode.Error (n ∷ ns) x e t = cc
   of_nothing-empty mode.Zero (n ∷ ns) x e t = of_nothing-empty mode.Zero ns x e t
   of_nothing-empty mode.Default (n ∷ ns) x e t = of_nothing-empty mode.Default ns x e t
   of_nothing-empty mode.Invalid (n ∷ ns) x e t = of_nothing-empty mode.Invalid ns x e t
 
-  of_null-empty : (m : MissingKey) (ns : List (List ℕ)) (x : Value) → chain m ns null ≡ Ok x → truth x ≡ true → ⊥
-  of_null-empty m [] x e t = let same : null ≡ x = cc in false≢true (ap truth same ∙ t)
+  of_null-empty : (m : MissingKey) (ns : List (List ℕ)) (x : Value) → chain m ns null ≡ Ok x → is_nothing x ≡ false → ⊥
+  of_null-empty m [] x e t = let same : null ≡ x = cc in false≢true (sym (ap is_nothing same ∙ t))
   of_null-empty m (n ∷ ns) x e t = cc
 
-  of_missing-empty : (m : MissingKey) (n : List ℕ) (ns : List (List ℕ)) (x : Value) → and_then (field_value m n missing) (chain m ns) ≡ Ok x → truth x ≡ true → ⊥
+  of_missing-empty : (m : MissingKey) (n : List ℕ) (ns : List (List ℕ)) (x : Value) → and_then (field_value m n missing) (chain m ns) ≡ Ok x → is_nothing x ≡ false → ⊥
   of_missing-empty mode.Error n ns x e t = cc
   of_missing-empty mode.Zero n ns x e t = of_null-empty mode.Zero ns x e t
   of_missing-empty mode.Default n ns x e t = of_nothing-empty mode.Default ns x e t
@@ -233,7 +240,7 @@ module _ (base : Base) (N : Names) (means : Means base.defs N) where
 
   record-refined : (m : MissingKey) (n : List ℕ) (ns : List (List ℕ)) (s t : Shape) (fs : Fields) (es : Entries) (x : Value)
       → ((w : Value) → chain m ns w ≡ Ok x → HasShape N s w → HasShape N t w) → shape_at n fs ≡ Some s
-      → HasShape N (record_of fs) (mapping es) → and_then (field_value m n (option_map_or found (entry_at n es) missing)) (chain m ns) ≡ Ok x → truth x ≡ true
+      → HasShape N (record_of fs) (mapping es) → and_then (field_value m n (option_map_or found (entry_at n es) missing)) (chain m ns) ≡ Ok x → is_nothing x ≡ false
       → HasShape N (record_of (with_field n t fs)) (mapping es)
   record-refined m n ns s t fs es x g at h e full = by (entry_at n es) refl e
     where
@@ -246,7 +253,7 @@ module _ (base : Base) (N : Names) (means : Means base.defs N) where
         required-refined n t es (rw is refl) fs h.2,
       )
 
-  refined_by-has : (i : ℕ) (ns : List (List ℕ)) (s : Shape) (m : MissingKey) (v x : Value) → HasShape N s v → chain m ns v ≡ Ok x → truth x ≡ true
+  refined_by-has : (i : ℕ) (ns : List (List ℕ)) (s : Shape) (m : MissingKey) (v x : Value) → HasShape N s v → chain m ns v ≡ Ok x → is_nothing x ≡ false
       → HasShape N (refined_by base i ns s) v
   refined_by-has zero ns s m v x h e t = h
   refined_by-has (suc i) ns nothings m nothing x h e t = absurd (of_nothing-empty m ns x e t)
@@ -275,11 +282,11 @@ module _ (base : Base) (N : Names) (means : Means base.defs N) where
   refined_by-has (suc i) (name ∷ ns) (record_of fs) m _ x h e t = absurd h
   refined_by-has (suc i) ns s m v x h e t = h
 
-  pub refined-has : (s : Shape) (m : MissingKey) (ns : List (List ℕ)) (v x : Value) → HasShape N s v → chain m ns v ≡ Ok x → truth x ≡ true → HasShape N (refined base ns s) v
+  pub refined-has : (s : Shape) (m : MissingKey) (ns : List (List ℕ)) (v x : Value) → HasShape N s v → chain m ns v ≡ Ok x → is_nothing x ≡ false → HasShape N (refined base ns s) v
   refined-has s m ns v x h e t = refined_by-has base.limit ns s m v x h e t
 
   pub filled-has : (s : Shape) (v : Value) → HasShape N s v → truth v ≡ true → HasShape N (filled base s) v
-  filled-has s v h t = refined-has s mode.Error [] v v h refl t
+  filled-has s v h t = refined-has s mode.Error [] v v h refl (full-thing v t)
 
   -- ---- elements
 

@@ -2,7 +2,7 @@
 use Rattle.std.proofs.Common.{◌≡◌, ◌||◌, ℕ, zero, suc, Bool, true, false, Option, Some, None, inl, inr, refl}
 use Rattle.std.specs.Option.{option_map_or}
 use Rattle.tmpl_values.specs.Value.{Value, nothing, null, boolean, number, string, sequence, mapping}
-use Rattle.tmpl_schema.specs.Shape.{Shape, never, nothings, nulls, truths, numbers, texts, anything, list_of, record_of}
+use Rattle.tmpl_schema.specs.Shape.{Shape, nothings, nulls, truths, numbers, texts, anything, list_of, record_of}
 use Rattle.tmpl_schema.specs.Shape.{either, named, Names, HasShape}
 use Rattle.tmpl_schema.specs.declared.kind.Kind.{Kind}
 use Rattle.tmpl_schema.specs.declared.kind.Kind.TheVariants.{Blank, Truth, Number, Text, Many}

@@ -6,15 +6,17 @@ use Rattle.std.proofs.lemmas.Option.{cond_some, option_and_then_some}
 use Rattle.std.specs.Option.{option_map, option_map_or, option_and_then}
 use Rattle.std.specs.List.{find}
 use Rattle.std.specs.Str.{bytes_eq}
-use Rattle.tmpl_values.specs.Value.{Value, nothing, null, boolean, string, mapping, Entries}
+use Rattle.tmpl_values.specs.Value.{Value, nothing, null, boolean, number, string, sequence, mapping, Entries}
 use Rattle.tmpl_values.specs.Field.{found, missing, entry_at}
 use Rattle.tmpl_values.specs.Stage.{and_then}
 use Rattle.tmpl_funcs.specs.Index.{indexed, indexed_by}
 use Rattle.tmpl_funcs.specs.declared.fault.CallFault.{CallFault}
 use Rattle.std.specs.Result.{result_map_both}
 use Rattle.tmpl_values.specs.Elements.{Element}
+use Rattle.tmpl_values.specs.Compare.{equality, is_nothing}
 use Rattle.tmpl_values.specs.Truth.{truth}
-use Rattle.tmpl_grammar.specs.Tree.{Operand, dot, fields, variable, nil, text_constant, function, group, Operands, no_operand, operand, Pipeline, no_command, command}
+use Rattle.tmpl_funcs.specs.Compare.{compared, equal_to_one}
+use Rattle.tmpl_grammar.specs.Tree.{Operand, dot, fields, variable, nil, bool_constant, number_constant, text_constant, function, group, Operands, no_operand, operand, Pipeline, no_command, command}
 use Rattle.tmpl_grammar.specs.Tree.{Binding, unbound, declare, assign, declare_pair}
 use Rattle.tmpl_meaning.specs.Fault.{Cause, call_failed}
 use Rattle.tmpl_meaning.specs.Pipeline.{Environment, Given, Place, chain, field_value, lookup, given, given_then, go_on, without_null, operand_value, command_value, commands_value}
@@ -27,13 +29,13 @@ use Rattle.tmpl_schema.specs.computed.Formats.{printf_shape}
 use Rattle.tmpl_schema.specs.computed.Means.{Means}
 use Rattle.tmpl_schema.specs.computed.Shapes.{Base, within, both, any_field, filled, has_kind, joined, keyed_shape, null_gone, refined, chain_shape, entry_shape, index_shape, index_shape_by}
 use Rattle.tmpl_schema.specs.computed.Calls.{call_shape, shape_by_function}
-use Rattle.tmpl_schema.specs.computed.Check.{narrowed_by, narrowed_by_all, narrowed_empty, deciding_shape, passing_shape, passed, operand_shapes, junction_shape, commands_shape}
+use Rattle.tmpl_schema.specs.computed.Check.{narrowed_by, narrowed_by_all, narrowed_by_call, narrowed_by_constant, narrowed_by_index, narrowed_by_nil, narrowed_empty, deciding_shape, passing_shape, passed, operand_shapes, junction_shape, commands_shape}
 use Rattle.tmpl_schema.specs.computed.Check.{Known, State, variable_shape, assigned_shape, bound_shapes, refined_variable, all_within, all_joined, last_of, if_within}
 use Rattle.tmpl_schema.specs.computed.Check.{after_both, entry_along, entry_by, operand_shape, indexed_shape, printed_shape, command_shape, pipeline_shape, narrowed}
 use Rattle.tmpl_schema.proofs.KindLemmas.{has_kind-has}
 use Rattle.tmpl_schema.proofs.ShapeLemmas.{same_name, within-has, joined-left, joined-right, null_gone-has}
 use Rattle.tmpl_schema.proofs.FormatLemmas.{printf-gives}
-use Rattle.tmpl_schema.proofs.FieldLemmas.{Gives, any-has, at-entry, both-left, both-right, entry-gives, chain-gives, filled-has, refined-has}
+use Rattle.tmpl_schema.proofs.FieldLemmas.{Gives, any-has, at-entry, both-left, both-right, entry-gives, chain-gives, filled-has, full-thing, refined-has}
 use Rattle.tmpl_schema.proofs.CallLemmas.{HaveShapes, call-gives}
 use Rattle.tmpl_funcs.specs.Func.{takes}
 use Rattle.tmpl_funcs.specs.declared.func.Func.{Func}
@@ -125,7 +127,7 @@ module _ (base : Base) (N : Names) (means : Means base.defs N) where
   bound-known (assign name) k s e f g ks env h = assigned-known name s e.1 g ks env h
   bound-known (declare_pair key name) k s e f g ks env h = (refl, g, (refl, f, h))
 
-  refined-known : (m : MissingKey) (name : List ℕ) (ns : List (List ℕ)) (x : Value) → truth x ≡ true → (ks : Known) (env : Environment) → HasKnown ks env
+  refined-known : (m : MissingKey) (name : List ℕ) (ns : List (List ℕ)) (x : Value) → is_nothing x ≡ false → (ks : Known) (env : Environment) → HasKnown ks env
       → chain m ns (lookup name env) ≡ Ok x → HasKnown (refined_variable base name ns ks) env
   refined-known m name ns x t [] [] h e = tt
   refined-known m name ns x t (k ∷ ks) (v ∷ env) h e = by (bytes_eq k.0 name) (rw h.0 at e) (refined-known m name ns x t ks env h.2)
@@ -339,12 +341,163 @@ module _ (base : Base) (N : Names) (means : Means base.defs N) where
   abbrev pub place : MissingKey → Value → Environment → Place
   place m d env = record { missing_key = m; dot = d; env = env }
 
+  -- ---- narrowing by the entry of a key
+
+  index-chain : (n : List ℕ) (d v : Value) → (applied func.Index (d ∷ string n ∷ [])).result ≡ Ok v → chain mode.Zero (n ∷ []) d ≡ Ok v
+  index-chain n (mapping es) v e = by (entry_at n es) e
+    where
+      by : (o : Option Value) → ◌≡◌ {A = Result Value Cause} (Ok (unwrap_or o null)) (Ok v)
+          → and_then (field_value mode.Zero n (option_map_or found o missing)) (chain mode.Zero []) ≡ Ok v
+      by None e = e
+      by (Some w) e = e
+  index-chain n _ v e = cc
+
+  -- what an `index` of these operands gives
+  abbrev index_value : MissingKey → Value → Environment → Operands → Result Value Cause
+  index_value m d env os = (given_then (operand_values (place m d env) os) (λ vs. applied func.Index (vs ++ []))).result
+
+  index-fits : (m : MissingKey) (os : Operands) (k : State) (d : Value) (env : Environment) (v : Value) → Fits k d env
+      → index_value m d env os ≡ Ok v → is_nothing v ≡ false → Fits (narrowed_by_index base os k) d env
+  index-fits m (operand dot (operand (text_constant n) no_operand)) k d env v h e t =
+      ((refined-has base N means) k.dot mode.Zero (n ∷ []) d v h.0 (index-chain n d v e) t, h.1)
+  index-fits m (operand (variable name []) (operand (text_constant n) no_operand)) k d env v h e t =
+      (h.0, refined-known mode.Zero name (n ∷ []) v t k.env env h.1 (index-chain n (lookup name env) v e))
+  index-fits m (operand (variable name (x ∷ xs)) (operand (text_constant n) no_operand)) k d env v h e t = h
+  index-fits m (operand _ (operand (text_constant n) no_operand)) k d env v h e t = h
+  index-fits m (operand _ (operand _ no_operand)) k d env v h e t = h
+  index-fits m (operand _ (operand _ (operand _ _))) k d env v h e t = h
+  index-fits m (operand _ no_operand) k d env v h e t = h
+  index-fits m no_operand k d env v h e t = h
+
+  thing-same : (v : Value) → is_nothing (without_null v) ≡ is_nothing v
+  thing-same null = refl
+  thing-same _ = refl
+
+  group-ok : (r : Result Value Cause) (a b : Bool) (v : Value)
+      → (go_on (go_on r a (λ w. given (Ok (without_null w)))).result b (λ w. given (chain mode.Zero [] w))).result ≡ Ok v
+      → (w : Value) × (r ≡ Ok w) × (is_nothing w ≡ is_nothing v)
+  group-ok (Ok w) a b v e = let same : without_null w ≡ v = cc in (w, refl, sym (thing-same w) ∙ ap is_nothing same)
+  group-ok (Err cause) a b v e = cc
+
+  by_count-ok : (f : Func) (t : Bool) (g : Given Value) (v : Value) → (by_count f t g).result ≡ Ok v → g.result ≡ Ok v
+  by_count-ok f true g v e = e
+  by_count-ok f false g v e = cc
+
+  group-fits : (m : MissingKey) (f : Func) (os : Operands) (k : State) (d : Value) (env : Environment) (v : Value) → Fits k d env
+      → (command_value (place m d env) (operand (function f) os) None).result ≡ Ok v → is_nothing v ≡ false → Fits (narrowed_by_call base f os k) d env
+  group-fits m func.Index os k d env v h e t =
+      index-fits m os k d env v h
+      (by_count-ok func.Index (takes func.Index (operand_count os + 0)) (given_then (operand_values (place m d env) os) (λ vs. applied func.Index (vs ++ []))) v e) t
+  group-fits m _ os k d env v h e t = h
+
   narrowed_by-fits : (m : MissingKey) (o : Operand) (k : State) (d : Value) (env : Environment) (v : Value) → Fits k d env
-      → (operand_value (place m d env) o).result ≡ Ok v → truth v ≡ true → Fits (narrowed_by base o k) d env
-  narrowed_by-fits m dot k d env v h e t = let same : d ≡ v = cc in ((filled-has base N means) k.dot d h.0 (ap truth same ∙ t), h.1)
+      → (operand_value (place m d env) o).result ≡ Ok v → is_nothing v ≡ false → Fits (narrowed_by base o k) d env
+  narrowed_by-fits m dot k d env v h e t =
+      let same : d ≡ v = cc in ((refined-has base N means) k.dot mode.Error [] d d h.0 refl (ap is_nothing same ∙ t), h.1)
   narrowed_by-fits m (fields names) k d env v h e t = ((refined-has base N means) k.dot m names d v h.0 e t, h.1)
   narrowed_by-fits m (variable name names) k d env v h e t = (h.0, refined-known m name names v t k.env env h.1 e)
+  narrowed_by-fits m (group (command (operand (function f) os) no_command) []) k d env v h e t =
+      let c = command_value (place m d env) (operand (function f) os) None in
+      let g = group-ok c.result c.made_text (commands_value (place m d env) (command (operand (function f) os) no_command) None).made_text v e in
+      group-fits m f os k d env g.0 h g.1 (g.2 ∙ t)
+  narrowed_by-fits m (group p (n ∷ ns)) k d env v h e t = h
+  narrowed_by-fits m (group no_command []) k d env v h e t = h
+  narrowed_by-fits m (group (command no_operand no_command) []) k d env v h e t = h
+  narrowed_by-fits m (group (command (operand _ os) no_command) []) k d env v h e t = h
+  narrowed_by-fits m (group (command os (command us cs)) []) k d env v h e t = h
   narrowed_by-fits m _ k d env v h e t = h
+
+  -- ---- narrowing by comparisons
+
+  equality-left : (w : Value) → (equality nothing w ≡ Some (is_nothing w)) × (equality null w ≡ Some (is_nothing w))
+  equality-left nothing = (refl, refl)
+  equality-left null = (refl, refl)
+  equality-left (boolean b) = (refl, refl)
+  equality-left (number n) = (refl, refl)
+  equality-left (string s) = (refl, refl)
+  equality-left (sequence vs) = (refl, refl)
+  equality-left (mapping es) = (refl, refl)
+
+  -- what equals a value that is neither nothing nor null is neither
+  equal-thing : (v w : Value) → is_nothing w ≡ false → equality v w ≡ Some true → is_nothing v ≡ false
+  equal-thing nothing w t e = let l = (equality-left w).0 in let same : is_nothing w ≡ true = cc in absurd (false≢true (sym t ∙ same))
+  equal-thing null w t e = let l = (equality-left w).1 in let same : is_nothing w ≡ true = cc in absurd (false≢true (sym t ∙ same))
+  equal-thing _ w t e = refl
+
+  -- what differs from nothing is neither
+  unequal-thing : (v : Value) → equality v nothing ≡ Some false → is_nothing v ≡ false
+  unequal-thing nothing e = cc
+  unequal-thing null e = cc
+  unequal-thing _ e = refl
+
+  abbrev compare_told : Func → Option Bool → Result Value Cause
+  compare_told f o = result_map_both (λ v. v) (call_failed f) (compared o)
+
+  told-truth : (f : Func) (o : Option Bool) (v : Value) (b : Bool) → compare_told f o ≡ Ok v → truth v ≡ b → o ≡ Some b
+  told-truth f None v b e t = cc
+  told-truth f (Some c) v b e t = let same : boolean c ≡ v = cc in ap Some (ap truth same ∙ t)
+
+  one-equal : (o : Option Bool) (b : Bool) → option_and_then (λ equal. if equal then Some true else Some false) o ≡ Some b → o ≡ Some b
+  one-equal None b e = cc
+  one-equal (Some true) b e = e
+  one-equal (Some false) b e = e
+
+  opposite-of : (o : Option Bool) (b : Bool) → option_map not o ≡ Some b → o ≡ Some (not b)
+  opposite-of None b e = cc
+  opposite-of (Some true) b e = let same : false ≡ b = cc in ap (λ c. Some (not c)) same
+  opposite-of (Some false) b e = let same : true ≡ b = cc in ap (λ c. Some (not c)) same
+
+  -- what `eq` or `ne` of a value and these gives
+  abbrev pair_value : Func → Result Value Cause → Bool → Bool → Value → Result Value Cause
+  pair_value f x a b w = (go_on (go_on x a (λ v. given (Ok (v ∷ w ∷ [])))).result b (λ vs. applied f (vs ++ []))).result
+
+  eq-ok : (x : Result Value Cause) (a b : Bool) (w v : Value) (c : Bool) → pair_value func.Eq x a b w ≡ Ok v → truth v ≡ c
+      → (u : Value) × (x ≡ Ok u) × (equality u w ≡ Some c)
+  eq-ok (Ok u) a b w v c e t = (u, refl, one-equal (equality u w) c (told-truth func.Eq (equal_to_one u (w ∷ [])) v c e t))
+  eq-ok (Err cause) a b w v c e t = cc
+
+  ne-ok : (x : Result Value Cause) (a b : Bool) (w v : Value) (c : Bool) → pair_value func.Ne x a b w ≡ Ok v → truth v ≡ c
+      → (u : Value) × (x ≡ Ok u) × (equality u w ≡ Some (not c))
+  ne-ok (Ok u) a b w v c e t = (u, refl, opposite-of (equality u w) c (told-truth func.Ne (option_map not (equality u w)) v c e t))
+  ne-ok (Err cause) a b w v c e t = cc
+
+  -- what a call of these operands gives
+  abbrev pair_call : Func → MissingKey → Value → Environment → Operands → Result Value Cause
+  pair_call f m d env os = (given_then (operand_values (place m d env) os) (λ vs. applied f (vs ++ []))).result
+
+  abbrev EqualSo : Func → Bool → Type 0
+  EqualSo f c = (x : Result Value Cause) (a b : Bool) (w v : Value) → pair_value f x a b w ≡ Ok v → truth v ≡ c
+      → (u : Value) × (x ≡ Ok u) × (equality u w ≡ Some true)
+
+  abbrev UnequalSo : Func → Bool → Type 0
+  UnequalSo f c = (x : Result Value Cause) (a b : Bool) (w v : Value) → pair_value f x a b w ≡ Ok v → truth v ≡ c
+      → (u : Value) × (x ≡ Ok u) × (equality u w ≡ Some false)
+
+  constant-fits : (f : Func) (c : Bool) → EqualSo f c → (m : MissingKey) (os : Operands) (k : State) (d : Value) (env : Environment) (v : Value) → Fits k d env
+      → pair_call f m d env os ≡ Ok v → truth v ≡ c → Fits (narrowed_by_constant base os k) d env
+  constant-fits f c g m (operand o (operand (bool_constant q) no_operand)) k d env v h e t =
+      let x = operand_value (place m d env) o in let n = g x.result x.made_text _ (boolean q) v e t in
+      narrowed_by-fits m o k d env n.0 h n.1 (equal-thing n.0 (boolean q) refl n.2)
+  constant-fits f c g m (operand o (operand (number_constant q) no_operand)) k d env v h e t =
+      let x = operand_value (place m d env) o in let n = g x.result x.made_text _ (number q) v e t in
+      narrowed_by-fits m o k d env n.0 h n.1 (equal-thing n.0 (number q) refl n.2)
+  constant-fits f c g m (operand o (operand (text_constant q) no_operand)) k d env v h e t =
+      let x = operand_value (place m d env) o in let n = g x.result x.made_text _ (string q) v e t in
+      narrowed_by-fits m o k d env n.0 h n.1 (equal-thing n.0 (string q) refl n.2)
+  constant-fits f c g m (operand _ (operand _ no_operand)) k d env v h e t = h
+  constant-fits f c g m (operand _ (operand _ (operand _ _))) k d env v h e t = h
+  constant-fits f c g m (operand _ no_operand) k d env v h e t = h
+  constant-fits f c g m no_operand k d env v h e t = h
+
+  nil-fits : (f : Func) (c : Bool) → UnequalSo f c → (m : MissingKey) (os : Operands) (k : State) (d : Value) (env : Environment) (v : Value) → Fits k d env
+      → pair_call f m d env os ≡ Ok v → truth v ≡ c → Fits (narrowed_by_nil base os k) d env
+  nil-fits f c g m (operand o (operand nil no_operand)) k d env v h e t =
+      let x = operand_value (place m d env) o in let n = g x.result x.made_text _ nothing v e t in
+      narrowed_by-fits m o k d env n.0 h n.1 (unequal-thing n.0 n.2)
+  nil-fits f c g m (operand _ (operand _ no_operand)) k d env v h e t = h
+  nil-fits f c g m (operand _ (operand _ (operand _ _))) k d env v h e t = h
+  nil-fits f c g m (operand _ no_operand) k d env v h e t = h
+  nil-fits f c g m no_operand k d env v h e t = h
 
   not_false : (b : Bool) → not b ≡ false → b ≡ true
   not_false true e = refl
@@ -368,7 +521,7 @@ module _ (base : Base) (N : Names) (means : Means base.defs N) where
         by false t = (both-left base N means) (Some s) (junction_shape base false m (narrowed_by base o k) (filled base s) os ps) (Ok v) h
         by true t =
             (both-right base N means) (Some s) (junction_shape base false m (narrowed_by base o k) (filled base s) os ps) (junction false (place m d env) v os pv).result
-            (more (narrowed_by base o k) (filled base s) v (narrowed_by-fits m o k d env v fits e t) ((filled-has base N means) s v h t))
+            (more (narrowed_by base o k) (filled base s) v (narrowed_by-fits m o k d env v fits e (full-thing v t)) ((filled-has base N means) s v h t))
 
     mutual
       operand-gives : (o : Operand) (k : State) → Fits k d env → (Gives base N means) (operand_shape base m k o) (operand_value (place m d env) o).result
@@ -464,10 +617,6 @@ module _ (base : Base) (N : Names) (means : Means base.defs N) where
   gone-ok (Ok w) b v e = let same : without_null w ≡ v = cc in (w, refl, sym (truth-same w) ∙ ap truth same)
   gone-ok (Err cause) b v e = cc
 
-  by_count-ok : (f : Func) (t : Bool) (g : Given Value) (v : Value) → (by_count f t g).result ≡ Ok v → g.result ≡ Ok v
-  by_count-ok f true g v e = e
-  by_count-ok f false g v e = cc
-
   -- an operand of an `and` that is not empty is not empty
   and-step : (r : Result Value Cause) (b : Bool) (more : Value → Given Value) (v : Value) → (go_on r b (λ w. decided (not (truth w)) w (more w))).result ≡ Ok v
       → truth v ≡ true → (w : Value) × (r ≡ Ok w) × (truth w ≡ true) × ((more w).result ≡ Ok v)
@@ -483,7 +632,18 @@ module _ (base : Base) (N : Names) (means : Means base.defs N) where
   narrowed_all-fits m no_operand k d env last v h e t = h
   narrowed_all-fits m (operand o os) k d env last v h e t =
       let p = and-step (operand_value (place m d env) o).result (operand_value (place m d env) o).made_text (λ w. junction false (place m d env) w os None) v e t in
-      narrowed_all-fits m os (narrowed_by base o k) d env p.0 v (narrowed_by-fits m o k d env p.0 h p.1 p.2) p.3 t
+      narrowed_all-fits m os (narrowed_by base o k) d env p.0 v (narrowed_by-fits m o k d env p.0 h p.1 (full-thing p.0 p.2)) p.3 t
+
+  -- what a call gives that is the whole pipeline
+  called-ok : (m : MissingKey) (f : Func) (os : Operands) (d : Value) (env : Environment) (v : Value)
+      → (go_on (by_count f (takes f (operand_count os + 0)) (given_then (operand_values (place m d env) os) (λ vs. applied f (vs ++ [])))).result
+      (by_count f (takes f (operand_count os + 0)) (given_then (operand_values (place m d env) os) (λ vs. applied f (vs ++ [])))).made_text
+      (λ w. given (Ok (without_null w)))).result ≡ Ok v
+      → (w : Value) × (pair_call f m d env os ≡ Ok w) × (truth w ≡ truth v)
+  called-ok m f os d env v e =
+      let c = by_count f (takes f (operand_count os + 0)) (given_then (operand_values (place m d env) os) (λ vs. applied f (vs ++ []))) in
+      let g = gone-ok c.result c.made_text v e in
+      (g.0, by_count-ok f (takes f (operand_count os + 0)) (given_then (operand_values (place m d env) os) (λ vs. applied f (vs ++ []))) g.0 g.1, g.2)
 
   -- where the value of a pipeline is not empty, what is known then holds
   pub narrowed-fits : (m : MissingKey) (p : Pipeline) (k : State) (d : Value) (env : Environment) (v : Value) → Fits k d env
@@ -492,12 +652,26 @@ module _ (base : Base) (N : Names) (means : Means base.defs N) where
       let c = command_value (place m d env) (operand (function func.And) os) None in
       let g = gone-ok c.result c.made_text v e in
       narrowed_all-fits m os k d env nothing g.0 h (by_count-ok func.And _ (junction false (place m d env) nothing os None) g.0 g.1) (g.2 ∙ t)
+  narrowed-fits m (command (operand (function func.Index) os) no_command) k d env v h e t =
+      let g = called-ok m func.Index os d env v e in index-fits m os k d env g.0 h g.1 (full-thing g.0 (g.2 ∙ t))
+  narrowed-fits m (command (operand (function func.Eq) os) no_command) k d env v h e t =
+      let g = called-ok m func.Eq os d env v e in
+      constant-fits func.Eq true (λ x a b w u. eq-ok x a b w u true) m os k d env g.0 h g.1 (g.2 ∙ t)
+  narrowed-fits m (command (operand (function func.Ne) os) no_command) k d env v h e t =
+      let g = called-ok m func.Ne os d env v e in
+      nil-fits func.Ne true (λ x a b w u. ne-ok x a b w u true) m os k d env g.0 h g.1 (g.2 ∙ t)
+  narrowed-fits m (command (operand (function _) no_operand) no_command) k d env v h e t = h
+  narrowed-fits m (command (operand (function _) (operand _ _)) no_command) k d env v h e t = h
   narrowed-fits m (command (operand dot no_operand) no_command) k d env v h e t =
-      let g = gone-ok (Ok d) false v e in narrowed_by-fits m dot k d env g.0 h g.1 (g.2 ∙ t)
+      let g = gone-ok (Ok d) false v e in narrowed_by-fits m dot k d env g.0 h g.1 (full-thing g.0 (g.2 ∙ t))
   narrowed-fits m (command (operand (fields names) no_operand) no_command) k d env v h e t =
-      let g = gone-ok (chain m names d) false v e in narrowed_by-fits m (fields names) k d env g.0 h g.1 (g.2 ∙ t)
+      let g = gone-ok (chain m names d) false v e in narrowed_by-fits m (fields names) k d env g.0 h g.1 (full-thing g.0 (g.2 ∙ t))
   narrowed-fits m (command (operand (variable name names) no_operand) no_command) k d env v h e t =
-      let g = gone-ok (chain m names (lookup name env)) false v e in narrowed_by-fits m (variable name names) k d env g.0 h g.1 (g.2 ∙ t)
+      let g = gone-ok (chain m names (lookup name env)) false v e in
+      narrowed_by-fits m (variable name names) k d env g.0 h g.1 (full-thing g.0 (g.2 ∙ t))
+  narrowed-fits m (command (operand (group p names) no_operand) no_command) k d env v h e t =
+      let o = operand_value (place m d env) (group p names) in
+      let g = gone-ok o.result o.made_text v e in narrowed_by-fits m (group p names) k d env g.0 h g.1 (full-thing g.0 (g.2 ∙ t))
   narrowed-fits m (command (operand _ no_operand) no_command) k d env v h e t = h
   narrowed-fits m (command (operand _ (operand _ _)) no_command) k d env v h e t = h
   narrowed-fits m (command no_operand no_command) k d env v h e t = h
@@ -520,7 +694,13 @@ module _ (base : Base) (N : Names) (means : Means base.defs N) where
       let vs = operand_values (place m d env) (operand o no_operand) in
       let n = not-ok x.result x.made_text vs.made_text g.0
       (by_count-ok func.Not (takes func.Not (operand_count (operand o no_operand) + 0)) (given_then vs (λ ws. applied func.Not (ws ++ []))) g.0 g.1) (g.2 ∙ t) in
-      narrowed_by-fits m o k d env n.0 h n.1 n.2
+      narrowed_by-fits m o k d env n.0 h n.1 (full-thing n.0 n.2)
+  empty-fits m (command (operand (function func.Eq) os) no_command) k d env v h e t =
+      let g = called-ok m func.Eq os d env v e in
+      nil-fits func.Eq false (λ x a b w u. eq-ok x a b w u false) m os k d env g.0 h g.1 (g.2 ∙ t)
+  empty-fits m (command (operand (function func.Ne) os) no_command) k d env v h e t =
+      let g = called-ok m func.Ne os d env v e in
+      constant-fits func.Ne false (λ x a b w u. ne-ok x a b w u false) m os k d env g.0 h g.1 (g.2 ∙ t)
   empty-fits m (command (operand (function _) no_operand) no_command) k d env v h e t = h
   empty-fits m (command (operand (function _) (operand _ no_operand)) no_command) k d env v h e t = h
   empty-fits m (command (operand (function _) (operand _ (operand _ _))) no_command) k d env v h e t = h

@@ -21,8 +21,11 @@ use tmpl_values::Bytes;
 /// The most places that are told.
 const MOST_DOUBTS: usize = 100;
 
-/// The most times that templates are gone over.
-const MOST_VISITS: usize = 20_000;
+/// The most times that templates are gone over, and how often each may be on the average: what is handed on settles in a few
+/// rounds, or is not followed.
+const MOST_VISITS: usize = 100_000;
+
+const MOST_ROUNDS: usize = 16;
 
 /// What a template is asked for: the set and the name in it, the shape of its data, the mode for missing keys, and the
 /// templates that need not be there.
@@ -363,10 +366,13 @@ pub(crate) fn fill_table(
     let mut is_good = true;
     let mut waiting: Vec<Option<usize>> = Vec::new(base.alloc);
     waiting.push(None)?;
-    for _ in 0..MOST_VISITS {
+    for visits in 0..MOST_VISITS {
         let Some(place) = waiting.pop() else {
             return Ok(is_good);
         };
+        if visits / MOST_ROUNDS > table.len() {
+            return Ok(false);
+        }
         let mut found = Found {
             doubts: Vec::new(base.alloc),
             wanted: Vec::new(base.alloc),

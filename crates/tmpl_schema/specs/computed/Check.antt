@@ -14,7 +14,7 @@ use Rattle.tmpl_meaning.specs.declared.missing_key.MissingKey.{MissingKey}
 use Rattle.tmpl_schema.specs.Shape.{Shape, nothings, truths, numbers, texts}
 use Rattle.tmpl_funcs.specs.Func.{takes}
 use Rattle.tmpl_funcs.specs.declared.func.Func.{Func}
-use Rattle.tmpl_funcs.specs.declared.func.Func.TheVariants.{And, Not}
+use Rattle.tmpl_funcs.specs.declared.func.Func.TheVariants.{And, Not, Index, Eq, Ne}
 use Rattle.tmpl_meaning.specs.Pipeline.{operand_count}
 use Rattle.tmpl_schema.specs.declared.kind.Kind.TheVariants.{Blank}
 use Rattle.tmpl_schema.specs.computed.Shapes.{Base, has_kind, within, joined, both, filled, null_gone, refined, chain_shape}
@@ -54,6 +54,22 @@ alone s (Some piped) os = None
 abbrev pub text_of : Operand → Option (List ℕ)
 text_of (text_constant bytes) = Some bytes
 text_of o = None
+
+-- both operands, where there are two
+abbrev pub two_of : Operands → Option (Operand × Operand)
+two_of (operand o (operand p no_operand)) = Some (o, p)
+two_of os = None
+
+-- the operand is a constant, and not `nil`
+abbrev pub is_constant : Operand → Bool
+is_constant (bool_constant c) = true
+is_constant (number_constant n) = true
+is_constant (text_constant bytes) = true
+is_constant o = false
+
+abbrev pub is_nil : Operand → Bool
+is_nil nil = true
+is_nil o = false
 
 -- dot, and the variables
 pub record State : Type 0 where
@@ -115,9 +131,37 @@ module _ (base : Base) where
 
   -- ---- pipelines
 
-  -- what is known where an operand is not empty, and where all these are not
+  -- what is known where the entry of a key is neither nothing nor null
+  abbrev pub narrowed_by_key : List ℕ → Operand → State → State
+  narrowed_by_key n dot k = record k { dot = refined base (n ∷ []) k.dot }
+  narrowed_by_key n (variable name []) k = record k { env = refined_variable name (n ∷ []) k.env }
+  narrowed_by_key n o k = k
+
+  -- .. where what `index` gives is so
+  abbrev pub narrowed_by_index : Operands → State → State
+  narrowed_by_index os k =
+      option_map_or (λ p. option_map_or (λ n. narrowed_by_key n p.0 k) (text_of p.1) k) (two_of os) k
+
+  abbrev pub narrowed_by_call : Func → Operands → State → State
+  narrowed_by_call Index os k = narrowed_by_index os k
+  narrowed_by_call f os k = k
+
+  abbrev pub narrowed_by_command : Operands → State → State
+  narrowed_by_command (operand (function f) os) k = narrowed_by_call f os k
+  narrowed_by_command os k = k
+
+  abbrev pub narrowed_by_pipeline : Pipeline → State → State
+  narrowed_by_pipeline (command os no_command) k = narrowed_by_command os k
+  narrowed_by_pipeline p k = k
+
+  abbrev pub narrowed_by_group : Pipeline → List (List ℕ) → State → State
+  narrowed_by_group p [] k = narrowed_by_pipeline p k
+  narrowed_by_group p ns k = k
+
+  -- .. where an operand is so, and therefore where it is not empty; and where all these are not empty
   abbrev pub narrowed_by : Operand → State → State
   narrowed_by dot k = record k { dot = filled base k.dot }
+  narrowed_by (group p names) k = narrowed_by_group p names k
   narrowed_by (fields names) k = record k { dot = refined base names k.dot }
   narrowed_by (variable name names) k = record k { env = refined_variable name names k.env }
   narrowed_by o k = k
@@ -210,8 +254,19 @@ module _ (base : Base) where
   pipeline_shape m k p = commands_shape m k p None
 
   -- what is known where the value of a pipeline is not empty
+  -- where an operand equals a constant
+  abbrev pub narrowed_by_constant : Operands → State → State
+  narrowed_by_constant os k = option_map_or (λ p. if is_constant p.1 then narrowed_by p.0 k else k) (two_of os) k
+
+  -- .. and where it differs from `nil`
+  abbrev pub narrowed_by_nil : Operands → State → State
+  narrowed_by_nil os k = option_map_or (λ p. if is_nil p.1 then narrowed_by p.0 k else k) (two_of os) k
+
   abbrev pub narrowed_call : Func → Operands → State → State
   narrowed_call And os k = narrowed_by_all os k
+  narrowed_call Index os k = narrowed_by_index os k
+  narrowed_call Eq os k = narrowed_by_constant os k
+  narrowed_call Ne os k = narrowed_by_nil os k
   narrowed_call f os k = k
 
   abbrev pub narrowed_alone : Operand → Operands → State → State
@@ -230,6 +285,8 @@ module _ (base : Base) where
   -- .. and where it is empty
   abbrev pub narrowed_not : Func → Operands → State → State
   narrowed_not Not (operand o os) k = narrowed_alone o os k
+  narrowed_not Eq os k = narrowed_by_nil os k
+  narrowed_not Ne os k = narrowed_by_constant os k
   narrowed_not f os k = k
 
   abbrev pub narrowed_empty_command : Operands → State → State

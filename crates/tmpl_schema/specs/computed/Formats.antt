@@ -1,6 +1,6 @@
 -- What `printf` takes, by the shapes of its arguments. Whether it refuses them depends on their kinds alone, so a value of
 -- each kind tells of all.
-use Rattle.std.specs.Prelude.{pos, Bool, true, false, ◌&&◌, List, [], ◌∷◌, ℕ, map, is_ok, Option, Some, None, if◌then◌else◌}
+use Rattle.std.specs.Prelude.{pos, Bool, false, ◌&&◌, List, [], ◌∷◌, ℕ, map, is_ok, Option, Some, None, if◌then◌else◌}
 use Rattle.tmpl_values.specs.Value.{Value, nothing, boolean, number, string, sequence, no_item}
 use Rattle.tmpl_funcs.specs.Dispatch.{called}
 use Rattle.tmpl_funcs.specs.declared.func.Func.TheVariants.{Printf}
