@@ -153,11 +153,14 @@ $(PROVED_LIBRARY): $(SOURCES)
 	cd crates/tmpl_c && rt lib >&2
 	@touch $@
 
-# one object of what is proved, the heap and the line that says which build it is, in which no name but those of the header can be seen, as an archive
+# what of the library is C: the heap, the keys of its hashes, and the line that says which build it is
+LIBRARY_IN_C = heap keyed keys version
+
+# one object of what is proved and of that, in which no name but those of the header can be seen, as an archive
 define one_object
-$(CC) -O2 -fPIC -Wall -Wextra -c bindings/c/heap.c -o $(@D)/heap.o
-$(CC) -O2 -fPIC -Wall -Wextra -DTMPL_BUILD="\"$$(python3 packaging/pages.py --build)\"" -c bindings/c/version.c -o $(@D)/version.o
-$(LD) -r -o $(@D)/tmpl.o --whole-archive $< --no-whole-archive $(@D)/heap.o $(@D)/version.o
+build="$$(python3 packaging/pages.py --build)" && for part in $(LIBRARY_IN_C); do \
+	$(CC) -O2 -fPIC -Wall -Wextra -DTMPL_BUILD="\"$$build\"" -c bindings/c/$$part.c -o $(@D)/$$part.o || exit 1; done
+$(LD) -r -o $(@D)/tmpl.o --whole-archive $< --no-whole-archive $(LIBRARY_IN_C:%=$(@D)/%.o)
 $(OBJCOPY) --wildcard --keep-global-symbol='tmpl_*' $(@D)/tmpl.o
 rm -f $@ && $(AR) rcs $@ $(@D)/tmpl.o
 endef
@@ -170,7 +173,7 @@ endef
 # the mark by which the system's loader refuses older processors than those for which the toolchain compiles
 $(SHARED_LIBRARY): private NEEDED_PROCESSOR = -Wl,-z,x86-64-v2
 
-$(STATIC_LIBRARY): $(PROVED_LIBRARY) $(addprefix bindings/c/,heap.c version.c tmpl.h)
+$(STATIC_LIBRARY): $(PROVED_LIBRARY) $(LIBRARY_IN_C:%=bindings/c/%.c) $(addprefix bindings/c/,keys.h tmpl.h)
 	mkdir -p $(@D)
 	$(one_object)
 

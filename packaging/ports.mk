@@ -48,7 +48,7 @@ $(ARM)/libtmpl_c.a: $(PROVED_LIBRARY) packaging/build.py
 	mkdir -p $(@D)
 	python3 packaging/build.py tmpl_c $@ $(FOR_ARM)
 
-$(ARM)/libtmpl.a: $(ARM)/libtmpl_c.a $(addprefix bindings/c/,heap.c version.c tmpl.h)
+$(ARM)/libtmpl.a: $(ARM)/libtmpl_c.a $(LIBRARY_IN_C:%=bindings/c/%.c) $(addprefix bindings/c/,keys.h tmpl.h)
 	$(one_object)
 
 $(ARM)/libtmpl.so: $(ARM)/libtmpl.a bindings/c/tmpl.map
@@ -59,7 +59,7 @@ $(WEB)/tmpl_c.bc: $(PROVED_LIBRARY) packaging/build.py
 	mkdir -p $(@D)
 	python3 packaging/build.py --module tmpl_c $@
 
-$(WEB)/tmpl.wasm: $(WEB)/tmpl_c.bc $(addprefix packaging/web/,make.py heap.c wide.c) bindings/c/tmpl.h
+$(WEB)/tmpl.wasm: $(WEB)/tmpl_c.bc $(addprefix packaging/web/,make.py heap.c keys.c wide.c) $(addprefix bindings/c/,keyed.c keys.h tmpl.h)
 	@$(NEEDS_RT)
 	@$(NEEDS_WASM_OPT)
 	python3 packaging/web/make.py wasm $< $@

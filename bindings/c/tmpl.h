@@ -10,9 +10,11 @@
  *     tmpl_data_read      data, in the thread that renders them
  *     tmpl_render_text    the text, in memory of the library's own, which the next call uses again
  *
+ * All that is wrong in template files, where, and what to write instead: tmpl_check.
+ *
  * What may be done from which thread:
  *
- * - tmpl_render and tmpl_version from any number of threads at the same time.
+ * - tmpl_render, tmpl_version and tmpl_limit_memory from any number of threads at the same time.
  * - A tmpl_set, tmpl_program, tmpl_data or tmpl_text, a *handle*, is given to one call at a time, of whatever thread, also where
  *   the call changes nothing that one could see. Nothing else reads or writes the struct during the call.
  * - Calls on different handles run at the same time, also where these share a program or data: so a thread has handles of
@@ -24,7 +26,7 @@
  * Strings have a size and no zero at their end. No pointer may be null, also where its size is 0: "" will do. No two pointers
  * of a call lead to the same memory, but that what is `const` may be lent twice, and to any number of threads.
  *
- * Not to be called from a signal handler, nor from a forked child of a process with threads.
+ * Not to be called from a signal handler, nor from a forked child of a process with threads. A call may need 512 kB of stack.
  */
 #ifndef TMPL_H
 #define TMPL_H
@@ -43,7 +45,8 @@ enum {
     TMPL_NOT_TEXT = 2, /* the name of a file is not UTF-8: `out` is empty, as it is for 4 and 5 */
     TMPL_REFUSED = 4,  /* a template file is refused, or there is no template of the name */
     TMPL_DATA = 5,     /* the data is not JSON, or a number of it is not whole or is out of range */
-    TMPL_FULL = 6,     /* the text does not fit: `out` has as much of it as there is room for, and `needed` is its size */
+    TMPL_FULL = 6,     /* the text does not fit: `out` has as much of it as there is room for, and `needed` is its size. Or it is
+                          longer than `output` of the settings: then `needed` is that, and so many of its bytes are there */
     TMPL_MEMORY = 7    /* memory was refused: `out` has a beginning of the text */
 };
 
@@ -55,7 +58,7 @@ typedef struct tmpl_file {
     size_t size;       /* how many bytes that is; more than 16,777,216 are refused */
 } tmpl_file;
 
-/* How to run a template. All zeros are the defaults. Each limit that a run comes to is a fault, TMPL_FAULT. */
+/* How to run a template. All zeros are the defaults. A run that comes to the limit of steps or of depth is a fault, TMPL_FAULT. */
 typedef struct tmpl_settings {
     uint64_t steps;      /* how many nodes and turns of a `range` a run may take; 0: 1,000,000,000. They are not time: one step
                             may print a large value. Nor are they bytes of text */
@@ -63,6 +66,8 @@ typedef struct tmpl_settings {
                             the values of its template */
     uint8_t missing_key; /* what a missing key gives: 0 default, 1 invalid, 2 zero, 3 error, as the option --missingkey */
     uint8_t print;       /* 1: print the set of templates, and run nothing; the name and the data are not looked at */
+    size_t output;       /* how many bytes of text a call may put out; 0: any number. Where there are more it stops, gives TMPL_FULL,
+                            and has put out exactly those that come first. It gathers no more than one byte more than these */
 } tmpl_settings;
 
 /* Memory for output that the caller lends. A call writes it from its first byte on. */
@@ -116,6 +121,12 @@ uint8_t tmpl_set_add(tmpl_set *set, const tmpl_file *file, tmpl_buffer *err);
 /* Prints a set, as tmpl_render does with `print`. Gives TMPL_OK, or TMPL_MEMORY and a beginning of the text. */
 uint8_t tmpl_set_print(tmpl_set *set, tmpl_text *text);
 
+/* Says all that is wrong in these files, added one after the other: in `text` a line for each mistake, as compilers write it,
+ * `FILE:LINE:COLUMN: error: REASON: DETAIL`, as tmpl-check writes it too. Lines and columns are from 1, columns by characters. A
+ * file that is refused adds nothing to those after it. Gives TMPL_OK where nothing is wrong, TMPL_REFUSED where a file is
+ * refused, TMPL_NOT_TEXT where the name of one is not UTF-8, or TMPL_MEMORY. But with TMPL_REFUSED `text` is empty. */
+uint8_t tmpl_check(const tmpl_file *files, size_t file_count, tmpl_text *text);
+
 /* Frees a set. It is empty then. */
 void tmpl_set_free(tmpl_set *set);
 
@@ -143,7 +154,7 @@ void tmpl_data_free(tmpl_data *data);
 
 /* Renders the template of this name of a program, with data that is kept, as tmpl_render does with the files and the data that
  * these were made of; `print` of the settings is not looked at. Text and line go to texts of the library's own, whatever their
- * size, so it never gives TMPL_FULL. With TMPL_MEMORY `text` has a beginning of the text, and `line` nothing. Program and data
+ * size, so it gives TMPL_FULL for no text but one that is longer than `output` of the settings. With TMPL_MEMORY `text` has a beginning of the text, and `line` nothing. Program and data
  * are as they were then. */
 uint8_t tmpl_render_text(const tmpl_settings *settings, tmpl_program *program, tmpl_data *data, const char *name,
                          size_t name_size, tmpl_text *text, tmpl_text *line);
@@ -158,6 +169,12 @@ uint8_t tmpl_render_program(const tmpl_settings *settings, tmpl_program *program
 /* The same of a set, which is compiled at the first render and kept so until a file is added. With `print` it prints the set. */
 uint8_t tmpl_render_set(const tmpl_settings *settings, tmpl_set *set, tmpl_data *data, const char *name,
                         size_t name_size, tmpl_buffer *out, tmpl_buffer *err);
+
+/* From now on the calls of this thread may take at most this many bytes of memory together, beyond those that they give back;
+ * 0: any number, as before the first such call. A call that needs more gives TMPL_MEMORY, as where the system has no more. The
+ * count begins at 0 with each call of this one, and what is given back of memory that was taken before does not count. Blocks
+ * count by the size that the allocator gives them. A thread that serves one request after the other calls this before each. */
+void tmpl_limit_memory(size_t bytes);
 
 /* Which build of the library this is: the commit of its source, and the logic and the toolchain of the proofs, as one line
  * that ends with a zero and is never freed. */

@@ -19,8 +19,9 @@ namespace tmpl {
 
 /// A call that did not end well. `what()` is the line of the command.
 struct error : std::runtime_error {
-    int status;       ///< TMPL_FAULT, TMPL_NOT_TEXT, TMPL_REFUSED or TMPL_DATA
-    std::string text; ///< the text before the fault
+    int status;                        ///< TMPL_FAULT, TMPL_NOT_TEXT, TMPL_REFUSED, TMPL_DATA or TMPL_FULL
+    std::string text;                  ///< the text before the fault
+    std::vector<std::string> problems; ///< of a file that is refused, the lines that `check` gives of it
 
     error(int status, const std::string &line, std::string text) : runtime_error(line), status(status), text(std::move(text)) {}
 };
@@ -56,7 +57,23 @@ using program = handle<tmpl_program, tmpl_program_free>;
 using value = handle<tmpl_data, tmpl_data_free>;
 using text = handle<tmpl_text, tmpl_text_free>;
 
+inline tmpl_file file(std::string_view path, std::string_view bytes) { return {start(path), path.size(), start(bytes), bytes.size()}; }
+
 } // namespace inside
+
+/// All that is wrong in template files, pairs of a path and what the file holds, in a line each: `FILE:LINE:COLUMN: error: REASON: DETAIL`.
+inline std::vector<std::string> check(const std::vector<std::pair<std::string_view, std::string_view>> &files) {
+    std::vector<tmpl_file> lent;
+    lent.reserve(files.size() + 1); // so that its pointer is not null
+    for (const auto &[path, bytes] : files) lent.push_back(inside::file(path, bytes));
+    inside::text text;
+    const int status = tmpl_check(lent.data(), lent.size(), &text);
+    if (status != TMPL_REFUSED) inside::judge(status, "tmpl: the name of a file is not UTF-8\n");
+    std::vector<std::string> lines;
+    const std::string all = inside::copied(text);
+    for (std::size_t from = 0, to; (to = all.find('\n', from)) != all.npos; from = to + 1) lines.push_back(all.substr(from, to - from));
+    return lines;
+}
 
 /// One JSON value that is read once; without bytes there is no data, and dot is nothing.
 class data {
@@ -115,9 +132,14 @@ class templates {
 public:
     /// Adds the templates of a file of this path, after those of earlier files. Where it throws, the templates are as they were.
     void add(std::string_view path, std::string_view bytes) {
-        const tmpl_file file = {inside::start(path), path.size(), inside::start(bytes), bytes.size()};
+        const tmpl_file file = inside::file(path, bytes);
         const std::lock_guard<std::mutex> lock(held->gate);
-        inside::accept([&](tmpl_buffer *err) { return tmpl_set_add(&held->set, &file, err); });
+        try {
+            inside::accept([&](tmpl_buffer *err) { return tmpl_set_add(&held->set, &file, err); });
+        } catch (error &it) {
+            if (it.status == TMPL_REFUSED) it.problems = check({{path, bytes}});
+            throw;
+        }
         held->version++, held->idle.clear();
     }
 

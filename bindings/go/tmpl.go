@@ -6,6 +6,15 @@ package tmpl
 #cgo LDFLAGS: -L${SRCDIR}/../out -ltmpl -Wl,-rpath,${SRCDIR}/../out
 #include <stdlib.h>
 #include "tmpl.h"
+
+// A limit is that of a thread, and a goroutine may go on in another one after each call of C.
+static uint8_t render_limited(size_t memory, const tmpl_settings *settings, tmpl_program *program, tmpl_data *data, const char *name,
+                              size_t name_size, tmpl_text *text, tmpl_text *line) {
+    if (memory != 0) tmpl_limit_memory(memory);
+    uint8_t status = tmpl_render_text(settings, program, data, name, name_size, text, line);
+    if (memory != 0) tmpl_limit_memory(0);
+    return status;
+}
 */
 import "C"
 
@@ -39,12 +48,16 @@ type Options struct {
 	Depth      uint32
 	MissingKey uint8
 	Print      bool // print the set, and run nothing
+	Output     uint // how many bytes of text a render may put out: a text that is longer is status 6, with those that come first; 0 for any
+	Memory     uint // how many bytes of memory a run may take; 0 for any
 }
 
-// Error says why a render did not end well: the status of the command, and its line without the newline.
+// Error says why a render did not end well: the status of the command, and its line without the newline. Where a file is refused,
+// Problems are the lines that Check gives of it.
 type Error struct {
-	Status int
-	Line   string
+	Status   int
+	Line     string
+	Problems []string
 }
 
 func (e *Error) Error() string { return e.Line }
@@ -53,9 +66,10 @@ func (e *Error) Error() string { return e.Line }
 var ErrMemory = errors.New("tmpl: out of memory")
 
 const (
-	refused = 7       // the status of refused memory
-	line    = 1 << 12 // bytes of a line that are lent first
-	kept    = 1 << 20 // a text of more bytes is given back after its render
+	notAccepted = 4       // the status of a file that is refused
+	refused     = 7       // the status of refused memory
+	line        = 1 << 12 // bytes of a line that are lent first
+	kept        = 1 << 20 // a text of more bytes is given back after its render
 )
 
 // lent copies bytes to memory of C, which has at least one byte; it is given back by C.free.
@@ -67,7 +81,7 @@ func lent(bytes []byte) *C.char {
 
 // settingsOf is how C has the options.
 func settingsOf(options Options) C.tmpl_settings {
-	settings := C.tmpl_settings{steps: C.uint64_t(options.Steps), depth: C.uint32_t(options.Depth), missing_key: C.uint8_t(options.MissingKey)}
+	settings := C.tmpl_settings{steps: C.uint64_t(options.Steps), depth: C.uint32_t(options.Depth), missing_key: C.uint8_t(options.MissingKey), output: C.size_t(options.Output)}
 	if options.Print {
 		settings.print = 1
 	}
@@ -92,7 +106,25 @@ func ended(status C.uint8_t, said []byte) error {
 	case refused:
 		return ErrMemory
 	}
-	return &Error{int(status), strings.TrimSuffix(string(said), "\n")}
+	return &Error{Status: int(status), Line: strings.TrimSuffix(string(said), "\n")}
+}
+
+// Check tells all that is wrong in template files, in a line each as compilers write it: FILE:LINE:COLUMN: error: REASON: DETAIL, with what
+// to write instead where that is known. There is none where all files are accepted, one after the other.
+func Check(files []File) ([]string, error) {
+	array := (*C.tmpl_file)(C.malloc(C.size_t(len(files)+1) * C.size_t(unsafe.Sizeof(C.tmpl_file{}))))
+	defer C.free(unsafe.Pointer(array))
+	for number, file := range files {
+		held := fileOf(file)
+		defer freed(held)
+		unsafe.Slice(array, len(files))[number] = held
+	}
+	var text C.tmpl_text
+	defer C.tmpl_text_free(&text)
+	if status := C.tmpl_check(array, C.size_t(len(files)), &text); status != notAccepted {
+		return nil, ended(status, []byte("tmpl: the name of a file is not UTF-8"))
+	}
+	return strings.Split(strings.TrimSuffix(string(bytesOf(&text)), "\n"), "\n"), nil
 }
 
 // accepted makes a call that says a line, and makes it again with more memory where the line does not fit.
@@ -176,7 +208,7 @@ func (w *worker) execute(to io.Writer, name string, data []byte, options Options
 	}
 	settings, template := settingsOf(options), lent([]byte(name))
 	defer C.free(unsafe.Pointer(template))
-	status := C.tmpl_render_text(&settings, &w.program, &w.data, template, C.size_t(len(name)), &w.text, &w.line)
+	status := C.render_limited(C.size_t(options.Memory), &settings, &w.program, &w.data, template, C.size_t(len(name)), &w.text, &w.line)
 	_, err := to.Write(bytesOf(&w.text))
 	if w.text.size > kept {
 		C.tmpl_text_free(&w.text)
@@ -214,6 +246,8 @@ func (t *Templates) Add(file File) error {
 	err := accepted(func(err *C.tmpl_buffer) C.uint8_t { return C.tmpl_set_add(&t.set, &held, err) })
 	if err == nil {
 		t.renew()
+	} else if of, is := err.(*Error); is && of.Status == notAccepted {
+		of.Problems, _ = Check([]File{file})
 	}
 	return err
 }

@@ -152,3 +152,38 @@ func TestFilesAddedMeanwhile(t *testing.T) {
 		t.Error(out.String(), err)
 	}
 }
+
+func TestCheck(t *testing.T) {
+	mistake := "1:1: error: action not understood: no function \"name\": write .name"
+	files := []File{{Name: "a", Bytes: []byte("{{name}}")}, {Name: "b", Bytes: []byte("text")}, {Name: "c", Bytes: []byte("{{name}}")}}
+	if lines, err := Check(files); err != nil || fmt.Sprint(lines) != fmt.Sprint([]string{"a:" + mistake, "c:" + mistake}) {
+		t.Error(lines, err)
+	}
+	for _, right := range [][]File{files[1:2], nil} {
+		if lines, err := Check(right); err != nil || len(lines) != 0 {
+			t.Error(lines, err)
+		}
+	}
+	if _, err := Check([]File{{Name: "\xff"}}); err == nil || err.(*Error).Status != 2 {
+		t.Error(err)
+	}
+	var pages Templates
+	if err := pages.Add(files[0]); err == nil || fmt.Sprint(err.(*Error).Problems) != fmt.Sprint([]string{"a:" + mistake}) {
+		t.Error(err)
+	}
+}
+
+func TestLimits(t *testing.T) {
+	files := []File{{Name: "m", Bytes: []byte("{{range 100000}}0123456789{{end}}")}}
+	var out strings.Builder
+	if err := Render(&out, files, "m", nil, Options{Output: 12}); err == nil || err.(*Error).Status != 6 || out.String() != "012345678901" {
+		t.Error(out.String(), err)
+	}
+	if err := Render(&out, files, "m", nil, Options{Memory: 1 << 16}); err != ErrMemory {
+		t.Error(err)
+	}
+	out.Reset()
+	if err := Render(&out, files, "m", nil, Options{Memory: 1 << 23}); err != nil || out.Len() != 1000000 {
+		t.Error(out.Len(), err)
+	}
+}

@@ -16,17 +16,25 @@ export interface Options {
     steps?: number | bigint;
     /** Puts out the printed set of templates, and runs none; the name and the data are not looked at. */
     printed?: boolean;
+    /** How many bytes of text a render may put out: any number if left out or 0. A text that is longer is a TemplateError of status 6, with
+     * the bytes that come first. */
+    output?: number;
+    /** How many bytes of memory a render of templates that are kept may take, beyond what it gives back: any number if left out or 0. Where
+     * it needs more it throws MemoryError. */
+    memory?: number;
 }
 
 /** A render that did not end well. Its message is its line. */
 export class TemplateError extends Error {
     /** As of the command: 1 a fault of the run, 2 the name of a file that is not UTF-8, 4 a refused template file or no template of the
-     * name, 5 refused data. */
-    readonly status: 1 | 2 | 4 | 5;
+     * name, 5 refused data, 6 a text that is longer than `output`. */
+    readonly status: 1 | 2 | 4 | 5 | 6;
     /** What went wrong, as the command says it, without its newline: `tmpl: hello.tmpl:1: unclosed or unreadable action`. */
     readonly line: string;
     /** The text before the fault. */
     readonly text: Uint8Array;
+    /** Of a file that is refused, the lines that `check` gives of it. */
+    readonly problems: readonly string[];
 }
 
 /** Memory was refused: the module's own, of 4 GiB at most, is at its end. What is kept stays as it was. */
@@ -50,6 +58,9 @@ export interface Engine {
     render(files: Files, name?: Bytes, data?: unknown, options?: Options): string;
     /** The same as bytes. */
     renderBytes(files: Files, name?: Bytes, data?: unknown, options?: Options): Uint8Array;
+    /** All that is wrong in template files, in a line each as compilers write it: `FILE:LINE:COLUMN: error: REASON: DETAIL`, with what to write
+     * instead where that is known. There is none where all files are accepted, one after the other. */
+    check(files: Files): string[];
     /** Templates that are parsed once, and rendered as often as you like. */
     templates(files?: Files): Templates;
 }

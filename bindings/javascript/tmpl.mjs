@@ -1,21 +1,21 @@
 // Templates of the language of Go's text/template over data in JSON, by tmpl.wasm, which is looked for beside this file:
 // `(await load()).render(files, name, data)`. tmpl.d.ts says what each call takes and gives.
 
-const OK = 0, FULL = 6, MEMORY = 7; // statuses of the C library, whose calls the module has
+const OK = 0, REFUSED = 4, FULL = 6, MEMORY = 7; // statuses of the C library, whose calls the module has
 const MISSING_KEY = { default: 0, invalid: 1, zero: 2, error: 3 };
 const STEPS = 10_000_000; // what a run may take where nothing is said of it
 const ROOM = 1 << 16; // bytes of text that are lent first
 const LINE = 1 << 12; // bytes of a line that are lent first
-const FILE = 32, SETTINGS = 16, BUFFER = 32, KEPT = 8, TEXT = 24; // bytes of the structs of tmpl.h, whose pointers have 64 bits
+const FILE = 32, SETTINGS = 24, BUFFER = 32, KEPT = 8, TEXT = 24; // bytes of the structs of tmpl.h, whose pointers have 64 bits
 const SET = 0, PROGRAM = 1, DATA = 2, OUT = 3, SAID = 4; // the parts of what templates keep
 
 const encoder = new TextEncoder();
 const decoder = new TextDecoder("utf-8", { ignoreBOM: true });
 
 export class TemplateError extends Error {
-    constructor(status, line, text) {
+    constructor(status, line, text, problems = []) {
         super(line);
-        Object.assign(this, { name: "TemplateError", status, line, text });
+        Object.assign(this, { name: "TemplateError", status, line, text, problems });
     }
 }
 
@@ -65,13 +65,14 @@ function isSame(one, other) {
     return true;
 }
 
-/** The two words of the settings of tmpl.h. */
-function settingsOf({ missingKey = "default", depth = 1000, steps = STEPS, printed = false } = {}) {
+/** The three words of the settings of tmpl.h. */
+function settingsOf({ missingKey = "default", depth = 1000, steps = STEPS, printed = false, output = 0 } = {}) {
     if (!Object.hasOwn(MISSING_KEY, missingKey)) throw new RangeError(`missingKey is ${missingKey}`);
     if (!(depth >= 1 && depth <= 100_000)) throw new RangeError(`depth is ${depth}`);
     if (!(steps >= 1 && steps <= 2n ** 62n)) throw new RangeError(`steps is ${steps}`);
+    if (!(output >= 0 && output <= Number.MAX_SAFE_INTEGER)) throw new RangeError(`output is ${output}`);
     const flags = MISSING_KEY[missingKey] | (printed ? 1 << 8 : 0);
-    return [BigInt(steps), (BigInt(flags) << 32n) | BigInt(depth)];
+    return [BigInt(steps), (BigInt(flags) << 32n) | BigInt(depth), BigInt(output)];
 }
 
 // ---- the module
@@ -87,7 +88,12 @@ class Host {
     }
 
     instance() {
-        this.exports ??= new WebAssembly.Instance(this.#module).exports;
+        if (!this.exports) {
+            this.exports = new WebAssembly.Instance(this.#module).exports;
+            // names are hashed by keys that nobody can know, where the host has random numbers
+            const keys = globalThis.crypto?.getRandomValues(new BigUint64Array(2));
+            if (keys) this.exports.keys_set(...keys);
+        }
         return this.exports;
     }
 
@@ -134,7 +140,8 @@ class Host {
             if (status === OK) return text.bytes;
             const line = decoder.decode(said.bytes).replace(/\n$/, "");
             if (status === MEMORY) throw new MemoryError(line);
-            if (status !== FULL && said.needed <= lineRoom) throw new TemplateError(status, line, text.bytes);
+            // a text that fits, and is not whole, is at the limit of the settings
+            if ((status !== FULL || text.needed <= room) && said.needed <= lineRoom) throw new TemplateError(status, line, text.bytes);
             [room, lineRoom] = [Math.max(room, text.needed), Math.max(lineRoom, said.needed)];
             this.#room = room;
         }
@@ -211,7 +218,8 @@ class Engine {
             lent.words(0, ...settings);
             lent.words(1, ...spans.slice(2).flat());
             const words = [lent.pointer(0), lent.pointer(1), BigInt(pairs.length), ...spans[0], ...spans[1]];
-            return this.#host.whole((out, err) => this.#host.call("tmpl_render", ...words, out, err), 2 * json.length);
+            const call = () => this.#host.whole((out, err) => this.#host.call("tmpl_render", ...words, out, err), 2 * json.length);
+            return withProblems(this.#host, pairs, call);
         });
     }
 
@@ -222,6 +230,36 @@ class Engine {
     templates(files = []) {
         return new Templates(this.#host, files);
     }
+
+    check(files) {
+        return problemsOf(this.#host, pairsOf(files));
+    }
+}
+
+/** Does what may refuse one of these files; its error bears what is wrong in them. */
+function withProblems(host, pairs, call) {
+    try {
+        return call();
+    } catch (error) {
+        if (error instanceof TemplateError && error.status === REFUSED) error.problems = problemsOf(host, pairs);
+        throw error;
+    }
+}
+
+/** The lines of all that is wrong in files. */
+function problemsOf(host, pairs) {
+    const parts = pairs.flat(), sizes = parts.map((it) => it.length);
+    return host.lend([TEXT, FILE * pairs.length, ...sizes], (lent) => {
+        parts.forEach((it, number) => lent.put(number + 2, it));
+        lent.words(0, 0, 0, 0);
+        lent.words(1, ...sizes.flatMap((size, number) => [lent.pointer(number + 2), size]));
+        const status = host.call("tmpl_check", lent.pointer(1), BigInt(pairs.length), lent.pointer(0));
+        const said = decoder.decode(lent.text(0));
+        host.call("tmpl_text_free", lent.pointer(0));
+        if (status === MEMORY) throw new MemoryError("tmpl: out of memory");
+        if (status !== OK && status !== REFUSED) throw new TemplateError(status, "tmpl: the name of a file is not UTF-8", new Uint8Array());
+        return said.split("\n").slice(0, -1);
+    });
 }
 
 /** Gives back what is kept for an object that nobody has any more. */
@@ -261,6 +299,22 @@ class Templates {
         this.#settle();
         const at = (part) => this.#lent.pointer(part);
         if (options?.printed) return this.#whole(this.#host.call("tmpl_set_print", at(SET), at(OUT)));
+        return this.#within(options?.memory ?? 0, () => this.#run(json, run, settings));
+    }
+
+    /** Does what takes at most this many bytes of memory, or any number for 0. */
+    #within(memory, what) {
+        if (!(memory >= 0 && memory <= Number.MAX_SAFE_INTEGER)) throw new RangeError(`memory is ${memory}`);
+        this.#host.call("tmpl_limit_memory", BigInt(memory));
+        try {
+            return what();
+        } finally {
+            this.#host.call("tmpl_limit_memory", 0n);
+        }
+    }
+
+    #run(json, run, settings) {
+        const at = (part) => this.#lent.pointer(part);
         this.#readAnew(json);
         if (!this.#isMade) this.#whole(this.#host.call("tmpl_program_make", at(SET), at(PROGRAM)));
         this.#isMade = true;
@@ -311,7 +365,7 @@ class Templates {
             lent.words(0, lent.at[1], path.length, lent.at[2], what.length);
             lent.put(1, path);
             lent.put(2, what);
-            this.#told("tmpl_set_add", kept.pointer(SET), lent.pointer(0));
+            withProblems(this.#host, [[path, what]], () => this.#told("tmpl_set_add", kept.pointer(SET), lent.pointer(0)));
         });
     }
 

@@ -2,13 +2,14 @@
 is looked for under the path LIBTMPL, beside this file, and where the system has its libraries."""
 from __future__ import annotations
 
+import contextlib
 import ctypes
 import json
 import os
 import re
 import threading
 from decimal import Decimal
-from typing import Any, Iterable, Iterator, Mapping, Optional, Tuple, Union
+from typing import Any, Iterable, Iterator, List, Mapping, Optional, Sequence, Tuple, Union
 
 Text = Union[str, bytes]
 Files = Union[Mapping[Text, Text], Iterable[Tuple[Text, Text]]]
@@ -29,14 +30,14 @@ LETTERS = {"a": "\a", "b": "\b", "f": "\f", "n": "\n", "r": "\r", "t": "\t", "v"
 
 
 class TemplateError(Exception):
-    """A render that did not end well: its `status` (FAULT, NOT_TEXT, REFUSED, DATA), the `line` that says why, and the `text` before the
-    fault. Where the line names a place of a template file, `file` and `line_number`, from 1, are that place, and for a FAULT `template`
+    """A render that did not end well: its `status` (FAULT, NOT_TEXT, REFUSED, DATA, FULL), the `line` that says why, and the `text` before
+    the fault. Where a file is refused, `problems` are the lines of all that is wrong in it, as `check` gives them. Where the line names a place of a template file, `file` and `line_number`, from 1, are that place, and for a FAULT `template`
     is the name of the template that ran. Where a number of a Python value is refused, `where` is its place, as in `.prices.0`. What
     there is not is None."""
 
-    def __init__(self, status: int, line: str, text: bytes = b"", where: Optional[str] = None):
-        super().__init__(status, line, text, where)  # so that it can be pickled
-        self.status, self.line, self.text, self.where = status, line, text, where
+    def __init__(self, status: int, line: str, text: bytes = b"", where: Optional[str] = None, problems: Sequence[str] = ()):
+        super().__init__(status, line, text, where, problems)  # so that it can be pickled
+        self.status, self.line, self.text, self.where, self.problems = status, line, text, where, list(problems)
         place = PLACES[status].match(line) if status in PLACES else None
         self.file: Optional[str] = place["file"] if place else None
         self.line_number: Optional[int] = int(place["number"]) if place else None
@@ -63,7 +64,10 @@ class _File(ctypes.Structure):
 
 
 class _Settings(ctypes.Structure):
-    _fields_ = [("steps", ctypes.c_uint64), ("depth", ctypes.c_uint32), ("missing_key", ctypes.c_uint8), ("print", ctypes.c_uint8)]
+    _fields_ = [
+        ("steps", ctypes.c_uint64), ("depth", ctypes.c_uint32), ("missing_key", ctypes.c_uint8), ("print", ctypes.c_uint8),
+        ("output", ctypes.c_size_t),
+    ]
 
 
 class _Buffer(ctypes.Structure):
@@ -94,6 +98,7 @@ def _library():
     it.tmpl_render.argtypes = [ctypes.POINTER(_Settings), ctypes.POINTER(_File), ctypes.c_size_t, *text, *text, *buffers]
     kept, err, owned, settings = (ctypes.POINTER(it) for it in (_Kept, _Buffer, _Text, _Settings))
     calls = {
+        "tmpl_check": [ctypes.POINTER(_File), ctypes.c_size_t, owned],
         "tmpl_set_add": [kept, ctypes.POINTER(_File), err],
         "tmpl_set_print": [kept, owned],
         "tmpl_program_make": [kept, kept],
@@ -109,6 +114,7 @@ def _library():
     for name, word in (("set", kept), ("program", kept), ("data", kept), ("text", owned)):
         free = getattr(it, f"tmpl_{name}_free")
         free.restype, free.argtypes = None, [word]
+    it.tmpl_limit_memory.restype, it.tmpl_limit_memory.argtypes = None, [ctypes.c_size_t]
     it.tmpl_version.restype = ctypes.c_char_p
     it.tmpl_version.argtypes = []
     return it
@@ -150,12 +156,31 @@ def _refused_number(data, at=""):
     return next(filter(None, (_refused_number(it, f"{at}.{key}") for key, it in held)), None)
 
 
-def _settings(missing_key, depth, steps, printed):
+def _settings(missing_key, depth, steps, printed, output):
     if missing_key not in MISSING_KEY:
         raise ValueError(f"missing_key is one of {', '.join(map(repr, MISSING_KEY))}, not {missing_key!r}")
     if not 0 <= depth < 1 << 32 or not 0 <= steps < 1 << 64:
         raise ValueError("depth is from 0 to 2^32 - 1, and steps from 0 to 2^64 - 1")
-    return _Settings(steps, depth, MISSING_KEY[missing_key], bool(printed))
+    return _Settings(steps, depth, MISSING_KEY[missing_key], bool(printed), _count("output", output))
+
+
+def _count(name, count):
+    if not 0 <= count < 1 << 64:
+        raise ValueError(f"{name} is from 0 to 2^64 - 1")
+    return count
+
+
+@contextlib.contextmanager
+def _memory_up_to(count):
+    """What is called meanwhile takes at most this many bytes of memory together; any number for 0. The limit is that of the thread."""
+    if not _count("memory", count):
+        yield
+        return
+    _LIBRARY.tmpl_limit_memory(count)
+    try:
+        yield
+    finally:
+        _LIBRARY.tmpl_limit_memory(0)
 
 
 class _Lent:
@@ -173,10 +198,33 @@ class _Lent:
         return self.buffer.taken < self.buffer.needed
 
 
+def _pairs(files):
+    """The files, as bytes."""
+    return [(_encoded(path), _encoded(what)) for path, what in (files.items() if hasattr(files, "items") else files)]
+
+
+def _array(held):
+    return (_File * max(len(held), 1))(*[_File(path, len(path), what, len(what)) for path, what in held])
+
+
+def check(files: Files) -> List[str]:
+    """All that is wrong in template files, in a line each as compilers write it: `FILE:LINE:COLUMN: error: REASON: DETAIL`, with what to
+    write instead where that is known. There is none where all files are accepted, one after the other. Raises TemplateError where the
+    name of a file is not UTF-8, and MemoryError."""
+    held, text = _pairs(files), _Text()
+    try:
+        status = _LIBRARY.tmpl_check(_array(held), len(held), text)
+        if status != REFUSED:
+            _said(status, b"tmpl: the name of a file is not UTF-8" if status == NOT_TEXT else b"")
+        return text.copied().decode("utf-8", "replace").split("\n")[:-1]
+    finally:
+        _LIBRARY.tmpl_text_free(text)
+
+
 def render_into(files, name, data, settings, size, line_size):
     """One call: its status, and the memory that holds its text and its line."""
-    held = [(_encoded(path), _encoded(what)) for path, what in (files.items() if hasattr(files, "items") else files)]
-    array = (_File * max(len(held), 1))(*[_File(path, len(path), what, len(what)) for path, what in held])
+    held = _pairs(files)
+    array = _array(held)
     name = _encoded(held[0][0].rpartition(b"/")[2] if name is None and held else name or b"")
     out, err = _Lent(size), _Lent(line_size)
     status = _LIBRARY.tmpl_render(settings, array, len(held), name, len(name), data, len(data), out.buffer, err.buffer)
@@ -214,7 +262,7 @@ def render(files: Files, name: Optional[Text] = None, data: Any = None, **option
 
     `files` are pairs of a path and what the file holds, or a dict of them; `data` is JSON as bytes, None for no data, or a value that
     json.dumps takes. Options: missing_key ("default", "invalid", "zero", "error"), depth, steps (0 for the defaults), printed=True
-    for the printed set, and floats="text", by which a float and a Decimal of a value are the text that `str` gives; else a float is
+    for the printed set, output and memory, the most bytes of text and of memory (0 for any number), and floats="text", by which a float and a Decimal of a value are the text that `str` gives; else a float is
     refused. Raises TemplateError, MemoryError where memory is refused, and ValueError for an option that is none."""
     return render_bytes(files, name, data, **options).decode("utf-8", "replace")
 
@@ -272,7 +320,10 @@ class Templates:
         """Adds the templates of one more file, or raises TemplateError and leaves them as they are."""
         path, what = _encoded(path), _encoded(what)
         with self._lock:
-            _accepted(lambda err: _LIBRARY.tmpl_set_add(self._set, _File(path, len(path), what, len(what)), err))
+            try:
+                _accepted(lambda err: _LIBRARY.tmpl_set_add(self._set, _File(path, len(path), what, len(what)), err))
+            except TemplateError as error:
+                raise TemplateError(error.status, error.line, problems=check([(path, what)]) if error.status == REFUSED else ()) from None
             self._first = path.rpartition(b"/")[2] if self._first is None else self._first
             self._renew()
 
@@ -300,16 +351,18 @@ class Templates:
 
     def render_bytes(
         self, name: Optional[Text] = None, data: Any = None, missing_key: str = "default", depth: int = 0, steps: int = 0,
-        printed: bool = False, floats: str = "refuse",
+        printed: bool = False, floats: str = "refuse", output: int = 0, memory: int = 0,
     ) -> bytes:
         """What `render` gives, as bytes."""
-        settings, data = _settings(missing_key, depth, steps, printed), _value(data, floats)
+        settings, data = _settings(missing_key, depth, steps, printed, output), _value(data, floats)
         read = _json(data)
         if printed:
-            return self._printed()
+            with _memory_up_to(memory):
+                return self._printed()
         worker = self._worker()
         try:
-            return worker.render(_encoded((self._first or b"") if name is None else name), read, settings, data)
+            with _memory_up_to(memory):
+                return worker.render(_encoded((self._first or b"") if name is None else name), read, settings, data)
         finally:
             with self._lock:
                 if worker.version == self._version:

@@ -30,6 +30,7 @@ struct tried rattle_realloc(void *old, size_t kept, size_t size, size_t align);
 void rattle_dealloc(void *at);
 void *memory_take(size_t size);
 void memory_give(void *at);
+void tmpl_limit_memory(size_t bytes);
 
 extern uint8_t __heap_base;
 static struct block *top; /* after the last block; of what is there only `before` is set */
@@ -37,6 +38,8 @@ static uint8_t *end;      /* of memory */
 static struct block *lists[LISTS];
 static size_t filled[LISTS / WORD]; /* a bit for each list that has a block */
 static char nothing;
+static size_t most;  /* bytes that may be taken from when the limit was set; 0: any number */
+static size_t taken; /* .. and those that were taken since and not given back */
 
 static size_t rounded(size_t size) { return (size + 15) & ~(size_t)15; }
 
@@ -202,10 +205,33 @@ static void *resized(void *old, size_t kept, size_t size) {
 
 static struct tried told(void *at) { return (struct tried){at != nullptr, at != nullptr ? at : &nothing}; }
 
-struct tried rattle_alloc(size_t size, size_t align) { return told(memory_take(size != 0 ? size : align)); }
+/* ---- the limit */
 
-struct tried rattle_realloc(void *old, size_t kept, size_t size, size_t align) {
-    return told(resized(old, kept, size != 0 ? size : align));
+void tmpl_limit_memory(size_t bytes) { most = bytes, taken = 0; }
+
+static size_t lent(void *at) { return size_of(moved(at, -HEAD)) - HEAD; }
+
+/* The bytes that are taken without these, which may have been taken before the limit was set. */
+static size_t without(size_t bytes) { return taken > bytes ? taken - bytes : 0; }
+
+static bool fits(size_t before, size_t size) { return most == 0 || (before <= most && size <= most - before); }
+
+struct tried rattle_alloc(size_t size, size_t align) {
+    size = size != 0 ? size : align;
+    void *at = fits(taken, size) ? memory_take(size) : nullptr;
+    if (at != nullptr && most != 0) taken += lent(at);
+    return told(at);
 }
 
-void rattle_dealloc(void *at) { memory_give(at); }
+struct tried rattle_realloc(void *old, size_t kept, size_t size, size_t align) {
+    size = size != 0 ? size : align;
+    size_t before = most != 0 ? without(lent(old)) : 0;
+    void *at = fits(before, size) ? resized(old, kept, size) : nullptr;
+    if (at != nullptr && most != 0) taken = before + lent(at);
+    return told(at);
+}
+
+void rattle_dealloc(void *at) {
+    if (most != 0) taken = without(lent(at));
+    memory_give(at);
+}

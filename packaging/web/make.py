@@ -2,7 +2,7 @@
 `make.py page WASM TO` the page.
 
 The LLVM module is for x86-64 at its oldest. It is compiled once more for WebAssembly with memories of 64 bits, which has the same sizes and
-alignments, and the same order of bytes; it is linked with heap.c and wide.c; and wasm-opt of binaryen lowers it to memories of 32 bits,
+alignments, and the same order of bytes; it is linked with what is C here; and wasm-opt of binaryen lowers it to memories of 32 bits,
 which every browser has. Pointers stay numbers of 64 bits in each call."""
 import base64
 import gzip
@@ -27,7 +27,7 @@ FEATURES = ("bulk-memory", "bulk-memory-opt", "mutable-globals", "nontrapping-fp
 # an empty one only keeps the compiler from moving accesses past it, as around a count of owners
 OF_A_PROCESSOR = re.compile(r'@llvm\.(x86|aarch64)\.|\basm (?!sideeffect "", "~\{memory\}")')
 OF_X86 = '"probe-stack"="inline-asm" "stack-probe-size"="3072" "target-cpu"="x86-64"'
-OURS = ("memory_take", "memory_give")  # what the caller lends memory by
+OURS = ("memory_take", "memory_give", "keys_set")  # what the caller lends memory by, and gives keys
 STACK = 1 << 20  # bytes; it lies below all else, so that a call past its end is a trap
 MOST = 1 << 32  # bytes of memory
 LOWERED = ("bulk-memory", "mutable-globals", "sign-ext", "nontrapping-float-to-int")
@@ -61,11 +61,15 @@ def compiled(module, folder):
     return f"{folder}/tmpl.o"
 
 
-def compiled_c(name, folder):
-    """The object of a file in C of this folder."""
+IN_C = [*(f"{HERE}/{it}.c" for it in ("heap", "keys", "wide")), f"{TOP}/bindings/c/keyed.c"]
+
+
+def compiled_c(path, folder):
+    """The object of a file in C. The compiler of the toolchain has no headers, so it takes ours."""
     flags = ["-std=c23", "-O2", "-Wall", "-Wextra", "-Werror", "-ffreestanding", "-mbulk-memory", "-mno-multivalue", "-mno-reference-types"]
-    ran(f"{TOOLS}/clang", f"--target={TARGET}", *flags, "-c", f"{HERE}/{name}.c", "-o", f"{folder}/{name}.o")
-    return f"{folder}/{name}.o"
+    to = f"{folder}/{os.path.basename(path)}.o"
+    ran(f"{TOOLS}/clang", f"--target={TARGET}", *flags, "-I", f"{HERE}/include", "-c", path, "-o", to)
+    return to
 
 
 def calls():
@@ -76,7 +80,7 @@ def calls():
 
 def make_wasm(module, to):
     with tempfile.TemporaryDirectory() as folder:
-        objects = [compiled(module, folder), *(compiled_c(it, folder) for it in ("heap", "wide"))]
+        objects = [compiled(module, folder), *(compiled_c(it, folder) for it in IN_C)]
         shown = [f"--export={it}" for it in (*calls(), *OURS)]
         flags = ["--no-entry", "--gc-sections", "--fatal-warnings", "--strip-all"]
         flags += ["--stack-first", "-z", f"stack-size={STACK}", f"--max-memory={MOST}"]

@@ -475,7 +475,7 @@ def bench_library(figures, folder):
     figures.part("The C library, in one process: the least, the median of 31 renders")
     go, speed, library = go_renderer(folder), f"{folder}/speed", f"{harness.TOP}/bindings/out/libtmpl.a"
     tera, cpp = tera_renderer(folder), cpp_renderer(folder)
-    subprocess.run(["cc", "-O2", f"-I{harness.TOP}/bindings/c", f"{harness.TESTS}/bench/speed.c", library, "-o", speed], check=True)
+    subprocess.run(["cc", "-O2", f"-I{harness.TOP}/bindings/c", f"{harness.TESTS}/bench/speed.c", library, "-pthread", "-o", speed], check=True)
     for name, pieces, held, *_ in renders(folder):
         if name not in JINJA:
             continue
@@ -517,6 +517,51 @@ def bench_kept(figures, speed, folder):
         least, middle = told[name]
         factor = middle / told["alone"][1]
         figures.row(f"a kept `Hello`, {name}", f"{shown(least / 1e9)}, {shown(middle / 1e9)}", "alone", factor, None, 1.2)
+    bench_threads(figures, speed, files, held)
+    bench_python(figures, files, held)
+
+
+THREADS = (1, 2, 3, 4)
+
+
+def bench_threads(figures, speed, files, held):
+    """Renders of one program in threads at the same time, each with a handle of its own: the time in which each makes one."""
+    told = {}
+    for name in ("alone", "beside 10,000 definitions"):
+        for threads in THREADS:
+            least, middle = turns({"": ([speed, files[name], held], ["kept", "0", str(threads)])}, 50_000)[""]
+            first = told.setdefault(name, middle)
+            figures.row(f"a kept `Hello` {name}, a render of each of {threads} threads", f"{shown(least / 1e9)}, {shown(middle / 1e9)}", "one thread", middle / first)
+
+
+PYTHON = """
+import sys, time
+from concurrent.futures import ThreadPoolExecutor
+import tmpl
+file, held, count, threads = sys.argv[1], open(sys.argv[2], "rb").read(), int(sys.argv[3]), int(sys.argv[4])
+templates, times = tmpl.Templates({"m": open(file, "rb").read()}), []
+def work(_):
+    for _ in range(count):
+        templates.render_bytes("m", held)
+with ThreadPoolExecutor(threads) as pool:
+    for _ in range(31):
+        start = time.perf_counter_ns()
+        list(pool.map(work, range(threads)))
+        times.append((time.perf_counter_ns() - start) / count)
+print(min(times), sorted(times)[15])
+"""
+
+
+def bench_python(figures, files, held):
+    """The same by the wrapper for Python, which has one lock for all of its threads but in the calls of the library."""
+    environment = {**os.environ, "PYTHONPATH": f"{harness.TOP}/bindings/python", "LIBTMPL": f"{harness.TOP}/bindings/out/libtmpl.so"}
+    told = {}
+    for name, threads in [*((name, 1) for name in files if "calls itself" not in name), *(("alone", it) for it in THREADS[1:])]:
+        words = [sys.executable, "-c", PYTHON, files[name], held, "2000", str(threads)]
+        done = subprocess.run(words, env=environment, stdout=subprocess.PIPE, check=True, text=True)
+        least, middle = map(float, done.stdout.split())
+        what, first = f"a kept `Hello` by Python, {name}", told.setdefault("alone", middle)
+        figures.row(what + (f", a render of each of {threads} threads" if threads > 1 else ""), f"{shown(least / 1e9)}, {shown(middle / 1e9)}", "alone, one thread", middle / first)
 
 
 # ---- the page

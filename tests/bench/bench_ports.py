@@ -108,7 +108,7 @@ def bench_web(figures, folder):
     module, go = go_module(folder)
     ours, speed = staged(folder), f"{folder}/speed"
     library = f"{harness.TOP}/bindings/out/libtmpl.a"
-    subprocess.run(["cc", "-O2", f"-I{harness.TOP}/bindings/c", f"{harness.TESTS}/bench/speed.c", library, "-o", speed], check=True)
+    subprocess.run(["cc", "-O2", f"-I{harness.TOP}/bindings/c", f"{harness.TESTS}/bench/speed.c", library, "-pthread", "-o", speed], check=True)
     version = subprocess.run(["node", "--version"], stdout=subprocess.PIPE, text=True, check=True).stdout.strip()[1:]
     figures.part(f"In Node {version}: the least, the median of 31 renders")
     if go:

@@ -1,7 +1,9 @@
 /* speed TEMPLATE DATA COUNT: renders as often by the library, and tells the least and the middle time of one render in nanoseconds, with
    the parse of the template and the read of the data each time. `speed TEMPLATE DATA COUNT kept` parses and reads once, and
-   `.. kept DEPTH` lets this many calls be inside one another. */
+   `.. kept DEPTH` lets this many calls be inside one another. `.. kept DEPTH THREADS` renders as often in each of so many threads at the
+   same time, by handles of their own, and tells the time until all are done over the renders of one. */
 #include "tmpl.h"
+#include <pthread.h>
 #include <stdio.h>
 #include <stdlib.h>
 #include <time.h>
@@ -25,22 +27,65 @@ static char *content(const char *path, size_t *size) {
 
 static int less(const void *a, const void *b) { return (*(const double *)a > *(const double *)b) - (*(const double *)a < *(const double *)b); }
 
+/* What a thread has, in memory of its own: a call writes to each handle. */
+struct worker {
+    _Alignas(128) pthread_t thread;
+    tmpl_program program;
+    tmpl_data data;
+    tmpl_text text, line;
+    int count, status;
+};
+
+static void *work(void *it) {
+    struct worker *own = it;
+    tmpl_settings settings = {0};
+    for (int k = 0; k < own->count && !own->status; k++)
+        own->status = tmpl_render_text(&settings, &own->program, &own->data, "m", 1, &own->text, &own->line);
+    return NULL;
+}
+
+/* Renders in threads at the same time; tells how many bytes a text has, or 0 where a render did not end well. */
+static size_t work_all(struct worker *workers, int threads, int count) {
+    size_t size = 0;
+    for (int i = 0; i < threads; i++) {
+        workers[i].count = count;
+        if (pthread_create(&workers[i].thread, NULL, work, workers + i)) exit(2);
+    }
+    for (int i = 0; i < threads; i++) {
+        pthread_join(workers[i].thread, NULL);
+        if (workers[i].status) return 0;
+        size = workers[i].text.size;
+    }
+    return size;
+}
+
+enum { MOST_THREADS = 64 };
+static struct worker workers[MOST_THREADS];
+
 int main(int argc, char **argv) {
-    if (argc < 4 || argc > 6) return 2;
+    if (argc < 4 || argc > 7) return 2;
+    int threads = argc == 7 ? atoi(argv[6]) : 0;
+    if (threads < 0 || threads > MOST_THREADS) return 2;
     enum { ROOM = 1 << 24, TIMES = 31 };
     size_t size, data_size;
     char *text = content(argv[1], &size), *data = content(argv[2], &data_size), *memory = malloc(ROOM), line[256];
     int count = atoi(argv[3]);
     double times[TIMES];
-    tmpl_settings settings = {0, argc == 6 ? (uint32_t)atoi(argv[5]) : 0, 0, 0};
+    tmpl_settings settings = {.depth = argc >= 6 ? (uint32_t)atoi(argv[5]) : 0};
     tmpl_file file = {"m", 1, text, size};
     tmpl_buffer out = {memory, ROOM, 0, 0}, err = {line, sizeof line, 0, 0};
     tmpl_set set = {0};
     tmpl_data kept = {0};
     if (argc > 4 && (tmpl_set_add(&set, &file, &err) || tmpl_data_read(&kept, data, data_size, &err))) return 1;
+    for (int i = 0; i < threads; i++) {
+        tmpl_program first = {0};
+        if (tmpl_program_make(&set, &first) || tmpl_program_share(&first, &workers[i].program) || tmpl_data_share(&kept, &workers[i].data)) return 1;
+        tmpl_program_free(&first);
+    }
     for (int i = 0; i < TIMES; i++) {
         double start = now();
-        for (int k = 0; k < count; k++) {
+        if (threads && !(out.taken = work_all(workers, threads, count))) return 1;
+        for (int k = 0; k < count && !threads; k++) {
             if (argc > 4 ? tmpl_render_set(&settings, &set, &kept, "m", 1, &out, &err)
                           : tmpl_render(&settings, &file, 1, "m", 1, data, data_size, &out, &err)) return 1;
         }

@@ -62,9 +62,23 @@ static const struct row rows[] = {
 };
 enum { ROWS = sizeof rows / sizeof *rows };
 
+/* What a check says of a file. */
+static const struct row checked[] = {
+    {"Hello, {{.name}}!", "", "", "", TMPL_OK, 0},
+    {"a\n{{if name}}{{end}} {{end}}", "",
+     "t:2:1: error: action not understood: no function \"name\"\n"
+     "t:2:20: error: out of place: \"end\" closes nothing: no if, with, range, define or block is open\n",
+     "", TMPL_REFUSED, 0},
+    {"{{define \"a\"}}x{{end}}{{define \"a\"}}y{{end}}", "", "t:1:23: error: second definition: second definition of \"a\", the first in line 1\n", "",
+     TMPL_REFUSED, 0},
+    {"{{.a.b-c}}\n{{name}}", "", "t:1:1: error: unclosed or unreadable action: unexpected \"-\": write index .a \"b-c\"\n"
+     "t:2:1: error: action not understood: no function \"name\": write .name\n", "", TMPL_REFUSED, 0},
+};
+enum { CHECKED = sizeof checked / sizeof *checked };
+
 struct told {
     int status, is_lent, is_quiet; /* is_quiet: refused memory says no line */
-    char out[128], line[128];
+    char out[256], line[128];
     tmpl_buffer text, said;
 };
 
@@ -195,6 +209,17 @@ static int is_refused(const struct row *row, const struct told *told) {
         && holds(&told->said, told->is_quiet ? "" : "tmpl: out of memory\n");
 }
 
+/* What a check says of the files, whose second is accepted. */
+static void check(const struct row *row, size_t size, size_t line_size, struct told *told) {
+    tmpl_file files[] = {{"t", 1, row->template, strlen(row->template)}, {"u", 1, "{{.}}", 5}};
+    tmpl_text text = {0};
+    told->text = (tmpl_buffer){told->out, size, 0, 0}, told->said = (tmpl_buffer){told->line, line_size, 0, 0};
+    told->is_quiet = 1, told->is_lent = 1;
+    told->status = tmpl_check(files, 2, &text);
+    lend(&text, &told->text);
+    for (int i = 0; i < 2; i++) tmpl_text_free(&text), told->is_lent &= !text.size;
+}
+
 typedef void way(const struct row *row, size_t size, size_t line_size, struct told *told);
 
 /* Refuses each allocation of a render in turn; tells how many were refused. */
@@ -315,6 +340,46 @@ static void render_flat(int renders) {
     tmpl_set_free(&set), tmpl_program_free(&program), tmpl_data_free(&data), tmpl_text_free(&text), tmpl_text_free(&line);
 }
 
+/* A thread's limit refuses what goes past it, in that thread alone, and counts anew from each call that sets it. */
+static void *render_large(void *status) {
+    static const char template[] = "{{range 10000}}0123456789{{end}}";
+    tmpl_file file = {"t", 1, template, sizeof template - 1};
+    tmpl_set set = {0};
+    tmpl_program program = {0};
+    tmpl_data data = {0};
+    tmpl_text text = {0}, line = {0};
+    char said[64];
+    tmpl_buffer err = {said, sizeof said, 0, 0};
+    *(int *)status = tmpl_set_add(&set, &file, &err);
+    if (!*(int *)status) *(int *)status = tmpl_program_make(&set, &program);
+    if (!*(int *)status) *(int *)status = tmpl_render_text(&(tmpl_settings){0}, &program, &data, "t", 1, &text, &line);
+    tmpl_set_free(&set), tmpl_program_free(&program), tmpl_data_free(&data), tmpl_text_free(&text), tmpl_text_free(&line);
+    return NULL;
+}
+
+static void limit_memory(void) {
+    static const size_t few[] = {1, 64, 1024, 16384, 65536};
+    int status;
+    for (size_t i = 0; i < sizeof few / sizeof *few; i++) {
+        tmpl_limit_memory(few[i]);
+        render_large(&status);
+        judge(status == TMPL_MEMORY, "a render with little memory", (long)few[i]);
+    }
+    pthread_t thread;
+    judge(!pthread_create(&thread, NULL, render_large, &status) && !pthread_join(thread, NULL), "a thread", 0);
+    judge(status == TMPL_OK, "a render of another thread", status);
+    for (int i = 0; i < 20; i++) {
+        tmpl_limit_memory(1 << 20);
+        render_large(&status);
+        judge(status == TMPL_OK, "a render with enough memory", i);
+    }
+    for (int i = 0; i < 20; i++) render_large(&status);
+    judge(status == TMPL_OK, "renders that give back what they take", status);
+    tmpl_limit_memory(0);
+    render_large(&status);
+    judge(status == TMPL_OK, "a render without a limit", status);
+}
+
 int main(int argc, char **argv) {
     (void)argv;
     long refusals = 0;
@@ -332,7 +397,14 @@ int main(int argc, char **argv) {
         refusals += refuse_each(keep_program, rows + i, sizeof told.out, sizeof told.line);
         refusals += refuse_each(keep_program, rows + i, 3, 5);
     }
+    for (int i = 0; i < CHECKED; i++) {
+        check(checked + i, sizeof told.out, sizeof told.line, &told);
+        judge(is_right(checked + i, &told), checked[i].template, -3);
+        if (argc == 1) refusals += refuse_each(check, checked + i, sizeof told.out, sizeof told.line);
+    }
     live = 0;
+    limit_memory();
+    judge(live == 0, "blocks that stay of limited calls", live);
     for (int i = 0; i < (argc == 1 ? 1000 : 10) * ROWS; i++) {
         keep(rows + i % ROWS, sizeof told.out, sizeof told.line, &told);
         judge(is_right(rows + i % ROWS, &told) && live == 0, "made and freed", i);

@@ -35,7 +35,7 @@ int main() {
     tmpl::data none, ada(R"({"name": "Ada"})");
     pages.add("m", "Hello, {{.name}}!");
     pages.add("loud", "a{{range 30000}}0123456789{{end}}{{len .}}");
-    const tmpl_settings printed = {0, 0, 0, 1}, strict = {0, 0, 3, 0}, short_run = {1, 0, 0, 0};
+    const tmpl_settings printed = {0, 0, 0, 1, 0}, strict = {0, 0, 3, 0, 0}, short_run = {1, 0, 0, 0, 0}, short_text = {0, 0, 0, 0, 9};
     tell("with data", [&] { return pages.render("m", ada); });
     tell("without", [&] { return pages.render("m", none); });
     tell("a missing key", [&] { return pages.render("m", none, strict); });
@@ -44,6 +44,17 @@ int main() {
     tell("no template", [&] { return pages.render({}, ada); });
     tell("a long name", [&] { return pages.render(std::string(5000, 'x'), ada); });
     tell("refused", [&] { return pages.add("n", "{{"), std::string(); });
+    tell("problems", [&] {
+        std::string all;
+        try {
+            pages.add("n", "{{name}}");
+        } catch (const tmpl::error &it) {
+            for (const std::string &line : it.problems) all += line + "|";
+        }
+        return all;
+    });
+    tell("no problems", [&] { return std::to_string(tmpl::check({{"m", "Hello, {{.name}}!"}}).size()); });
+    tell("a short text", [&] { return pages.render("m", ada, short_text); });
     tell("no name of a file", [&] { return pages.add("\xff", ""), std::string(); });
     tell("no JSON", [&] { return tmpl::data("[1.5]"), std::string(); });
     const tmpl::templates moved = std::move(pages);

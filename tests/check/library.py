@@ -23,18 +23,21 @@ from concurrent.futures import ThreadPoolExecutor
 from decimal import Decimal
 
 from tests.lib import harness
+from tests.rows import problem_rows
 
 BINDINGS = f"{harness.TOP}/bindings"
 OUT = f"{BINDINGS}/out"
 LEAST = 1400  # rows
 SIZES = 24  # bytes up to which texts and lines are called with room of each size
 LEAST_SIZES = 30900  # calls for that
+LEAST_LIMITS = 7400  # renders with a limit of the text
 LEAST_CASES = 20000  # of tests/check/library.c
 GUARD = b"\xa5" * 8  # after lent memory
 SWITCHES = {b"--data", b"--missingkey", b"--name", b"--depth", b"--steps"}
 BLOCK = re.compile(r"^```(c|cpp|python|go|rust)\n(.*?)^```\n+(?:It puts out\n+)?```text\n(.*?)^```$", re.MULTILINE | re.DOTALL)
 NAMES = [
-    *("tmpl_data_free", "tmpl_data_read", "tmpl_data_share", "tmpl_program_free", "tmpl_program_make", "tmpl_program_share", "tmpl_render"),
+    *("tmpl_check", "tmpl_data_free", "tmpl_data_read", "tmpl_data_share", "tmpl_limit_memory", "tmpl_program_free", "tmpl_program_make"),
+    *("tmpl_program_share", "tmpl_render"),
     *("tmpl_render_program", "tmpl_render_set", "tmpl_render_text", "tmpl_set_add", "tmpl_set_free", "tmpl_set_print", "tmpl_text_free"),
     "tmpl_version",
 ]
@@ -156,6 +159,116 @@ def lent_by(templates, call):
         got = (status, out.output(), err.output())
         wrong += [] if got == (call.row.status, call.row.out, call.line) else [f"    of a {name}, it gives {got}"]
     return wrong
+
+
+def judge_limits(call):
+    """Renders with each limit of the text, into lent memory and into a text: the first bytes of it are there, just so many, with status 6;
+    where it has no more, it is as without a limit."""
+    row, count, wrong = call.row, 0, []
+    steps, depth, mode, is_print = call.settings
+    how = {"missing_key": list(tmpl.MISSING_KEY)[mode], "depth": depth, "steps": steps, "printed": bool(is_print)}
+    with tmpl.Templates(call.files) as templates:
+        for limit in range(1, len(row.out) + 2):
+            is_over = limit < len(row.out)
+            wanted = (tmpl.FULL, row.out[:limit], b"tmpl: write failed\n") if is_over else (row.status, row.out, call.line)
+            settings = tmpl._Settings(*call.settings, limit)
+            status, out, err = tmpl.render_into(call.files, call.name, call.data, settings, len(row.out) + 1, 64 + len(call.line))
+            got = [(status, out.output(), err.output())]
+            if not is_print:
+                status, text, line = came_of(lambda: templates.render_bytes(call.name, call.data, output=limit, **how))
+                got.append((status, text, f"{line}\n".encode() if line else b""))
+            wrong += [f"    a limit of {limit}: {it}" for it in got if it != wanted]
+            wrong += [f"    a limit of {limit}: it needs {out.buffer.needed}"] * (out.buffer.needed != min(limit, len(row.out)))
+            count += len(got)
+    return f"{row.name}, each limit", count, wrong
+
+
+def judge_check(call):
+    """What is said of the files: something exactly where one is refused, and first the line and the reason of the row."""
+    row, lines = call.row, tmpl.check(call.files)
+    refused = row.status == tmpl.REFUSED and not row.err.startswith(b"tmpl: no template")
+    if not refused:
+        return f"{row.name}, checked", 1, [f"    it says {lines}"] if lines else []
+    place, reason = re.fullmatch(r"tmpl: (.*:\d+): (.*)\n", row.err.decode("utf-8", "replace"), re.DOTALL).groups()
+    is_right = lines and re.match(rf"{re.escape(place)}:\d+: error: {re.escape(reason)}(: |$)", "\n".join(lines))
+    return f"{row.name}, checked", 1, [] if is_right else [f"    it says {lines}"]
+
+
+def judge_checks():
+    """The files of problem_rows.py, whose lines were worked out by hand, and more than one file."""
+    for title, text, lines in problem_rows.ROWS + problem_rows.FILES:
+        wanted = [f"m:{line}" for line in lines if " error: " in f" {line}"]
+        got = tmpl.check({"m": text})
+        yield f"checked: {title}", 1, [] if got == wanted else [f"    got {got}"]
+    mistake = 'error: action not understood: no function "name": write .name'
+    cases = [
+        ("each file is checked", lambda: tmpl.check([("a", "{{name}}"), ("b", "text"), ("c/d", "\n {{name}}")]), [f"a:1:1: {mistake}", f"c/d:2:2: {mistake}"]),
+        ("a file may define what another did", lambda: tmpl.check([("a", '{{define "t"}}{{end}}'), ("b", '{{define "t"}}{{end}}')]), []),
+        ("no file", lambda: tmpl.check([]), []),
+        ("a name that is no text after a refused file", lambda: tmpl.check([("a", "{{name}}"), (b"\xff", "")]),
+         ("TemplateError", "tmpl: the name of a file is not UTF-8", None)),
+        ("what an error of a render bears", lambda: problems_of({"a": "{{name}}{{end}}"}),
+         [f"a:1:1: {mistake}", f"a:1:9: {problem_rows.OUT_OF_PLACE}{problem_rows.END}"]),
+        ("an error of no file", lambda: problems_of({"a": "{{index . 1}}"}), []),
+    ]
+    for name, call, wanted in cases:
+        got = raised(call)
+        yield f"checked: {name}", 1, [] if got == wanted else [f"    got {got}"]
+
+
+def problems_of(files):
+    """What the error of a render says of files, also after it went to another process."""
+    try:
+        tmpl.render(files)
+    except tmpl.TemplateError as error:
+        return pickle.loads(pickle.dumps(error)).problems
+    return None
+
+
+LARGE = {"m": "{{range 300000}}0123456789{{end}}"}  # 3,000,000 bytes
+
+
+def judge_memory():
+    """A limit of memory refuses a render that needs more, and nothing else; a limit of the text bounds what is gathered."""
+    with tmpl.Templates(LARGE) as templates:
+        cases = [
+            ("with 1 MiB", lambda: templates.render(memory=1 << 20), "MemoryError"),
+            ("with 32 MiB", lambda: len(templates.render(memory=32 << 20)), 3000000),
+            ("without a limit", lambda: len(templates.render()), 3000000),
+            ("with 1 MiB again, in the memory of the text", lambda: len(templates.render(memory=1 << 20)), "MemoryError"),
+            ("a large value with 1 MiB", lambda: templates.render(data=["x" * (1 << 20)], memory=1 << 20), "MemoryError"),
+            ("few bytes with 1 MiB", lambda: came_of(lambda: templates.render_bytes(output=9, memory=1 << 20)), (6, b"012345678", "tmpl: write failed")),
+            ("no number of bytes", lambda: templates.render(memory=-1), ("ValueError", "memory is from 0 to 2^64 - 1", None)),
+            ("no number of bytes of text", lambda: templates.render(output=1 << 64), ("ValueError", "output is from 0 to 2^64 - 1", None)),
+        ]
+        for name, call, wanted in cases:
+            try:
+                got = raised(call)
+            except MemoryError as error:
+                got = type(error).__name__
+            yield f"a limit of memory: {name}", 1, [] if got == wanted else [f"    got {got}"]
+    before = resource.getrusage(resource.RUSAGE_SELF).ru_maxrss
+    got = came_of(lambda: tmpl.render_bytes({"m": "{{range 400000000}}0123456789{{end}}"}, output=1000))
+    grown = resource.getrusage(resource.RUSAGE_SELF).ru_maxrss - before
+    wrong = [] if got == (6, b"0123456789" * 100, "tmpl: write failed") else [f"    got {got}"]
+    yield "a limit of the text bounds what is gathered", 1, wrong + [f"    it grew by {grown} kB"] * (grown > 4096)
+
+
+def judge_keys(folder):
+    """Names are hashed by 16 random bytes of the system, which the library draws itself, once for a thread; where the system has none to
+    give, texts are the same."""
+    shim = f"{folder}/draw_keys.so"
+    harness.build_shim("draw_keys.c", shim)
+    program = "import tmpl; f = {'m': '{{$x := 1}}{{template `t` $x}}{{define `t`}}{{.}}{{end}}'}; print(tmpl.render(f), tmpl.render(f), tmpl.check(f))"
+    for name, more in (("random bytes", {}), ("no random bytes", {"KEYS_FAIL": "1"})):
+        reader, writer = os.pipe()
+        environment = {**os.environ, "PYTHONPATH": f"{BINDINGS}/python", "PYTHONHASHSEED": "0", "LD_PRELOAD": shim, "KEYS_FD": str(writer), **more}
+        got = ran(sys.executable, "-c", program, env=environment, pass_fds=[writer])
+        os.close(writer)
+        with open(reader, "rb") as pipe:
+            asked = len(pipe.read())
+        wrong = [] if got == (0, "1 1 []\n") else [f"    got {got}"]
+        yield f"keys of {name}", 1, wrong + [f"    it drew {asked} bytes"] * (asked != 16 if not more else asked % 16 or not asked)
 
 
 def judge_refusals():
@@ -374,6 +487,8 @@ def judge_c(folder):
         print("valgrind is not there")
 
 
+MISTAKES_IN_CPP = 'n:1:1: error: action not understood: no function "name": write .name|'
+
 CALLS_IN_CPP = [
     "with data: 11 Hello, Ada!",
     "without: 18 Hello, <no value>!",
@@ -383,6 +498,9 @@ CALLS_IN_CPP = [
     'no template: 4 "tmpl: no template """ after ""',
     f'a long name: 4 "tmpl: no template "{"x" * 5000}"" after ""',
     'refused: 4 "tmpl: n:1: unclosed or unreadable action" after ""',
+    f'problems: {len(MISTAKES_IN_CPP)} {MISTAKES_IN_CPP[:40]}',
+    "no problems: 1 0",
+    'a short text: 6 "tmpl: write failed" after "Hello, Ad"',
     'no name of a file: 2 "tmpl: arguments refused; see tmpl --help" after ""',
     'no JSON: 5 "tmpl: data: number not whole or out of range" after ""',
     "moved: 9 Ada again",
@@ -391,6 +509,26 @@ CALLS_IN_CPP = [
     "after one more file: 13 Ada once more",
     'printed: 37 {{define "n"}}{{.name}} again{{end}}',
 ]
+
+
+STACK = 512  # kilobytes, as docs/EMBEDDING.md and tmpl.h say
+LEAST_STACKS = 88  # calls with the deepest inputs
+
+
+def judge_stack(folder):
+    """Each call with the deepest inputs, in threads of the stack that callers are told to have."""
+    program, wrong = compiled(folder, "stack", ["cc", "-std=gnu11", "-O1", *WARNINGS], f"-I{BINDINGS}/c", f"{harness.TESTS}/check/stack.c", f"{OUT}/libtmpl.a", "-pthread")
+    if wrong:
+        yield "tests/check/stack.c", 1, wrong
+        return
+    status, said = ran(program, str(STACK))
+    told = re.findall(r"^(.+): (\d+), (\d+) kB$", said, re.MULTILINE)
+    most = max(((int(used), what) for what, _, used in told), default=(0, ""))
+    print(f"the stack of {most[1]}: {most[0]} kB of {STACK}")
+    is_right = status == 0 and len(told) >= LEAST_STACKS and len(told) == len(said.splitlines())
+    yield "tests/check/stack.c", len(told), [] if is_right else [f"    {status}: {said[-500:]}"]
+    with open(f"{BINDINGS}/c/tmpl.h", encoding="utf-8") as it:
+        yield "the stack that the header tells", 1, [] if f"{STACK} kB of stack" in it.read() else ["    it tells another"]
 
 
 def judge_cpp(folder):
@@ -411,7 +549,7 @@ HEADER = r"""
 #include <stdio.h>
 int main(void) {
     char text[16], line[64];
-    tmpl_settings settings = {0, 0, 0, 0};
+    tmpl_settings settings = {0, 0, 0, 0, 0};
     tmpl_file file = {"m", 1, "{{.}}", 5};
     tmpl_buffer out = {text, sizeof text, 0, 0}, err = {line, sizeof line, 0, 0};
     int status = tmpl_render(&settings, &file, 1, "m", 1, "[1,2]", 5, &out, &err);
@@ -637,7 +775,13 @@ def main(words):
         told = harness.tally(map(judge_sizes, small))
         failed += told[1] + harness.too_few("calls with room of some size", told[2], LEAST_SIZES)
         passed += told[0]
-        results = [*judge_names(), *judge_refusals(), *judge_wrapper(), *judge_options(), *judge_c(folder), *judge_cpp(folder), *judge_header(folder)]
+        told = harness.tally(map(judge_check, calls))
+        failed += told[1] + harness.too_few("rows were checked", told[2], LEAST)
+        passed += told[0]
+        told = harness.tally(map(judge_limits, [call for call in small if call.row.status in (tmpl.OK, tmpl.FAULT)]))
+        failed += told[1] + harness.too_few("renders with a limit of the text", told[2], LEAST_LIMITS)
+        passed += told[0]
+        results = [*judge_checks(), *judge_memory(), *judge_keys(folder), *judge_names(), *judge_refusals(), *judge_wrapper(), *judge_options(), *judge_c(folder), *judge_stack(folder), *judge_cpp(folder), *judge_header(folder)]
         results += [judge_names_of(f"{OUT}/libtmpl.so"), judge_names_of(f"{OUT}/libtmpl.a"), judge_version(), judge_marks()]
         results += [judge_wheel(folder)]
         results += [judge_program(folder, *it) for it in programs() if it[0] in ("c", "cpp", "python")]

@@ -1,6 +1,7 @@
 /* What libFuzzer calls with each input: the input is cut into settings, a name, data and up to three files, and the library is asked in
    many ways what it comes to. Whatever differs, is written past lent memory, or stays taken, ends the process. fuzz.py builds and runs it,
-   and says how an input is cut. The blocks of bindings/c/heap.c come from here. */
+   and says how an input is cut. The blocks of bindings/c/heap.c come from here, and its keys, which are always the same. */
+#include "keys.h"
 #include "tmpl.h"
 #include <malloc.h>
 #include <stdio.h>
@@ -14,6 +15,11 @@ enum { BLOCK_MOST = 1 << 18, BYTES_MOST = 1 << 23 }; /* bytes that one block, an
 static long asked, refused = -1, blocks;
 static size_t held;
 static int is_scarce; /* whether a block was refused for its size */
+
+const struct keys *drawn_keys(void) {
+    static const struct keys known;
+    return &known;
+}
 
 /* ---- memory */
 
@@ -80,7 +86,7 @@ static void need(int holds, const char *what) {
 
 /* A block of its own for each part, so that a read past it is seen. */
 static void cut(struct input *it, const uint8_t *bytes, size_t size) {
-    it->settings = (tmpl_settings){1 + bytes[1] * bytes[1] / 16, bytes[0] & 4 ? 0 : 1 + bytes[2] % 64, bytes[0] & 3, 0};
+    it->settings = (tmpl_settings){1 + bytes[1] * bytes[1] / 16, bytes[0] & 4 ? 0 : 1 + bytes[2] % 64, bytes[0] & 3, 0, 0};
     it->pick = bytes[3];
     const uint8_t *at = bytes + HEAD, *end = bytes + size;
     size_t count = 0;

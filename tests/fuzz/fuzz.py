@@ -116,10 +116,11 @@ def build(way):
         subprocess.run([clang, *flags, "-c", "-x", "ir", checked(clang) if asked else MODULE, "-o", engine], check=True)
     flags = ["-g", "-O2", "-Wall", "-Wextra", *asked, f"-I{harness.TOP}/bindings/c"]
     renamed = ["-include", "stdlib.h", *(f"-D{name}=fuzz_{name}" for name in ("malloc", "realloc", "free"))]
-    ours, heap = f"{HELD}/{way}-fuzz.o", f"{HELD}/{way}-heap.o"
+    ours, heap, keyed = (f"{HELD}/{way}-{it}.o" for it in ("fuzz", "heap", "keyed"))
     subprocess.run(["clang", *flags, "-c", f"{HERE}/fuzz.c", "-o", ours], check=True)
     subprocess.run(["clang", *flags, *renamed, "-c", f"{harness.TOP}/bindings/c/heap.c", "-o", heap], check=True)
-    subprocess.run(["clang", *asked, "-fsanitize=fuzzer", ours, heap, engine, "-o", f"{HELD}/{way}"], check=True)
+    subprocess.run(["clang", *flags, "-c", f"{harness.TOP}/bindings/c/keyed.c", "-o", keyed], check=True)
+    subprocess.run(["clang", *asked, "-fsanitize=fuzzer", ours, heap, keyed, engine, "-o", f"{HELD}/{way}"], check=True)
 
 
 # ---- inputs

@@ -56,6 +56,33 @@ tries("a line longer than the room for it", () => engine.render({ m: `{{template
     ["TemplateError", `tmpl: m:1: in "m": no template "${long}"`, 1, ""]);
 tries("a text longer than the room for it", () => engine.render({ m: "{{range 300000}}{{.}} {{end}}" }).length, 1988890);
 
+// ---- what is wrong in files
+
+const mistake = 'error: action not understood: no function "name": write .name';
+tries("what is wrong in files", () => engine.check([["a", "{{name}}"], ["b", "text"], ["c", "\n{{name}}"]]), [`a:1:1: ${mistake}`, `c:2:1: ${mistake}`]);
+tries("nothing is wrong in a file", () => engine.check(hello), []);
+tries("nothing is wrong in no file", () => engine.check([]), []);
+tries("the name of a file that is checked is no UTF-8", () => engine.check([[Uint8Array.of(0xff), ""]]), ["TemplateError", "tmpl: the name of a file is not UTF-8", 2, ""]);
+const problemsOf = (call) => {
+    try {
+        call();
+    } catch (error) {
+        return error.problems;
+    }
+};
+check("what an error bears", problemsOf(() => engine.render({ a: "{{name}}" })), [`a:1:1: ${mistake}`]);
+check("what an error of what is kept bears", problemsOf(() => engine.templates({ a: "{{name}}" })), [`a:1:1: ${mistake}`]);
+check("what any other error bears", problemsOf(() => engine.render({ m: "{{index . 7}}" }, "m", [1])), []);
+
+// ---- limits
+
+const digits = { m: "{{range 100000}}0123456789{{end}}" }, cut = ["TemplateError", "tmpl: write failed", 6, "012345678901"];
+tries("a limit of the text", () => engine.render(digits, "m", undefined, { output: 12 }), cut);
+tries("a limit of the text of what is kept", () => engine.templates(digits).render("m", undefined, { output: 12 }), cut);
+tries("a limit that is not reached", () => engine.render(hello, "hello.tmpl", ada, { output: 11 }), greeted);
+tries("a limit of memory", () => engine.templates(digits).render("m", undefined, { memory: 1 << 16 }), ["MemoryError", "tmpl: out of memory"]);
+tries("a limit of memory that is not reached", () => engine.templates(digits).render("m", undefined, { memory: 1 << 23 }).length, 1000000);
+
 // ---- options
 
 const greet = (options) => () => engine.render(hello, "hello.tmpl", {}, options);

@@ -17,6 +17,8 @@ pub struct Settings {
     pub missing_key: u8,
     /// 1 to print the set, and run nothing.
     pub print: u8,
+    /// At most this many bytes of text; 0 for any number. A text that is longer is status 6, with the bytes that come first.
+    pub output: usize,
 }
 
 #[repr(C)]
@@ -53,6 +55,8 @@ struct RawText {
 extern "C" {
     fn tmpl_render(settings: *const Settings, files: *const RawFile, file_count: usize, name: *const u8, name_size: usize,
         data: *const u8, data_size: usize, out: *mut RawBuffer, err: *mut RawBuffer) -> u8;
+    fn tmpl_check(files: *const RawFile, file_count: usize, text: *mut RawText) -> u8;
+    fn tmpl_limit_memory(bytes: usize);
     fn tmpl_set_add(set: *mut RawKept, file: *const RawFile, err: *mut RawBuffer) -> u8;
     fn tmpl_data_read(data: *mut RawKept, bytes: *const u8, size: usize, err: *mut RawBuffer) -> u8;
     fn tmpl_set_print(set: *mut RawKept, text: *mut RawText) -> u8;
@@ -74,12 +78,14 @@ fn raw_buffer(memory: &mut [u8]) -> RawBuffer {
     RawBuffer { bytes: memory.as_mut_ptr(), size: memory.len(), taken: 0, needed: 0 }
 }
 
-/// Why a render did not end well: the status of the command, its line, and the text before a fault.
+/// Why a render did not end well: the status of the command, its line, the text before a fault, and of a file that is refused the lines
+/// that `check` gives of it.
 #[derive(Clone, Debug, PartialEq, Eq)]
 pub struct Error {
     pub status: u8,
     pub line: String,
     pub text: Vec<u8>,
+    pub problems: Vec<String>,
 }
 
 impl fmt::Display for Error {
@@ -112,11 +118,42 @@ pub fn render_into(
 
 /// How a call ended: an error with the status and the line, but where all went well.
 fn ended(status: u8, line: &[u8], text: Vec<u8>) -> Result<Vec<u8>, Error> {
-    match status {
-        0 => Ok(text),
-        7 => Err(Error { status, line: "tmpl: out of memory\n".to_string(), text }),
-        _ => Err(Error { status, line: String::from_utf8_lossy(line).into_owned(), text }),
+    let line = match status {
+        0 => return Ok(text),
+        7 => "tmpl: out of memory\n".to_string(),
+        _ => String::from_utf8_lossy(line).into_owned(),
+    };
+    Err(Error { status, line, text, problems: Vec::new() })
+}
+
+/// All that is wrong in template files, in a line each as compilers write it: `FILE:LINE:COLUMN: error: REASON: DETAIL`, with what to write
+/// instead where that is known. There is none where all files are accepted, one after the other.
+pub fn check(files: &[(&str, &[u8])]) -> Result<Vec<String>, Error> {
+    let array: Vec<RawFile> = files.iter().map(|(path, bytes)| raw_file(path, bytes)).collect();
+    let mut text = RawText::EMPTY;
+    // SAFETY: each pointer and size are those of one slice, which is lent for the call, and no other call has the handle.
+    let status = unsafe { tmpl_check(array.as_ptr(), array.len(), &mut text) };
+    if status != 4 {
+        ended(status, b"tmpl: the name of a file is not UTF-8\n", Vec::new())?;
     }
+    let lines = String::from_utf8_lossy(&text.to_vec()).into_owned();
+    Ok(lines.split_terminator('\n').map(str::to_string).collect())
+}
+
+/// Gives what this gives, while the library may take at most this many bytes of memory for this thread, beyond those that it gives back; where
+/// a call needs more, it ends as where the system has no more, with status 7. Not to be called inside another one.
+pub fn with_memory<T>(bytes: usize, call: impl FnOnce() -> T) -> T {
+    struct Limited;
+    impl Drop for Limited {
+        fn drop(&mut self) {
+            // SAFETY: it is always fine to call it.
+            unsafe { tmpl_limit_memory(0) }
+        }
+    }
+    let _limited = Limited;
+    // SAFETY: as above.
+    unsafe { tmpl_limit_memory(bytes) };
+    call()
 }
 
 /// Makes a call that says a line, and makes it again with more memory where the line does not fit.
@@ -286,7 +323,10 @@ impl Templates {
         let mut kept = self.kept();
         let file = raw_file(path, bytes);
         // SAFETY: the file is lent for the call.
-        accepted(|err| unsafe { tmpl_set_add(&mut kept.set, &file, err) })?;
+        accepted(|err| unsafe { tmpl_set_add(&mut kept.set, &file, err) }).map_err(|error| match error.status {
+            4 => Error { problems: check(&[(path, bytes)]).unwrap_or_default(), ..error },
+            _ => error,
+        })?;
         kept.idle.clear();
         kept.version += 1;
         kept.is_made = false;

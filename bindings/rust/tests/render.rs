@@ -106,3 +106,27 @@ fn files_added_meanwhile() {
     });
     assert_eq!(pages.render("m", b"1", &tmpl::Settings::default()).unwrap(), b"1 50");
 }
+
+#[test]
+fn checks() {
+    let mistake = "error: action not understood: no function \"name\": write .name";
+    let files: &[(&str, &[u8])] = &[("a", b"{{name}}"), ("b", b"text"), ("c", b"\n{{name}}")];
+    assert_eq!(tmpl::check(files).unwrap(), [format!("a:1:1: {mistake}"), format!("c:2:1: {mistake}")]);
+    assert_eq!(tmpl::check(&files[1..2]), Ok(Vec::new()));
+    assert_eq!(tmpl::check(&[]), Ok(Vec::new()));
+    let error = render(files, "a", b"", &Settings::default()).unwrap_err();
+    assert_eq!((error.status, error.problems), (4, vec![format!("a:1:1: {mistake}")]));
+    assert_eq!(render(&files[1..2], "z", b"", &Settings::default()).unwrap_err().problems, Vec::<String>::new());
+}
+
+#[test]
+fn keeps_limits() {
+    let files: &[(&str, &[u8])] = &[("m", b"{{range 100000}}0123456789{{end}}")];
+    let settings = Settings { output: 12, ..Settings::default() };
+    let error = render(files, "m", b"", &settings).unwrap_err();
+    assert_eq!((error.status, error.text), (6, b"012345678901".to_vec()));
+    let run = || render(files, "m", b"", &Settings::default());
+    assert_eq!(tmpl::with_memory(1 << 16, run).unwrap_err().status, 7);
+    assert_eq!(tmpl::with_memory(1 << 23, run).unwrap().len(), 1_000_000);
+    assert_eq!(run().unwrap().len(), 1_000_000);
+}

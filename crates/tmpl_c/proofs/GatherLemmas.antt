@@ -1,12 +1,13 @@
--- For `fill`: what was gathered is what a call comes to, as far as no memory was refused.
-use Rattle.std.proofs.Common.{◌≡◌, ◌≢◌, ◌∙◌, ◌+◌, ◌++◌, ◌<◌, ◌≤◌, ℕ, Bool, true, false, [], ◌∷◌, Some, ap, arith, length, refl, subst, sym, inl, inr}
-use Rattle.std.proofs.lemmas.Bool.{le-leb, lt-leb}
-use Rattle.std.proofs.lemmas.List.{append-nil}
-use Rattle.std.specs.Prelude.{if◌then◌else◌}
+-- For `settle` and `hand_over`: what was gathered is what a call comes to, as far as no memory was refused.
+use Rattle.std.proofs.Common.{◌≡◌, ◌≢◌, ◌∙◌, ◌+◌, ◌-◌, ◌++◌, ◌<◌, ◌≤◌, ◌⊎◌, ◌||◌, ℕ, Bool, true, false, [], ◌∷◌, Some, ap, arith, length, refl, subst, sym, inl, inr}
+use Rattle.std.proofs.lemmas.Bool.{le-leb, leb-false, leb-true, lt-leb}
+use Rattle.std.proofs.lemmas.List.{append-nil, length-append, take-append-le}
+use Rattle.std.proofs.Math.Seq.{take-append-add}
+use Rattle.std.specs.Prelude.{eqb, leb, take, if◌then◌else◌}
 use Rattle.tmpl_meaning.specs.Sink.{Begun, Sunk, Told, sunk}
 use Rattle.tmpl_tool.specs.Outcome.{Answer, Outcome, memory_line, write_line}
 use Rattle.tmpl_tool.specs.Source.{Bytes}
-use Rattle.tmpl_c.specs.Filled.{Fills, Rendered, Seen, fits}
+use Rattle.tmpl_c.specs.Filled.{Fills, Rendered, Seen, fits, limited}
 use Rattle.tmpl_c.specs.Texts.{Holds}
 use Rattle.tmpl_c.specs.computed.Gathering.{untouched}
 
@@ -45,17 +46,90 @@ outcome_exact a all line f g code (inl (out, is, inr err)) fine = absurd (one g 
 outcome_exact a all line f g code (inr (inl cut)) fine = absurd (one f cut.0.count fine.1)
 outcome_exact a all line f g code (inr (inr refused)) fine = absurd (fine.0 refused.1)
 
+-- ---- a limit of the text
+abbrev pub within : ℕ → Bytes → Bool
+within most text = eqb most 0 || leb (length text) most
+
+module _ (a : Answer) (most : ℕ) where
+  limited-within : within most a.text ≡ true → limited most a ≡ a
+  limited-within is = rw is refl
+
+  -- what begins the text and is within the limit begins what the limit leaves of it
+  limited_front : (all rest : Bytes) → a.text ≡ all ++ rest → within most all ≡ true → (more : Bytes) × ((limited most a).text ≡ all ++ more)
+  limited_front all rest is begins = by (eqb most 0) refl (leb (length a.text) most) refl
+    where
+      short : eqb most 0 ≡ false → length all ≤ most
+      short any = let h : leb (length all) most ≡ true = rw any at begins in leb-true (length all) most h
+
+      by : (none : Bool) → eqb most 0 ≡ none → (fit : Bool) → leb (length a.text) most ≡ fit → (more : Bytes) × ((limited most a).text ≡ all ++ more)
+      by true e fit w = (rest, rw e is)
+      by false e true w = (rest, rw (e, w) is)
+      by false e false w =
+          let size : most ≡ length all + (most - length all) = let h = short e in omega (arith, h) in (
+            take (most - length all) rest,
+            rw (e, w) (ap (λ (xs : Bytes). take most xs) is ∙ ap (λ n. take n (all ++ rest)) size
+                ∙ take-append-add all rest (most - length all)),
+          )
+
+  -- a text that is past the limit is cut
+  limited_past : (all rest : Bytes) → a.text ≡ all ++ rest → within most all ≡ false
+      → (take most all ≡ (limited most a).text) × (write_line ≡ (limited most a).line) × (6 ≡ (limited most a).status)
+  limited_past all rest is past = by (eqb most 0) refl (leb (length all) most) refl
+    where
+      by : (none : Bool) → eqb most 0 ≡ none → (fit : Bool) → leb (length all) most ≡ fit
+          → (take most all ≡ (limited most a).text) × (write_line ≡ (limited most a).line) × (6 ≡ (limited most a).status)
+      by true e fit w = let wrong : true ≡ false = rw e at past in cc
+      by false e true w = let wrong : true ≡ false = rw (e, w) at past in cc
+      by false e false w =
+          let more : most < length all = leb-false (length all) most w in
+          let size : length a.text ≡ length all + length rest = ap length is ∙ length-append all rest in
+          let no : leb (length a.text) most ≡ false = lt-leb (length a.text) most (omega (arith, more, size)) in
+          let least : most ≤ length all = omega (arith, more) in
+          (rw (e, no) (sym (take-append-le most all rest least) ∙ ap (λ (xs : Bytes). take most xs) (sym is)), rw (e, no) refl, rw (e, no) refl)
+
 module _ (a : Answer) (all line : Bytes) (f g code : ℕ) (o : Outcome a (sunk (holding [] 0) (holding all f)) (sunk (holding [] 0) (holding line g)) code)
-    (room line_room : ℕ) (out err : Seen) (puts : Fills all room out) where
+    (most : ℕ) where
+  -- memory was refused
+  pub refused_holds : within most all ≡ true → (said : Bytes) → said ≡ [] → Holds (limited most a) all said 7
+  refused_holds whole said none =
+      let front = outcome_front a all f _ code o in
+      let kept = limited_front a most all front.0 front.1 whole in inr (kept.0, kept.1, none, refl)
+
+  -- it was not
+  pub exact_holds : within most all ≡ true → (code ≢ 7) × (f ≡ 0) × (g ≡ 0) → Holds (limited most a) all line code
+  exact_holds whole fine =
+      let is = outcome_exact a all line f g code o fine in
+      let same : limited most a ≡ a = limited-within a most (ap (λ (xs : Bytes). within most xs) (sym is.0) ∙ whole) in
+      subst (λ (x : Answer). Holds x all line code) (sym same) (inl is)
+
+  -- the text is past the limit, and is cut; of which the line may be refused memory
+  pub cut_holds : within most all ≡ false → (text said : Bytes) (status : ℕ) → text ≡ take most all
+      → ((said ≡ write_line) × (status ≡ 6)) ⊎ ((said ≡ []) × (status ≡ 7)) → Holds (limited most a) text said status
+  cut_holds past text said status cut (inl h) =
+      let front = outcome_front a all f _ code o in
+      let is = limited_past a most all front.0 front.1 past in inl (cut ∙ is.0, h.0 ∙ is.1, h.1 ∙ is.2)
+  cut_holds past text said status cut (inr h) =
+      let front = outcome_front a all f _ code o in
+      let is = limited_past a most all front.0 front.1 past in
+      inr ([], sym is.0 ∙ sym cut ∙ sym (append-nil text), h.0, h.1)
+
+-- ---- what is copied to lent memory
+module _ (a : Answer) (all line : Bytes) (code : ℕ) (o : Holds a all line code) (room line_room : ℕ) (out err : Seen) (puts : Fills all room out) where
   -- memory was refused
   pub refused_rendered : Fills memory_line line_room err → Rendered a room out line_room err 7
-  refused_rendered says =
-      let front = outcome_front a all f _ code o in
-      inr ((all, front.0, front.1, puts), says, refl)
+  refused_rendered says = let front = begins o in inr ((all, front.0, front.1, puts), says, refl)
+    where
+      begins : Holds a all line code → (rest : Bytes) × (a.text ≡ all ++ rest)
+      begins (inl h) = ([], sym (append-nil all ∙ h.0))
+      begins (inr h) = (h.0, h.1)
 
-  module _ (fine : (code ≢ 7) × (f ≡ 0) × (g ≡ 0)) where
+  module _ (fine : code ≢ 7) where
     is : (all ≡ a.text) × (line ≡ a.line) × (code ≡ a.status)
-    is = outcome_exact a all line f g code o fine
+    is = from o
+      where
+        from : Holds a all line code → (all ≡ a.text) × (line ≡ a.line) × (code ≡ a.status)
+        from (inl h) = h
+        from (inr h) = absurd (fine h.3)
 
     fills_text : Fills a.text room out
     fills_text = rw (sym is.0) puts
@@ -73,16 +147,6 @@ module _ (a : Answer) (all line : Bytes) (f g code : ℕ) (o : Outcome a (sunk (
         let same : length all ≡ length a.text = ap length is.0 in
         let yes : fits room a ≡ true = le-leb (length a.text) room (omega (arith, same, most)) in
         inl (fills_text, rw (yes, sym is.1) says, rw yes is.2)
-
--- ---- where text and line are kept
-module _ (a : Answer) (all line : Bytes) (f g code : ℕ) (o : Outcome a (sunk (holding [] 0) (holding all f)) (sunk (holding [] 0) (holding line g)) code) where
-  -- memory was refused
-  pub refused_holds : (said : Bytes) → said ≡ [] → Holds a all said 7
-  refused_holds said none = let front = outcome_front a all f _ code o in inr (front.0, front.1, none, refl)
-
-  -- it was not
-  pub exact_holds : (code ≢ 7) × (f ≡ 0) × (g ≡ 0) → Holds a all line code
-  exact_holds fine = inl (outcome_exact a all line f g code o fine)
 
 -- memory was refused before anything was put
 pub nothing_holds : (a : Answer) (text line : Bytes) → text ≡ [] → line ≡ [] → Holds a text line 7

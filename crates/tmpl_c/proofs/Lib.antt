@@ -1,3 +1,4 @@
+mod CheckLemmas
 mod GatherLemmas
 mod HandleForms
 mod HandleLemmas

@@ -1,18 +1,19 @@
 -- For the law on what a caller sees: what lent memory holds after a render, and the settings of all zeros.
-use Rattle.std.proofs.Common.{◌≡◌, ◌≢◌, ◌∙◌, ◌++◌, ℕ, Bool, true, false, List, [], length, refl, subst, sym, ap, inl, inr, append_assoc}
-use Rattle.std.specs.Prelude.{Option, Some, None, leb, option_map, take, drop, if◌then◌else◌}
-use Rattle.std.proofs.lemmas.Bool.{leb-true}
+use Rattle.std.proofs.Common.{◌≡◌, ◌≢◌, ◌∙◌, ◌<◌, ◌≤◌, ◌++◌, arith, ℕ, Bool, true, false, List, [], length, refl, subst, sym, ap, inl, inr, append_assoc}
+use Rattle.std.specs.Prelude.{Option, Some, None, eqb, leb, option_map, take, drop, if◌then◌else◌}
+use Rattle.std.proofs.lemmas.Bool.{eqb-false, leb-false, leb-true, ne_eqb}
 use Rattle.std.proofs.lemmas.List.{append-nil, take-append-drop, take_all}
 use Rattle.std.specs.Option.{ok_or, option_map_or}
 use Rattle.tmpl_values.specs.Value.{Value}
 use Rattle.tmpl_syntax.specs.Set.{Template, tree_named}
 use Rattle.tmpl_syntax.specs.Tree.{Tree}
 use Rattle.tmpl_meaning.specs.Meaning.{Fault, Rules, ran}
+use Rattle.tmpl_tool.specs.Outcome.{Answer}
 use Rattle.tmpl_tool.specs.Tool.{answer_of, unnamed}
 use Rattle.tmpl_tool.specs.Source.{Bytes}
-use Rattle.tmpl_c.specs.Filled.{Fills, Seen, fits}
-use Rattle.tmpl_c.specs.Held.{Replaces}
-use Rattle.tmpl_c.specs.Laws.{HasDefaults, HoldsFront, HoldsWhole, IsTextStatus, ReplacesAsOffered}
+use Rattle.tmpl_c.specs.Filled.{Fills, Seen, fits, limited}
+use Rattle.tmpl_c.specs.Held.{Replaces, held_answer}
+use Rattle.tmpl_c.specs.Laws.{HasDefaults, HoldsFront, HoldsWhole, IsTextStatus, KeepsLimit, ReplacesAsOffered}
 use Rattle.tmpl_c.specs.Laws.{TextHasStatus, TextHoldsFront, TextHoldsWhole}
 
 pub holds_whole : HoldsWhole
@@ -35,7 +36,20 @@ holds_front a room line_room out err code (inr ((front, rest, is, fills), line, 
 )
 
 pub has_defaults : HasDefaults
-has_defaults s steps depth mode = rw (steps, depth, mode) refl
+has_defaults = (λ s steps depth mode. rw (steps, depth, mode) refl, λ a. refl)
+
+pub keeps_limit : KeepsLimit
+keeps_limit most a limits = by (leb (length a.text) most) refl
+  where
+    any : eqb most 0 ≡ false
+    any = ne_eqb most 0 limits
+
+    by : (fit : Bool) → leb (length a.text) most ≡ fit → ((limited most a).text ≡ take most a.text)
+        × (length a.text ≤ most → limited most a ≡ a) × (most < length a.text → (limited most a).status ≡ 6)
+    by true w = let h = leb-true (length a.text) most w in
+        (rw (any, w) (sym (take_all most a.text h)), λ fits. rw (any, w) refl, λ more. absurd (omega (arith, h, more)))
+    by false w = let h = leb-false (length a.text) most w in
+        (rw (any, w) refl, λ fits. absurd (omega (arith, h, fits)), λ more. rw (any, w) refl)
 
 pub text_whole : TextHoldsWhole
 text_whole a text line (inl h) = (h.0, h.1, sym h.2)
@@ -45,18 +59,28 @@ pub text_front : TextHoldsFront
 text_front a text line code (inl h) = ([], sym h.0 ∙ sym (append-nil text))
 text_front a text line code (inr h) = (h.0, h.1)
 
-fault_status : (f : Option Fault) → IsTextStatus (option_map_or (λ f. 1) f 0)
-fault_status None = inl refl
-fault_status (Some f) = inr (inl refl)
+fault_status : (most : ℕ) (f : Option Fault) → IsTextStatus most (option_map_or (λ f. 1) f 0)
+fault_status most None = inl refl
+fault_status most (Some f) = inr (inl refl)
 
-answer_status : (rules : Rules) (set : List Template) (name : Bytes) (value : Option Value) (found : Option Tree)
-    → IsTextStatus (answer_of (ok_or (option_map (λ tree. ran rules set name tree value) found) (unnamed name))).status
-answer_status rules set name value None = inr (inr (inl refl))
-answer_status rules set name value (Some tree) = fault_status (ran rules set name tree value).fault
+answer_status : (most : ℕ) (rules : Rules) (set : List Template) (name : Bytes) (value : Option Value) (found : Option Tree)
+    → IsTextStatus most (answer_of (ok_or (option_map (λ tree. ran rules set name tree value) found) (unnamed name))).status
+answer_status most rules set name value None = inr (inr (inl refl))
+answer_status most rules set name value (Some tree) = fault_status most (ran rules set name tree value).fault
+
+-- an answer under a limit has its status, or that of a text that does not fit
+limited_status : (most : ℕ) (a : Answer) → IsTextStatus most a.status → IsTextStatus most (limited most a).status
+limited_status most a h = by (eqb most 0) refl (leb (length a.text) most) refl
+  where
+    by : (none : Bool) → eqb most 0 ≡ none → (fit : Bool) → leb (length a.text) most ≡ fit → IsTextStatus most (limited most a).status
+    by true e fit w = rw e h
+    by false e true w = rw (e, w) h
+    by false e false w = rw (e, w) (inr (inr (inr (inr (refl, eqb-false most 0 e)))))
 
 pub text_status : TextHasStatus
-text_status rules set name value text line code (inl h) = subst IsTextStatus (sym h.2) (answer_status rules set name value (tree_named name set))
-text_status rules set name value text line code (inr h) = subst IsTextStatus (sym h.3) (inr (inr (inr refl)))
+text_status most rules set name value text line code (inl h) = subst (IsTextStatus most) (sym h.2)
+    (limited_status most (held_answer rules false set name value) (answer_status most rules set name value (tree_named name set)))
+text_status most rules set name value text line code (inr h) = subst (IsTextStatus most) (sym h.3) (inr (inr (inr (inl refl))))
 
 kept_offered : (offered old new : List Template) → Replaces offered old new 0 → new ≡ offered
 kept_offered offered old new (inl h) = h.0
@@ -69,6 +93,6 @@ kept_before offered old new code (inr h) not = h.0
 pub replaces : ReplacesAsOffered
 replaces = (kept_offered, kept_before)
 
-pub ruleset seen = (holds_whole, has_defaults)
+pub ruleset seen = (holds_whole, has_defaults, keeps_limit)
 
 pub ruleset texts = (text_whole, text_front, text_status, replaces)

@@ -1,6 +1,6 @@
 -- Laws of the library: its stages, and that it answers as the command does.
 use Rattle.std.specs.Prelude.{◌≡◌, ◌≢◌, ◌⊎◌, ℕ, Bool, true, false, List, [], ◌∷◌, ◌++◌, Option, Some, None, Result, Ok, Err}
-use Rattle.std.specs.Prelude.{codes, take}
+use Rattle.std.specs.Prelude.{◌<◌, ◌≤◌, codes, length, take}
 use Rattle.std.specs.Str.{is_utf8}
 use Rattle.tmpl_values.specs.Json.{Flaw}
 use Rattle.tmpl_values.specs.Value.{Value}
@@ -13,7 +13,7 @@ use Rattle.tmpl_tool.specs.Source.{Bytes, Files}
 use Rattle.tmpl_tool.specs.Tool.{Parse, Early, asked_by, asked_name, bad_words, flawed, no_read, printed, refused}
 use Rattle.tmpl_tool.specs.Tool.{run_answer, stop_answer, tool_answer, unnamed}
 use Rattle.tmpl_tool.specs.Words.{Wanted, wanted_in}
-use Rattle.tmpl_c.specs.Filled.{Rendered, Seen}
+use Rattle.tmpl_c.specs.Filled.{Rendered, Seen, limited}
 use Rattle.tmpl_c.specs.Held.{Keeps, Replaces, held_answer}
 use Rattle.tmpl_c.specs.Lent.{data_lent, each_added, lent_answer, render_answer, rules_in, with_lent}
 use Rattle.tmpl_c.specs.Texts.{Holds}
@@ -145,9 +145,16 @@ abbrev pub HoldsFront : Type 0
 HoldsFront = (a : Answer) (room line_room : ℕ) (out err : Seen) (code : ℕ) → Rendered a room out line_room err code
     → (rest : Bytes) × (a.text ≡ take out.taken out.memory ++ rest)
 
--- settings of all zeros are the options of a command whose words name none
+-- settings of all zeros are the options of a command whose words name none, and a limit of 0 is none
 abbrev pub HasDefaults : Type 0
-HasDefaults = (s : Settings) → s.steps ≡ 0 → s.depth ≡ 0 → s.missing_key ≡ 0 → rules_in s ≡ (wanted_in []).rules
+HasDefaults = ((s : Settings) → s.steps ≡ 0 → s.depth ≡ 0 → s.missing_key ≡ 0 → rules_in s ≡ (wanted_in []).rules)
+    × ((a : Answer) → limited 0 a ≡ a)
+
+-- under any other limit the text is the bytes up to it; the answer is as without it where the text is within it, and else
+-- its status is that of a text that does not fit
+abbrev pub KeepsLimit : Type 0
+KeepsLimit = (most : ℕ) (a : Answer) → most ≢ 0 → ((limited most a).text ≡ take most a.text)
+    × (length a.text ≤ most → limited most a ≡ a) × (most < length a.text → (limited most a).status ≡ 6)
 
 -- with status 0 text and line are the whole ones of the answer, and that is its status
 abbrev pub TextHoldsWhole : Type 0
@@ -159,13 +166,15 @@ abbrev pub TextHoldsFront : Type 0
 TextHoldsFront = (a : Answer) (text line : Bytes) (code : ℕ) → Holds a text line code
     → (rest : Bytes) × (a.text ≡ text ++ rest)
 
--- the status of a render into a text is 0, 1, 4 or 7: none says that the text does not fit
-abbrev pub IsTextStatus : ℕ → Type 0
-IsTextStatus code = (code ≡ 0) ⊎ ((code ≡ 1) ⊎ ((code ≡ 4) ⊎ (code ≡ 7)))
+-- the status of a render into a text is 0, 1, 4 or 7, or 6 where it has a limit: without one none says that the text does
+-- not fit
+abbrev pub IsTextStatus : ℕ → ℕ → Type 0
+IsTextStatus most code = (code ≡ 0) ⊎ ((code ≡ 1) ⊎ ((code ≡ 4) ⊎ ((code ≡ 7) ⊎ ((code ≡ 6) × (most ≢ 0)))))
 
 abbrev pub TextHasStatus : Type 0
-TextHasStatus = (rules : Rules) (set : List Template) (name : Bytes) (value : Option Value) (text line : Bytes) (code : ℕ)
-    → Holds (held_answer rules false set name value) text line code → IsTextStatus code
+TextHasStatus = (most : ℕ) (rules : Rules) (set : List Template) (name : Bytes) (value : Option Value)
+    → (text line : Bytes) (code : ℕ)
+    → Holds (limited most (held_answer rules false set name value)) text line code → IsTextStatus most code
 
 -- with status 0 a handle has what was offered, and else what it had
 abbrev pub ReplacesAsOffered : Type 0

@@ -1,4 +1,5 @@
 pub mod computed
+pub mod Checked
 pub mod Filled
 pub mod Laws
 pub mod Lent

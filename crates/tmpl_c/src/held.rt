@@ -2,8 +2,9 @@
 ghost use Rattle.std.specs.Prelude.{◌≡◌, ◌<◌, ◌^◌, ◌-◌, [], option_map};
 ghost use Rattle.tmpl_values.specs.View.{value_of};
 ghost use Rattle.tmpl_meaning.specs.Sink.{sunk};
-ghost use Rattle.tmpl_tool.specs.Outcome.{Answer, Outcome};
+ghost use Rattle.tmpl_tool.specs.Outcome.{Outcome};
 ghost use Rattle.tmpl_tool.specs.Tool.{printed, stop_answer};
+ghost use Rattle.tmpl_c.specs.Filled.{limited};
 ghost use Rattle.tmpl_c.specs.Held.{templates_in, templates_run, value_in};
 ghost use Rattle.tmpl_c.specs.Texts.{Holds, bytes_in};
 ghost use Rattle.tmpl_c.specs.computed.Extents.{IsFilled, answer_by, run_by, templates_lent};
@@ -12,7 +13,7 @@ ghost use Rattle.tmpl_c.specs.computed.Gathering.{told_of, untouched};
 use crate::data_handle::DataHandle;
 use crate::gathered::Gathered;
 use crate::program_handle::ProgramHandle;
-use crate::render::{Filled, PIECE_SIZE, fill_held, hand_over, is_refused};
+use crate::render::{Filled, PIECE_SIZE, fill_held, finish, settle};
 use crate::set_handle::SetHandle;
 use crate::settings::{Settings, options_in};
 use crate::text::Text;
@@ -31,8 +32,8 @@ fn render_with(
     out: &mut [u8],
     err: &mut [u8],
 ) -> Filled
-    ensures outcome { IsFilled
-        (answer_by settings.now (templates_in set.old.held) name.now (option_map (λ d. value_of d.now) «data».entry))
+    ensures outcome { IsFilled (limited settings.now.output
+        (answer_by settings.now (templates_in set.old.held) name.now (option_map (λ d. value_of d.now) «data».entry)))
         out.old out.new err.old err.new result }
     ensures set { set.new.held ≡ set.old.held }
 {
@@ -64,8 +65,8 @@ pub(crate) fn render(
     out: &mut [u8],
     err: &mut [u8],
 ) -> Filled
-    ensures outcome { IsFilled
-        (answer_by settings.now (templates_in set.old.held) name.now (value_in «data».old.held))
+    ensures outcome { IsFilled (limited settings.now.output
+        (answer_by settings.now (templates_in set.old.held) name.now (value_in «data».old.held)))
         out.old out.new err.old err.new result }
     ensures set { set.new.held ≡ set.old.held }
     ensures kept { «data».new.held ≡ «data».old.held }
@@ -173,28 +174,16 @@ pub(crate) fn render_program(
     out: &mut [u8],
     err: &mut [u8],
 ) -> Filled
-    ensures outcome { IsFilled
-        (run_by settings.now (templates_run program.old.held) name.now (value_in «data».old.held))
+    ensures outcome { IsFilled (limited settings.now.output
+        (run_by settings.now (templates_run program.old.held) name.now (value_in «data».old.held)))
         out.old out.new err.old err.new result }
     ensures program { program.new.held ≡ program.old.held }
     ensures kept { «data».new.held ≡ «data».old.held }
 {
-    let mut text = Gathered::new(alloc);
-    let mut line = Gathered::new(alloc);
+    let mut text = Gathered::new(alloc, settings.output);
+    let mut line = Gathered::new(alloc, 0);
     let code = run_program(alloc, settings, program, data, name, &mut text, &mut line);
-    hand_over(code, &text, &line, out, err)
-}
-
-/// The status of a render whose text and line are kept: there is no line where memory was refused.
-fn settle(code: u8, text: &Gathered, line: &mut Gathered) -> u8
-    ensures { (a : Answer) → Outcome a (sunk untouched (told_of text.now)) (sunk untouched (told_of line.old)) code
-        → Holds a text.now.bytes.items line.new.bytes.items result }
-{
-    if is_refused(code, text, line) {
-        line.bytes.clear();
-        return 7;
-    }
-    code
+    finish(settings.output, code, text, line, out, err)
 }
 
 /// Renders a program to two sinks that hold nothing yet.
@@ -208,13 +197,14 @@ fn gather(
     err: &mut Gathered,
 ) -> u8
     requires empty { (told_of out.old ≡ untouched) × (told_of err.old ≡ untouched) }
-    ensures outcome { Holds (run_by settings.now (templates_run program.old.held) name.now (value_in «data».old.held))
+    ensures outcome { Holds (limited settings.now.output
+        (run_by settings.now (templates_run program.old.held) name.now (value_in «data».old.held)))
         out.new.bytes.items err.new.bytes.items result }
     ensures program { program.new.held ≡ program.old.held }
     ensures kept { «data».new.held ≡ «data».old.held }
 {
     let code = run_program(alloc, settings, program, data, name, out, err);
-    settle(code, out, err)
+    settle(settings.output, code, out, err)
 }
 
 /// Renders a program into texts of the library's own.
@@ -227,13 +217,14 @@ pub(crate) fn render_text(
     text: &mut Text,
     line: &mut Text,
 ) -> u8
-    ensures outcome { Holds (run_by settings.now (templates_run program.old.held) name.now (value_in «data».old.held))
+    ensures outcome { Holds (limited settings.now.output
+        (run_by settings.now (templates_run program.old.held) name.now (value_in «data».old.held)))
         (bytes_in text.new.held) (bytes_in line.new.held) result }
     ensures program { program.new.held ≡ program.old.held }
     ensures kept { «data».new.held ≡ «data».old.held }
 {
-    let out = text.take_empty(alloc);
-    let err = line.take_empty(alloc);
+    let out = text.take_empty(alloc, settings.output);
+    let err = line.take_empty(alloc, 0);
     let Some(mut out) = out else {
         return 7;
     };
@@ -270,9 +261,9 @@ fn gather_printed(alloc: Global, set: &mut SetHandle, out: &mut Gathered) -> u8
     ensures outcome { Holds (stop_answer (printed (templates_in set.old.held))) out.new.bytes.items [] result }
     ensures set { set.new.held ≡ set.old.held }
 {
-    let mut line = Gathered::new(alloc);
+    let mut line = Gathered::new(alloc, 0);
     let code = print_kept(alloc, set, out, &mut line);
-    settle(code, out, &mut line)
+    settle(0, code, out, &mut line)
 }
 
 /// Prints a set into a text of the library's own.
@@ -280,7 +271,7 @@ pub(crate) fn print_text(alloc: Global, set: &mut SetHandle, text: &mut Text) ->
     ensures outcome { Holds (stop_answer (printed (templates_in set.old.held))) (bytes_in text.new.held) [] result }
     ensures set { set.new.held ≡ set.old.held }
 {
-    let Some(mut out) = text.take_empty(alloc) else {
+    let Some(mut out) = text.take_empty(alloc, 0) else {
         return 7;
     };
     let code = gather_printed(alloc, set, &mut out);

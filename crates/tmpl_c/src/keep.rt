@@ -20,7 +20,7 @@ use crate::render::{Extent, copy_to, say_refused};
 use crate::set_handle::SetHandle;
 use crate::shared_data::SharedData;
 use std::alloc::{AllocError, Global};
-use tmpl_engine::Engine;
+use tmpl_engine::{Engine, NameHash};
 use tmpl_values::Data;
 
 /// What is said of an offer.
@@ -56,7 +56,7 @@ fn say_no_memory(err: &mut [u8]) -> Said
 fn say(alloc: Global, why: &Halt<'_>, err: &mut [u8]) -> Said
     ensures { IsSaid (said_of (halt_seen why.now)) (length err.old) (extent_seen err.new result.line) result.status }
 {
-    let mut line = Gathered::new(alloc);
+    let mut line = Gathered::new(alloc, 0);
     let code = tell(&mut line, why);
     if line.failures != 0 {
         return say_no_memory(err);
@@ -79,14 +79,20 @@ fn add_to(alloc: Global, engine: &mut Engine, file: &File<'_>, err: &mut [u8]) -
 }
 
 /// Adds the templates of a file to a set that is kept, or says why not.
-pub(crate) fn add(alloc: Global, kept: &mut SetHandle, file: &File<'_>, err: &mut [u8]) -> Said
+pub(crate) fn add(
+    alloc: Global,
+    hash: NameHash,
+    kept: &mut SetHandle,
+    file: &File<'_>,
+    err: &mut [u8],
+) -> Said
     ensures { Keeps (with_lent parsed (templates_in kept.old.held) (pair_of file.now))
         (templates_in kept.old.held) (templates_in kept.new.held)
         (length err.old) (extent_seen err.new result.line) result.status }
 {
     let mut engine = match kept.take(alloc) {
         Some(engine) => engine,
-        None => match Box::new(alloc, Engine::new(alloc)) {
+        None => match Box::new(alloc, Engine::with_hash(alloc, hash)) {
             Ok(engine) => engine,
             Err(_) => return say_no_memory(err),
         },

@@ -4,17 +4,20 @@
 
 ghost use Rattle.std.specs.Prelude.{◌≡◌, [], None, codes, eqb, false};
 ghost use Rattle.tmpl_tool.specs.Tool.{IsParse, Parse, printed, stop_answer};
-ghost use Rattle.tmpl_c.specs.Filled.{Rendered, room, seen};
+ghost use Rattle.tmpl_c.specs.Checked.{Checks};
+ghost use Rattle.tmpl_c.specs.Filled.{Rendered, limited, room, seen};
 ghost use Rattle.tmpl_c.specs.Held.{Keeps, Replaces, held_answer, templates_in, templates_run, value_in};
 ghost use Rattle.tmpl_c.specs.Lent.{data_lent, pair_of, pairs_of, render_answer, rules_in, with_lent};
 ghost use Rattle.tmpl_c.specs.Texts.{Holds, bytes_in};
 
 mod address;
 mod buffer;
+mod check;
 mod data_handle;
 mod gathered;
 mod held;
 mod keep;
+mod keys;
 mod laws;
 mod lent;
 mod load;
@@ -31,6 +34,7 @@ pub use address::Address;
 pub use buffer::Buffer;
 pub use data_handle::DataHandle;
 pub use gathered::Gathered;
+pub use keys::Keys;
 pub use laws::{as_command, crosses_threads, kept, seen_by_caller, stages, text_seen_by_caller};
 pub use lent::File;
 pub use program_handle::ProgramHandle;
@@ -46,10 +50,13 @@ pub use text_handle::TextHandle;
 /// The text goes to `out`, and where not all went well one line to `err`; of each as much as there is room for. Both
 /// buffers say how much they hold, and how many bytes there are in all. The status is that of the command: 0 done, 1 a
 /// fault of the run, 2 a file's name is not UTF-8, 4 a file is refused or no template has the name, 5 the data is
-/// refused, 6 the text has more bytes than there is room for, 7 memory was refused.
+/// refused, 6 the text has more bytes than there is room for or than the settings allow, 7 memory was refused.
+///
+/// C calls it as `tmpl_render`, with no keys, as it does the other calls that take keys.
 #[unsafe(no_mangle)]
-pub extern "C" fn tmpl_render(
+pub extern "C" fn keyed_render(
     alloc: Global,
+    keys: &Keys,
     settings: &Settings,
     files: &[File<'_>],
     name: &[u8],
@@ -57,13 +64,22 @@ pub extern "C" fn tmpl_render(
     out: &mut Buffer<'_>,
     err: &mut Buffer<'_>,
 ) -> u8
-    ensures outcome { (parse : Parse) → IsParse parse → Rendered
-        (render_answer parse (rules_in settings.now) (eqb settings.now.print 1) (pairs_of files.now) name.now input.now)
+    ensures outcome { (parse : Parse) → IsParse parse → Rendered (limited settings.now.output
+        (render_answer parse (rules_in settings.now) (eqb settings.now.print 1) (pairs_of files.now) name.now input.now))
         (room out.old) (seen out.new) (room err.old) (seen err.new) result }
     ensures lent { (out.new.bytes.ghost_name ≡ out.old.bytes.ghost_name)
         × (err.new.bytes.ghost_name ≡ err.old.bytes.ghost_name) }
 {
-    let told = render::fill(alloc, settings, files, name, input, out.bytes, err.bytes);
+    let told = render::fill(
+        alloc,
+        keys.hash(),
+        settings,
+        files,
+        name,
+        input,
+        out.bytes,
+        err.bytes,
+    );
     out.taken = told.text.taken;
     out.needed = told.text.needed;
     err.taken = told.line.taken;
@@ -71,11 +87,22 @@ pub extern "C" fn tmpl_render(
     told.status
 }
 
+/// Says all that is wrong in files, added one after the other, in a text that the library owns: a line for each mistake,
+/// as compilers write it. A file that is refused adds nothing. The status is 0 where nothing is wrong, 4 where a file is
+/// refused, 2 where the name of one is not UTF-8, and 7 where memory was refused; but for 4 nothing is said.
+#[unsafe(no_mangle)]
+pub extern "C" fn keyed_check(alloc: Global, keys: &Keys, files: &[File<'_>], text: &mut Text) -> u8
+    ensures { (parse : Parse) → IsParse parse → Checks parse (pairs_of files.now) (bytes_in text.new.held) result }
+{
+    check::check_files(alloc, keys.hash(), files, text)
+}
+
 /// Adds the templates of a file to a set that the caller keeps, or says why not: with status 0 nothing is said, and
 /// else the set is as it was. The statuses are those of a render whose files are the set's and this one.
 #[unsafe(no_mangle)]
-pub extern "C" fn tmpl_set_add(
+pub extern "C" fn keyed_set_add(
     alloc: Global,
+    keys: &Keys,
     set: &mut SetHandle,
     file: &File<'_>,
     err: &mut Buffer<'_>,
@@ -84,7 +111,7 @@ pub extern "C" fn tmpl_set_add(
         (templates_in set.old.held) (templates_in set.new.held) (room err.old) (seen err.new) result }
     ensures lent { err.new.bytes.ghost_name ≡ err.old.bytes.ghost_name }
 {
-    let said = keep::add(alloc, set, file, err.bytes);
+    let said = keep::add(alloc, keys.hash(), set, file, err.bytes);
     err.taken = said.line.taken;
     err.needed = said.line.needed;
     said.status
@@ -147,9 +174,9 @@ pub extern "C" fn tmpl_render_set(
     out: &mut Buffer<'_>,
     err: &mut Buffer<'_>,
 ) -> u8
-    ensures outcome { Rendered
+    ensures outcome { Rendered (limited settings.now.output
         (held_answer (rules_in settings.now) (eqb settings.now.print 1) (templates_in set.old.held) name.now
-        (value_in kept.old.held))
+        (value_in kept.old.held)))
         (room out.old) (seen out.new) (room err.old) (seen err.new) result }
     ensures lent { (out.new.bytes.ghost_name ≡ out.old.bytes.ghost_name)
         × (err.new.bytes.ghost_name ≡ err.old.bytes.ghost_name) }
@@ -224,8 +251,8 @@ pub extern "C" fn tmpl_render_program(
     out: &mut Buffer<'_>,
     err: &mut Buffer<'_>,
 ) -> u8
-    ensures outcome { Rendered
-        (held_answer (rules_in settings.now) false (templates_run program.old.held) name.now (value_in kept.old.held))
+    ensures outcome { Rendered (limited settings.now.output
+        (held_answer (rules_in settings.now) false (templates_run program.old.held) name.now (value_in kept.old.held)))
         (room out.old) (seen out.new) (room err.old) (seen err.new) result }
     ensures lent { (out.new.bytes.ghost_name ≡ out.old.bytes.ghost_name)
         × (err.new.bytes.ghost_name ≡ err.old.bytes.ghost_name) }
@@ -241,7 +268,7 @@ pub extern "C" fn tmpl_render_program(
 }
 
 /// Does what `tmpl_render_program` does, and keeps text and line in memory of the library's own, which is used again by
-/// the next call. Nothing is cut, so there is no status 6. With status 7 there is no line.
+/// the next call. Nothing is cut but past the limit of the settings. With status 7 there is no line.
 #[unsafe(no_mangle)]
 pub extern "C" fn tmpl_render_text(
     alloc: Global,
@@ -252,8 +279,8 @@ pub extern "C" fn tmpl_render_text(
     text: &mut Text,
     line: &mut Text,
 ) -> u8
-    ensures outcome { Holds
-        (held_answer (rules_in settings.now) false (templates_run program.old.held) name.now (value_in kept.old.held))
+    ensures outcome { Holds (limited settings.now.output
+        (held_answer (rules_in settings.now) false (templates_run program.old.held) name.now (value_in kept.old.held)))
         (bytes_in text.new.held) (bytes_in line.new.held) result }
     ensures program { program.new.held ≡ program.old.held }
     ensures kept { kept.new.held ≡ kept.old.held }

@@ -1,5 +1,5 @@
 //! A render into lent memory.
-ghost use Rattle.std.specs.Prelude.{◌≡◌, ◌≢◌, ◌<◌, ◌^◌, ◌-◌, List, eqb, false, length, option_map};
+ghost use Rattle.std.specs.Prelude.{◌≡◌, ◌≢◌, ◌⊎◌, ◌<◌, ◌^◌, ◌-◌, ◌||◌, List, [], eqb, false, leb, length, option_map};
 ghost use Rattle.tmpl_values.specs.View.{value_of};
 ghost use Rattle.tmpl_syntax.specs.Set.{Template};
 ghost use Rattle.tmpl_meaning.specs.Sink.{sunk};
@@ -7,8 +7,9 @@ ghost use Rattle.tmpl_engine.specs.Prepared.{IsPrepared};
 ghost use Rattle.tmpl_engine.specs.View.{templates_of};
 ghost use Rattle.tmpl_tool.specs.Outcome.{Answer, Outcome, memory_line, write_line};
 ghost use Rattle.tmpl_tool.specs.Tool.{IsParse, Parse, answer_of, named_run};
-ghost use Rattle.tmpl_c.specs.Filled.{Fills};
+ghost use Rattle.tmpl_c.specs.Filled.{Fills, limited};
 ghost use Rattle.tmpl_c.specs.Lent.{pairs_of, render_answer, rules_in};
+ghost use Rattle.tmpl_c.specs.Texts.{Holds};
 ghost use Rattle.tmpl_c.specs.computed.Extents.{IsFilled, answer_by, extent_seen};
 ghost use Rattle.tmpl_c.specs.computed.Gathering.{told_of, untouched};
 
@@ -17,7 +18,7 @@ use crate::lent::File;
 use crate::load::{add_files, read_data, tell};
 use crate::settings::{Settings, options_in};
 use std::alloc::Global;
-use tmpl_engine::{Engine, RenderError, Renderer};
+use tmpl_engine::{Engine, NameHash, RenderError, Renderer};
 use tmpl_tool::{print, render_prepared};
 use tmpl_values::Data;
 
@@ -48,6 +49,7 @@ pub(crate) struct Filled {
 /// Renders the template of this name to two sinks.
 fn render_to(
     alloc: Global,
+    hash: NameHash,
     settings: &Settings,
     files: &[File<'_>],
     name: &[u8],
@@ -61,7 +63,7 @@ fn render_to(
         (render_answer parse (rules_in settings.now) (eqb settings.now.print 1) (pairs_of files.now) name.now input.now)
         (sunk (told_of out.old) (told_of out.new)) (sunk (told_of err.old) (told_of err.new)) result }
 {
-    let mut engine = Engine::new(alloc);
+    let mut engine = Engine::with_hash(alloc, hash);
     match add_files(alloc, &mut engine, files) {
         Ok(()) => {}
         Err(why) => return tell(err, &why),
@@ -108,6 +110,41 @@ pub(crate) fn is_refused(code: u8, text: &Gathered, line: &Gathered) -> bool
     code == 7 || text.failures != 0 || line.failures != 0
 }
 
+/// Whether a text of this size is within the limit, which is none where it is 0.
+fn fits(limit: usize, size: usize) -> bool
+    ensures { result ≡ (eqb limit 0 || leb size limit) }
+{
+    limit == 0 || size <= limit
+}
+
+/// Says that a text is longer than its limit, and gives the status of that.
+fn say_limit(line: &mut Gathered) -> u8
+    ensures { ((line.new.bytes.items ≡ write_line) × (result ≡ 6)) ⊎ ((line.new.bytes.items ≡ []) × (result ≡ 7)) }
+{
+    line.bytes.clear();
+    match line.bytes.extend_from_slice(FULL) {
+        Ok(()) => 6,
+        Err(_) => 7,
+    }
+}
+
+/// The status of a render whose text and line are gathered, and which may put out this many bytes: a text that is longer
+/// is cut. There is no line where memory was refused.
+pub(crate) fn settle(limit: usize, code: u8, text: &mut Gathered, line: &mut Gathered) -> u8
+    ensures { (a : Answer) → Outcome a (sunk untouched (told_of text.old)) (sunk untouched (told_of line.old)) code
+        → Holds (limited limit a) text.new.bytes.items line.new.bytes.items result }
+{
+    if !fits(limit, text.bytes.len()) {
+        text.bytes.truncate(limit);
+        return say_limit(line);
+    }
+    if is_refused(code, text, line) {
+        line.bytes.clear();
+        return 7;
+    }
+    code
+}
+
 /// Copies as many of the bytes to memory as there is room for.
 pub(crate) fn copy_to(memory: &mut [u8], bytes: &[u8]) -> Extent
     ensures { Fills bytes.now (length memory.old) (extent_seen memory.new result) }
@@ -134,27 +171,20 @@ pub(crate) fn say_refused(err: &mut [u8]) -> Extent
     copy_to(err, REFUSED)
 }
 
-/// Copies what was gathered to lent memory, and says why the text is not all there.
-pub(crate) fn hand_over(
-    code: u8,
-    text: &Gathered,
-    line: &Gathered,
-    out: &mut [u8],
-    err: &mut [u8],
-) -> Filled
-    ensures { (a : Answer) → Outcome a (sunk untouched (told_of text.now)) (sunk untouched (told_of line.now)) code
-        → IsFilled a out.old out.new err.old err.new result }
+/// Copies a text and a line to lent memory, and says why the text is not all there.
+fn hand_over(code: u8, text: &[u8], line: &[u8], out: &mut [u8], err: &mut [u8]) -> Filled
+    ensures { (a : Answer) → Holds a text.now line.now code → IsFilled a out.old out.new err.old err.new result }
 {
     let room = out.len();
-    let put = copy_to(out, text.bytes.as_slice());
-    if is_refused(code, text, line) {
+    let put = copy_to(out, text);
+    if code == 7 {
         return Filled {
             status: 7,
             text: put,
             line: say_refused(err),
         };
     }
-    if room < text.bytes.len() {
+    if room < text.len() {
         return Filled {
             status: 6,
             text: put,
@@ -164,13 +194,36 @@ pub(crate) fn hand_over(
     Filled {
         status: code,
         text: put,
-        line: copy_to(err, line.bytes.as_slice()),
+        line: copy_to(err, line),
     }
+}
+
+/// Copies what was gathered to lent memory, of the text this many bytes at most, and says why it is not all there.
+pub(crate) fn finish(
+    limit: usize,
+    code: u8,
+    mut text: Gathered,
+    mut line: Gathered,
+    out: &mut [u8],
+    err: &mut [u8],
+) -> Filled
+    ensures { (a : Answer) → Outcome a (sunk untouched (told_of text)) (sunk untouched (told_of line)) code
+        → IsFilled (limited limit a) out.old out.new err.old err.new result }
+{
+    let status = settle(limit, code, &mut text, &mut line);
+    hand_over(
+        status,
+        text.bytes.as_slice(),
+        line.bytes.as_slice(),
+        out,
+        err,
+    )
 }
 
 /// Renders into lent memory, and says why the text is not all there.
 pub(crate) fn fill(
     alloc: Global,
+    hash: NameHash,
     settings: &Settings,
     files: &[File<'_>],
     name: &[u8],
@@ -178,14 +231,16 @@ pub(crate) fn fill(
     out: &mut [u8],
     err: &mut [u8],
 ) -> Filled
-    ensures { (parse : Parse) → IsParse parse → IsFilled
-        (render_answer parse (rules_in settings.now) (eqb settings.now.print 1) (pairs_of files.now) name.now input.now)
+    ensures { (parse : Parse) → IsParse parse → IsFilled (limited settings.now.output
+        (render_answer parse (rules_in settings.now) (eqb settings.now.print 1) (pairs_of files.now) name.now input.now))
         out.old out.new err.old err.new result }
 {
-    let mut text = Gathered::new(alloc);
-    let mut line = Gathered::new(alloc);
-    let code = render_to(alloc, settings, files, name, input, &mut text, &mut line);
-    hand_over(code, &text, &line, out, err)
+    let mut text = Gathered::new(alloc, settings.output);
+    let mut line = Gathered::new(alloc, 0);
+    let code = render_to(
+        alloc, hash, settings, files, name, input, &mut text, &mut line,
+    );
+    finish(settings.output, code, text, line, out, err)
 }
 
 /// Prints a set, or runs the template of this name of it.
@@ -222,13 +277,13 @@ pub(crate) fn fill_held(
     out: &mut [u8],
     err: &mut [u8],
 ) -> Filled
-    ensures outcome { IsFilled
-        (answer_by settings.now (templates_of engine.old) name.now (option_map (λ d. value_of d.now) «data».entry))
+    ensures outcome { IsFilled (limited settings.now.output
+        (answer_by settings.now (templates_of engine.old) name.now (option_map (λ d. value_of d.now) «data».entry)))
         out.old out.new err.old err.new result }
     ensures same { engine.new ≡ engine.old }
 {
-    let mut text = Gathered::new(alloc);
-    let mut line = Gathered::new(alloc);
+    let mut text = Gathered::new(alloc, settings.output);
+    let mut line = Gathered::new(alloc, 0);
     let code = render_held(alloc, settings, engine, name, data, &mut text, &mut line);
-    hand_over(code, &text, &line, out, err)
+    finish(settings.output, code, text, line, out, err)
 }

@@ -18,6 +18,8 @@ pub struct Settings {
     pub missing_key: u8,
     /// 1 to print the set, and run nothing.
     pub print: u8,
+    /// How many bytes of text are put out at most; 0 for as many as there are.
+    pub output: usize,
 }
 
 /// The mode for missing keys that has this number.

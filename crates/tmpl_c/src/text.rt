@@ -72,18 +72,18 @@ impl Text {
         drop(mem::replace(self, Text::of(value)).into_box(alloc));
     }
 
-    /// Takes out its memory, with nothing in it, or new memory. There is none where memory is refused.
-    pub(crate) fn take_empty(&mut self, alloc: Global) -> Option<Box<Gathered>>
+    /// Takes out its memory, with nothing in it, or new memory, for a text of this limit. There is none where memory is
+    /// refused.
+    pub(crate) fn take_empty(&mut self, alloc: Global, limit: usize) -> Option<Box<Gathered>>
         ensures empty { IfSome result (λ b. told_of b.value ≡ untouched) }
         ensures left { bytes_in self.new.held ≡ [] }
     {
         match self.take(alloc) {
             Some(mut kept) => {
-                kept.bytes.clear();
-                kept.failures = 0;
+                kept.empty(limit);
                 Some(kept)
             }
-            None => match Box::new(alloc, Gathered::new(alloc)) {
+            None => match Box::new(alloc, Gathered::new(alloc, limit)) {
                 Ok(empty) => Some(empty),
                 Err(_) => None,
             },

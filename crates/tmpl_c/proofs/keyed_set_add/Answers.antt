@@ -4,7 +4,7 @@ use Rattle.tmpl_c.specs.Filled.{room}
 use Rattle.tmpl_c.specs.Held.{Keeps, templates_in}
 use Rattle.tmpl_c.specs.Lent.{pair_of, with_lent}
 use Rattle.tmpl_c.specs.computed.Extents.{extent_seen}
-use Rattle.tmpl_c.proofs.tmpl_set_add.Goals as goal
+use Rattle.tmpl_c.proofs.keyed_set_add.Goals as goal
 
 pub returns-clause-outcome : goal.returns-clause-outcome
 returns-clause-outcome c parse is =

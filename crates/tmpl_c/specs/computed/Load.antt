@@ -1,5 +1,5 @@
 -- What the stages of a call answer.
-use Rattle.std.specs.Prelude.{◌≡◌, ◌⊎◌, ℕ, Option, Some, Result, Ok, Err, IfSome}
+use Rattle.std.specs.Prelude.{◌≡◌, ◌⊎◌, ℕ, List, Option, Some, Result, Ok, Err, IfSome, eqb, length, if◌then◌else◌}
 use Rattle.tmpl_tool.specs.Inputs.{stop_seen}
 use Rattle.tmpl_tool.specs.Outcome.{Answer, memory_line}
 use Rattle.tmpl_tool.specs.Tool.{Early, bad_words}
@@ -19,3 +19,7 @@ ComesTo seen stage (Err h) = IfSome (halt_seen h) (λ s. stage ≡ Err s)
 -- a stop is said, or want of memory is
 abbrev pub IsSaid : Answer → ℕ → Seen → ℕ → Type 0
 IsSaid a room err code = (Fills a.line room err × (code ≡ a.status)) ⊎ (Fills memory_line room err × (code ≡ 7))
+
+-- the status of a check after a file of which this is refused
+abbrev pub status_after : {T : Type 0} → ℕ → List T → ℕ
+status_after code mistakes = if eqb (length mistakes) 0 then code else 4

@@ -1,0 +1,91 @@
+-- For `check_each`: the status of a check of the files that are left, after some.
+use Rattle.std.proofs.Common.{◌≡◌, ◌∙◌, ◌+◌, ◌<◌, add-one, drop, get_or, subst, ℕ, Bool, true, false, List, [], ◌∷◌, Ok, Err, refl, sym, ap, length, map}
+use Rattle.std.specs.Prelude.{eqb, is_ok, if◌then◌else◌}
+use Rattle.std.proofs.Math.Dec.{eqb-suc-zero}
+use Rattle.std.proofs.Math.Seq.{drop-cons}
+use Rattle.std.proofs.lemmas.Bool.{false_from_ne_true}
+use Rattle.std.proofs.lemmas.Str.{IsUtf8-from_is_utf8, is_utf8-from_IsUtf8}
+use Rattle.std.proofs.lemmas.List.{length-map}
+use Rattle.std.specs.List.{list_all}
+use Rattle.std.specs.Str.{IsUtf8, is_utf8}
+use Rattle.tmpl_syntax.specs.Parse.{Refusal}
+use Rattle.tmpl_syntax.specs.Set.{Template}
+use Rattle.tmpl_syntax.specs.computed.Parse.{parsed}
+use Rattle.tmpl_syntax.specs.declared.refused.Refused.{Refused}
+use Rattle.tmpl_syntax.proofs.ReadingLemmas.{has-one-outcome, has-outcome}
+use Rattle.tmpl_refusals.specs.Examine.{Examined, refused_in}
+use Rattle.tmpl_problems.specs.Checked.{refusal_in}
+use Rattle.tmpl_problems.specs.declared.problem.Problem.{Problem}
+use Rattle.tmpl_tool.specs.Source.{Bytes}
+use Rattle.tmpl_c.specs.Lent.{each_added, pair_of, pairs_of}
+use Rattle.tmpl_c.specs.computed.Load.{status_after}
+use Rattle.tmpl_c.specs.declared.lent.File.{File}
+
+-- nothing is refused of a file, or something is
+pub none_after : {T : Type 0} (code n : ℕ) (mistakes : List T) → length mistakes ≡ n → true ≡ eqb n 0 → code ≡ status_after code mistakes
+none_after code n mistakes same is = rw (same, sym is) refl
+
+pub four_after : {T : Type 0} (code n : ℕ) (mistakes : List T) → length mistakes ≡ n → false ≡ eqb n 0 → 4 ≡ status_after code mistakes
+four_after code n mistakes same is = rw (same, sym is) refl
+
+-- that of the files that are left, where those before them made this set and come to this status
+abbrev pub status_from : ℕ → List Template → List (Bytes × Bytes) → ℕ
+status_from code set files =
+    if list_all (λ f. is_utf8 f.0) files then (if is_ok (each_added parsed set files) then code else 4) else 2
+
+always_four : (b : Bool) → ◌≡◌ {A = ℕ} (if b then 4 else 4) 4
+always_four true = refl
+always_four false = refl
+
+module _ (code : ℕ) (old : List Template) (f : Bytes × Bytes) (fs : List (Bytes × Bytes)) where
+  -- a name that is no text
+  no_text : is_utf8 f.0 ≡ false → status_from code old (f ∷ fs) ≡ 2
+  no_text is = rw is refl
+
+  module _ (is : is_utf8 f.0 ≡ true) where
+    accepted : (new : List Template) → parsed old f.0 f.1 ≡ Ok new → status_from code old (f ∷ fs) ≡ status_from code new fs
+    accepted new made = rw (is, made) refl
+
+    refused : (r : Refusal) → parsed old f.0 f.1 ≡ Err r → status_from code old (f ∷ fs) ≡ status_from 4 old fs
+    refused r fails = rw (is, fails, always_four (is_ok (each_added parsed old fs))) refl
+
+    -- a file of which this is refused
+    examined : (new : List Template) (rs : List Refused) → Examined old f.0 f.1 new rs
+        → status_from code old (f ∷ fs) ≡ status_from (status_after code rs) new fs
+    examined new [] parses = accepted new (has-one-outcome old f.0 f.1 (parsed old f.0 f.1) (Ok new) (has-outcome old f.0 f.1) parses)
+    examined new (r ∷ rs) (same, why, reason, parses, rest) =
+        refused (r.line, why) (has-one-outcome old f.0 f.1 (parsed old f.0 f.1) (Err (r.line, why)) (has-outcome old f.0 f.1) parses)
+        ∙ ap (λ (set : List Template). status_from 4 set fs) (sym same)
+        ∙ ap (λ n. status_from n new fs) (sym (some_refused r rs))
+      where
+        some_refused : (r : Refused) (rs : List Refused) → status_after code (r ∷ rs) ≡ 4
+        some_refused r rs = rw (eqb-suc-zero (length rs)) refl
+
+    -- .. with what is said of it
+    goes_on : (new : List Template) (problems : List Problem) (status : ℕ) → Examined old f.0 f.1 new (map refused_in (map refusal_in problems))
+        → status ≡ status_after code problems → status_from code old (f ∷ fs) ≡ status_from status new fs
+    goes_on new problems status told is =
+        examined new (map refused_in (map refusal_in problems)) told
+        ∙ ap (λ (n : ℕ). status_from (if eqb n 0 then code else 4) new fs) (length-map (map refusal_in problems) refused_in ∙ length-map problems refusal_in)
+        ∙ ap (λ n. status_from n new fs) (sym is)
+
+-- the file at a place, and those after it
+module _ (code : ℕ) (old : List Template) (files : List File) (i : ℕ) (d : File) (here : i < length files) where
+  abbrev this : File
+  this = get_or files i d
+
+  left : pairs_of (drop i files) ≡ pair_of this ∷ pairs_of (drop (i + 1) files)
+  left = ap pairs_of (drop-cons files i d here) ∙ ap (λ n. pair_of this ∷ pairs_of (drop n files)) (sym (add-one i))
+
+  pub no_text_at : (IsUtf8 this.name.now → ⊥) → status_from code old (pairs_of (drop i files)) ≡ 2
+  no_text_at fails =
+      ap (status_from code old) left
+      ∙ no_text code old (pair_of this) (pairs_of (drop (i + 1) files)) (false_from_ne_true _ (λ e. fails (IsUtf8-from_is_utf8 _ e)))
+
+  pub goes_on_at : (name : Bytes) → name ≡ this.name.now → IsUtf8 this.name.now → (new : List Template) (problems : List Problem) (status : ℕ)
+      → Examined old name this.bytes.now new (map refused_in (map refusal_in problems)) → status ≡ status_after code problems
+      → status_from code old (pairs_of (drop i files)) ≡ status_from status new (pairs_of (drop (i + 1) files))
+  goes_on_at name same is new problems status told comes =
+      ap (status_from code old) left
+      ∙ goes_on code old (pair_of this) (pairs_of (drop (i + 1) files)) (is_utf8-from_IsUtf8 this.name.now is) new problems status
+      (subst (λ (n : Bytes). Examined old n this.bytes.now new (map refused_in (map refusal_in problems))) same told) comes
