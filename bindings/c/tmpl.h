@@ -46,7 +46,7 @@ enum {
     TMPL_REFUSED = 4,  /* a template file is refused, or there is no template of the name */
     TMPL_DATA = 5,     /* the data is not JSON, or a number of it is not whole or is out of range */
     TMPL_FULL = 6,     /* the text does not fit: `out` has as much of it as there is room for, and `needed` is its size. Or it is
-                          longer than `output` of the settings: then `needed` is that, and so many of its bytes are there */
+                          longer than `output` of the settings: then `needed` is that, and its first bytes are there */
     TMPL_MEMORY = 7    /* memory was refused: `out` has a beginning of the text */
 };
 
