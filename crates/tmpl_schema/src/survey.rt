@@ -290,12 +290,26 @@ fn place(table: &[Entry], name: &[u8]) -> Option<usize> {
     None
 }
 
+/// The values of the one, and those alternatives of the other that are not within it: so each is there once.
+fn with_more(base: &Base<'_>, one: Shape, other: &Shape) -> Result<Shape, AllocError> {
+    match other {
+        Shape::Either(first, second) => {
+            let one = with_more(base, one, first)?;
+            with_more(base, one, second)
+        }
+        _ => {
+            let other = copy_shape(base.alloc, other)?;
+            joined(base, other, one)
+        }
+    }
+}
+
 /// What two calls hand over.
 fn widened(base: &Base<'_>, one: &Callee, other: &Callee) -> Result<Callee, AllocError> {
     match (one, other) {
         (Callee::Handed(one), Callee::Handed(other)) => {
             let one = copy_shape(base.alloc, one)?;
-            Ok(Callee::Handed(joined(base, one, copy_shape(base.alloc, other)?)?))
+            Ok(Callee::Handed(with_more(base, one, other)?))
         }
         _ => Ok(Callee::Absent),
     }
