@@ -1,4 +1,4 @@
-"""Runs tests/library.c under the sanitizers of clang: with each access to memory checked (address), with what C leaves undefined
+"""Runs tests/check/library.c under the sanitizers of clang: with each access to memory checked (address), with what C leaves undefined
 (undefined), and with races looked for (thread).
 
     sanitized.py [KIND..]
@@ -12,7 +12,7 @@ import subprocess
 import sys
 import tempfile
 
-import harness
+from tests.lib import harness
 
 KINDS = {"address": ["address"], "undefined": ["address", "undefined"], "thread": ["thread"]}
 IN_C = ("heap", "keyed", "keys", "version")
@@ -52,7 +52,7 @@ def engine(folder, kind, tools):
 def judge(folder, kind, tools):
     checks = KINDS[kind]
     flags = ["-std=gnu11", "-g", "-O1", "-Wall", "-Wextra", f"-I{harness.TOP}/bindings/c", f"-fsanitize={','.join(checks)}", "-fno-sanitize-recover=all"]
-    sources = [f"{harness.TESTS}/library.c", *(f"{harness.TOP}/bindings/c/{it}.c" for it in IN_C)]
+    sources = [f"{harness.TESTS}/check/library.c", *(f"{harness.TOP}/bindings/c/{it}.c" for it in IN_C)]
     program, copies = f"{folder}/{kind}", f"{folder}/copies.c"
     with open(copies, "w", encoding="utf-8") as it:
         it.write(COPIES)
@@ -62,7 +62,7 @@ def judge(folder, kind, tools):
     said = done.stdout.decode(errors="replace")
     print(f"{kind}: {said.rstrip()}", flush=True)
     is_right = done.returncode == 0 and re.search(r"^\d+ cases, 0 failed$", said, re.MULTILINE)
-    return f"tests/library.c, {kind}", 1, [] if is_right else [f"    status {done.returncode}"]
+    return f"tests/check/library.c, {kind}", 1, [] if is_right else [f"    status {done.returncode}"]
 
 
 def main(words):
