@@ -10,7 +10,9 @@ use crate::words::Request;
 use indexmap::IndexSet;
 use std::alloc::{AllocError, Global};
 use tmpl_data_problems::{DataProblem, DataReason, DataReport, check_data};
-use tmpl_problems::{Named, Problem, Problems, Survey, check_file, reason_words, survey_file};
+use tmpl_problems::{
+    Named, Problem, Problems, Survey, check_file, problem_text, reason_text, survey_file,
+};
 use tmpl_syntax::{NameHash, Set, base_name};
 
 /// What is found, file by file.
@@ -182,7 +184,7 @@ impl<'a> Findings<'a> {
             self.entries.push(data_entry(file, reason, (1, 1), String::from_str(alloc, words)?))?;
         }
         for problem in problems.into_iter() {
-            let text = joined(alloc, words, problem.text.as_str())?;
+            let text = reason_text(alloc, words, problem.text.as_str())?;
             self.entries.push(data_entry(file, reason, (problem.line, problem.column), text))?;
         }
         Ok(())
@@ -214,22 +216,8 @@ fn problem_entry<'a>(
         line: refusal.refused.line,
         column: refusal.column,
         rule: rule_of(refusal.refused.kind),
-        text: joined(
-            alloc,
-            reason_words(refusal.refused.kind),
-            problem.detail.as_str(),
-        )?,
+        text: problem_text(alloc, &problem)?,
     })
-}
-
-/// A reason and what more is said of it.
-fn joined(alloc: Global, reason: &str, detail: &str) -> Result<String, AllocError> {
-    let mut text = String::from_str(alloc, reason)?;
-    if !detail.is_empty() {
-        text.push_str(": ")?;
-        text.push_str(detail)?;
-    }
-    Ok(text)
 }
 
 /// What is said of a template of this name.
