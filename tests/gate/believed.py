@@ -21,8 +21,9 @@ TOOL = (
 # .. and that of the C library
 ROOTS = (
     *TOOL,
-    ("tmpl_c", "src/lib.rt", 'pub extern "C" fn tmpl_render('),
-    ("tmpl_c", "src/lib.rt", 'pub extern "C" fn tmpl_set_add('),
+    ("tmpl_c", "src/lib.rt", 'pub extern "C" fn keyed_render('),
+    ("tmpl_c", "src/lib.rt", 'pub extern "C" fn keyed_set_add('),
+    ("tmpl_c", "src/lib.rt", 'pub extern "C" fn keyed_check('),
     ("tmpl_c", "src/lib.rt", 'pub extern "C" fn tmpl_data_read('),
     ("tmpl_c", "src/lib.rt", 'pub extern "C" fn tmpl_render_set('),
     ("tmpl_c", "src/lib.rt", 'pub extern "C" fn tmpl_program_make('),
@@ -39,7 +40,7 @@ MOST = {
     "tmpl_meaning": 223,
     "tmpl_tool": 249,
     "tmpl_engine": 2,
-    "tmpl_c": 88,
+    "tmpl_c": 96,
 }
 
 WORD = r"[^\s(){}.,;]+"
