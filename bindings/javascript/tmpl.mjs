@@ -246,6 +246,9 @@ function withProblems(host, pairs, call) {
     }
 }
 
+/** How many bytes of them are taken: those of a file of millions of mistakes are more than a string can hold. */
+const MOST_SAID = 1 << 20;
+
 /** The lines of all that is wrong in files. */
 function problemsOf(host, pairs) {
     const parts = pairs.flat(), sizes = parts.map((it) => it.length);
@@ -254,7 +257,8 @@ function problemsOf(host, pairs) {
         lent.words(0, 0, 0, 0);
         lent.words(1, ...sizes.flatMap((size, number) => [lent.pointer(number + 2), size]));
         const status = host.call("tmpl_check", lent.pointer(1), BigInt(pairs.length), lent.pointer(0));
-        const said = decoder.decode(lent.text(0));
+        const front = lent.text(0).subarray(0, MOST_SAID);
+        const said = decoder.decode(front.subarray(0, front.lastIndexOf(10) + 1));
         host.call("tmpl_text_free", lent.pointer(0));
         if (status === MEMORY) throw new MemoryError("tmpl: out of memory");
         if (status !== OK && status !== REFUSED) throw new TemplateError(status, "tmpl: the name of a file is not UTF-8", new Uint8Array());
