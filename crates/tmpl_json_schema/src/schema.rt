@@ -264,7 +264,7 @@ fn count_of(alternatives: &Alternatives, counts: &[usize]) -> usize {
     count.min(MOST_ALTERNATIVES + 1)
 }
 
-/// Whether some definition comes to too many alternatives, where none leads back to itself.
+/// Whether some definition has too many alternatives, where none leads back to itself.
 fn has_too_many(alloc: Global, all: &[Alternatives]) -> Result<bool, AllocError> {
     let mut counts: Vec<usize> = Vec::new(alloc);
     for alternatives in all {
