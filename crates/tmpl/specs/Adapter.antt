@@ -18,15 +18,15 @@ source_fault io.OutOfMemory = fault.OutOfMemory
 source_fault kind = fault.Failed
 
 -- what a read of the system answers
-abbrev pub answered : Result (Vec ℕ Global) Error → Result (Vec ℕ Global) SourceFault
-answered (Ok bytes) = Ok bytes
-answered (Err e) = Err (source_fault (error_kind e))
+abbrev pub read_result : Result (Vec ℕ Global) Error → Result (Vec ℕ Global) SourceFault
+read_result (Ok bytes) = Ok bytes
+read_result (Err e) = Err (source_fault (error_kind e))
 
 -- the status after the last flush: one that fails is a failed write, and outranks that all went well
-abbrev pub flushed : Result (Unit {0}) SinkFault → ℕ → ℕ
-flushed (Ok u) code = code
-flushed (Err f) zero = 6
-flushed (Err f) (suc n) = suc n
+abbrev pub status_after_flush : Result (Unit {0}) SinkFault → ℕ → ℕ
+status_after_flush (Ok u) code = code
+status_after_flush (Err f) zero = 6
+status_after_flush (Err f) (suc n) = suc n
 
 -- what is said of the last flush
 abbrev pub SaysFlush : Result (Unit {0}) SinkFault → ℕ → Sunk → Type 0

@@ -1,6 +1,6 @@
 //! The file system and standard input as a source, of which nothing is told but its failures, and random numbers.
 ghost use Rattle.std.specs.Prelude.{◌≡◌, IfOk, IfSome, None, take};
-ghost use Rattle.tmpl.specs.Adapter.{answered, source_fault};
+ghost use Rattle.tmpl.specs.Adapter.{read_result, source_fault};
 
 use std::alloc::Global;
 use std::fs::File;
@@ -35,7 +35,7 @@ impl<'a, R: Files + Input + AllocGlobal> Source for FileSource<'a, R> {
     ghost failures = { λ s. s.failures };
 
     fn read(&mut self, alloc: Global, name: &str) -> Result<Vec<u8>, SourceFault> {
-        let read = answered(read_named(alloc, self.rt, name, u64::MAX));
+        let read = result_of_read(read_named(alloc, self.rt, name, u64::MAX));
         if let Err(SourceFault::Failed) = read {
             self.failures += 1;
         }
@@ -43,7 +43,7 @@ impl<'a, R: Files + Input + AllocGlobal> Source for FileSource<'a, R> {
     }
 
     fn read_up_to(&mut self, alloc: Global, name: &str, most: u64) -> Result<Vec<u8>, SourceFault> {
-        let read = answered(read_named(alloc, self.rt, name, most.saturating_add(1)));
+        let read = result_of_read(read_named(alloc, self.rt, name, most.saturating_add(1)));
         if let Err(SourceFault::Failed) = read {
             self.failures += 1;
         }
@@ -82,8 +82,8 @@ pub(crate) fn random_key(rt: &impl RandomSource) -> io::Result<u64> {
 }
 
 /// What a read of the system answers.
-fn answered(read: io::Result<Vec<u8>>) -> Result<Vec<u8>, SourceFault>
-    ensures { result ≡ answered read }
+fn result_of_read(read: io::Result<Vec<u8>>) -> Result<Vec<u8>, SourceFault>
+    ensures { result ≡ read_result read }
 {
     match read {
         Ok(bytes) => Ok(bytes),

@@ -4,7 +4,7 @@
 ghost use Rattle.std.specs.Prelude.{◌≡◌, ◌<◌, ◌-◌, ◌^◌};
 ghost use Rattle.std.specs.Process.{exit_status};
 ghost use Rattle.tmpl_meaning.specs.Sink.{sunk};
-ghost use Rattle.tmpl.specs.Adapter.{SaysFlush, flushed};
+ghost use Rattle.tmpl.specs.Adapter.{SaysFlush, status_after_flush};
 
 mod adapters;
 
@@ -58,7 +58,7 @@ fn name_hash(rt: &impl RandomSource) -> NameHash {
 /// The status after the last flush of the output; where that fails and all went well before, it says so.
 fn after_flush<E: Sink>(flush: Result<(), SinkFault>, status: Status, err: &mut E) -> Status
     requires { (E.so_far err.old).failures < 2 ^ 64 - 1 }
-    ensures code { result.code ≡ flushed flush status.code }
+    ensures code { result.code ≡ status_after_flush flush status.code }
     ensures line { SaysFlush flush status.code (sunk (E.so_far err.old) (E.so_far err.new)) }
 {
     match flush {

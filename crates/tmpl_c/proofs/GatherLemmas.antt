@@ -7,9 +7,9 @@ use Rattle.std.specs.Prelude.{eqb, leb, take, if◌then◌else◌}
 use Rattle.tmpl_meaning.specs.Sink.{Begun, Sunk, Told, sunk}
 use Rattle.tmpl_tool.specs.Outcome.{Answer, Outcome, memory_line, write_line}
 use Rattle.tmpl_tool.specs.Source.{Bytes}
-use Rattle.tmpl_c.specs.Filled.{Fills, Rendered, Seen, fits, limited}
+use Rattle.tmpl_c.specs.Filled.{Fills, Rendered, Seen, fits, limit_text}
 use Rattle.tmpl_c.specs.Texts.{Holds}
-use Rattle.tmpl_c.specs.computed.Gathering.{untouched}
+use Rattle.tmpl_c.specs.computed.Gathering.{nothing_put}
 
 abbrev pub holding : Bytes → ℕ → Told
 holding bytes failures = record { bytes = Some bytes; failures = failures }
@@ -51,17 +51,17 @@ abbrev pub within : ℕ → Bytes → Bool
 within most text = eqb most 0 || leb (length text) most
 
 module _ (a : Answer) (most : ℕ) where
-  limited-within : within most a.text ≡ true → limited most a ≡ a
+  limited-within : within most a.text ≡ true → limit_text most a ≡ a
   limited-within is = rw is refl
 
   -- what begins the text and is within the limit begins what the limit leaves of it
-  limited_front : (all rest : Bytes) → a.text ≡ all ++ rest → within most all ≡ true → (more : Bytes) × ((limited most a).text ≡ all ++ more)
+  limited_front : (all rest : Bytes) → a.text ≡ all ++ rest → within most all ≡ true → (more : Bytes) × ((limit_text most a).text ≡ all ++ more)
   limited_front all rest is begins = by (eqb most 0) refl (leb (length a.text) most) refl
     where
       short : eqb most 0 ≡ false → length all ≤ most
       short any = let h : leb (length all) most ≡ true = rw any at begins in leb-true (length all) most h
 
-      by : (none : Bool) → eqb most 0 ≡ none → (fit : Bool) → leb (length a.text) most ≡ fit → (more : Bytes) × ((limited most a).text ≡ all ++ more)
+      by : (none : Bool) → eqb most 0 ≡ none → (fit : Bool) → leb (length a.text) most ≡ fit → (more : Bytes) × ((limit_text most a).text ≡ all ++ more)
       by true e fit w = (rest, rw e is)
       by false e true w = (rest, rw (e, w) is)
       by false e false w =
@@ -73,11 +73,11 @@ module _ (a : Answer) (most : ℕ) where
 
   -- a text that is past the limit is cut
   limited_past : (all rest : Bytes) → a.text ≡ all ++ rest → within most all ≡ false
-      → (take most all ≡ (limited most a).text) × (write_line ≡ (limited most a).line) × (6 ≡ (limited most a).status)
+      → (take most all ≡ (limit_text most a).text) × (write_line ≡ (limit_text most a).line) × (6 ≡ (limit_text most a).status)
   limited_past all rest is past = by (eqb most 0) refl (leb (length all) most) refl
     where
       by : (none : Bool) → eqb most 0 ≡ none → (fit : Bool) → leb (length all) most ≡ fit
-          → (take most all ≡ (limited most a).text) × (write_line ≡ (limited most a).line) × (6 ≡ (limited most a).status)
+          → (take most all ≡ (limit_text most a).text) × (write_line ≡ (limit_text most a).line) × (6 ≡ (limit_text most a).status)
       by true e fit w = let wrong : true ≡ false = rw e at past in cc
       by false e true w = let wrong : true ≡ false = rw (e, w) at past in cc
       by false e false w =
@@ -90,21 +90,21 @@ module _ (a : Answer) (most : ℕ) where
 module _ (a : Answer) (all line : Bytes) (f g code : ℕ) (o : Outcome a (sunk (holding [] 0) (holding all f)) (sunk (holding [] 0) (holding line g)) code)
     (most : ℕ) where
   -- memory was refused
-  pub refused_holds : within most all ≡ true → (said : Bytes) → said ≡ [] → Holds (limited most a) all said 7
+  pub refused_holds : within most all ≡ true → (said : Bytes) → said ≡ [] → Holds (limit_text most a) all said 7
   refused_holds whole said none =
       let front = outcome_front a all f _ code o in
       let kept = limited_front a most all front.0 front.1 whole in inr (kept.0, kept.1, none, refl)
 
   -- it was not
-  pub exact_holds : within most all ≡ true → (code ≢ 7) × (f ≡ 0) × (g ≡ 0) → Holds (limited most a) all line code
+  pub exact_holds : within most all ≡ true → (code ≢ 7) × (f ≡ 0) × (g ≡ 0) → Holds (limit_text most a) all line code
   exact_holds whole fine =
       let is = outcome_exact a all line f g code o fine in
-      let same : limited most a ≡ a = limited-within a most (ap (λ (xs : Bytes). within most xs) (sym is.0) ∙ whole) in
+      let same : limit_text most a ≡ a = limited-within a most (ap (λ (xs : Bytes). within most xs) (sym is.0) ∙ whole) in
       subst (λ (x : Answer). Holds x all line code) (sym same) (inl is)
 
   -- the text is past the limit, and is cut; of which the line may be refused memory
   pub cut_holds : within most all ≡ false → (text said : Bytes) (status : ℕ) → text ≡ take most all
-      → ((said ≡ write_line) × (status ≡ 6)) ⊎ ((said ≡ []) × (status ≡ 7)) → Holds (limited most a) text said status
+      → ((said ≡ write_line) × (status ≡ 6)) ⊎ ((said ≡ []) × (status ≡ 7)) → Holds (limit_text most a) text said status
   cut_holds past text said status cut (inl h) =
       let front = outcome_front a all f _ code o in
       let is = limited_past a most all front.0 front.1 past in inl (cut ∙ is.0, h.0 ∙ is.1, h.1 ∙ is.2)
@@ -158,8 +158,8 @@ without_line a text line code none (inl h) = inl (h.0, sym none, h.2)
 without_line a text line code none (inr h) = inr (h.0, h.1, refl, h.3)
 
 -- what comes to sinks that hold nothing, told of the two
-pub from_nothing : (a : Answer) (o e out err : Told) (code : ℕ) → o ≡ untouched → e ≡ untouched → Outcome a (sunk o out) (sunk e err) code
-    → Outcome a (sunk untouched out) (sunk untouched err) code
+pub from_nothing : (a : Answer) (o e out err : Told) (code : ℕ) → o ≡ nothing_put → e ≡ nothing_put → Outcome a (sunk o out) (sunk e err) code
+    → Outcome a (sunk nothing_put out) (sunk nothing_put err) code
 from_nothing a o e out err code empty none comes =
-    subst (λ (t : Told). Outcome a (sunk t out) (sunk untouched err) code) empty
+    subst (λ (t : Told). Outcome a (sunk t out) (sunk nothing_put err) code) empty
     (subst (λ (t : Told). Outcome a (sunk o out) (sunk t err) code) none comes)

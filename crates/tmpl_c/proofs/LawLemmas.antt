@@ -9,7 +9,7 @@ use Rattle.tmpl_syntax.specs.Set.{Template}
 use Rattle.tmpl_tool.specs.Outcome.{Answer}
 use Rattle.tmpl_tool.specs.Source.{Bytes, Files}
 use Rattle.tmpl_tool.specs.Tool as tool
-use Rattle.tmpl_tool.specs.Tool.{Parse, Early, added, answer_of, asked_name, bad_words, data_found, data_in, loaded, named_run, no_read}
+use Rattle.tmpl_tool.specs.Tool.{Parse, Early, add_file, answer_of, asked_name, bad_words, data_found, data_in, load_each, named_run, no_read}
 use Rattle.tmpl_values.specs.Stage.{and_then}
 use Rattle.tmpl_tool.specs.Tool.{stop_answer, stop_if, with_file}
 use Rattle.tmpl_tool.proofs.StageLemmas.{and_then-and_then}
@@ -51,7 +51,7 @@ module _ (parse : Parse) (files : Files) where
   one_lent set name f same is has = rw (is, has, same) refl
 
   each_lent : (k : ℕ) (set : List Template) (names : List Bytes) (lent : List (Bytes × Bytes)) → LendsFiles files names lent
-      → each_added parse set lent ≡ loaded parse files no_read k set names
+      → each_added parse set lent ≡ load_each parse files no_read k set names
   each_lent k set [] [] h = refl
   each_lent k set (name ∷ names) (f ∷ fs) h = λ i. and_then (one_lent set name f h.0 h.1 h.2 i) (λ s. each_lent (suc k) s names fs h.3 i)
   each_lent k set [] (f ∷ fs) h = absurd h

@@ -16,7 +16,7 @@ use Rattle.tmpl_tool.specs.Inputs.{said_of}
 use Rattle.tmpl_tool.specs.Outcome.{Answer, Outcome, Says}
 use Rattle.tmpl_tool.specs.Source.{Bytes}
 use Rattle.tmpl_tool.specs.Tool as tool
-use Rattle.tmpl_tool.specs.Tool.{IsParse, Parse, Early, added, answer_of, named_run, only_text, stop_answer, stop_if}
+use Rattle.tmpl_tool.specs.Tool.{IsParse, Parse, Early, add_file, answer_of, named_run, only_text, stop_answer, stop_if}
 use Rattle.tmpl_tool.specs.declared.stop.Stop.TheVariants as stop
 use Rattle.tmpl_tool.proofs.MessageLemmas.{nothing_out, nothing_put}
 use Rattle.tmpl_tool.proofs.ParseLemmas.{for_each}
@@ -28,14 +28,14 @@ use Rattle.tmpl_c.specs.declared.load.Halt.TheVariants as halt
 -- ---- one file
 
 -- a file whose name is a text
-pub text_added : (old : List Template) (f : Bytes × Bytes) (name : Bytes) → name ≡ f.0 → IsUtf8 f.0 → with_lent parsed old f ≡ added parsed old name f.1
+pub text_added : (old : List Template) (f : Bytes × Bytes) (name : Bytes) → name ≡ f.0 → IsUtf8 f.0 → with_lent parsed old f ≡ add_file parsed old name f.1
 text_added old f name same is = rw (is_utf8-from_IsUtf8 f.0 is, same) refl
 
 module _ (old : List Template) (f : Bytes × Bytes) (name : Bytes) where
-  pub file_added : (new : List Template) → with_lent parsed old f ≡ added parsed old name f.1 → parsed old name f.1 ≡ Ok new → with_lent parsed old f ≡ Ok new
+  pub file_added : (new : List Template) → with_lent parsed old f ≡ add_file parsed old name f.1 → parsed old name f.1 ≡ Ok new → with_lent parsed old f ≡ Ok new
   file_added new same is = same ∙ rw is refl
 
-  pub file_refused : (fault : ParseFault) (why : Option Reason) → fault.file.now ≡ name → with_lent parsed old f ≡ added parsed old name f.1
+  pub file_refused : (fault : ParseFault) (why : Option Reason) → fault.file.now ≡ name → with_lent parsed old f ≡ add_file parsed old name f.1
       → IsRefusal (parsed old name f.1) fault.line why
       → IfSome (option_map (λ r. tool.refused fault.file.now (fault.line, r)) why) (λ s. with_lent parsed old f ≡ Err s)
   file_refused fault None named same is = tt
@@ -85,7 +85,7 @@ module _ (rules : Rules) (print : Bool) (files : List (Bytes × Bytes)) (name in
     pub printed_out : (out err : Sunk) (code : ℕ) → print ≡ true → Outcome (only_text (printed_set set)) out err code
         → (parse : Parse) → IsParse parse → Outcome (render_answer parse rules print files name input) out err code
     printed_out out err code is h =
-        by_any out err code (let added = rw none at loads in rw (added, is) h)
+        by_any out err code (let add_file = rw none at loads in rw (add_file, is) h)
 
     module _ (runs : print ≡ false) where
       -- the data stops it
@@ -94,11 +94,11 @@ module _ (rules : Rules) (print : Bool) (files : List (Bytes × Bytes)) (name in
           → (parse : Parse) → IsParse parse → Outcome (render_answer parse rules print files name input) (sunk t t) err code
       data_stops t err code why h status says =
           by_any (sunk t t) err code (stop_outcome (render_answer parsed rules print files name input) t err code (halt_seen why) (quiet why)
-          (IfSome_then (halt_seen why) h (λ s e. let added = rw none at loads in rw (added, runs, e) refl)) status says)
+          (IfSome_then (halt_seen why) h (λ s e. let add_file = rw none at loads in rw (add_file, runs, e) refl)) status says)
 
       -- nothing stops it
       pub goes_on : (out err : Sunk) (code : ℕ) (value found : Option Value) → data_lent (codes "data") input ≡ Ok value → found ≡ value
           → Outcome (answer_of (named_run rules name set found)) out err code
           → (parse : Parse) → IsParse parse → Outcome (render_answer parse rules print files name input) out err code
       goes_on out err code value found is same h =
-          by_any out err code (let added = rw none at loads in rw (added, runs, is, sym same) h)
+          by_any out err code (let add_file = rw none at loads in rw (add_file, runs, is, sym same) h)

@@ -11,7 +11,7 @@ use Rattle.tmpl_meaning.specs.Meaning.{Fault, Rules, ran}
 use Rattle.tmpl_tool.specs.Outcome.{Answer}
 use Rattle.tmpl_tool.specs.Tool.{answer_of, unnamed}
 use Rattle.tmpl_tool.specs.Source.{Bytes}
-use Rattle.tmpl_c.specs.Filled.{Fills, Seen, fits, limited}
+use Rattle.tmpl_c.specs.Filled.{Fills, Seen, fits, limit_text}
 use Rattle.tmpl_c.specs.Held.{Replaces, held_answer}
 use Rattle.tmpl_c.specs.Laws.{HasDefaults, HoldsFront, HoldsWhole, IsTextStatus, KeepsLimit, ReplacesAsOffered}
 use Rattle.tmpl_c.specs.Laws.{TextHasStatus, TextHoldsFront, TextHoldsWhole}
@@ -44,8 +44,8 @@ keeps_limit most a limits = by (leb (length a.text) most) refl
     any : eqb most 0 ≡ false
     any = ne_eqb most 0 limits
 
-    by : (fit : Bool) → leb (length a.text) most ≡ fit → ((limited most a).text ≡ take most a.text)
-        × (length a.text ≤ most → limited most a ≡ a) × (most < length a.text → (limited most a).status ≡ 6)
+    by : (fit : Bool) → leb (length a.text) most ≡ fit → ((limit_text most a).text ≡ take most a.text)
+        × (length a.text ≤ most → limit_text most a ≡ a) × (most < length a.text → (limit_text most a).status ≡ 6)
     by true w = let h = leb-true (length a.text) most w in
         (rw (any, w) (sym (take_all most a.text h)), λ fits. rw (any, w) refl, λ more. absurd (omega (arith, h, more)))
     by false w = let h = leb-false (length a.text) most w in
@@ -69,10 +69,10 @@ answer_status most rules set name value None = inr (inr (inl refl))
 answer_status most rules set name value (Some tree) = fault_status most (ran rules set name tree value).fault
 
 -- an answer under a limit has its status, or that of a text that does not fit
-limited_status : (most : ℕ) (a : Answer) → IsTextStatus most a.status → IsTextStatus most (limited most a).status
+limited_status : (most : ℕ) (a : Answer) → IsTextStatus most a.status → IsTextStatus most (limit_text most a).status
 limited_status most a h = by (eqb most 0) refl (leb (length a.text) most) refl
   where
-    by : (none : Bool) → eqb most 0 ≡ none → (fit : Bool) → leb (length a.text) most ≡ fit → IsTextStatus most (limited most a).status
+    by : (none : Bool) → eqb most 0 ≡ none → (fit : Bool) → leb (length a.text) most ≡ fit → IsTextStatus most (limit_text most a).status
     by true e fit w = rw e h
     by false e true w = rw (e, w) h
     by false e false w = rw (e, w) (inr (inr (inr (inr (refl, eqb-false most 0 e)))))

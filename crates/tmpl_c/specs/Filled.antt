@@ -1,4 +1,4 @@
--- What is seen of the lent memory and the status, where a call ends.
+-- What is buffer_seen of the lent memory and the status, where a call ends.
 use Rattle.std.specs.Prelude.{◌≡◌, ◌⊎◌, ◌++◌, ◌||◌, ℕ, Bool, eqb, leb, length, take, if◌then◌else◌}
 use Rattle.tmpl_tool.specs.Outcome.{Answer, memory_line, write_line}
 use Rattle.tmpl_tool.specs.Source.{Bytes}
@@ -6,8 +6,8 @@ use Rattle.tmpl_c.specs.declared.buffer.Buffer.{Buffer}
 
 -- an answer of whose text this many bytes are put out at most, or all for 0: where it has more, those that come first,
 -- with the line and the status of a write that failed
-abbrev pub limited : ℕ → Answer → Answer
-limited most a = if eqb most 0 || leb (length a.text) most then a
+abbrev pub limit_text : ℕ → Answer → Answer
+limit_text most a = if eqb most 0 || leb (length a.text) most then a
     else record a { text = take most a.text; line = write_line; status = 6 }
 
 -- memory, how many bytes of it hold output, and how many the output has
@@ -16,8 +16,8 @@ pub record Seen : Type 0 where
   pub taken : ℕ
   pub needed : ℕ
 
-abbrev pub seen : Buffer → Seen
-seen b = record { memory = b.bytes.now; taken = b.taken; needed = b.needed }
+abbrev pub buffer_seen : Buffer → Seen
+buffer_seen b = record { memory = b.bytes.now; taken = b.taken; needed = b.needed }
 
 abbrev pub room : Buffer → ℕ
 room b = length b.bytes.now

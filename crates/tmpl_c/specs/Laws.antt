@@ -13,7 +13,7 @@ use Rattle.tmpl_tool.specs.Source.{Bytes, Files}
 use Rattle.tmpl_tool.specs.Tool.{Parse, Early, asked_by, asked_name, bad_words, flawed, no_read, printed, refused}
 use Rattle.tmpl_tool.specs.Tool.{run_answer, stop_answer, tool_answer, unnamed}
 use Rattle.tmpl_tool.specs.Words.{Wanted, wanted_in}
-use Rattle.tmpl_c.specs.Filled.{Rendered, Seen, limited}
+use Rattle.tmpl_c.specs.Filled.{Rendered, Seen, limit_text}
 use Rattle.tmpl_c.specs.Held.{Keeps, Replaces, held_answer}
 use Rattle.tmpl_c.specs.Lent.{data_lent, each_added, lent_answer, render_answer, rules_in, with_lent}
 use Rattle.tmpl_c.specs.Texts.{Holds}
@@ -148,13 +148,13 @@ HoldsFront = (a : Answer) (room line_room : ℕ) (out err : Seen) (code : ℕ) �
 -- settings of all zeros are the options of a command whose words name none, and a limit of 0 is none
 abbrev pub HasDefaults : Type 0
 HasDefaults = ((s : Settings) → s.steps ≡ 0 → s.depth ≡ 0 → s.missing_key ≡ 0 → rules_in s ≡ (wanted_in []).rules)
-    × ((a : Answer) → limited 0 a ≡ a)
+    × ((a : Answer) → limit_text 0 a ≡ a)
 
 -- under any other limit the text is the bytes up to it; the answer is as without it where the text is within it, and else
 -- its status is that of a text that does not fit
 abbrev pub KeepsLimit : Type 0
-KeepsLimit = (most : ℕ) (a : Answer) → most ≢ 0 → ((limited most a).text ≡ take most a.text)
-    × (length a.text ≤ most → limited most a ≡ a) × (most < length a.text → (limited most a).status ≡ 6)
+KeepsLimit = (most : ℕ) (a : Answer) → most ≢ 0 → ((limit_text most a).text ≡ take most a.text)
+    × (length a.text ≤ most → limit_text most a ≡ a) × (most < length a.text → (limit_text most a).status ≡ 6)
 
 -- with status 0 text and line are the whole ones of the answer, and that is its status
 abbrev pub TextHoldsWhole : Type 0
@@ -174,7 +174,7 @@ IsTextStatus most code = (code ≡ 0) ⊎ ((code ≡ 1) ⊎ ((code ≡ 4) ⊎ ((
 abbrev pub TextHasStatus : Type 0
 TextHasStatus = (most : ℕ) (rules : Rules) (set : List Template) (name : Bytes) (value : Option Value)
     → (text line : Bytes) (code : ℕ)
-    → Holds (limited most (held_answer rules false set name value)) text line code → IsTextStatus most code
+    → Holds (limit_text most (held_answer rules false set name value)) text line code → IsTextStatus most code
 
 -- with status 0 a handle has what was offered, and else what it had
 abbrev pub ReplacesAsOffered : Type 0

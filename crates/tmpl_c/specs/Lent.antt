@@ -9,7 +9,7 @@ use Rattle.tmpl_meaning.specs.declared.missing_key.MissingKey.{MissingKey}
 use Rattle.tmpl_meaning.specs.declared.missing_key.MissingKey.TheVariants.{Default, Invalid, Zero, Error}
 use Rattle.tmpl_tool.specs.Outcome.{Answer}
 use Rattle.tmpl_tool.specs.Source.{Bytes}
-use Rattle.tmpl_tool.specs.Tool.{Parse, Early, added, answer_of, bad_words, data_in, named_run, printed}
+use Rattle.tmpl_tool.specs.Tool.{Parse, Early, add_file, answer_of, bad_words, data_in, named_run, printed}
 use Rattle.tmpl_values.specs.Stage.{and_then}
 use Rattle.tmpl_tool.specs.Tool.{stop_if}
 use Rattle.tmpl_c.specs.declared.lent.File.{File}
@@ -44,7 +44,7 @@ rules_in s = record {
 
 -- the set with the templates of one more file, whose name has to be a text
 abbrev pub with_lent : Parse → List Template → Bytes × Bytes → Result (List Template) Early
-with_lent parse set f = and_then (stop_if (not (is_utf8 f.0)) bad_words) (λ u. added parse set f.0 f.1)
+with_lent parse set f = and_then (stop_if (not (is_utf8 f.0)) bad_words) (λ u. add_file parse set f.0 f.1)
 
 -- each file in turn
 abbrev pub each_added : Parse → List Template → List (Bytes × Bytes) → Result (List Template) Early

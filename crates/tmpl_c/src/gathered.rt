@@ -1,6 +1,6 @@
 //! Output that is gathered before it goes to the caller.
 ghost use Rattle.std.specs.Prelude.{◌≡◌};
-ghost use Rattle.tmpl_c.specs.computed.Gathering.{told_of, untouched};
+ghost use Rattle.tmpl_c.specs.computed.Gathering.{told_of, nothing_put};
 
 use std::alloc::Global;
 use tmpl_run::{Sink, SinkFault};
@@ -27,7 +27,7 @@ impl Gathered {
     /// Nothing yet. It takes no more than one byte past the limit, by which one sees that there are more; any number
     /// where the limit is 0.
     pub(crate) fn new(alloc: Global, limit: usize) -> Gathered
-        ensures { told_of result ≡ untouched }
+        ensures { told_of result ≡ nothing_put }
     {
         Gathered {
             bytes: Vec::new(alloc),
@@ -38,7 +38,7 @@ impl Gathered {
 
     /// Has nothing again, and this limit.
     pub(crate) fn empty(&mut self, limit: usize)
-        ensures { told_of self.new ≡ untouched }
+        ensures { told_of self.new ≡ nothing_put }
     {
         self.bytes.clear();
         self.most = most_for(limit);

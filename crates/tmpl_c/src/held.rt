@@ -4,11 +4,11 @@ ghost use Rattle.tmpl_values.specs.View.{value_of};
 ghost use Rattle.tmpl_meaning.specs.Sink.{sunk};
 ghost use Rattle.tmpl_tool.specs.Outcome.{Outcome};
 ghost use Rattle.tmpl_tool.specs.Tool.{printed, stop_answer};
-ghost use Rattle.tmpl_c.specs.Filled.{limited};
+ghost use Rattle.tmpl_c.specs.Filled.{limit_text};
 ghost use Rattle.tmpl_c.specs.Held.{templates_in, templates_run, value_in};
 ghost use Rattle.tmpl_c.specs.Texts.{Holds, bytes_in};
 ghost use Rattle.tmpl_c.specs.computed.Extents.{IsFilled, answer_by, run_by, templates_lent};
-ghost use Rattle.tmpl_c.specs.computed.Gathering.{told_of, untouched};
+ghost use Rattle.tmpl_c.specs.computed.Gathering.{told_of, nothing_put};
 
 use crate::data_handle::DataHandle;
 use crate::gathered::Gathered;
@@ -32,7 +32,7 @@ fn render_with(
     out: &mut [u8],
     err: &mut [u8],
 ) -> Filled
-    ensures outcome { IsFilled (limited settings.now.output
+    ensures outcome { IsFilled (limit_text settings.now.output
         (answer_by settings.now (templates_in set.old.held) name.now (option_map (λ d. value_of d.now) «data».entry)))
         out.old out.new err.old err.new result }
     ensures set { set.new.held ≡ set.old.held }
@@ -65,7 +65,7 @@ pub(crate) fn render(
     out: &mut [u8],
     err: &mut [u8],
 ) -> Filled
-    ensures outcome { IsFilled (limited settings.now.output
+    ensures outcome { IsFilled (limit_text settings.now.output
         (answer_by settings.now (templates_in set.old.held) name.now (value_in «data».old.held)))
         out.old out.new err.old err.new result }
     ensures set { set.new.held ≡ set.old.held }
@@ -174,7 +174,7 @@ pub(crate) fn render_program(
     out: &mut [u8],
     err: &mut [u8],
 ) -> Filled
-    ensures outcome { IsFilled (limited settings.now.output
+    ensures outcome { IsFilled (limit_text settings.now.output
         (run_by settings.now (templates_run program.old.held) name.now (value_in «data».old.held)))
         out.old out.new err.old err.new result }
     ensures program { program.new.held ≡ program.old.held }
@@ -196,8 +196,8 @@ fn gather(
     out: &mut Gathered,
     err: &mut Gathered,
 ) -> u8
-    requires empty { (told_of out.old ≡ untouched) × (told_of err.old ≡ untouched) }
-    ensures outcome { Holds (limited settings.now.output
+    requires empty { (told_of out.old ≡ nothing_put) × (told_of err.old ≡ nothing_put) }
+    ensures outcome { Holds (limit_text settings.now.output
         (run_by settings.now (templates_run program.old.held) name.now (value_in «data».old.held)))
         out.new.bytes.items err.new.bytes.items result }
     ensures program { program.new.held ≡ program.old.held }
@@ -217,7 +217,7 @@ pub(crate) fn render_text(
     text: &mut Text,
     line: &mut Text,
 ) -> u8
-    ensures outcome { Holds (limited settings.now.output
+    ensures outcome { Holds (limit_text settings.now.output
         (run_by settings.now (templates_run program.old.held) name.now (value_in «data».old.held)))
         (bytes_in text.new.held) (bytes_in line.new.held) result }
     ensures program { program.new.held ≡ program.old.held }
@@ -257,7 +257,7 @@ fn print_kept(alloc: Global, set: &mut SetHandle, out: &mut Gathered, err: &mut 
 
 /// Prints a set to a sink that holds nothing yet.
 fn gather_printed(alloc: Global, set: &mut SetHandle, out: &mut Gathered) -> u8
-    requires empty { told_of out.old ≡ untouched }
+    requires empty { told_of out.old ≡ nothing_put }
     ensures outcome { Holds (stop_answer (printed (templates_in set.old.held))) out.new.bytes.items [] result }
     ensures set { set.new.held ≡ set.old.held }
 {

@@ -5,7 +5,7 @@
 ghost use Rattle.std.specs.Prelude.{◌≡◌, [], None, codes, eqb, false};
 ghost use Rattle.tmpl_tool.specs.Tool.{IsParse, Parse, printed, stop_answer};
 ghost use Rattle.tmpl_c.specs.Checked.{Checks};
-ghost use Rattle.tmpl_c.specs.Filled.{Rendered, limited, room, seen};
+ghost use Rattle.tmpl_c.specs.Filled.{Rendered, limit_text, room, buffer_seen};
 ghost use Rattle.tmpl_c.specs.Held.{Keeps, Replaces, held_answer, templates_in, templates_run, value_in};
 ghost use Rattle.tmpl_c.specs.Lent.{data_lent, pair_of, pairs_of, render_answer, rules_in, with_lent};
 ghost use Rattle.tmpl_c.specs.Texts.{Holds, bytes_in};
@@ -64,9 +64,9 @@ pub extern "C" fn keyed_render(
     out: &mut Buffer<'_>,
     err: &mut Buffer<'_>,
 ) -> u8
-    ensures outcome { (parse : Parse) → IsParse parse → Rendered (limited settings.now.output
+    ensures outcome { (parse : Parse) → IsParse parse → Rendered (limit_text settings.now.output
         (render_answer parse (rules_in settings.now) (eqb settings.now.print 1) (pairs_of files.now) name.now input.now))
-        (room out.old) (seen out.new) (room err.old) (seen err.new) result }
+        (room out.old) (buffer_seen out.new) (room err.old) (buffer_seen err.new) result }
     ensures lent { (out.new.bytes.ghost_name ≡ out.old.bytes.ghost_name)
         × (err.new.bytes.ghost_name ≡ err.old.bytes.ghost_name) }
 {
@@ -108,7 +108,7 @@ pub extern "C" fn keyed_set_add(
     err: &mut Buffer<'_>,
 ) -> u8
     ensures outcome { (parse : Parse) → IsParse parse → Keeps (with_lent parse (templates_in set.old.held) (pair_of file.now))
-        (templates_in set.old.held) (templates_in set.new.held) (room err.old) (seen err.new) result }
+        (templates_in set.old.held) (templates_in set.new.held) (room err.old) (buffer_seen err.new) result }
     ensures lent { err.new.bytes.ghost_name ≡ err.old.bytes.ghost_name }
 {
     let said = keep::add(alloc, keys.hash(), set, file, err.bytes);
@@ -135,7 +135,7 @@ pub extern "C" fn tmpl_data_read(
     err: &mut Buffer<'_>,
 ) -> u8
     ensures outcome { Keeps (data_lent (codes "data") input.now) (value_in kept.old.held) (value_in kept.new.held)
-        (room err.old) (seen err.new) result }
+        (room err.old) (buffer_seen err.new) result }
     ensures lent { err.new.bytes.ghost_name ≡ err.old.bytes.ghost_name }
 {
     let said = keep::read(alloc, kept, input, err.bytes);
@@ -174,10 +174,10 @@ pub extern "C" fn tmpl_render_set(
     out: &mut Buffer<'_>,
     err: &mut Buffer<'_>,
 ) -> u8
-    ensures outcome { Rendered (limited settings.now.output
+    ensures outcome { Rendered (limit_text settings.now.output
         (held_answer (rules_in settings.now) (eqb settings.now.print 1) (templates_in set.old.held) name.now
         (value_in kept.old.held)))
-        (room out.old) (seen out.new) (room err.old) (seen err.new) result }
+        (room out.old) (buffer_seen out.new) (room err.old) (buffer_seen err.new) result }
     ensures lent { (out.new.bytes.ghost_name ≡ out.old.bytes.ghost_name)
         × (err.new.bytes.ghost_name ≡ err.old.bytes.ghost_name) }
     ensures set { set.new.held ≡ set.old.held }
@@ -251,9 +251,9 @@ pub extern "C" fn tmpl_render_program(
     out: &mut Buffer<'_>,
     err: &mut Buffer<'_>,
 ) -> u8
-    ensures outcome { Rendered (limited settings.now.output
+    ensures outcome { Rendered (limit_text settings.now.output
         (held_answer (rules_in settings.now) false (templates_run program.old.held) name.now (value_in kept.old.held)))
-        (room out.old) (seen out.new) (room err.old) (seen err.new) result }
+        (room out.old) (buffer_seen out.new) (room err.old) (buffer_seen err.new) result }
     ensures lent { (out.new.bytes.ghost_name ≡ out.old.bytes.ghost_name)
         × (err.new.bytes.ghost_name ≡ err.old.bytes.ghost_name) }
     ensures program { program.new.held ≡ program.old.held }
@@ -279,7 +279,7 @@ pub extern "C" fn tmpl_render_text(
     text: &mut Text,
     line: &mut Text,
 ) -> u8
-    ensures outcome { Holds (limited settings.now.output
+    ensures outcome { Holds (limit_text settings.now.output
         (held_answer (rules_in settings.now) false (templates_run program.old.held) name.now (value_in kept.old.held)))
         (bytes_in text.new.held) (bytes_in line.new.held) result }
     ensures program { program.new.held ≡ program.old.held }

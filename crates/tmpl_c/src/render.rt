@@ -7,11 +7,11 @@ ghost use Rattle.tmpl_engine.specs.Prepared.{IsPrepared};
 ghost use Rattle.tmpl_engine.specs.View.{templates_of};
 ghost use Rattle.tmpl_tool.specs.Outcome.{Answer, Outcome, memory_line, write_line};
 ghost use Rattle.tmpl_tool.specs.Tool.{IsParse, Parse, answer_of, named_run};
-ghost use Rattle.tmpl_c.specs.Filled.{Fills, limited};
+ghost use Rattle.tmpl_c.specs.Filled.{Fills, limit_text};
 ghost use Rattle.tmpl_c.specs.Lent.{pairs_of, render_answer, rules_in};
 ghost use Rattle.tmpl_c.specs.Texts.{Holds};
 ghost use Rattle.tmpl_c.specs.computed.Extents.{IsFilled, answer_by, extent_seen};
-ghost use Rattle.tmpl_c.specs.computed.Gathering.{told_of, untouched};
+ghost use Rattle.tmpl_c.specs.computed.Gathering.{told_of, nothing_put};
 
 use crate::gathered::Gathered;
 use crate::lent::File;
@@ -131,8 +131,8 @@ fn say_limit(line: &mut Gathered) -> u8
 /// The status of a render whose text and line are gathered, and which may put out this many bytes: a text that is longer
 /// is cut. There is no line where memory was refused.
 pub(crate) fn settle(limit: usize, code: u8, text: &mut Gathered, line: &mut Gathered) -> u8
-    ensures { (a : Answer) → Outcome a (sunk untouched (told_of text.old)) (sunk untouched (told_of line.old)) code
-        → Holds (limited limit a) text.new.bytes.items line.new.bytes.items result }
+    ensures { (a : Answer) → Outcome a (sunk nothing_put (told_of text.old)) (sunk nothing_put (told_of line.old)) code
+        → Holds (limit_text limit a) text.new.bytes.items line.new.bytes.items result }
 {
     if !fits(limit, text.bytes.len()) {
         text.bytes.truncate(limit);
@@ -207,8 +207,8 @@ pub(crate) fn finish(
     out: &mut [u8],
     err: &mut [u8],
 ) -> Filled
-    ensures { (a : Answer) → Outcome a (sunk untouched (told_of text)) (sunk untouched (told_of line)) code
-        → IsFilled (limited limit a) out.old out.new err.old err.new result }
+    ensures { (a : Answer) → Outcome a (sunk nothing_put (told_of text)) (sunk nothing_put (told_of line)) code
+        → IsFilled (limit_text limit a) out.old out.new err.old err.new result }
 {
     let status = settle(limit, code, &mut text, &mut line);
     hand_over(
@@ -231,7 +231,7 @@ pub(crate) fn fill(
     out: &mut [u8],
     err: &mut [u8],
 ) -> Filled
-    ensures { (parse : Parse) → IsParse parse → IsFilled (limited settings.now.output
+    ensures { (parse : Parse) → IsParse parse → IsFilled (limit_text settings.now.output
         (render_answer parse (rules_in settings.now) (eqb settings.now.print 1) (pairs_of files.now) name.now input.now))
         out.old out.new err.old err.new result }
 {
@@ -277,7 +277,7 @@ pub(crate) fn fill_held(
     out: &mut [u8],
     err: &mut [u8],
 ) -> Filled
-    ensures outcome { IsFilled (limited settings.now.output
+    ensures outcome { IsFilled (limit_text settings.now.output
         (answer_by settings.now (templates_of engine.old) name.now (option_map (λ d. value_of d.now) «data».entry)))
         out.old out.new err.old err.new result }
     ensures same { engine.new ≡ engine.old }

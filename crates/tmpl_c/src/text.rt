@@ -3,7 +3,7 @@ ghost use Rattle.std.specs.Prelude.{◌≡◌, [], IfSome, option_map};
 ghost use Rattle.std.specs.declared.option.Option.TheVariants.{None, Some};
 ghost use Rattle.std.proofs.Props.{props};
 ghost use Rattle.tmpl_c.specs.Texts.{IsShown, bytes_in};
-ghost use Rattle.tmpl_c.specs.computed.Gathering.{told_of, untouched};
+ghost use Rattle.tmpl_c.specs.computed.Gathering.{told_of, nothing_put};
 
 use crate::address::Address;
 use crate::gathered::Gathered;
@@ -75,7 +75,7 @@ impl Text {
     /// Takes out its memory, with nothing in it, or new memory, for a text of this limit. There is none where memory is
     /// refused.
     pub(crate) fn take_empty(&mut self, alloc: Global, limit: usize) -> Option<Box<Gathered>>
-        ensures empty { IfSome result (λ b. told_of b.value ≡ untouched) }
+        ensures empty { IfSome result (λ b. told_of b.value ≡ nothing_put) }
         ensures left { bytes_in self.new.held ≡ [] }
     {
         match self.take(alloc) {

@@ -1,6 +1,6 @@
 -- When a program is one of its set.
 use Rattle.std.specs.Prelude.{◌≡◌, ℕ, ◌+◌, ◌*◌, IfSome, get_or, map}
-use Rattle.tmpl_syntax.specs.Set.{outlined}
+use Rattle.tmpl_syntax.specs.Set.{without_nodes}
 use Rattle.tmpl_syntax.specs.View.{set_view}
 use Rattle.tmpl_code.specs.Code.{Starts}
 use Rattle.tmpl_code.specs.MakesText.{set_makes_text}
@@ -17,7 +17,7 @@ IsLinked p =
 
 -- it has the names and files of the templates
 abbrev pub IsOutline : Parts → Type 0
-IsOutline p = set_view p.outline ≡ map outlined (set_view p.set.value)
+IsOutline p = set_view p.outline ≡ map without_nodes (set_view p.set.value)
 
 -- what holds of every program
 pub record IsCompiled (p : Inside) : Type 0 where

@@ -58,7 +58,7 @@ impl CallGraph {
 }
 
 /// The edges in the other direction.
-pub(crate) fn reversed(alloc: Global, edges: &[Edge]) -> Result<Vec<Edge>, AllocError> {
+pub(crate) fn reverse(alloc: Global, edges: &[Edge]) -> Result<Vec<Edge>, AllocError> {
     let mut reversed = Vec::with_capacity(alloc, edges.len())?;
     for edge in edges {
         reversed.push(Edge {

@@ -3,7 +3,7 @@
 //!
 //! A template that calls none on a cycle has no allowance; every other one has the largest need on a cycle for each call
 //! level. A weight is what a template and its heaviest callee need beyond that.
-use crate::call_graph::{CallGraph, Edge, reversed, topological_order};
+use crate::call_graph::{CallGraph, Edge, reverse, topological_order};
 use crate::claims::Claims;
 use crate::instruction::Instruction;
 use crate::numbers::{at, put, repeat};
@@ -56,7 +56,7 @@ pub(crate) fn guess_weights(
 
 /// The order of this many templates by their calls.
 fn order_by(alloc: Global, count: usize, calls: &[Edge]) -> Result<Order, AllocError> {
-    let callers = reversed(alloc, calls)?;
+    let callers = reverse(alloc, calls)?;
     let called = CallGraph::new(alloc, count, calls)?;
     let calling = CallGraph::new(alloc, count, callers.as_slice())?;
     let below = topological_order(alloc, count, calls, &calling)?;

@@ -4,10 +4,10 @@ use Rattle.std.specs.declared.io.Error.{Error}
 use Rattle.tmpl_meaning.specs.declared.sink.SinkFault.{SinkFault}
 
 -- how many bytes a write took: one that took none failed, as one that the system refused
-abbrev pub taken : Result ℕ Error → Result ℕ SinkFault
-taken (Ok zero) = Err (record {})
-taken (Ok (suc n)) = Ok (suc n)
-taken (Err e) = Err (record {})
+abbrev pub write_result : Result ℕ Error → Result ℕ SinkFault
+write_result (Ok zero) = Err (record {})
+write_result (Ok (suc n)) = Ok (suc n)
+write_result (Err e) = Err (record {})
 
 -- the bytes that a writer holds, where its sink tells them
 abbrev pub known_if : Bool → Option (List ℕ) → Option (List ℕ)

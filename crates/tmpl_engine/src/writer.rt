@@ -1,7 +1,7 @@
 //! A writer, such as standard output, as a sink.
 ghost use Rattle.std.specs.Prelude.{◌≡◌, true, None};
 ghost use Rattle.std.specs.Io.KnownBytes.{Keeps};
-ghost use Rattle.tmpl_engine.specs.Writer.{known_if, taken};
+ghost use Rattle.tmpl_engine.specs.Writer.{known_if, write_result};
 ghost use Rattle.std.specs.Option.{is_some};
 
 use std::io::{self, Write};
@@ -64,7 +64,7 @@ impl<W: Write + Drop> Sink for WriterSink<W> {
     ghost so_far = { λ s. record { bytes = known_if s.tells (W.contents s.writer); failures = s.failures } };
 
     fn put(&mut self, bytes: &[u8]) -> Result<usize, SinkFault> {
-        let taken = taken(self.writer.write(bytes));
+        let taken = bytes_taken(self.writer.write(bytes));
         if taken.is_err() {
             self.failures += 1;
         }
@@ -73,8 +73,8 @@ impl<W: Write + Drop> Sink for WriterSink<W> {
 }
 
 /// How many bytes a write took; that it took none is a failure.
-fn taken(written: io::Result<usize>) -> Result<usize, SinkFault>
-    ensures { result ≡ taken written }
+fn bytes_taken(written: io::Result<usize>) -> Result<usize, SinkFault>
+    ensures { result ≡ write_result written }
 {
     match written {
         Ok(0) | Err(_) => Err(SinkFault),

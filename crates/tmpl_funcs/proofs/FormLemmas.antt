@@ -11,7 +11,7 @@ use Rattle.tmpl_funcs.specs.computed.Scan.{verb_of, form_at, verb_after}
 use Rattle.tmpl_funcs.specs.computed.OneReading.{letter-verb_of}
 use Rattle.tmpl_funcs.specs.printf.Spelling.{form_bytes}
 use Rattle.tmpl_funcs.specs.computed.View.{form_seen}
-use Rattle.tmpl_funcs.specs.computed.Reading.{form_if, form_by, pointed, width_after, precision_after, IsRead}
+use Rattle.tmpl_funcs.specs.computed.Reading.{form_if, form_by, precision_text, width_after, precision_after, IsRead}
 use Rattle.tmpl_funcs.specs.declared.printf.form.Form.{Form}
 
 -- the same reading of the same bytes
@@ -23,14 +23,14 @@ IsRead-along {asked} {asked'} {all} {all'} read h e w =
 module _ (flags width : List ℕ) (p : Option (List ℕ)) (b : ℕ) (bs : List ℕ) (v : ℕ) (form : Form) (is : v ≡ b) where
   form_if-made : (t : Bool) → Some (form_seen form) ≡ option_map form_of (form_if t flags width p v)
       → (x : WrittenForm) × (form_if t flags width p v ≡ Some x) × (form_seen form ≡ form_of x)
-      × (flags ++ (width ++ (pointed p ++ b ∷ bs)) ≡ form_bytes x ++ bs)
+      × (flags ++ (width ++ (precision_text p ++ b ∷ bs)) ≡ form_bytes x ++ bs)
   form_if-made true h =
       let x : WrittenForm = record { flags = flags; width = width; precision = p; verb = v } in
       let same : form_seen form ≡ form_of x = cc in (
         x,
         refl,
         same,
-        sym (simp append_assoc (ap (λ c. flags ++ (width ++ (pointed p ++ c ∷ bs))) is)),
+        sym (simp append_assoc (ap (λ c. flags ++ (width ++ (precision_text p ++ c ∷ bs))) is)),
       )
   form_if-made false h = cc
 
@@ -39,7 +39,7 @@ pub verb_after-read : (flags width : List ℕ) (p : Option (List ℕ)) (bytes : 
     → verb_of (get_or bytes 0 0) ≡ Some v
     → Some (form_seen form) ≡ option_map form_of (form_by flags width p (Some v))
     → (x : WrittenForm) × (verb_after flags width p bytes ≡ Some x) × (form_seen form ≡ form_of x) ×
-    (flags ++ (width ++ (pointed p ++ bytes)) ≡ form_bytes x ++ take (length bytes - 1) (drop 1 bytes))
+    (flags ++ (width ++ (precision_text p ++ bytes)) ≡ form_bytes x ++ take (length bytes - 1) (drop 1 bytes))
 verb_after-read flags width p [] v form h e m = absurd (omega arith)
 verb_after-read flags width p (b ∷ bs) v form h e m =
     let made = form_if-made flags width p b bs v form (letter-verb_of b v e).0 _ m in

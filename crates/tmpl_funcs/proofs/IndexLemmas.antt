@@ -7,7 +7,7 @@ use Rattle.tmpl_values.specs.Value.{Value, Items}
 use Rattle.tmpl_values.specs.View.{value_of, items_of}
 use Rattle.tmpl_values.proofs.ItemLemmas.{nth_item-of, nth_item-past}
 use Rattle.tmpl_funcs.specs.computed.Answer.{IsAnswer}
-use Rattle.tmpl_values.specs.Elements.{listed}
+use Rattle.tmpl_values.specs.Elements.{values_of_items}
 use Rattle.tmpl_funcs.specs.Index.{found_at}
 use Rattle.tmpl_funcs.specs.computed.Index.{place_among, place_if}
 use Rattle.tmpl_funcs.specs.declared.fault.CallFault.{CallFault}
@@ -15,7 +15,7 @@ use Rattle.tmpl_funcs.specs.declared.fault.CallFault.TheVariants.{WrongKind, Out
 
 -- the item at a place
 abbrev pub item_of : Items → Option ℤ → Result Value CallFault
-item_of vs = found_at (slice_get (listed vs))
+item_of vs = found_at (slice_get (values_of_items vs))
 
 -- a place that was found is named by a number, and within
 pub record IsPlace (p : Option ℤ) (n i : ℕ) : Type 0 where

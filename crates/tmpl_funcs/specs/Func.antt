@@ -10,12 +10,12 @@ use Rattle.tmpl_values.specs.Item.{size_of}
 use Rattle.tmpl_values.specs.Text.{inner_text}
 use Rattle.tmpl_values.specs.Truth.{truth}
 use Rattle.tmpl_funcs.specs.Arguments.{Arguments, any, one, two, one_to_three, one_or_more, two_or_more, counts}
-use Rattle.tmpl_funcs.specs.Compare.{equal_to_one, at_most, compared}
+use Rattle.tmpl_funcs.specs.Compare.{equal_to_one, at_most, comparison_answer}
 use Rattle.tmpl_funcs.specs.Escape.{html_byte, query_byte}
 use Rattle.tmpl_funcs.specs.Index.{indexed_by}
-use Rattle.tmpl_funcs.specs.Join.{joined, as_text}
+use Rattle.tmpl_funcs.specs.Join.{join_operands, as_text}
 use Rattle.tmpl_funcs.specs.Junction.{deciding}
-use Rattle.tmpl_funcs.specs.Slice.{sliced}
+use Rattle.tmpl_funcs.specs.Slice.{slice_between}
 use Rattle.tmpl_funcs.specs.printf.Format.{printf_of}
 use Rattle.tmpl_funcs.specs.declared.fault.CallFault.TheVariants.{WrongKind}
 use Rattle.tmpl_funcs.specs.declared.func.Func.{Func}
@@ -46,19 +46,19 @@ row_of Or = row (codes "or") (one_or_more (λ v vs. Ok (deciding true v vs)))
 row_of Not = row (codes "not") (one (λ v. Ok (boolean (not (truth v)))))
 row_of Len = row (codes "len") (one (λ v. ok_or (option_map (λ n. number (pos n)) (size_of v)) WrongKind))
 row_of Index = row (codes "index") (one_or_more (λ v is. if is_nothing v then Err WrongKind else indexed_by v is))
-row_of Slice = row (codes "slice") (one_to_three sliced)
-row_of Print = text_row (codes "print") (any (λ vs. Ok (string (joined vs))))
+row_of Slice = row (codes "slice") (one_to_three slice_between)
+row_of Print = text_row (codes "print") (any (λ vs. Ok (string (join_operands vs))))
 row_of Println =
     text_row (codes "println") (any (λ vs. Ok (string (join_with_byte (byte " ") (map inner_text vs) ++ codes "\n"))))
 row_of Printf = text_row (codes "printf") (one_or_more printf_of)
-row_of Html = text_row (codes "html") (any (λ vs. Ok (string (flat_map html_byte (joined (map as_text vs))))))
-row_of Urlquery = text_row (codes "urlquery") (any (λ vs. Ok (string (flat_map query_byte (joined (map as_text vs))))))
-row_of Eq = row (codes "eq") (two_or_more (λ v w ws. compared (equal_to_one v (w ∷ ws))))
-row_of Ne = row (codes "ne") (two (λ v w. compared (option_map not (equality v w))))
-row_of Lt = row (codes "lt") (two (λ v w. compared (order v w)))
-row_of Le = row (codes "le") (two (λ v w. compared (at_most v w)))
-row_of Gt = row (codes "gt") (two (λ v w. compared (option_map not (at_most v w))))
-row_of Ge = row (codes "ge") (two (λ v w. compared (option_map not (order v w))))
+row_of Html = text_row (codes "html") (any (λ vs. Ok (string (flat_map html_byte (join_operands (map as_text vs))))))
+row_of Urlquery = text_row (codes "urlquery") (any (λ vs. Ok (string (flat_map query_byte (join_operands (map as_text vs))))))
+row_of Eq = row (codes "eq") (two_or_more (λ v w ws. comparison_answer (equal_to_one v (w ∷ ws))))
+row_of Ne = row (codes "ne") (two (λ v w. comparison_answer (option_map not (equality v w))))
+row_of Lt = row (codes "lt") (two (λ v w. comparison_answer (order v w)))
+row_of Le = row (codes "le") (two (λ v w. comparison_answer (at_most v w)))
+row_of Gt = row (codes "gt") (two (λ v w. comparison_answer (option_map not (at_most v w))))
+row_of Ge = row (codes "ge") (two (λ v w. comparison_answer (option_map not (order v w))))
 
 -- the name of a function
 abbrev pub name_of : Func → List ℕ

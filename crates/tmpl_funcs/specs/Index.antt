@@ -3,7 +3,7 @@
 use Rattle.std.specs.Prelude.{ℕ, ℤ, pos, negsuc, List, [], ◌∷◌, slice_get, option_map, Option, Some, None}
 use Rattle.std.specs.Prelude.{Result, Ok, Err, ok_or, unwrap_or}
 use Rattle.tmpl_values.specs.Value.{Value, null, number, string, sequence, mapping}
-use Rattle.tmpl_values.specs.Elements.{listed}
+use Rattle.tmpl_values.specs.Elements.{values_of_items}
 use Rattle.tmpl_values.specs.Field.{entry_at}
 use Rattle.tmpl_values.specs.Item.{bytes_of}
 use Rattle.tmpl_values.specs.Stage.{and_then}
@@ -23,13 +23,13 @@ found_at found (Some (negsuc i)) = Err OutOfRange
 
 -- a value at one index: a byte of a string as a number, an item of a sequence, and of a mapping the entry of a key,
 -- which is a string, or null where there is none
-abbrev pub indexed : Value → Value → Result Value CallFault
-indexed (string s) i = found_at (λ k. option_map (λ b. number (pos b)) (slice_get s k)) (number_of i)
-indexed (sequence vs) i = found_at (slice_get (listed vs)) (number_of i)
-indexed (mapping es) i = ok_or (option_map (λ k. unwrap_or (entry_at k es) null) (bytes_of i)) WrongKind
-indexed _ i = Err WrongKind
+abbrev pub element_at : Value → Value → Result Value CallFault
+element_at (string s) i = found_at (λ k. option_map (λ b. number (pos b)) (slice_get s k)) (number_of i)
+element_at (sequence vs) i = found_at (slice_get (values_of_items vs)) (number_of i)
+element_at (mapping es) i = ok_or (option_map (λ k. unwrap_or (entry_at k es) null) (bytes_of i)) WrongKind
+element_at _ i = Err WrongKind
 
 -- a value at indexes, from left to right
 abbrev pub indexed_by : Value → List Value → Result Value CallFault
 indexed_by v [] = Ok v
-indexed_by v (i ∷ is) = and_then (indexed v i) (λ w. indexed_by w is)
+indexed_by v (i ∷ is) = and_then (element_at v i) (λ w. indexed_by w is)

@@ -10,11 +10,11 @@ use Rattle.tmpl_values.specs.Text.{inner_text}
 abbrev pub is_string : Value → Bool
 is_string v = is_some (bytes_of v)
 
--- the operands joined, with a space between two neighbours where neither is a string; nothing is `<nil>`
-abbrev pub joined : List Value → List ℕ
-joined [] = []
-joined (v ∷ []) = inner_text v
-joined (v ∷ w ∷ ws) = inner_text v ++ ((if is_string v || is_string w then [] else codes " ") ++ joined (w ∷ ws))
+-- the operands join_operands, with a space between two neighbours where neither is a string; nothing is `<nil>`
+abbrev pub join_operands : List Value → List ℕ
+join_operands [] = []
+join_operands (v ∷ []) = inner_text v
+join_operands (v ∷ w ∷ ws) = inner_text v ++ ((if is_string v || is_string w then [] else codes " ") ++ join_operands (w ∷ ws))
 
 -- a value in which nothing counts as the string `<no value>` (this project's own rule)
 abbrev pub as_text : Value → Value

@@ -1,7 +1,7 @@
 -- The laws of the table of functions and of formats.
 use Rattle.std.specs.Prelude.{◌≡◌, ℕ, false, List, length, Some, Err}
 use Rattle.tmpl_values.specs.Value.{Value}
-use Rattle.tmpl_funcs.specs.Dispatch.{called}
+use Rattle.tmpl_funcs.specs.Dispatch.{table_answer}
 use Rattle.tmpl_funcs.specs.Func.{takes}
 use Rattle.tmpl_funcs.specs.declared.func.Func.{Func}
 use Rattle.tmpl_funcs.specs.declared.fault.CallFault.TheVariants.{WrongCount}
@@ -12,7 +12,7 @@ use Rattle.tmpl_funcs.specs.computed.Scan.{segments_read}
 
 -- a number of arguments that a function does not take is refused before anything else
 abbrev pub CountsFirst : Type 0
-CountsFirst = (f : Func) (vs : List Value) → takes f (length vs) ≡ false → called f vs ≡ Err WrongCount
+CountsFirst = (f : Func) (vs : List Value) → takes f (length vs) ≡ false → table_answer f vs ≡ Err WrongCount
 
 -- what a format is read as is a reading
 abbrev pub ReadsSoundly : List ℕ → Type 0

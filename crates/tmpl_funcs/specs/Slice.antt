@@ -22,6 +22,6 @@ part v (Some n) (Some _) (Some _) = Err OutOfRange
 part v _ _ _ = Err WrongKind
 
 -- a value between two others; without them it begins at 0 and ends at its end
-abbrev pub sliced : Value → Option Value → Option Value → Result Value CallFault
-sliced v from to = part v (extent v) (option_map_or number_of from (Some (pos 0)))
+abbrev pub slice_between : Value → Option Value → Option Value → Result Value CallFault
+slice_between v from to = part v (extent v) (option_map_or number_of from (Some (pos 0)))
     (option_map_or number_of to (option_map pos (extent v)))

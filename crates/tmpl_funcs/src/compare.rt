@@ -5,7 +5,7 @@ ghost use Rattle.tmpl_values.specs.View.{val_of};
 ghost use Rattle.tmpl_funcs.specs.View.{values_of};
 ghost use Rattle.tmpl_funcs.specs.Answer.{IsBorrowed};
 ghost use Rattle.tmpl_funcs.specs.computed.Answer.{IsAnswer};
-ghost use Rattle.tmpl_funcs.specs.Dispatch.{called};
+ghost use Rattle.tmpl_funcs.specs.Dispatch.{table_answer};
 ghost use Rattle.tmpl_funcs.specs.declared.func.Func.{Func};
 ghost use Rattle.tmpl_funcs.specs.Compare.{at_most, equal_to_one};
 
@@ -15,7 +15,7 @@ use tmpl_values::{Cell, CompareFault, Val};
 /// Whether the first argument equals one of the others, compared in order up to the first equal
 /// one.
 pub(crate) fn eq<'a>(arguments: &[Cell<'a>]) -> Result<Val<'a>, CallFault>
-    ensures table { IsAnswer (called Func.Eq (values_of arguments.now)) result }
+    ensures table { IsAnswer (table_answer Func.Eq (values_of arguments.now)) result }
     ensures borrowed { IsBorrowed result }
 {
     match arguments {
@@ -38,7 +38,7 @@ fn equals_one(first: &Val<'_>, others: &[Cell<'_>]) -> Result<bool, CompareFault
 
 /// Whether the two arguments differ.
 pub(crate) fn ne<'a>(arguments: &[Cell<'a>]) -> Result<Val<'a>, CallFault>
-    ensures table { IsAnswer (called Func.Ne (values_of arguments.now)) result }
+    ensures table { IsAnswer (table_answer Func.Ne (values_of arguments.now)) result }
     ensures borrowed { IsBorrowed result }
 {
     match arguments {
@@ -49,7 +49,7 @@ pub(crate) fn ne<'a>(arguments: &[Cell<'a>]) -> Result<Val<'a>, CallFault>
 
 /// Whether the first of two arguments is below the second.
 pub(crate) fn lt<'a>(arguments: &[Cell<'a>]) -> Result<Val<'a>, CallFault>
-    ensures table { IsAnswer (called Func.Lt (values_of arguments.now)) result }
+    ensures table { IsAnswer (table_answer Func.Lt (values_of arguments.now)) result }
     ensures borrowed { IsBorrowed result }
 {
     match arguments {
@@ -60,7 +60,7 @@ pub(crate) fn lt<'a>(arguments: &[Cell<'a>]) -> Result<Val<'a>, CallFault>
 
 /// Whether the first of two arguments is below the second or equal to it.
 pub(crate) fn le<'a>(arguments: &[Cell<'a>]) -> Result<Val<'a>, CallFault>
-    ensures table { IsAnswer (called Func.Le (values_of arguments.now)) result }
+    ensures table { IsAnswer (table_answer Func.Le (values_of arguments.now)) result }
     ensures borrowed { IsBorrowed result }
 {
     match arguments {
@@ -71,7 +71,7 @@ pub(crate) fn le<'a>(arguments: &[Cell<'a>]) -> Result<Val<'a>, CallFault>
 
 /// Whether the first of two arguments is above the second.
 pub(crate) fn gt<'a>(arguments: &[Cell<'a>]) -> Result<Val<'a>, CallFault>
-    ensures table { IsAnswer (called Func.Gt (values_of arguments.now)) result }
+    ensures table { IsAnswer (table_answer Func.Gt (values_of arguments.now)) result }
     ensures borrowed { IsBorrowed result }
 {
     match arguments {
@@ -82,7 +82,7 @@ pub(crate) fn gt<'a>(arguments: &[Cell<'a>]) -> Result<Val<'a>, CallFault>
 
 /// Whether the first of two arguments is not below the second.
 pub(crate) fn ge<'a>(arguments: &[Cell<'a>]) -> Result<Val<'a>, CallFault>
-    ensures table { IsAnswer (called Func.Ge (values_of arguments.now)) result }
+    ensures table { IsAnswer (table_answer Func.Ge (values_of arguments.now)) result }
     ensures borrowed { IsBorrowed result }
 {
     match arguments {

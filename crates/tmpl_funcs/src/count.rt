@@ -7,7 +7,7 @@ ghost use Rattle.tmpl_values.specs.Item.{size_of};
 ghost use Rattle.tmpl_funcs.specs.View.{values_of};
 ghost use Rattle.tmpl_funcs.specs.Answer.{IsBorrowed};
 ghost use Rattle.tmpl_funcs.specs.computed.Answer.{IsAnswer};
-ghost use Rattle.tmpl_funcs.specs.Dispatch.{called};
+ghost use Rattle.tmpl_funcs.specs.Dispatch.{table_answer};
 ghost use Rattle.tmpl_funcs.specs.declared.func.Func.{Func};
 
 use crate::fault::CallFault;
@@ -15,7 +15,7 @@ use tmpl_values::{Cell, Val};
 
 /// Whether the one argument is empty.
 pub(crate) fn not<'a>(arguments: &[Cell<'a>]) -> Result<Val<'a>, CallFault>
-    ensures table { IsAnswer (called Func.Not (values_of arguments.now)) result }
+    ensures table { IsAnswer (table_answer Func.Not (values_of arguments.now)) result }
     ensures borrowed { IsBorrowed result }
 {
     match arguments {
@@ -26,7 +26,7 @@ pub(crate) fn not<'a>(arguments: &[Cell<'a>]) -> Result<Val<'a>, CallFault>
 
 /// How many bytes or items the one argument has.
 pub(crate) fn len<'a>(arguments: &[Cell<'a>]) -> Result<Val<'a>, CallFault>
-    ensures table { IsAnswer (called Func.Len (values_of arguments.now)) result }
+    ensures table { IsAnswer (table_answer Func.Len (values_of arguments.now)) result }
     ensures borrowed { IsBorrowed result }
 {
     match arguments {

@@ -5,7 +5,7 @@ ghost use Rattle.tmpl_funcs.specs.View.{values_of};
 ghost use Rattle.tmpl_funcs.specs.Answer.{AreBorrowed, IsBorrowed};
 ghost use Rattle.tmpl_funcs.specs.computed.Answer.{IsAnswer};
 ghost use Rattle.tmpl_funcs.specs.Func.{is_called, makes_text};
-ghost use Rattle.tmpl_funcs.specs.Dispatch.{called, IsCall};
+ghost use Rattle.tmpl_funcs.specs.Dispatch.{table_answer, IsCall};
 ghost use Rattle.tmpl_funcs.specs.declared.func.Func.{Func};
 
 use crate::compare::{eq, ge, gt, le, lt, ne};
@@ -61,7 +61,7 @@ pub fn call<'a>(alloc: Global, func: Func, arguments: &mut [Cell<'a>]) -> Result
 
 /// The first argument at the others.
 fn index_first<'a>(arguments: &mut [Cell<'a>]) -> Result<Val<'a>, CallFault>
-    ensures table { IsAnswer (called Func.Index (values_of arguments.old)) result }
+    ensures table { IsAnswer (table_answer Func.Index (values_of arguments.old)) result }
     ensures borrowed { AreBorrowed arguments.old → IsBorrowed result }
 {
     if arguments.is_empty() {
@@ -73,7 +73,7 @@ fn index_first<'a>(arguments: &mut [Cell<'a>]) -> Result<Val<'a>, CallFault>
 
 /// The first argument between the others.
 fn slice_first<'a>(arguments: &mut [Cell<'a>]) -> Result<Val<'a>, CallFault>
-    ensures table { IsAnswer (called Func.Slice (values_of arguments.old)) result }
+    ensures table { IsAnswer (table_answer Func.Slice (values_of arguments.old)) result }
     ensures borrowed { AreBorrowed arguments.old → IsBorrowed result }
 {
     if arguments.is_empty() {

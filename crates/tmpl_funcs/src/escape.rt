@@ -3,11 +3,11 @@ ghost use Rattle.std.specs.Prelude.{◌≡◌, ◌++◌, ◌∷◌, IfSome, Ok, 
 ghost use Rattle.std.specs.List.{flat_map};
 ghost use Rattle.tmpl_values.specs.Value.{string};
 ghost use Rattle.tmpl_funcs.specs.View.{values_of};
-ghost use Rattle.tmpl_funcs.specs.Dispatch.{called};
+ghost use Rattle.tmpl_funcs.specs.Dispatch.{table_answer};
 ghost use Rattle.tmpl_funcs.specs.declared.func.Func.{Func};
 ghost use Rattle.tmpl_funcs.specs.computed.Answer.{IsMade};
 ghost use Rattle.tmpl_funcs.specs.Escape.{html_byte, is_unreserved, query_byte};
-ghost use Rattle.tmpl_funcs.specs.Join.{as_text, joined};
+ghost use Rattle.tmpl_funcs.specs.Join.{as_text, join_operands};
 ghost use Rattle.tmpl_funcs.specs.computed.Escape.{escaped_byte, escaped_of, or_itself};
 
 use crate::capacity::{joined_capacity, reserve};
@@ -26,14 +26,14 @@ pub(crate) enum Escape {
 
 /// The operands joined and escaped for HTML.
 pub(crate) fn html<'a>(alloc: Global, operands: &[Cell<'_>]) -> Result<Val<'a>, CallError>
-    ensures { IsMade (called Func.Html (values_of operands.now)) result }
+    ensures { IsMade (table_answer Func.Html (values_of operands.now)) result }
 {
     escape_operands(alloc, operands, Escape::Html)
 }
 
 /// The operands joined and escaped for the query of a URL.
 pub(crate) fn urlquery<'a>(alloc: Global, operands: &[Cell<'_>]) -> Result<Val<'a>, CallError>
-    ensures { IsMade (called Func.Urlquery (values_of operands.now)) result }
+    ensures { IsMade (table_answer Func.Urlquery (values_of operands.now)) result }
 {
     escape_operands(alloc, operands, Escape::Query)
 }
@@ -73,7 +73,7 @@ fn escape_text<'a>(alloc: Global, text: &[u8], escape: Escape) -> Result<Val<'a>
 
 /// The text that is the only operand, which needs no joining.
 fn sole_text<'o>(operands: &'o [Cell<'_>]) -> Option<&'o [u8]>
-    ensures { IfSome result (λ t. joined (map as_text (values_of operands.now)) ≡ t.now) }
+    ensures { IfSome result (λ t. join_operands (map as_text (values_of operands.now)) ≡ t.now) }
 {
     match operands {
         [only] => only.val.bytes(),

@@ -1,6 +1,6 @@
 //! `index`.
 ghost use Rattle.std.specs.Prelude.{◌≡◌, ◌∷◌, false, ok_or, option_map, pos, slice_get, unwrap_or};
-ghost use Rattle.tmpl_values.specs.Elements.{listed};
+ghost use Rattle.tmpl_values.specs.Elements.{values_of_items};
 ghost use Rattle.tmpl_values.specs.Field.{entry_at};
 ghost use Rattle.tmpl_values.specs.Value.{null, number};
 ghost use Rattle.tmpl_funcs.specs.declared.fault.CallFault.TheVariants.{WrongKind};
@@ -10,8 +10,8 @@ ghost use Rattle.tmpl_funcs.specs.View.{values_of};
 ghost use Rattle.tmpl_funcs.specs.Answer.{IsBorrowed};
 ghost use Rattle.tmpl_funcs.specs.computed.Answer.{IsAnswer};
 ghost use Rattle.tmpl_funcs.specs.computed.Index.{place_among};
-ghost use Rattle.tmpl_funcs.specs.Index.{number_of, found_at, indexed, indexed_by};
-ghost use Rattle.tmpl_funcs.specs.Dispatch.{called};
+ghost use Rattle.tmpl_funcs.specs.Index.{number_of, found_at, element_at, indexed_by};
+ghost use Rattle.tmpl_funcs.specs.Dispatch.{table_answer};
 ghost use Rattle.tmpl_funcs.specs.declared.func.Func.{Func};
 
 use crate::fault::CallFault;
@@ -19,7 +19,7 @@ use tmpl_values::{Cell, Data, Table, Val};
 
 /// An item at indexes, from left to right; with no index the item itself.
 pub(crate) fn index<'a>(item: Val<'a>, indexes: &[Cell<'_>]) -> Result<Val<'a>, CallFault>
-    ensures table { IsAnswer (called Func.Index (val_of item.entry ∷ values_of indexes.now)) result }
+    ensures table { IsAnswer (table_answer Func.Index (val_of item.entry ∷ values_of indexes.now)) result }
     ensures borrowed { is_made item.entry ≡ false → IsBorrowed result }
 {
     match item {
@@ -42,7 +42,7 @@ fn index_by<'a>(first: Val<'a>, indexes: &[Cell<'_>]) -> Result<Val<'a>, CallFau
 
 /// A value at one index.
 fn item_at<'a>(item: &Val<'a>, index: &Val<'_>) -> Result<Val<'a>, CallFault>
-    ensures table { IsAnswer (indexed (val_of item.now) (val_of index.now)) result }
+    ensures table { IsAnswer (element_at (val_of item.now) (val_of index.now)) result }
     ensures borrowed { IsBorrowed result }
 {
     if let Some(bytes) = item.bytes() {
@@ -84,7 +84,7 @@ fn byte_at<'a>(bytes: &[u8], place: Option<i64>) -> Result<Val<'a>, CallFault>
 
 /// The item of a list at a place, counted from 0.
 fn list_item<'a>(items: &'a [Data], place: Option<i64>) -> Result<Val<'a>, CallFault>
-    ensures table { IsAnswer (found_at (slice_get (listed (items_of items.now))) place) result }
+    ensures table { IsAnswer (found_at (slice_get (values_of_items (items_of items.now))) place) result }
     ensures borrowed { IsBorrowed result }
 {
     let i = place_among(place, items.len())?;

@@ -5,10 +5,10 @@ ghost use Rattle.tmpl_values.specs.Text.{inner_text};
 ghost use Rattle.tmpl_values.specs.View.{val_of};
 ghost use Rattle.tmpl_funcs.specs.View.{values_of};
 ghost use Rattle.tmpl_funcs.specs.computed.Answer.{IsMade};
-ghost use Rattle.tmpl_funcs.specs.Dispatch.{called};
+ghost use Rattle.tmpl_funcs.specs.Dispatch.{table_answer};
 ghost use Rattle.tmpl_funcs.specs.declared.func.Func.{Func};
-ghost use Rattle.tmpl_funcs.specs.Join.{is_string, joined};
-ghost use Rattle.tmpl_funcs.specs.computed.Join.{shown, space_unless};
+ghost use Rattle.tmpl_funcs.specs.Join.{is_string, join_operands};
+ghost use Rattle.tmpl_funcs.specs.computed.Join.{operand_shown, space_unless};
 
 use crate::capacity::{joined_capacity, reserve};
 use crate::fault::CallError;
@@ -26,7 +26,7 @@ pub(crate) enum NothingText {
 
 /// The operands joined, with a space between two neighbours of which neither is a text.
 pub(crate) fn print<'a>(alloc: Global, operands: &[Cell<'_>]) -> Result<Val<'a>, CallError>
-    ensures { IsMade (called Func.Print (values_of operands.now)) result }
+    ensures { IsMade (table_answer Func.Print (values_of operands.now)) result }
 {
     let mut bytes = reserve(alloc, joined_capacity(operands, None));
     add_joined(operands, NothingText::Nil, &mut bytes)?;
@@ -35,7 +35,7 @@ pub(crate) fn print<'a>(alloc: Global, operands: &[Cell<'_>]) -> Result<Val<'a>,
 
 /// The operands parted by one space, and a newline.
 pub(crate) fn println<'a>(alloc: Global, operands: &[Cell<'_>]) -> Result<Val<'a>, CallError>
-    ensures { IsMade (called Func.Println (values_of operands.now)) result }
+    ensures { IsMade (table_answer Func.Println (values_of operands.now)) result }
 {
     let mut bytes = reserve(alloc, joined_capacity(operands, None));
     add_parted(operands, &mut bytes)?;
@@ -50,7 +50,7 @@ pub(crate) fn add_joined(
     bytes: &mut Vec<u8>,
 ) -> Result<(), AllocError>
     ensures { OnOk result (bytes.new.items
-        ≡ bytes.old.items ++ joined (map (shown nothing_text) (values_of operands.now))) }
+        ≡ bytes.old.items ++ join_operands (map (operand_shown nothing_text) (values_of operands.now))) }
 {
     let mut after_text = true;
     for operand in operands {
@@ -78,7 +78,7 @@ fn add_parted(operands: &[Cell<'_>], bytes: &mut Vec<u8>) -> Result<(), AllocErr
 
 /// Adds a space, but nothing between what is joined.
 fn add_space_unless(joined: bool, bytes: &mut Vec<u8>) -> Result<(), AllocError>
-    ensures { OnOk result (bytes.new.items ≡ bytes.old.items ++ space_unless joined) }
+    ensures { OnOk result (bytes.new.items ≡ bytes.old.items ++ space_unless join_operands) }
 {
     if joined {
         Ok(())
@@ -89,7 +89,7 @@ fn add_space_unless(joined: bool, bytes: &mut Vec<u8>) -> Result<(), AllocError>
 
 /// Whether a value counts as a text.
 fn is_text(value: &Val<'_>, nothing_text: NothingText) -> bool
-    ensures { result ≡ is_string (shown nothing_text (val_of value.now)) }
+    ensures { result ≡ is_string (operand_shown nothing_text (val_of value.now)) }
 {
     match value {
         Val::Text(_) | Val::Made(_) => true,
@@ -105,7 +105,7 @@ pub(crate) fn add_operand(
     bytes: &mut Vec<u8>,
 ) -> Result<(), AllocError>
     ensures { OnOk result (bytes.new.items
-        ≡ bytes.old.items ++ inner_text (shown nothing_text (val_of value.now))) }
+        ≡ bytes.old.items ++ inner_text (operand_shown nothing_text (val_of value.now))) }
 {
     match value {
         Val::Nothing | Val::Null => match nothing_text {

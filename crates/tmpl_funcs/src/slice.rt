@@ -5,7 +5,7 @@ ghost use Rattle.tmpl_funcs.specs.View.{values_of};
 ghost use Rattle.tmpl_funcs.specs.Answer.{IsBorrowed};
 ghost use Rattle.tmpl_funcs.specs.computed.Answer.{IsAnswer};
 ghost use Rattle.tmpl_funcs.specs.Arguments.{given_for, one_to_three};
-ghost use Rattle.tmpl_funcs.specs.Slice.{extent, part, sliced};
+ghost use Rattle.tmpl_funcs.specs.Slice.{extent, part, slice_between};
 
 use crate::fault::CallFault;
 use crate::index::number;
@@ -14,7 +14,7 @@ use tmpl_values::{Cell, Val};
 /// A value from the first bound to before the second, which default to its ends. It shares the
 /// bytes or items.
 pub(crate) fn slice<'a>(value: Val<'a>, bounds: &[Cell<'_>]) -> Result<Val<'a>, CallFault>
-    ensures table { IsAnswer (given_for (one_to_three sliced)
+    ensures table { IsAnswer (given_for (one_to_three slice_between)
         (val_of value.entry ∷ values_of bounds.now)) result }
     ensures borrowed { is_made value.entry ≡ false → IsBorrowed result }
 {

@@ -8,7 +8,7 @@ use lib.Utf8.{scalar}
 use Rattle.tmpl_values.specs.Rune.{Rune, char, byte}
 use Rattle.tmpl_values.specs.Quote.{letters, letter_of}
 use Rattle.tmpl_grammar.specs.Constant.Quoted.{AreDigits, IsEscape, a_letter, the_quote, octal, two_digits, four_digits, eight_digits, SpellsRunes, an_escape}
-use Rattle.tmpl_grammar.specs.computed.Quoted.{Spelled, as_byte, as_char, code, byte_named, coded, escape_by, escape, part_at}
+use Rattle.tmpl_grammar.specs.computed.Quoted.{Spelled, as_byte, as_char, code, byte_named, escape_code, escape_by, escape, part_at}
 use Rattle.tmpl_grammar.proofs.DigitLemmas.{code-digits, code-tells, octal-digit, hex-byte}
 use Rattle.tmpl_grammar.proofs.OptionLemmas.{chained}
 
@@ -22,7 +22,7 @@ pub data IsMark : ℕ → Type 0 where
 not-named : (quote e : ℕ) → IsMark quote → 48 ≤ e → e < 56 → byte_named quote e ≡ None
 not-named quote e h k l = grind (arith, nat_tests)
 
-not-lettered : (e : ℕ) (bs : List ℕ) → 48 ≤ e → e < 56 → coded e bs ≡ option_and_then (as_byte 4) (code 8 3 (e ∷ bs))
+not-lettered : (e : ℕ) (bs : List ℕ) → 48 ≤ e → e < 56 → escape_code e bs ≡ option_and_then (as_byte 4) (code 8 3 (e ∷ bs))
 not-lettered e bs low high = grind (arith, nat_tests)
 
 byte-read : (base count : ℕ) (ds rest : List ℕ) → AreDigits base count ds → digits_value base ds < 256
@@ -41,9 +41,9 @@ octal-read quote (e ∷ ds) rest m are h =
     simp (not-named quote e m range.0 range.1) (not-lettered e (ds ++ rest) range.0 range.1 ∙ byte-read 8 3 (e ∷ ds) rest are h)
 
 -- a byte that no letter is, whichever mark ends the text
-coded-read : (quote e : ℕ) (bs : List ℕ) → IsMark quote → byte_named 34 e ≡ None → byte_named 39 e ≡ None → escape quote (e ∷ bs) ≡ coded e bs
-coded-read _ e bs double h k = simp h
-coded-read _ e bs single h k = simp k
+escape_code-read : (quote e : ℕ) (bs : List ℕ) → IsMark quote → byte_named 34 e ≡ None → byte_named 39 e ≡ None → escape quote (e ∷ bs) ≡ escape_code e bs
+escape_code-read _ e bs double h k = simp h
+escape_code-read _ e bs single h k = simp k
 
 quote-read : (quote : ℕ) (rest : List ℕ) → IsMark quote → escape quote (quote ∷ rest) ≡ Some (byte quote, 2)
 quote-read quote rest h = grind (arith, nat_tests)
@@ -57,9 +57,9 @@ escape-at quote _ rest _ m (a_letter {c = c} {letter = e} is other) = ap (λ o. 
 escape-at quote _ rest _ m the_quote = quote-read quote rest m
 escape-at quote _ rest _ m (octal {ds = ds} are h) = rw are.0 (octal-read quote ds rest m are h)
 escape-at quote _ rest _ m (two_digits {ds = ds} are) =
-    rw are.0 (coded-read quote 120 (ds ++ rest) m refl refl ∙ byte-read 16 2 ds rest are (hex-byte ds are))
-escape-at quote _ rest _ m (four_digits {ds = ds} are s) = rw are.0 (coded-read quote 117 (ds ++ rest) m refl refl ∙ char-read 6 4 ds rest are s)
-escape-at quote _ rest _ m (eight_digits {ds = ds} are s) = rw are.0 (coded-read quote 85 (ds ++ rest) m refl refl ∙ char-read 10 8 ds rest are s)
+    rw are.0 (escape_code-read quote 120 (ds ++ rest) m refl refl ∙ byte-read 16 2 ds rest are (hex-byte ds are))
+escape-at quote _ rest _ m (four_digits {ds = ds} are s) = rw are.0 (escape_code-read quote 117 (ds ++ rest) m refl refl ∙ char-read 6 4 ds rest are s)
+escape-at quote _ rest _ m (eight_digits {ds = ds} are s) = rw are.0 (escape_code-read quote 85 (ds ++ rest) m refl refl ∙ char-read 10 8 ds rest are s)
 
 pub escape-some : (quote : ℕ) (s : List ℕ) (p : Rune) → IsEscape quote s p → 0 < length s
 escape-some quote s p h = grind (arith, nat_tests)
@@ -133,8 +133,8 @@ has-char : (quote head count : ℕ) (bs : List ℕ)
 has-char quote head count bs made =
     has-digits quote 16 count (2 + count) (head ∷ []) char scalar bs (omega arith) (λ ds h. omega (arith, h)) made
 
-has-coded : (quote e : ℕ) (bs : List ℕ) → Begins quote (92 ∷ e ∷ bs) (coded e bs)
-has-coded quote e bs =
+has-escape_code : (quote e : ℕ) (bs : List ℕ) → Begins quote (92 ∷ e ∷ bs) (escape_code e bs)
+has-escape_code quote e bs =
     if-byte quote e 120 bs _ _ (has-hex quote bs)
     (if-byte quote e 117 bs _ _ (has-char quote 117 4 bs (λ ds are s. four_digits are s))
     (if-byte quote e 85 bs _ _ (has-char quote 85 8 bs (λ ds are s. eight_digits are s)) (has-octal quote (e ∷ bs))))
@@ -144,7 +144,7 @@ has-escape quote [] = tt
 has-escape quote (e ∷ bs) = go (byte_named quote e) refl
   where
     go : (o : Option ℕ) → byte_named quote e ≡ o → Begins quote (92 ∷ e ∷ bs) (escape_by o e bs)
-    go None is = has-coded quote e bs
+    go None is = has-escape_code quote e bs
     go (Some b) is = record {
       spelling = 92 ∷ e ∷ [];
       rest = bs;

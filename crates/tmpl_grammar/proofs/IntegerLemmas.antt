@@ -5,7 +5,7 @@ use Rattle.std.specs.List.{list_all}
 use Rattle.std.specs.Char.{is_digit, digit_value}
 use Rattle.std.specs.Str.Parse.{digits_value_after}
 use Rattle.std.proofs.lemmas.Bool.Decides.{nat_tests}
-use Rattle.tmpl_grammar.specs.computed.Integer.{is_plain, signed, magnitude, integer}
+use Rattle.tmpl_grammar.specs.computed.Integer.{is_plain, with_sign, magnitude, integer}
 use Rattle.tmpl_grammar.specs.computed.Within.{within}
 use Rattle.tmpl_grammar.proofs.ListLemmas.{take-rest}
 
@@ -45,24 +45,24 @@ digits-plain base [] h all = refl
 digits-plain base (d ∷ ds) h all = let f = first-digit base d ds h all in grind (arith, digits-plain base ds h f.0)
 
 -- no number past 2^63 in magnitude fits
-pub signed-within : (negative : Bool) (o : Option ℕ) → option_and_then (signed negative) (within o) ≡ option_and_then (signed negative) o
-signed-within negative o = grind (arith, nat_tests)
+pub with_sign-within : (negative : Bool) (o : Option ℕ) → option_and_then (with_sign negative) (within o) ≡ option_and_then (with_sign negative) o
+with_sign-within negative o = grind (arith, nat_tests)
 
 -- the byte of a sign
 abbrev pub sign_byte : Bool → ℕ
 sign_byte true = 45
 sign_byte false = 43
 
-after-sign : (negative : Bool) (bs : List ℕ) → integer (sign_byte negative ∷ bs) ≡ option_and_then (signed negative) (magnitude bs)
+after-sign : (negative : Bool) (bs : List ℕ) → integer (sign_byte negative ∷ bs) ≡ option_and_then (with_sign negative) (magnitude bs)
 unfolding integer
 after-sign negative bs = grind (arith, nat_tests)
 
-pub integer-signed : (negative : Bool) (bs : List ℕ) → 1 ≤ length bs → get_or bs 0 0 ≡ sign_byte negative
-    → option_and_then (signed negative) (within (magnitude (take (length bs - 1) (drop 1 bs)))) ≡ integer bs
-integer-signed negative [] h is = absurd (omega arith)
-integer-signed negative (b ∷ bs) h is =
-    grind (arith, take-rest (b ∷ bs) 1 (length (b ∷ bs) - 1), signed-within negative (magnitude bs), after-sign negative bs)
+pub integer-with_sign : (negative : Bool) (bs : List ℕ) → 1 ≤ length bs → get_or bs 0 0 ≡ sign_byte negative
+    → option_and_then (with_sign negative) (within (magnitude (take (length bs - 1) (drop 1 bs)))) ≡ integer bs
+integer-with_sign negative [] h is = absurd (omega arith)
+integer-with_sign negative (b ∷ bs) h is =
+    grind (arith, take-rest (b ∷ bs) 1 (length (b ∷ bs) - 1), with_sign-within negative (magnitude bs), after-sign negative bs)
 
-pub ruleset signs = (signed-within, integer-signed)
+pub ruleset signs = (with_sign-within, integer-with_sign)
 
 pub ruleset plain = (digits-plain)

@@ -15,7 +15,7 @@ use Rattle.tmpl_grammar.specs.computed.Integer.{integer}
 use Rattle.tmpl_grammar.specs.Laws.{IsAdmitted, IsComputed}
 use Rattle.tmpl_lex.specs.Piece.{Token}
 use Rattle.tmpl_grammar.specs.computed.Constant.{constant_of, constant_by, string_in, raw_string_in, character_in}
-use Rattle.tmpl_grammar.specs.computed.Quoted.{between, parts, unquoted, rune_code}
+use Rattle.tmpl_grammar.specs.computed.Quoted.{between, parts, unquoted_text, rune_code}
 use Rattle.tmpl_grammar.proofs.EscapeLemmas.{double, single}
 use Rattle.tmpl_grammar.proofs.HasPartsLemmas.{parts-computed, parts-admitted, rune-computed, rune-admitted}
 use Rattle.tmpl_grammar.proofs.IsIntegerLemmas.{integer-computed, integer-admitted}
@@ -54,7 +54,7 @@ is-constant kind.Number bs =
     mapped number_constant (IsConstant (token kind.Number bs)) (integer bs) (integer-admitted bs) (λ n is. constant.number is)
 is-constant kind.String bs = quoted kind.String 34 bs string_in (λ xs.
     let Is = IsConstant (token kind.String (34 ∷ (xs ++ 34 ∷ []))) in
-    mapped text_constant Is (unquoted 34 xs)
+    mapped text_constant Is (unquoted_text 34 xs)
     (mapped (flat_map bytes_in) (λ t. Is (text_constant t)) (parts 34 xs) (parts-admitted 34 xs double) (λ rs has. constant.string has))
     (λ t is. is))
 is-constant kind.RawString bs =

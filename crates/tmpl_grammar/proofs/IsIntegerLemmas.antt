@@ -8,7 +8,7 @@ use Rattle.std.proofs.lemmas.Bool.{eqb-true, eqb-false, and_parts, cond_both, le
 use Rattle.std.proofs.lemmas.Bool.Decides.{nat_tests}
 use Rattle.tmpl_grammar.specs.Constant.Integer.{AreParted, no_digit, digit, parted, base_named, IsMagnitude, decimal, octal, based, IsInteger, minus, plus}
 use Rattle.tmpl_grammar.specs.Constant.Integer.{unsigned}
-use Rattle.tmpl_grammar.specs.computed.Integer.{is_plain, underscores_part, parted_number, number_by, after_zero, magnitude, signed, integer}
+use Rattle.tmpl_grammar.specs.computed.Integer.{is_plain, underscores_part, parted_number, number_by, after_zero, magnitude, with_sign, integer}
 use Rattle.tmpl_grammar.proofs.OptionLemmas.{chained}
 
 -- ---- digits
@@ -99,7 +99,7 @@ magnitude-admitted (b ∷ bs) =
 -- ---- signs
 
 -- the bytes of a magnitude have no sign
-unsigned-computed : {bs : List ℕ} {n : ℕ} → IsMagnitude bs n → integer bs ≡ option_and_then (signed false) (magnitude bs)
+unsigned-computed : {bs : List ℕ} {n : ℕ} → IsMagnitude bs n → integer bs ≡ option_and_then (with_sign false) (magnitude bs)
 unfolding integer
 unsigned-computed (decimal {d = d} {bs = bs} {ds = ds} other a) = grind (arith, nat_tests, decimal-first d bs ds a)
 unsigned-computed (octal a) = refl
@@ -113,8 +113,8 @@ integer-computed (unsigned {n = n} m lt) = unsigned-computed m ∙ simp (magnitu
 
 -- a number without a minus
 positive-admitted : (bs cs : List ℕ) → ((n : ℕ) → IsMagnitude cs n → n < 2 ^ 63 → IsInteger bs (pos n))
-    → IfSome (option_and_then (signed false) (magnitude cs)) (IsInteger bs)
-positive-admitted bs cs f = chained (signed false) (IsInteger bs) (magnitude cs) (magnitude-admitted cs) (λ n m.
+    → IfSome (option_and_then (with_sign false) (magnitude cs)) (IsInteger bs)
+positive-admitted bs cs f = chained (with_sign false) (IsInteger bs) (magnitude cs) (magnitude-admitted cs) (λ n m.
     cond_both _ _ _ (λ o. IfSome o (IsInteger bs)) (λ e. f n m (ltb-true n (2 ^ 63) e)) (λ e. tt))
 
 pub integer-admitted : (bs : List ℕ) → IfSome (integer bs) (IsInteger bs)
@@ -123,7 +123,7 @@ integer-admitted [] = tt
 integer-admitted (b ∷ bs) =
     let Is : Option ℤ → Type 0 = λ o. IfSome o (IsInteger (b ∷ bs)) in
     cond_both _ _ _ Is
-    (λ h. rw (eqb-true b 45 h) (chained (signed true) (IsInteger (45 ∷ bs)) (magnitude bs) (magnitude-admitted bs) (λ n m.
+    (λ h. rw (eqb-true b 45 h) (chained (with_sign true) (IsInteger (45 ∷ bs)) (magnitude bs) (magnitude-admitted bs) (λ n m.
     cond_both _ _ _ (λ o. IfSome o (IsInteger (45 ∷ bs))) (λ e. minus m (leb-true n (2 ^ 63) e)) (λ e. tt))))
     (λ h. cond_both _ _ _ Is (λ k. rw (eqb-true b 43 k) (positive-admitted (43 ∷ bs) bs (λ n m. plus m)))
     (λ k. positive-admitted (b ∷ bs) (b ∷ bs) (λ n m. unsigned m)))

@@ -11,8 +11,8 @@ use Rattle.tmpl_grammar.specs.Tree as tree
 use Rattle.tmpl_grammar.specs.Tree.{Operand, Operands, Pipeline, operands_from, commands_from}
 use Rattle.tmpl_grammar.specs.Depth.{depth_of_pipeline, most_deep}
 use Rattle.tmpl_grammar.specs.computed.Depth.{deepest, limited_pipeline}
-use Rattle.tmpl_grammar.specs.computed.Limited.{emptied, pruned, pruned_step, pruned_steps, pruned_commands, limited_commands}
-use Rattle.tmpl_grammar.specs.computed.Parser.{Parser, Partial, settled, more_commands, may_stand, step, step_by, steps, finished, commands_after, start}
+use Rattle.tmpl_grammar.specs.computed.Limited.{without_contents, prune, pruned_step, pruned_steps, pruned_commands, limited_commands}
+use Rattle.tmpl_grammar.specs.computed.Parser.{Parser, Partial, with_last_operand, more_commands, may_stand, step, step_by, steps, finished, commands_after, start}
 use Rattle.tmpl_grammar.specs.computed.Reading.{pipeline_in}
 use Rattle.tmpl_grammar.proofs.DepthLemmas.{pipeline-depth}
 use Rattle.tmpl_grammar.proofs.PipelineLemmas.{pipeline-admitted}
@@ -21,40 +21,40 @@ use Rattle.tmpl_grammar.proofs.PipelineLemmas.{pipeline-admitted}
 
 abbrev emptied_operands : Operands → Operands
 emptied_operands tree.no_operand = tree.no_operand
-emptied_operands (tree.operand o os) = tree.operand (emptied o) (emptied_operands os)
+emptied_operands (tree.operand o os) = tree.operand (without_contents o) (emptied_operands os)
 
 abbrev emptied_commands : List Operands → List Operands
 emptied_commands cs = map emptied_operands cs
 
 abbrev emptied_partial : Partial → Partial
-emptied_partial l = record { commands = emptied_commands l.commands; operands = map emptied l.operands }
+emptied_partial l = record { commands = emptied_commands l.commands; operands = map without_contents l.operands }
 
 -- .. or with it
 abbrev seen : Bool → Parser → Parser
 seen true h = h
-seen false h = record { outer = map emptied_partial h.outer; inner = emptied_partial h.inner; last = option_map emptied h.last }
+seen false h = record { outer = map emptied_partial h.outer; inner = emptied_partial h.inner; last = option_map without_contents h.last }
 
 -- ---- one token
 
-settled-emptied : (last : Option Operand) (os : List Operand) → settled (option_map emptied last) (map emptied os) ≡ map emptied (settled last os)
-settled-emptied last os = grind (arith, map-append)
+with_last_operand-without_contents : (last : Option Operand) (os : List Operand) → with_last_operand (option_map without_contents last) (map without_contents os) ≡ map without_contents (with_last_operand last os)
+with_last_operand-without_contents last os = grind (arith, map-append)
 
-from-emptied : (os : List Operand) → operands_from (map emptied os) ≡ emptied_operands (operands_from os)
-from-emptied [] = refl
-from-emptied (o ∷ os) = ap (tree.operand (emptied o)) (from-emptied os)
+from-without_contents : (os : List Operand) → operands_from (map without_contents os) ≡ emptied_operands (operands_from os)
+from-without_contents [] = refl
+from-without_contents (o ∷ os) = ap (tree.operand (without_contents o)) (from-without_contents os)
 
-more-emptied : (cs : List Operands) (os : List Operand)
-    → more_commands (emptied_commands cs) (map emptied os) ≡ option_map emptied_commands (more_commands cs os)
-more-emptied cs [] = refl
-more-emptied cs (o ∷ os) = simp (from-emptied os, map-append)
+more-without_contents : (cs : List Operands) (os : List Operand)
+    → more_commands (emptied_commands cs) (map without_contents os) ≡ option_map emptied_commands (more_commands cs os)
+more-without_contents cs [] = refl
+more-without_contents cs (o ∷ os) = simp (from-without_contents os, map-append)
 
-stands-emptied : (cs : List Operands) (os : List Operand) (o : Operand) → may_stand (emptied_commands cs) (map emptied os) o ≡ may_stand cs os o
-stands-emptied cs os o = grind arith
+stands-without_contents : (cs : List Operands) (os : List Operand) (o : Operand) → may_stand (emptied_commands cs) (map without_contents os) o ≡ may_stand cs os o
+stands-without_contents cs os o = grind arith
 
 step-seen : (keeps : Bool) (h : Parser) (k : TokenKind) (t : Token)
-    → option_map (pruned keeps) (step_by k t (seen keeps h)) ≡ option_map (seen keeps) (step_by k t h)
+    → option_map (prune keeps) (step_by k t (seen keeps h)) ≡ option_map (seen keeps) (step_by k t h)
 step-seen true h k t = refl
-step-seen false h k t = grind (arith, settled-emptied, more-emptied, stands-emptied)
+step-seen false h k t = grind (arith, with_last_operand-without_contents, more-without_contents, stands-without_contents)
 
 -- ---- all of them
 
@@ -82,20 +82,20 @@ nat_le-false m n h = grind (arith, nat_tests)
 limited-seen : (keeps : Bool) (o : Option Parser)
     → limited_commands keeps (option_and_then finished (option_map (seen keeps) o)) ≡ limited_commands keeps (option_and_then finished o)
 unfolding finished
-limited-seen keeps o = grind (arith, settled-emptied, more-emptied)
+limited-seen keeps o = grind (arith, with_last_operand-without_contents, more-without_contents)
 
 start-seen : (keeps : Bool) → seen keeps start ≡ start
 start-seen keeps = grind arith
 
-pruned-limited : (keeps : Bool) (ts : List Token) → limited_commands keeps (pruned_commands keeps start ts) ≡ limited_commands keeps (commands_after start ts)
-pruned-limited keeps ts = grind (arith, start-seen keeps, steps-seen keeps (Some start) ts, limited-seen keeps (steps (Some start) ts))
+prune-limited : (keeps : Bool) (ts : List Token) → limited_commands keeps (pruned_commands keeps start ts) ≡ limited_commands keeps (commands_after start ts)
+prune-limited keeps ts = grind (arith, start-seen keeps, steps-seen keeps (Some start) ts, limited-seen keeps (steps (Some start) ts))
 
 pub limited-read : (ts : List Token)
     → limited_commands (nat_le (deepest 0 ts) most_deep) (pruned_commands (nat_le (deepest 0 ts) most_deep) start ts)
     ≡ option_map limited_pipeline (pipeline_in ts)
 unfolding pipeline_in
 limited-read ts =
-    pruned-limited (nat_le (deepest 0 ts) most_deep) ts
+    prune-limited (nat_le (deepest 0 ts) most_deep) ts
     ∙ by (commands_after start ts) (IfSome_then (pipeline_in ts) (pipeline-admitted ts) (λ cs s. pipeline-depth cs ts s))
   where
     by : (o : Option (List Operands)) → IfSome (option_map commands_from o) (λ cs. depth_of_pipeline cs ≡ deepest 0 ts)

@@ -17,7 +17,7 @@ use Rattle.tmpl_grammar.specs.Operand.{IsOperand}
 use Rattle.tmpl_grammar.specs.computed.Operand.{begins_later}
 use Rattle.tmpl_grammar.specs.computed.Operand.{operand_at}
 use Rattle.tmpl_grammar.specs.computed.Parser as parser
-use Rattle.tmpl_grammar.specs.computed.Parser.{Parser, Partial, settled, more_commands, may_stand, kept_if, linked, linked_by, step, step_by}
+use Rattle.tmpl_grammar.specs.computed.Parser.{Parser, Partial, with_last_operand, more_commands, may_stand, kept_if, with_field, linked_by, step, step_by}
 use Rattle.tmpl_grammar.specs.computed.Parser.{steps, finished, finished_with, commands_after}
 use Rattle.tmpl_grammar.specs.Pipeline.{IsBlank, may_be_later, SpellsPipeline}
 use Rattle.tmpl_grammar.proofs.PartsLemmas.{is-one, pipeline-whole, ChainParts, ChainedParts, OperandParts, MoreParts, CommandParts, LaterParts, PipelineParts}
@@ -90,7 +90,7 @@ record Completes (cs : List Operands) (os : List Operand) (last : Option Operand
   ends : (ts : List Token) → Reads cs os last ts → Ends done ts
   later : (ms : Operands) → MayFollow done [] ms → may_be_later ms ≡ true
 
-completes : (cs : List Operands) (os : List Operand) (last : Option Operand) → IfSome (more_commands cs (settled last os)) (Completes cs os last)
+completes : (cs : List Operands) (os : List Operand) (last : Option Operand) → IfSome (more_commands cs (with_last_operand last os)) (Completes cs os last)
 completes cs [] None = tt
 completes cs (o ∷ os) None = record {
   ends = λ ts f later vs l.
@@ -126,7 +126,7 @@ module _ (t : Token) (is : t.kind ≡ kind.Field) (begins : begins_name (name_in
 
   -- with one field more it may stand anywhere
   linked-spells : (o : Operand) (ts : List Token) → OperandParts o ts
-      → IfSome (linked o (name_in t)) (λ p. OperandParts p (ts ++ t ∷ []) × (begins_later p ≡ true))
+      → IfSome (with_field o (name_in t)) (λ p. OperandParts p (ts ++ t ∷ []) × (begins_later p ≡ true))
   linked-spells (tree.fields []) ts s = absurd (is-one s.0 (tree.fields []) s.3).0
   linked-spells (tree.fields (n ∷ ns)) ts s = (chained-more (tree.fields (n ∷ [])) ns ts s, refl)
   linked-spells (tree.variable x ns) ts s = (chained-more (tree.variable x []) ns ts s, refl)
@@ -165,17 +165,17 @@ module _ (t : Token) (ls : List Partial) (cs : List Operands) (os : List Operand
       (λ us r. rw r.2 (begins-operand t is cs os o r.0 r.1 r.3 r.4 r.5)) ts r
 
   bar-read : (last : Option Operand) → t.kind ≡ kind.Pipe → (done : Option (List Operands)) → IfSome done (Completes cs os last)
-      → HasRead ls cs os last ts → Read (option_map (parser.barred (parser_at ls cs os last)) done) (ts ++ t ∷ [])
+      → HasRead ls cs os last ts → Read (option_map (parser.after_bar (parser_at ls cs os last)) done) (ts ++ t ∷ [])
   bar-read last is None d r = tt
   bar-read last is (Some done) d r = within ls cs done os [] last None (t ∷ []) (λ us r. begins-barred t done us is d.later (d.ends us r)) ts r
 
   open-read : (last : Option Operand) → t.kind ≡ kind.LeftParenthesis → HasRead ls cs os last ts
-      → Read (parser.opened last (parser_at ls cs os last)) (ts ++ t ∷ [])
+      → Read (parser.open_parenthesis last (parser_at ls cs os last)) (ts ++ t ∷ [])
   open-read None is r = (ts, t, [], refl, is, r, begins-start)
   open-read (Some o) is r = tt
 
   placed-read : (last o : Option Operand) → IfSome o (IsOperand t) → HasRead ls cs os last ts
-      → Read (parser.placed last o (parser_at ls cs os last)) (ts ++ t ∷ [])
+      → Read (parser.place_operand last o (parser_at ls cs os last)) (ts ++ t ∷ [])
   placed-read None None is r = tt
   placed-read None (Some o) is r = cond_both _ _ _ (λ h. Read h (ts ++ t ∷ [])) (λ may.
       within ls cs cs os os None (Some o) (t ∷ []) (λ us f. (us, t ∷ [], refl, f, (is-one t o is).1 (t ∷ []) (t, [], refl, is, refl), may)) ts r) (λ may. tt)
@@ -184,18 +184,18 @@ module _ (t : Token) (ls : List Partial) (cs : List Operands) (os : List Operand
   link-read : (o : Operand) → HasRead ls cs os (Some o) ts
       → (p : Option Operand) → ((us : List Token) → OperandParts o us → IfSome p (λ p. OperandParts p (us ++ t ∷ []) × (begins_later p ≡ true)))
       → Read (option_map (parser.ending_with (parser_at ls cs os (Some o))) p) (ts ++ t ∷ [])
-  link-read o r None linked = tt
-  link-read o r (Some p) linked = within ls cs cs os os (Some o) (Some p) (t ∷ []) (λ us r.
-      let l = linked r.1 r.4 in
+  link-read o r None with_field = tt
+  link-read o r (Some p) with_field = within ls cs cs os os (Some o) (Some p) (t ∷ []) (λ us r.
+      let l = with_field r.1 r.4 in
       let whole = ap (λ xs. xs ++ t ∷ []) r.2 ∙ append_assoc r.0 r.1 (t ∷ []) in
       (r.0, r.1 ++ t ∷ [], whole, r.3, l.0, stands-anywhere cs os p l.1)) ts r
 
   field-read : (last : Option Operand) → t.kind ≡ kind.Field → HasRead ls cs os last ts
-      → Read (parser.fielded last t (parser_at ls cs os last)) (ts ++ t ∷ [])
+      → Read (parser.after_field last t (parser_at ls cs os last)) (ts ++ t ∷ [])
   field-read None is r = placed-read None (operand_at t) (operand-admitted t) r
   field-read (Some o) is r =
       cond_both _ _ _ (λ p. Read (option_map (parser.ending_with (parser_at ls cs os (Some o))) p) (ts ++ t ∷ []))
-      (λ begins. link-read o r (linked o (name_in t)) (linked-spells t is begins o)) (λ begins. tt)
+      (λ begins. link-read o r (with_field o (name_in t)) (linked-spells t is begins o)) (λ begins. tt)
 
 close-read : (t : Token) (ls : List Partial) (cs : List Operands) (os : List Operand) (ts : List Token) (last : Option Operand)
     → t.kind ≡ kind.RightParenthesis → (done : Option (List Operands)) → IfSome done (Completes cs os last) → HasRead ls cs os last ts
@@ -221,9 +221,9 @@ step-read t _ is ls cs os last ts r = placed-read t ls cs os ts last (operand_at
 -- ---- all of them
 
 finished-read : (ls : List Partial) (cs : List Operands) (os : List Operand) (last : Option Operand) (ts : List Token)
-    → HasRead ls cs os last ts → IfSome (finished_with ls (more_commands cs (settled last os))) (λ all. PipelineParts (commands_from all) ts)
+    → HasRead ls cs os last ts → IfSome (finished_with ls (more_commands cs (with_last_operand last os))) (λ all. PipelineParts (commands_from all) ts)
 finished-read [] cs os last ts r =
-    IfSome_then (more_commands cs (settled last os)) (completes cs os last) (λ all c. ends-whole all ts (c.ends ts r))
+    IfSome_then (more_commands cs (with_last_operand last os)) (completes cs os last) (λ all c. ends-whole all ts (c.ends ts r))
 finished-read (l ∷ ls) cs os last ts r = tt
 
 one-read : (o : Option Parser) (t : Token) (ts : List Token) → Read o ts → Read (option_and_then (step t) o) (ts ++ t ∷ [])

@@ -11,7 +11,7 @@ use Rattle.tmpl_grammar.specs.Operand.{IsOperand}
 use Rattle.tmpl_grammar.specs.computed.Operand.{begins_later}
 use Rattle.tmpl_grammar.specs.computed.Operand.{operand_at}
 use Rattle.tmpl_grammar.specs.computed.Parser as parser
-use Rattle.tmpl_grammar.specs.computed.Parser.{Parser, Partial, settled, more_commands, closed, may_stand, kept_if, linked, linked_by, step, step_by, steps}
+use Rattle.tmpl_grammar.specs.computed.Parser.{Parser, Partial, with_last_operand, more_commands, close_pipeline, may_stand, kept_if, with_field, linked_by, step, step_by, steps}
 use Rattle.tmpl_grammar.specs.Pipeline.{IsBlank, may_be_later, SpellsPipeline}
 use Rattle.tmpl_grammar.proofs.PartsLemmas.{pipeline-parts, ChainParts, ChainedParts, OperandParts, MoreParts, CommandParts, LaterParts, PipelineParts}
 use Rattle.tmpl_grammar.proofs.IsOperandLemmas.{computes-operand}
@@ -58,7 +58,7 @@ white-steps ls cs os o t ts b = simp (step-at kind.Space t (parser_at ls cs os (
 
 -- a token that is an operand of its own, of whatever kind it is
 operand-step : (t : Token) (o : Operand) → IsOperand t o → (ls : List Partial) (cs : List Operands) (os : List Operand)
-    → step t (parser_at ls cs os None) ≡ parser.placed None (operand_at t) (parser_at ls cs os None)
+    → step t (parser_at ls cs os None) ≡ parser.place_operand None (operand_at t) (parser_at ls cs os None)
 unfolding step
 operand-step t o is ls cs os = grind arith
 
@@ -68,7 +68,7 @@ placed-step t o ls cs os is may = operand-step t o is ls cs os ∙ simp (compute
 
 -- an operand that chains may be added to
 abbrev Chains : (List (List ℕ) → Operand) → Type 0
-Chains f = (ns : List (List ℕ)) (n : List ℕ) → linked (f ns) n ≡ Some (f (ns ++ n ∷ []))
+Chains f = (ns : List (List ℕ)) (n : List ℕ) → with_field (f ns) n ≡ Some (f (ns ++ n ∷ []))
 
 link-step : (f : List (List ℕ) → Operand) → Chains f
     → (ls : List Partial) (cs : List Operands) (os : List Operand) (ns : List (List ℕ)) (t : Token) → t.kind ≡ kind.Field
@@ -113,7 +113,7 @@ pub record Ended (h : Parser) (ts : List Token) (ls : List Partial) (cs : List O
   pub end : Parser
   pub to : steps (Some h) ts ≡ Some end
   pub outer_is : end.outer ≡ ls
-  pub closed_is : closed end ≡ Some cs
+  pub closed_is : close_pipeline end ≡ Some cs
 
 ended-along : {h n : Parser} (us : List Token) {vs : List Token} {ls : List Partial} {cs : List Operands} → steps (Some h) us ≡ Some n
     → Ended n vs ls cs → Ended h (us ++ vs) ls cs
@@ -129,12 +129,12 @@ blank-ended ls cs os o [] b = record { end = parser_at ls cs os (Some o); to = r
 blank-ended ls cs os o (t ∷ ts) b =
     record { end = parser_at ls cs (os ++ o ∷ []) None; to = white-steps ls cs os o t ts b; outer_is = refl; closed_is = more-whole cs os o }
 
-bar-step : (h : Parser) (ls : List Partial) (cs : List Operands) (t : Token) → t.kind ≡ kind.Pipe → h.outer ≡ ls → closed h ≡ Some cs
+bar-step : (h : Parser) (ls : List Partial) (cs : List Operands) (t : Token) → t.kind ≡ kind.Pipe → h.outer ≡ ls → close_pipeline h ≡ Some cs
     → step t h ≡ Some (parser_at ls cs [] None)
 bar-step h ls cs t is outer whole = simp (step-at kind.Pipe t h is, whole, outer)
 
 close-step : (h : Parser) (l : Partial) (ls : List Partial) (cs : List Operands) (t : Token) → t.kind ≡ kind.RightParenthesis
-    → h.outer ≡ l ∷ ls → closed h ≡ Some cs → step t h ≡ Some (parser_at ls l.commands l.operands (Some (tree.group (commands_from cs) [])))
+    → h.outer ≡ l ∷ ls → close_pipeline h ≡ Some cs → step t h ≡ Some (parser_at ls l.commands l.operands (Some (tree.group (commands_from cs) [])))
 close-step h l ls cs t is outer whole = simp (step-at kind.RightParenthesis t h is, whole, outer)
 
 mutual
@@ -176,7 +176,7 @@ mutual
       (ended-along a (operand-read o a spells ls cs [] first) (more-read ms b rest ls cs [] o)))
 
   later-read : (later : Pipeline) (ts : List Token) → LaterParts later ts → (h : Parser) (ls : List Partial) (cs : List Operands)
-      → h.outer ≡ ls → closed h ≡ Some cs → Ended h ts ls (cs ++ command_list later)
+      → h.outer ≡ ls → close_pipeline h ≡ Some cs → Ended h ts ls (cs ++ command_list later)
   later-read tree.no_command ts s h ls cs outer whole =
       rw (s, append-nil cs) (record { end = h; to = refl; outer_is = outer; closed_is = whole })
   later-read (tree.command os later) ts (bar, a, b, is, bars, may, spells, rest) h ls cs outer whole =

@@ -4,7 +4,7 @@ use Rattle.tmpl_lex.specs.declared.piece.TokenKind.{TokenKind}
 use Rattle.tmpl_lex.specs.declared.piece.TokenKind.TheVariants as kind
 use Rattle.tmpl_lex.specs.Piece.{Token}
 use Rattle.tmpl_grammar.specs.computed.Operand.{operand_at, operand_by, word_operand, func_named}
-use Rattle.tmpl_grammar.specs.computed.Parser.{Parser, step, step_by, steps, placed, finished}
+use Rattle.tmpl_grammar.specs.computed.Parser.{Parser, step, step_by, steps, place_operand, finished}
 use Rattle.tmpl_grammar.specs.Tree.{Operand, Pipeline}
 use Rattle.tmpl_grammar.specs.Pipeline.{IsBlank, SpellsPipeline}
 use Rattle.tmpl_grammar.specs.Keyword.{IsWord}
@@ -19,14 +19,14 @@ use Rattle.tmpl_grammar.proofs.OptionLemmas.{no-value}
 abbrev pub IsStray : Token → Type 0
 IsStray t = (h : Parser) → step t h ≡ None
 
-none-placed : (last : Option Operand) (h : Parser) → placed last None h ≡ None
-none-placed last h = grind arith
+none-place_operand : (last : Option Operand) (h : Parser) → place_operand last None h ≡ None
+none-place_operand last h = grind arith
 
 -- a sign is no operand
-pub sign-stray : (k : TokenKind) → ((t : Token) (h : Parser) → step_by k t h ≡ placed h.last (operand_at t) h) → ((t : Token) → operand_by k t ≡ None)
+pub sign-stray : (k : TokenKind) → ((t : Token) (h : Parser) → step_by k t h ≡ place_operand h.last (operand_at t) h) → ((t : Token) → operand_by k t ≡ None)
     → (t : Token) → t.kind ≡ k → IsStray t
 unfolding operand_at
-sign-stray k steps none t e h = step-at k t h e ∙ steps t h ∙ simp (e, none) (none-placed h.last h)
+sign-stray k steps none t e h = step-at k t h e ∙ steps t h ∙ simp (e, none) (none-place_operand h.last h)
 
 -- no keyword is an operand
 keyword-none : (k : Keyword) → word_operand (spelling k) ≡ None
@@ -35,7 +35,7 @@ keyword-none k = grind arith
 
 pub word-stray : (k : Keyword) (t : Token) → IsWord (spelling k) t → IsStray t
 unfolding operand_at
-word-stray k t w h = step-at kind.Word t h w.0 ∙ simp (w.0, w.1, keyword-none k) (none-placed h.last h)
+word-stray k t w h = step-at kind.Word t h w.0 ∙ simp (w.0, w.1, keyword-none k) (none-place_operand h.last h)
 
 steps-none : (ts : List Token) → steps None ts ≡ None
 steps-none [] = refl

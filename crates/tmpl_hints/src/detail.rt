@@ -14,12 +14,12 @@ use tmpl_lex::{Token, TokenKind};
 pub fn detail_of(alloc: Global, tokens: &[Token<'_>]) -> Result<String, AllocError> {
     let said = Sentence::new(alloc);
     let Some(first) = significant(tokens, 0) else {
-        return said.say("the action is empty").done();
+        return said.say("the action is empty").finish();
     };
     if let Some(flaw) = first_flaw(alloc, tokens)? {
         return flaw_text(alloc, tokens, flaw);
     }
-    shape_text(said, first, tokens).done()
+    shape_text(said, first, tokens).finish()
 }
 
 /// What is wrong with a token where it stands.
@@ -56,7 +56,7 @@ fn first_flaw(alloc: Global, tokens: &[Token<'_>]) -> Result<Option<(usize, Flaw
             return Ok(Some((index, flaw)));
         }
     }
-    Ok(unbalanced(tokens))
+    Ok(find_unbalanced(tokens))
 }
 
 /// The flaw of the token of this number.
@@ -246,7 +246,7 @@ fn parenthesis_flaw(tokens: &[Token<'_>], index: usize) -> Option<Flaw> {
 }
 
 /// The first `)` that closes nothing, or the first `(` of those outside all others that is not closed.
-fn unbalanced(tokens: &[Token<'_>]) -> Option<(usize, Flaw)> {
+fn find_unbalanced(tokens: &[Token<'_>]) -> Option<(usize, Flaw)> {
     let mut depth = 0_usize;
     let mut outermost = 0;
     for (index, token) in tokens.iter().enumerate() {
@@ -296,7 +296,7 @@ fn flaw_text(alloc: Global, tokens: &[Token<'_>], at: (usize, Flaw)) -> Result<S
         Flaw::Stray => said.say("unexpected ").quote(bytes),
         Flaw::Joined => said.say("a space is wanted before ").quote(bytes),
     };
-    said.done()
+    said.finish()
 }
 
 /// What is said of a word that names no function.
@@ -383,7 +383,7 @@ fn shape_text(said: Sentence, first: Token<'_>, tokens: &[Token<'_>]) -> Sentenc
 }
 
 /// What is said of an action that is out of place.
-pub fn misplaced(alloc: Global, role: Role, outside: Option<Open>) -> Result<String, AllocError> {
+pub fn misplaced_text(alloc: Global, role: Role, outside: Option<Open>) -> Result<String, AllocError> {
     let said = Sentence::new(alloc);
     let said = match role {
         Role::End => said.say(
@@ -397,7 +397,7 @@ pub fn misplaced(alloc: Global, role: Role, outside: Option<Open>) -> Result<Str
         Role::Else(_) => else_text(said, outside),
         _ => said,
     };
-    said.done()
+    said.finish()
 }
 
 /// Says what is open.
@@ -433,12 +433,12 @@ fn else_text(said: Sentence, outside: Option<Open>) -> Sentence {
 }
 
 /// What is said of a name that is not in scope.
-pub fn undeclared(alloc: Global, name: &[u8]) -> Result<String, AllocError> {
+pub fn undeclared_text(alloc: Global, name: &[u8]) -> Result<String, AllocError> {
     Sentence::new(alloc)
         .say("variable \"$")
         .show(name)
         .say("\" is not declared")
-        .done()
+        .finish()
 }
 
 /// What is said of what is open at the end of a file.
@@ -456,5 +456,5 @@ pub fn left_open(alloc: Global, open: Open, depth: usize) -> Result<String, Allo
     } else {
         said
     };
-    said.done()
+    said.finish()
 }

@@ -72,7 +72,7 @@ impl Sentence {
     /// # Errors
     ///
     /// Where memory was refused for some part of it.
-    pub fn done(self) -> Result<String, AllocError> {
+    pub fn finish(self) -> Result<String, AllocError> {
         if self.is_refused {
             Err(AllocError)
         } else {

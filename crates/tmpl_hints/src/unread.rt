@@ -31,10 +31,10 @@ pub fn unreadable(alloc: Global, tokens: &[Token<'_>], after: &[u8]) -> Result<S
     if opens_comment(after) {
         return said
             .say("a comment ends with \"*/}}\", or with \"*/\", a space and \"-}}\"")
-            .done();
+            .finish();
     }
     let bytes = after.get(read_len(tokens, after)..).unwrap_or(&[]);
-    said_of(said, tokens, bytes).done()
+    said_of(said, tokens, bytes).finish()
 }
 
 /// How many bytes of an action were read as tokens, with its marker.

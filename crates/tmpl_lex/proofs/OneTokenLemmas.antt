@@ -19,8 +19,8 @@ use Rattle.tmpl_lex.specs.Laws.{IsFound, BeginsWith}
 use Rattle.tmpl_lex.specs.Piece.{Token}
 use Rattle.tmpl_lex.specs.Token as table
 use Rattle.tmpl_lex.specs.Token.{IsToken, IsQuoted, no_byte, a_byte, an_escape, EndsSpace, at_byte, at_marker}
-use Rattle.tmpl_lex.specs.computed.Quoted.{up_to, unless, through, quoted}
-use Rattle.tmpl_lex.specs.computed.Token.{Begun, marked, begun, token_from, signed, dotted, assigned, of_kind, space_run, unmarked, name_run}
+use Rattle.tmpl_lex.specs.computed.Quoted.{up_to, unless, through, quoted_front}
+use Rattle.tmpl_lex.specs.computed.Token.{Begun, sign_token, front_of_token, token_from, after_sign, after_dot, after_colon, of_kind, space_run, space_before_marker, name_run}
 use Rattle.tmpl_lex.specs.computed.Trim.{End, ended_by, has_right_delimiter, has_dashed_delimiter, right_marked, right_delimiter}
 use Rattle.tmpl_lex.proofs.PartLemmas.{run-length, run-taken, taken-run, taken-rest}
 
@@ -43,9 +43,9 @@ braces-is bs h = grind (arith, nat_tests)
 dashed-is : (bs : List ℕ) → has_dashed_delimiter bs ≡ true → bs ≡ 45 ∷ 125 ∷ 125 ∷ drop 3 bs
 dashed-is bs h = grind (arith, nat_tests)
 
-marked-is : (bs : List ℕ) → right_marked bs ≡ true → (w : ℕ) × ((is_space w ≡ true) × (bs ≡ w ∷ 45 ∷ 125 ∷ 125 ∷ drop 4 bs))
-marked-is [] h = cc
-marked-is (a ∷ bs) h = grind (arith, nat_tests, and_parts, dashed-is)
+sign_token-is : (bs : List ℕ) → right_marked bs ≡ true → (w : ℕ) × ((is_space w ≡ true) × (bs ≡ w ∷ 45 ∷ 125 ∷ 125 ∷ drop 4 bs))
+sign_token-is [] h = cc
+sign_token-is (a ∷ bs) h = grind (arith, nat_tests, and_parts, dashed-is)
 
 pub found-ends : (bs : List ℕ) → IfSome (right_delimiter bs) (Ends bs)
 found-ends bs = go (has_right_delimiter bs) refl (right_marked bs) refl
@@ -53,8 +53,8 @@ found-ends bs = go (has_right_delimiter bs) refl (right_marked bs) refl
     go : (c : Bool) → has_right_delimiter bs ≡ c → (m : Bool) → right_marked bs ≡ m → IfSome (ended_by c m bs) (Ends bs)
     go true c m d = record { closing = codes "}}"; closes = closes; is = braces-is bs c }
     go false c true d =
-        let marked = marked-is bs d in
-        record { closing = marked.0 ∷ 45 ∷ 125 ∷ 125 ∷ []; closes = closes_marked marked.1.0; is = marked.1.1 }
+        let sign_token = sign_token-is bs d in
+        record { closing = sign_token.0 ∷ 45 ∷ 125 ∷ 125 ∷ []; closes = closes_marked sign_token.1.0; is = sign_token.1.1 }
     go false c false d = tt
 
 no-closes : (b : ℕ) (bs : List ℕ) → nat_eq b 125 ≡ false → has_right_delimiter (b ∷ bs) ≡ false
@@ -79,7 +79,7 @@ spaces-undashed (b ∷ bs) rest h e = grind (arith, nat_tests, and_parts)
 
 -- the white space at the front, before this rest
 run-space : (bs rest : List ℕ) → IsRun is_space bs rest
-    → space_run (bs ++ rest) ≡ take (unmarked (has_dashed_delimiter rest) (length bs)) (bs ++ rest)
+    → space_run (bs ++ rest) ≡ take (space_before_marker (has_dashed_delimiter rest) (length bs)) (bs ++ rest)
 run-space bs rest run = simp (run-length is_space bs rest run, drop-append_seam)
 
 spaces-run : (bs rest : List ℕ) → list_all is_space bs ≡ true → EndsSpace rest → space_run (bs ++ rest) ≡ bs
@@ -133,11 +133,11 @@ run-spaces bs h = go (has_dashed_delimiter (drop len bs)) refl len refl
 
 -- ---- quotes
 
-quoted-found : (q : ℕ) (bs rest : List ℕ) → nat_eq 92 q ≡ false → nat_eq q 10 ≡ false → IsQuoted q bs
-    → quoted q false (bs ++ q ∷ [] ++ rest) ≡ Some (bs ++ q ∷ [])
-quoted-found q _ rest e n no_byte = simp (n, eq-eqb q q refl)
-quoted-found q _ rest e n (a_byte {b = b} {bs = bs} l s c h) = simp (l, s, c, quoted-found q bs rest e n h)
-quoted-found q _ rest e n (an_escape {b = b} {bs = bs} l h) = simp (e, l, and-false, quoted-found q bs rest e n h)
+quoted_front-found : (q : ℕ) (bs rest : List ℕ) → nat_eq 92 q ≡ false → nat_eq q 10 ≡ false → IsQuoted q bs
+    → quoted_front q false (bs ++ q ∷ [] ++ rest) ≡ Some (bs ++ q ∷ [])
+quoted_front-found q _ rest e n no_byte = simp (n, eq-eqb q q refl)
+quoted_front-found q _ rest e n (a_byte {b = b} {bs = bs} l s c h) = simp (l, s, c, quoted_front-found q bs rest e n h)
+quoted_front-found q _ rest e n (an_escape {b = b} {bs = bs} l h) = simp (e, l, and-false, quoted_front-found q bs rest e n h)
 
 -- what was found: the bytes up to the quote, the quote, and what stands after it
 data IsUpTo (Form : List ℕ → Type 0) (q : ℕ) : List ℕ → List ℕ → Type 0 where
@@ -160,23 +160,23 @@ escape-after : (q b : ℕ) (bs : List ℕ) → b ≡ 92 → QuotedAfter q true b
 escape-after q b [] e h = absurd h
 escape-after q b (c ∷ bs) e h = rw e (an_escape h.0 h.1)
 
-quoted-is : (q : ℕ) (e : Bool) (bs : List ℕ) → IfSome (quoted q e bs) (IsUpTo (QuotedAfter q e) q bs)
-quoted-is q e [] = tt
-quoted-is q e (b ∷ bs) = go (nat_eq b 10) refl e (λ s. quoted-is q s bs)
+quoted_front-is : (q : ℕ) (e : Bool) (bs : List ℕ) → IfSome (quoted_front q e bs) (IsUpTo (QuotedAfter q e) q bs)
+quoted_front-is q e [] = tt
+quoted_front-is q e (b ∷ bs) = go (nat_eq b 10) refl e (λ s. quoted_front-is q s bs)
   where
     step : nat_eq b 10 ≡ false → nat_eq b q ≡ false → (s : Bool) → nat_eq b 92 ≡ s → (ys : List ℕ) → QuotedAfter q s ys → IsQuoted q (b ∷ ys)
     step el t false es ys f = a_byte el es t f
     step el t true es ys f = escape-after q b ys (eqb-true b 92 es) f
 
-    go : (l : Bool) → nat_eq b 10 ≡ l → (e : Bool) → ((s : Bool) → IfSome (quoted q s bs) (IsUpTo (QuotedAfter q s) q bs))
-        → IfSome (unless l (up_to (nat_eq b q && not e) b (quoted q (nat_eq b 92 && not e) bs))) (IsUpTo (QuotedAfter q e) q (b ∷ bs))
+    go : (l : Bool) → nat_eq b 10 ≡ l → (e : Bool) → ((s : Bool) → IfSome (quoted_front q s bs) (IsUpTo (QuotedAfter q s) q bs))
+        → IfSome (unless l (up_to (nat_eq b q && not e) b (quoted_front q (nat_eq b 92 && not e) bs))) (IsUpTo (QuotedAfter q e) q (b ∷ bs))
     go true el e ih = tt
     go false el false ih =
         rw (and-true (nat_eq b q), and-true (nat_eq b 92)) (up-to-is (QuotedAfter q (nat_eq b 92)) (IsQuoted q) q b bs (nat_eq b q)
-        (λ t. (eqb-true b q t, no_byte)) (λ t. step el t (nat_eq b 92) refl) (quoted q (nat_eq b 92) bs) (ih (nat_eq b 92)))
+        (λ t. (eqb-true b q t, no_byte)) (λ t. step el t (nat_eq b 92) refl) (quoted_front q (nat_eq b 92) bs) (ih (nat_eq b 92)))
     go false el true ih =
         rw (and-false (nat_eq b q), and-false (nat_eq b 92))
-        (up-to-is (IsQuoted q) (QuotedAfter q true) q b bs false (λ t. absurd (let k : ⊥ = cc in k)) (λ t ys f. (el, f)) (quoted q false bs) (ih false))
+        (up-to-is (IsQuoted q) (QuotedAfter q true) q b bs false (λ t. absurd (let k : ⊥ = cc in k)) (λ t ys f. (el, f)) (quoted_front q false bs) (ih false))
 
 raw-found : (q : ℕ) (bs rest : List ℕ) → Absent (q ∷ []) bs → through q (bs ++ q ∷ [] ++ rest) ≡ Some (bs ++ q ∷ [])
 raw-found q [] rest h = simp (eq-eqb q q refl)
@@ -200,7 +200,7 @@ abbrev token : TokenKind → List ℕ → Token
 token k bs = record { kind = k; bytes = bs }
 
 -- a token whose first byte tells
-by-first : (k : TokenKind) (b : ℕ) (bs rest : List ℕ) → nat_eq b 125 ≡ false → is_space b ≡ false → begun b (bs ++ rest) ≡ Some (k, bs)
+by-first : (k : TokenKind) (b : ℕ) (bs rest : List ℕ) → nat_eq b 125 ≡ false → is_space b ≡ false → front_of_token b (bs ++ rest) ≡ Some (k, bs)
     → IsFound (b ∷ bs ++ rest) (token k (b ∷ bs))
 by-first k b bs rest e s h = record { no_end = no-end b (bs ++ rest) e s; front = ap (token_from b) h }
 
@@ -222,12 +222,12 @@ found (table.space {b = b} {bs = bs} {rest = rest} h e) = space-found b bs rest 
 found (table.word {b = b} {bs = bs} {rest = rest} d run) = word-found b bs rest d run
 found (table.number {bs = bs} {rest = rest} b s d run) = number-found b bs rest s d run
 found (table.field {b = b} {bs = bs} {rest = rest} run) =
-    by-first kind.Field 46 (b ∷ bs) rest refl refl (ap (λ xs. Some (dotted xs)) (run-taken is_name_byte (b ∷ bs) rest run))
+    by-first kind.Field 46 (b ∷ bs) rest refl refl (ap (λ xs. Some (after_dot xs)) (run-taken is_name_byte (b ∷ bs) rest run))
 found (table.dot {rest = rest} s) = grind (arith, nat_tests, by-first, run-taken)
 found (table.variable {name = name} {rest = rest} run) = by-first kind.Variable 36 name rest refl refl (simp (run-taken is_name_byte name rest run))
-found (table.string {bs = bs} {rest = rest} h) = by-first kind.String 34 (bs ++ 34 ∷ []) rest refl refl (simp (quoted-found 34 bs rest refl refl h))
+found (table.string {bs = bs} {rest = rest} h) = by-first kind.String 34 (bs ++ 34 ∷ []) rest refl refl (simp (quoted_front-found 34 bs rest refl refl h))
 found (table.raw_string {rest = rest} bs h) = by-first kind.RawString 96 (bs ++ 96 ∷ []) rest refl refl (simp (raw-found 96 bs rest h))
-found (table.character {bs = bs} {rest = rest} h) = by-first kind.Character 39 (bs ++ 39 ∷ []) rest refl refl (simp (quoted-found 39 bs rest refl refl h))
+found (table.character {bs = bs} {rest = rest} h) = by-first kind.Character 39 (bs ++ 39 ∷ []) rest refl refl (simp (quoted_front-found 39 bs rest refl refl h))
 found (table.declare {rest = rest}) = by-first kind.Declare 58 (61 ∷ []) rest refl refl refl
 found (table.assign {rest = rest}) = by-first kind.Assign 61 [] rest refl refl refl
 found (table.comma {rest = rest}) = by-first kind.Comma 44 [] rest refl refl refl
@@ -247,7 +247,7 @@ by-test : (t : Bool) (b : ℕ) (bs : List ℕ) (o p : Option Begun) → (t ≡ t
     → (t ≡ false → IfSome p (StandsAt b bs)) → IfSome (if t then o else p) (StandsAt b bs)
 by-test t b bs o p this that = grind (arith, nat_tests)
 
-number-stands : (c : ℕ) → (c ∷ [] ≡ []) ⊎ (c ∷ [] ≡ codes "+") ⊎ (c ∷ [] ≡ codes "-") → (bs : List ℕ) → IfSome (signed bs) (StandsAt c bs)
+number-stands : (c : ℕ) → (c ∷ [] ≡ []) ⊎ (c ∷ [] ≡ codes "+") ⊎ (c ∷ [] ≡ codes "-") → (bs : List ℕ) → IfSome (after_sign bs) (StandsAt c bs)
 number-stands c s [] = tt
 number-stands c s (d ∷ bs) = by-test (is_ascii_digit d) c (d ∷ bs) _ None (λ h. record {
   rest = drop (prefix_len is_number_byte bs) bs;
@@ -255,15 +255,15 @@ number-stands c s (d ∷ bs) = by-test (is_ascii_digit d) c (d ∷ bs) _ None (�
   is = ap (λ l. d ∷ l) (sym (taken-rest is_number_byte bs));
 }) (λ h. tt)
 
-dotted-stands : (name rest bs : List ℕ) → IsRun is_name_byte name rest → bs ≡ name ++ rest → StandsAt 46 bs (dotted name)
-dotted-stands [] rest bs run is = record { rest = rest; stands = table.dot run.longest; is = is }
-dotted-stands (c ∷ name) rest bs run is = record { rest = rest; stands = table.field run; is = is }
+after_dot-stands : (name rest bs : List ℕ) → IsRun is_name_byte name rest → bs ≡ name ++ rest → StandsAt 46 bs (after_dot name)
+after_dot-stands [] rest bs run is = record { rest = rest; stands = table.dot run.longest; is = is }
+after_dot-stands (c ∷ name) rest bs run is = record { rest = rest; stands = table.field run; is = is }
 
 quote-stands : (k : TokenKind) (q : ℕ) (Form : List ℕ → Type 0) → ((xs rest : List ℕ) → Form xs → IsToken k (q ∷ (xs ++ q ∷ [])) rest)
     → (bs : List ℕ) (o : Option (List ℕ)) → IfSome o (IsUpTo Form q bs) → IfSome (of_kind k o) (StandsAt q bs)
 quote-stands k q Form row bs o at = grind (arith, nat_tests)
 
-declare-stands : (bs : List ℕ) → IfSome (assigned bs) (StandsAt 58 bs)
+declare-stands : (bs : List ℕ) → IfSome (after_colon bs) (StandsAt 58 bs)
 declare-stands [] = tt
 declare-stands (c ∷ bs) = by-test (nat_eq c 61) 58 (c ∷ bs) _ None
     (λ h. record { rest = bs; stands = table.declare; is = ap (λ n. n ∷ bs) (eqb-true c 61 h) }) (λ h. tt)
@@ -285,16 +285,16 @@ by-byte : (b c : ℕ) (bs : List ℕ) (o p : Option Begun) → IfSome o (StandsA
     → IfSome (if nat_eq b c then o else p) (StandsAt b bs)
 by-byte b c bs o p this that = grind (arith, nat_tests)
 
-marked-stands : (b : ℕ) (bs : List ℕ) → IfSome (marked b bs) (StandsAt b bs)
-marked-stands b bs =
+sign_token-stands : (b : ℕ) (bs : List ℕ) → IfSome (sign_token b bs) (StandsAt b bs)
+sign_token-stands b bs =
     let name = taken-run is_name_byte bs in
     by-byte b 43 bs _ _ (number-stands 43 (inr (inl refl)) bs)
     (by-byte b 45 bs _ _ (number-stands 45 (inr (inr refl)) bs)
-    (by-byte b 46 bs _ _ (dotted-stands (name_run bs) (drop (prefix_len is_name_byte bs) bs) bs name (sym (taken-rest is_name_byte bs)))
+    (by-byte b 46 bs _ _ (after_dot-stands (name_run bs) (drop (prefix_len is_name_byte bs) bs) bs name (sym (taken-rest is_name_byte bs)))
     (by-byte b 36 bs _ _ (run-stands kind.Variable is_name_byte 36 bs (table.variable name))
-    (by-byte b 34 bs _ _ (quote-stands kind.String 34 (IsQuoted 34) (λ xs rest f. table.string f) bs (quoted 34 false bs) (quoted-is 34 false bs))
+    (by-byte b 34 bs _ _ (quote-stands kind.String 34 (IsQuoted 34) (λ xs rest f. table.string f) bs (quoted_front 34 false bs) (quoted_front-is 34 false bs))
     (by-byte b 96 bs _ _ (quote-stands kind.RawString 96 (Absent (96 ∷ [])) (λ xs rest f. table.raw_string xs f) bs (through 96 bs) (raw-is 96 bs))
-    (by-byte b 39 bs _ _ (quote-stands kind.Character 39 (IsQuoted 39) (λ xs rest f. table.character f) bs (quoted 39 false bs) (quoted-is 39 false bs))
+    (by-byte b 39 bs _ _ (quote-stands kind.Character 39 (IsQuoted 39) (λ xs rest f. table.character f) bs (quoted_front 39 false bs) (quoted_front-is 39 false bs))
     (by-byte b 58 bs _ _ (declare-stands bs)
     (by-byte b 61 bs _ _ (alone-stands kind.Assign 61 bs table.assign)
     (by-byte b 44 bs _ _ (alone-stands kind.Comma 44 bs table.comma)
@@ -302,22 +302,22 @@ marked-stands b bs =
     (by-byte b 40 bs _ _ (alone-stands kind.LeftParenthesis 40 bs table.left_parenthesis)
     (by-byte b 41 bs _ _ (alone-stands kind.RightParenthesis 41 bs table.right_parenthesis) tt))))))))))))
 
-begun-stands : (b : ℕ) (bs : List ℕ) → right_marked (b ∷ bs) ≡ false → IfSome (begun b bs) (StandsAt b bs)
-begun-stands b bs m =
+front_of_token-stands : (b : ℕ) (bs : List ℕ) → right_marked (b ∷ bs) ≡ false → IfSome (front_of_token b bs) (StandsAt b bs)
+front_of_token-stands b bs m =
     let name = taken-run is_name_byte bs in
     by-test (is_space b) b bs _ _ (λ h. space-stands b bs h m) (λ s.
     by-test (is_ascii_digit b) b bs _ _
     (λ h. run-stands kind.Number is_number_byte b bs (table.number {sign = []} b (inl refl) h (taken-run is_number_byte bs))) (λ d.
     by-test (is_name_byte b) b bs _ _
     (λ h. run-stands kind.Word is_name_byte b bs (table.word d (record { passes = simp (h, name.passes); longest = name.longest })))
-    (λ n. marked-stands b bs)))
+    (λ n. sign_token-stands b bs)))
 
 no-marker : (c m : Bool) (bs : List ℕ) → ended_by c m bs ≡ None → m ≡ false
 no-marker c m bs h = grind (arith, nat_tests)
 
 pub stands : (bs : List ℕ) (t : Token) → IsFound bs t → BeginsWith bs t
 stands [] t h = cc
-stands (b ∷ bs) t h = go (begun b bs) (begun-stands b bs (no-marker (has_right_delimiter (b ∷ bs)) (right_marked (b ∷ bs)) (b ∷ bs) h.no_end)) h.front
+stands (b ∷ bs) t h = go (front_of_token b bs) (front_of_token-stands b bs (no-marker (has_right_delimiter (b ∷ bs)) (right_marked (b ∷ bs)) (b ∷ bs) h.no_end)) h.front
   where
     go : (o : Option Begun) → IfSome o (StandsAt b bs) → token_from b o ≡ Some t → BeginsWith (b ∷ bs) t
     go None at e = cc

@@ -2,7 +2,7 @@
 use Rattle.std.proofs.Common.{arith, ◌≡◌, ℕ, zero, suc, ◌+◌, ◌<◌, Bool, false, List, [], ◌∷◌, ◌++◌, Option, Some, None, refl, length, take, drop, nat_eq}
 use Rattle.std.proofs.lemmas.Bool.{false_from_ne_true}
 use Rattle.memchr.specs.Find.{Nowhere, Passes, is_byte}
-use Rattle.tmpl_lex.specs.computed.Quoted.{through, quoted}
+use Rattle.tmpl_lex.specs.computed.Quoted.{through, quoted_front}
 
 -- ---- the next such byte
 
@@ -35,6 +35,6 @@ after front (Some bs) = Some (front ++ bs)
 
 -- the first bytes hold no end, and after them one is escaped or not
 pub record IsOpen (q : ℕ) (bs : List ℕ) (i : ℕ) (escaped : Bool) : Type 0 where
-  pub same : quoted q false bs ≡ after (take i bs) (quoted q escaped (drop i bs))
+  pub same : quoted_front q false bs ≡ after (take i bs) (quoted_front q escaped (drop i bs))
 
 pub ruleset finds = (through-none, through-some)

@@ -17,7 +17,7 @@ pub(crate) fn through_len(byte: u8, bytes: &[u8]) -> Option<usize>
 /// How many bytes there are up to and with the next such quote that no backslash escapes, with no
 /// newline among them.
 pub(crate) fn quoted_len(quote: u8, bytes: &[u8]) -> Option<usize>
-    ensures value { taken_of bytes.now result ≡ spec.quoted quote false bytes.now }
+    ensures value { taken_of bytes.now result ≡ spec.quoted_front quote false bytes.now }
     ensures within { IfSome result (λ n. n ≤ length bytes.now) }
 {
     let mut escaped = false;

@@ -26,7 +26,7 @@ pub(crate) fn front_token(bytes: &[u8]) -> Option<Token<'_>>
 
 /// The kind of the token that begins with this byte, and how many of the bytes after it are its own.
 fn measure(first: u8, rest: &[u8]) -> Option<(TokenKind, usize)>
-    ensures value { begun_of rest.now result ≡ spec.begun first rest.now }
+    ensures value { begun_of rest.now result ≡ spec.front_of_token first rest.now }
     ensures within { IfSome result (λ p. p.1 ≤ length rest.now) }
 {
     if is_space(first) {
@@ -42,7 +42,7 @@ fn measure(first: u8, rest: &[u8]) -> Option<(TokenKind, usize)>
 
 /// The same after a byte that is neither white space nor of a name.
 fn measure_marked(first: u8, rest: &[u8]) -> Option<(TokenKind, usize)>
-    ensures value { begun_of rest.now result ≡ spec.marked first rest.now }
+    ensures value { begun_of rest.now result ≡ spec.sign_token first rest.now }
     ensures within { IfSome result (λ p. p.1 ≤ length rest.now) }
 {
     match first {
@@ -77,7 +77,7 @@ fn space_len(bytes: &[u8]) -> usize
 
 /// After a `+` or `-`: a number, if a digit stands there.
 fn measure_signed(rest: &[u8]) -> Option<(TokenKind, usize)>
-    ensures value { begun_of rest.now result ≡ spec.signed rest.now }
+    ensures value { begun_of rest.now result ≡ spec.after_sign rest.now }
     ensures within { IfSome result (λ p. p.1 ≤ length rest.now) }
 {
     match rest {
@@ -90,7 +90,7 @@ fn measure_signed(rest: &[u8]) -> Option<(TokenKind, usize)>
 
 /// After a dot: a field, if a name stands there.
 fn measure_dotted(rest: &[u8]) -> (TokenKind, usize)
-    ensures value { (result.0, take result.1 rest.now) ≡ spec.dotted (spec.name_run rest.now) }
+    ensures value { (result.0, take result.1 rest.now) ≡ spec.after_dot (spec.name_run rest.now) }
     ensures within { result.1 ≤ length rest.now }
 {
     match name_len(rest) {
@@ -101,7 +101,7 @@ fn measure_dotted(rest: &[u8]) -> (TokenKind, usize)
 
 /// After a colon: the sign that declares, if `=` stands there.
 fn measure_declare(rest: &[u8]) -> Option<(TokenKind, usize)>
-    ensures value { begun_of rest.now result ≡ spec.assigned rest.now }
+    ensures value { begun_of rest.now result ≡ spec.after_colon rest.now }
     ensures within { IfSome result (λ p. p.1 ≤ length rest.now) }
 {
     match rest {

@@ -17,7 +17,7 @@ use Rattle.tmpl_syntax.proofs.PrintedFileLemmas.{set_accepted}
 use Rattle.tmpl_syntax.proofs.ReadingLemmas.{has-one-outcome}
 use Rattle.tmpl_syntax.proofs.SameSetLemmas.{found-alike}
 use Rattle.std.specs.Prelude.{MatchOption}
-use Rattle.tmpl_meaning.specs.Laws.{AlikeRunAlike, PrintedRunsAlike, unplaced, unplaced_fault}
+use Rattle.tmpl_meaning.specs.Laws.{AlikeRunAlike, PrintedRunsAlike, without_place, unplaced_fault}
 use Rattle.tmpl_meaning.specs.Meaning.{End, Ran, Rules, Run, fault_of, faulted}
 use Rattle.tmpl_meaning.specs.Pipeline.{without_null}
 use Rattle.tmpl_meaning.proofs.CutLemmas.{Meets, Sides, far_run, moved, moved_node, moved_nodes, moved_template, near_run, runs-meet}
@@ -57,8 +57,8 @@ module _ (rules : Rules) where
   faults-alike (faulted f) = refl
   faults-alike _ = refl
 
-  meets-alike : (e : End) (r : Run) (q : Run × End) → Meets alike (r, e) q → unplaced (ran_of (r, e)) ≡ unplaced (ran_of q)
-  meets-alike e r q (inl is) = sym (ap (λ (p : Run × End). unplaced (ran_of p)) is ∙ (λ i. record (unplaced (ran_of (r, e))) { fault = faults-alike e i }))
+  meets-alike : (e : End) (r : Run) (q : Run × End) → Meets alike (r, e) q → without_place (ran_of (r, e)) ≡ without_place (ran_of q)
+  meets-alike e r q (inl is) = sym (ap (λ (p : Run × End). without_place (ran_of p)) is ∙ (λ i. record (without_place (ran_of (r, e))) { fault = faults-alike e i }))
   meets-alike (faulted f) r q (inr c) = absurd (false≢true c.0.0)
   meets-alike _ r q (inr c) = absurd c.0
 
@@ -67,17 +67,17 @@ module _ (rules : Rules) where
   ran_nowhere us name ns d = ran_with rules (map (λ (u : Unlined). (u.0, nowhere u.1)) us) name (nowhere ns) d
 
   by-unlined : (set : List Template) (name : List ℕ) (t : Tree) (d : Value)
-      → unplaced (ran_with rules set name t d) ≡ unplaced (ran_nowhere (map unlined_template set) name (unlined t.nodes) d)
+      → without_place (ran_with rules set name t d) ≡ without_place (ran_nowhere (map unlined_template set) name (unlined t.nodes) d)
   by-unlined set name t d =
       let near : Run × End = near_run alike set name t d in
       meets-alike near.1 near.0 (far_run alike set name t d) (runs-meet alike set name t d (add-zero rules.step_limit) (omega arith))
-      ∙ (λ i. unplaced (ran_with rules (set-unlined set i) name (nowhere (nodes-unlined t.nodes i)) d))
+      ∙ (λ i. without_place (ran_with rules (set-unlined set i) name (nowhere (nodes-unlined t.nodes i)) d))
 
 pub alike_run_alike : AlikeRunAlike
 alike_run_alike rules set other name t u input sets trees =
     let d = option_map_or without_null input nothing in
     by-unlined rules set name t d
-    ∙ (λ i. unplaced (ran_nowhere rules (sets i) name (trees i) d))
+    ∙ (λ i. without_place (ran_nowhere rules (sets i) name (trees i) d))
     ∙ sym (by-unlined rules other name u d)
 
 -- ---- what is printed

@@ -18,7 +18,7 @@ use Rattle.tmpl_meaning.specs.Fault.{Cause, calls_too_deep, steps_spent}
 use Rattle.tmpl_meaning.specs.Laws.{Begins, IsNoLimit}
 use Rattle.tmpl_meaning.specs.Pipeline.{Environment, commands_value}
 use Rattle.tmpl_meaning.specs.Meaning.{Calls, End, Next, Rules, Run, Setting, after, after_turn, broke, calls_within, continued, done, faulted, faulted_at}
-use Rattle.tmpl_meaning.specs.Meaning.{meanings, scope, setting_of, shown, spend, stepped, turns, visited, with_bound, with_pipeline, with_value}
+use Rattle.tmpl_meaning.specs.Meaning.{meanings, scope, setting_of, show, spend, stepped, turns, elements_visited, with_bound, with_pipeline, with_value}
 use Rattle.tmpl_meaning.proofs.PartLemmas.{over}
 use Rattle.tmpl_meaning.proofs.AddLemmas.{adds, any-node, any-nodes, calls-add}
 use Rattle.tmpl_meaning.proofs.EachPartLemmas.{CallsKeep, Kept, end-kept, nodes-kept, stepped-kept, turn-kept, turns-kept}
@@ -111,7 +111,7 @@ module _ (k : Sides) where
   scope-goes : (go go' : Next) → Goes go go' → Goes (scope go) (scope go')
   scope-goes go go' h r = scope-meets (length r.env) (go r) (go' (ahead r)) (h r)
 
-  shown-goes : (b : Binding) (v : Value) → Goes (shown b v) (shown b v)
+  shown-goes : (b : Binding) (v : Value) → Goes (show b v) (show b v)
   shown-goes unbound v r = inl refl
   shown-goes _ v r = inl refl
 
@@ -205,9 +205,9 @@ module _ (k : Sides) where
     controlled-goes line control.If h d body body' other other' f a g = choosing-goes line h d (λ v. body d) (λ v. body' d) other other' (λ v. f d) g
     controlled-goes line control.With h d body body' other other' f a g = choosing-goes line h d body body' other other' f g
     controlled-goes line control.Range h d body body' other other' f a g =
-        pipeline-goes line h.pipeline d (λ v. over here line h.binding body other (visited h.binding v))
-        (λ v. over there (k.at line) h.binding body' other' (visited h.binding v))
-        (λ v. over-goes line h.binding body body' f a other other' g (visited h.binding v))
+        pipeline-goes line h.pipeline d (λ v. over here line h.binding body other (elements_visited h.binding v))
+        (λ v. over there (k.at line) h.binding body' other' (elements_visited h.binding v))
+        (λ v. over-goes line h.binding body body' f a other other' g (elements_visited h.binding v))
 
     -- ---- calls
 
@@ -231,7 +231,7 @@ module _ (k : Sides) where
       mutual
         stepped-goes : (line : ℕ) (n : NodeKind) (d : Value) → Goes (stepped here line n d) (stepped there (k.at line) (moved_node k.at n) d)
         stepped-goes line (text bytes) d r = inl refl
-        stepped-goes line (action h) d r = pipeline-goes line h.pipeline d (shown h.binding) (shown h.binding) (shown-goes h.binding) r
+        stepped-goes line (action h) d r = pipeline-goes line h.pipeline d (show h.binding) (show h.binding) (shown-goes h.binding) r
         stepped-goes line (control_node c h body other) d r =
             scope-goes (controlling here line c h d (λ v. meanings here body v) (meanings here other d))
             (controlling there (k.at line) c h d (λ v. meanings there (moved_nodes k.at body) v) (meanings there (moved_nodes k.at other) d))

@@ -15,7 +15,7 @@ use Rattle.tmpl_syntax.specs.Set.{Template, tree_named}
 use Rattle.tmpl_meaning.specs.Fault.{Cause}
 use Rattle.tmpl_meaning.specs.Pipeline.{Environment, Place, commands_value}
 use Rattle.tmpl_meaning.specs.Meaning.{Calls, End, Next, Rules, Run, Setting, broke, calls_within, done, faulted, meanings, scope}
-use Rattle.tmpl_meaning.specs.Meaning.{setting_of, shown, spend, stepped, turns, visited, with_bound, with_pipeline, with_value}
+use Rattle.tmpl_meaning.specs.Meaning.{setting_of, show, spend, stepped, turns, elements_visited, with_bound, with_pipeline, with_value}
 use Rattle.tmpl_meaning.proofs.PartLemmas.{apart, choosing, controlling, handing, on_end, on_turn, one_of, over, run_called, spend_if, turn, uncalled, without_key}
 
 -- each pipeline of a node, and of nodes, is such
@@ -74,7 +74,7 @@ module _ {Then : Run → Run → Type 0} {Fine : Pipeline → Type 0} (k : Keeps
       let given = commands_value at p None in
       k.on r (record r { made_text = r.made_text || given.made_text }) _ (k.pipes p at fine r) (value-kept s line given.result go (λ v is. h v) _)
 
-  shown-kept : (b : Binding) (v : Value) → Kept (shown b v)
+  shown-kept : (b : Binding) (v : Value) → Kept (show b v)
   shown-kept unbound v r = k.puts r (text_of v)
   shown-kept _ v r = k.binds r _
 
@@ -114,7 +114,7 @@ module _ {Then : Run → Run → Type 0} {Fine : Pipeline → Type 0} (k : Keeps
   controlled-kept s line control.If h d body other fine f g = choosing-kept s line h d (λ v. body d) other fine (λ v. f d) g
   controlled-kept s line control.With h d body other fine f g = choosing-kept s line h d body other fine f g
   controlled-kept s line control.Range h d body other fine f g =
-      pipeline-kept s line h.pipeline d _ fine (λ v. over-kept s line h.binding body other (visited h.binding v) f g)
+      pipeline-kept s line h.pipeline d _ fine (λ v. over-kept s line h.binding body other (elements_visited h.binding v) f g)
 
   -- ---- nodes
 
@@ -127,7 +127,7 @@ module _ {Then : Run → Run → Type 0} {Fine : Pipeline → Type 0} (k : Keeps
     mutual
       pub stepped-kept : (n : NodeKind) (line : ℕ) (d : Value) → NodeHas Fine n → Kept (stepped s line n d)
       stepped-kept (text bytes) line d fine r = k.puts r bytes
-      stepped-kept (action h) line d fine r = pipeline-kept s line h.pipeline d (shown h.binding) fine (shown-kept h.binding) r
+      stepped-kept (action h) line d fine r = pipeline-kept s line h.pipeline d (show h.binding) fine (shown-kept h.binding) r
       stepped-kept (control_node c h body other) line d fine r =
           k.on r _ _
           (controlled-kept s line c h d (λ v. meanings s body v) (meanings s other d) fine.0 (λ v. nodes-kept body v fine.1) (nodes-kept other d fine.2) r)

@@ -21,8 +21,8 @@ use Rattle.tmpl_syntax.specs.Place.Role.{Name, assigned_by, names_of, names_give
 use Rattle.tmpl_syntax.specs.Formed.{is_among, are_among, declared_to, else_scope, is_looped, scope_after, is_formed, are_formed}
 use Rattle.tmpl_syntax.proofs.FormedLemmas.{control-formed, or-left, or-right}
 use Rattle.tmpl_meaning.specs.Fault.{Cause, Fault}
-use Rattle.tmpl_meaning.specs.Meaning.{Calls, End, Next, Rules, Run, Setting, after, after_turn, assigned, bound, broke, continued, calls_within}
-use Rattle.tmpl_meaning.specs.Meaning.{done, faulted, meanings, scope, setting_of, shown, spend, stepped, turns, visited, with_bound}
+use Rattle.tmpl_meaning.specs.Meaning.{Calls, End, Next, Rules, Run, Setting, after, after_turn, assign_variable, bind, broke, continued, calls_within}
+use Rattle.tmpl_meaning.specs.Meaning.{done, faulted, meanings, scope, setting_of, show, spend, stepped, turns, elements_visited, with_bound}
 use Rattle.tmpl_meaning.specs.Meaning.{with_pipeline, with_value}
 use Rattle.tmpl_meaning.specs.Pipeline.{Environment, Given, commands_value}
 use Rattle.tmpl_meaning.specs.Laws.{FindsItsOwn, FindsNames, IsOver, EndsInRange, StaysInScope, scope_past, with_older}
@@ -55,35 +55,35 @@ declared-full _ ns = refl
 
 -- ---- variables
 
-assigned-names : (name : List ℕ) (x : Value) (env : Environment) → names (assigned name x env) ≡ names env
-assigned-names name x [] = refl
-assigned-names name x (v ∷ env) = go (bytes_eq v.0 name) (assigned-names name x env)
+assign_variable-names : (name : List ℕ) (x : Value) (env : Environment) → names (assign_variable name x env) ≡ names env
+assign_variable-names name x [] = refl
+assign_variable-names name x (v ∷ env) = go (bytes_eq v.0 name) (assign_variable-names name x env)
   where
-    go : (b : Bool) → names (assigned name x env) ≡ names env → names (if b then (v.0, x) ∷ env else v ∷ assigned name x env) ≡ v.0 ∷ names env
+    go : (b : Bool) → names (assign_variable name x env) ≡ names env → names (if b then (v.0, x) ∷ env else v ∷ assign_variable name x env) ≡ v.0 ∷ names env
     go true more = refl
     go false more = ap (λ ns. v.0 ∷ ns) more
 
-assigned-same : (name : List ℕ) (x : Value) (env older : Environment) → is_among (names env) name ≡ true
-    → assigned name x (env ++ older) ≡ assigned name x env ++ older
-assigned-same name x [] older e = absurd (false≢true e)
-assigned-same name x (v ∷ env) older e =
-    go (bytes_eq v.0 name) (ap (λ b. b || is_among (names env) name) (nat_list_eq_equiv.symm v.0 name) ∙ e) (assigned-same name x env older)
+assign_variable-same : (name : List ℕ) (x : Value) (env older : Environment) → is_among (names env) name ≡ true
+    → assign_variable name x (env ++ older) ≡ assign_variable name x env ++ older
+assign_variable-same name x [] older e = absurd (false≢true e)
+assign_variable-same name x (v ∷ env) older e =
+    go (bytes_eq v.0 name) (ap (λ b. b || is_among (names env) name) (nat_list_eq_equiv.symm v.0 name) ∙ e) (assign_variable-same name x env older)
   where
     go : (b : Bool) → (b || is_among (names env) name) ≡ true
-        → (is_among (names env) name ≡ true → assigned name x (env ++ older) ≡ assigned name x env ++ older)
-        → (if b then (v.0, x) ∷ env ++ older else v ∷ assigned name x (env ++ older)) ≡ (if b then (v.0, x) ∷ env else v ∷ assigned name x env) ++ older
+        → (is_among (names env) name ≡ true → assign_variable name x (env ++ older) ≡ assign_variable name x env ++ older)
+        → (if b then (v.0, x) ∷ env ++ older else v ∷ assign_variable name x (env ++ older)) ≡ (if b then (v.0, x) ∷ env else v ∷ assign_variable name x env) ++ older
     go true h more = refl
     go false h more = ap (λ vs. v ∷ vs) (more h)
 
-bound-names : (b : Binding) (e : Element) (env : Environment) → names (bound b e env) ≡ declared_to b (names env)
-bound-names (assign name) e env = assigned-names name e.1 env
-bound-names _ e env = refl
+bind-names : (b : Binding) (e : Element) (env : Environment) → names (bind b e env) ≡ declared_to b (names env)
+bind-names (assign name) e env = assign_variable-names name e.1 env
+bind-names _ e env = refl
 
-bound-same : (b : Binding) (e : Element) (env older : Environment) → is_among (names env) [] ≡ true → are_among (names env) (assigned_by b) ≡ true
-    → bound b e (env ++ older) ≡ bound b e env ++ older
-bound-same (assign []) e env older start k = assigned-same [] e.1 env older start
-bound-same (assign (c ∷ cs)) e env older start k = assigned-same (c ∷ cs) e.1 env older (and_parts (is_among (names env) (c ∷ cs)) true k).0
-bound-same _ e env older start k = refl
+bind-same : (b : Binding) (e : Element) (env older : Environment) → is_among (names env) [] ≡ true → are_among (names env) (assigned_by b) ≡ true
+    → bind b e (env ++ older) ≡ bind b e env ++ older
+bind-same (assign []) e env older start k = assign_variable-same [] e.1 env older start
+bind-same (assign (c ∷ cs)) e env older start k = assign_variable-same (c ∷ cs) e.1 env older (and_parts (is_among (names env) (c ∷ cs)) true k).0
+bind-same _ e env older start k = refl
 
 -- ---- what holds after a part of a run
 
@@ -215,27 +215,27 @@ known-in h ns e =
     record { start = start-full ns; assigns = p.0; uses = p.1 }
 
 -- a part after a binding
-bound-leaves : (loop : Bool) (ns : List Name) (P : End → List Name → Type 0) (b : Binding) (e : Element) (part : Next) → is_among ns [] ≡ true
+bind-leaves : (loop : Bool) (ns : List Name) (P : End → List Name → Type 0) (b : Binding) (e : Element) (part : Next) → is_among ns [] ≡ true
     → are_among ns (assigned_by b) ≡ true → Leaves loop (declared_to b ns) P part → Leaves loop ns P (λ r. part (with_bound b e r))
-bound-leaves loop ns P b e part start assigns h r is =
-    let beyond = bound-names b e r.env in
+bind-leaves loop ns P b e part start assigns h r is =
+    let beyond = bind-names b e r.env in
     let k = h (with_bound b e r) (rw beyond (ap (declared_to b) is)) in (
-      longer-on r.env (bound b e r.env) (part (with_bound b e r)).0.env (by b beyond) k.0,
+      longer-on r.env (bind b e r.env) (part (with_bound b e r)).0.env (by b beyond) k.0,
       k.1,
-      λ older. ap (λ env. part (record r { env = env })) (bound-same b e r.env older (rw is start) (rw is assigns)) ∙ k.2 older,
+      λ older. ap (λ env. part (record r { env = env })) (bind-same b e r.env older (rw is start) (rw is assigns)) ∙ k.2 older,
       k.3,
     )
   where
-    by : (c : Binding) → names (bound b e r.env) ≡ declared_to c (names r.env) → Longer r.env (bound b e r.env)
+    by : (c : Binding) → names (bind b e r.env) ≡ declared_to c (names r.env) → Longer r.env (bind b e r.env)
     by (declare name) h = (name ∷ [], h)
     by (declare_pair key name) h = (name ∷ key ∷ [], h)
     by _ h = ([], h)
 
-shown-leaves : (loop : Bool) (ns : List Name) (b : Binding) (v : Value) → is_among ns [] ≡ true → are_among ns (assigned_by b) ≡ true
-    → Leaves loop ns (Done (declared_to b ns)) (shown b v)
-shown-leaves loop ns unbound v start assigns = λ r is. (([], refl), λ e. tt, λ older. refl, λ d. is)
-shown-leaves loop ns b v start assigns =
-    bound-leaves loop ns (Done (declared_to b ns)) b (without_key v) (λ r. (r, done)) start assigns
+show-leaves : (loop : Bool) (ns : List Name) (b : Binding) (v : Value) → is_among ns [] ≡ true → are_among ns (assigned_by b) ≡ true
+    → Leaves loop ns (Done (declared_to b ns)) (show b v)
+show-leaves loop ns unbound v start assigns = λ r is. (([], refl), λ e. tt, λ older. refl, λ d. is)
+show-leaves loop ns b v start assigns =
+    bind-leaves loop ns (Done (declared_to b ns)) b (without_key v) (λ r. (r, done)) start assigns
     (at_once loop (declared_to b ns) (Done (declared_to b ns)) done (λ e. tt) (λ d. refl))
 
 -- ---- controls
@@ -250,7 +250,7 @@ choosing-leaves : (s : Setting) (line : ℕ) (h : Header) (d : Value) (loop : Bo
     → Leaves loop ns Any (choosing s line h d body other)
 choosing-leaves s line h d loop ns body other known p q =
     with_pipeline-leaves loop ns Any (λ f. tt) s line h.pipeline d (λ v r. one_of (truth v) (body v) other (with_bound h.binding (without_key v) r))
-    known.start known.uses (λ v. bound-leaves loop ns Any h.binding (without_key v) (one_of (truth v) (body v) other) known.start known.assigns
+    known.start known.uses (λ v. bind-leaves loop ns Any h.binding (without_key v) (one_of (truth v) (body v) other) known.start known.assigns
     (one_of-leaves loop (declared_to h.binding ns) (truth v) (body v) other (p v) q))
 
 -- what goes on after one element, whatever it ends in
@@ -273,7 +273,7 @@ module _ (s : Setting) (line : ℕ) (h : Header) (d : Value) (ns : List Name) (k
       → Leaves false ns (These ns) (turns s line h.binding body es)
   turns-leave p [] = at_once false ns (These ns) done (λ e. tt) refl
   turns-leave p (e ∷ es) =
-      let inner = bound-leaves true ns Any h.binding e (body e.1) known.start known.assigns (p e.1) in
+      let inner = bind-leaves true ns Any h.binding e (body e.1) known.start known.assigns (p e.1) in
       let part : Next = scope (λ r. body e.1 (with_bound h.binding e r)) in
       after_turn-leaves ns (turn s line h.binding body e) (turns s line h.binding body es)
       (spend-leaves true ns (These ns) (λ f. refl) s line part (scope-leaves true ns Any _ inner)) (turns-leave p es)
@@ -289,8 +289,8 @@ module _ (s : Setting) (line : ℕ) (h : Header) (d : Value) (ns : List Name) (k
   controlled-leaves control.If loop other p q = choosing-leaves s line h d loop ns (λ v. body d) other known (λ v. p d) q
   controlled-leaves control.With loop other p q = choosing-leaves s line h d loop ns body other known p q
   controlled-leaves control.Range loop other p q =
-      with_pipeline-leaves loop ns Any (λ f. tt) s line h.pipeline d (λ v. over s line h.binding body other (visited h.binding v)) known.start known.uses
-      (λ v. over-leaves loop other p q (visited h.binding v))
+      with_pipeline-leaves loop ns Any (λ f. tt) s line h.pipeline d (λ v. over s line h.binding body other (elements_visited h.binding v)) known.start known.uses
+      (λ v. over-leaves loop other p q (elements_visited h.binding v))
 
 -- ---- calls
 
@@ -330,10 +330,10 @@ module _ (s : Setting) (calls : CallsEnd s.calls) where
     stepped-leaves line (text bytes) d ns loop levels e = λ r is. (([], refl), λ f. tt, λ older. refl, λ f. is)
     stepped-leaves line (action h) d ns loop levels e =
         let known = known-in h ns e in
-        with_pipeline-leaves loop (full ns) (Done (full (declared_to h.binding ns))) (λ f e. absurd e) s line h.pipeline d (shown h.binding)
+        with_pipeline-leaves loop (full ns) (Done (full (declared_to h.binding ns))) (λ f e. absurd e) s line h.pipeline d (show h.binding)
         known.start known.uses
-        (λ v. subst (λ left. Leaves loop (full ns) (Done left) (shown h.binding v)) (declared-full h.binding ns)
-        (shown-leaves loop (full ns) h.binding v known.start known.assigns))
+        (λ v. subst (λ left. Leaves loop (full ns) (Done left) (show h.binding v)) (declared-full h.binding ns)
+        (show-leaves loop (full ns) h.binding v known.start known.assigns))
     stepped-leaves line (control_node c h body other) d ns loop levels e =
         let parts = control-formed c h body other ns loop levels e in
         let in_body = declared_to h.binding ns in

@@ -9,7 +9,7 @@ use Rattle.tmpl_funcs.specs.Func.{takes}
 use Rattle.tmpl_grammar.specs.Tree.{Operands, no_operand, operand}
 use Rattle.tmpl_meaning.specs.Fault.{Cause}
 use Rattle.tmpl_meaning.specs.Laws.{JoinsByTable, joining}
-use Rattle.tmpl_meaning.specs.Pipeline.{Given, Place, applied, decides, given, given_then, go_on, junction, operand_value, operand_values}
+use Rattle.tmpl_meaning.specs.Pipeline.{Given, Place, apply_function, decides, as_given, given_then, go_on, junction, operand_value, operand_values}
 use Rattle.tmpl_meaning.proofs.PartLemmas.{decided}
 
 -- of values the first that decides, else the last, or this one where there are none
@@ -47,14 +47,14 @@ record Parted (r : Result Value Cause) (rs : Result (List Value) Cause) (vs : Li
   all : vs ≡ first ∷ others
 
 parted : (r : Result Value Cause) (made : Bool) (rest : Given (List Value)) (vs : List Value)
-    → (go_on r made (λ v. given_then rest (λ ws. given (Ok (v ∷ ws))))).result ≡ Ok vs → Parted r rest.result vs
+    → (go_on r made (λ v. given_then rest (λ ws. as_given (Ok (v ∷ ws))))).result ≡ Ok vs → Parted r rest.result vs
 parted (Err e) made rest vs h = let g : Err e ≡ Ok vs = h in cc
 parted (Ok v) made rest vs h = go rest.result refl
   where
     go : (rs : Result (List Value) Cause) → rest.result ≡ rs → Parted (Ok v) rest.result vs
-    go (Err e) same = let g : Err e ≡ Ok vs = ap (λ rs. (go_on rs rest.made_text (λ (ws : List Value). given (Ok (v ∷ ws)))).result) (sym same) ∙ h in cc
+    go (Err e) same = let g : Err e ≡ Ok vs = ap (λ rs. (go_on rs rest.made_text (λ (ws : List Value). as_given (Ok (v ∷ ws)))).result) (sym same) ∙ h in cc
     go (Ok ws) same =
-        let g : Ok (v ∷ ws) ≡ Ok vs = ap (λ rs. (go_on rs rest.made_text (λ (ws : List Value). given (Ok (v ∷ ws)))).result) (sym same) ∙ h in
+        let g : Ok (v ∷ ws) ≡ Ok vs = ap (λ rs. (go_on rs rest.made_text (λ (ws : List Value). as_given (Ok (v ∷ ws)))).result) (sym same) ∙ h in
         record { first = v; others = ws; is = refl; are = same; all = cc }
 
 module _ (stop : Bool) (s : Place) (piped : Option Value) where
@@ -73,7 +73,7 @@ module _ (stop : Bool) (s : Place) (piped : Option Value) where
 
 -- the table's answer for values of a number that the function takes
 table : (is_or : Bool) (vs : List Value) → takes (joining is_or) (length vs) ≡ true
-    → Ok (among is_or nothing vs) ≡ (applied (joining is_or) vs).result
+    → Ok (among is_or nothing vs) ≡ (apply_function (joining is_or) vs).result
 table true [] h = cc
 table false [] h = cc
 table true (v ∷ vs) h = refl

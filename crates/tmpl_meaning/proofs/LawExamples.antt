@@ -3,7 +3,7 @@ use Rattle.std.proofs.Common.{◌≡◌, ℕ, false, List, [], ◌∷◌, Some, 
 use Rattle.tmpl_grammar.specs.Tree.{nil, no_operand, operand, no_command, command, unbound}
 use Rattle.tmpl_syntax.specs.Tree.{NodeKind, Nodes, Tree, none, then, text, action, template_node}
 use Rattle.tmpl_syntax.specs.Set.{Template}
-use Rattle.tmpl_meaning.specs.Laws.{Unplaced, unplaced}
+use Rattle.tmpl_meaning.specs.Laws.{Unplaced, without_place}
 use Rattle.tmpl_meaning.specs.Laws.{IsWithinLimits}
 use Rattle.tmpl_meaning.specs.Meaning.{Cause, Ran, Rules, calls_too_deep, nil_command, ran, steps_spent}
 use Rattle.tmpl_meaning.specs.declared.missing_key.MissingKey.TheVariants.{Default}
@@ -64,6 +64,6 @@ elsewhere = ran (rules 4 2) ((codes "u", tree_in (codes "g") (then 7 (text (code
 told : Unplaced
 told = record { text = codes "AC"; fault = Some (codes "u", nil_command); made_text = false }
 
-no-place-is-told : (unplaced (run 4 2) ≡ told) × (unplaced elsewhere ≡ told)
+no-place-is-told : (without_place (run 4 2) ≡ told) × (without_place elsewhere ≡ told)
 unfolding elsewhere told
 no-place-is-told = (refl, refl)

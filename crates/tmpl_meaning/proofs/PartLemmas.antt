@@ -11,7 +11,7 @@ use Rattle.tmpl_grammar.specs.declared.tree.Control.{Control}
 use Rattle.tmpl_syntax.specs.Tree.{Tree}
 use Rattle.tmpl_syntax.specs.Set.{Template}
 use Rattle.tmpl_meaning.specs.Fault.{Cause, call_failed, calls_too_deep, no_template, steps_spent}
-use Rattle.tmpl_meaning.specs.Pipeline.{Environment, Given, given}
+use Rattle.tmpl_meaning.specs.Pipeline.{Environment, Given, as_given}
 use Rattle.tmpl_meaning.specs.Meaning.{Calls, End, Next, Ran, Rules, Run, Setting, after, after_turn, calls_within, done, fault_of}
 use Rattle.tmpl_meaning.specs.Meaning as meaning
 use Rattle.tmpl_meaning.specs.Meaning.{Parts, faulted, faulted_at, meanings, scope, setting_of, spend, with_bound, with_pipeline, with_value}
@@ -19,10 +19,10 @@ use Rattle.tmpl_meaning.specs.Meaning.{Parts, faulted, faulted_at, meanings, sco
 -- ---- pipelines
 
 abbrev pub by_count : Func → Bool → Given Value → Given Value
-by_count f b g = if b then g else given (Err (call_failed f WrongCount))
+by_count f b g = if b then g else as_given (Err (call_failed f WrongCount))
 
 abbrev pub decided : Bool → Value → Given Value → Given Value
-decided b v rest = if b then given (Ok v) else rest
+decided b v rest = if b then as_given (Ok v) else rest
 
 -- ---- parts of a template
 
@@ -62,7 +62,7 @@ abbrev pub over : Setting → ℕ → Binding → (Value → Next) → Next → 
 over s line b body other es = meaning.over s line (parts_of b body other) es
 
 abbrev pub controlled : Setting → ℕ → Control → Binding → Value → (Value → Next) → Next → Value → Next
-controlled s line c b d body other = meaning.controlled s line c (parts_of b body other) d
+controlled s line c b d body other = meaning.control_run s line c (parts_of b body other) d
 
 abbrev pub controlling : Setting → ℕ → Control → Header → Value → (Value → Next) → Next → Next
 controlling s line c h d body other = with_pipeline s line h.pipeline d (controlled s line c h.binding d body other)
@@ -71,7 +71,7 @@ abbrev pub turn : Setting → ℕ → Binding → (Value → Next) → Element �
 turn s line b body e = spend s line (scope (λ r. body e.1 (with_bound b e r)))
 
 abbrev pub handing : Setting → ℕ → Option Pipeline → Value → (Value → Next) → Next
-handing s line given d go = option_map_or (λ p. with_pipeline s line p d go) given (go nothing)
+handing s line as_given d go = option_map_or (λ p. with_pipeline s line p d go) as_given (go nothing)
 
 abbrev pub left_by : End → End
 left_by end = option_map_or faulted (fault_of end) done
@@ -94,7 +94,7 @@ abbrev pub uncalled : Rules → List ℕ → Option Tree → Result (Value → N
 uncalled rules name found = option_map_or (λ t. Err (calls_too_deep rules.depth_limit)) found (Err (no_template name))
 
 abbrev pub calling : Setting → ℕ → List ℕ → Option Pipeline → Value → Next
-calling s line name given d = with_value s line (s.calls name) (handing s line given d)
+calling s line name as_given d = with_value s line (s.calls name) (handing s line as_given d)
 
 -- ---- whole templates
 

@@ -13,7 +13,7 @@ use Rattle.tmpl_grammar.specs.Tree.{Operand, variable, nil, function, group}
 use Rattle.tmpl_grammar.specs.Tree.{Operands, no_operand, operand, Pipeline, no_command, command}
 use Rattle.tmpl_syntax.specs.Place.Role.{Name, used_by_operand, used_by_operands, used_by}
 use Rattle.tmpl_syntax.specs.Formed.{is_among, are_among}
-use Rattle.tmpl_meaning.specs.Pipeline.{Environment, Place, lookup, chain, without_null, given, given_then, applied, by_function, decides}
+use Rattle.tmpl_meaning.specs.Pipeline.{Environment, Place, lookup, chain, without_null, as_given, given_then, apply_function, by_function, decides}
 use Rattle.tmpl_meaning.specs.Pipeline.{operand_count, operand_value, operand_values, junction, command_value, commands_value}
 use Rattle.tmpl_meaning.proofs.PartLemmas.{by_count, decided}
 use Rattle.tmpl_meaning.specs.declared.missing_key.MissingKey.{MissingKey}
@@ -41,8 +41,8 @@ module _ (mode : MissingKey) (d : Value) (env older : Environment) (start : is_a
 
   variable-same : (name : List ℕ) (fs : List (List ℕ)) → are_among (names env) (used_by_operand (variable name fs)) ≡ true
       → operand_value far (variable name fs) ≡ operand_value near (variable name fs)
-  variable-same [] fs e = ap (λ v. given (chain mode fs v)) (found-same [] env older start)
-  variable-same (b ∷ bs) fs e = ap (λ v. given (chain mode fs v)) (found-same (b ∷ bs) env older (and_parts (is_among (names env) (b ∷ bs)) true e).0)
+  variable-same [] fs e = ap (λ v. as_given (chain mode fs v)) (found-same [] env older start)
+  variable-same (b ∷ bs) fs e = ap (λ v. as_given (chain mode fs v)) (found-same (b ∷ bs) env older (and_parts (is_among (names env) (b ∷ bs)) true e).0)
 
   abbrev parted : (ns ms : List Name) → are_among (names env) (ns ++ ms) ≡ true → (are_among (names env) ns ≡ true) × (are_among (names env) ms ≡ true)
   parted ns ms e = and_parts (are_among (names env) ns) (are_among (names env) ms) (sym (list_all-append (is_among (names env)) ns ms) ∙ e)
@@ -50,14 +50,14 @@ module _ (mode : MissingKey) (d : Value) (env older : Environment) (start : is_a
   mutual
     operand-same : (o : Operand) → are_among (names env) (used_by_operand o) ≡ true → operand_value far o ≡ operand_value near o
     operand-same (variable name fs) e = variable-same name fs e
-    operand-same (group commands fs) e = λ i. given_then (commands-same commands None e i) (λ v. given (chain mode fs v))
+    operand-same (group commands fs) e = λ i. given_then (commands-same commands None e i) (λ v. as_given (chain mode fs v))
     operand-same _ e = refl
 
     operands-same : (os : Operands) → are_among (names env) (used_by_operands os) ≡ true → operand_values far os ≡ operand_values near os
     operands-same no_operand e = refl
     operands-same (operand o os) e =
         let p = parted (used_by_operand o) (used_by_operands os) e in
-        λ i. given_then (operand-same o p.0 i) (λ v. given_then (operands-same os p.1 i) (λ vs. given (Ok (v ∷ vs))))
+        λ i. given_then (operand-same o p.0 i) (λ v. given_then (operands-same os p.1 i) (λ vs. as_given (Ok (v ∷ vs))))
 
     junction-same : (os : Operands) (stop : Bool) (last : Value) (piped : Option Value) → are_among (names env) (used_by_operands os) ≡ true
         → junction stop far last os piped ≡ junction stop near last os piped
@@ -70,7 +70,7 @@ module _ (mode : MissingKey) (d : Value) (env older : Environment) (start : is_a
         → command_value far os piped ≡ command_value near os piped
     command-same (operand (function f) os) piped e =
         λ i. by_count f (takes f (operand_count os + length (option_to_list piped)))
-        (by_function f (given_then (operands-same os e i) (λ vs. applied f (vs ++ option_to_list piped)))
+        (by_function f (given_then (operands-same os e i) (λ vs. apply_function f (vs ++ option_to_list piped)))
         (junction-same os false nothing piped e i) (junction-same os true nothing piped e i))
     command-same (operand nil no_operand) None e = refl
     command-same (operand o no_operand) None e = operand-same o (parted (used_by_operand o) [] e).0

@@ -19,7 +19,7 @@ use Rattle.tmpl_syntax.specs.Print.Laws.{unlined_template}
 use Rattle.tmpl_meaning.specs.Fault.{Cause, Fault, calls_too_deep, steps_spent}
 use Rattle.tmpl_meaning.specs.Meaning.{End, Next, Ran, Rules, Run, Setting, broke, calls_within, continued, done}
 use Rattle.tmpl_meaning.specs.Meaning.{meaning, meanings, ran, setting_of}
-use Rattle.tmpl_meaning.specs.Pipeline.{Environment, Place, applied, junction, operand_values}
+use Rattle.tmpl_meaning.specs.Pipeline.{Environment, Place, apply_function, junction, operand_values}
 
 -- `or`, or else `and`
 abbrev pub joining : Bool → Func
@@ -31,7 +31,7 @@ abbrev pub JoinsByTable : Type 0
 JoinsByTable = (is_or : Bool) (s : Place) (os : Operands) (piped : Option Value) (vs : List Value)
     → (operand_values s os).result ≡ Ok vs
     → takes (joining is_or) (length (vs ++ option_to_list piped)) ≡ true
-    → (junction is_or s nothing os piped).result ≡ (applied (joining is_or) (vs ++ option_to_list piped)).result
+    → (junction is_or s nothing os piped).result ≡ (apply_function (joining is_or) (vs ++ option_to_list piped)).result
 
 -- however far a run has come, the text after this part of it begins with the text before
 abbrev pub OnlyAdds : Next → Type 0
@@ -141,8 +141,8 @@ pub record Unplaced : Type 0 where
   pub fault : Option (List ℕ × Cause)
   pub made_text : Bool
 
-abbrev pub unplaced : Ran → Unplaced
-unplaced r = record {
+abbrev pub without_place : Ran → Unplaced
+without_place r = record {
   text = r.text;
   fault = option_map unplaced_fault r.fault;
   made_text = r.made_text;
@@ -154,7 +154,7 @@ abbrev pub AlikeRunAlike : Type 0
 AlikeRunAlike =
     (rules : Rules) (set other : List Template) (name : List ℕ) (t u : Tree) (input : Option Value)
     → map unlined_template set ≡ map unlined_template other → unlined t.nodes ≡ unlined u.nodes
-    → unplaced (ran rules set name t input) ≡ unplaced (ran rules other name u input)
+    → without_place (ran rules set name t input) ≡ without_place (ran rules other name u input)
 
 -- where what is printed of a set is accepted, with no set there, as a file that has the base name of one of its
 -- templates, each of them has the same result but for the file and the line of a fault
@@ -164,4 +164,4 @@ PrintedRunsAlike =
     → IsSet ts → tree_named (base_name file) ts ≡ Some own → Parses [] file (printed_set ts) (Ok new)
     → tree_named name ts ≡ Some t
     → (u : Tree) × (tree_named name new ≡ Some u)
-    × (unplaced (ran rules new name u input) ≡ unplaced (ran rules ts name t input))
+    × (without_place (ran rules new name u input) ≡ without_place (ran rules ts name t input))

@@ -21,17 +21,17 @@ use Rattle.tmpl_meaning.specs.declared.missing_key.MissingKey.{MissingKey}
 
 -- ---- variables
 
--- a value assigned to the newest variable of a name
-abbrev pub assigned : List ℕ → Value → Environment → Environment
-assigned name x [] = []
-assigned name x (v ∷ env) = if bytes_eq v.0 name then (v.0, x) ∷ env else v ∷ assigned name x env
+-- a value assign_variable to the newest variable of a name
+abbrev pub assign_variable : List ℕ → Value → Environment → Environment
+assign_variable name x [] = []
+assign_variable name x (v ∷ env) = if bytes_eq v.0 name then (v.0, x) ∷ env else v ∷ assign_variable name x env
 
 -- binds variables to a value: to an element of a range, by its index or key and itself
-abbrev pub bound : Binding → Element → Environment → Environment
-bound unbound e env = env
-bound (declare name) e env = (name, e.1) ∷ env
-bound (assign name) e env = assigned name e.1 env
-bound (declare_pair key name) e env = (name, e.1) ∷ (key, e.0) ∷ env
+abbrev pub bind : Binding → Element → Environment → Environment
+bind unbound e env = env
+bind (declare name) e env = (name, e.1) ∷ env
+bind (assign name) e env = assign_variable name e.1 env
+bind (declare_pair key name) e env = (name, e.1) ∷ (key, e.0) ∷ env
 
 -- ---- runs
 
@@ -95,17 +95,17 @@ with_pipeline s line p d go r =
     with_value s line g.result go (record r { made_text = r.made_text || g.made_text })
 
 -- a part whose variables last to its end: after it there are the oldest, as many as there were before it, so those
--- declared in it are gone, and values assigned stay
+-- declared in it are gone, and values assign_variable stay
 abbrev pub scope : Next → Next
 scope part r = let q = part r in (record q.0 { env = drop (length q.0.env - length r.env) q.0.env }, q.1)
 
 abbrev pub with_bound : Binding → Element → Run → Run
-with_bound b e r = record r { env = bound b e r.env }
+with_bound b e r = record r { env = bind b e r.env }
 
 -- puts the text of a value, or binds variables to it, which is no element of a range and so has no index or key
-abbrev pub shown : Binding → Value → Next
-shown unbound v r = (record r { text = r.text ++ text_of v }, done)
-shown b v r = (with_bound b (nothing, v) r, done)
+abbrev pub show : Binding → Value → Next
+show unbound v r = (record r { text = r.text ++ text_of v }, done)
+show b v r = (with_bound b (nothing, v) r, done)
 
 -- goes on from where the body of a range ends for one element: a break ends the range
 abbrev pub after_turn : Run × End → Next → Run × End
@@ -120,9 +120,9 @@ turns s line b body (e ∷ es) r =
     after_turn (spend s line (scope (λ q. body e.1 (with_bound b e q))) r) (turns s line b body es)
 
 -- the elements that a range visits, if it may range over the value: with two variables it may not over a number
-abbrev pub visited : Binding → Value → Option (List Element)
-visited (declare_pair key name) v = pairs v
-visited b v = elements v
+abbrev pub elements_visited : Binding → Value → Option (List Element)
+elements_visited (declare_pair key name) v = pairs v
+elements_visited b v = elements v
 
 -- what stands in a control: the variables in its header, its body with a dot, and its other part
 pub record Parts : Type 0 where
@@ -131,8 +131,8 @@ pub record Parts : Type 0 where
   pub other : Next
 
 -- an `if` or a `with` that has this value: its body with a dot where the value is not empty, else its other part
-abbrev pub chosen : Parts → Value → Value → Next
-chosen p d v r = (if truth v then p.body d else p.other) (with_bound p.binding (nothing, v) r)
+abbrev pub choose : Parts → Value → Value → Next
+choose p d v r = (if truth v then p.body d else p.other) (with_bound p.binding (nothing, v) r)
 
 -- a range over the elements, or its other part where there are none
 abbrev pub over : Setting → ℕ → Parts → Option (List Element) → Next
@@ -141,20 +141,20 @@ over s line p (Some []) r = p.other r
 over s line p (Some (e ∷ es)) r = turns s line p.binding p.body (e ∷ es) r
 
 -- a control with this dot and the value of its pipeline, which the body of a `with` has as its dot
-abbrev pub controlled : Setting → ℕ → Control → Parts → Value → Value → Next
-controlled s line control.If p d v r = chosen p d v r
-controlled s line control.With p d v r = chosen p v v r
-controlled s line control.Range p d v r = over s line p (visited p.binding v) r
+abbrev pub control_run : Setting → ℕ → Control → Parts → Value → Value → Next
+control_run s line control.If p d v r = choose p d v r
+control_run s line control.With p d v r = choose p v v r
+control_run s line control.Range p d v r = over s line p (elements_visited p.binding v) r
 
 abbrev mutual
   -- a node with this dot, once its step is taken; its variables last to the end of a control; a template that it calls
   -- is looked for before its pipeline is looked at, and is handed the value of that, or nothing
   pub stepped : Setting → ℕ → NodeKind → Value → Next
   stepped s line (text bytes) d = λ r. (record r { text = r.text ++ bytes }, done)
-  stepped s line (action h) d = with_pipeline s line h.pipeline d (shown h.binding)
+  stepped s line (action h) d = with_pipeline s line h.pipeline d (show h.binding)
   stepped s line (control_node c h body other) d =
       let parts : Parts = record { binding = h.binding; body = meanings s body; other = meanings s other d } in
-      scope (with_pipeline s line h.pipeline d (controlled s line c parts d))
+      scope (with_pipeline s line h.pipeline d (control_run s line c parts d))
   stepped s line break_node d = λ r. (r, broke)
   stepped s line continue_node d = λ r. (r, continued)
   stepped s line (template_node name given) d = with_value s line (s.calls name)

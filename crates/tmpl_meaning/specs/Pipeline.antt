@@ -10,7 +10,7 @@ use Rattle.tmpl_values.specs.Value.{Value, nothing, null, boolean, number, strin
 use Rattle.tmpl_values.specs.Stage.{and_then}
 use Rattle.tmpl_values.specs.Truth.{truth}
 use Rattle.tmpl_values.specs.Field.{FieldValue, found, missing, no_field, field_at}
-use Rattle.tmpl_funcs.specs.Dispatch.{called}
+use Rattle.tmpl_funcs.specs.Dispatch.{table_answer}
 use Rattle.tmpl_funcs.specs.Func.{makes_text, takes}
 use Rattle.tmpl_funcs.specs.declared.func.Func.{Func}
 use Rattle.tmpl_funcs.specs.declared.func.Func.TheVariants.{And, Or}
@@ -54,15 +54,15 @@ without_null v = v
 
 -- ---- what evaluating gives
 
--- something or why there is none, and whether a function that makes a text was called with all its arguments
+-- something or why there is none, and whether a function that makes a text was table_answer with all its arguments
 pub record Given (T : Type 0) : Type 0 where
   pub result : Result T Cause
   pub made_text : Bool
 
-abbrev pub given : {T : Type 0} → Result T Cause → Given T
-given r = record { result = r; made_text = false }
+abbrev pub as_given : {T : Type 0} → Result T Cause → Given T
+as_given r = record { result = r; made_text = false }
 
--- goes on with what is given, or stops
+-- goes on with what is as_given, or stops
 abbrev pub go_on : {T U : Type 0} → Result T Cause → Bool → (T → Given U) → Given U
 go_on (Ok t) made_text next = record { result = (next t).result; made_text = made_text || (next t).made_text }
 go_on (Err cause) made_text next = record { result = Err cause; made_text = made_text }
@@ -73,8 +73,8 @@ given_then g next = go_on g.result g.made_text next
 -- ---- calls
 
 -- a function over these values
-abbrev pub applied : Func → List Value → Given Value
-applied f vs = record { result = result_map_both (λ v. v) (call_failed f) (called f vs); made_text = makes_text f }
+abbrev pub apply_function : Func → List Value → Given Value
+apply_function f vs = record { result = result_map_both (λ v. v) (call_failed f) (table_answer f vs); made_text = makes_text f }
 
 -- by the function: `and` and `or` evaluate their operands themselves
 abbrev pub by_function : Func → Given Value → Given Value → Given Value → Given Value
@@ -101,43 +101,43 @@ pub record Place : Type 0 where
 abbrev mutual
   -- as an argument: null stays null, `nil` is nothing, and a function is a call without arguments
   pub operand_value : Place → Operand → Given Value
-  operand_value s dot = given (Ok s.dot)
-  operand_value s (fields names) = given (chain s.missing_key names s.dot)
-  operand_value s (variable name names) = given (chain s.missing_key names (lookup name s.env))
-  operand_value s (bool_constant b) = given (Ok (boolean b))
-  operand_value s (number_constant n) = given (Ok (number n))
-  operand_value s (text_constant bytes) = given (Ok (string bytes))
-  operand_value s nil = given (Ok nothing)
-  operand_value s (function f) = if takes f 0 then applied f [] else given (Err (call_failed f WrongCount))
+  operand_value s dot = as_given (Ok s.dot)
+  operand_value s (fields names) = as_given (chain s.missing_key names s.dot)
+  operand_value s (variable name names) = as_given (chain s.missing_key names (lookup name s.env))
+  operand_value s (bool_constant b) = as_given (Ok (boolean b))
+  operand_value s (number_constant n) = as_given (Ok (number n))
+  operand_value s (text_constant bytes) = as_given (Ok (string bytes))
+  operand_value s nil = as_given (Ok nothing)
+  operand_value s (function f) = if takes f 0 then apply_function f [] else as_given (Err (call_failed f WrongCount))
   operand_value s (group commands names) =
-      given_then (commands_value s commands None) (λ v. given (chain s.missing_key names v))
+      given_then (commands_value s commands None) (λ v. as_given (chain s.missing_key names v))
 
   -- the operands from left to right, up to the first that has no value
   pub operand_values : Place → Operands → Given (List Value)
-  operand_values s no_operand = given (Ok [])
+  operand_values s no_operand = as_given (Ok [])
   operand_values s (operand o os) =
-      given_then (operand_value s o) (λ v. given_then (operand_values s os) (λ vs. given (Ok (v ∷ vs))))
+      given_then (operand_value s o) (λ v. given_then (operand_values s os) (λ vs. as_given (Ok (v ∷ vs))))
 
   -- the first of the operands and the piped value that decides, else the last of them; no operand after it is evaluated
   pub junction : Bool → Place → Value → Operands → Option Value → Given Value
-  junction is_or s last no_operand piped = given (Ok (unwrap_or piped last))
+  junction is_or s last no_operand piped = as_given (Ok (unwrap_or piped last))
   junction is_or s last (operand o os) piped = given_then (operand_value s o)
-      (λ v. if decides is_or v then given (Ok v) else junction is_or s v os piped)
+      (λ v. if decides is_or v then as_given (Ok v) else junction is_or s v os piped)
 
   -- a command, to which a value may be piped: a call, of which the number of arguments is looked at first, or one
   -- operand alone, which `nil` may not be
   pub command_value : Place → Operands → Option Value → Given Value
   command_value s (operand (function f) os) piped =
       if takes f (operand_count os + length (option_to_list piped)) then
-      by_function f (given_then (operand_values s os) (λ vs. applied f (vs ++ option_to_list piped)))
+      by_function f (given_then (operand_values s os) (λ vs. apply_function f (vs ++ option_to_list piped)))
       (junction false s nothing os piped) (junction true s nothing os piped)
-      else given (Err (call_failed f WrongCount))
-  command_value s (operand nil no_operand) None = given (Err nil_command)
+      else as_given (Err (call_failed f WrongCount))
+  command_value s (operand nil no_operand) None = as_given (Err nil_command)
   command_value s (operand o no_operand) None = operand_value s o
-  command_value s os piped = given (Err not_a_function)
+  command_value s os piped = as_given (Err not_a_function)
 
   -- the commands from left to right: each gives its value to the next as its last argument
   pub commands_value : Place → Pipeline → Option Value → Given Value
-  commands_value s no_command piped = given (Ok (unwrap_or piped nothing))
+  commands_value s no_command piped = as_given (Ok (unwrap_or piped nothing))
   commands_value s (command os cs) piped =
       given_then (command_value s os piped) (λ v. commands_value s cs (Some (without_null v)))

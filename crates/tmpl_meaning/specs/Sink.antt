@@ -2,7 +2,7 @@
 -- tmpl_values, for sinks as for anything else that takes bytes.
 use Rattle.std.specs.Prelude.{◌≡◌, ◌+◌, ℕ, List, Option, Ok, Err}
 use Rattle.tmpl_values.specs.Put.{Begins}
-pub use Rattle.tmpl_values.specs.Put.{Puts, IsPut, appended}
+pub use Rattle.tmpl_values.specs.Put.{Puts, IsPut, append_bytes}
 use Rattle.tmpl_meaning.specs.declared.sink.SinkFault.{SinkFault}
 
 pub record Told : Type 0 where
@@ -11,7 +11,7 @@ pub record Told : Type 0 where
 
 -- .. with these bytes taken too
 abbrev pub with_bytes : List ℕ → Told → Told
-with_bytes bytes t = record t { bytes = appended t.bytes bytes }
+with_bytes bytes t = record t { bytes = append_bytes t.bytes bytes }
 
 -- .. with one more failure
 abbrev pub with_failure : Told → Told

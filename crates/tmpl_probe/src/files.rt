@@ -1,6 +1,6 @@
 //! A source over files in memory, of which a read fails where it is told to.
 ghost use Rattle.std.specs.Prelude.{◌≡◌, Some, option_map};
-ghost use Rattle.tmpl_probe.specs.Files.{found};
+ghost use Rattle.tmpl_probe.specs.Files.{file_bytes};
 
 use std::alloc::Global;
 use tmpl_tool::{Source, SourceFault};
@@ -47,7 +47,7 @@ impl<'a> LentFiles<'a> {
 
 /// The bytes of the first file of this name, if there is one.
 fn find<'a>(files: &[File<'a>], name: &str) -> Option<&'a [u8]>
-    ensures { option_map (λ bytes. bytes.now) result ≡ found name.now files.now }
+    ensures { option_map (λ bytes. bytes.now) result ≡ file_bytes name.now files.now }
 {
     match files {
         [] => None,

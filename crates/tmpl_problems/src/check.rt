@@ -33,11 +33,11 @@ pub fn check_file(
     ensures located { IfOk result (λ p. All (IsLocated bytes.now) (map refusal_in p.refused.items)) }
 {
     let refusals = examine_file(alloc, hash, set, file, bytes)?;
-    Ok(explained(alloc, hash, file, bytes, refusals.as_slice())?)
+    Ok(explain_all(alloc, hash, file, bytes, refusals.as_slice())?)
 }
 
 /// The refusals of a file, each with what is wrong in words, and what more is wrong.
-fn explained(
+fn explain_all(
     alloc: Global,
     hash: NameHash,
     file: &str,
@@ -90,13 +90,13 @@ fn moved_to(
 {
     let mut moved = Vec::new(alloc);
     for refusal in refusals {
-        moved.push(placed(bytes, place, *refusal))?;
+        moved.push(place_refusal(bytes, place, *refusal))?;
     }
     Ok(moved)
 }
 
 /// The refusal, at this place if it is of a second definition.
-fn placed(bytes: &[u8], place: Place, refusal: Refusal) -> Refusal
+fn place_refusal(bytes: &[u8], place: Place, refusal: Refusal) -> Refusal
     requires place { IsPlace bytes.now place }
     requires located { IsLocated bytes.now refusal }
     ensures refused { result.refused ≡ refusal.refused }

@@ -80,5 +80,5 @@ fn second_text(alloc: Global, name: &[u8], earlier: u64) -> Result<String, Alloc
         .quote(name)
         .say(", the first in line ")
         .count(earlier)
-        .done()
+        .finish()
 }

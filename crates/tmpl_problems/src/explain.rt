@@ -2,10 +2,10 @@
 
 use crate::problem::Problem;
 use crate::standing::Standing;
-use crate::variables::{all_names, declared, used};
+use crate::variables::{all_names, declared_names, used_names};
 use std::alloc::{AllocError, Global};
 use tmpl_hints::{
-    Opening, Role, detail_of, left_open, misplaced, role_of, role_unread, undeclared,
+    Opening, Role, detail_of, left_open, misplaced_text, role_of, role_unread, undeclared_text,
 };
 use tmpl_lex::{AfterText, Rest, Token, first_part};
 use tmpl_refusals::Refusal;
@@ -29,7 +29,7 @@ pub(crate) fn explain(
         }
         match part.rest {
             Some(next) => rest = next,
-            None => return walk.ended(told),
+            None => return walk.finish(told),
         }
     }
 }
@@ -70,7 +70,7 @@ impl<'b> Walk<'b> {
         let role = role_of(tokens);
         match refusal {
             None => {
-                let names = declared(self.alloc, tokens)?;
+                let names = declared_names(self.alloc, tokens)?;
                 self.standing.take_in(role, line, names.as_slice())
             }
             Some(refusal) => {
@@ -79,7 +79,7 @@ impl<'b> Walk<'b> {
                 self.problems.push(Problem { refusal, detail })?;
                 let names = all_names(self.alloc, tokens)?;
                 self.standing
-                    .take_in(mended(role, kind, tokens), line, names.as_slice())
+                    .take_in(mend(role, kind, tokens), line, names.as_slice())
             }
         }
     }
@@ -93,9 +93,9 @@ impl<'b> Walk<'b> {
     ) -> Result<String, AllocError> {
         match kind {
             ParseKind::NotAnAction => detail_of(self.alloc, tokens),
-            ParseKind::OutOfPlace => misplaced(self.alloc, role, self.standing.newest_open()),
+            ParseKind::OutOfPlace => misplaced_text(self.alloc, role, self.standing.newest_open()),
             ParseKind::UndeclaredVariable => match self.first_undeclared(tokens, role)? {
-                Some(name) => undeclared(self.alloc, name),
+                Some(name) => undeclared_text(self.alloc, name),
                 None => Ok(String::new(self.alloc)),
             },
             ParseKind::NestedTooDeeply => too_deep(self.alloc),
@@ -109,7 +109,7 @@ impl<'b> Walk<'b> {
         tokens: &[Token<'b>],
         role: Role,
     ) -> Result<Option<&'b [u8]>, AllocError> {
-        let names = used(self.alloc, tokens)?;
+        let names = used_names(self.alloc, tokens)?;
         for name in names.as_slice() {
             if !self.standing.knows(role, *name) {
                 return Ok(Some(*name));
@@ -119,7 +119,7 @@ impl<'b> Walk<'b> {
     }
 
     /// What is wrong in all, with what is open at the end, if that is the next of these refusals.
-    fn ended(self, told: &[Refusal]) -> Result<Vec<Problem>, AllocError> {
+    fn finish(self, told: &[Refusal]) -> Result<Vec<Problem>, AllocError> {
         let Walk {
             alloc,
             standing,
@@ -138,7 +138,7 @@ impl<'b> Walk<'b> {
 }
 
 /// What an action that does this and is refused for this counts as.
-fn mended(role: Role, kind: ParseKind, tokens: &[Token<'_>]) -> Role {
+fn mend(role: Role, kind: ParseKind, tokens: &[Token<'_>]) -> Role {
     match (kind, role) {
         (ParseKind::UndeclaredVariable, _) => role,
         (ParseKind::OutOfPlace, Role::Open(Opening::Define)) => Role::Open(Opening::Block),

@@ -23,14 +23,14 @@ pub(crate) fn rest_after<'b>(file: &'b [u8], rest: Rest<'b>, part: Part<'b>) -> 
     ensures { IsLeftAfter file.now rest.entry result }
 {
     match part.after {
-        AfterText::Unreadable(_) => rest_past(file, rest, skipped(file, rest, part.opens)?),
+        AfterText::Unreadable(_) => rest_past(file, rest, skip(file, rest, part.opens)?),
         _ => part.rest,
     }
 }
 
 /// How many bytes of what is left stand before the end of the action that begins there and can't be read; none where
 /// nothing is left after it. A comment that is not closed takes all up to its `*/`.
-fn skipped(file: &[u8], rest: Rest<'_>, opens: usize) -> Option<usize> {
+fn skip(file: &[u8], rest: Rest<'_>, opens: usize) -> Option<usize> {
     let inside = file.get(opens.saturating_add(2)..)?;
     let taken = if opens_comment(inside) {
         comment_len(inside)?

@@ -2,7 +2,7 @@
 
 use crate::definitions::name_after;
 use crate::scan::{place_in, rest_after};
-use crate::variables::{declaration_len, declared, name_in};
+use crate::variables::{declaration_len, declared_names, name_in};
 use indexmap::IndexMap;
 use std::alloc::{AllocError, Global};
 use tmpl_hints::Sentence;
@@ -79,7 +79,7 @@ pub fn survey_file<'b>(
         }
         match rest_after(file, rest, part) {
             Some(next) => rest = next,
-            None => return surveyor.ended(),
+            None => return surveyor.finish(),
         }
     }
 }
@@ -146,7 +146,7 @@ impl<'b> Surveyor<'b> {
     /// Notes the variables that an action declares. Of two, the first has to be there for the second to be, so that it
     /// is not used says nothing.
     fn declare(&mut self, place: Place, tokens: &[Token<'b>]) -> Result<(), AllocError> {
-        let names = declared(self.alloc, tokens)?;
+        let names = declared_names(self.alloc, tokens)?;
         let count = names.len();
         for (index, name) in names.as_slice().iter().enumerate() {
             let is_used = count == 2 && index == 0;
@@ -158,7 +158,7 @@ impl<'b> Surveyor<'b> {
     }
 
     /// The survey, with the variables that nothing uses.
-    fn ended(self) -> Result<Survey<'b>, AllocError> {
+    fn finish(self) -> Result<Survey<'b>, AllocError> {
         let Surveyor {
             alloc,
             mut survey,
@@ -170,7 +170,7 @@ impl<'b> Surveyor<'b> {
                     start: variable.place.start,
                     line: variable.place.line,
                     column: variable.place.column,
-                    text: unused(alloc, *name)?,
+                    text: unused_text(alloc, *name)?,
                 })?;
             }
         }
@@ -210,10 +210,10 @@ fn suspicious_at(text: &[u8]) -> Option<usize> {
 }
 
 /// What is said of a variable of this name that nothing uses.
-fn unused(alloc: Global, name: &[u8]) -> Result<String, AllocError> {
+fn unused_text(alloc: Global, name: &[u8]) -> Result<String, AllocError> {
     Sentence::new(alloc)
         .say("variable \"$")
         .show(name)
         .say("\" is never used")
-        .done()
+        .finish()
 }

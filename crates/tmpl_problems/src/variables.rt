@@ -26,7 +26,7 @@ pub(crate) fn declaration_len(tokens: &[Token<'_>]) -> usize
 }
 
 /// The names that an action declares: those before its `:=`.
-pub(crate) fn declared<'b>(
+pub(crate) fn declared_names<'b>(
     alloc: Global,
     tokens: &[Token<'b>],
 ) -> Result<Vec<&'b [u8]>, AllocError> {
@@ -35,7 +35,7 @@ pub(crate) fn declared<'b>(
 }
 
 /// The names that an action uses or assigns.
-pub(crate) fn used<'b>(alloc: Global, tokens: &[Token<'b>]) -> Result<Vec<&'b [u8]>, AllocError> {
+pub(crate) fn used_names<'b>(alloc: Global, tokens: &[Token<'b>]) -> Result<Vec<&'b [u8]>, AllocError> {
     let (_, rest) = tokens.split_at(declaration_len(tokens));
     all_names(alloc, rest)
 }

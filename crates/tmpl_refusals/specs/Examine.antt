@@ -3,7 +3,7 @@ use Rattle.std.specs.Prelude.{◌≡◌, ℕ, ◌==◌, Bool, true, false, List,
 use Rattle.tmpl_lex.specs.Begin.{BeginsAt}
 use Rattle.tmpl_syntax.specs.Fault.{Reason, too_long, second_definition, unreadable, reason_of}
 use Rattle.tmpl_syntax.specs.Parse.{Parses}
-use Rattle.tmpl_syntax.specs.Refusals.{Found, HasRefusals, Shown, show, shown}
+use Rattle.tmpl_syntax.specs.Refusals.{Found, HasRefusals, Shown, show, refused_seen}
 use Rattle.tmpl_syntax.specs.Set.{Template}
 use Rattle.tmpl_syntax.specs.declared.fault.ParseKind.{ParseKind}
 use Rattle.tmpl_syntax.specs.declared.fault.ParseKind.TheVariants as kind
@@ -43,7 +43,7 @@ abbrev pub Examined : List Template → List ℕ → List ℕ → List Template 
 Examined old file bytes new [] = Parses old file bytes (Ok new)
 Examined old file bytes new (r ∷ rs) =
     (new ≡ old) × (why : Reason) × (reason_of r.kind ≡ Some why) × Parses old file bytes (Err (r.line, why))
-    × AreOf bytes why (map shown (r ∷ rs))
+    × AreOf bytes why (map refused_seen (r ∷ rs))
 
 -- a refusal for this is told after this many bytes: where its action begins; at the end, where something is open there; and at
 -- the start where the file is too long. Where a second definition begins is not said

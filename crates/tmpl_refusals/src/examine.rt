@@ -1,7 +1,7 @@
 //! A file added to the set, or all that is refused of it.
 ghost use Rattle.std.specs.Prelude.{◌≡◌, ◌≤◌, ◌++◌, [], ◌∷◌, All, IfOk, List, None, length, map};
 ghost use Rattle.tmpl_syntax.specs.Fault.{reason_of};
-ghost use Rattle.tmpl_syntax.specs.Refusals.{Found, HasRefusals, show, shown};
+ghost use Rattle.tmpl_syntax.specs.Refusals.{Found, HasRefusals, show, refused_seen};
 ghost use Rattle.tmpl_syntax.specs.View.{set_view};
 ghost use Rattle.tmpl_refusals.specs.Examine.{Examined, IsLocated, IsOfFile, firsts, is_at, is_unreadable, refused_in};
 
@@ -68,7 +68,7 @@ fn alone(
 fn all_refused(alloc: Global, names: NameHash, bytes: &[u8]) -> Result<Vec<Refusal>, AllocError>
     requires { length bytes.now ≤ 16777216 }
     ensures refused { IfOk result (λ v. (rs : List Found) × HasRefusals bytes.now rs
-        × (map shown (map refused_in v.items) ≡ firsts (map show rs))) }
+        × (map refused_seen (map refused_in v.items) ≡ firsts (map show rs))) }
     ensures located { IfOk result (λ v. All (IsLocated bytes.now) v.items) }
 {
     let all = refusals(alloc, names, bytes)?;
@@ -78,7 +78,7 @@ fn all_refused(alloc: Global, names: NameHash, bytes: &[u8]) -> Result<Vec<Refus
 
 /// The refusals without those of the place of the one before.
 fn firsts(alloc: Global, all: &[Refused]) -> Result<Vec<Refused>, AllocError>
-    ensures { IfOk result (λ v. map shown v.items ≡ firsts (map shown all.now)) }
+    ensures { IfOk result (λ v. map refused_seen v.items ≡ firsts (map refused_seen all.now)) }
 {
     let mut kept = Vec::new(alloc);
     let mut last = None;

@@ -15,7 +15,7 @@ use Rattle.tmpl_syntax.proofs.NamedLemmas.{Named, numbered, unnumbered}
 use Rattle.tmpl_meaning.specs.Fault as fault
 use Rattle.tmpl_meaning.specs.Pipeline.{commands_value}
 use Rattle.tmpl_meaning.specs.Meaning.{Calls, Cause, Next, Rules, Run, Setting, after, after_turn, calls_within, meanings, scope}
-use Rattle.tmpl_meaning.specs.Meaning.{setting_of, shown, spend, stepped, turns, visited, with_bound, with_pipeline, with_value}
+use Rattle.tmpl_meaning.specs.Meaning.{setting_of, show, spend, stepped, turns, elements_visited, with_bound, with_pipeline, with_value}
 use Rattle.tmpl_meaning.proofs.PartLemmas.{apart, controlling, handing, one_of, over, ran_of, run_called, scoped, spend_if, started, uncalled, without_key}
 use Rattle.tmpl_code.specs.Calls.{IsChain, NodeNames, NodesName}
 use Rattle.tmpl_run.specs.Laws.{DepthByChains}
@@ -49,8 +49,8 @@ module _ (s : Setting) (depth : ℕ) (calls : Calls) where
   controlled-same : (line : ℕ) (c : Control) (h : Header) (d : Value) (body : Value → Next) (els : Next) (r : Run)
       → controlling other line c h d body els r ≡ controlling s line c h d body els r
   controlled-same line control.Range h d body els r =
-      pipeline-same line h.pipeline d (λ v. over other line h.binding body els (visited h.binding v)) r
-      ∙ (λ i. with_pipeline s line h.pipeline d (λ v t. over-same line h.binding body els (visited h.binding v) t i) r)
+      pipeline-same line h.pipeline d (λ v. over other line h.binding body els (elements_visited h.binding v)) r
+      ∙ (λ i. with_pipeline s line h.pipeline d (λ v t. over-same line h.binding body els (elements_visited h.binding v) t i) r)
   controlled-same line control.If h d body els r =
       pipeline-same line h.pipeline d (λ v r. one_of (truth v) (body d) els (with_bound h.binding (without_key v) r)) r
   controlled-same line control.With h d body els r =
@@ -65,7 +65,7 @@ module _ (s : Setting) (depth : ℕ) (calls : Calls) where
 
   mutual
     stepped-same : (n : NodeKind) → Agree (λ name. NodeNames name n) → (line : ℕ) (d : Value) (r : Run) → stepped other line n d r ≡ stepped s line n d r
-    stepped-same (action h) agree line d r = pipeline-same line h.pipeline d (shown h.binding) r
+    stepped-same (action h) agree line d r = pipeline-same line h.pipeline d (show h.binding) r
     stepped-same (control_node c h body els) agree line d r =
         (λ i. scoped (length r.env) (controlled-same line c h d (λ v. meanings other body v) (meanings other els d) r i))
         ∙ (λ i. scoped (length r.env) (controlling s line c h d (λ v t. meanings-same body (λ name names. agree name (inl names)) v t i)

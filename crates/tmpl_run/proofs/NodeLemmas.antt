@@ -1,4 +1,4 @@
--- For the law `comes_to_meaning`: the pipeline of a header and what is bound to its value, what is to be shown of the
+-- For the law `comes_to_meaning`: the pipeline of a header and what is bound to its value, what is to be show of the
 -- code of a node, and that the code of actions, `if` and `with` comes to what they mean.
 use Rattle.std.proofs.Common.{arith, ◌≡◌, ◌∙◌, ◌+◌, ◌≤◌, ◌||◌, ℕ, Bool, true, false, List, ◌∷◌, length, drop, refl, ap, sym, Option, Some, None, Result, Ok}
 use Rattle.std.proofs.Common.{Err, ◌++◌, ◌-◌, [], suc, subst}
@@ -16,9 +16,9 @@ use Rattle.tmpl_syntax.specs.Tree as tree
 use Rattle.tmpl_syntax.specs.Tree.{NodeKind, Nodes}
 use Rattle.tmpl_syntax.specs.Need.{left_after, need_of_node, need_of_nodes}
 use Rattle.tmpl_meaning.specs.Fault.{Cause}
-use Rattle.tmpl_meaning.specs.Pipeline.{Environment, Given, chain, given, given_then, lookup, without_null}
+use Rattle.tmpl_meaning.specs.Pipeline.{Environment, Given, chain, as_given, given_then, lookup, without_null}
 use Rattle.tmpl_meaning.specs.declared.missing_key.MissingKey.{MissingKey}
-use Rattle.tmpl_meaning.specs.Meaning.{Calls, Next, Run, Setting, assigned, with_bound, with_pipeline, with_value, End, meanings, shown, stepped}
+use Rattle.tmpl_meaning.specs.Meaning.{Calls, Next, Run, Setting, assign_variable, with_bound, with_pipeline, with_value, End, meanings, show, stepped}
 use Rattle.tmpl_meaning.specs.Meaning.{scope}
 use Rattle.tmpl_meaning.proofs.PartLemmas.{choosing, oldest, one_of, without_key}
 use Rattle.tmpl_meaning.specs.Meaning as meaning
@@ -45,7 +45,7 @@ valued v m place s = record s { cells = fresh v ∷ s.cells; made_text = m; plac
 abbrev pub written : Binding → Value → Environment → Environment
 written unbound v env = env
 written (declare x) v env = env
-written (assign x) v env = assigned x v env
+written (assign x) v env = assign_variable x v env
 written (declare_pair k x) v env = env
 
 -- what lies under the value that was bound
@@ -78,7 +78,7 @@ text-settled v = grind arith
 
 -- what a pipeline of one command gives whose value is this
 abbrev settled : Result Value Cause → Given Value
-settled r = given_then (given r) (λ v. given (Ok (without_null v)))
+settled r = given_then (as_given r) (λ v. as_given (Ok (without_null v)))
 
 module _ (way : Way) (calls : Calls) where
   abbrev pub set : Setting
@@ -172,7 +172,7 @@ module _ (way : Way) (calls : Calls) (spare : ℕ) where
     pub inside : Inside way.home g lay fr
     pub fits : length fr + need + spare ≤ way.room
 
-  -- what is to be shown of nodes, and of a node whose step is taken
+  -- what is to be show of nodes, and of a node whose step is taken
   abbrev pub NodesLead : Nodes → Type 0
   NodesLead ns =
       (g : Option Ring) (lay : Layout) (fr : Frame) (here rest : Code) (s : State) → NodesAt way.plan.templates ns lay (exit_of g) here rest
@@ -207,7 +207,7 @@ module _ (way : Way) (calls : Calls) (spare : ℕ) where
 
   acted : {lay : Layout} {fr : Frame} {mid : Code} {s : State} {cs : List Cell} {place : ℕ} (b : Binding) (g : Option Ring) (rest : Code) (v : Value) (m : Bool)
       → who_of s ≡ way.who → ShownAt b mid rest → Bound way b v lay fr mid s cs place
-      → ways.After way (ways.Onward way rest (bound_on b lay) (bound_in b fr) s.dot) g (shown b v (run_at lay m s)) → ways.Leading way (headed b v cs m place s)
+      → ways.After way (ways.Onward way rest (bound_on b lay) (bound_in b fr) s.dot) g (show b v (run_at lay m s)) → ways.Leading way (headed b v cs m place s)
   acted {s = s} {place = place} unbound g rest v m same l bound k = ways.does way same (bound.at ∙ l) tt
       (k _ (record { at = ways.next way place (bound.at ∙ l); runs = same; cells = bound.cells }) refl
       (ap (λ (w : Environment). let r : Run = record { env = w; text = s.text ++ text_of v; left = s.left; made_text = m } in r) bound.env))
@@ -218,7 +218,7 @@ module _ (way : Way) (calls : Calls) (spare : ℕ) where
   -- the text of a value that lies somewhere, after the step, where there is such a value
   puts : {rest : Code} {lay : Layout} {fr : Frame} (s : State) (g : Option Ring) (line : ℕ) (r : Result Value Cause)
       → drop (s.place + 1) way.plan.code ≡ rest → who_of s ≡ way.who → Cells lay fr s.cells
-      → ways.After way (ways.Onward way rest lay fr s.dot) g (with_value (set way calls) line (settled r).result (shown unbound)
+      → ways.After way (ways.Onward way rest lay fr s.dot) g (with_value (set way calls) line (settled r).result (show unbound)
       (record (run_of lay (ways.paying line s)) { made_text = s.made_text || (settled r).made_text }))
       → Comes (ways.Leading way) (put_value way.me r (ways.paying line s)) way.end
   puts {lay = lay} s g line (Ok v) at same cells k =
@@ -245,14 +245,14 @@ module _ (way : Way) (calls : Calls) (spare : ℕ) where
           let A : Run → Type 0 = ways.Onward way rest (bound_on h.binding lay) (bound_in h.binding fr) s.dot in
           let fits = w.fits in
           ways.spends way calls A g lay line at.0 s (stepped (set way calls) line (tree.action h) s.dot) st.runs (st.at ∙ l ∙ at.2) k
-          (λ there k. header-leads way calls A g h (shown h.binding) at.3 (record { at = there; runs = st.runs; cells = st.cells }) (omega arith) room k
+          (λ there k. header-leads way calls A g h (show h.binding) at.3 (record { at = there; runs = st.runs; cells = st.cells }) (omega arith) room k
           (λ v cs m place bound k. acted h.binding g rest v m st.runs at.4 bound k))
 
       -- of an action that binds no variable, with this pipeline
       Shows : Pipeline → Type 0
       Shows p =
           ways.After way (ways.Onward way rest lay fr s.dot) g
-          (meaning.spend (set way calls) line (with_pipeline (set way calls) line p s.dot (shown unbound)) (run_of lay s))
+          (meaning.spend (set way calls) line (with_pipeline (set way calls) line p s.dot (show unbound)) (run_of lay s))
 
       alone : Operand → Pipeline
       alone o = command (operand o no_operand) no_command
@@ -260,7 +260,7 @@ module _ (way : Way) (calls : Calls) (spare : ℕ) where
       of-dot : (names : List (List ℕ)) → start ≡ code.show_fields line names ∷ rest → Shows (alone (fields names)) → ways.Leading way s
       of-dot names at k =
           ways.pays way calls (ways.Onward way rest lay fr s.dot) g lay line s
-          (with_pipeline (set way calls) line (alone (fields names)) s.dot (shown unbound)) (λ s. put_value way.me (chain mode names s.dot) s) st.runs
+          (with_pipeline (set way calls) line (alone (fields names)) s.dot (show unbound)) (λ s. put_value way.me (chain mode names s.dot) s) st.runs
           (st.at ∙ l ∙ at) tt refl k
           (λ k. puts s g line (chain mode names s.dot) (ways.next way s.place (st.at ∙ l ∙ at)) st.runs st.cells k)
 
@@ -269,7 +269,7 @@ module _ (way : Way) (calls : Calls) (spare : ℕ) where
       of-slot x names None e at k = whole at
       of-slot x names (Some j) e at k =
           ways.pays way calls (ways.Onward way rest lay fr s.dot) g lay line s
-          (with_pipeline (set way calls) line (alone (variable x names)) s.dot (shown unbound)) (λ s. put_value way.me (chain mode names (slot j s.cells)) s)
+          (with_pipeline (set way calls) line (alone (variable x names)) s.dot (show unbound)) (λ s. put_value way.me (chain mode names (slot j s.cells)) s)
           st.runs (st.at ∙ l ∙ at) (let below = found-within x lay j e in let deep = st.cells.deep in omega arith) refl k
           (λ k. subst (λ v. Comes (ways.Leading way) (put_value way.me (chain mode names v) (ways.paying line s)) way.end) (sym there)
           (puts s g line (chain mode names (lookup x (env_of lay s.cells))) (ways.next way s.place (st.at ∙ l ∙ at)) st.runs st.cells k))
@@ -286,7 +286,7 @@ module _ (way : Way) (calls : Calls) (spare : ℕ) where
 
       by : (b : Binding) (p : Pipeline) → ActionAt (show_in line (sole_of b p) lay) line h lay start rest
           → ways.After way (ways.Onward way rest (bound_on b lay) (bound_in b fr) s.dot) g
-          (meaning.spend (set way calls) line (with_pipeline (set way calls) line p s.dot (shown b)) (run_of lay s)) → ways.Leading way s
+          (meaning.spend (set way calls) line (with_pipeline (set way calls) line p s.dot (show b)) (run_of lay s)) → ways.Leading way s
       by unbound (command (operand o no_operand) no_command) at k = of-operand o at k
       by _ _ at k = whole at
 

@@ -4,24 +4,24 @@ use Rattle.std.proofs.Common.{refl, sym, subst, ap, append_assoc, append-nil}
 use Rattle.std.proofs.lemmas.List.{take-append-drop}
 use Rattle.std.proofs.lemmas.Nat.{mul-le}
 use Rattle.tmpl_values.specs.Item.{bytes_of}
-use Rattle.tmpl_values.specs.Put.{Puts, appended}
+use Rattle.tmpl_values.specs.Put.{Puts, append_bytes}
 use Rattle.tmpl_values.specs.computed.Put.{Took}
 use Rattle.tmpl_values.specs.Text.{text_of}
 use Rattle.tmpl_values.specs.Value.{Value}
 use Rattle.tmpl_meaning.specs.Sink.{IsPut, Told, as_puts, with_bytes}
-use Rattle.tmpl_values.proofs.PutLemmas.{IsPut-append, appended-append, appended-nil}
+use Rattle.tmpl_values.proofs.PutLemmas.{IsPut-append, append_bytes-append, append_bytes-nil}
 use Rattle.tmpl_run.specs.computed.Output.{Grew, Grows, both, given_of, told_since}
 use Rattle.tmpl_run.specs.declared.piece.LentPiece.{LentPiece}
 
 pub grows-same : (a : Told) → Grows a a
-grows-same a = ([], appended-nil a.bytes)
+grows-same a = ([], append_bytes-nil a.bytes)
 
 -- .. of what two sinks took
 abbrev Extends : Option (List ℕ) → Option (List ℕ) → Type 0
-Extends a b = (more : List ℕ) × (b ≡ appended a more)
+Extends a b = (more : List ℕ) × (b ≡ append_bytes a more)
 
 pub grows-on : (a b c : Option (List ℕ)) → Extends a b → Extends b c → Extends a c
-grows-on a b c first second = (first.0 ++ second.0, second.1 ∙ ap (λ t. appended t second.0) first.1 ∙ appended-append a first.0 second.0)
+grows-on a b c first second = (first.0 ++ second.0, second.1 ∙ ap (λ t. append_bytes t second.0) first.1 ∙ append_bytes-append a first.0 second.0)
 
 -- a put, whatever it comes to
 pub grows-put : {F : Type 0} (r : Result (Unit {0}) F) (a b : Told) (text : List ℕ) → IsPut r (as_puts a) (as_puts b) text → Grows a b
@@ -30,10 +30,10 @@ grows-put (Err e) a b text h = (h.bytes.0, h.bytes.3)
 
 -- so much waits after what a sink took
 abbrev pub beyond : Told → List ℕ → ℕ → Puts
-beyond t waiting name = record { bytes = appended t.bytes waiting; failures = t.failures; through = name }
+beyond t waiting name = record { bytes = append_bytes t.bytes waiting; failures = t.failures; through = name }
 
 part-given : (known : Option (List ℕ)) (rest : List ℕ) (count : ℕ)
-    → appended (appended known (take count rest)) (drop count rest) ≡ appended (appended known rest) []
+    → append_bytes (append_bytes known (take count rest)) (drop count rest) ≡ append_bytes (append_bytes known rest) []
 part-given known rest count = grind (arith, append_assoc, take-append-drop {A = ℕ}, append-nil)
 
 -- the sink takes some of what waits, and the others wait
@@ -52,7 +52,7 @@ pub put-after-none : {F : Type 0} (r : Result (Unit {0}) F) (a b : Told) (text w
     → IsPut r (beyond a waiting name) (beyond b waiting name) text
 put-after-none r a b text waiting name e h = subst (λ l. IsPut r (beyond a l name) (beyond b l name) text) (sym e) (record {
   count = h.count;
-  bytes = subst (λ x. Took r x (appended b.bytes []) text) (appended-nil a.bytes) (subst (λ y. Took r a.bytes y text) (appended-nil b.bytes) h.bytes);
+  bytes = subst (λ x. Took r x (append_bytes b.bytes []) text) (append_bytes-nil a.bytes) (subst (λ y. Took r a.bytes y text) (append_bytes-nil b.bytes) h.bytes);
   through = refl;
 })
 

@@ -13,7 +13,7 @@ use Rattle.tmpl_grammar.specs.Tree.{Operand, fields, variable, nil, function, gr
 use Rattle.tmpl_grammar.specs.Need.{need_of_arguments, need_of_command, need_of_commands, need_of_operand, need_of_pipeline}
 use Rattle.tmpl_meaning.specs.Fault.{Cause}
 use Rattle.tmpl_meaning.specs.Pipeline as meaning
-use Rattle.tmpl_meaning.specs.Pipeline.{Environment, Given, Place, chain, command_value, commands_value, decides, given, given_then, go_on, junction, lookup}
+use Rattle.tmpl_meaning.specs.Pipeline.{Environment, Given, Place, chain, command_value, commands_value, decides, as_given, given_then, go_on, junction, lookup}
 use Rattle.tmpl_meaning.specs.Pipeline.{operand_value, operand_values, without_null}
 use Rattle.tmpl_meaning.proofs.PartLemmas.{by_count, decided}
 use Rattle.tmpl_code.specs.Instruction.{Operation, CommandError, act, call_with, decide, refuse, settle}
@@ -100,7 +100,7 @@ arguments-same : (os : Operands) (piped : Option Value)
     → meaning.operand_count os + length (option_to_list piped) ≡ operand_count os + piped_count (is_some piped)
 arguments-same os piped = grind (arith, count-same)
 
--- ---- what follows what is given
+-- ---- what follows what is as_given
 
 module _ (way : Way) (s : State) where
   -- from this code on, wherever the machine stands at it, the run comes to its end with these cells and this mark
@@ -111,12 +111,12 @@ module _ (way : Way) (s : State) where
   abbrev pub Puts : Code → List Cell → Value → Bool → Type 0
   Puts rest cs v m = Goes rest (fresh v ∷ cs) m
 
-  -- goes on with what was given, or is at its end with the fault
+  -- goes on with what was as_given, or is at its end with the fault
   abbrev pub FollowsBy : {T : Type 0} → Result T Cause → Bool → (T → Bool → Type 0) → Type 0
   FollowsBy (Ok v) m Go = Go v m
   FollowsBy (Err cause) m Go = ran_so (record s { made_text = m }) (Some (fault_in way.me s.line cause)) ≡ way.end
 
-  -- the mark stands last, so that it is what it was where no function made what is given
+  -- the mark stands last, so that it is what it was where no function made what is as_given
   abbrev Follows : {T : Type 0} → Given T → Bool → (T → Bool → Type 0) → Type 0
   Follows g m Go = FollowsBy g.result (g.made_text || m) Go
 
@@ -140,9 +140,9 @@ module _ (way : Way) (s : State) where
   pushes (Err cause) is cs m k = k
 
   -- .. of a function
-  calls : (f : Func) (ws : List Value) (is : Code) (cs : List Cell) (m : Bool) → Follows (meaning.applied f ws) m (Puts is cs)
-      → Gone is (m || makes_text f) (pushed (meaning.applied f ws).result cs)
-  calls f ws is cs m k = pushes _ is cs _ (subst (λ b. FollowsBy (meaning.applied f ws).result b (Puts is cs)) (or_comm (makes_text f) m) k)
+  calls : (f : Func) (ws : List Value) (is : Code) (cs : List Cell) (m : Bool) → Follows (meaning.apply_function f ws) m (Puts is cs)
+      → Gone is (m || makes_text f) (pushed (meaning.apply_function f ws).result cs)
+  calls f ws is cs m k = pushes _ is cs _ (subst (λ b. FollowsBy (meaning.apply_function f ws).result b (Puts is cs)) (or_comm (makes_text f) m) k)
 
   module _ (same : who_of s ≡ way.who) (env : Environment) where
     -- where the machine reads, and where the pipeline does
@@ -181,13 +181,13 @@ module _ (way : Way) (s : State) where
 
     -- a chain of fields after a value
     chained-leads : {cs : List Cell} {v : Value} {m : Bool} (names : List (List ℕ)) (rest : Code)
-        → Follows (given (chain way.plan.rules.missing_key names v)) m (Puts rest cs) → Puts (chain_before names rest) cs v m
+        → Follows (as_given (chain way.plan.rules.missing_key names v)) m (Puts rest cs) → Puts (chain_before names rest) cs v m
     chained-leads [] rest k = k
     chained-leads {cs} {v} {m} (name ∷ names) rest k =
         steps refl (omega arith) (pushes (chain way.plan.rules.missing_key (name ∷ names) v) rest cs m k)
 
     bare-leads : {code : Code} {cs : List Cell} {m : Bool} (t : Bool) (f : Func) (rest : Code) → takes f 0 ≡ t → length cs < way.room → BareAt t f code rest
-        → Follows (by_count f t (meaning.applied f [])) m (Puts rest cs) → Goes code cs m
+        → Follows (by_count f t (meaning.apply_function f [])) m (Puts rest cs) → Goes code cs m
     bare-leads {cs = cs} {m = m} true f rest e room l k = steps l (bare-called f e, omega arith, omega arith) (calls f [] rest cs m k)
     bare-leads false f rest e room l k = refuses l k
 
@@ -215,7 +215,7 @@ module _ (way : Way) (s : State) where
         → Follows (decided (decides stop v) v (junction stop here v os piped)) m (Puts rest cs) → Puts mid (with piped cs) v m
     decide-leads {v = v} {m = m} n lay cs no_operand None stop rest l h k = goes-is l (by (decides stop v) k)
       where
-        by : (t : Bool) → Follows (decided t v (given (Ok v))) m (Puts rest cs) → Puts rest cs v m
+        by : (t : Bool) → Follows (decided t v (as_given (Ok v))) m (Puts rest cs) → Puts rest cs v m
         by true k = k
         by false k = k
     decide-leads {v = v} n lay cs no_operand (Some p) stop rest l h k =
@@ -227,7 +227,7 @@ module _ (way : Way) (s : State) where
 
     -- of a function over the operands that were put on the stack
     applied-leads : {m : Bool} (cs : List Cell) (f : Func) (os : Operands) (piped : Option Value) (rest : Code) (ws : List Value) → is_called f ≡ true
-        → length cs < way.room → length ws ≡ operand_count os → Follows (meaning.applied f (ws ++ option_to_list piped)) m (Puts rest cs)
+        → length cs < way.room → length ws ≡ operand_count os → Follows (meaning.apply_function f (ws ++ option_to_list piped)) m (Puts rest cs)
         → Goes (act (call_with f (operand_count os) (is_some piped)) ∷ rest) (stacked ws (with piped cs)) m
     applied-leads {m} cs f os piped rest ws named room count k =
         let high = length-stacked ws (with piped cs) in
@@ -236,9 +236,9 @@ module _ (way : Way) (s : State) where
         (λ j. called_on f (sym (taken ws (with piped cs) (operand_count os) (sym count)) j) (is_some piped)
         (sym (dropped ws (with piped cs) (operand_count os) (sym count)) j)) (by piped k))
       where
-        by : (piped : Option Value) → Follows (meaning.applied f (ws ++ option_to_list piped)) m (Puts rest cs)
+        by : (piped : Option Value) → Follows (meaning.apply_function f (ws ++ option_to_list piped)) m (Puts rest cs)
             → Gone rest (m || makes_text f) (called_on f ws (is_some piped) (with piped cs))
-        by None k = calls f ws rest cs m (subst (λ l. Follows (meaning.applied f l) m (Puts rest cs)) (append-nil ws) k)
+        by None k = calls f ws rest cs m (subst (λ l. Follows (meaning.apply_function f l) m (Puts rest cs)) (append-nil ws) k)
         by (Some p) k = calls f (ws ++ p ∷ []) rest cs m k
 
     counted-leads : {code : Code} {cs : List Cell} {m : Bool} (t : Bool) (f : Func) (rest : Code) (g : Given Value) (Call : Stretch)
@@ -281,9 +281,9 @@ module _ (way : Way) (s : State) where
       operands-leads {cs = cs} {m = m} (operand o os) above rest base h is room l k =
           let Go : List Value → Bool → Type 0 = λ ws b. length ws ≡ suc (operand_count os) → Goes rest (stacked ws cs) b in
           operand-leads o l.0 h (omega arith) l.1
-          (follows-then (operand_value here o) m (λ v. given_then (operand_values here os) (λ ws. given (Ok (v ∷ ws)))) Go (Puts l.0 cs)
+          (follows-then (operand_value here o) m (λ v. given_then (operand_values here os) (λ ws. as_given (Ok (v ∷ ws)))) Go (Puts l.0 cs)
           (λ v b k. operands-leads os (suc above) rest base (slots-more v h) (omega arith) (omega arith) l.2
-          (follows-then (operand_values here os) b (λ ws. given (Ok (v ∷ ws))) Go
+          (follows-then (operand_values here os) b (λ ws. as_given (Ok (v ∷ ws))) Go
           (λ ws b. length ws ≡ operand_count os → Goes rest (stacked ws (fresh v ∷ cs)) b) (λ ws b k count. k (ap suc count)) k)) k)
 
       junction-leads : {n : ℕ} {lay : Layout} {code : Code} {m : Bool} (cs : List Cell) (os : Operands) (above : ℕ) (stop : Bool) (piped : Option Value)
@@ -306,7 +306,7 @@ module _ (way : Way) (s : State) where
           let count = operand_count os + piped_count p in
           let all : Code = act (call_with f (operand_count os) p) ∷ rest in
           let All : Stretch = λ code rest. OperandsAt os n lay code (act (call_with f (operand_count os) p) ∷ rest) in
-          let apply : List Value → Given Value = λ ws. meaning.applied f (ws ++ option_to_list piped) in
+          let apply : List Value → Given Value = λ ws. meaning.apply_function f (ws ++ option_to_list piped) in
           let both : Given Value = junction false here nothing os piped in
           let either : Given Value = junction true here nothing os piped in
           let g : Given Value = meaning.by_function f (given_then (operand_values here os) apply) both either in

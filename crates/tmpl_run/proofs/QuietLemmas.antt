@@ -14,7 +14,7 @@ use Rattle.tmpl_syntax.specs.Tree.{NodeKind, Nodes, Tree, action, control_node, 
 use Rattle.tmpl_syntax.specs.Set.{Template, number_of, tree_named}
 use Rattle.tmpl_syntax.proofs.NamedLemmas.{Named, numbered, unnumbered}
 use Rattle.tmpl_meaning.specs.Pipeline as meaning
-use Rattle.tmpl_meaning.specs.Pipeline.{Given, Place, command_value, commands_value, decides, given, given_then, junction, operand_value, operand_values}
+use Rattle.tmpl_meaning.specs.Pipeline.{Given, Place, command_value, commands_value, decides, as_given, given_then, junction, operand_value, operand_values}
 use Rattle.tmpl_meaning.specs.Meaning.{Rules, Run, calls_within, ran, setting_of}
 use Rattle.tmpl_meaning.specs.Sink.{Sunk}
 use Rattle.tmpl_meaning.proofs.PartLemmas.{decided, started}
@@ -44,8 +44,8 @@ mutual
   operands-quiet no_operand s e = refl
   operands-quiet (operand o os) s e =
       let n = or_parts (operand_makes_text o) (operands_make_text os) e in
-      then-quiet (operand_value s o) (λ v. given_then (operand_values s os) (λ vs. given (Ok (v ∷ vs)))) (operand-quiet o s n.0) (λ v.
-      then-quiet (operand_values s os) (λ vs. given (Ok (v ∷ vs))) (operands-quiet os s n.1) (λ vs. refl))
+      then-quiet (operand_value s o) (λ v. given_then (operand_values s os) (λ vs. as_given (Ok (v ∷ vs)))) (operand-quiet o s n.0) (λ v.
+      then-quiet (operand_values s os) (λ vs. as_given (Ok (v ∷ vs))) (operands-quiet os s n.1) (λ vs. refl))
 
   junction-quiet : (os : Operands) (stop : Bool) (s : Place) (last : Value) (piped : Option Value) → operands_make_text os ≡ false
       → (junction stop s last os piped).made_text ≡ false
@@ -58,7 +58,7 @@ mutual
   command-quiet : (os : Operands) (s : Place) (piped : Option Value) → operands_make_text os ≡ false → (command_value s os piped).made_text ≡ false
   command-quiet (operand (function f) os) s piped e =
       let n = or_parts (makes_text f) (operands_make_text os) e in
-      let all = then-quiet (operand_values s os) (λ vs. meaning.applied f (vs ++ option_to_list piped)) (operands-quiet os s n.1) (λ vs. n.0) in
+      let all = then-quiet (operand_values s os) (λ vs. meaning.apply_function f (vs ++ option_to_list piped)) (operands-quiet os s n.1) (λ vs. n.0) in
       grind (arith, all, junction-quiet os false s nothing piped n.1, junction-quiet os true s nothing piped n.1)
   command-quiet (operand nil no_operand) s None e = refl
   command-quiet (operand o no_operand) s None e = operand-quiet o s (or_parts (operand_makes_text o) false e).0

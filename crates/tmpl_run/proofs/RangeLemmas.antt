@@ -12,7 +12,7 @@ use Rattle.tmpl_syntax.specs.Tree.{Nodes}
 use Rattle.tmpl_syntax.specs.Need.{need_of_nodes}
 use Rattle.tmpl_meaning.specs.Pipeline.{Environment}
 use Rattle.tmpl_meaning.specs.Meaning as meaning
-use Rattle.tmpl_meaning.specs.Meaning.{Calls, End, Next, Run, after_turn, bound, meanings, scope, turns, visited, with_bound}
+use Rattle.tmpl_meaning.specs.Meaning.{Calls, End, Next, Run, after_turn, bind, meanings, scope, turns, elements_visited, with_bound}
 use Rattle.tmpl_meaning.proofs.PartLemmas.{controlling, on_turn, over, scoped, spend_if}
 use Rattle.tmpl_code.specs.Instruction as code
 use Rattle.tmpl_code.specs.Layout.{Layout, bound_on, declared_in, declares_key, slot_named, first_layout}
@@ -38,8 +38,8 @@ drop-one es k = drop-drop 1 k es ∙ ap (λ n. drop n es) (add-one k)
 one-less : (es : List Element) (k : ℕ) (e : Element) (more : List Element) → drop k es ≡ e ∷ more → drop (suc k) es ≡ more
 one-less es k e more h = sym (drop-one es k) ∙ ap (drop 1) h
 
-visited-is : (b : Binding) (v : Value) → visited b v ≡ elements_for (declares_key b) v
-visited-is b v = grind arith
+elements_visited-is : (b : Binding) (v : Value) → elements_visited b v ≡ elements_for (declares_key b) v
+elements_visited-is b v = grind arith
 
 -- with an index or key a range visits no others
 elements-are : (key : Bool) (v : Value) (es : List Element) → elements_for key v ≡ Some es → elements_in (elements v) ≡ es
@@ -191,7 +191,7 @@ module _ (way : Way) (calls : Calls) (spare : ℕ) where
     begins-turn : (e : Element) (es : List Element) (k : ℕ) (cs : List Cell) (s : State) → ways.who_of s ≡ way.who → drop k (elements_in (elements v)) ≡ e ∷ es
         → drop s.place way.plan.code ≡ start → Cells lay fr cs
         → ((ds : List Cell) (there : ℕ) → drop there way.plan.code ≡ first → Cells inner (bound_in b (outer k)) ds
-        → env_of inner ds ≡ bound b e (env_of lay cs) → ways.Leading way (record s { cells = ds; dot = e.1; place = there }))
+        → env_of inner ds ≡ bind b e (env_of lay cs) → ways.Leading way (record s { cells = ds; dot = e.1; place = there }))
         → ways.Leading way (record s { cells = saved ∷ cell v k ∷ cs })
     begins-turn e es k cs s same here at cells more = by b turn-at fits more
       where
@@ -213,7 +213,7 @@ module _ (way : Way) (calls : Calls) (spare : ℕ) where
 
         by : (b : Binding) → TurnAt b (None ∷ None ∷ lay) start first → length fr + (2 + declared_count b + need_of_nodes body) + spare ≤ way.room
             → ((ds : List Cell) (there : ℕ) → drop there way.plan.code ≡ first → Cells (bound_on b (None ∷ None ∷ lay)) (bound_in b (outer k)) ds
-            → env_of (bound_on b (None ∷ None ∷ lay)) ds ≡ bound b e (env_of lay cs) → ways.Leading way (record s { cells = ds; dot = e.1; place = there }))
+            → env_of (bound_on b (None ∷ None ∷ lay)) ds ≡ bind b e (env_of lay cs) → ways.Leading way (record s { cells = ds; dot = e.1; place = there }))
             → ways.Leading way now
         by unbound l fits more = turns-by 0 first l (omega (arith, long)) (λ at. more now.cells (s.place + 1) at outside refl)
         by (declare x) l fits more = turns-by 1 first l (omega (arith, long)) (λ at. more (fresh e.1 ∷ now.cells) (s.place + 1) at
@@ -301,7 +301,7 @@ module _ (way : Way) (calls : Calls) (spare : ℕ) where
       (length-env lay s.cells st.cells.deep) w.inside k)
       (λ v m place at k. ways.does way st.runs (at ∙ l.2.5) (let long = length-cells st.cells in omega arith)
       (by v m place (at ∙ l.2.5) (elements_for (declares_key h.binding) v) refl
-      (subst (λ o. ways.After way B g (over (set way calls) s.line h.binding body-of other-of o (run_at lay m s))) (visited-is h.binding v) k)))
+      (subst (λ o. ways.After way B g (over (set way calls) s.line h.binding body-of other-of o (run_at lay m s))) (elements_visited-is h.binding v) k)))
     where
       st : Stands way.plan way.who here lay fr s
       st = w.stands
@@ -319,7 +319,7 @@ module _ (way : Way) (calls : Calls) (spare : ℕ) where
       other-of = meanings (set way calls) other s.dot
 
       go : Value → Next
-      go v = over (set way calls) s.line h.binding body-of other-of (visited h.binding v)
+      go v = over (set way calls) s.line h.binding body-of other-of (elements_visited h.binding v)
 
       by : (v : Value) (m : Bool) (place : ℕ) → drop place way.plan.code ≡ code.enter (declares_key h.binding) l.2.3 ∷ l.2.0
           → (o : Option (List Element)) → elements_for (declares_key h.binding) v ≡ o

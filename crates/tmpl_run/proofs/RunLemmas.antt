@@ -2,8 +2,8 @@
 use Rattle.std.proofs.Common.{inl, inr, ◌≡◌, ◌∙◌, ◌++◌, add-zero, ℕ, List, [], refl, ap, sym, subst, Option, Some, None, Result, Ok, Err, append-nil}
 use Rattle.std.proofs.Common.{append_assoc}
 use Rattle.std.proofs.lemmas.List.{append_cancel_left}
-use Rattle.tmpl_values.specs.Put.{Begins, IsPut, Puts, appended}
-use Rattle.tmpl_values.proofs.PutLemmas.{IsPut-along, IsPut-append, appended-nil}
+use Rattle.tmpl_values.specs.Put.{Begins, IsPut, Puts, append_bytes}
+use Rattle.tmpl_values.proofs.PutLemmas.{IsPut-along, IsPut-append, append_bytes-nil}
 use Rattle.tmpl_meaning.specs.Meaning.{Ran}
 use Rattle.tmpl_meaning.specs.Sink.{Cut, Told, Whole, sunk}
 use Rattle.tmpl_meaning.specs.declared.sink.SinkFault.{SinkFault}
@@ -15,8 +15,8 @@ use Rattle.tmpl_run.specs.declared.fault.RunError.TheVariants as error
 use Rattle.tmpl_run.proofs.OutputLemmas.{beyond}
 
 -- what was taken is what was there and more; with what waits it is what was there and the front of the text
-begun-by : (known : Option (List ℕ)) (more rest front beyond text : List ℕ) → appended (appended known more) rest ≡ appended (appended known []) front
-    → text ≡ front ++ beyond → Begins known (appended known more) text
+begun-by : (known : Option (List ℕ)) (more rest front beyond text : List ℕ) → append_bytes (append_bytes known more) rest ≡ append_bytes (append_bytes known []) front
+    → text ≡ front ++ beyond → Begins known (append_bytes known more) text
 begun-by None more rest front beyond text e is = ([], text, refl, refl)
 begun-by (Some l) more rest front beyond text e is = (more, rest ++ beyond, is ∙ ap (λ q. q ++ beyond) (sym parts) ∙ append_assoc more rest beyond, refl)
   where
@@ -31,15 +31,15 @@ module _ (end : Ran) (before after : Told) (rest : List ℕ) (name : ℕ) (grows
   last : ℕ → Puts
   last n = beyond after rest n
 
-  begins : (front beyond : List ℕ) → end.text ≡ front ++ beyond → appended after.bytes rest ≡ appended (appended before.bytes []) front
+  begins : (front beyond : List ℕ) → end.text ≡ front ++ beyond → append_bytes after.bytes rest ≡ append_bytes (append_bytes before.bytes []) front
       → Begins before.bytes after.bytes end.text
   begins front beyond is e = subst (λ k. Begins before.bytes k end.text) (sym grows.1)
-      (begun-by before.bytes grows.0 rest front beyond end.text (ap (λ k. appended k rest) (sym grows.1) ∙ e) is)
+      (begun-by before.bytes grows.0 rest front beyond end.text (ap (λ k. append_bytes k rest) (sym grows.1) ∙ e) is)
 
   whole : (n : ℕ) → rest ≡ [] → IsPut {F = SinkFault} (Ok tt) (beyond before [] name) (beyond after rest n) end.text → Whole end.text (sunk before after)
   whole n none h = record {
     count = h.count;
-    bytes = appended-nil after.bytes ∙ ap (λ l. appended after.bytes l) (sym none) ∙ h.bytes ∙ ap (λ k. appended k end.text) (sym (appended-nil before.bytes));
+    bytes = append_bytes-nil after.bytes ∙ ap (λ l. append_bytes after.bytes l) (sym none) ∙ h.bytes ∙ ap (λ k. append_bytes k end.text) (sym (append_bytes-nil before.bytes));
     through = refl;
   }
 

@@ -6,7 +6,7 @@ use Rattle.std.specs.List.{drop-map}
 use Rattle.std.proofs.lemmas.List.{length-map, length-set}
 use Rattle.tmpl_values.specs.Value.{Value, nothing}
 use Rattle.tmpl_meaning.specs.Pipeline.{Environment, lookup}
-use Rattle.tmpl_meaning.specs.Meaning.{Run, assigned}
+use Rattle.tmpl_meaning.specs.Meaning.{Run, assign_variable}
 use Rattle.tmpl_meaning.proofs.PartLemmas.{oldest}
 use Rattle.tmpl_grammar.specs.Tree.{Binding, unbound, declare, assign, declare_pair}
 use Rattle.tmpl_grammar.specs.Need.{declared_count}
@@ -91,7 +91,7 @@ record Slotted (lay : Layout) (cs : List Cell) (o : Option ℕ) (v value : Value
   pub others : frame_of lay (by_slot o cs (λ k. set cs k (fresh v))) ≡ frame_of lay cs
 
 slotted : (x : List ℕ) (lay : Layout) (cs : List Cell) (v : Value) → length lay ≤ length cs
-    → Slotted lay cs (slot_named x lay) v (lookup x (env_of lay cs)) (assigned x v (env_of lay cs))
+    → Slotted lay cs (slot_named x lay) v (lookup x (env_of lay cs)) (assign_variable x v (env_of lay cs))
 slotted x [] cs v h = record { found = refl; write = refl; others = refl }
 slotted x (p ∷ ps) [] v h = absurd (omega arith)
 slotted x (p ∷ ps) (c ∷ cs) v h =
@@ -107,10 +107,10 @@ slots-are lay cs h = record {
 
 module _ (x : List ℕ) (lay : Layout) (cs : List Cell) where
   -- an assignment to a variable is a write to its slot
-  pub stored : (k : ℕ) (v : Value) → slot_named x lay ≡ Some k → length lay ≤ length cs → env_of lay (set cs k (fresh v)) ≡ assigned x v (env_of lay cs)
+  pub stored : (k : ℕ) (v : Value) → slot_named x lay ≡ Some k → length lay ≤ length cs → env_of lay (set cs k (fresh v)) ≡ assign_variable x v (env_of lay cs)
   stored k v e h = sym ((slotted x lay cs v h).write ∙ ap (λ o. env_of lay (by_slot o cs (λ k. set cs k (fresh v)))) e)
 
-  pub stored-none : (v : Value) → slot_named x lay ≡ None → length lay ≤ length cs → assigned x v (env_of lay cs) ≡ env_of lay cs
+  pub stored-none : (v : Value) → slot_named x lay ≡ None → length lay ≤ length cs → assign_variable x v (env_of lay cs) ≡ env_of lay cs
   stored-none v e h = (slotted x lay cs v h).write ∙ ap (λ o. env_of lay (by_slot o cs (λ k. set cs k (fresh v)))) e
 
 pub length-frame : (lay : Layout) (cs : List Cell) → length lay ≤ length cs → length (frame_of lay cs) ≡ length cs

@@ -7,7 +7,7 @@ use Rattle.tmpl_funcs.specs.declared.func.Func.{Func}
 use Rattle.tmpl_funcs.specs.declared.fault.CallFault.TheVariants.{WrongCount}
 use Rattle.tmpl_meaning.specs.Fault as fault
 use Rattle.tmpl_meaning.specs.Fault.{Cause, call_failed}
-use Rattle.tmpl_meaning.specs.Pipeline.{Place, applied, chain, decides, without_null}
+use Rattle.tmpl_meaning.specs.Pipeline.{Place, apply_function, chain, decides, without_null}
 use Rattle.tmpl_code.specs.Instruction.{Operation, push_nothing, push_bool, push_number, push_text, push_dot}
 use Rattle.tmpl_code.specs.Instruction.{push_fields, push_slot, chained, call_with, decide, settle, refuse}
 use Rattle.tmpl_code.specs.Instruction.{CommandError, not_a_function, nil_command, wrong_count, no_template}
@@ -38,8 +38,8 @@ cause_of (no_template name) = fault.no_template name
 
 -- a function over these arguments, and over a piped one that lies on the stack
 abbrev pub called_on : Func → List Value → Bool → List Cell → Went
-called_on f args false cs = pushed (applied f args).result cs
-called_on f args true cs = newest cs (λ v cs. pushed (applied f (args ++ v ∷ [])).result cs)
+called_on f args false cs = pushed (apply_function f args).result cs
+called_on f args true cs = newest cs (λ v cs. pushed (apply_function f (args ++ v ∷ [])).result cs)
 
 -- a value that decides stays, and a piped one below it goes; another goes
 abbrev pub decided_by : Bool → ℕ → Bool → Value → List Cell → Went

@@ -6,13 +6,13 @@ use Rattle.tmpl_values.specs.Value.{Value, nothing, null, boolean, number, strin
 use Rattle.tmpl_values.specs.Compare.{equality, order}
 use Rattle.tmpl_values.specs.Item.{size_of}
 use Rattle.tmpl_funcs.specs.Arguments.{given_for, one, two, two_or_more}
-use Rattle.tmpl_funcs.specs.Compare.{at_most, compared, equal_to_one}
+use Rattle.tmpl_funcs.specs.Compare.{at_most, comparison_answer, equal_to_one}
 use Rattle.tmpl_funcs.specs.declared.func.Func.{Func}
 use Rattle.tmpl_funcs.specs.declared.func.Func.TheVariants as func
 use Rattle.tmpl_funcs.specs.declared.fault.CallFault.{CallFault}
 use Rattle.tmpl_funcs.specs.declared.fault.CallFault.TheVariants.{WrongKind, NotComparable}
 use Rattle.tmpl_meaning.specs.Fault.{Cause, call_failed}
-use Rattle.tmpl_meaning.specs.Pipeline.{applied}
+use Rattle.tmpl_meaning.specs.Pipeline.{apply_function}
 use Rattle.tmpl_schema.specs.Shape.{Shape, truths, numbers, texts, either, HasShape, Names}
 use Rattle.tmpl_schema.specs.computed.Means.{Means}
 use Rattle.tmpl_schema.specs.declared.kind.Kind.{Kind}
@@ -43,7 +43,7 @@ module _ (base : Base) (N : Names) (means : Means base.defs N) where
 
   two-give : (n : Func) (f : Shape → Shape → Option Shape) (g : Value → Value → Option Bool)
       → ((s t : Shape) (v w : Value) → HasShape N s v → HasShape N t w → (Gives base N means) (f s t) (told n (ok_or (option_map boolean (g v w)) NotComparable)))
-      → (ss : List Shape) (vs : List Value) → HaveShapes ss vs → (Gives base N means) (two_shapes f ss) (told n (given_for (two (λ v w. compared (g v w))) vs))
+      → (ss : List Shape) (vs : List Value) → HaveShapes ss vs → (Gives base N means) (two_shapes f ss) (told n (given_for (two (λ v w. comparison_answer (g v w))) vs))
   two-give n f g k [] vs h = tt
   two-give n f g k (s ∷ []) vs h = tt
   two-give n f g k (s ∷ t ∷ []) [] h = absurd h
@@ -158,7 +158,7 @@ module _ (base : Base) (N : Names) (means : Means base.defs N) where
       by (Some false) c more = more
   equal-so s v h _ _ g e = absurd g
 
-  eq-gives : (ss : List Shape) (vs : List Value) → HaveShapes ss vs → (Gives base N means) (equal_shape base ss) (told func.Eq (given_for (two_or_more (λ v w ws. compared (equal_to_one v (w ∷ ws)))) vs))
+  eq-gives : (ss : List Shape) (vs : List Value) → HaveShapes ss vs → (Gives base N means) (equal_shape base ss) (told func.Eq (given_for (two_or_more (λ v w ws. comparison_answer (equal_to_one v (w ∷ ws)))) vs))
   eq-gives [] vs h = tt
   eq-gives (s ∷ []) vs h = tt
   eq-gives (s ∷ t ∷ ts) [] h = absurd h
@@ -232,7 +232,7 @@ module _ (base : Base) (N : Names) (means : Means base.defs N) where
       by None h = h
       by (Some n) h = tt
 
-  pub call-gives : (f : Func) (ss : List Shape) (vs : List Value) → HaveShapes ss vs → (Gives base N means) (call_shape base f ss) (applied f vs).result
+  pub call-gives : (f : Func) (ss : List Shape) (vs : List Value) → HaveShapes ss vs → (Gives base N means) (call_shape base f ss) (apply_function f vs).result
   call-gives func.Not ss vs h = one-gives func.Not _ _ (λ s v k. tt) ss vs h
   call-gives func.Len ss vs h = one-gives func.Len _ _ (λ s v k. size-gives s v k (is_sized base s) refl) ss vs h
   call-gives func.Print ss vs h = tt

@@ -6,7 +6,7 @@ use Rattle.std.specs.List.{enumerate_from}
 use Rattle.std.specs.Option.{option_map, option_map_or, option_and_then}
 use Rattle.std.specs.Str.{bytes_eq}
 use Rattle.tmpl_values.specs.Value.{Value, nothing, null, number, sequence, mapping, Items, no_item, item, Entries, no_entry, entry}
-use Rattle.tmpl_values.specs.Elements.{Element, elements, pairs, listed, keyed}
+use Rattle.tmpl_values.specs.Elements.{Element, elements, pairs, values_of_items, elements_of_entries}
 use Rattle.tmpl_values.specs.Field.{found, missing, of_nothing, field_at, entry_at}
 use Rattle.tmpl_values.specs.Stage.{and_then}
 use Rattle.tmpl_values.specs.Compare.{is_nothing}
@@ -14,7 +14,7 @@ use Rattle.tmpl_values.specs.Truth.{truth}
 use Rattle.tmpl_grammar.specs.Tree.{Binding, unbound, declare, assign, declare_pair}
 use Rattle.tmpl_meaning.specs.Fault.{Cause}
 use Rattle.tmpl_meaning.specs.Pipeline.{chain, field_value}
-use Rattle.tmpl_meaning.specs.Meaning.{visited}
+use Rattle.tmpl_meaning.specs.Meaning.{elements_visited}
 use Rattle.tmpl_meaning.specs.declared.missing_key.MissingKey.{MissingKey}
 use Rattle.tmpl_meaning.specs.declared.missing_key.MissingKey.TheVariants as mode
 use Rattle.tmpl_schema.specs.Shape.{Shape, never, nothings, nulls, numbers, texts, list_of, record_of, either, named, Names, Fields, no_field, others, field}
@@ -326,7 +326,7 @@ module _ (base : Base) (N : Names) (means : Means base.defs N) where
   count-visits (i ∷ is) = ((tt, tt), count-visits is)
 
   list-visits : (s : Shape) (vs : Items) (i : ℕ) → EachItem (HasShape N s) vs
-      → Each (IsVisit (record { key = numbers; element = s })) (map (λ p. (number (pos p.0), p.1)) (enumerate_from i (listed vs)))
+      → Each (IsVisit (record { key = numbers; element = s })) (map (λ p. (number (pos p.0), p.1)) (enumerate_from i (values_of_items vs)))
   list-visits s no_item i h = tt
   list-visits s (item v vs) i h = ((tt, h.0), list-visits s vs (i + 1) h.1)
 
@@ -336,16 +336,16 @@ module _ (base : Base) (N : Names) (means : Means base.defs N) where
   any-has (field n required s fs) k v h =
       elim h [ inl x ↦ (joined-left base N means) s (any_field base fs) v x.1 | inr x ↦ (joined-right base N means) s (any_field base fs) v (any-has fs k v x.1) ]
 
-  record-visits : (fs : Fields) (es : Entries) → EachEntry (IsField N fs) es → Each (IsVisit (record { key = texts; element = any_field base fs })) (keyed es)
+  record-visits : (fs : Fields) (es : Entries) → EachEntry (IsField N fs) es → Each (IsVisit (record { key = texts; element = any_field base fs })) (elements_of_entries es)
   record-visits fs no_entry h = tt
   record-visits fs (entry k v es) h = ((tt, any-has fs k v h.0), record-visits fs es h.1)
 
   -- by what a range visits, which is the same with two variables but for numbers
-  no-number : (c : Binding) (v : Value) → pairs v ≡ elements v → visited c v ≡ elements v
+  no-number : (c : Binding) (v : Value) → pairs v ≡ elements v → elements_visited c v ≡ elements v
   no-number (declare_pair key name) v e = e
   no-number _ v e = refl
 
-  visit_by-gives : (i : ℕ) (c : Binding) (s : Shape) (v : Value) → HasShape N s v → Visits (visit_by base i c s) (visited c v)
+  visit_by-gives : (i : ℕ) (c : Binding) (s : Shape) (v : Value) → HasShape N s v → Visits (visit_by base i c s) (elements_visited c v)
   visit_by-gives zero c s v h = tt
   visit_by-gives (suc i) c never v h = absurd h
   visit_by-gives (suc i) c nothings nothing h = rw (no-number c nothing refl) tt
@@ -363,16 +363,16 @@ module _ (base : Base) (N : Names) (means : Means base.defs N) where
   visit_by-gives (suc i) c (record_of fs) _ h = absurd h
   visit_by-gives (suc i) c (either s t) v h =
       elim h [
-        | inl x ↦ visits-left (visit_by base i c s) (visit_by base i c t) (visited c v) (visit_by-gives i c s v x)
-        | inr x ↦ visits-right (visit_by base i c s) (visit_by base i c t) (visited c v) (visit_by-gives i c t v x)
+        | inl x ↦ visits-left (visit_by base i c s) (visit_by base i c t) (elements_visited c v) (visit_by-gives i c s v x)
+        | inr x ↦ visits-right (visit_by base i c s) (visit_by base i c t) (elements_visited c v) (visit_by-gives i c t v x)
       ]
   visit_by-gives (suc i) c (named y) v h = by (base.defs y) refl (λ s. visit_by-gives i c s v)
     where
-      by : (o : Option Shape) → base.defs y ≡ o → ((s : Shape) → HasShape N s v → Visits (visit_by base i c s) (visited c v))
-          → Visits (option_and_then (visit_by base i c) o) (visited c v)
+      by : (o : Option Shape) → base.defs y ≡ o → ((s : Shape) → HasShape N s v → Visits (visit_by base i c s) (elements_visited c v))
+          → Visits (option_and_then (visit_by base i c) o) (elements_visited c v)
       by None is f = tt
       by (Some s) is f = f s (means.unfolds y s v is h)
   visit_by-gives (suc i) c _ v h = tt
 
-  pub visit-gives : (c : Binding) (s : Shape) (v : Value) → HasShape N s v → Visits (visit_of base c s) (visited c v)
+  pub visit-gives : (c : Binding) (s : Shape) (v : Value) → HasShape N s v → Visits (visit_of base c s) (elements_visited c v)
   visit-gives c s v h = visit_by-gives base.limit c s v h

@@ -14,13 +14,13 @@ use Rattle.tmpl_funcs.specs.declared.func.Func.TheVariants as func
 use Rattle.tmpl_funcs.specs.declared.fault.CallFault.TheVariants.{FormatRefused}
 use Rattle.tmpl_funcs.specs.printf.Directive.{Prints, char_text, hex_pair, text_form, verbs, printed_by, print_any, print_number, print_hex, print_truth}
 use Rattle.tmpl_funcs.specs.Index.{number_of}
-use Rattle.tmpl_funcs.specs.printf.Pad.{padded}
+use Rattle.tmpl_funcs.specs.printf.Pad.{pad}
 use Rattle.tmpl_funcs.specs.printf.Rune.{truncated_to}
 use Rattle.tmpl_funcs.specs.printf.Form.{Form, form_of, is_bare, Segment, literal, percent, form}
 use Rattle.tmpl_funcs.specs.printf.Format.{texts, formatted}
 use Rattle.tmpl_funcs.specs.printf.Reading.{reading}
 use Rattle.tmpl_meaning.specs.Fault.{call_failed}
-use Rattle.tmpl_meaning.specs.Pipeline.{applied}
+use Rattle.tmpl_meaning.specs.Pipeline.{apply_function}
 use Rattle.tmpl_schema.specs.Shape as shape
 use Rattle.tmpl_schema.specs.Shape.{Shape, Names, HasShape}
 use Rattle.tmpl_schema.specs.declared.kind.Kind.{Kind}
@@ -50,9 +50,9 @@ taken-if : {T U : Type 0} (c : Bool) (o : Option T) (p : Option U) → (is_some 
 taken-if true o p f h = f h
 taken-if false o p f h = h
 
--- a text is padded whatever it is
+-- a text is pad whatever it is
 taken-form : (f : Form) (a b : List ℕ) → IsTaken (text_form f (Some a)) → IsTaken (text_form f (Some b))
-taken-form f a b h = taken-if (not (f.plus || (f.zero || f.space))) (Some (padded f a)) (Some (padded f b)) (λ e. refl) h
+taken-form f a b h = taken-if (not (f.plus || (f.zero || f.space))) (Some (pad f a)) (Some (pad f b)) (λ e. refl) h
 
 abbrev IsByKind : Prints → Type 0
 IsByKind p = (f : Form) (v : Value) → IsTaken (p f (sample (kind_of v))) → IsTaken (p f v)
@@ -236,10 +236,10 @@ module _ (base : Base) (N : Names) (means : Means base.defs N) where
   taken-gives (Some t) h = tt
 
   pub printf-gives : (format : List ℕ) (ss : List Shape) (vs : List Value) → (HaveShapes base N means) ss vs
-      → (Gives base N means) (printf_shape base format ss) (applied func.Printf (string format ∷ vs)).result
+      → (Gives base N means) (printf_shape base format ss) (apply_function func.Printf (string format ∷ vs)).result
   printf-gives format ss vs h = by (each_kind (prints base format ss)) refl
     where
       by : (c : Bool) → each_kind (prints base format ss) ≡ c
-          → (Gives base N means) (if c then Some shape.texts else None) (applied func.Printf (string format ∷ vs)).result
+          → (Gives base N means) (if c then Some shape.texts else None) (apply_function func.Printf (string format ∷ vs)).result
       by true e = taken-gives (formatted format vs) (formatted-taken format ss vs h (λ k. prints-taken format ss k (at-kind (prints base format ss) e k)))
       by false e = tt

@@ -15,7 +15,7 @@ use Rattle.tmpl_syntax.specs.Tree.{NodeKind, Nodes, Tree, text, action, control_
 use Rattle.tmpl_syntax.specs.Set.{Template}
 use Rattle.tmpl_meaning.specs.Fault.{Cause}
 use Rattle.tmpl_meaning.specs.Meaning.{Calls, End, Next, Rules, Run, Setting, broke, continued, calls_within, done, fault_of, faulted}
-use Rattle.tmpl_meaning.specs.Meaning.{meanings, scope, setting_of, shown, spend, stepped, turns, visited, with_bound, with_pipeline, with_value}
+use Rattle.tmpl_meaning.specs.Meaning.{meanings, scope, setting_of, show, spend, stepped, turns, elements_visited, with_bound, with_pipeline, with_value}
 use Rattle.tmpl_meaning.specs.Pipeline.{Environment, commands_value}
 use Rattle.tmpl_meaning.specs.declared.missing_key.MissingKey.{MissingKey}
 use Rattle.tmpl_meaning.proofs.PartLemmas.{controlled, handing, left_by, on_end, on_turn, one_of, over, run_called, scoped, spend_if, turn, uncalled, without_key}
@@ -256,8 +256,8 @@ module _ (base : Base) (N : Names) (means : Means base.defs N) (stops : List (Li
       choice-ends control.With h k loop (f loop) g body other sh out is holds (in_f loop) in_g s.rules.missing_key d r fits v made value has
   control-ends s line control.Range h k loop f g body other sh out is holds in_f in_g d r fits v made value has =
       option_and_then_some (after_range base h k f g) (visit_of base h.binding sh) out is (λ visit isv rest.
-      over-ends s line h k loop f g body other visit out rest holds in_f in_g d r fits made (visited h.binding v)
-      (subst (λ (o : Option Visit). (Visits base N means) o (visited h.binding v)) isv ((visit-gives base N means) h.binding sh v has)))
+      over-ends s line h k loop f g body other visit out rest holds in_f in_g d r fits made (elements_visited h.binding v)
+      (subst (λ (o : Option Visit). (Visits base N means) o (elements_visited h.binding v)) isv ((visit-gives base N means) h.binding sh v has)))
 
   mapped_some : {A : Type 0} → (o : Option A) (t : A → Known) (y : Known) → option_map t o ≡ Some y → (x : A) × (o ≡ Some x) × (t x ≡ y)
   mapped_some None t y e = cc
@@ -297,10 +297,10 @@ module _ (base : Base) (N : Names) (means : Means base.defs N) (stops : List (Li
 
   module _ (s : Setting) (table : Table) (calls : CallsHave table s.calls) where
     shown-ends : (h : Header) (k : State) (loop : Option Known) (sh : Shape) (v : Value) (r : Run) → (HasKnown base N means) k.env r.env → HasShape N sh v
-        → Ends loop (bound_shapes h.binding nothings sh k.env) (shown h.binding v r)
+        → Ends loop (bound_shapes h.binding nothings sh k.env) (show h.binding v r)
     shown-ends h k loop sh v r known has = by h.binding
       where
-        by : (b : Binding) → Ends loop (bound_shapes b nothings sh k.env) (shown b v r)
+        by : (b : Binding) → Ends loop (bound_shapes b nothings sh k.env) (show b v r)
         by unbound = known
         by (declare name) = (bound-known base N means) (declare name) nothings sh (without_key v) tt has k.env r.env known
         by (assign name) = (bound-known base N means) (assign name) nothings sh (without_key v) tt has k.env r.env known
@@ -362,8 +362,8 @@ module _ (base : Base) (N : Names) (means : Means base.defs N) (stops : List (Li
       stepped-ends (text bytes) line loop k out is d r fits = let same : k.env ≡ out = cc in subst (λ (x : Known). (HasKnown base N means) x r.env) same fits.1
       stepped-ends (action h) line loop k out is d r fits =
           let p = mapped_some (pipeline_shape base s.rules.missing_key k h.pipeline) (λ sh. bound_shapes h.binding nothings sh k.env) out is in
-          subst (λ (x : Known). Ends loop x (with_pipeline s line h.pipeline d (shown h.binding) r)) p.2
-          (pipeline-all (Ends loop (bound_shapes h.binding nothings p.0 k.env)) s line h.pipeline d (shown h.binding) k p.0 r fits p.1
+          subst (λ (x : Known). Ends loop x (with_pipeline s line h.pipeline d (show h.binding) r)) p.2
+          (pipeline-all (Ends loop (bound_shapes h.binding nothings p.0 k.env)) s line h.pipeline d (show h.binding) k p.0 r fits p.1
           (λ v made value has. shown-ends h k loop p.0 v (record r { made_text = made }) fits.1 has))
       stepped-ends (control_node c h body other) line loop k out is d r fits =
           let m = s.rules.missing_key in

@@ -9,18 +9,18 @@ use Rattle.std.specs.Str.{bytes_eq}
 use Rattle.tmpl_values.specs.Value.{Value, nothing, null, boolean, number, string, sequence, mapping, Entries}
 use Rattle.tmpl_values.specs.Field.{found, missing, entry_at}
 use Rattle.tmpl_values.specs.Stage.{and_then}
-use Rattle.tmpl_funcs.specs.Index.{indexed, indexed_by}
+use Rattle.tmpl_funcs.specs.Index.{element_at, indexed_by}
 use Rattle.tmpl_funcs.specs.declared.fault.CallFault.{CallFault}
 use Rattle.std.specs.Result.{result_map_both}
 use Rattle.tmpl_values.specs.Elements.{Element}
 use Rattle.tmpl_values.specs.Compare.{equality, is_nothing}
 use Rattle.tmpl_values.specs.Truth.{truth}
-use Rattle.tmpl_funcs.specs.Compare.{compared, equal_to_one}
+use Rattle.tmpl_funcs.specs.Compare.{comparison_answer, equal_to_one}
 use Rattle.tmpl_grammar.specs.Tree.{Operand, dot, fields, variable, nil, bool_constant, number_constant, text_constant, function, group, Operands, no_operand, operand, Pipeline, no_command, command}
 use Rattle.tmpl_grammar.specs.Tree.{Binding, unbound, declare, assign, declare_pair}
 use Rattle.tmpl_meaning.specs.Fault.{Cause, call_failed}
-use Rattle.tmpl_meaning.specs.Pipeline.{Environment, Given, Place, chain, field_value, lookup, given, given_then, go_on, without_null, operand_value, command_value, commands_value}
-use Rattle.tmpl_meaning.specs.Meaning.{assigned, bound}
+use Rattle.tmpl_meaning.specs.Pipeline.{Environment, Given, Place, chain, field_value, lookup, as_given, given_then, go_on, without_null, operand_value, command_value, commands_value}
+use Rattle.tmpl_meaning.specs.Meaning.{assign_variable, bind}
 use Rattle.tmpl_meaning.specs.declared.missing_key.MissingKey.{MissingKey}
 use Rattle.tmpl_meaning.specs.declared.missing_key.MissingKey.TheVariants as mode
 use Rattle.tmpl_schema.specs.Shape.{Fields, Shape, never, nothings, nulls, texts, record_of, either, named, HasShape, IsField, Names}
@@ -40,7 +40,7 @@ use Rattle.tmpl_schema.proofs.CallLemmas.{HaveShapes, call-gives}
 use Rattle.tmpl_funcs.specs.Func.{takes}
 use Rattle.tmpl_funcs.specs.declared.func.Func.{Func}
 use Rattle.tmpl_funcs.specs.declared.func.Func.TheVariants as func
-use Rattle.tmpl_meaning.specs.Pipeline.{applied, by_function, decides, junction, operand_count, operand_values}
+use Rattle.tmpl_meaning.specs.Pipeline.{apply_function, by_function, decides, junction, operand_count, operand_values}
 use Rattle.tmpl_meaning.proofs.PartLemmas.{by_count, decided}
 
 module _ (base : Base) (N : Names) (means : Means base.defs N) where
@@ -110,18 +110,18 @@ module _ (base : Base) (N : Names) (means : Means base.defs N) where
       by false more = more
 
   assigned-known : (name : List ℕ) (s : Shape) (x : Value) → HasShape N s x → (ks : Known) (env : Environment) → HasKnown ks env
-      → HasKnown (assigned_shape name s ks) (assigned name x env)
+      → HasKnown (assigned_shape name s ks) (assign_variable name x env)
   assigned-known name s x f [] [] h = tt
   assigned-known name s x f (k ∷ ks) (v ∷ env) h = rw h.0 (by (bytes_eq k.0 name) (assigned-known name s x f ks env h.2))
     where
-      by : (b : Bool) → HasKnown (assigned_shape name s ks) (assigned name x env)
-          → HasKnown (if b then (k.0, s) ∷ ks else k ∷ assigned_shape name s ks) (if b then (k.0, x) ∷ env else (k.0, v.1) ∷ assigned name x env)
+      by : (b : Bool) → HasKnown (assigned_shape name s ks) (assign_variable name x env)
+          → HasKnown (if b then (k.0, s) ∷ ks else k ∷ assigned_shape name s ks) (if b then (k.0, x) ∷ env else (k.0, v.1) ∷ assign_variable name x env)
       by true more = (refl, f, h.2)
       by false more = (refl, h.1, more)
   assigned-known name s x f _ _ h = absurd h
 
   pub bound-known : (b : Binding) (k s : Shape) (e : Element) → HasShape N k e.0 → HasShape N s e.1 → (ks : Known) (env : Environment) → HasKnown ks env
-      → HasKnown (bound_shapes b k s ks) (bound b e env)
+      → HasKnown (bound_shapes b k s ks) (bind b e env)
   bound-known unbound k s e f g ks env h = h
   bound-known (declare name) k s e f g ks env h = (refl, g, h)
   bound-known (assign name) k s e f g ks env h = assigned-known name s e.1 g ks env h
@@ -159,7 +159,7 @@ module _ (base : Base) (N : Names) (means : Means base.defs N) where
   GivesAll (Some ss) (Err cause) = ⊥
 
   more-give : (o : Option Shape) (r : Result Value Cause) (os : Option (List Shape)) (rs : Result (List Value) Cause) (a b : Bool) → (Gives base N means) o r → GivesAll os rs
-      → GivesAll (option_and_then (λ s. option_map (λ ss. s ∷ ss) os) o) (go_on r a (λ v. go_on rs b (λ vs. given (Ok (v ∷ vs))))).result
+      → GivesAll (option_and_then (λ s. option_map (λ ss. s ∷ ss) os) o) (go_on r a (λ v. go_on rs b (λ vs. as_given (Ok (v ∷ vs))))).result
   more-give None r os rs a b h g = tt
   more-give (Some s) (Ok v) None rs a b h g = tt
   more-give (Some s) (Ok v) (Some ss) (Ok vs) a b h g = (h, g)
@@ -191,7 +191,7 @@ module _ (base : Base) (N : Names) (means : Means base.defs N) where
   piped-count _ _ p = absurd p
 
   called-gives : (f : Func) (ps : Option Shape) (pv : Option Value) → Piped ps pv → (os : Option (List Shape)) (rs : Result (List Value) Cause) (b : Bool) → GivesAll os rs
-      → (Gives base N means) (option_and_then (λ ss. call_shape base f (ss ++ option_to_list ps)) os) (go_on rs b (λ vs. applied f (vs ++ option_to_list pv))).result
+      → (Gives base N means) (option_and_then (λ ss. call_shape base f (ss ++ option_to_list ps)) os) (go_on rs b (λ vs. apply_function f (vs ++ option_to_list pv))).result
   called-gives f ps pv p None rs b h = tt
   called-gives f ps pv p (Some ss) (Ok vs) b h = (call-gives base N means) f (ss ++ option_to_list ps) (vs ++ option_to_list pv) (with-piped ps pv p ss vs h)
   called-gives f ps pv p (Some ss) (Err cause) b h = absurd h
@@ -217,7 +217,7 @@ module _ (base : Base) (N : Names) (means : Means base.defs N) where
 
   -- of a map, by a key that is known or by any
   keyed-gives : (key : Option (List ℕ)) (n : List ℕ) (fs : Fields) (es : Entries) → HasShape N (record_of fs) (mapping es)
-      → (Gives base N means) (keyed_shape base key fs) (told (indexed (mapping es) (string (unwrap_or key n))))
+      → (Gives base N means) (keyed_shape base key fs) (told (element_at (mapping es) (string (unwrap_or key n))))
   keyed-gives (Some name) n fs es h = told-entry (entry_shape base mode.Zero name fs) name (entry_at name es) ((entry-gives base N means) mode.Zero name fs es h.1 h.2)
   keyed-gives None n fs es h = by (entry_at n es) refl
     where
@@ -227,32 +227,32 @@ module _ (base : Base) (N : Names) (means : Means base.defs N) where
           (joined-left base N means) (any_field base fs) nulls w ((any-has base N means) fs n w ((at-entry base N means) (IsField N fs) n w es is h.1))
 
   index-gives : (i : ℕ) (key : Option (List ℕ)) (n : List ℕ) (s : Shape) (v : Value) → HasShape N s v
-      → (Gives base N means) (index_shape_by base i key s) (told (indexed v (string (unwrap_or key n))))
+      → (Gives base N means) (index_shape_by base i key s) (told (element_at v (string (unwrap_or key n))))
   index-gives zero key n s v h = tt
   index-gives (suc i) key n never v h = absurd h
   index-gives (suc i) key n (record_of fs) (mapping es) h = keyed-gives key n fs es h
   index-gives (suc i) key n (record_of fs) _ h = absurd h
   index-gives (suc i) key n (either s t) v h = elim h [
-    | inl x ↦ (both-left base N means) (index_shape_by base i key s) (index_shape_by base i key t) (told (indexed v (string (unwrap_or key n)))) (index-gives i key n s v x)
-    | inr x ↦ (both-right base N means) (index_shape_by base i key s) (index_shape_by base i key t) (told (indexed v (string (unwrap_or key n)))) (index-gives i key n t v x)
+    | inl x ↦ (both-left base N means) (index_shape_by base i key s) (index_shape_by base i key t) (told (element_at v (string (unwrap_or key n)))) (index-gives i key n s v x)
+    | inr x ↦ (both-right base N means) (index_shape_by base i key s) (index_shape_by base i key t) (told (element_at v (string (unwrap_or key n)))) (index-gives i key n t v x)
   ]
   index-gives (suc i) key n (named y) v h = by (base.defs y) refl (λ s. index-gives i key n s v)
     where
       by : (o : Option Shape) → base.defs y ≡ o
-          → ((s : Shape) → HasShape N s v → (Gives base N means) (index_shape_by base i key s) (told (indexed v (string (unwrap_or key n)))))
-          → (Gives base N means) (option_and_then (index_shape_by base i key) o) (told (indexed v (string (unwrap_or key n))))
+          → ((s : Shape) → HasShape N s v → (Gives base N means) (index_shape_by base i key s) (told (element_at v (string (unwrap_or key n)))))
+          → (Gives base N means) (option_and_then (index_shape_by base i key) o) (told (element_at v (string (unwrap_or key n))))
       by None is f = tt
       by (Some s) is f = f s (means.unfolds y s v is h)
   index-gives (suc i) key n _ v h = tt
 
-  entry_by-gives : (key s : Shape) (w v : Value) → HasShape N key w → HasShape N s v → (Gives base N means) (entry_by base key s) (told (indexed v w))
+  entry_by-gives : (key s : Shape) (w v : Value) → HasShape N key w → HasShape N s v → (Gives base N means) (entry_by base key s) (told (element_at v w))
   entry_by-gives key s w v g h = by (within base key texts) refl
     where
-      text : (u : Value) → HasShape N texts u → (Gives base N means) (index_shape base None s) (told (indexed v u))
+      text : (u : Value) → HasShape N texts u → (Gives base N means) (index_shape base None s) (told (element_at v u))
       text (string n) k = index-gives base.limit None n s v h
       text _ k = absurd k
 
-      by : (c : Bool) → within base key texts ≡ c → (Gives base N means) (if c then index_shape base None s else None) (told (indexed v w))
+      by : (c : Bool) → within base key texts ≡ c → (Gives base N means) (if c then index_shape base None s else None) (told (element_at v w))
       by true e = text w ((within-has base N means) key texts w e g)
       by false e = tt
 
@@ -275,19 +275,19 @@ module _ (base : Base) (N : Names) (means : Means base.defs N) where
 
   -- what is found by the further keys, of which these are piped
   abbrev found_by : Result (List Value) Cause → Bool → List Value → Value → Result Value Cause
-  found_by rs b ps v = (go_on rs b (λ vs. given (told (indexed_by v (vs ++ ps))))).result
+  found_by rs b ps v = (go_on rs b (λ vs. as_given (told (indexed_by v (vs ++ ps))))).result
 
   -- after a key
   key-gives : (f : Shape → Option Shape) (o : Option Shape) (rs : Result (List Value) Cause) (a b : Bool) (ps : List Value) (v w : Value)
-      → (Gives base N means) o (told (indexed v w)) → ((s : Shape) (u : Value) → HasShape N s u → (Gives base N means) (f s) (found_by rs b ps u))
-      → (Gives base N means) (option_and_then f o) (found_by (go_on rs a (λ vs. given (Ok (w ∷ vs)))).result b ps v)
-  key-gives f o (Ok vs) a b ps v w h k = more-gives f (λ u. indexed_by u (vs ++ ps)) o (indexed v w) h k
-  key-gives f o (Err c) a b ps v w h k = none-gives f c o (indexed v w) h k
+      → (Gives base N means) o (told (element_at v w)) → ((s : Shape) (u : Value) → HasShape N s u → (Gives base N means) (f s) (found_by rs b ps u))
+      → (Gives base N means) (option_and_then f o) (found_by (go_on rs a (λ vs. as_given (Ok (w ∷ vs)))).result b ps v)
+  key-gives f o (Ok vs) a b ps v w h k = more-gives f (λ u. indexed_by u (vs ++ ps)) o (element_at v w) h k
+  key-gives f o (Err c) a b ps v w h k = none-gives f c o (element_at v w) h k
 
   keys-give : (f : Shape → Option Shape) (g : Shape → Option Shape) (o : Option Shape) (x : Result Value Cause) (rs : Result (List Value) Cause) (a b c : Bool) (ps : List Value) (v : Value)
-      → (Gives base N means) o x → ((key : Shape) (w : Value) → x ≡ Ok w → HasShape N key w → (Gives base N means) (g key) (told (indexed v w)))
+      → (Gives base N means) o x → ((key : Shape) (w : Value) → x ≡ Ok w → HasShape N key w → (Gives base N means) (g key) (told (element_at v w)))
       → ((s : Shape) (u : Value) → HasShape N s u → (Gives base N means) (f s) (found_by rs b ps u))
-      → (Gives base N means) (option_and_then (λ key. option_and_then f (g key)) o) (found_by (go_on x c (λ w. go_on rs a (λ vs. given (Ok (w ∷ vs))))).result b ps v)
+      → (Gives base N means) (option_and_then (λ key. option_and_then f (g key)) o) (found_by (go_on x c (λ w. go_on rs a (λ vs. as_given (Ok (w ∷ vs))))).result b ps v)
   keys-give f g None x rs a b c ps v h i k = tt
   keys-give f g (Some key) (Ok w) rs a b c ps v h i k = key-gives f (g key) rs a b ps v w (i key w refl h) k
   keys-give f g (Some key) (Err e) rs a b c ps v h i k = absurd h
@@ -295,36 +295,36 @@ module _ (base : Base) (N : Names) (means : Means base.defs N) where
   -- a value that is not nothing
   thing-gives : (f : Shape → Option Shape) (s : Shape) (v : Value) (rs : Result (List Value) Cause) (a b : Bool) (ps : List Value) → HasShape N s v
       → (Gives base N means) (f s) (found_by rs a ps v)
-      → (Gives base N means) (if has_kind base Blank s then None else f s) (go_on (go_on rs b (λ vs. given (Ok (v ∷ vs)))).result a (λ us. applied func.Index (us ++ ps))).result
+      → (Gives base N means) (if has_kind base Blank s then None else f s) (go_on (go_on rs b (λ vs. as_given (Ok (v ∷ vs)))).result a (λ us. apply_function func.Index (us ++ ps))).result
   thing-gives f s v rs a b ps h g = by (has_kind base Blank s) refl
     where
-      thing : (w : Value) → has_kind base Blank s ≡ false → HasShape N s w → (vs : List Value) → told (indexed_by w (vs ++ ps)) ≡ (applied func.Index (w ∷ (vs ++ ps))).result
+      thing : (w : Value) → has_kind base Blank s ≡ false → HasShape N s w → (vs : List Value) → told (indexed_by w (vs ++ ps)) ≡ (apply_function func.Index (w ∷ (vs ++ ps))).result
       thing nothing e k vs = absurd (false≢true (sym e ∙ (has_kind-has base N means) s nothing k))
       thing null e k vs = absurd (false≢true (sym e ∙ (has_kind-has base N means) s null k))
       thing _ e k vs = refl
 
-      row : (rs : Result (List Value) Cause) → ((vs : List Value) → told (indexed_by v (vs ++ ps)) ≡ (applied func.Index (v ∷ (vs ++ ps))).result)
+      row : (rs : Result (List Value) Cause) → ((vs : List Value) → told (indexed_by v (vs ++ ps)) ≡ (apply_function func.Index (v ∷ (vs ++ ps))).result)
           → (Gives base N means) (f s) (found_by rs a ps v)
-          → (Gives base N means) (f s) (go_on (go_on rs b (λ vs. given (Ok (v ∷ vs)))).result a (λ us. applied func.Index (us ++ ps))).result
+          → (Gives base N means) (f s) (go_on (go_on rs b (λ vs. as_given (Ok (v ∷ vs)))).result a (λ us. apply_function func.Index (us ++ ps))).result
       row (Ok vs) e k = subst (λ (r : Result Value Cause). (Gives base N means) (f s) r) (e vs) k
       row (Err c) e k = k
 
       by : (c : Bool) → has_kind base Blank s ≡ c
-          → (Gives base N means) (if c then None else f s) (go_on (go_on rs b (λ vs. given (Ok (v ∷ vs)))).result a (λ us. applied func.Index (us ++ ps))).result
+          → (Gives base N means) (if c then None else f s) (go_on (go_on rs b (λ vs. as_given (Ok (v ∷ vs)))).result a (λ us. apply_function func.Index (us ++ ps))).result
       by true e = tt
       by false e = row rs (thing v e h) g
 
   indexed-after : (f : Shape → Option Shape) (o : Option Shape) (x : Result Value Cause) (rs : Result (List Value) Cause) (a b c : Bool) (ps : List Value) → (Gives base N means) o x
       → ((s : Shape) (v : Value) → HasShape N s v → (Gives base N means) (f s) (found_by rs a ps v))
       → (Gives base N means) (option_and_then (λ s. if has_kind base Blank s then None else f s) o)
-      (go_on (go_on x c (λ v. go_on rs b (λ vs. given (Ok (v ∷ vs))))).result a (λ us. applied func.Index (us ++ ps))).result
+      (go_on (go_on x c (λ v. go_on rs b (λ vs. as_given (Ok (v ∷ vs))))).result a (λ us. apply_function func.Index (us ++ ps))).result
   indexed-after f None x rs a b c ps h k = tt
   indexed-after f (Some s) (Ok v) rs a b c ps h k = thing-gives f s v rs a b ps h (k s v h)
   indexed-after f (Some s) (Err e) rs a b c ps h k = absurd h
 
   printed-after : (format : List ℕ) (ps : Option Shape) (pv : Option Value) → Piped ps pv → (os : Option (List Shape)) (rs : Result (List Value) Cause) (a b : Bool) → GivesAll os rs
       → (Gives base N means) (option_and_then (λ ss. printf_shape base format (ss ++ option_to_list ps)) os)
-      (go_on (go_on rs a (λ vs. given (Ok (string format ∷ vs)))).result b (λ us. applied func.Printf (us ++ option_to_list pv))).result
+      (go_on (go_on rs a (λ vs. as_given (Ok (string format ∷ vs)))).result b (λ us. apply_function func.Printf (us ++ option_to_list pv))).result
   printed-after format ps pv p None rs a b h = tt
   printed-after format ps pv p (Some ss) (Ok vs) a b h =
       (printf-gives base N means) format (ss ++ option_to_list ps) (vs ++ option_to_list pv) (with-piped ps pv p ss vs h)
@@ -343,7 +343,7 @@ module _ (base : Base) (N : Names) (means : Means base.defs N) where
 
   -- ---- narrowing by the entry of a key
 
-  index-chain : (n : List ℕ) (d v : Value) → (applied func.Index (d ∷ string n ∷ [])).result ≡ Ok v → chain mode.Zero (n ∷ []) d ≡ Ok v
+  index-chain : (n : List ℕ) (d v : Value) → (apply_function func.Index (d ∷ string n ∷ [])).result ≡ Ok v → chain mode.Zero (n ∷ []) d ≡ Ok v
   index-chain n (mapping es) v e = by (entry_at n es) e
     where
       by : (o : Option Value) → ◌≡◌ {A = Result Value Cause} (Ok (unwrap_or o null)) (Ok v)
@@ -354,7 +354,7 @@ module _ (base : Base) (N : Names) (means : Means base.defs N) where
 
   -- what an `index` of these operands gives
   abbrev index_value : MissingKey → Value → Environment → Operands → Result Value Cause
-  index_value m d env os = (given_then (operand_values (place m d env) os) (λ vs. applied func.Index (vs ++ []))).result
+  index_value m d env os = (given_then (operand_values (place m d env) os) (λ vs. apply_function func.Index (vs ++ []))).result
 
   index-fits : (m : MissingKey) (os : Operands) (k : State) (d : Value) (env : Environment) (v : Value) → Fits k d env
       → index_value m d env os ≡ Ok v → is_nothing v ≡ false → Fits (narrowed_by_index base os k) d env
@@ -374,7 +374,7 @@ module _ (base : Base) (N : Names) (means : Means base.defs N) where
   thing-same _ = refl
 
   group-ok : (r : Result Value Cause) (a b : Bool) (v : Value)
-      → (go_on (go_on r a (λ w. given (Ok (without_null w)))).result b (λ w. given (chain mode.Zero [] w))).result ≡ Ok v
+      → (go_on (go_on r a (λ w. as_given (Ok (without_null w)))).result b (λ w. as_given (chain mode.Zero [] w))).result ≡ Ok v
       → (w : Value) × (r ≡ Ok w) × (is_nothing w ≡ is_nothing v)
   group-ok (Ok w) a b v e = let same : without_null w ≡ v = cc in (w, refl, sym (thing-same w) ∙ ap is_nothing same)
   group-ok (Err cause) a b v e = cc
@@ -387,7 +387,7 @@ module _ (base : Base) (N : Names) (means : Means base.defs N) where
       → (command_value (place m d env) (operand (function f) os) None).result ≡ Ok v → is_nothing v ≡ false → Fits (narrowed_by_call base f os k) d env
   group-fits m func.Index os k d env v h e t =
       index-fits m os k d env v h
-      (by_count-ok func.Index (takes func.Index (operand_count os + 0)) (given_then (operand_values (place m d env) os) (λ vs. applied func.Index (vs ++ []))) v e) t
+      (by_count-ok func.Index (takes func.Index (operand_count os + 0)) (given_then (operand_values (place m d env) os) (λ vs. apply_function func.Index (vs ++ []))) v e) t
   group-fits m _ os k d env v h e t = h
 
   narrowed_by-fits : (m : MissingKey) (o : Operand) (k : State) (d : Value) (env : Environment) (v : Value) → Fits k d env
@@ -431,7 +431,7 @@ module _ (base : Base) (N : Names) (means : Means base.defs N) where
   unequal-thing _ e = refl
 
   abbrev compare_told : Func → Option Bool → Result Value Cause
-  compare_told f o = result_map_both (λ v. v) (call_failed f) (compared o)
+  compare_told f o = result_map_both (λ v. v) (call_failed f) (comparison_answer o)
 
   told-truth : (f : Func) (o : Option Bool) (v : Value) (b : Bool) → compare_told f o ≡ Ok v → truth v ≡ b → o ≡ Some b
   told-truth f None v b e t = cc
@@ -449,7 +449,7 @@ module _ (base : Base) (N : Names) (means : Means base.defs N) where
 
   -- what `eq` or `ne` of a value and these gives
   abbrev pair_value : Func → Result Value Cause → Bool → Bool → Value → Result Value Cause
-  pair_value f x a b w = (go_on (go_on x a (λ v. given (Ok (v ∷ w ∷ [])))).result b (λ vs. applied f (vs ++ []))).result
+  pair_value f x a b w = (go_on (go_on x a (λ v. as_given (Ok (v ∷ w ∷ [])))).result b (λ vs. apply_function f (vs ++ []))).result
 
   eq-ok : (x : Result Value Cause) (a b : Bool) (w v : Value) (c : Bool) → pair_value func.Eq x a b w ≡ Ok v → truth v ≡ c
       → (u : Value) × (x ≡ Ok u) × (equality u w ≡ Some c)
@@ -463,7 +463,7 @@ module _ (base : Base) (N : Names) (means : Means base.defs N) where
 
   -- what a call of these operands gives
   abbrev pair_call : Func → MissingKey → Value → Environment → Operands → Result Value Cause
-  pair_call f m d env os = (given_then (operand_values (place m d env) os) (λ vs. applied f (vs ++ []))).result
+  pair_call f m d env os = (given_then (operand_values (place m d env) os) (λ vs. apply_function f (vs ++ []))).result
 
   abbrev EqualSo : Func → Bool → Type 0
   EqualSo f c = (x : Result Value Cause) (a b : Bool) (w v : Value) → pair_value f x a b w ≡ Ok v → truth v ≡ c
@@ -530,9 +530,9 @@ module _ (base : Base) (N : Names) (means : Means base.defs N) where
       operand-gives (variable name names) k fits =
           found-gives (chain_shape base m names) (chain m names) ((chain-gives base N means) m names) (variable_shape name k.env) (lookup name env) (lookup-gives name k.env env fits.1)
       operand-gives (group p names) k fits =
-          go-gives (chain_shape base m names) (λ v. given (chain m names v)) (commands_shape base m k p None) (commands_value (place m d env) p None).result
+          go-gives (chain_shape base m names) (λ v. as_given (chain m names v)) (commands_shape base m k p None) (commands_value (place m d env) p None).result
           (commands_value (place m d env) p None).made_text (commands-give p k None None fits tt) (λ s v e. (chain-gives base N means) m names s v)
-      operand-gives (function f) k fits = by_count-gives f (takes f 0) (call_shape base f []) (applied f []) ((call-gives base N means) f [] [] tt)
+      operand-gives (function f) k fits = by_count-gives f (takes f 0) (call_shape base f []) (apply_function f []) ((call-gives base N means) f [] [] tt)
       operand-gives _ k fits = tt
 
       operands-give : (os : Operands) (k : State) → Fits k d env → GivesAll (operand_shapes base m k os) (operand_values (place m d env) os).result
@@ -551,7 +551,7 @@ module _ (base : Base) (N : Names) (means : Means base.defs N) where
       along-gives : (os : Operands) (k : State) (ps : Option Shape) (pv : Option Value) (b : Bool) → Fits k d env → Piped ps pv → (s : Shape) (v : Value) → HasShape N s v
           → (Gives base N means) (entry_along base m k os ps s) (found_by (operand_values (place m d env) os).result b (option_to_list pv) v)
       along-gives no_operand k None None b fits p s v h = h
-      along-gives no_operand k (Some key) (Some w) b fits p s v h = last-gives (entry_by base key s) (indexed v w) (entry_by-gives key s w v p h)
+      along-gives no_operand k (Some key) (Some w) b fits p s v h = last-gives (entry_by base key s) (element_at v w) (entry_by-gives key s w v p h)
       along-gives no_operand k None (Some w) b fits p s v h = absurd p
       along-gives no_operand k (Some key) None b fits p s v h = absurd p
       along-gives (operand (text_constant n) os) k ps pv b fits p s v h =
@@ -563,7 +563,7 @@ module _ (base : Base) (N : Names) (means : Means base.defs N) where
           (operand-gives o k fits) (λ key w e g. entry_by-gives key s w v g h) (λ t u. along-gives os k ps pv b fits p t u)
 
       indexed-gives : (os : Operands) (k : State) (ps : Option Shape) (pv : Option Value) → Fits k d env → Piped ps pv
-          → (Gives base N means) (indexed_shape base m k os ps) (given_then (operand_values (place m d env) os) (λ vs. applied func.Index (vs ++ option_to_list pv))).result
+          → (Gives base N means) (indexed_shape base m k os ps) (given_then (operand_values (place m d env) os) (λ vs. apply_function func.Index (vs ++ option_to_list pv))).result
       indexed-gives no_operand k ps pv fits p = tt
       indexed-gives (operand o os) k ps pv fits p =
           indexed-after (entry_along base m k os ps) (operand_shape base m k o) (operand_value (place m d env) o).result (operand_values (place m d env) os).result
@@ -571,7 +571,7 @@ module _ (base : Base) (N : Names) (means : Means base.defs N) where
           (operand-gives o k fits) (λ s v. along-gives os k ps pv _ fits p s v)
 
       printed-gives : (os : Operands) (k : State) (ps : Option Shape) (pv : Option Value) → Fits k d env → Piped ps pv
-          → (Gives base N means) (printed_shape base m k os ps) (given_then (operand_values (place m d env) os) (λ vs. applied func.Printf (vs ++ option_to_list pv))).result
+          → (Gives base N means) (printed_shape base m k os ps) (given_then (operand_values (place m d env) os) (λ vs. apply_function func.Printf (vs ++ option_to_list pv))).result
       printed-gives no_operand k ps pv fits p = tt
       printed-gives (operand (text_constant format) os) k ps pv fits p =
           printed-after format ps pv p (operand_shapes base m k os) (operand_values (place m d env) os).result (operand_values (place m d env) os).made_text
@@ -585,9 +585,9 @@ module _ (base : Base) (N : Names) (means : Means base.defs N) where
           (by_function-gives f _ _ _ _ _ _ _ _
           (called-gives f ps pv p (operand_shapes base m k os) (operand_values (place m d env) os).result (operand_values (place m d env) os).made_text (operands-give os k fits))
           (junction-gives os false ps pv p k nothings nothing fits tt) (junction-gives os true ps pv p k nothings nothing fits tt)
-          (λ e. subst (λ (g : Func). (Gives base N means) (indexed_shape base m k os ps) (given_then (operand_values (place m d env) os) (λ vs. applied g (vs ++ option_to_list pv))).result)
+          (λ e. subst (λ (g : Func). (Gives base N means) (indexed_shape base m k os ps) (given_then (operand_values (place m d env) os) (λ vs. apply_function g (vs ++ option_to_list pv))).result)
           (sym e) (indexed-gives os k ps pv fits p))
-          (λ e. subst (λ (g : Func). (Gives base N means) (printed_shape base m k os ps) (given_then (operand_values (place m d env) os) (λ vs. applied g (vs ++ option_to_list pv))).result)
+          (λ e. subst (λ (g : Func). (Gives base N means) (printed_shape base m k os ps) (given_then (operand_values (place m d env) os) (λ vs. apply_function g (vs ++ option_to_list pv))).result)
           (sym e) (printed-gives os k ps pv fits p))))
       command-gives (operand nil _) k ps pv fits p = tt
       command-gives (operand o no_operand) k None None fits p = operand-gives o k fits
@@ -612,7 +612,7 @@ module _ (base : Base) (N : Names) (means : Means base.defs N) where
   truth-same null = refl
   truth-same _ = refl
 
-  gone-ok : (r : Result Value Cause) (b : Bool) (v : Value) → (go_on r b (λ w. given (Ok (without_null w)))).result ≡ Ok v
+  gone-ok : (r : Result Value Cause) (b : Bool) (v : Value) → (go_on r b (λ w. as_given (Ok (without_null w)))).result ≡ Ok v
       → (w : Value) × (r ≡ Ok w) × (truth w ≡ truth v)
   gone-ok (Ok w) b v e = let same : without_null w ≡ v = cc in (w, refl, sym (truth-same w) ∙ ap truth same)
   gone-ok (Err cause) b v e = cc
@@ -636,14 +636,14 @@ module _ (base : Base) (N : Names) (means : Means base.defs N) where
 
   -- what a call gives that is the whole pipeline
   called-ok : (m : MissingKey) (f : Func) (os : Operands) (d : Value) (env : Environment) (v : Value)
-      → (go_on (by_count f (takes f (operand_count os + 0)) (given_then (operand_values (place m d env) os) (λ vs. applied f (vs ++ [])))).result
-      (by_count f (takes f (operand_count os + 0)) (given_then (operand_values (place m d env) os) (λ vs. applied f (vs ++ [])))).made_text
-      (λ w. given (Ok (without_null w)))).result ≡ Ok v
+      → (go_on (by_count f (takes f (operand_count os + 0)) (given_then (operand_values (place m d env) os) (λ vs. apply_function f (vs ++ [])))).result
+      (by_count f (takes f (operand_count os + 0)) (given_then (operand_values (place m d env) os) (λ vs. apply_function f (vs ++ [])))).made_text
+      (λ w. as_given (Ok (without_null w)))).result ≡ Ok v
       → (w : Value) × (pair_call f m d env os ≡ Ok w) × (truth w ≡ truth v)
   called-ok m f os d env v e =
-      let c = by_count f (takes f (operand_count os + 0)) (given_then (operand_values (place m d env) os) (λ vs. applied f (vs ++ []))) in
+      let c = by_count f (takes f (operand_count os + 0)) (given_then (operand_values (place m d env) os) (λ vs. apply_function f (vs ++ []))) in
       let g = gone-ok c.result c.made_text v e in
-      (g.0, by_count-ok f (takes f (operand_count os + 0)) (given_then (operand_values (place m d env) os) (λ vs. applied f (vs ++ []))) g.0 g.1, g.2)
+      (g.0, by_count-ok f (takes f (operand_count os + 0)) (given_then (operand_values (place m d env) os) (λ vs. apply_function f (vs ++ []))) g.0 g.1, g.2)
 
   -- where the value of a pipeline is not empty, what is known then holds
   pub narrowed-fits : (m : MissingKey) (p : Pipeline) (k : State) (d : Value) (env : Environment) (v : Value) → Fits k d env
@@ -679,7 +679,7 @@ module _ (base : Base) (N : Names) (means : Means base.defs N) where
   narrowed-fits m no_command k d env v h e t = h
 
   not-ok : (x : Result Value Cause) (a b : Bool) (v : Value)
-      → (go_on (go_on x a (λ w. given (Ok (w ∷ [])))).result b (λ vs. applied func.Not (vs ++ []))).result ≡ Ok v → truth v ≡ false
+      → (go_on (go_on x a (λ w. as_given (Ok (w ∷ [])))).result b (λ vs. apply_function func.Not (vs ++ []))).result ≡ Ok v → truth v ≡ false
       → (w : Value) × (x ≡ Ok w) × (truth w ≡ true)
   not-ok (Err cause) a b v e t = cc
   not-ok (Ok w) a b v e t = let same : boolean (not (truth w)) ≡ v = cc in (w, refl, not_false (truth w) (ap truth same ∙ t))
@@ -693,7 +693,7 @@ module _ (base : Base) (N : Names) (means : Means base.defs N) where
       let x = operand_value (place m d env) o in
       let vs = operand_values (place m d env) (operand o no_operand) in
       let n = not-ok x.result x.made_text vs.made_text g.0
-      (by_count-ok func.Not (takes func.Not (operand_count (operand o no_operand) + 0)) (given_then vs (λ ws. applied func.Not (ws ++ []))) g.0 g.1) (g.2 ∙ t) in
+      (by_count-ok func.Not (takes func.Not (operand_count (operand o no_operand) + 0)) (given_then vs (λ ws. apply_function func.Not (ws ++ []))) g.0 g.1) (g.2 ∙ t) in
       narrowed_by-fits m o k d env n.0 h n.1 (full-thing n.0 n.2)
   empty-fits m (command (operand (function func.Eq) os) no_command) k d env v h e t =
       let g = called-ok m func.Eq os d env v e in

@@ -10,7 +10,7 @@ use Rattle.tmpl_grammar.specs.declared.action.Branch.{Branch}
 use Rattle.tmpl_grammar.specs.declared.action.Branch.TheVariants as branch
 use Rattle.tmpl_grammar.specs.declared.tree.Control.{Control}
 use Rattle.tmpl_grammar.specs.declared.tree.Control.TheVariants.{If}
-use Rattle.tmpl_syntax.specs.computed.Frames.{Frame, top, loops, in_loop, levels, takes_else, is_known, knows, entered, parted, Known, with_inner, with_names}
+use Rattle.tmpl_syntax.specs.computed.Frames.{Frame, top, loops, in_loop, levels, takes_else, is_known, knows, enter_opening, with_part, Known, with_inner, with_names}
 use Rattle.tmpl_syntax.specs.Place.Opening.{Opening}
 use Rattle.tmpl_syntax.specs.Place.Opening as opened
 use Rattle.tmpl_grammar.specs.Tree.{Header}
@@ -66,13 +66,13 @@ mutual
       let more = leads-formed l fs past (scope_after n scope) (alike-past n known.inner scope a) e.1 in
       (both_true e.0 more.0, more.1, more.2)
   leads-formed (a_define {xs = xs} {body = body} b l) fs known scope a h =
-      let f : Frame = entered opened.define (names_given None) (top fs) known.inner in
+      let f : Frame = enter_opening opened.define (names_given None) (top fs) known.inner in
       let e = and_parts _ (passes (f ∷ fs) (opened_names opened.define [] known) (roles_of xs)) h in
       let inner = leads-formed b (f ∷ fs) (opened_names opened.define [] known) [] (λ x. refl) e.1 in
       let more = leads-formed l fs known scope a inner.1 in
       (more.0, more.1, λ k. (formed-lower body [] false f.levels 0 (omega arith) inner.0, inner.2 (more.2 k)))
   leads-formed (a_block {p = p} {xs = xs} {body = body} b l) fs known scope a h =
-      let f : Frame = entered opened.block (names_given (Some p)) (top fs) known.inner in
+      let f : Frame = enter_opening opened.block (names_given (Some p)) (top fs) known.inner in
       let head = are_among scope (names_given (Some p)).uses in
       let e = and_parts (head && nat_lt (levels (top fs)) most_levels) (passes (f ∷ fs) (opened_names opened.block [] known) (roles_of xs))
       (sym (opened-passes fs known scope (roles_of xs) a opened.block (names_given (Some p)) refl) ∙ h) in
@@ -86,7 +86,7 @@ mutual
       let names : List Name = known.inner in
       let ds : List Name = (names_of r).declares in
       let n : ℕ = levels (top fs) in
-      let f : Frame = entered (opened.control c) (names_of r) (top fs) names in
+      let f : Frame = enter_opening (opened.control c) (names_of r) (top fs) names in
       let inside : Known = with_inner known (with_names names ds) in
       let e = and_parts (are_among scope (names_of r).uses && nat_lt n most_levels) (passes (f ∷ fs) inside (roles_of xs))
       (sym (opened-passes fs known scope (roles_of xs) a (opened.control c) (names_of r) refl) ∙ h) in
@@ -107,7 +107,7 @@ mutual
       (refl, subst (λ t. passes fs (closed_if t (with_inner known (take f.start known.inner))) (roles_of xs) ≡ true) own h, λ k. k)
   closes-formed (an_else {xs = xs} {ys = ys} {other = other} l) f fs known scope a own low high h =
       let seen : List Name = take f.part known.inner in
-      let g : Frame = parted false (length seen) f in
+      let g : Frame = with_part false (length seen) f in
       let e = and_parts _ (passes (g ∷ fs) (with_inner known seen) (roles_of xs)) h in
       let inner = leads-formed l (g ∷ fs) (with_inner known seen) scope a e.1 in
       let fits_in = length-take f.part known.inner in
@@ -121,7 +121,7 @@ mutual
       let seen : List Name = take f.part known.inner in
       let ds : List Name = (names_of r).declares in
       let inside : List Name = with_names seen ds in
-      let g : Frame = parted true (length inside) f in
+      let g : Frame = with_part true (length inside) f in
       let e = and_parts _ (passes (g ∷ fs) (with_inner known inside) (roles_of xs)) h in
       let t = placed-test (takes_else (Some b) (Some f)) (leb most_levels f.levels) (knows seen (names_of r).uses) e.0 in
       let control_is = joins-control b f.opening (and_parts (joins (Some b) f.opening) (not f.has_else) t.0).0 in
@@ -183,7 +183,7 @@ else-passes c (then line m ms) in_other around n start part fs known scope ss a 
     let other : Nodes = then line m ms in
     let seen : List Name = take part known.inner in
     let fits_in = length-take part known.inner in
-    in_other (parted false (length seen) (control_frame c around n start part) ∷ fs) (with_inner known seen) scope (said end_action ∷ ss) a
+    in_other (with_part false (length seen) (control_frame c around n start part) ∷ fs) (with_inner known seen) scope (said end_action ∷ ss) a
     (subst (λ l. are_formed other scope l n ≡ true) (sym (unlooped c around)) e)
     (subst (λ ns. passes fs (with_inner known ns) (roles_said ss) ≡ true)
     (sym (take-seen start other seen (omega arith) ∙ take-take start part known.inner low)) more)
@@ -196,7 +196,7 @@ mutual
       let names : List Name = known.inner in
       let ds : List Name = (names_of h).declares in
       let n : ℕ = levels (top fs) in
-      let f : Frame = entered (opened.control c) (names_of h) (top fs) names in
+      let f : Frame = enter_opening (opened.control c) (names_of h) (top fs) names in
       let inside : Known = with_inner known (with_names names ds) in
       let ends : List Said = else_said other (nodes_said other) in
       let rest : List Said = ends ++ said end_action ∷ ss in

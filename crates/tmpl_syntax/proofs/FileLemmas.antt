@@ -4,23 +4,23 @@ use Rattle.std.proofs.lemmas.Bool.{lt-ltb, le-ltb}
 use Rattle.tmpl_syntax.specs.Fault.{Reason, too_long}
 use Rattle.tmpl_syntax.specs.Tree.{Definition}
 use Rattle.tmpl_syntax.specs.Set.{Template, defined_each}
-use Rattle.tmpl_syntax.specs.computed.Parse.{Refusal, IsRefusal, checked, second_in, IsSecondAt, definitions_or, bodies_of, all_from, items_of, placed, parsed}
+use Rattle.tmpl_syntax.specs.computed.Parse.{Refusal, IsRefusal, checked, second_in, IsSecondAt, definitions_or, bodies_of, all_from, items_of, add_definitions, parsed}
 use Rattle.tmpl_syntax.specs.Parse.{base_name, most_bytes, template_in}
 
 module _ (set : List Template) (file bytes : List ℕ) where
   pub parsed-long : most_bytes < length bytes → parsed set file bytes ≡ Err (1, too_long)
   unfolding parsed
-  parsed-long h = ap (λ b. cond b (Err (1, too_long)) (placed set file (bodies_of file bytes (items_of bytes)))) (lt-ltb most_bytes (length bytes) h)
+  parsed-long h = ap (λ b. cond b (Err (1, too_long)) (add_definitions set file (bodies_of file bytes (items_of bytes)))) (lt-ltb most_bytes (length bytes) h)
 
-  pub parsed-short : length bytes ≤ most_bytes → parsed set file bytes ≡ placed set file (bodies_of file bytes (items_of bytes))
+  pub parsed-short : length bytes ≤ most_bytes → parsed set file bytes ≡ add_definitions set file (bodies_of file bytes (items_of bytes))
   unfolding parsed
-  parsed-short h = ap (λ b. cond b (Err (1, too_long)) (placed set file (bodies_of file bytes (items_of bytes)))) (le-ltb most_bytes (length bytes) h)
+  parsed-short h = ap (λ b. cond b (Err (1, too_long)) (add_definitions set file (bodies_of file bytes (items_of bytes)))) (le-ltb most_bytes (length bytes) h)
 
   abbrev ds : List Definition
   ds = all_from (base_name file) (items_of bytes)
 
   checked-as : (c : Result (Unit {0}) Refusal) → length bytes ≤ most_bytes → checked bytes (items_of bytes) ≡ c
-      → parsed set file bytes ≡ placed set file (definitions_or c ds)
+      → parsed set file bytes ≡ add_definitions set file (definitions_or c ds)
   checked-as c h e = rw (← e) (parsed-short h)
 
   -- the refusal of the items is that of their file

@@ -19,7 +19,7 @@ use Rattle.tmpl_syntax.specs.Place.Opening as opened
 use Rattle.tmpl_syntax.specs.Place.Role.{Name, Names, declared_by, names_of, names_given, opener, Role, role_of}
 use Rattle.tmpl_syntax.specs.Place.Body.{most_levels}
 use Rattle.tmpl_syntax.specs.computed.Frames.{Verdict, fine, is_level}
-use Rattle.tmpl_syntax.specs.computed.Frames.{Frame, top, loops, in_loop, levels, is_known, knows, first_fault, part_of, entered, names_at, fault_at}
+use Rattle.tmpl_syntax.specs.computed.Frames.{Frame, top, loops, in_loop, levels, is_known, knows, first_fault, part_of, enter_opening, names_at, fault_at}
 use Rattle.tmpl_syntax.specs.computed.Frames.{frames_after, unless_fault, Known, with_inner, with_names, opened_names, known_after, verdict_from}
 use Rattle.tmpl_syntax.proofs.NameLemmas.{one-known, with-longer, take-with, take-before, part-high, else_names, take-part}
 use Rattle.std.proofs.lemmas.Bool.Decides.{nat_tests}
@@ -171,9 +171,9 @@ module _ (fs : List Frame) (known : Known) (scope : List Name) (rs : List Role) 
   -- one that opens a level
   pub opened-passes : (c : Opening) (p : Names) → is_level c ≡ true → passes fs known ((opener c p) ∷ rs)
       ≡ (are_among scope p.uses && nat_lt (levels (top fs)) most_levels
-      && passes (entered c p (top fs) known.inner ∷ fs) (opened_names c p.declares known) rs)
+      && passes (enter_opening c p (top fs) known.inner ∷ fs) (opened_names c p.declares known) rs)
   opened-passes opened.define p level = cc
-  opened-passes c p level = ap (λ b. b && passes (entered c p (top fs) known.inner ∷ fs) (opened_names c p.declares known) rs)
+  opened-passes c p level = ap (λ b. b && passes (enter_opening c p (top fs) known.inner ∷ fs) (opened_names c p.declares known) rs)
       (first-none (leb most_levels (levels (top fs))) (knows known.inner p.uses) ∙ headed known.inner scope p.uses (levels (top fs)) a)
 
 -- ---- formed nodes

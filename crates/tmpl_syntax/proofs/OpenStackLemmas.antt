@@ -7,7 +7,7 @@ use Rattle.std.proofs.lemmas.Bool.{cases_lt}
 use Rattle.std.proofs.lemmas.Bool.Decides.{Decides-like, Decides-not, Decides-or}
 use Rattle.tmpl_syntax.specs.Place.Open.{IsOpen, IsLast, HasElse, is_template}
 use Rattle.tmpl_syntax.specs.Place.Body.{IsLoop}
-use Rattle.tmpl_syntax.specs.computed.Frames.{Frame, top, loops, in_loop, levels, is_known, entered, Known, with_inner, closed_if, closed_names, with_names}
+use Rattle.tmpl_syntax.specs.computed.Frames.{Frame, top, loops, in_loop, levels, is_known, enter_opening, Known, with_inner, closed_if, closed_names, with_names}
 use Rattle.tmpl_syntax.proofs.NameLemmas.{IsWithin, with-longer, take-with, with-Decides}
 use Rattle.tmpl_syntax.proofs.PlaceLemmas.{IsBody, Levels, ups, downs, same-opening, cut, Same, alike-last, loop-in, loop-out}
 use Rattle.tmpl_syntax.proofs.PlaceLemmas.{one-alike, opened_new, template-apart, levels-same, levels-opened, InLoop, else_before, else-same}
@@ -134,7 +134,7 @@ module _ (xs : List Role) (i : ℕ) (names : List Name) (d : Control) (p : Names
   abbrev c : Opening
   c = opened.control d
 
-  pub here-control : Here xs (i + 1) (Some (entered c p t names)) (with_names names p.declares)
+  pub here-control : Here xs (i + 1) (Some (enter_opening c p t names)) (with_names names p.declares)
   here-control = record {
     levels_are = levels-opened xs i (levels t) c p at h.levels_are;
     sees = sees-opened xs i c p at refl None (λ q e. cc) names h.sees (λ r e. cc);
@@ -142,7 +142,7 @@ module _ (xs : List Role) (i : ℕ) (names : List Name) (d : Control) (p : Names
 
 -- in a template nothing is known
 pub here-template : (xs : List Role) (i : ℕ) (names : List Name) (c : Opening) (p : Names) → slice_get xs i ≡ Some (opener c p) → (t : Option Frame)
-    → Here xs i t names → is_template c ≡ true → Here xs (i + 1) (Some (entered c p t names)) []
+    → Here xs i t names → is_template c ≡ true → Here xs (i + 1) (Some (enter_opening c p t names)) []
 here-template xs i names c p at t h own =
     let body : IsBody xs i (i + 1) = record { is_open = opened_new xs i c p at; own = own } in
     record {

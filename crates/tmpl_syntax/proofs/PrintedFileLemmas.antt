@@ -12,10 +12,10 @@ use Rattle.tmpl_syntax.specs.Place.Opening as opened
 use Rattle.tmpl_syntax.specs.Place.Role.{roles_of}
 use Rattle.tmpl_syntax.specs.Place.Body.{IsFine}
 use Rattle.tmpl_syntax.specs.Spelling.{definition}
-use Rattle.tmpl_syntax.specs.Set.{Template, defined, defined_each, is_blank, tree_named}
+use Rattle.tmpl_syntax.specs.Set.{Template, add_definition, defined_each, is_blank, tree_named}
 use Rattle.tmpl_syntax.specs.Kept.{AreKept, HaveOwnNames}
 use Rattle.tmpl_syntax.specs.Parse.{NoneSecond, base_name, template_in}
-use Rattle.tmpl_syntax.specs.computed.Frames.{Judged, none_known, opened_names, verdict_of, entered}
+use Rattle.tmpl_syntax.specs.computed.Frames.{Judged, none_known, opened_names, verdict_of, enter_opening}
 use Rattle.tmpl_syntax.specs.Place.Role.{names_given}
 use Rattle.tmpl_syntax.specs.Print.Printed.{Said, said, said_text, nodes_said, template_said, unlined}
 use Rattle.tmpl_syntax.specs.Print.Laws.{AcceptsPrinted, IsSameSet, Says, newline_nodes, unlined_definition, unlined_template}
@@ -23,7 +23,7 @@ use Rattle.tmpl_syntax.proofs.AcceptedLemmas.{nodes-passes, roles_said, says-rol
 use Rattle.tmpl_syntax.proofs.FormedLemmas.{fine-back, passes, passes-fine}
 use Rattle.tmpl_syntax.proofs.SetInvariantLemmas.{kept-printable}
 use Rattle.tmpl_syntax.proofs.PrintedLemmas.{has-said, set-is-said, set-leads}
-use Rattle.tmpl_syntax.proofs.ReadingLemmas.{fold-defined}
+use Rattle.tmpl_syntax.proofs.ReadingLemmas.{fold-add_definition}
 use Rattle.tmpl_syntax.proofs.SameSetLemmas.{blank-own, each-stays, not-first, own-alike, same-set}
 use Rattle.tmpl_syntax.proofs.VerdictLemmas.{judged-all}
 use Rattle.std.proofs.lemmas.Bool.{false≢true}
@@ -40,7 +40,7 @@ set-passes (t ∷ ts) h =
     let more : List Said = said end_action ∷ said_text (codes "\n") ∷ flat_map template_said ts in
     let joined : (nodes_said t.1.nodes ++ said end_action ∷ said_text (codes "\n") ∷ []) ++ flat_map template_said ts ≡ nodes_said t.1.nodes ++ more =
     simp append_assoc in
-    let f = entered opened.define (names_given None) None [] in
+    let f = enter_opening opened.define (names_given None) None [] in
     ap (λ ss. passes (f ∷ []) (opened_names opened.define [] none_known) (roles_said ss)) joined
     ∙ nodes-passes t.1.nodes (f ∷ []) (opened_names opened.define [] none_known) [] more (λ x. refl) h.1.formed (set-passes ts h.2)
 
@@ -82,23 +82,23 @@ templates-alike file (d ∷ ds) = ap (λ vs. unlined_definition d ∷ vs) (templ
 
 -- the templates of a file, and its own after them, added to none
 added : (file name : List ℕ) (ds : List Definition) (own : Nodes) → HaveOwnNames (map (template_in file) ds)
-    → defined (map (template_in file) ds) name (record { file = file; nodes = own })
-    ≡ fold (λ (ts : List Template) (d : Definition). defined ts d.name (record { file = file; nodes = d.nodes })) [] (ds ++ definition 1 name own ∷ [])
+    → add_definition (map (template_in file) ds) name (record { file = file; nodes = own })
+    ≡ fold (λ (ts : List Template) (d : Definition). add_definition ts d.name (record { file = file; nodes = d.nodes })) [] (ds ++ definition 1 name own ∷ [])
 added file name ds own h =
     let last : Definition = definition 1 name own in
     let us : List Template = map (template_in file) ds in
     ap (λ ts. defined_each ts (template_in file last ∷ [])) (sym (each-stays us h))
-    ∙ sym (fold-append (λ before (t : Template). defined before t.0 t.1) [] us (template_in file last ∷ []))
+    ∙ sym (fold-append (λ before (t : Template). add_definition before t.0 t.1) [] us (template_in file last ∷ []))
     ∙ ap (defined_each []) (sym (map-append (template_in file) ds (last ∷ [])))
-    ∙ fold-defined file (ds ++ last ∷ []) []
+    ∙ fold-add_definition file (ds ++ last ∷ []) []
 
 same-as : (file : List ℕ) (ts us : List Template) (own : Nodes) → map unlined_template us ≡ map unlined_template ts → unlined own ≡ newline_nodes ts
-    → IsSameSet file ts (defined us (base_name file) (record { file = file; nodes = own }))
+    → IsSameSet file ts (add_definition us (base_name file) (record { file = file; nodes = own }))
 same-as file ts us own alike newlines =
     let name : List ℕ = base_name file in
     let new : Tree = record { file = file; nodes = own } in
-    subst (λ k. MatchOption (tree_named name ts) (map unlined_template (defined us name new) ≡ map unlined_template ts ++ (name, k) ∷ [])
-    (λ t. map unlined_template (defined us name new) ≡ map unlined_template ts)) newlines (same-set name new (blank-own ts own newlines) ts us alike)
+    subst (λ k. MatchOption (tree_named name ts) (map unlined_template (add_definition us name new) ≡ map unlined_template ts ++ (name, k) ∷ [])
+    (λ t. map unlined_template (add_definition us name new) ≡ map unlined_template ts)) newlines (same-set name new (blank-own ts own newlines) ts us alike)
 
 pub set_accepted : AcceptsPrinted
 set_accepted ts file is short =
@@ -108,7 +108,7 @@ set_accepted ts file is short =
     let same : map unlined_template us ≡ map unlined_template ts = templates-alike file ds ∙ alike in
     let names : HaveOwnNames us = own-alike ts us same is.1 in
     record {
-      set = defined us (base_name file) (record { file = file; nodes = own });
+      set = add_definition us (base_name file) (record { file = file; nodes = own });
       accepted = record {
         short = short;
         items = items;

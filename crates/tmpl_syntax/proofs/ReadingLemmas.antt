@@ -20,10 +20,10 @@ use Rattle.tmpl_syntax.specs.computed.Frames.{verdict_of}
 use Rattle.tmpl_syntax.specs.Tree.{Nodes, Definition}
 use Rattle.tmpl_syntax.specs.Spelling.{Spells}
 use Rattle.tmpl_syntax.specs.computed.Build.{nodes_from, definitions_from}
-use Rattle.tmpl_syntax.specs.Set.{Template, defined, defined_each}
+use Rattle.tmpl_syntax.specs.Set.{Template, add_definition, defined_each}
 use Rattle.tmpl_syntax.specs.Laws.{HasOutcome, HasOneOutcome, AcceptsAsParsed, RefusesAsParsed}
 use Rattle.tmpl_syntax.specs.computed.Parse.{Refusal, IsRefusal, line_in, line_at, by_verdict, checked, second_in, unless_second, definitions_or}
-use Rattle.tmpl_syntax.specs.computed.Parse.{all_from, items_of, placed, parsed}
+use Rattle.tmpl_syntax.specs.computed.Parse.{all_from, items_of, add_definitions, parsed}
 use Rattle.tmpl_syntax.specs.Parse.{base_name, most_bytes, all_defined, template_in, IsAccepted, IsRefusedBy, Parses, ParsesUnless}
 use Rattle.tmpl_syntax.specs.computed.Parse.{last_line}
 use Rattle.tmpl_syntax.proofs.ItemLemmas.{has-items, no-others}
@@ -44,14 +44,14 @@ IsRefusedAt items line why =
     (i : ℕ) × (what : ItemKind) × Judged (roles_of items) (refused i why) × (slice_get items i ≡ Some (item line what))
 
 -- a file's templates are added one by one
-pub fold-defined : (file : List ℕ) (ds : List Definition) (set : List Template) → defined_each set (map (template_in file) ds)
-    ≡ fold (λ (ts : List Template) (d : Definition). defined ts d.name (record { file = file; nodes = d.nodes })) set ds
-fold-defined file [] set = refl
-fold-defined file (d ∷ ds) set = fold-defined file ds (defined set d.name (record { file = file; nodes = d.nodes }))
+pub fold-add_definition : (file : List ℕ) (ds : List Definition) (set : List Template) → defined_each set (map (template_in file) ds)
+    ≡ fold (λ (ts : List Template) (d : Definition). add_definition ts d.name (record { file = file; nodes = d.nodes })) set ds
+fold-add_definition file [] set = refl
+fold-add_definition file (d ∷ ds) set = fold-add_definition file ds (add_definition set d.name (record { file = file; nodes = d.nodes }))
 
 module _ (set : List Template) (file bytes : List ℕ) where
   short-by : (v : Verdict) → length bytes ≤ most_bytes → verdict_of (roles_of (items_of bytes)) ≡ v
-      → parsed set file bytes ≡ placed set file (definitions_or (by_verdict (last_line bytes) (items_of bytes) v) (all_from (base_name file) (items_of bytes)))
+      → parsed set file bytes ≡ add_definitions set file (definitions_or (by_verdict (last_line bytes) (items_of bytes) v) (all_from (base_name file) (items_of bytes)))
   unfolding checked
   short-by v h e = rw (← e) (parsed-short set file bytes h)
 
@@ -97,7 +97,7 @@ module _ (set : List Template) (file bytes : List ℕ) where
       (cases_lt most_bytes (length bytes))
     where
       once : length bytes ≤ most_bytes → verdict_of (roles_of (items_of bytes)) ≡ fine → (o : Option ℕ) → second_in ds ≡ o
-          → Parses set file bytes (placed set file (unless_second o ds))
+          → Parses set file bytes (add_definitions set file (unless_second o ds))
       once short v None o = record {
         short = short;
         items = items_of bytes;
@@ -107,7 +107,7 @@ module _ (set : List Template) (file bytes : List ℕ) where
         own = nodes_from (items_of bytes);
         spells = spells-fine (items_of bytes) v;
         once = none-second ds o;
-        set = fold-defined file ds set;
+        set = fold-add_definition file ds set;
       }
       once short v (Some line) o = (
         short,
@@ -117,7 +117,7 @@ module _ (set : List Template) (file bytes : List ℕ) where
       )
 
       by : length bytes ≤ most_bytes → (v : Verdict) → verdict_of (roles_of (items_of bytes)) ≡ v
-          → Parses set file bytes (placed set file (definitions_or (by_verdict (last_line bytes) (items_of bytes) v) ds))
+          → Parses set file bytes (add_definitions set file (definitions_or (by_verdict (last_line bytes) (items_of bytes) v) ds))
       by short fine v = once short v (second_in ds) refl
       by short (refused i f) v =
           let j = judged-by (refused i f) v in
@@ -141,14 +141,14 @@ module _ (set : List Template) (file bytes : List ℕ) where
   -- a file of items on which this is the verdict
   verdict-as : (items : List Item) → HasItems every_action bytes items → (v : Verdict) → Judged (roles_of items) v
       → length bytes ≤ most_bytes
-      → parsed set file bytes ≡ placed set file (definitions_or (by_verdict (last_line bytes) items v) (all_from (base_name file) items))
+      → parsed set file bytes ≡ add_definitions set file (definitions_or (by_verdict (last_line bytes) items v) (all_from (base_name file) items))
   verdict-as items has v j short = rw (no-others bytes items has) (short-by v short (one-verdict _ _ v (judged-all (roles_of (items_of bytes)))
       (subst (λ xs. Judged (roles_of xs) v) (no-others bytes items has) j)))
 
   -- .. which spell these definitions
   fine-as : (items : List Item) → HasItems every_action bytes items → (es : List Definition) (own : Nodes) → Judged (roles_of items) fine
       → Spells items es own → length bytes ≤ most_bytes → (o : Option ℕ) → second_in (all_defined file es own) ≡ o
-      → parsed set file bytes ≡ placed set file (unless_second o (all_defined file es own))
+      → parsed set file bytes ≡ add_definitions set file (unless_second o (all_defined file es own))
   fine-as items has es own j s short o second =
       let same = spells-built items es own s in
       verdict-as items has fine j short ∙ rw (same.0, same.1, second) refl
@@ -156,7 +156,7 @@ module _ (set : List Template) (file bytes : List ℕ) where
   pub parsed-accepted : (new : List Template) → IsAccepted every_action set file bytes new → parsed set file bytes ≡ Ok new
   parsed-accepted new h =
       fine-as h.items h.has h.definitions h.own h.judged h.spells h.short None (second-none (all_defined file h.definitions h.own) h.once)
-      ∙ ap (λ ts. Ok ts) (fold-defined file (all_defined file h.definitions h.own) set ∙ sym h.set)
+      ∙ ap (λ ts. Ok ts) (fold-add_definition file (all_defined file h.definitions h.own) set ∙ sym h.set)
 
   refused-there-as : (line : ℕ) (why : Reason) → length bytes ≤ most_bytes → (items : List Item) → HasItems every_action bytes items
       → IsRefusedAt items line why → parsed set file bytes ≡ Err (line, why)

@@ -13,10 +13,10 @@ use Rattle.tmpl_syntax.specs.Place.Role as role
 use Rattle.tmpl_syntax.specs.Place.Role.{Name, Names, Role, plain, opener, else_part, closer, jump, nested}
 use Rattle.tmpl_syntax.specs.Place.Body.{IsFirstRefused, IsFine, IsLeftOpen, names_in}
 use Rattle.tmpl_syntax.specs.Refusals as law
-use Rattle.tmpl_syntax.specs.Refusals.{Site, Found, AreRefusals, roles_in, mend, absent, Shown, show, shown}
+use Rattle.tmpl_syntax.specs.Refusals.{Site, Found, AreRefusals, roles_in, mend, absent, Shown, show, refused_seen}
 use Rattle.tmpl_syntax.specs.computed.Frames.{Frame, Known, Verdict, fine, refused, left_open, Judged, top, with_inner, names_at, fault_at, first_fault}
 use Rattle.tmpl_syntax.specs.computed.Frames.{is_placed, is_too_deep, knows, frames_after, known_after, verdict_from, verdict_of, unless_fault, at_end, none_known}
-use Rattle.tmpl_syntax.specs.computed.Refusals.{place_decides, kept_if, site_of, State, fault_there, after, asked, names_left, by_mended, by_fault, step, found_at, found_open}
+use Rattle.tmpl_syntax.specs.computed.Refusals.{place_decides, kept_if, site_of, State, fault_there, after, ask, names_left, by_mended, by_fault, step, found_at, found_open}
 use Rattle.tmpl_syntax.specs.computed.Refusals.{refusals_from, start, refusals_in}
 use Rattle.tmpl_syntax.proofs.VerdictLemmas.{judged-all}
 
@@ -51,7 +51,7 @@ ended last ys s r = by s.frames refl
     by [] e = law.none (judged [] e)
     by (f ∷ fs) e = law.left_open (judged (f ∷ fs) e)
 
--- ---- what is asked leaves what stands as it was, unless the item is an else branch
+-- ---- what is ask leaves what stands as it was, unless the item is an else branch
 
 -- an item that is mended uses nothing, and is an else branch where it was one
 abbrev pub StaysBranch : Role → Role → Type 0
@@ -81,26 +81,26 @@ left-same o x t names e = by (place_decides o)
     by true = refl
     by false = e
 
-asked-same : (x : Role) (s : State) → names_at x (top s.frames) s.known.inner ≡ s.known.inner → asked x s ≡ s
-asked-same x s e = ap (λ (names : List Name). record { frames = s.frames; known = with_inner s.known names })
+ask-same : (x : Role) (s : State) → names_at x (top s.frames) s.known.inner ≡ s.known.inner → ask x s ≡ s
+ask-same x s e = ap (λ (names : List Name). record { frames = s.frames; known = with_inner s.known names })
     (left-same (fault_there x s) x (top s.frames) s.known.inner e)
 
 take-again : (n : ℕ) (names : List Name) → take n (take n names) ≡ take n names
 take-again n names = take-take n n names (omega arith)
 
 -- an else that no control begins uses nothing, so its place decides
-else-asked : (t : Option Frame) (o : Option Reason) (names : List Name) (why : Reason)
+else-ask : (t : Option Frame) (o : Option Reason) (names : List Name) (why : Reason)
     → first_fault (is_placed (else_part None) t) false true ≡ Some why → names_left (Some why) (else_part None) t names ≡ names
-else-asked t o names why e = by (is_placed (else_part None) t) e
+else-ask t o names why e = by (is_placed (else_part None) t) e
   where
     by : (b : Bool) → first_fault b false true ≡ Some why → names_left (Some why) (else_part None) t names ≡ names
     by false f = let is : reason.out_of_place ≡ why = cc in rw (← is) refl
     by true f = absurd (cc)
 
 -- nor does an end
-end-asked : (t : Option Frame) (names : List Name) (why : Reason)
+end-ask : (t : Option Frame) (names : List Name) (why : Reason)
     → first_fault (is_placed closer t) false true ≡ Some why → names_left (Some why) closer t names ≡ names
-end-asked t names why e = by (is_placed closer t) e
+end-ask t names why e = by (is_placed closer t) e
   where
     by : (b : Bool) → first_fault b false true ≡ Some why → names_left (Some why) closer t names ≡ names
     by false f = let is : reason.out_of_place ≡ why = cc in rw (← is) refl
@@ -124,16 +124,16 @@ module _ (b : Branch) (p : Names) (q : List Name) (fs : List Frame) (known : Kno
   seen-again None names = refl
   seen-again (Some f) names = take-again f.part names
 
-  branch-alike : fault_there role-x state-s ≡ Some why → Alike role-m (asked role-x state-s) state-s
+  branch-alike : fault_there role-x state-s ≡ Some why → Alike role-m (ask role-x state-s) state-s
   branch-alike e = by (is_placed role-x (top fs)) (is_too_deep role-x (top fs)) (knows seen p.uses) refl refl refl
     where
-      left : (o : Option Reason) → fault_there role-x state-s ≡ o → asked role-x state-s ≡ record { frames = fs; known = with_inner known (names_left o role-x (top fs) known.inner) }
+      left : (o : Option Reason) → fault_there role-x state-s ≡ o → ask role-x state-s ≡ record { frames = fs; known = with_inner known (names_left o role-x (top fs) known.inner) }
       left o f = ap (λ g. record { frames = fs; known = with_inner known (names_left g role-x (top fs) known.inner) }) f
 
       by : (placed deep knowing : Bool) → is_placed role-x (top fs) ≡ placed → is_too_deep role-x (top fs) ≡ deep → knows seen p.uses ≡ knowing
-          → Alike role-m (asked role-x state-s) state-s
-      by false deep knowing f g h = alike-by role-m (asked role-x state-s) state-s (left (Some reason.out_of_place) (rw f refl))
-      by true true knowing f g h = alike-by role-m (asked role-x state-s) state-s (left (Some reason.nested_too_deeply) (rw (f, g) refl))
+          → Alike role-m (ask role-x state-s) state-s
+      by false deep knowing f g h = alike-by role-m (ask role-x state-s) state-s (left (Some reason.out_of_place) (rw f refl))
+      by true true knowing f g h = alike-by role-m (ask role-x state-s) state-s (left (Some reason.nested_too_deeply) (rw (f, g) refl))
       by true false true f g h = absurd (let is : fault_there role-x state-s ≡ None = rw (f, g, h) refl in cc)
       by true false false f g h =
           let is = left (Some reason.undeclared_variable) (rw (f, g, h) refl) in
@@ -146,22 +146,22 @@ module _ (b : Branch) (p : Names) (q : List Name) (fs : List Frame) (known : Kno
             stays = λ w n. absurd (let is : fault_there role-m state-s ≡ None = rw (f, g) refl in cc);
           })
 
-alike-asked : (x m : Role) (s : State) (why : Reason) → StaysBranch x m → fault_there x s ≡ Some why → Alike m (asked x s) s
-alike-asked (plain p) m s why b e = alike-by m (asked (plain p) s) s (asked-same (plain p) s refl)
-alike-asked (opener c p) m s why b e = alike-by m (asked (opener c p) s) s (asked-same (opener c p) s refl)
-alike-asked (else_part None) m s why b e = alike-by m (asked (else_part None) s) s
+alike-ask : (x m : Role) (s : State) (why : Reason) → StaysBranch x m → fault_there x s ≡ Some why → Alike m (ask x s) s
+alike-ask (plain p) m s why b e = alike-by m (ask (plain p) s) s (ask-same (plain p) s refl)
+alike-ask (opener c p) m s why b e = alike-by m (ask (opener c p) s) s (ask-same (opener c p) s refl)
+alike-ask (else_part None) m s why b e = alike-by m (ask (else_part None) s) s
     (ap (λ o. record { frames = s.frames; known = with_inner s.known (names_left o (else_part None) (top s.frames) s.known.inner) }) e
     ∙ ap (λ (names : List Name). record { frames = s.frames; known = with_inner s.known names })
-    (else-asked (top s.frames) None s.known.inner why e))
-alike-asked (else_part (Some (b, p))) m s why (q, is) e =
-    subst (λ n. Alike n (asked (else_part (Some (b, p))) s) s) (sym is) (branch-alike b p q s.frames s.known why e)
-alike-asked closer m s why b e = alike-by m (asked closer s) s
+    (else-ask (top s.frames) None s.known.inner why e))
+alike-ask (else_part (Some (b, p))) m s why (q, is) e =
+    subst (λ n. Alike n (ask (else_part (Some (b, p))) s) s) (sym is) (branch-alike b p q s.frames s.known why e)
+alike-ask closer m s why b e = alike-by m (ask closer s) s
     (ap (λ o. record { frames = s.frames; known = with_inner s.known (names_left o closer (top s.frames) s.known.inner) }) e
     ∙ ap (λ (names : List Name). record { frames = s.frames; known = with_inner s.known names })
-    (end-asked (top s.frames) s.known.inner why e))
-alike-asked jump m s why b e = alike-by m (asked jump s) s (asked-same jump s refl)
-alike-asked (nested c) m s why b e = alike-by m (asked (nested c) s) s (asked-same (nested c) s refl)
-alike-asked (role.flawed w) m s why b e = alike-by m (asked (role.flawed w) s) s (asked-same (role.flawed w) s refl)
+    (end-ask (top s.frames) s.known.inner why e))
+alike-ask jump m s why b e = alike-by m (ask jump s) s (ask-same jump s refl)
+alike-ask (nested c) m s why b e = alike-by m (ask (nested c) s) s (ask-same (nested c) s refl)
+alike-ask (role.flawed w) m s why b e = alike-by m (ask (role.flawed w) s) s (ask-same (role.flawed w) s refl)
 
 -- ---- the list
 
@@ -195,10 +195,10 @@ module _ (last : ℕ) where
     next : (y : Site) (t : State) → Reaches (roles_in ys ++ y.role ∷ []) t → AreRefusals last (ys ++ y ∷ xs) (refusals_from last (length ys + 1) t xs)
     next y t g = one-more ys xs y t (so (ys ++ y ∷ []) t (roles-more ys y t g))
 
-    mended : Alike x.mended (asked x.role s) s → (o : Option Reason) → fault_there x.mended s ≡ o
+    mended : Alike x.mended (ask x.role s) s → (o : Option Reason) → fault_there x.mended s ≡ o
         → AreRefusals last (ys ++ mend x ∷ xs)
-        (found_at (length ys) x.line (by_mended o x.mended (asked x.role s)).0
-        ++ refusals_from last (length ys + 1) (by_mended o x.mended (asked x.role s)).1 xs)
+        (found_at (length ys) x.line (by_mended o x.mended (ask x.role s)).0
+        ++ refusals_from last (length ys + 1) (by_mended o x.mended (ask x.role s)).1 xs)
     mended a None e = subst (λ t. AreRefusals last (ys ++ mend x ∷ xs) (refusals_from last (length ys + 1) t xs)) (sym (a.past e))
         (next (mend x) (after x.mended s) (reaches-after (roles_in ys) s r x.mended e))
     mended a (Some w) e = law.refused ys (mend x) xs (is-first ys xs (mend x) s w r e)
@@ -209,11 +209,11 @@ module _ (last : ℕ) where
         (found_at (length ys) x.line (by_fault o x s).0 ++ refusals_from last (length ys + 1) (by_fault o x s).1 xs)
     found-by is None e = next x (after x.role s) (reaches-after (roles_in ys) s r x.role e)
     found-by is (Some why) e =
-        let a = alike-asked x.role x.mended s why is e in
+        let a = alike-ask x.role x.mended s why is e in
         law.refused ys x xs (is-first ys xs x s why r e)
         (subst (λ o. AreRefusals last (ys ++ mend x ∷ xs)
-        (found_at (length ys) x.line (by_mended o x.mended (asked x.role s)).0
-        ++ refusals_from last (length ys + 1) (by_mended o x.mended (asked x.role s)).1 xs))
+        (found_at (length ys) x.line (by_mended o x.mended (ask x.role s)).0
+        ++ refusals_from last (length ys + 1) (by_mended o x.mended (ask x.role s)).1 xs))
         (sym a.fault) (mended a (fault_there x.mended s) refl))
 
   found-from : (xs : List Site) → AreSites xs → (ys : List Site) (s : State) → Reaches (roles_in ys) s
@@ -262,29 +262,29 @@ state-of s t e f = ap (λ (fs : List Frame). record { frames = fs; known = s.kno
 
 pub found-past : (last place : ℕ) (sites : List held.Site) (x : held.Site) → place < length sites → x ≡ get_or sites place x
     → (all : List Shown) (old new : List Refused) (s t : State)
-    → all ≡ map shown old ++ map show (refusals_from last place s (map site_of (drop place sites)))
-    → map shown new ≡ map shown old ++ map show (found_at place (site_of x).line (step (site_of x) s).0)
+    → all ≡ map refused_seen old ++ map show (refusals_from last place s (map site_of (drop place sites)))
+    → map refused_seen new ≡ map refused_seen old ++ map show (found_at place (site_of x).line (step (site_of x) s).0)
     → t.frames ≡ (step (site_of x) s).1.frames → t.known ≡ (step (site_of x) s).1.known
-    → all ≡ map shown new ++ map show (refusals_from last (place + 1) t (map site_of (drop (place + 1) sites)))
+    → all ≡ map refused_seen new ++ map show (refusals_from last (place + 1) t (map site_of (drop (place + 1) sites)))
 found-past last place sites x lt is all old new s t a n f k =
     let here = found_at place (site_of x).line (step (site_of x) s).0 in
     let later = refusals_from last (place + 1) (step (site_of x) s).1 (map site_of (drop (place + 1) sites)) in
-    a ∙ ap (λ ys. map shown old ++ map show (refusals_from last place s (map site_of ys)))
+    a ∙ ap (λ ys. map refused_seen old ++ map show (refusals_from last place s (map site_of ys)))
     (drop-next sites place x (slice_get_read sites (length sites) place x refl lt is))
-    ∙ ap (λ ys. map shown old ++ ys) (map-append show here later)
-    ∙ sym (append_assoc (map shown old) (map show here) (map show later))
+    ∙ ap (λ ys. map refused_seen old ++ ys) (map-append show here later)
+    ∙ sym (append_assoc (map refused_seen old) (map show here) (map show later))
     ∙ ap (λ ys. ys ++ map show later) (sym n)
-    ∙ ap (λ u. map shown new ++ map show (refusals_from last (place + 1) u (map site_of (drop (place + 1) sites))))
+    ∙ ap (λ u. map refused_seen new ++ map show (refusals_from last (place + 1) u (map site_of (drop (place + 1) sites))))
     (sym (state-of t (step (site_of x) s).1 f k))
 
 pub found-end : (last place : ℕ) (sites : List held.Site) → place ≡ length sites → (all : List Shown) (old new : List Refused) (s : State)
-    → all ≡ map shown old ++ map show (refusals_from last place s (map site_of (drop place sites)))
-    → map shown new ≡ map shown old ++ map show (found_open (length sites) last s.frames)
-    → map shown new ≡ all
-found-end last place sites le all old new s a n = n ∙ sym (a ∙ ap (λ ys. map shown old ++ map show (refusals_from last place s (map site_of ys)))
-    (drop_all place sites (omega (arith, le))) ∙ ap (λ i. map shown old ++ map show (found_open i last s.frames)) le)
+    → all ≡ map refused_seen old ++ map show (refusals_from last place s (map site_of (drop place sites)))
+    → map refused_seen new ≡ map refused_seen old ++ map show (found_open (length sites) last s.frames)
+    → map refused_seen new ≡ all
+found-end last place sites le all old new s a n = n ∙ sym (a ∙ ap (λ ys. map refused_seen old ++ map show (refusals_from last place s (map site_of ys)))
+    (drop_all place sites (omega (arith, le))) ∙ ap (λ i. map refused_seen old ++ map show (found_open i last s.frames)) le)
 
 pub found-start : (last : ℕ) (sites : List held.Site) (old : List Refused) (s : State) → old ≡ [] → s.frames ≡ [] → s.known ≡ none_known
-    → map show (refusals_in last (map site_of sites)) ≡ map shown old ++ map show (refusals_from last 0 s (map site_of (drop 0 sites)))
+    → map show (refusals_in last (map site_of sites)) ≡ map refused_seen old ++ map show (refusals_from last 0 s (map site_of (drop 0 sites)))
 unfolding refusals_in
 found-start last sites old s o f k = rw o (ap (λ t. map show (refusals_from last 0 t (map site_of sites))) (sym (state-of s start f k)))

@@ -12,8 +12,8 @@ use Rattle.tmpl_syntax.specs.Tree as tree
 use Rattle.tmpl_syntax.specs.Tree.{text, control_node, NodeKind, Nodes, Tree}
 use Rattle.tmpl_grammar.specs.Action.{define_action, end_action, opening, plain_else}
 use Rattle.tmpl_syntax.specs.Kept.{HaveOwnNames}
-use Rattle.tmpl_syntax.specs.Set.{Template, tree_named, is_blank, defined, defined_each}
-use Rattle.tmpl_syntax.specs.computed.Set.{has_name, chosen}
+use Rattle.tmpl_syntax.specs.Set.{Template, tree_named, is_blank, add_definition, defined_each}
+use Rattle.tmpl_syntax.specs.computed.Set.{has_name, choose}
 use Rattle.tmpl_syntax.specs.Print.Printed.{Said, file_of, node_said, nodes_said, said, said_text, template_said, unlined, unlined_node}
 use Rattle.tmpl_syntax.specs.Print.Laws.{PrintsAlike, Unlined, newline_nodes, unlined_template}
 
@@ -44,8 +44,8 @@ module _ (t : Template) where
   stays-first [] set none = refl
   stays-first (u ∷ us) set none =
       let apart = not-first t.0 u us none in
-      ap (λ b. defined_each (if b then (t.0, chosen t.1 u.1) ∷ set else t ∷ defined set u.0 u.1) us) (other-way t.0 u.0 apart.0)
-      ∙ stays-first us (defined set u.0 u.1) apart.1
+      ap (λ b. defined_each (if b then (t.0, choose t.1 u.1) ∷ set else t ∷ add_definition set u.0 u.1) us) (other-way t.0 u.0 apart.0)
+      ∙ stays-first us (add_definition set u.0 u.1) apart.1
 
 pub each-stays : (us : List Template) → HaveOwnNames us → defined_each [] us ≡ us
 each-stays [] h = refl
@@ -149,8 +149,8 @@ blank-own ts own e = sym (blank-unlined own) ∙ ap is_blank e ∙ newlines-blan
 module _ (name : List ℕ) (new : Tree) (blank : is_blank new.nodes ≡ true) where
   abbrev Same : Option Tree → List Template → List Template → Type 0
   Same found ts us =
-      MatchOption found (map unlined_template (defined us name new) ≡ map unlined_template ts ++ (name, unlined new.nodes) ∷ [])
-      (λ t. map unlined_template (defined us name new) ≡ map unlined_template ts)
+      MatchOption found (map unlined_template (add_definition us name new) ≡ map unlined_template ts ++ (name, unlined new.nodes) ∷ [])
+      (λ t. map unlined_template (add_definition us name new) ≡ map unlined_template ts)
 
   pub same-set : (ts us : List Template) → AlikeSets us ts → Same (tree_named name ts) ts us
   same-set [] [] e = refl
@@ -159,15 +159,15 @@ module _ (name : List ℕ) (new : Tree) (blank : is_blank new.nodes ≡ true) wh
   same-set (t ∷ ts) (u ∷ us) e = by (bytes_eq name t.0) (ap (λ (v : Unlined). bytes_eq name v.0) (heads t u ts us e).0) (same-set ts us (heads t u ts us e).1)
     where
       added : Bool → List Template
-      added b = if b then (u.0, chosen u.1 new) ∷ us else u ∷ defined us name new
+      added b = if b then (u.0, choose u.1 new) ∷ us else u ∷ add_definition us name new
 
-      kept : (b : Bool) → bytes_eq name u.0 ≡ b → map unlined_template (defined (u ∷ us) name new) ≡ map unlined_template (added b)
+      kept : (b : Bool) → bytes_eq name u.0 ≡ b → map unlined_template (add_definition (u ∷ us) name new) ≡ map unlined_template (added b)
       kept b is = ap (λ b. map unlined_template (added b)) is
 
       later : bytes_eq name u.0 ≡ false → (found : Option Tree) → Same found ts us
           → MatchOption found
-          (map unlined_template (defined (u ∷ us) name new) ≡ unlined_template t ∷ (map unlined_template ts ++ (name, unlined new.nodes) ∷ []))
-          (λ o. map unlined_template (defined (u ∷ us) name new) ≡ unlined_template t ∷ map unlined_template ts)
+          (map unlined_template (add_definition (u ∷ us) name new) ≡ unlined_template t ∷ (map unlined_template ts ++ (name, unlined new.nodes) ∷ []))
+          (λ o. map unlined_template (add_definition (u ∷ us) name new) ≡ unlined_template t ∷ map unlined_template ts)
       later is None more = kept false is ∙ (λ i. (heads t u ts us e).0 i ∷ more i)
       later is (Some o) more = kept false is ∙ (λ i. (heads t u ts us e).0 i ∷ more i)
 

@@ -14,8 +14,8 @@ use Rattle.tmpl_syntax.specs.Language.{every_action}
 use Rattle.tmpl_syntax.specs.Item.{Item}
 use Rattle.tmpl_syntax.specs.Place.Role.{roles_of}
 use Rattle.tmpl_syntax.specs.computed.Frames.{Verdict, fine, Judged}
-use Rattle.tmpl_syntax.specs.Set.{Template, tree_named, is_blank, defined, defined_each}
-use Rattle.tmpl_syntax.specs.computed.Set.{has_name, chosen}
+use Rattle.tmpl_syntax.specs.Set.{Template, tree_named, is_blank, add_definition, defined_each}
+use Rattle.tmpl_syntax.specs.computed.Set.{has_name, choose}
 use Rattle.tmpl_syntax.specs.Kept.{AreKept, HaveOwnNames, IsKept}
 use Rattle.tmpl_syntax.specs.Parse.{base_name, most_bytes, all_defined, template_in}
 use Rattle.tmpl_syntax.specs.computed.Parse.{last_line}
@@ -41,16 +41,16 @@ at-kept (u ∷ ts) (suc number) t h at = at-kept ts number t h.2 at
 
 -- ---- a definition
 
-chosen-kept : (b : Bool) (old new : Tree) → IsKept old → IsKept new → IsKept (if b then old else new)
-chosen-kept true old new h k = h
-chosen-kept false old new h k = k
+choose-kept : (b : Bool) (old new : Tree) → IsKept old → IsKept new → IsKept (if b then old else new)
+choose-kept true old new h k = h
+choose-kept false old new h k = k
 
-pub defined-kept : (ts : List Template) (name : List ℕ) (tree : Tree) → AreKept ts → AreBytes name → IsKept tree → AreKept (defined ts name tree)
-defined-kept [] name tree h b k = (b, k, tt)
-defined-kept (t ∷ ts) name tree h b k = go (bytes_eq name t.0) (defined-kept ts name tree h.2 b k)
+pub add_definition-kept : (ts : List Template) (name : List ℕ) (tree : Tree) → AreKept ts → AreBytes name → IsKept tree → AreKept (add_definition ts name tree)
+add_definition-kept [] name tree h b k = (b, k, tt)
+add_definition-kept (t ∷ ts) name tree h b k = go (bytes_eq name t.0) (add_definition-kept ts name tree h.2 b k)
   where
-    go : (b : Bool) → AreKept (defined ts name tree) → AreKept (if b then (t.0, chosen t.1 tree) ∷ ts else t ∷ defined ts name tree)
-    go true more = (h.0, chosen-kept (is_blank tree.nodes) t.1 tree h.1 k, h.2)
+    go : (b : Bool) → AreKept (add_definition ts name tree) → AreKept (if b then (t.0, choose t.1 tree) ∷ ts else t ∷ add_definition ts name tree)
+    go true more = (h.0, choose-kept (is_blank tree.nodes) t.1 tree h.1 k, h.2)
     go false more = (h.0, h.1, more)
 
 -- ---- a look-up
@@ -109,7 +109,7 @@ file-kept file bytes ts name h within passed built =
 
 pub each-kept : (set ts : List Template) → AreKept set → AreKept ts → AreKept (defined_each set ts)
 each-kept set [] h k = h
-each-kept set (t ∷ ts) h k = each-kept (defined set t.0 t.1) ts (defined-kept set t.0 t.1 h k.0 k.1) k.2
+each-kept set (t ∷ ts) h k = each-kept (add_definition set t.0 t.1) ts (add_definition-kept set t.0 t.1 h k.0 k.1) k.2
 
 -- ---- names
 
@@ -122,31 +122,31 @@ same-both a b differ = one_answer (bytes_eq b a) (bytes_eq a b) (bytes_eq-Decide
 
 -- a name that no template has, and that is not the new one's, is none after a definition either
 unnamed : (n : List ℕ) (ts : List Template) (name : List ℕ) (tree : Tree) → bytes_eq n name ≡ false → tree_named n ts ≡ None
-    → tree_named n (defined ts name tree) ≡ None
+    → tree_named n (add_definition ts name tree) ≡ None
 unnamed n [] name tree other none = rw other refl
 unnamed n (t ∷ ts) name tree other none = by (bytes_eq n t.0) refl none (unnamed n ts name tree other)
   where
-    split : (c : Bool) → bytes_eq n t.0 ≡ false → tree_named n ts ≡ None → tree_named n (defined ts name tree) ≡ None
-        → tree_named n (if c then (t.0, chosen t.1 tree) ∷ ts else t ∷ defined ts name tree) ≡ None
+    split : (c : Bool) → bytes_eq n t.0 ≡ false → tree_named n ts ≡ None → tree_named n (add_definition ts name tree) ≡ None
+        → tree_named n (if c then (t.0, choose t.1 tree) ∷ ts else t ∷ add_definition ts name tree) ≡ None
     split true is none more = rw is none
     split false is none more = rw is more
 
     by : (b : Bool) → bytes_eq n t.0 ≡ b → option_map (λ (u : Template). u.1) (cond b (Some t) (find (has_name n) ts)) ≡ None
-        → (tree_named n ts ≡ None → tree_named n (defined ts name tree) ≡ None) → tree_named n (defined (t ∷ ts) name tree) ≡ None
+        → (tree_named n ts ≡ None → tree_named n (add_definition ts name tree) ≡ None) → tree_named n (add_definition (t ∷ ts) name tree) ≡ None
     by true is h more = cc
     by false is h more = split (bytes_eq name t.0) is h (more h)
 
-defined-own : (ts : List Template) (name : List ℕ) (tree : Tree) → HaveOwnNames ts → HaveOwnNames (defined ts name tree)
-defined-own [] name tree h = (refl, tt)
-defined-own (t ∷ ts) name tree h = go (bytes_eq name t.0) refl (defined-own ts name tree h.1)
+add_definition-own : (ts : List Template) (name : List ℕ) (tree : Tree) → HaveOwnNames ts → HaveOwnNames (add_definition ts name tree)
+add_definition-own [] name tree h = (refl, tt)
+add_definition-own (t ∷ ts) name tree h = go (bytes_eq name t.0) refl (add_definition-own ts name tree h.1)
   where
-    go : (b : Bool) → bytes_eq name t.0 ≡ b → HaveOwnNames (defined ts name tree)
-        → HaveOwnNames (if b then (t.0, chosen t.1 tree) ∷ ts else t ∷ defined ts name tree)
+    go : (b : Bool) → bytes_eq name t.0 ≡ b → HaveOwnNames (add_definition ts name tree)
+        → HaveOwnNames (if b then (t.0, choose t.1 tree) ∷ ts else t ∷ add_definition ts name tree)
     go true is more = h
     go false is more = (unnamed t.0 ts name tree (same-both name t.0 is) h.0, more)
 
 pub each-own : (set ts : List Template) → HaveOwnNames set → HaveOwnNames (defined_each set ts)
 each-own set [] h = h
-each-own set (t ∷ ts) h = each-own (defined set t.0 t.1) ts (defined-own set t.0 t.1 h)
+each-own set (t ∷ ts) h = each-own (add_definition set t.0 t.1) ts (add_definition-own set t.0 t.1 h)
 
 pub ruleset kept = (file-kept)

@@ -10,8 +10,8 @@ use Rattle.std.proofs.lemmas.List.{length-map}
 use Rattle.tmpl_syntax.specs.View.{tree_of, node_of, nodes_in, template_of}
 use Rattle.tmpl_syntax.specs.Tree.{NodeKind, text, Nodes, then, Tree}
 use Rattle.tmpl_syntax.specs.declared.tree.Tree as held
-use Rattle.tmpl_syntax.specs.Set.{Template, tree_named, number_of, is_blank, defined}
-use Rattle.tmpl_syntax.specs.computed.Set.{has_name, is_blank_node, chosen}
+use Rattle.tmpl_syntax.specs.Set.{Template, tree_named, number_of, is_blank, add_definition}
+use Rattle.tmpl_syntax.specs.computed.Set.{has_name, is_blank_node, choose}
 use Rattle.tmpl_syntax.specs.declared.tree.Node as held_node
 use Rattle.indexmap.specs.IndexMap.{insert_entry}
 
@@ -46,30 +46,30 @@ abbrev named : Bool → Template → Option Template → Option Tree
 named same t other = option_map (λ (u : Template). u.1) (cond same (Some t) other)
 
 -- a blank definition of a name that is there leaves the set as it is
-pub kept-as-is : (ts : List Template) (name : List ℕ) (tree : Tree) → (is_blank tree.nodes && is_some (tree_named name ts)) ≡ true → ts ≡ defined ts name tree
+pub kept-as-is : (ts : List Template) (name : List ℕ) (tree : Tree) → (is_blank tree.nodes && is_some (tree_named name ts)) ≡ true → ts ≡ add_definition ts name tree
 kept-as-is [] name tree e = let parts = and_parts (is_blank tree.nodes) false e in cc
 kept-as-is (t ∷ ts) name tree e = go (bytes_eq name t.0) (kept-as-is ts name tree) e
   where
-    go : (same : Bool) → ((is_blank tree.nodes && is_some (tree_named name ts)) ≡ true → ts ≡ defined ts name tree)
+    go : (same : Bool) → ((is_blank tree.nodes && is_some (tree_named name ts)) ≡ true → ts ≡ add_definition ts name tree)
         → (is_blank tree.nodes && is_some (named same t (find (has_name name) ts))) ≡ true
-        → t ∷ ts ≡ cond same ((t.0, chosen t.1 tree) ∷ ts) (t ∷ defined ts name tree)
+        → t ∷ ts ≡ cond same ((t.0, choose t.1 tree) ∷ ts) (t ∷ add_definition ts name tree)
     go true ih h = ap (λ b. (t.0, cond b t.1 tree) ∷ ts) (sym (and_parts (is_blank tree.nodes) true h).0)
     go false ih h = ap (λ us. t ∷ us) (ih h)
 
 -- any other is inserted
-pub defined-insert : (es : List Entry) (k : Vec ℕ Global) (tree : held.Tree)
+pub add_definition-insert : (es : List Entry) (k : Vec ℕ Global) (tree : held.Tree)
     → (is_blank (tree_of tree).nodes && is_some (tree_named k.items (map template_of es))) ≡ false
-    → map template_of (insert_entry (λ (x y : Vec ℕ Global). bytes_eq x.items y.items) es k tree) ≡ defined (map template_of es) k.items (tree_of tree)
-defined-insert [] k tree e = refl
-defined-insert (d ∷ es) k tree e = go (bytes_eq k.items d.0.items) (is_blank (tree_of tree).nodes) refl (defined-insert es k tree) e
+    → map template_of (insert_entry (λ (x y : Vec ℕ Global). bytes_eq x.items y.items) es k tree) ≡ add_definition (map template_of es) k.items (tree_of tree)
+add_definition-insert [] k tree e = refl
+add_definition-insert (d ∷ es) k tree e = go (bytes_eq k.items d.0.items) (is_blank (tree_of tree).nodes) refl (add_definition-insert es k tree) e
   where
     go : (same blank : Bool) → is_blank (tree_of tree).nodes ≡ blank → ((is_blank (tree_of tree).nodes && is_some (tree_named k.items (map template_of es)))
         ≡ false → map template_of (insert_entry (λ (x y : Vec ℕ Global). bytes_eq x.items y.items) es k tree)
-        ≡ defined (map template_of es) k.items (tree_of tree)) → (is_blank (tree_of tree).nodes && is_some
+        ≡ add_definition (map template_of es) k.items (tree_of tree)) → (is_blank (tree_of tree).nodes && is_some
         (named same (template_of d) (find (has_name k.items) (map template_of es)))) ≡ false
         → map template_of (cond same ((d.0, tree) ∷ es) (d ∷ insert_entry (λ (x y : Vec ℕ Global). bytes_eq x.items y.items) es k tree))
-        ≡ cond same ((d.0.items, chosen (tree_of d.1) (tree_of tree)) ∷ map template_of es)
-        (template_of d ∷ defined (map template_of es) k.items (tree_of tree))
+        ≡ cond same ((d.0.items, choose (tree_of d.1) (tree_of tree)) ∷ map template_of es)
+        (template_of d ∷ add_definition (map template_of es) k.items (tree_of tree))
     go true true is ih h = cc
     go true false is ih h = ap (λ b. (d.0.items, cond b (tree_of d.1) (tree_of tree)) ∷ map template_of es) (sym is)
     go false blank is ih h = ap (λ ts. template_of d ∷ ts) (ih h)

@@ -19,7 +19,7 @@ use Rattle.tmpl_lex.specs.Text.{newlines}
 use Rattle.tmpl_syntax.specs.Laws.{AcceptsMended, HasSomeRefusals}
 use Rattle.tmpl_syntax.specs.Place.Body.{IsFine, IsLeftOpen}
 use Rattle.tmpl_syntax.specs.Refusals as law
-use Rattle.tmpl_syntax.specs.Refusals.{mend, mended_at, mended_each, mended_in, roles_in, Found, HasRefusals, HasSites, show, shown, IsSite, Site, mended_by, declared_in}
+use Rattle.tmpl_syntax.specs.Refusals.{mend, mended_at, mended_each, mended_in, roles_in, Found, HasRefusals, HasSites, show, refused_seen, IsSite, Site, mended_by, declared_in}
 use Rattle.tmpl_syntax.specs.Item.{Item, ItemKind, item, IsItem, a_text, an_unreadable, text_item, flawed_item, deep_item, action_item}
 use Rattle.tmpl_grammar.specs.Action as grammar
 use Rattle.tmpl_syntax.specs.Place.Role.{role_of}
@@ -126,8 +126,8 @@ pub all_found : (bytes : List ℕ) → HasRefusals bytes (refusals_in (newlines 
 all_found bytes = (sites_in (cut_of bytes), has_sites bytes, found-all (newlines bytes + 1) (sites_in (cut_of bytes)) (are-sites (cut_of bytes)))
 
 pub all_refused : (bytes : List ℕ) (last : ℕ) (xs : List Site) (r : Result (Vec Refused Global) AllocError) → xs ≡ sites_in (cut_of bytes)
-    → last ≡ newlines bytes + 1 → IfOk r (λ v. map shown v.items ≡ map show (refusals_in last xs))
-    → IfOk r (λ v. (rs : List Found) × HasRefusals bytes rs × (map shown v.items ≡ map show rs))
+    → last ≡ newlines bytes + 1 → IfOk r (λ v. map refused_seen v.items ≡ map show (refusals_in last xs))
+    → IfOk r (λ v. (rs : List Found) × HasRefusals bytes rs × (map refused_seen v.items ≡ map show rs))
 all_refused bytes last xs (Ok v) e f g = (refusals_in last xs, rw (e, f) (all_found bytes), g)
 all_refused bytes last xs (Err e) f g h = h
 

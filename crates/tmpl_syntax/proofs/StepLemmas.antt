@@ -6,8 +6,8 @@ use Rattle.std.proofs.lemmas.Bool.{cases_lt, and_parts}
 use Rattle.std.proofs.Math.Seq.{take-length}
 use Rattle.tmpl_grammar.specs.declared.action.Branch.{Branch}
 use Rattle.tmpl_grammar.specs.Action.{control_in}
-use Rattle.tmpl_syntax.specs.computed.Frames.{Frame, top, is_known, entered, Known, with_inner, with_names, opened_names, else_came}
-use Rattle.tmpl_syntax.specs.computed.Frames.{parted, is_placed, closed_if}
+use Rattle.tmpl_syntax.specs.computed.Frames.{Frame, top, is_known, enter_opening, Known, with_inner, with_names, opened_names, else_came}
+use Rattle.tmpl_syntax.specs.computed.Frames.{with_part, is_placed, closed_if}
 use Rattle.tmpl_syntax.specs.Place.Open.{opens, ends, IsOpen, IsLast, is_template, IsElseOf, HasElse}
 use Rattle.tmpl_syntax.proofs.NameLemmas.{IsWithin, in-nothing, take-before, with-Decides, part-low, part-high, else_names, take-part, with-longer, take-with}
 use Rattle.tmpl_syntax.proofs.PlaceLemmas.{cut, Same, shut-at, same-ended, same-still, last_new, same-opening, Even, even-step}
@@ -34,9 +34,9 @@ module _ (xs : List Role) (i : ℕ) (known : Known) (p : Names) (fs : List Frame
   h : Here xs i (top fs) known.inner
   h = here-of xs i known fs s
 
-  stood-opened : (c : Opening) → slice_get xs i ≡ Some (opener c p) → (ns : List Name) → IsWithin (entered c p (top fs) known.inner) (length ns)
-      → (is_template c ≡ false → Sees xs (Some i) (i + 1) (take (entered c p (top fs) known.inner).part ns))
-      → Stood xs (i + 1) ns (entered c p (top fs) known.inner) i
+  stood-opened : (c : Opening) → slice_get xs i ≡ Some (opener c p) → (ns : List Name) → IsWithin (enter_opening c p (top fs) known.inner) (length ns)
+      → (is_template c ≡ false → Sees xs (Some i) (i + 1) (take (enter_opening c p (top fs) known.inner).part ns))
+      → Stood xs (i + 1) ns (enter_opening c p (top fs) known.inner) i
   stood-opened c at ns within part = record {
     names = p;
     opened = at;
@@ -56,18 +56,18 @@ module _ (xs : List Role) (i : ℕ) (known : Known) (p : Names) (fs : List Frame
 
   -- in a template nothing is known, and after it what is known here
   pub stands-opened : (c : Opening) → slice_get xs i ≡ Some (opener c p)
-      → Stands xs (i + 1) (opened_names c p.declares known) (entered c p (top fs) known.inner ∷ fs)
+      → Stands xs (i + 1) (opened_names c p.declares known) (enter_opening c p (top fs) known.inner ∷ fs)
   stands-opened (opened.control d) at = (
     here-control xs i known.inner d p at (top fs) h,
     i,
-    stood-opened (opened.control d) at inside (record { started = part-low d known.inner p.declares; parted = part-high d known.inner p.declares })
+    stood-opened (opened.control d) at inside (record { started = part-low d known.inner p.declares; with_part = part-high d known.inner p.declares })
         (λ own. subst (Sees xs (Some i) (i + 1)) (sym (take-part d known.inner p.declares)) (part-first d at d refl)),
     subst (λ l. Stands xs i (with_inner known l) fs) (sym (take-before known.inner p.declares)) s,
   )
   stands-opened c at = (
     here-template xs i known.inner c p at (top fs) h refl,
     i,
-    stood-opened c at [] (record { started = omega arith; parted = omega arith }) (λ none. cc),
+    stood-opened c at [] (record { started = omega arith; with_part = omega arith }) (λ none. cc),
     s,
   )
 
@@ -191,7 +191,7 @@ module _ (xs : List Role) (i : ℕ) (known : Known) (f : Frame) (fs : List Frame
       (cases_lt v.by i))
       (with-Decides (take f.part names) ds n (s.2.part own n))
 
-  here-parted : Here xs (i + 1) (Some (parted (is_some b) (length seen) f)) seen
+  here-parted : Here xs (i + 1) (Some (with_part (is_some b) (length seen) f)) seen
   here-parted = record {
     levels_are = levels-else xs i s.1 f.levels b even part
         (λ e. level-there f.opening own (sym (same-opening xs s.1 s.2.last.is_open.opened f.opening s.2.last.is_open.at s.2.opened) ∙ e)) s.0.levels_are;
@@ -201,7 +201,7 @@ module _ (xs : List Role) (i : ℕ) (known : Known) (f : Frame) (fs : List Frame
   front : length (take f.part names) ≡ f.part
   front = length-take-le f.part names s.2.within.parted
 
-  stood-parted : Stood xs (i + 1) seen (parted (is_some b) (length seen) f) s.1
+  stood-parted : Stood xs (i + 1) seen (with_part (is_some b) (length seen) f) s.1
   stood-parted = record {
     names = s.2.names;
     opened = s.2.opened;
@@ -209,11 +209,11 @@ module _ (xs : List Role) (i : ℕ) (known : Known) (f : Frame) (fs : List Frame
     over = omega (arith, s.2.over, even.balance);
     has = has-came xs i s.1 b f.has_else part s.2.has;
     around = s.2.around;
-    within = record { started = let a = s.2.within.started in omega (arith, front, with-longer (take f.part names) ds); parted = omega arith };
+    within = record { started = let a = s.2.within.started in omega (arith, front, with-longer (take f.part names) ds); with_part = omega arith };
     part = λ o. subst (Sees xs (Some s.1) (i + 1)) (sym (take-length seen)) (sees-parted (Some s.1) (λ q e. cc));
   }
 
-  pub stands-parted : Stands xs (i + 1) (with_inner known seen) (parted (is_some b) (length seen) f ∷ fs)
+  pub stands-parted : Stands xs (i + 1) (with_inner known seen) (with_part (is_some b) (length seen) f ∷ fs)
   stands-parted =
       let below : take f.start seen ≡ take f.start names = take-with f.start (take f.part names) ds (let a = s.2.within.started in omega (arith, front))
       ∙ take-take f.start f.part names s.2.within.started in

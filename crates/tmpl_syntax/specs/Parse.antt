@@ -14,7 +14,7 @@ use Rattle.tmpl_syntax.specs.Place.Role.{role_of}
 use Rattle.tmpl_syntax.specs.Place.Body.{IsFine, IsFirstRefused, IsLeftOpen}
 use Rattle.tmpl_syntax.specs.Spelling.{definition, Spells}
 use Rattle.tmpl_syntax.specs.Fault.{Reason, open_at_end, too_long, second_definition, reason_of}
-use Rattle.tmpl_syntax.specs.Set.{Template, is_blank, defined}
+use Rattle.tmpl_syntax.specs.Set.{Template, is_blank, add_definition}
 use Rattle.tmpl_syntax.specs.declared.fault.ParseFault.{ParseFault}
 
 -- the part of a path after its last `/`
@@ -56,7 +56,7 @@ pub record IsAccepted (language : Language) (old : List Template) (file bytes : 
   pub own : Nodes
   pub spells : Spells items definitions own
   pub once : NoneSecond (all_defined file definitions own)
-  pub set : new ≡ fold (λ ts (d : Definition). defined ts d.name (record { file = file; nodes = d.nodes }))
+  pub set : new ≡ fold (λ ts (d : Definition). add_definition ts d.name (record { file = file; nodes = d.nodes }))
       old (all_defined file definitions own)
 
 -- these items of a file are refused at this line, for this reason: something is open at their end, on the last line;

@@ -144,8 +144,8 @@ HasRefusals bytes rs = (xs : List Site) × HasSites bytes xs × AreRefusals (new
 abbrev pub Shown : Type 0
 Shown = ℕ × ℕ × Option Reason
 
-abbrev pub shown : Refused → Shown
-shown r = (r.place, r.line, reason_of r.kind)
+abbrev pub refused_seen : Refused → Shown
+refused_seen r = (r.place, r.line, reason_of r.kind)
 
 abbrev pub show : Found → Shown
 show f = (f.0, f.1, Some f.2)

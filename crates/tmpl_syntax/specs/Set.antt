@@ -1,4 +1,4 @@
--- The set of templates: a list of names and trees, in the order in which the names were first defined, which is our
+-- The set of templates: a list of names and trees, in the order in which the names were first add_definition, which is our
 -- own rule. That a blank definition replaces no body is from the documentation of Go's `Template.Parse`.
 use Rattle.std.specs.Prelude.{ℕ, Bool, true, false, ◌&&◌, List, [], ◌∷◌, Option, find, position, option_map}
 use Rattle.std.specs.Prelude.{if◌then◌else◌}
@@ -25,8 +25,8 @@ abbrev pub number_of : List ℕ → List Template → Option ℕ
 number_of name ts = position (λ (t : Template). bytes_eq name t.0) ts
 
 -- it without its nodes
-abbrev pub outlined : Template → Template
-outlined t = (t.0, record { file = t.1.file; nodes = tree.none })
+abbrev pub without_nodes : Template → Template
+without_nodes t = (t.0, record { file = t.1.file; nodes = tree.none })
 
 -- whether all nodes are texts of white space
 abbrev pub is_blank : Nodes → Bool
@@ -36,14 +36,14 @@ is_blank ns = false
 
 -- the set after a definition: a new name goes last, and a name that is there keeps its place, where a blank body
 -- replaces none
-abbrev pub defined : List Template → List ℕ → Tree → List Template
-defined [] name new = (name, new) ∷ []
-defined (t ∷ ts) name new =
-    if bytes_eq name t.0 then (t.0, if is_blank new.nodes then t.1 else new) ∷ ts else t ∷ defined ts name new
+abbrev pub add_definition : List Template → List ℕ → Tree → List Template
+add_definition [] name new = (name, new) ∷ []
+add_definition (t ∷ ts) name new =
+    if bytes_eq name t.0 then (t.0, if is_blank new.nodes then t.1 else new) ∷ ts else t ∷ add_definition ts name new
 
 -- .. after definitions, one by one
 abbrev pub defined_each : List Template → List Template → List Template
-defined_each set ts = fold (λ before t. defined before t.0 t.1) set ts
+defined_each set ts = fold (λ before t. add_definition before t.0 t.1) set ts
 
 -- what a set writes each name to, from its two keys
 abbrev pub first_hasher : NameHash → DefaultHasher

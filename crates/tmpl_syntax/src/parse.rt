@@ -114,13 +114,13 @@ fn add_file(alloc: Global, set: &mut Set, file: &str, bytes: Vec<u8>) -> Result<
     if bytes.len() > MOST_BYTES {
         return Err(TOO_LONG);
     }
-    let contents = shared(alloc, bytes)?;
+    let contents = share_bytes(alloc, bytes)?;
     let items = read_all(alloc, &contents)?;
     add_items(alloc, set, file, items, contents.as_slice())
 }
 
 /// The bytes, to be shared by the texts of a file.
-pub(crate) fn shared(alloc: Global, bytes: Vec<u8>) -> Result<Arc<Bytes>, AllocError>
+pub(crate) fn share_bytes(alloc: Global, bytes: Vec<u8>) -> Result<Arc<Bytes>, AllocError>
     ensures { IfOk result (λ contents. contents.value ≡ bytes.items) }
 {
     Ok(Arc::new(alloc, Bytes::new(bytes))?)

@@ -3,7 +3,7 @@ ghost use Rattle.std.specs.Prelude.{◌≡◌, ◌∷◌, [], IfOk, OnOk, None, 
 ghost use Rattle.std.specs.List.{ends_with};
 ghost use Rattle.tmpl_grammar.specs.View.{printed_of};
 ghost use Rattle.tmpl_syntax.specs.Print.Laws.{SetBack};
-ghost use Rattle.tmpl_syntax.specs.Print.Printed.{node_said, nodes_said, printed, printed_set};
+ghost use Rattle.tmpl_syntax.specs.Print.Printed.{node_said, nodes_said, print_nodes, printed_set};
 ghost use Rattle.tmpl_syntax.specs.Print.Printed.{opening_after, parting, template_said};
 ghost use Rattle.tmpl_syntax.specs.Print.Printed.{said, said_text};
 ghost use Rattle.tmpl_syntax.specs.View.{control_of, node_of, nodes_in, set_view, tree_of};
@@ -42,7 +42,7 @@ pub fn print_set(alloc: Global, set: &Set) -> Result<Vec<u8>, AllocError>
 /// The body of a template as a template file.
 #[tactic(auto, using(crate::proofs::PageLemmas::pages), unfolding(crate::specs::computed::View::page_of, crate::specs::computed::Print::page_with))]
 pub fn print_tree(alloc: Global, tree: &Tree) -> Result<Vec<u8>, AllocError>
-    ensures { IfOk result (λ v. v.items ≡ printed (tree_of tree.now).nodes) }
+    ensures { IfOk result (λ v. v.items ≡ print_nodes (tree_of tree.now).nodes) }
 {
     let mut page = Page::new(alloc);
     page.nodes(tree.nodes.as_slice())?;

@@ -1,14 +1,14 @@
 //! All that is refused of a file.
 ghost use Rattle.std.specs.Prelude.{List, ◌≡◌, ◌≤◌, ◌++◌, IfOk, length, map};
 ghost use Rattle.tmpl_lex.specs.computed.Cut.{cut_of};
-ghost use Rattle.tmpl_syntax.specs.Refusals.{Found, HasRefusals, show, shown};
+ghost use Rattle.tmpl_syntax.specs.Refusals.{Found, HasRefusals, show, refused_seen};
 ghost use Rattle.tmpl_syntax.specs.computed.Parse as parse;
 ghost use Rattle.tmpl_syntax.specs.computed.Refusals.{found_open, refusals_in, site_of, sites_in};
 ghost use Rattle.tmpl_syntax.specs.computed.View.{frames_in};
 
 use crate::fault::ParseKind;
 use crate::name_hash::NameHash;
-use crate::parse::{copy_of, shared};
+use crate::parse::{copy_of, share_bytes};
 use crate::place::check::last_line;
 use crate::place::frame::Frame;
 use crate::place::mend::take_in_site;
@@ -36,9 +36,9 @@ pub struct Refused {
 /// Where memory ran out.
 pub fn refusals(alloc: Global, hash: NameHash, bytes: &[u8]) -> Result<Vec<Refused>, AllocError>
     requires { length bytes.now ≤ 16777216 }
-    ensures { IfOk result (λ v. (rs : List Found) × HasRefusals bytes.now rs × (map shown v.items ≡ map show rs)) }
+    ensures { IfOk result (λ v. (rs : List Found) × HasRefusals bytes.now rs × (map refused_seen v.items ≡ map show rs)) }
 {
-    let contents = shared(alloc, copy_of(alloc, bytes)?)?;
+    let contents = share_bytes(alloc, copy_of(alloc, bytes)?)?;
     let sites = read_sites(alloc, &contents)?;
     refusals_in(alloc, hash, sites.as_slice(), last_line(bytes))
 }
@@ -50,7 +50,7 @@ fn refusals_in(
     sites: &[Site<'_>],
     last: u64,
 ) -> Result<Vec<Refused>, AllocError>
-    ensures { IfOk result (λ v. map shown v.items ≡ map show (refusals_in last (map site_of sites.now))) }
+    ensures { IfOk result (λ v. map refused_seen v.items ≡ map show (refusals_in last (map site_of sites.now))) }
 {
     let mut found = Vec::new(alloc);
     let mut stack: Vec<Frame> = Vec::new(alloc);
@@ -69,8 +69,8 @@ fn add_open(
     place: usize,
     line: u64,
 ) -> Result<(), AllocError>
-    ensures { IfOk result (λ u. map shown found.new.items
-        ≡ map shown found.old.items ++ map show (found_open place line (frames_in stack.now.items))) }
+    ensures { IfOk result (λ u. map refused_seen found.new.items
+        ≡ map refused_seen found.old.items ++ map show (found_open place line (frames_in stack.now.items))) }
 {
     if newest(stack).is_some() {
         found.push(Refused {

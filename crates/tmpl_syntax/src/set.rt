@@ -5,8 +5,8 @@ ghost use Rattle.std.specs.Iterator.{YieldsFirstRef, item_count};
 ghost use Rattle.indexmap.specs.IndexMap.{hasher_of, spare};
 ghost use Rattle.tmpl_syntax.specs.View.{entries_view, hash_view, names_left, set_view, template_of, tree_of};
 ghost use Rattle.tmpl_syntax.specs.Kept.{AreKept, IsKept};
-ghost use Rattle.tmpl_syntax.specs.Set.{defined, defined_each, first_hasher, is_blank, known_hasher, number_of};
-ghost use Rattle.tmpl_syntax.specs.Set.{outlined, tree_named};
+ghost use Rattle.tmpl_syntax.specs.Set.{add_definition, defined_each, first_hasher, is_blank, known_hasher, number_of};
+ghost use Rattle.tmpl_syntax.specs.Set.{without_nodes, tree_named};
 
 use crate::blank::is_blank;
 use crate::name_hash::NameHash;
@@ -113,7 +113,7 @@ impl Set {
     /// A set of templates with the same names and files, and no nodes: what a look-up by name and the fault of a run
     /// need, where the trees may go. An error is want of memory.
     pub fn outline(&self, alloc: Global) -> Result<Set, AllocError>
-        ensures value { IfOk result (λ o. set_view o ≡ map outlined (set_view self.now)) }
+        ensures value { IfOk result (λ o. set_view o ≡ map without_nodes (set_view self.now)) }
         ensures hash { IfOk result (λ o. hash_view o ≡ hash_view self.now) }
     {
         let mut outline = Set::with_hash(alloc, *self.templates.hasher());
@@ -157,7 +157,7 @@ impl Set {
 
 /// The templates of a set without their nodes.
 fn outlines(alloc: Global, set: &Set) -> Result<Vec<(Vec<u8>, Tree)>, AllocError>
-    ensures { IfOk result (λ v. map template_of v.items ≡ map outlined (set_view set.now)) }
+    ensures { IfOk result (λ v. map template_of v.items ≡ map without_nodes (set_view set.now)) }
 {
     let mut outlines = Vec::with_capacity(alloc, set.len())?;
     for number in 0..set.len() {
@@ -169,7 +169,7 @@ fn outlines(alloc: Global, set: &Set) -> Result<Vec<(Vec<u8>, Tree)>, AllocError
 
 /// The template of this name and tree without its nodes.
 fn outline_of(alloc: Global, name: &[u8], tree: &Tree) -> Result<(Vec<u8>, Tree), AllocError>
-    ensures { IfOk result (λ t. template_of t ≡ outlined (name.now, tree_of tree.now)) }
+    ensures { IfOk result (λ t. template_of t ≡ without_nodes (name.now, tree_of tree.now)) }
 {
     let file = Arc::clone(&tree.file)?;
     let nodes = Vec::new(alloc);
@@ -208,7 +208,7 @@ fn define_each(set: &mut IndexMap<Vec<u8>, Tree, NameHash>, templates: Vec<(Vec<
 #[tactic(auto, using(crate::proofs::SetLemmas::views), unfolding(crate::specs::View::entries_view, crate::specs::View::set_view))]
 fn define(set: &mut IndexMap<Vec<u8>, Tree, NameHash>, name: Vec<u8>, tree: Tree)
     requires { 0 < spare set.old }
-    ensures defined { entries_view set.new.entries ≡ defined (entries_view set.old.entries) name.items (tree_of tree) }
+    ensures defined { entries_view set.new.entries ≡ add_definition (entries_view set.old.entries) name.items (tree_of tree) }
     ensures room { spare set.old ≤ spare set.new + 1 }
     ensures hash { hasher_of set.new ≡ hasher_of set.old }
 {

@@ -15,7 +15,7 @@ use Rattle.tmpl_syntax.specs.declared.fault.ParseFault.{ParseFault}
 use Rattle.tmpl_syntax.proofs.FileLemmas.{parsed-long}
 use Rattle.tmpl_tool.specs.Source.{Asked, Bytes, Files, TellsFront}
 use Rattle.tmpl_tool.specs.Tool as tool
-use Rattle.tmpl_tool.specs.Tool.{Failing, Early, file_reads, loaded, no_read, with_file}
+use Rattle.tmpl_tool.specs.Tool.{Failing, Early, file_reads, load_each, no_read, with_file}
 use Rattle.tmpl_values.specs.Stage.{and_then}
 use Rattle.tmpl_tool.specs.Inputs.{Adds, ComesOf, StopsAt}
 use Rattle.tmpl_tool.specs.declared.stop.Stop as held
@@ -71,7 +71,7 @@ Succeed n fails = (k : ℕ) → k < n → fails k ≡ false
 -- whatever the files that are left come to, the files come to, and what is read of them is read after the others
 abbrev pub ComesTo : (List Bytes → Type 0) → Files → List Template → List Bytes → ℕ → List Template → List Bytes → Type 0
 ComesTo Made files start names i set left = (done : List Bytes) × Made done × ((fails : Failing) → Succeed i fails
-    → (loaded parsed files fails 0 start names ≡ loaded parsed files fails i set left)
+    → (load_each parsed files fails 0 start names ≡ load_each parsed files fails i set left)
     × (file_reads parsed files fails 0 start names ≡ done ++ file_reads parsed files fails i set left))
 
 -- the number of a read, by how many go before it
@@ -102,7 +102,7 @@ module _ (before between after : Option (List Bytes)) (files : Files) (start : L
 
   -- a file that stops the program
   pub stops_there : (s : Option Early) → StopsAt (Asked between after) (λ fails. with_file parsed files (fails 0) set name) (λ fails. name ∷ []) s
-      → StopsAt (Asked before after) (λ fails. loaded parsed files fails 0 start names) (λ fails. file_reads parsed files fails 0 start names) s
+      → StopsAt (Asked before after) (λ fails. load_each parsed files fails 0 start names) (λ fails. file_reads parsed files fails 0 start names) s
   stops_there None (front, rest, e, asked) =
       let tail = option_map_or (λ s. file_reads parsed files no_read (suc i) s left) (result_ok (with_file parsed files false set name)) [] in
       let parted : (so_far.0 ++ front) ++ (rest ++ tail) ≡ so_far.0 ++ ((front ++ rest) ++ tail) = simp append_assoc in (
@@ -124,7 +124,7 @@ module _ (before between after : Option (List Bytes)) (files : Files) (start : L
 -- nothing is left
 pub all_come : (before between : Option (List Bytes)) (files : Files) (start : List Template) (names : List (Bor Bytes)) (i : ℕ) (set : List Template)
     → length names ≤ i → ComesTo (Asked before between) files start (map (λ s. s.now) names) i set (map (λ s. s.now) (drop i names))
-    → (loaded parsed files no_read 0 start (map (λ s. s.now) names) ≡ Ok set)
+    → (load_each parsed files no_read 0 start (map (λ s. s.now) names) ≡ Ok set)
     × Asked before between (file_reads parsed files no_read 0 start (map (λ s. s.now) names))
 all_come before between files start names i set past comes =
     let all = rw (drop_all i names past) at comes in
@@ -133,7 +133,7 @@ all_come before between files start names i set past comes =
 -- where no read fails of a list of files, they come to what they come to where none fails at all, and as many of them are read
 pub all_succeed : (files : Files) (fails : Failing) (k : ℕ) (set : List Template) (names : List Bytes)
     → ((j : ℕ) → j < length names → fails (k + j) ≡ false)
-    → (loaded parsed files fails k set names ≡ loaded parsed files no_read k set names)
+    → (load_each parsed files fails k set names ≡ load_each parsed files no_read k set names)
     × (file_reads parsed files fails k set names ≡ file_reads parsed files no_read k set names)
 all_succeed files fails k set [] succeed = (refl, refl)
 all_succeed files fails k set (n ∷ ns) succeed =

@@ -2,7 +2,7 @@
 use Rattle.std.proofs.Common.{◌≡◌, ◌∙◌, ℕ, [], Option, Some, None, Ok, Err, refl, subst, sym, inl, inr}
 use Rattle.std.specs.Option.{ok_or}
 use Rattle.tmpl_values.specs.Put.{IsPut, Puts}
-use Rattle.tmpl_values.proofs.PutLemmas.{appended-nil}
+use Rattle.tmpl_values.proofs.PutLemmas.{append_bytes-nil}
 use Rattle.tmpl_meaning.specs.Meaning.{Ran}
 use Rattle.tmpl_meaning.specs.Sink.{Sunk, Told, Untouched, Whole, as_puts, sunk}
 use Rattle.tmpl_meaning.specs.declared.sink.SinkFault.{SinkFault}
@@ -35,5 +35,5 @@ pub says_refused : (r : Option Ran) (name : Bytes) (before after : Told) (err : 
 says_refused None name before after err code OutOfMemory h same is says = let wrong = h.0 in cc
 says_refused (Some r) name before after err code OutOfMemory (inl run) same is says = inr (inr (rw run.1 run.0, is, says))
 says_refused (Some r) name before after err code OutOfMemory (inr untouched) same is says =
-    inr (inr ((untouched.0, ([], _, refl, untouched.1 ∙ appended-nil before.bytes)), is, says))
+    inr (inr ((untouched.0, ([], _, refl, untouched.1 ∙ append_bytes-nil before.bytes)), is, says))
 says_refused _ _ _ _ _ _ _ h same is says = cc

@@ -8,7 +8,7 @@ use Rattle.tmpl_tool.specs.Source.{Bytes, Files}
 use Rattle.tmpl_tool.specs.Laws.{GivesHelp, Prints, RefusesWords, Runs, StopsAtData, StopsAtDataRead, StopsAtFile, StopsAtName, StopsAtRead}
 use Rattle.tmpl_tool.specs.Laws.{TellsFailedWrite, TellsReads, TellsRefusedMemory}
 use Rattle.tmpl_tool.specs.Tool as tool
-use Rattle.tmpl_tool.specs.Tool.{Failing, Parse, Early, answer_of, asked_by, loaded, with_file}
+use Rattle.tmpl_tool.specs.Tool.{Failing, Parse, Early, answer_of, asked_by, load_each, with_file}
 use Rattle.tmpl_values.specs.Stage.{and_then}
 use Rattle.tmpl_tool.specs.computed.Load.{after_words}
 
@@ -26,15 +26,15 @@ and_then-and_then (Err stop) f g h same = refl
 
 -- the files before a file, and those from it on
 loaded_part : (parse : Parse) (files : Files) (fails : Failing) (k : ℕ) (set : List Template) (before rest : List Bytes)
-    → loaded parse files fails k set (before ++ rest)
-    ≡ and_then (loaded parse files fails k set before) (λ s. loaded parse files fails (k + length before) s rest)
-loaded_part parse files fails k set [] rest = ap (λ n. loaded parse files fails n set rest) (sym (add-zero k))
+    → load_each parse files fails k set (before ++ rest)
+    ≡ and_then (load_each parse files fails k set before) (λ s. load_each parse files fails (k + length before) s rest)
+loaded_part parse files fails k set [] rest = ap (λ n. load_each parse files fails n set rest) (sym (add-zero k))
 loaded_part parse files fails k set (n ∷ before) rest =
     let moved : suc k + length before ≡ k + suc (length before) = omega arith in
-    and_then-and_then (with_file parse files (fails k) set n) (λ s. loaded parse files fails (suc k) s (before ++ rest))
-    (λ s. loaded parse files fails (suc k) s before) (λ s. loaded parse files fails (k + suc (length before)) s rest)
+    and_then-and_then (with_file parse files (fails k) set n) (λ s. load_each parse files fails (suc k) s (before ++ rest))
+    (λ s. load_each parse files fails (suc k) s before) (λ s. load_each parse files fails (k + suc (length before)) s rest)
     (λ s. loaded_part parse files fails (suc k) s before rest
-    ∙ ap (λ n. and_then (loaded parse files fails (suc k) s before) (λ t. loaded parse files fails n t rest)) moved)
+    ∙ ap (λ n. and_then (load_each parse files fails (suc k) s before) (λ t. load_each parse files fails n t rest)) moved)
 
 pub stops_at_file : StopsAtFile
 stops_at_file parse words files fails w asks before name after is set loads stop refuses =

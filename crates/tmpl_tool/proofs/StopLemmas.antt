@@ -12,16 +12,16 @@ use Rattle.tmpl_syntax.specs.Set.{Template}
 use Rattle.tmpl_syntax.specs.computed.Parse.{parsed}
 use Rattle.tmpl_syntax.specs.declared.fault.ParseFault.{ParseFault}
 use Rattle.tmpl_meaning.specs.Sink.{Told, Sunk, sunk}
-use Rattle.tmpl_tool.specs.Words.{Wanted, wanted}
+use Rattle.tmpl_tool.specs.Words.{Wanted, words_request}
 use Rattle.tmpl_tool.specs.Help.{asks_help}
 use Rattle.tmpl_tool.specs.Source.{Asked, Bytes, Files}
 use Rattle.tmpl_tool.specs.Outcome.{Says}
 use Rattle.tmpl_tool.specs.Tool as tool
 use Rattle.tmpl_tool.specs.Tool.{Failing, Follows, MadeOf, Observed, Parse, Early, answer_of, asked_by, data_found, data_wanted, file_reads}
-use Rattle.tmpl_tool.specs.Tool.{loaded, no_read, stop_answer, stop_if, tool_answer, tool_reads}
+use Rattle.tmpl_tool.specs.Tool.{load_each, no_read, stop_answer, stop_if, tool_answer, tool_reads}
 use Rattle.tmpl_values.specs.Stage.{and_then}
 use Rattle.tmpl_tool.specs.Inputs.{Counts, StopsAt, inputs_of, inputs_reads, said_of, stop_seen}
-use Rattle.tmpl_tool.specs.computed.Load.{after_set, after_words, finished, rendered}
+use Rattle.tmpl_tool.specs.computed.Load.{after_set, after_words, finish_wanted, render_wanted}
 use Rattle.tmpl_tool.specs.declared.stop.Stop as held
 use Rattle.tmpl_tool.specs.declared.stop.Stop.TheVariants as stop
 use Rattle.tmpl_tool.proofs.LoadLemmas.{all_succeed, asked-append, nat_eq-add, other-above}
@@ -41,20 +41,20 @@ after_templates w r = option_map_or (λ set. option_to_list (data_wanted w)) (re
 module _ (files : Files) (w : Wanted) where
   module _ (Made : List Bytes → Type 0) where
     -- where a template file stops the program nothing is read after it
-    no_more : (fails : Failing) (s : Early) → loaded parsed files fails 0 [] w.files ≡ Err s → Made (template_reads files w fails)
+    no_more : (fails : Failing) (s : Early) → load_each parsed files fails 0 [] w.files ≡ Err s → Made (template_reads files w fails)
         → Made (inputs_reads parsed files w fails)
     no_more fails s h made = rw (h, append-nil (template_reads files w fails)) made
 
     -- a template file stops the program
-    pub load_stops : (s : Option Early) → StopsAt Made (λ fails. loaded parsed files fails 0 [] w.files) (template_reads files w) s
+    pub load_stops : (s : Option Early) → StopsAt Made (λ fails. load_each parsed files fails 0 [] w.files) (template_reads files w) s
         → StopsAt Made (inputs_of parsed files w) (inputs_reads parsed files w) s
     load_stops None (front, rest, e, made) =
-        let more = after_templates w (loaded parsed files no_read 0 [] w.files) in
+        let more = after_templates w (load_each parsed files no_read 0 [] w.files) in
         (front, rest ++ more, sym (append_assoc front rest more) ∙ ap (λ (names : List Bytes). names ++ more) e, made)
     load_stops (Some (tool.unread n)) (k, h, made) = (k, rw h refl, no_more (nat_eq k) (tool.unread n) h made)
     load_stops (Some s) h = (rw h.0 refl, no_more no_read s h.0 h.1)
 
-  module _ (before between after : Option (List Bytes)) (set : List Template) (loads : loaded parsed files no_read 0 [] w.files ≡ Ok set)
+  module _ (before between after : Option (List Bytes)) (set : List Template) (loads : load_each parsed files no_read 0 [] w.files ≡ Ok set)
       (asked : Asked before between (template_reads files w no_read)) where
     -- the set is to be printed, whatever the data is, and nothing more is read
     pub printed_next : w.print ≡ true → Asked between after []
@@ -93,21 +93,21 @@ module _ (files : Files) (w : Wanted) where
 module _ (parse : Parse) (files : Files) (w : Wanted) where
   -- after the inputs stands what is done with them
   beyond : (b p : Bool) (set : List Template) (d : Option Bytes)
-      → and_then (stop_if p (tool.printed set)) (λ u. and_then (data_found files b d) (rendered w set))
-      ≡ and_then (with_data set (data_found files b (if p then None else d))) (λ i. and_then (stop_if p (tool.printed i.0)) (λ u. rendered w i.0 i.1))
+      → and_then (stop_if p (tool.printed set)) (λ u. and_then (data_found files b d) (render_wanted w set))
+      ≡ and_then (with_data set (data_found files b (if p then None else d))) (λ i. and_then (stop_if p (tool.printed i.0)) (λ u. render_wanted w i.0 i.1))
   beyond b true set d = refl
   beyond b false set d = found (data_found files b d)
     where
-      found : (r : Result (Option Value) Early) → and_then r (rendered w set) ≡ and_then (with_data set r) (λ i. rendered w i.0 i.1)
+      found : (r : Result (Option Value) Early) → and_then r (render_wanted w set) ≡ and_then (with_data set r) (λ i. render_wanted w i.0 i.1)
       found (Ok input) = refl
       found (Err s) = refl
 
-  pub after_inputs : (fails : Failing) → after_words parse files w fails ≡ and_then (inputs_of parse files w fails) (λ i. finished w i.0 i.1)
-  after_inputs fails = from (loaded parse files fails 0 [] w.files)
+  pub after_inputs : (fails : Failing) → after_words parse files w fails ≡ and_then (inputs_of parse files w fails) (λ i. finish_wanted w i.0 i.1)
+  after_inputs fails = from (load_each parse files fails 0 [] w.files)
     where
       from : (r : Result (List Template) Early)
           → and_then r (after_set files fails w)
-          ≡ and_then (and_then r (λ set. with_data set (data_found files (fails (length w.files)) (data_wanted w)))) (λ i. finished w i.0 i.1)
+          ≡ and_then (and_then r (λ set. with_data set (data_found files (fails (length w.files)) (data_wanted w)))) (λ i. finish_wanted w i.0 i.1)
       from (Ok set) = beyond (fails (length w.files)) w.print set w.data_file
       from (Err s) = refl
 
@@ -167,5 +167,5 @@ module _ (err : Sunk) (code : ℕ) where
         (λ fails. answer_of (and_then r (λ w. after_words parse files w fails))) (observed was is before after out err code)) (sym asked) h
 
 -- words that are taken
-pub asks : (words : List Bytes) (w : Wanted) → wanted words ≡ Some w → asks_help words ≡ false → asked_by words ≡ Ok w
+pub asks : (words : List Bytes) (w : Wanted) → words_request words ≡ Some w → asks_help words ≡ false → asked_by words ≡ Ok w
 asks words w asked helps = rw (helps, asked) refl

@@ -13,7 +13,7 @@ use Rattle.tmpl_syntax.specs.Fault.{reason_of}
 use Rattle.tmpl_syntax.specs.declared.fault.ParseFault.{ParseFault}
 use Rattle.tmpl_tool.specs.Outcome.{Answer, memory_line}
 use Rattle.tmpl_tool.specs.Source.{Asked, Bytes, Files}
-use Rattle.tmpl_tool.specs.Tool.{Failing, MadeOf, Parse, Early, data_found, data_wanted, file_reads, flawed, loaded}
+use Rattle.tmpl_tool.specs.Tool.{Failing, MadeOf, Parse, Early, data_found, data_wanted, file_reads, flawed, load_each}
 use Rattle.tmpl_tool.specs.Tool.{no_read}
 use Rattle.tmpl_tool.specs.Tool.{not_found, only_line, refused, stop_answer, unread}
 use Rattle.tmpl_values.specs.Stage.{and_then}
@@ -24,13 +24,13 @@ use Rattle.tmpl_tool.specs.declared.stop.Stop.TheVariants as stop
 
 -- the set of all FILEs, and then the data of a run
 abbrev pub inputs_of : Parse → Files → Wanted → Failing → Result (List Template × Option Value) Early
-inputs_of parse files w fails = and_then (loaded parse files fails 0 [] w.files) (λ set.
+inputs_of parse files w fails = and_then (load_each parse files fails 0 [] w.files) (λ set.
     result_map_both (λ input. (set, input)) (λ s. s) (data_found files (fails (length w.files)) (data_wanted w)))
 
 -- .. and the files that are read for that
 abbrev pub inputs_reads : Parse → Files → Wanted → Failing → List Bytes
 inputs_reads parse files w fails = file_reads parse files fails 0 [] w.files
-    ++ option_map_or (λ set. option_to_list (data_wanted w)) (result_ok (loaded parse files fails 0 [] w.files)) []
+    ++ option_map_or (λ set. option_to_list (data_wanted w)) (result_ok (load_each parse files fails 0 [] w.files)) []
 
 -- ---- what is held
 

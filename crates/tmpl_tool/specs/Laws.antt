@@ -8,11 +8,11 @@ use Rattle.tmpl_syntax.specs.Set.{Template, tree_named}
 use Rattle.tmpl_meaning.specs.Meaning.{ran}
 use Rattle.tmpl_meaning.specs.Sink.{Begun, Cut, Sunk}
 use Rattle.tmpl_tool.specs.Help.{asks_help}
-use Rattle.tmpl_tool.specs.Words.{HasModeNames, Modes, Wanted, tool_app, wanted, words_fault, words_rows}
+use Rattle.tmpl_tool.specs.Words.{HasModeNames, Modes, Wanted, tool_app, words_request, words_fault, words_rows}
 use Rattle.tmpl_tool.specs.Source.{Asked, Bytes, Files}
 use Rattle.tmpl_tool.specs.Outcome.{Answer, Outcome, Says, memory_line, write_line}
 use Rattle.tmpl_tool.specs.Tool.{Failing, Follows, IsParse, Observed, Parse, Early, asked_by, asked_name, bad_words, data_found, help}
-use Rattle.tmpl_tool.specs.Tool.{loaded, no_read, printed, run_answer, stop_answer, tool_answer, unnamed, unread, with_file}
+use Rattle.tmpl_tool.specs.Tool.{load_each, no_read, printed, run_answer, stop_answer, tool_answer, unnamed, unread, with_file}
 
 -- a function accepts and refuses each file by the rules
 abbrev pub HasParse : Type 0
@@ -35,14 +35,14 @@ GivesHelp = (parse : Parse) (words : List Bytes) (files : Files) (fails : Failin
 -- all other words are taken, or get the line on arguments, with status 2
 abbrev pub RefusesWords : Type 0
 RefusesWords = (parse : Parse) (words : List Bytes) (files : Files) (fails : Failing)
-    → asks_help words ≡ false → wanted words ≡ None → tool_answer parse words files fails ≡ stop_answer bad_words
+    → asks_help words ≡ false → words_request words ≡ None → tool_answer parse words files fails ≡ stop_answer bad_words
 
 -- the first FILE that is missing or refused, or whose read fails, is the end, whatever stands after it
 abbrev pub StopsAtFile : Type 0
 StopsAtFile = (parse : Parse) (words : List Bytes) (files : Files) (fails : Failing) (w : Wanted)
     → asked_by words ≡ Ok w
     → (before : List Bytes) (name : Bytes) (beyond : List Bytes) → w.files ≡ before ++ name ∷ beyond
-    → (set : List Template) → loaded parse files fails 0 [] before ≡ Ok set
+    → (set : List Template) → load_each parse files fails 0 [] before ≡ Ok set
     → (stop : Early) → with_file parse files (fails (length before)) set name ≡ Err stop
     → tool_answer parse words files fails ≡ stop_answer stop
 
@@ -53,7 +53,7 @@ StopsAtRead = (parse : Parse) (files : Files) (set : List Template) (name : Byte
 
 -- the words are taken, and every FILE is read and accepted
 abbrev pub Load : Parse → List Bytes → Files → Failing → Wanted → List Template → Type 0
-Load parse words files fails w set = (asked_by words ≡ Ok w) × (loaded parse files fails 0 [] w.files ≡ Ok set)
+Load parse words files fails w set = (asked_by words ≡ Ok w) × (load_each parse files fails 0 [] w.files ≡ Ok set)
 
 -- then a set that is to be printed is put out, whatever the data, the name and the options of the run are
 abbrev pub Prints : Type 0

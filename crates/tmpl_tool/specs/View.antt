@@ -5,8 +5,8 @@ use Rattle.tmpl_tool.specs.Words.{Wanted}
 use Rattle.tmpl_tool.specs.declared.words.request.Request.{Request}
 
 -- what a request asks for
-abbrev pub seen : Request → Wanted
-seen request = record {
+abbrev pub request_seen : Request → Wanted
+request_seen request = record {
   data_file = option_map (λ s. s.now) request.data_file;
   name = option_map (λ s. s.now) request.name;
   rules = rules_of request.options;

@@ -104,5 +104,5 @@ unfoldable pub words_rows : List Text → List Row
 words_rows words = matches_of (tool_app here) words
 
 -- what the words ask for, and nothing where they are refused
-abbrev pub wanted : List Text → Option Wanted
-wanted words = if is_empty (words_fault words) then Some (wanted_in (words_rows words)) else None
+abbrev pub words_request : List Text → Option Wanted
+words_request words = if is_empty (words_fault words) then Some (wanted_in (words_rows words)) else None

@@ -6,8 +6,8 @@ ghost use Rattle.tmpl_syntax.specs.Print.Printed.{printed_set};
 ghost use Rattle.tmpl_meaning.specs.Sink.{sunk};
 ghost use Rattle.tmpl_tool.specs.Outcome.{Gives};
 ghost use Rattle.tmpl_tool.specs.Tool.{answer_of, only_text};
-ghost use Rattle.tmpl_tool.specs.View.{seen};
-ghost use Rattle.tmpl_tool.specs.computed.Load.{finished};
+ghost use Rattle.tmpl_tool.specs.View.{request_seen};
+ghost use Rattle.tmpl_tool.specs.computed.Load.{finish_wanted};
 
 use crate::messages::lines::out_of_memory;
 use crate::render::{asked_name, put_out, render_named};
@@ -45,7 +45,7 @@ pub(crate) fn answer<O: Sink, E: Sink>(
 ) -> Status
     requires out { (O.so_far out.old).failures < 2 ^ 64 - 1 }
     requires err { (E.so_far err.old).failures < 2 ^ 64 - 1 }
-    ensures { Gives (answer_of (finished (seen request.now) (set_view set.now)
+    ensures { Gives (answer_of (finish_wanted (request_seen request.now) (set_view set.now)
         (option_map (λ d. value_of d.now) «data».entry)))
         (sunk (O.so_far out.old) (O.so_far out.new)) (sunk (E.so_far err.old) (E.so_far err.new)) result.code }
 {

@@ -106,7 +106,7 @@ pub fn tool_keeping<S: Source, O: Sink, E: Sink>(
         inputs_of parse files w no_read ≡ Ok (inputs_seen inputs))))) }
 {
     if asks_help(words) {
-        return stopped(put_out(USAGE, out, err));
+        return end_with(put_out(USAGE, out, err));
     }
     match request_of(alloc, words) {
         Ok(request) => match read_inputs(alloc, names, &request, source) {
@@ -114,15 +114,15 @@ pub fn tool_keeping<S: Source, O: Sink, E: Sink>(
                 status: answer(alloc, &request, &inputs.set, inputs.data.as_ref(), out, err),
                 inputs: Some(inputs),
             },
-            Err(stop) => stopped(refuse(err, &stop)),
+            Err(stop) => end_with(refuse(err, &stop)),
         },
-        Err(WordsFault::NotAccepted) => stopped(words_refused(err)),
-        Err(WordsFault::OutOfMemory) => stopped(out_of_memory(err)),
+        Err(WordsFault::NotAccepted) => end_with(words_refused(err)),
+        Err(WordsFault::OutOfMemory) => end_with(out_of_memory(err)),
     }
 }
 
 /// An end before all was read.
-fn stopped(status: Status) -> Ended
+fn end_with(status: Status) -> Ended
     ensures status { result.status ≡ status }
     ensures inputs { result.inputs ≡ None }
 {

@@ -11,7 +11,7 @@ ghost use Rattle.tmpl_engine.specs.Prepared.{IsPrepared};
 ghost use Rattle.tmpl_engine.specs.Render.{IsRender};
 ghost use Rattle.tmpl_tool.specs.Outcome.{Counted, Gives, Once, Outcome};
 ghost use Rattle.tmpl_tool.specs.Tool.{answer_of, asked_name, named_run, only_text, unnamed};
-ghost use Rattle.tmpl_tool.specs.View.{seen};
+ghost use Rattle.tmpl_tool.specs.View.{request_seen};
 
 use crate::messages::lines::{out_of_memory, run_failed, template_missing, write_failed};
 use crate::status::Status;
@@ -76,7 +76,7 @@ fn tell_error<E: Sink>(error: RenderError<'_>, name: &[u8], err: &mut E) -> Stat
 
 /// The name of the template that is asked for: the one that the words say, or that of the first file's own template.
 pub fn asked_name<'a>(request: &Request<'a>) -> &'a [u8]
-    ensures { result.now ≡ asked_name (seen request.now) }
+    ensures { result.now ≡ asked_name (request_seen request.now) }
 {
     match request.name {
         Some(name) => name.as_bytes(),

@@ -3,9 +3,9 @@ ghost use Rattle.std.specs.Prelude.{◌≡◌, ◌≢◌, ◌≤◌, ◌<◌, �
 ghost use Rattle.clap.specs.Words.{all_of, first_of, one_of, found_of, rows_of, kind_of};
 ghost use Rattle.tmpl_tool.specs.computed.Words.{Parses};
 ghost use Rattle.tmpl_tool.specs.Request.{Asks};
-ghost use Rattle.tmpl_tool.specs.Words.{mode_named, number_in, wanted, wanted_in};
+ghost use Rattle.tmpl_tool.specs.Words.{mode_named, number_in, words_request, wanted_in};
 ghost use Rattle.tmpl_meaning.specs.View.{rules_of};
-ghost use Rattle.tmpl_tool.specs.View.{seen};
+ghost use Rattle.tmpl_tool.specs.View.{request_seen};
 ghost use Rattle.std.specs.String.{string_bytes};
 
 mod arguments;
@@ -124,7 +124,7 @@ fn files_of<'a>(alloc: Global, matches: &ArgMatches<'a>) -> Result<Vec<&'a str>,
 
 /// What matches ask for.
 fn request_in<'a>(alloc: Global, matches: &ArgMatches<'a>) -> Result<Request<'a>, AllocError>
-    ensures { IfOk result (λ request. seen request ≡ wanted_in (rows_of (found_of matches.now))) }
+    ensures { IfOk result (λ request. request_seen request ≡ wanted_in (rows_of (found_of matches.now))) }
 {
     Ok(Request {
         data_file: matches.get_str("data"),
@@ -169,7 +169,7 @@ fn parse<'a>(alloc: Global, words: &'a [String]) -> Result<ArgMatches<'a>, Words
 
 /// What the words ask for. The first word is the program's name.
 pub fn request_of<'a>(alloc: Global, words: &'a [String]) -> Result<Request<'a>, WordsFault>
-    ensures { Asks (wanted (map (λ word. string_bytes word) words.entry.now)) result }
+    ensures { Asks (words_request (map (λ word. string_bytes word) words.entry.now)) result }
 {
     let matches = parse(alloc, words)?;
     Ok(request_in(alloc, &matches)?)

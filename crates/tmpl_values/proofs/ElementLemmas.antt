@@ -8,11 +8,11 @@ use Rattle.std.specs.Option.{option_map}
 use Rattle.tmpl_values.specs.Value.{number, string, sequence, Items, no_item, item}
 use Rattle.tmpl_values.specs.declared.data.Data.{Data}
 use Rattle.tmpl_values.specs.row.View.{value_of, items_of, entries_of}
-use Rattle.tmpl_values.specs.Elements.{Element, listed, keyed, elements}
+use Rattle.tmpl_values.specs.Elements.{Element, values_of_items, elements_of_entries, elements}
 
 -- items, of which the first has this index
 abbrev indexed : ℕ → Items → List Element
-indexed n vs = map (λ p. (number (pos p.0), p.1)) (enumerate_from n (listed vs))
+indexed n vs = map (λ p. (number (pos p.0), p.1)) (enumerate_from n (values_of_items vs))
 
 -- a whole number as an element, which is its own index
 abbrev itself : ℕ → Element
@@ -22,7 +22,7 @@ itself i = (number (pos i), number (pos i))
 abbrev pub numbers_below : ℤ → List Element
 numbers_below n = map itself (range_with_len 0 (int_gap (pos 0) n))
 
-length-indexed : (n : ℕ) (vs : Items) → length (indexed n vs) ≡ length (listed vs)
+length-indexed : (n : ℕ) (vs : Items) → length (indexed n vs) ≡ length (values_of_items vs)
 length-indexed n no_item = refl
 length-indexed n (item v vs) = ap suc (length-indexed (n + 1) vs)
 
@@ -41,16 +41,16 @@ indexed-past n zero (e ∷ ds) h = absurd (omega arith)
 indexed-past n (suc i) (e ∷ ds) h = indexed-past (n + 1) i ds (omega arith)
 
 -- .. and of entries
-pub keyed-of : (i : ℕ) (es : List (List ℕ × Data)) (d : List ℕ × Data) → i < length es
-    → slice_get (keyed (entries_of es)) i ≡ Some (string (get_or es i d).0, value_of (get_or es i d).1)
-keyed-of i [] d h = absurd (omega arith)
-keyed-of zero (e ∷ es) d h = refl
-keyed-of (suc i) (e ∷ es) d h = keyed-of i es d (omega arith)
+pub elements_of_entries-of : (i : ℕ) (es : List (List ℕ × Data)) (d : List ℕ × Data) → i < length es
+    → slice_get (elements_of_entries (entries_of es)) i ≡ Some (string (get_or es i d).0, value_of (get_or es i d).1)
+elements_of_entries-of i [] d h = absurd (omega arith)
+elements_of_entries-of zero (e ∷ es) d h = refl
+elements_of_entries-of (suc i) (e ∷ es) d h = elements_of_entries-of i es d (omega arith)
 
-pub keyed-past : (i : ℕ) (es : List (List ℕ × Data)) → length es ≤ i → slice_get (keyed (entries_of es)) i ≡ None
-keyed-past i [] h = refl
-keyed-past zero (e ∷ es) h = absurd (omega arith)
-keyed-past (suc i) (e ∷ es) h = keyed-past i es (omega arith)
+pub elements_of_entries-past : (i : ℕ) (es : List (List ℕ × Data)) → length es ≤ i → slice_get (elements_of_entries (entries_of es)) i ≡ None
+elements_of_entries-past i [] h = refl
+elements_of_entries-past zero (e ∷ es) h = absurd (omega arith)
+elements_of_entries-past (suc i) (e ∷ es) h = elements_of_entries-past i es (omega arith)
 
 -- .. and of whole numbers
 pub length-numbers : (n : ℤ) → length (numbers_below n) ≡ int_gap (pos 0) n
@@ -65,7 +65,7 @@ numbers-of n i h =
 pub number-count : (n : ℤ) → Some (int_gap (pos 0) n) ≡ option_map length (elements (number n))
 number-count n = ap Some (sym (length-numbers n))
 
-pub sequence-count : (vs : Items) → Some (length (listed vs)) ≡ option_map length (elements (sequence vs))
+pub sequence-count : (vs : Items) → Some (length (values_of_items vs)) ≡ option_map length (elements (sequence vs))
 sequence-count vs = ap Some (sym (length-indexed 0 vs))
 
 pub ruleset counts = (number-count, sequence-count)

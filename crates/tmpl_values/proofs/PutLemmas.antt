@@ -3,31 +3,31 @@ use Rattle.std.proofs.Common.{◌≡◌, ◌∙◌, ℕ, List, [], ◌++◌, Opt
 use Rattle.std.specs.Prelude.{OnErr, length, take}
 use Rattle.std.specs.Result.{IsErr}
 use Rattle.std.proofs.Math.Seq.{take-append_seam}
-use Rattle.tmpl_values.specs.Put.{Puts, appended, IsPut}
+use Rattle.tmpl_values.specs.Put.{Puts, append_bytes, IsPut}
 use Rattle.tmpl_values.specs.computed.Put.{Took}
 
 -- bytes that may not be told, and others after them
-pub appended-append : (old : Option (List ℕ)) (a b : List ℕ) → appended (appended old a) b ≡ appended old (a ++ b)
-appended-append None a b = refl
-appended-append (Some t) a b = ap Some (append_assoc t a b)
+pub append_bytes-append : (old : Option (List ℕ)) (a b : List ℕ) → append_bytes (append_bytes old a) b ≡ append_bytes old (a ++ b)
+append_bytes-append None a b = refl
+append_bytes-append (Some t) a b = ap Some (append_assoc t a b)
 
-pub appended-nil : (old : Option (List ℕ)) → old ≡ appended old []
-appended-nil None = refl
-appended-nil (Some t) = ap Some (sym (append-nil t))
+pub append_bytes-nil : (old : Option (List ℕ)) → old ≡ append_bytes old []
+append_bytes-nil None = refl
+append_bytes-nil (Some t) = ap Some (sym (append-nil t))
 
-Took-append : {F : Type 0} (r : Result (Unit {0}) F) (old mid new : Option (List ℕ)) (a b : List ℕ) → mid ≡ appended old a → Took r mid new b
+Took-append : {F : Type 0} (r : Result (Unit {0}) F) (old mid new : Option (List ℕ)) (a b : List ℕ) → mid ≡ append_bytes old a → Took r mid new b
     → Took r old new (a ++ b)
-Took-append (Ok u) old mid new a b first second = second ∙ ap (λ t. appended t b) first ∙ appended-append old a b
+Took-append (Ok u) old mid new a b first second = second ∙ ap (λ t. append_bytes t b) first ∙ append_bytes-append old a b
 Took-append (Err e) old mid new a b first second = (
   a ++ second.0,
   second.1,
   ap (λ t. a ++ t) second.2 ∙ sym (append_assoc a second.0 second.1),
-  second.3 ∙ ap (λ t. appended t second.0) first ∙ appended-append old a second.0,
+  second.3 ∙ ap (λ t. append_bytes t second.0) first ∙ append_bytes-append old a second.0,
 )
 
 -- nothing is put
 pub IsPut-nil : {F : Type 0} (p : Puts) → IsPut {F = F} (Ok tt) p p []
-IsPut-nil p = record { count = omega arith; bytes = appended-nil p.bytes; through = refl }
+IsPut-nil p = record { count = omega arith; bytes = append_bytes-nil p.bytes; through = refl }
 
 -- a text is put after another
 pub IsPut-append : {F : Type 0} {old mid new : Puts} {a b : List ℕ} {r : Result (Unit {0}) F} → IsPut {F = F} (Ok tt) old mid a → IsPut r mid new b
@@ -55,6 +55,6 @@ pub kept_front : {F : Type 0} (r : Result (Unit {0}) F) (p q : Puts) (old new te
 kept_front (Ok u) p q old new text was is h = tt
 kept_front (Err e) p q old new text was is h =
     let begins = h.bytes in
-    let both : Some new ≡ Some (old ++ begins.0) = sym is ∙ begins.3 ∙ ap (λ o. appended o begins.0) was in
+    let both : Some new ≡ Some (old ++ begins.0) = sym is ∙ begins.3 ∙ ap (λ o. append_bytes o begins.0) was in
     let same : new ≡ old ++ begins.0 = cc in
     ap (take (length old)) same ∙ take-append_seam old begins.0

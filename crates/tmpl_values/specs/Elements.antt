@@ -13,21 +13,21 @@ abbrev pub Element : Type 0
 Element = Value × Value
 
 -- items in a row
-abbrev pub listed : Items → List Value
-listed no_item = []
-listed (item v vs) = v ∷ listed vs
+abbrev pub values_of_items : Items → List Value
+values_of_items no_item = []
+values_of_items (item v vs) = v ∷ values_of_items vs
 
 -- entries, each as its key and its value
-abbrev pub keyed : Entries → List Element
-keyed no_entry = []
-keyed (entry k v es) = (string k, v) ∷ keyed es
+abbrev pub elements_of_entries : Entries → List Element
+elements_of_entries no_entry = []
+elements_of_entries (entry k v es) = (string k, v) ∷ elements_of_entries es
 
 -- the elements of a value, if it may be ranged over: the whole numbers from 0 to before a number, each its own index;
 -- the items of a sequence, each after its place; the entries of a mapping; and none of nothing and null
 abbrev pub elements : Value → Option (List Element)
 elements (number n) = Some (map (λ i. (number (pos i), number (pos i))) (range_with_len 0 (int_gap (pos 0) n)))
-elements (sequence vs) = Some (map (λ p. (number (pos p.0), p.1)) (enumerate_from 0 (listed vs)))
-elements (mapping es) = Some (keyed es)
+elements (sequence vs) = Some (map (λ p. (number (pos p.0), p.1)) (enumerate_from 0 (values_of_items vs)))
+elements (mapping es) = Some (elements_of_entries es)
 elements v = if is_nothing v then Some [] else None
 
 -- .. if it may be ranged over with a variable for the index or key as well: a number may not

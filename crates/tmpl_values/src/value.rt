@@ -7,7 +7,7 @@ ghost use Rattle.tmpl_values.specs.View.{value_of, items_of, entries_of, val_of,
 ghost use Rattle.tmpl_values.specs.View.{is_borrowed, element_of, IsShared};
 ghost use Rattle.tmpl_values.specs.Truth.{truth};
 ghost use Rattle.tmpl_values.specs.Field.{field_at};
-ghost use Rattle.tmpl_values.specs.Elements.{elements, item_at, listed, pairs};
+ghost use Rattle.tmpl_values.specs.Elements.{elements, item_at, values_of_items, pairs};
 ghost use Rattle.tmpl_values.specs.Item.{bytes_of, size_of, HasPart, part_of, in_sequence};
 
 use crate::bytes::Bytes;
@@ -274,7 +274,7 @@ fn map_item<'a>(entries: &'a [(Bytes, Data)], i: usize) -> Option<(Val<'a>, Val<
 /// The items from place i to before place j.
 fn items_between(items: &[Data], i: usize, j: usize) -> &[Data]
     requires { (i ≤ j) × (j ≤ length items.now) }
-    ensures { items_of result.now ≡ in_sequence (slice_range (listed (items_of items.now)) i j) }
+    ensures { items_of result.now ≡ in_sequence (slice_range (values_of_items (items_of items.now)) i j) }
 {
     &items[i..j]
 }

@@ -7,5 +7,5 @@ abbrev pub told_of : Gathered → Told
 told_of g = record { bytes = Some g.bytes.items; failures = g.failures }
 
 -- nothing was put yet
-abbrev pub untouched : Told
-untouched = record { bytes = Some []; failures = 0 }
+abbrev pub nothing_put : Told
+nothing_put = record { bytes = Some []; failures = 0 }

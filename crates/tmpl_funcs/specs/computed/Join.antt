@@ -10,6 +10,6 @@ abbrev pub space_unless : Bool → List ℕ
 space_unless omitted = if omitted then [] else 32 ∷ []
 
 -- the value that is joined in place of a value
-abbrev pub shown : NothingText → Value → Value
-shown Nil v = v
-shown NoValue v = as_text v
+abbrev pub operand_shown : NothingText → Value → Value
+operand_shown Nil v = v
+operand_shown NoValue v = as_text v

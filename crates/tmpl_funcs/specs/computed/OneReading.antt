@@ -17,7 +17,7 @@ use Rattle.tmpl_funcs.specs.printf.Spelling.{form_bytes}
 use Rattle.tmpl_funcs.specs.printf.Spelling as spelling
 use Rattle.tmpl_funcs.specs.printf.Spelling.{IsForm, IsReading, IsReadAs}
 use Rattle.tmpl_funcs.specs.computed.Scan.{is_verb, takes_precision, verb_of, after, verb_after, form_at, first_segment, segment_bytes, segment_len, segments_after, segments_read}
-use Rattle.tmpl_funcs.specs.computed.Reading.{is_precision, is_short, pointed, form_if, form_by, precision_after, rest_len, with_segment}
+use Rattle.tmpl_funcs.specs.computed.Reading.{is_precision, is_short, precision_text, form_if, form_by, precision_after, rest_len, with_segment}
 use Rattle.tmpl_funcs.specs.computed.Front.{begins, take_while-append, after-append, list_all-take_while, begins-after}
 use Rattle.tmpl_funcs.specs.computed.Front.{take_while-after, take_while-passing}
 use Rattle.std.proofs.lemmas.Bool.{and_parts}
@@ -96,16 +96,16 @@ segments-skip (suc n) [] = refl
 segments-skip (suc n) (b ∷ bs) = segments-skip n bs
 
 -- a segment has as many bytes as its spelling
-pointed-len : (p : Option (List ℕ)) (v : ℕ) → length (pointed p ++ v ∷ []) ≡ 1 + option_map_or (λ digits. 1 + length digits) p 0
-pointed-len None v = refl
-pointed-len (Some ds) v = omega (arith, length-append ds (v ∷ []))
+precision_text-len : (p : Option (List ℕ)) (v : ℕ) → length (precision_text p ++ v ∷ []) ≡ 1 + option_map_or (λ digits. 1 + length digits) p 0
+precision_text-len None v = refl
+precision_text-len (Some ds) v = omega (arith, length-append ds (v ∷ []))
 
 segment_len-is : (p : Segment) → segment_len p ≡ length (segment_bytes p)
 segment_len-is (literal run) = refl
 segment_len-is percent = refl
 segment_len-is (form f) =
-    let tail : List ℕ = pointed f.precision ++ f.verb ∷ [] in
-    omega (arith, length-append f.flags (f.width ++ tail), length-append f.width tail, pointed-len f.precision f.verb)
+    let tail : List ℕ = precision_text f.precision ++ f.verb ∷ [] in
+    omega (arith, length-append f.flags (f.width ++ tail), length-append f.width tail, precision_text-len f.precision f.verb)
 
 -- the first segment before those after it, as one is read
 pub segments-before : (o : Option Segment) (bs : List ℕ)
@@ -171,17 +171,17 @@ begins-front p q (x ∷ xs) ys zs each all more = each x (and_parts (q x) (list_
 
 module _ (v : ℕ) (is_one : is_verb v ≡ true) (rest : List ℕ) where
   -- what begins at the precision begins with a point or the letter
-  pointed-first : (q : ℕ → Bool) (t : Bool) (p : Option (List ℕ)) → q 46 ≡ t → q (v) ≡ t → begins q ((pointed p ++ v ∷ []) ++ rest) ≡ t
+  pointed-first : (q : ℕ → Bool) (t : Bool) (p : Option (List ℕ)) → q 46 ≡ t → q (v) ≡ t → begins q ((precision_text p ++ v ∷ []) ++ rest) ≡ t
   pointed-first q t None point is = is
   pointed-first q t (Some ds) point is = point
 
   width-no_flag : (width : List ℕ) (p : Option (List ℕ)) → list_all is_ascii_digit width ≡ true → begins_above_0 width ≡ true
-      → begins is_flag ((width ++ (pointed p ++ v ∷ [])) ++ rest) ≡ false
+      → begins is_flag ((width ++ (precision_text p ++ v ∷ [])) ++ rest) ≡ false
   width-no_flag [] p all above = pointed-first is_flag false p refl (letter-IsLetter v is_one).flag
   width-no_flag (d ∷ ds) p all above = is_flag-decimal d (and_parts (is_ascii_digit d) (list_all is_ascii_digit ds) all).0 above
 
   flags-plain : (flags width : List ℕ) (p : Option (List ℕ)) → list_all is_flag flags ≡ true → list_all is_ascii_digit width ≡ true
-      → begins is_plain ((flags ++ (width ++ (pointed p ++ v ∷ []))) ++ rest) ≡ true
+      → begins is_plain ((flags ++ (width ++ (precision_text p ++ v ∷ []))) ++ rest) ≡ true
   flags-plain flags width p flags_all all =
       begins-front is_plain is_flag flags _ rest is_plain-flag flags_all
       (begins-front is_plain is_ascii_digit width _ rest is_plain-decimal all (pointed-first is_plain true p refl (letter-IsLetter v is_one).plain))
@@ -191,7 +191,7 @@ module _ (v : ℕ) (is_one : is_verb v ≡ true) (rest : List ℕ) where
   verb_after-letter flags width p short fits = rw (is_one, short, fits) refl
 
   precision_after-pointed : (flags width : List ℕ) (p : Option (List ℕ)) → is_short width ≡ true → IsPrecision p v
-      → precision_after flags width ((pointed p ++ v ∷ []) ++ rest) ≡ Some (record { flags = flags; width = width; precision = p; verb = v })
+      → precision_after flags width ((precision_text p ++ v ∷ []) ++ rest) ≡ Some (record { flags = flags; width = width; precision = p; verb = v })
   precision_after-pointed flags width None short fits = rw (letter-IsLetter v is_one).point (verb_after-letter flags width None short refl)
   precision_after-pointed flags width (Some ds) short fits =
       let stop : begins is_ascii_digit (v ∷ rest) ≡ false = (letter-IsLetter v is_one).digit in
@@ -205,7 +205,7 @@ module _ (v : ℕ) (is_one : is_verb v ≡ true) (rest : List ℕ) where
 form_at-form_bytes : (f : WrittenForm) (rest : List ℕ) → IsForm f → form_at (form_bytes f ++ rest) ≡ Some f
 unfolding form_at
 form_at-form_bytes f rest is =
-    let tail : List ℕ = pointed f.precision ++ f.verb ∷ [] in
+    let tail : List ℕ = precision_text f.precision ++ f.verb ∷ [] in
     let stop = width-no_flag f.verb is.verb rest f.width f.precision is.width (above-tested f.width is.above) in
     let digits = pointed-first f.verb is.verb rest is_ascii_digit false f.precision refl (letter-IsLetter f.verb is.verb).digit in
     rw (
@@ -275,16 +275,16 @@ IsPrecision-by (Some ds) v digits fits = let both = and_parts (is_short ds) (tak
 
 module _ (flags width : List ℕ) (p : Option (List ℕ)) (digits : AreDigits p) where
   form_by-sound : (b : ℕ) (bs : List ℕ) (o : Option ℕ) → verb_of b ≡ o
-      → IfSome (form_by flags width p o) (IsFound flags width (flags ++ (width ++ (pointed p ++ b ∷ bs))))
+      → IfSome (form_by flags width p o) (IsFound flags width (flags ++ (width ++ (precision_text p ++ b ∷ bs))))
   form_by-sound b bs None is = tt
   form_by-sound b bs (Some v) is = go (is_short width && is_precision p v) refl
     where
       go : (t : Bool) → (is_short width && is_precision p v) ≡ t
-          → IfSome (form_if t flags width p v) (IsFound flags width (flags ++ (width ++ (pointed p ++ b ∷ bs))))
+          → IfSome (form_if t flags width p v) (IsFound flags width (flags ++ (width ++ (precision_text p ++ b ∷ bs))))
       go false test = tt
       go true test = let both = and_parts (is_short width) (is_precision p v) test in record {
         rest = bs;
-        spells = sym (simp append_assoc (ap (λ c. flags ++ (width ++ (pointed p ++ c ∷ bs))) (letter-verb_of b v is).0));
+        spells = sym (simp append_assoc (ap (λ c. flags ++ (width ++ (precision_text p ++ c ∷ bs))) (letter-verb_of b v is).0));
         flags_is = refl;
         width_is = refl;
         short = both.0;
@@ -292,7 +292,7 @@ module _ (flags width : List ℕ) (p : Option (List ℕ)) (digits : AreDigits p)
         verb = (letter-verb_of b v is).1;
       }
 
-  verb_after-sound : (bs : List ℕ) → IfSome (verb_after flags width p bs) (IsFound flags width (flags ++ (width ++ (pointed p ++ bs))))
+  verb_after-sound : (bs : List ℕ) → IfSome (verb_after flags width p bs) (IsFound flags width (flags ++ (width ++ (precision_text p ++ bs))))
   verb_after-sound [] = tt
   verb_after-sound (b ∷ bs) = form_by-sound b bs (verb_of b) refl
 

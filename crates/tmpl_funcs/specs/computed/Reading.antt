@@ -17,8 +17,8 @@ abbrev pub number_after : ℕ → List ℕ → ℕ
 number_after = fold (λ n d. 10 * n + (d - byte "0"))
 
 -- the precision, after a point
-abbrev pub pointed : Option (List ℕ) → List ℕ
-pointed precision = option_map_or (λ digits. byte "." ∷ digits) precision []
+abbrev pub precision_text : Option (List ℕ) → List ℕ
+precision_text precision = option_map_or (λ digits. byte "." ∷ digits) precision []
 
 -- the digits are few enough
 abbrev pub is_short : List ℕ → Bool

@@ -1,4 +1,4 @@
--- Texts and numbers padded to the width of a form ("Printing" in the documentation of `fmt`: "Width is measured in
+-- Texts and numbers pad to the width of a form ("Printing" in the documentation of `fmt`: "Width is measured in
 -- units of Unicode code points, that is, runes").
 use Rattle.std.specs.Prelude.{ℕ, ◌+◌, ◌-◌, List, ◌++◌, length, replicate, if◌then◌else◌}
 use Rattle.std.specs.Str.{byte}
@@ -7,8 +7,8 @@ use Rattle.tmpl_funcs.specs.printf.Form.{Form}
 
 -- a text with what it lacks to a width, counted in runes: spaces before it, or after it with the
 -- flag `-`
-abbrev pub padded : Form → List ℕ → List ℕ
-padded f text =
+abbrev pub pad : Form → List ℕ → List ℕ
+pad f text =
     let spaces = replicate (f.width - length (runes text)) (byte " ") in
     if f.minus then text ++ spaces else spaces ++ text
 

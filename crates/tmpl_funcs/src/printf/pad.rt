@@ -1,7 +1,7 @@
 //! Texts and numbers padded to a width.
 ghost use Rattle.std.specs.Prelude.{◌≡◌, ◌≤◌, ◌-◌, ◌++◌, OnOk, drop, length, replicate, take};
 ghost use Rattle.tmpl_values.specs.Runes.{runes};
-ghost use Rattle.tmpl_funcs.specs.printf.Pad.{laid_out, padded};
+ghost use Rattle.tmpl_funcs.specs.printf.Pad.{laid_out, pad};
 ghost use Rattle.tmpl_funcs.specs.computed.View.{form_seen};
 
 use super::form::Form;
@@ -10,7 +10,7 @@ use std::alloc::AllocError;
 
 /// Adds a text with the spaces that it lacks to the width, counted in runes.
 pub(crate) fn add_padded(form: Form, text: &[u8], bytes: &mut Vec<u8>) -> Result<(), AllocError>
-    ensures { OnOk result (bytes.new.items ≡ bytes.old.items ++ padded (form_seen form) text.now) }
+    ensures { OnOk result (bytes.new.items ≡ bytes.old.items ++ pad (form_seen form) text.now) }
 {
     let padding = padding_len(form.width, text);
     if form.minus {
@@ -26,7 +26,7 @@ pub(crate) fn add_padded(form: Form, text: &[u8], bytes: &mut Vec<u8>) -> Result
 pub(crate) fn pad_from(form: Form, start: usize, bytes: &mut Vec<u8>) -> Result<(), AllocError>
     requires { start ≤ length bytes.old.items }
     ensures { OnOk result (bytes.new.items
-        ≡ take start bytes.old.items ++ padded (form_seen form) (drop start bytes.old.items)) }
+        ≡ take start bytes.old.items ++ pad (form_seen form) (drop start bytes.old.items)) }
 {
     let padding = padding_len(form.width, &bytes[start..]);
     add_repeated(b' ', padding, bytes)?;

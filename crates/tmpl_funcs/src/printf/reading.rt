@@ -2,7 +2,7 @@
 ghost use Rattle.std.specs.Prelude.{◌≡◌, ◌≤◌, ◌++◌, length, option_map, Some};
 ghost use Rattle.tmpl_funcs.specs.printf.Form.{form_of, number_in};
 ghost use Rattle.tmpl_funcs.specs.computed.Scan.{form_at, verb_after, verb_of};
-ghost use Rattle.tmpl_funcs.specs.computed.Reading.{form_by, pointed, precision_after, width_after, IsRead};
+ghost use Rattle.tmpl_funcs.specs.computed.Reading.{form_by, precision_text, precision_after, width_after, IsRead};
 ghost use Rattle.tmpl_funcs.specs.computed.View.{form_seen, letter_of};
 
 use super::class::Class;
@@ -50,7 +50,7 @@ fn read_verb<'a>(
 ) -> Option<(Form, &'a [u8])>
     ensures { let p = option_map (λ d. d.now) precision.entry in
         IsRead (verb_after flags.now width.now p bytes.now)
-        (flags.now ++ (width.now ++ (pointed p ++ bytes.now))) result }
+        (flags.now ++ (width.now ++ (precision_text p ++ bytes.now))) result }
 {
     match bytes {
         [] => None,

@@ -5,11 +5,11 @@ use Rattle.tmpl_lex.specs.declared.piece.TokenKind.{TokenKind}
 use Rattle.tmpl_lex.specs.declared.piece.TokenKind.TheVariants as kind
 use Rattle.tmpl_grammar.specs.Tree.{Operand, number_constant, text_constant}
 use Rattle.tmpl_grammar.specs.computed.Integer.{integer}
-use Rattle.tmpl_grammar.specs.computed.Quoted.{between, unquoted, rune_code, without_returns}
+use Rattle.tmpl_grammar.specs.computed.Quoted.{between, unquoted_text, rune_code, without_returns}
 
 -- the text between the quotes of a string, and of a raw string, and the code between those of a character
 abbrev pub string_in : List ℕ → Option Operand
-string_in bs = option_map text_constant (unquoted 34 bs)
+string_in bs = option_map text_constant (unquoted_text 34 bs)
 
 abbrev pub raw_string_in : List ℕ → Operand
 raw_string_in bs = text_constant (without_returns bs)

@@ -50,14 +50,14 @@ magnitude (b ∷ bs) =
     else (if b == 95 then None else parted_number 10 (b ∷ bs))
 
 -- a number by its magnitude, from -2^63 to 2^63 - 1
-abbrev pub signed : Bool → ℕ → Option ℤ
-signed true n = if nat_le n (2 ^ 63) then Some (neg_ℤ (pos n)) else None
-signed false n = if nat_lt n (2 ^ 63) then Some (pos n) else None
+abbrev pub with_sign : Bool → ℕ → Option ℤ
+with_sign true n = if nat_le n (2 ^ 63) then Some (neg_ℤ (pos n)) else None
+with_sign false n = if nat_lt n (2 ^ 63) then Some (pos n) else None
 
 -- the number that bytes spell, if they spell one
 unfoldable pub integer : List ℕ → Option ℤ
 integer [] = None
 integer (b ∷ bs) =
-    if b == 45 then option_and_then (signed true) (magnitude bs)
-    else (if b == 43 then option_and_then (signed false) (magnitude bs)
-    else option_and_then (signed false) (magnitude (b ∷ bs)))
+    if b == 45 then option_and_then (with_sign true) (magnitude bs)
+    else (if b == 43 then option_and_then (with_sign false) (magnitude bs)
+    else option_and_then (with_sign false) (magnitude (b ∷ bs)))

@@ -9,18 +9,18 @@ use Rattle.tmpl_grammar.specs.computed.Depth.{limited_by}
 use Rattle.tmpl_grammar.specs.computed.Parser.{Parser, step, finished}
 
 -- an operand, with nothing in its parentheses and no chain after them
-abbrev pub emptied : Operand → Operand
-emptied (tree.group commands names) = tree.group tree.no_command []
-emptied o = o
+abbrev pub without_contents : Operand → Operand
+without_contents (tree.group commands names) = tree.group tree.no_command []
+without_contents o = o
 
 -- with what stands in parentheses, or without it
-abbrev pub pruned : Bool → Parser → Parser
-pruned true h = h
-pruned false h = record { outer = h.outer; inner = h.inner; last = option_map emptied h.last }
+abbrev pub prune : Bool → Parser → Parser
+prune true h = h
+prune false h = record { outer = h.outer; inner = h.inner; last = option_map without_contents h.last }
 
 -- after a token
 unfoldable pub pruned_step : Bool → Token → Parser → Option Parser
-pruned_step keeps t h = option_map (pruned keeps) (step t h)
+pruned_step keeps t h = option_map (prune keeps) (step t h)
 
 -- after tokens, where each may stand
 abbrev pub pruned_steps : Bool → Option Parser → List Token → Option Parser

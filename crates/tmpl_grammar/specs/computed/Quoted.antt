@@ -43,15 +43,15 @@ byte_named quote e =
     else (if e == quote then Some quote else None))))))))
 
 -- after a backslash: `x`, `u` or `U` and digits, or octal digits
-abbrev pub coded : ℕ → List ℕ → Option Spelled
-coded e bs =
+abbrev pub escape_code : ℕ → List ℕ → Option Spelled
+escape_code e bs =
     if e == 120 then option_and_then (as_byte 4) (code 16 2 bs)
     else (if e == 117 then option_and_then (as_char 6) (code 16 4 bs)
     else (if e == 85 then option_and_then (as_char 10) (code 16 8 bs)
     else option_and_then (as_byte 4) (code 8 3 (e ∷ bs))))
 
 abbrev pub escape_by : Option ℕ → ℕ → List ℕ → Option Spelled
-escape_by None e bs = coded e bs
+escape_by None e bs = escape_code e bs
 escape_by (Some b) e bs = Some (byte b, 2)
 
 -- the escape whose backslash stands before these bytes
@@ -87,8 +87,8 @@ between quote bs =
     then Some (take (length bs - 2) (drop 1 bs)) else None
 
 -- the text of a string
-abbrev pub unquoted : ℕ → List ℕ → Option (List ℕ)
-unquoted quote bs = option_map (flat_map bytes_in) (parts quote bs)
+abbrev pub unquoted_text : ℕ → List ℕ → Option (List ℕ)
+unquoted_text quote bs = option_map (flat_map bytes_in) (parts quote bs)
 
 -- the code of a part that takes this many bytes
 abbrev pub whole_code : ℕ → Spelled → Option ℕ

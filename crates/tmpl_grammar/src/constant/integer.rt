@@ -17,19 +17,19 @@ pub(crate) fn integer(bytes: &[u8]) -> Option<i64>
         [] => None,
         [sign, rest @ ..] => {
             if *sign == b'-' {
-                signed(true, magnitude(rest))
+                apply_sign(true, magnitude(rest))
             } else if *sign == b'+' {
-                signed(false, magnitude(rest))
+                apply_sign(false, magnitude(rest))
             } else {
-                signed(false, magnitude(bytes))
+                apply_sign(false, magnitude(bytes))
             }
         }
     }
 }
 
 /// The magnitude with its sign, if there is one and the number has 64 bits.
-fn signed(is_negative: bool, magnitude: Option<u64>) -> Option<i64>
-    ensures { result ≡ option_and_then (spec.signed is_negative) magnitude }
+fn apply_sign(is_negative: bool, magnitude: Option<u64>) -> Option<i64>
+    ensures { result ≡ option_and_then (spec.with_sign is_negative) magnitude }
 {
     let n = magnitude?;
     if is_negative {
@@ -41,7 +41,7 @@ fn signed(is_negative: bool, magnitude: Option<u64>) -> Option<i64>
 
 /// The negative number of this magnitude, if it has 64 bits.
 fn negative(n: u64) -> Option<i64>
-    ensures { result ≡ spec.signed true n }
+    ensures { result ≡ spec.with_sign true n }
 {
     if n < 1 << 63 {
         Some(-(n as i64))
@@ -54,7 +54,7 @@ fn negative(n: u64) -> Option<i64>
 
 /// The positive number of this magnitude, if it has 64 bits.
 fn positive(n: u64) -> Option<i64>
-    ensures { result ≡ spec.signed false n }
+    ensures { result ≡ spec.with_sign false n }
 {
     i64::try_from(n).ok()
 }

@@ -43,7 +43,7 @@ pub(crate) fn between(quote: u8, bytes: &[u8]) -> Option<&[u8]>
 /// The text that stands between such quotes, if it consists of parts.
 #[tactic(auto, using(crate::proofs::QuotedLemmas::ends))]
 pub(crate) fn unquote(alloc: Global, quote: u8, bytes: &[u8]) -> Result<Option<Vec<u8>>, AllocError>
-    ensures { IfOk result (λ o. option_map (λ v. v.items) o ≡ spec.unquoted quote bytes.now) }
+    ensures { IfOk result (λ o. option_map (λ v. v.items) o ≡ spec.unquoted_text quote bytes.now) }
 {
     // most texts take as many bytes as spell them
     let mut text = Vec::with_capacity(alloc, bytes.len())?;
@@ -172,7 +172,7 @@ fn byte_named(quote: u8, letter: u8) -> Option<u8>
 /// The escape by digits: in base 16 after a letter, or else in base 8.
 fn escape_by_digits(letter: u8, digits: &[u8], whole: &[u8]) -> Option<Spelled>
     requires { whole.now ≡ letter ∷ digits.now }
-    ensures value { option_map spelled_of result ≡ spec.coded letter digits.now }
+    ensures value { option_map spelled_of result ≡ spec.escape_code letter digits.now }
     ensures within { IfSome result (λ p. (0 < p.1) × (p.1 ≤ length digits.now + 2)) }
 {
     match letter {

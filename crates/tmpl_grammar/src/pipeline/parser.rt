@@ -60,7 +60,7 @@ fn add<T: Drop>(items: &mut Vec<T>, item: T) -> Result<(), AllocError>
 /// Puts the last operand, if there is one, after the others.
 fn settle(last: &mut Option<Operand>, operands: &mut Vec<Operand>) -> Result<(), AllocError>
     ensures operands { OnOk result (map operand_of operands.new.items
-        ≡ spec.settled (option_map operand_of last.old) (map operand_of operands.old.items)) }
+        ≡ spec.with_last_operand (option_map operand_of last.old) (map operand_of operands.old.items)) }
     ensures last { last.new ≡ None }
 {
     match last.take() {
@@ -71,7 +71,7 @@ fn settle(last: &mut Option<Operand>, operands: &mut Vec<Operand>) -> Result<(),
 
 /// Adds one more field to the chain of the operand; `false` where it may have no chain.
 fn link(operand: &mut Operand, name: Bytes) -> Result<bool, AllocError>
-    ensures { IfOk result (λ b. spec.kept_if b (operand_of operand.new) ≡ spec.linked (operand_of operand.old) name) }
+    ensures { IfOk result (λ b. spec.kept_if b (operand_of operand.new) ≡ spec.with_field (operand_of operand.old) name) }
 {
     match operand {
         Operand::Fields(fields) => {
@@ -178,7 +178,7 @@ impl PipelineParser {
     /// Ends the newest command; `false` where it has no operand.
     fn close(&mut self, alloc: Global) -> Result<bool, AllocError>
         ensures { IfOk result (λ b. spec.kept_if b (parser_of self.new)
-            ≡ option_map (spec.barred (parser_of self.old)) (spec.closed (parser_of self.old))) }
+            ≡ option_map (spec.after_bar (parser_of self.old)) (spec.close_pipeline (parser_of self.old))) }
     {
         settle(&mut self.last, &mut self.inner.operands)?;
         if self.inner.operands.len() == 0 {
@@ -192,7 +192,7 @@ impl PipelineParser {
     /// After `(`; `false` where it touches an operand.
     fn open_group(&mut self, alloc: Global) -> Result<bool, AllocError>
         ensures { IfOk result (λ b. spec.kept_if b (parser_of self.new)
-            ≡ spec.opened (option_map operand_of self.old.last) (parser_of self.old)) }
+            ≡ spec.open_parenthesis (option_map operand_of self.old.last) (parser_of self.old)) }
     {
         if self.last.is_some() {
             return Ok(false);
@@ -205,7 +205,7 @@ impl PipelineParser {
     /// After `)`; `false` where none is open or no command ends.
     fn close_group(&mut self, alloc: Global) -> Result<bool, AllocError>
         ensures { IfOk result (λ b. spec.kept_if b (parser_of self.new)
-            ≡ spec.left_with (parser_of self.old).outer (spec.closed (parser_of self.old))) }
+            ≡ spec.left_with (parser_of self.old).outer (spec.close_pipeline (parser_of self.old))) }
     {
         let Some(around) = self.outer.pop() else {
             return Ok(false);
@@ -224,7 +224,7 @@ impl PipelineParser {
     /// After an operand; `false` where it may not stand.
     fn place(&mut self, operand: Option<Operand>) -> bool
         ensures { spec.kept_if result (parser_of self.new)
-            ≡ spec.placed (option_map operand_of self.old.last) (option_map operand_of operand) (parser_of self.old) }
+            ≡ spec.place_operand (option_map operand_of self.old.last) (option_map operand_of operand) (parser_of self.old) }
     {
         if self.last.is_some() {
             return false;
@@ -244,7 +244,7 @@ impl PipelineParser {
     /// After a field: in a chain, or an operand of its own.
     fn pass_field(&mut self, alloc: Global, token: &Token<'_>) -> Result<bool, AllocError>
         ensures { IfOk result (λ b. spec.kept_if b (parser_of self.new)
-            ≡ spec.fielded (option_map operand_of self.old.last) (token_of token.now) (parser_of self.old)) }
+            ≡ spec.after_field (option_map operand_of self.old.last) (token_of token.now) (parser_of self.old)) }
     {
         if let Some(operand) = &mut self.last {
             return link_named(alloc, operand, name_in(token));
@@ -284,7 +284,7 @@ fn link_named(alloc: Global, operand: &mut Operand, name: &[u8]) -> Result<bool,
 
 /// Empties the operand if it is a group: else trees would be as deep as the parentheses.
 fn empty(alloc: Global, last: &mut Option<Operand>)
-    ensures { option_map operand_of last.new ≡ option_map limited.emptied (option_map operand_of last.old) }
+    ensures { option_map operand_of last.new ≡ option_map limited.without_contents (option_map operand_of last.old) }
 {
     if matches!(last, Some(Operand::Group { .. })) {
         *last = Some(Operand::Group {

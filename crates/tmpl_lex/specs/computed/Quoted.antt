@@ -23,7 +23,7 @@ through q (b ∷ bs) = up_to (b == q) b (through q bs)
 
 -- the bytes up to and with the next such quote that no backslash escapes, with no newline among them; `escaped` says
 -- that a backslash stands before them that escapes the first
-abbrev pub quoted : ℕ → Bool → List ℕ → Option (List ℕ)
-quoted q escaped [] = None
-quoted q escaped (b ∷ bs) =
-    unless (b == 10) (up_to (b == q && not escaped) b (quoted q (b == 92 && not escaped) bs))
+abbrev pub quoted_front : ℕ → Bool → List ℕ → Option (List ℕ)
+quoted_front q escaped [] = None
+quoted_front q escaped (b ∷ bs) =
+    unless (b == 10) (up_to (b == q && not escaped) b (quoted_front q (b == 92 && not escaped) bs))

@@ -2,7 +2,7 @@
 -- each kind tells of all.
 use Rattle.std.specs.Prelude.{pos, Bool, false, ◌&&◌, List, [], ◌∷◌, ℕ, map, is_ok, Option, Some, None, if◌then◌else◌}
 use Rattle.tmpl_values.specs.Value.{Value, nothing, boolean, number, string, sequence, no_item}
-use Rattle.tmpl_funcs.specs.Dispatch.{called}
+use Rattle.tmpl_funcs.specs.Dispatch.{table_answer}
 use Rattle.tmpl_funcs.specs.declared.func.Func.TheVariants.{Printf}
 use Rattle.tmpl_schema.specs.declared.kind.Kind.{Kind}
 use Rattle.tmpl_schema.specs.declared.kind.Kind.TheVariants.{Blank, Truth, Number, Text, Many}
@@ -32,7 +32,7 @@ module _ (base : Base) where
 
   -- `printf` takes them
   unfoldable pub prints : List ℕ → List Shape → Kind → Bool
-  prints format ss k = is_ok (called Printf (string format ∷ samples k ss))
+  prints format ss k = is_ok (table_answer Printf (string format ∷ samples k ss))
 
   -- what `printf` gives for a format and arguments of these shapes, if it refuses none of them
   abbrev pub printf_shape : List ℕ → List Shape → Option Shape

@@ -37,13 +37,13 @@ pub data Role : Type 0 where
   flawed : Reason → Role
 
 -- `$` alone is the dot with which the template started, and no name that is declared
-abbrev pub named : Name → List Name
-named [] = []
-named (b ∷ bs) = (b ∷ bs) ∷ []
+abbrev pub names_of_name : Name → List Name
+names_of_name [] = []
+names_of_name (b ∷ bs) = (b ∷ bs) ∷ []
 
 abbrev mutual
   pub used_by_operand : Operand → List Name
-  used_by_operand (variable name names) = named name
+  used_by_operand (variable name names) = names_of_name name
   used_by_operand (group commands names) = used_by commands
   used_by_operand o = []
 
@@ -56,7 +56,7 @@ abbrev mutual
   used_by (command os cs) = used_by_operands os ++ used_by cs
 
 abbrev pub assigned_by : Binding → List Name
-assigned_by (assign name) = named name
+assigned_by (assign name) = names_of_name name
 assigned_by b = []
 
 abbrev pub declared_by : Binding → List Name

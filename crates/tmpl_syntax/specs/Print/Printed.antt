@@ -1,4 +1,4 @@
--- How a tree and a set are printed: their texts and actions one after the other.
+-- How a tree and a set are print_nodes: their texts and actions one after the other.
 use Rattle.std.specs.Prelude.{ℕ, nat_eq, List, [], ◌∷◌, ◌++◌, Option, Some, None, flat_map, codes}
 use Rattle.std.specs.Prelude.{if◌then◌else◌}
 use Rattle.std.specs.List.{ends_with}
@@ -67,8 +67,8 @@ file_of before (said_text t ∷ ss) = parting before ++ (t ++ file_of (Some t) s
 file_of before (said a ∷ ss) = opening_after before ++ (bytes_of (action_tokens a) ++ (codes "}}" ++ file_of None ss))
 
 -- the bytes of nodes: the inverse of cutting, reading and spelling
-abbrev pub printed : Nodes → List ℕ
-printed ns = file_of None (nodes_said ns)
+abbrev pub print_nodes : Nodes → List ℕ
+print_nodes ns = file_of None (nodes_said ns)
 
 -- the bytes of a set, its templates one after the other
 abbrev pub printed_set : List Template → List ℕ

@@ -132,8 +132,8 @@ else_start (opened.control c) before after = part_of c before after
 else_start c before after = 0
 
 -- an opening in whose outside this frame is the newest and these names are known
-abbrev pub entered : Opening → Names → Option Frame → List Name → Frame
-entered c p t names = record {
+abbrev pub enter_opening : Opening → Names → Option Frame → List Name → Frame
+enter_opening c p t names = record {
   opening = c;
   has_else = false;
   around = in_loop t;
@@ -153,12 +153,12 @@ else_levels false n = n
 else_levels true n = n + 1
 
 -- .. with this many names at the beginning of its part
-abbrev pub parted : Bool → ℕ → Frame → Frame
-parted b part f = record f { has_else = else_came b f.has_else; levels = else_levels b f.levels; part = part }
+abbrev pub with_part : Bool → ℕ → Frame → Frame
+with_part b part f = record f { has_else = else_came b f.has_else; levels = else_levels b f.levels; part = part }
 
 abbrev pub parted_all : Bool → ℕ → List Frame → List Frame
 parted_all b part [] = []
-parted_all b part (f ∷ fs) = parted b part f ∷ fs
+parted_all b part (f ∷ fs) = with_part b part f ∷ fs
 
 abbrev pub ended_all : List Frame → List Frame
 ended_all [] = []
@@ -167,7 +167,7 @@ ended_all (f ∷ fs) = fs
 -- the frames after an action that is in place, and sees these names
 abbrev pub frames_after : Role → List Frame → List Name → List Frame
 frames_after (plain p) fs names = fs
-frames_after (opener c p) fs names = entered c p (top fs) names ∷ fs
+frames_after (opener c p) fs names = enter_opening c p (top fs) names ∷ fs
 frames_after (else_part None) fs names = parted_all false (length names) fs
 frames_after (else_part (Some (b, p))) fs names = parted_all true (length (with_names names p.declares)) fs
 frames_after closer fs names = ended_all fs

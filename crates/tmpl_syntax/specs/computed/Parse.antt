@@ -73,9 +73,9 @@ all_from name items = definitions_from items ++ definition 1 name (nodes_from it
 abbrev pub bodies_of : List ℕ → List ℕ → List Item → Result (List Definition) Refusal
 bodies_of file bytes items = definitions_or (checked bytes items) (all_from (base_name file) items)
 
-abbrev pub placed : List Template → List ℕ → Result (List Definition) Refusal → Result (List Template) Refusal
-placed set file (Ok ds) = Ok (defined_each set (map (template_in file) ds))
-placed set file (Err r) = Err r
+abbrev pub add_definitions : List Template → List ℕ → Result (List Definition) Refusal → Result (List Template) Refusal
+add_definitions set file (Ok ds) = Ok (defined_each set (map (template_in file) ds))
+add_definitions set file (Err r) = Err r
 
 -- the items of a file: the one list that its bytes are cut into and read as
 abbrev pub items_of : List ℕ → List Item
@@ -85,7 +85,7 @@ items_of bytes = items_in (cut_of bytes)
 unfoldable pub parsed : List Template → List ℕ → List ℕ → Result (List Template) Refusal
 parsed set file bytes =
     if nat_lt most_bytes (length bytes) then Err (1, too_long)
-    else placed set file (bodies_of file bytes (items_of bytes))
+    else add_definitions set file (bodies_of file bytes (items_of bytes))
 
 -- what is known of a refusal: not which one it is where memory ran out
 abbrev pub IsRefusal : {T : Type 0} → Result T Refusal → ℕ → Option Reason → Type 0

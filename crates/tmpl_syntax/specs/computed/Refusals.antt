@@ -74,7 +74,7 @@ after x s =
     let seen = names_at x (top s.frames) s.known.inner in
     record { frames = frames_after x s.frames seen; known = known_after x (top s.frames) (with_inner s.known seen) }
 
--- whether the form or the place of an item decides on it, so that its names are not asked for
+-- whether the form or the place of an item decides on it, so that its names are not ask for
 abbrev pub place_decides : Option Reason → Bool
 place_decides None = false
 place_decides (Some reason.undeclared_variable) = false
@@ -88,8 +88,8 @@ kept_if false x t names = names_at x t names
 abbrev pub names_left : Option Reason → Role → Option Frame → List Name → List Name
 names_left o x t names = kept_if (place_decides o) x t names
 
-abbrev pub asked : Role → State → State
-asked x s = record {
+abbrev pub ask : Role → State → State
+ask x s = record {
   frames = s.frames;
   known = with_inner s.known (names_left (fault_there x s) x (top s.frames) s.known.inner);
 }
@@ -102,7 +102,7 @@ by_mended (Some why) m s = (why ∷ [], s)
 abbrev pub by_fault : Option Reason → Site → State → List Reason × State
 by_fault None x s = ([], after x.role s)
 by_fault (Some why) x s =
-    let r = by_mended (fault_there x.mended (asked x.role s)) x.mended (asked x.role s) in (why ∷ r.0, r.1)
+    let r = by_mended (fault_there x.mended (ask x.role s)) x.mended (ask x.role s) in (why ∷ r.0, r.1)
 
 abbrev pub step : Site → State → List Reason × State
 step x s = by_fault (fault_there x.role s) x s

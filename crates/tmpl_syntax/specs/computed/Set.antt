@@ -15,5 +15,5 @@ is_blank_node (text bytes) = list_all is_space bytes
 is_blank_node n = false
 
 -- of a body that is there and a new one, the one that stays
-abbrev pub chosen : Tree → Tree → Tree
-chosen old new = if is_blank new.nodes then old else new
+abbrev pub choose : Tree → Tree → Tree
+choose old new = if is_blank new.nodes then old else new

@@ -3,9 +3,9 @@ ghost use Rattle.std.specs.Prelude.{◌≡◌, ◌++◌, ◌∷◌, ◌<◌, [],
 ghost use Rattle.tmpl_syntax.specs.Place.Body.{most_levels};
 ghost use Rattle.tmpl_syntax.specs.Place.Opening as opening;
 ghost use Rattle.tmpl_syntax.specs.Place.Role.{Name, role_of};
-ghost use Rattle.tmpl_syntax.specs.Refusals.{show, shown};
+ghost use Rattle.tmpl_syntax.specs.Refusals.{show, refused_seen};
 ghost use Rattle.tmpl_syntax.specs.computed.Fault.{of_action};
-ghost use Rattle.tmpl_syntax.specs.computed.Frames.{entered, fault_at, first_fault, levels, names_at, top, with_names};
+ghost use Rattle.tmpl_syntax.specs.computed.Frames.{enter_opening, fault_at, first_fault, levels, names_at, top, with_names};
 ghost use Rattle.tmpl_syntax.specs.computed.Refusals.{after, by_mended, fault_there, found_at, mend_kind, mend_of};
 ghost use Rattle.tmpl_syntax.specs.computed.Refusals.{names_held, names_left, place_decides, site_of, standing, step};
 ghost use Rattle.tmpl_syntax.specs.computed.View.{frame_of, frames_in, item_of, known_names, scopes_of};
@@ -33,14 +33,14 @@ pub(crate) fn take_in_site<'i>(
     site: &'i Site<'i>,
 ) -> Result<(), AllocError>
     ensures found { let r = step (site_of site.now) (standing stack.old.items scopes.old) in
-        IfOk result (λ u. map shown found.new.items
-        ≡ map shown found.old.items ++ map show (found_at place (site_of site.now).line r.0)) }
+        IfOk result (λ u. map refused_seen found.new.items
+        ≡ map refused_seen found.old.items ++ map show (found_at place (site_of site.now).line r.0)) }
     ensures frames { let r = step (site_of site.now) (standing stack.old.items scopes.old) in
         IfOk result (λ u. frames_in stack.new.items ≡ r.1.frames) }
     ensures names { let r = step (site_of site.now) (standing stack.old.items scopes.old) in
         IfOk result (λ u. scopes_of scopes.new ≡ r.1.known) }
 {
-    match faulted(&mut scopes.inner, &site.item, newest(stack)) {
+    match find_fault(&mut scopes.inner, &site.item, newest(stack)) {
         None => take_in(alloc, stack, scopes, &site.item),
         Some(fault) => {
             found.push(refused(place, site, fault))?;
@@ -60,7 +60,7 @@ fn take_in_mended<'i>(
     site: &'i Site<'i>,
 ) -> Result<(), AllocError>
     ensures found { let m = (site_of site.now).mended in let s = standing stack.old.items scopes.old in
-        IfOk result (λ u. map shown found.new.items ≡ map shown found.old.items
+        IfOk result (λ u. map refused_seen found.new.items ≡ map refused_seen found.old.items
         ++ map show (found_at place (site_of site.now).line (by_mended (fault_there m s) m s).0)) }
     ensures frames { let m = (site_of site.now).mended in let s = standing stack.old.items scopes.old in
         IfOk result (λ u. frames_in stack.new.items ≡ (by_mended (fault_there m s) m s).1.frames) }
@@ -75,7 +75,7 @@ fn take_in_mended<'i>(
 
 /// An item as refused for this fault.
 fn refused(place: usize, site: &Site<'_>, fault: Fault) -> Refused
-    ensures { shown result ≡ show (place, (site_of site.now).line, of_action fault) }
+    ensures { refused_seen result ≡ show (place, (site_of site.now).line, of_action fault) }
 {
     Refused {
         place,
@@ -87,7 +87,7 @@ fn refused(place: usize, site: &Site<'_>, fault: Fault) -> Refused
 /// The fault of an item, if it has one. The names that it does not see are forgotten, unless its place or its form
 /// decides.
 #[tactic(auto, using(crate::proofs::RefusalLemmas::place_decided))]
-fn faulted(names: &mut KnownNames<'_>, item: &Item, outside: Option<Frame>) -> Option<Fault>
+fn find_fault(names: &mut KnownNames<'_>, item: &Item, outside: Option<Frame>) -> Option<Fault>
     ensures value { option_map of_action result ≡ fault_at (role_of (item_of item.now)) (option_map frame_of outside)
         (names_at (role_of (item_of item.now)) (option_map frame_of outside) (known_names names.old)) }
     ensures names { known_names names.new ≡ names_left (option_map of_action result) (role_of (item_of item.now))
@@ -203,7 +203,7 @@ fn open<'i>(
 ) -> Result<(), AllocError>
     requires { levels (top (frames_in stack.old.items)) < most_levels }
     ensures frames { IfOk result (λ u. frames_in stack.new.items
-        ≡ entered (opening.control control) (names_held declared.now) (top (frames_in stack.old.items))
+        ≡ enter_opening (opening.control control) (names_held declared.now) (top (frames_in stack.old.items))
         (known_names names.old) ∷ frames_in stack.old.items) }
     ensures names { IfOk result (λ u. known_names names.new
         ≡ with_names (known_names names.old) (names_held declared.now).declares) }

@@ -10,7 +10,7 @@ ghost use Rattle.tmpl_syntax.specs.Place.Open.{is_template};
 ghost use Rattle.tmpl_syntax.specs.computed.Frames as spec;
 ghost use Rattle.tmpl_syntax.specs.computed.Frames.{closed_names, ended_all, fault_at, is_too_deep, known_after};
 ghost use Rattle.tmpl_syntax.specs.computed.Frames.{is_level, levels, names_at, opened_names};
-ghost use Rattle.tmpl_syntax.specs.computed.Frames.{entered, frames_after, parted_all};
+ghost use Rattle.tmpl_syntax.specs.computed.Frames.{enter_opening, frames_after, parted_all};
 ghost use Rattle.tmpl_syntax.specs.computed.Frames.{names_at, top, with_names};
 ghost use Rattle.tmpl_syntax.specs.Place.Opening as opening;
 
@@ -130,7 +130,7 @@ pub(super) fn enter_template(
     requires levels { is_level (opening_of opening) ≡ true
         → levels (top (frames_in stack.old.items)) < body.most_levels }
     ensures frames { IfOk result (λ u. frames_in stack.new.items
-        ≡ entered (opening_of opening) (role.names_given None) (top (frames_in stack.old.items))
+        ≡ enter_opening (opening_of opening) (role.names_given None) (top (frames_in stack.old.items))
         (scopes_of scopes.old).inner ∷ frames_in stack.old.items) }
     ensures names { IfOk result (λ u. scopes_of scopes.new
         ≡ opened_names (opening_of opening) [] (scopes_of scopes.old)) }
@@ -175,7 +175,7 @@ fn enter<'i>(
 ) -> Result<(), AllocError>
     requires { levels (top (frames_in stack.old.items)) < body.most_levels }
     ensures frames { let h = names_of (header_of header.now) in IfOk result (λ u. frames_in stack.new.items
-        ≡ entered (opening.control control) h (top (frames_in stack.old.items)) (known_names names.old)
+        ≡ enter_opening (opening.control control) h (top (frames_in stack.old.items)) (known_names names.old)
         ∷ frames_in stack.old.items) }
     ensures names { let h = names_of (header_of header.now) in IfOk result (λ u. known_names names.new
         ≡ with_names (known_names names.old) h.declares) }

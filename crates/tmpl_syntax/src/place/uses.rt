@@ -90,7 +90,7 @@ fn knows_operand(names: &KnownNames<'_>, operand: &Operand) -> bool
 
 /// Whether a variable is known: `$` alone always is.
 fn knows_variable(names: &KnownNames<'_>, name: &[u8]) -> bool
-    ensures { result ≡ knows (known_names names.now) (role.named name.now) }
+    ensures { result ≡ knows (known_names names.now) (role.names_of_name name.now) }
 {
     name.is_empty() || names.knows(name)
 }

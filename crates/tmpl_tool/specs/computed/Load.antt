@@ -8,22 +8,22 @@ use Rattle.tmpl_meaning.specs.Meaning.{Ran}
 use Rattle.tmpl_meaning.specs.declared.fault.RunFault.{RunFault}
 use Rattle.tmpl_tool.specs.Outcome.{line}
 use Rattle.tmpl_tool.specs.Source.{Bytes, Files}
-use Rattle.tmpl_tool.specs.Tool.{Failing, Parse, Early, asked_name, data_found, loaded, named_run, printed}
+use Rattle.tmpl_tool.specs.Tool.{Failing, Parse, Early, asked_name, data_found, load_each, named_run, printed}
 use Rattle.tmpl_tool.specs.Tool.{stop_if}
 use Rattle.tmpl_tool.specs.Words.{Wanted}
 
 -- the name that is asked for looked up, and the run
-abbrev pub rendered : Wanted → List Template → Option Value → Result Ran Early
-rendered w set input = named_run w.rules (asked_name w) set input
+abbrev pub render_wanted : Wanted → List Template → Option Value → Result Ran Early
+render_wanted w set input = named_run w.rules (asked_name w) set input
 
 -- the set printed, or the name looked up and the run
-abbrev pub finished : Wanted → List Template → Option Value → Result Ran Early
-finished w set input = and_then (stop_if w.print (printed set)) (λ u. rendered w set input)
+abbrev pub finish_wanted : Wanted → List Template → Option Value → Result Ran Early
+finish_wanted w set input = and_then (stop_if w.print (printed set)) (λ u. render_wanted w set input)
 
 -- the data, and then the run
 abbrev pub after_print : Files → Failing → Wanted → List Template → Result Ran Early
 after_print files fails w set =
-    and_then (data_found files (fails (length w.files)) w.data_file) (rendered w set)
+    and_then (data_found files (fails (length w.files)) w.data_file) (render_wanted w set)
 
 -- the set printed, or the data and so on
 abbrev pub after_set : Files → Failing → Wanted → List Template → Result Ran Early
@@ -31,7 +31,7 @@ after_set files fails w set = and_then (stop_if w.print (printed set)) (λ u. af
 
 -- each FILE, and so on
 abbrev pub after_words : Parse → Files → Wanted → Failing → Result Ran Early
-after_words parse files w fails = and_then (loaded parse files fails 0 [] w.files) (after_set files fails w)
+after_words parse files w fails = and_then (load_each parse files fails 0 [] w.files) (after_set files fails w)
 
 -- a line that says where a run failed, and then this
 abbrev pub line_at : RunFault → Bytes → Bytes

@@ -1,7 +1,7 @@
 //! What the command needs of the files: the templates, and the data of a run.
 ghost use Rattle.std.specs.Prelude.{◌≡◌, ◌-◌, ◌^◌, ◌<◌, IfOk};
 ghost use Rattle.tmpl_syntax.specs.View.{hash_view};
-ghost use Rattle.tmpl_tool.specs.View.{seen};
+ghost use Rattle.tmpl_tool.specs.View.{request_seen};
 ghost use Rattle.tmpl_tool.specs.Inputs.{ComesOfFiles, Counts, inputs_of, inputs_reads, inputs_seen};
 ghost use Rattle.tmpl_tool.specs.Tool.{IsParse, Parse};
 
@@ -34,7 +34,7 @@ pub fn read_inputs<'a, S: Source>(
     ensures counts { Counts (S.failures source.old) (S.failures source.new) result }
     ensures reads { (parse : Parse) → IsParse parse →
         ComesOfFiles (S.contents source.old) (S.asked source.old) (S.asked source.new)
-        (λ files. inputs_of parse files (seen request.now)) (λ files. inputs_reads parse files (seen request.now))
+        (λ files. inputs_of parse files (request_seen request.now)) (λ files. inputs_reads parse files (request_seen request.now))
         inputs_seen result }
     ensures hash { IfOk result (λ inputs. hash_view inputs.set ≡ names) }
 {

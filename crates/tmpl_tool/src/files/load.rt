@@ -2,7 +2,7 @@
 ghost use Rattle.std.specs.Prelude.{◌≡◌, ◌<◌, ◌^◌, ◌-◌, ◌∷◌, [], map};
 ghost use Rattle.tmpl_syntax.specs.View.{hash_view, set_view};
 ghost use Rattle.tmpl_syntax.specs.computed.Parse.{parsed};
-ghost use Rattle.tmpl_tool.specs.Tool.{file_reads, loaded, with_file};
+ghost use Rattle.tmpl_tool.specs.Tool.{file_reads, load_each, with_file};
 ghost use Rattle.tmpl_tool.specs.Inputs.{Adds, ComesOfFiles, Counts};
 
 use crate::files::source::{Source, SourceFault};
@@ -21,7 +21,7 @@ pub(crate) fn load_files<'a, S: Source>(
     ensures contents { S.contents source.new ≡ S.contents source.old }
     ensures counts { Counts (S.failures source.old) (S.failures source.new) result }
     ensures loads { ComesOfFiles (S.contents source.old) (S.asked source.old) (S.asked source.new)
-        (λ files fails. loaded parsed files fails 0 (set_view set.old) (map (λ s. s.now) names.now))
+        (λ files fails. load_each parsed files fails 0 (set_view set.old) (map (λ s. s.now) names.now))
         (λ files fails. file_reads parsed files fails 0 (set_view set.old) (map (λ s. s.now) names.now))
         (λ u. set_view set.new) result }
     ensures hash { hash_view set.new ≡ hash_view set.old }

@@ -1,5 +1,5 @@
 use Rattle.std.proofs.Common.{◌∙◌, ap, map, subst, sym}
-use Rattle.tmpl_syntax.specs.Set.{outlined}
+use Rattle.tmpl_syntax.specs.Set.{without_nodes}
 use Rattle.tmpl_syntax.specs.View.{set_view}
 use Rattle.tmpl_syntax.specs.declared.set.Set.{Set}
 use Rattle.tmpl_code.specs.Code.{Starts}
@@ -13,7 +13,7 @@ returns-clause-linked c =
 
 pub returns-clause-outline : goal.returns-clause-outline
 returns-clause-outline c =
-    c.in_ok-outline.ensures.value ∙ ap (λ (s : Set). map outlined (set_view s)) (sym c.of.ensures)
+    c.in_ok-outline.ensures.value ∙ ap (λ (s : Set). map without_nodes (set_view s)) (sym c.of.ensures)
 
 pub returns-clause-set : goal.returns-clause-set
 returns-clause-set c = ap set_view c.of.ensures

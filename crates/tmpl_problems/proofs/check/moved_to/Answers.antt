@@ -9,10 +9,10 @@ loop-refusal-preserved c =
     let all = c.args.refusals.now in
     let i = c.loop-refusal.refusal-index in
     let old = c.loop-refusal.moved.items in
-    let moved = c.placed.result in
+    let moved = c.place_refusal.result in
     let push = c.in_ok-push.ensures.items in record {
       refused = ap (map refused_in) push ∙ map-append refused_in old (moved ∷ []) ∙ ap (λ rs. rs ++ moved.refused ∷ []) c.loop-refusal.invariant.refused
-          ∙ ap (λ r. map refused_in (take i all) ++ r ∷ []) c.placed.ensures.refused
+          ∙ ap (λ r. map refused_in (take i all) ++ r ∷ []) c.place_refusal.ensures.refused
           ∙ sym (map-append refused_in (take i all) (_ ∷ [])) ∙ ap (map refused_in) (sym (take_more all i _ c.loop-refusal-test.true));
-      located = located-more c.args.bytes.now old c.push.new.self.items moved push c.loop-refusal.invariant.located c.placed.ensures.located;
+      located = located-more c.args.bytes.now old c.push.new.self.items moved push c.loop-refusal.invariant.located c.place_refusal.ensures.located;
     }

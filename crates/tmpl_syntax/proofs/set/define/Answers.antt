@@ -3,7 +3,7 @@ use Rattle.std.specs.Option.{is_some}
 use Rattle.std.proofs.lemmas.Bool.{false≢true}
 use Rattle.tmpl_syntax.specs.View.{entries_view, template_of, tree_of}
 use Rattle.tmpl_syntax.specs.Set.{tree_named, is_blank}
-use Rattle.tmpl_syntax.proofs.SetLemmas.{defined-insert}
+use Rattle.tmpl_syntax.proofs.SetLemmas.{add_definition-insert}
 use Rattle.tmpl_syntax.proofs.set.define.Goals as goal
 
 -- what holds where a call succeeds holds where it does
@@ -19,4 +19,4 @@ returns-then-not-keeps-clause-defined c =
     ap (λ name. is_blank (tree_of c.args.tree).nodes && is_some (tree_named name (entries_view es))) (sym c.as_slice.ensures.value)
     ∙ sym c.keeps.ensures ∙ c.if-not-keeps.true in
     ap (map template_of) (where_ok c.insert.result (c.insert.ensures.succeeds c.requires) c.insert.ensures.entries)
-    ∙ defined-insert es c.args.name c.args.tree added
+    ∙ add_definition-insert es c.args.name c.args.tree added

@@ -9,7 +9,7 @@ use Rattle.tmpl_tool.specs.Help.{asks_help}
 use Rattle.tmpl_tool.specs.Inputs.{inputs_of, inputs_seen, stop_seen}
 use Rattle.tmpl_tool.specs.Tool.{no_read, tool_answer, tool_reads}
 use Rattle.tmpl_tool.specs.declared.status.Status.{Status}
-use Rattle.tmpl_tool.specs.View.{seen}
+use Rattle.tmpl_tool.specs.View.{request_seen}
 use Rattle.tmpl_tool.proofs.LoadLemmas.{asked-nothing}
 use Rattle.tmpl_tool.proofs.MessageLemmas.{nothing_out}
 use Rattle.tmpl_tool.proofs.StageLemmas.{gives_help}
@@ -22,13 +22,13 @@ returns-then-asks_help-clause-told g c parse is =
     let helps : asks_help words ≡ true = search rules in
     let asked = g.S.Source.asked c.args.source.now in
     if_told _ (g.S.Source.contents c.args.source.now) (λ files told.
-    inl (refl, inl (rw helps (asked-nothing asked)), rw (c.stopped.ensures.status, gives_help parse words files no_read helps) c.put_out.ensures.gives.outcome))
+    inl (refl, inl (rw helps (asked-nothing asked)), rw (c.end_with.ensures.status, gives_help parse words files no_read helps) c.put_out.ensures.gives.outcome))
 
 pub returns-in-Ok-read_inputs-clause-told : goal.returns-in-Ok-read_inputs-clause-told
 returns-in-Ok-read_inputs-clause-told g c parse is =
     let words = map (λ word. string_bytes word) c.args.words.now in
     let helps : asks_help words ≡ false = search rules in
-    let w = seen c.in-Ok.request in
+    let w = request_seen c.in-Ok.request in
     let inputs = c.in-Ok-read_inputs.inputs in
     let same : option_map (λ d. value_of d.now) c.as_ref.result ≡ option_map value_of inputs.data = search rules in
     if_told _ (g.S.Source.contents c.args.source.now) (λ files told.
@@ -49,7 +49,7 @@ pub returns-in-Ok-read_inputs-clause-inputs : goal.returns-in-Ok-read_inputs-cla
 returns-in-Ok-read_inputs-clause-inputs g c =
     let words = map (λ word. string_bytes word) c.args.words.now in
     let helps : asks_help words ≡ false = search rules in
-    let w = seen c.in-Ok.request in
+    let w = request_seen c.in-Ok.request in
     let inputs = c.in-Ok-read_inputs.inputs in (
       c.in-Ok-read_inputs.ensures.hash,
       λ parse is. if_told _ (g.S.Source.contents c.args.source.now) (λ files told.
@@ -61,19 +61,19 @@ pub returns-in-Ok-clause-told : goal.returns-in-Ok-clause-told
 returns-in-Ok-clause-told g c parse is =
     let words = map (λ word. string_bytes word) c.args.words.now in
     let helps : asks_help words ≡ false = search rules in
-    let w = seen c.in-Ok.request in
+    let w = request_seen c.in-Ok.request in
     if_told _ (g.S.Source.contents c.args.source.now) (λ files told.
     let source = g.S.Source.failures in
     let asked = g.S.Source.asked in
     let out = g.O.Sink.so_far c.args.out.now in
     let err = sunk (g.E.Sink.so_far c.args.err.now) (g.E.Sink.so_far c.refuse.new.err) in
-    let code = c.stopped-in-Err.result.status.code in
+    let code = c.end_with-in-Err.result.status.code in
     accepted err code parse (sunk out out) (source c.args.source.now) (source c.read_inputs.new.source) (asked c.args.source.now)
     (asked c.read_inputs.new.source) w files words (asks words w c.in-Ok.ensures helps)
     (stops err code parse out (source c.args.source.now) (source c.read_inputs.new.source) (asked c.args.source.now)
     (asked c.read_inputs.new.source) w files c.in-Err.stop c.in-Err.ensures.counts
     (stops_after parse files w _ (stop_seen c.in-Err.stop) (of_told _ _ files told (c.in-Err.ensures.reads parse is)))
-    (ap (λ (s : Status). s.code) c.stopped-in-Err.ensures.status ∙ c.refuse.ensures.code) c.refuse.ensures.line))
+    (ap (λ (s : Status). s.code) c.end_with-in-Err.ensures.status ∙ c.refuse.ensures.code) c.refuse.ensures.line))
 
 pub returns-clause-told : goal.returns-clause-told
 returns-clause-told g c parse is =
@@ -81,11 +81,11 @@ returns-clause-told g c parse is =
     let err = sunk (g.E.Sink.so_far c.args.err.now) (g.E.Sink.so_far c.out_of_memory.new.err) in
     let asked = g.S.Source.asked c.args.source.now in
     if_told _ (g.S.Source.contents c.args.source.now) (λ files told.
-    let status : c.stopped-in-Err-OutOfMemory.result.status.code ≡ 7 =
-    ap (λ (s : Status). s.code) c.stopped-in-Err-OutOfMemory.ensures.status ∙ c.out_of_memory.ensures.code in
+    let status : c.end_with-in-Err-OutOfMemory.result.status.code ≡ 7 =
+    ap (λ (s : Status). s.code) c.end_with-in-Err-OutOfMemory.ensures.status ∙ c.out_of_memory.ensures.code in
     inl (
       refl,
       inr (status, ([], tool_reads parse words files no_read, refl, asked-nothing asked)),
-      nothing_out (tool_answer parse words files no_read) (g.O.Sink.so_far c.args.out.now) err c.stopped-in-Err-OutOfMemory.result.status.code status
+      nothing_out (tool_answer parse words files no_read) (g.O.Sink.so_far c.args.out.now) err c.end_with-in-Err-OutOfMemory.result.status.code status
           c.out_of_memory.ensures.line,
     ))

@@ -7,8 +7,8 @@ use Rattle.tmpl_syntax.specs.computed.Parse.{parsed}
 use Rattle.tmpl_meaning.proofs.ToldLemmas.{err_up, if_told, of_told}
 use Rattle.tmpl_tool.specs.Source.{Asked, Bytes, Files}
 use Rattle.tmpl_tool.specs.declared.stop.Stop.{Stop}
-use Rattle.tmpl_tool.specs.Tool.{Parse, file_reads, loaded, no_read}
-use Rattle.tmpl_tool.specs.View.{seen}
+use Rattle.tmpl_tool.specs.Tool.{Parse, file_reads, load_each, no_read}
+use Rattle.tmpl_tool.specs.View.{request_seen}
 use Rattle.tmpl_tool.specs.Inputs.{ComesOf, inputs_of, inputs_reads, inputs_seen, stop_seen}
 use Rattle.tmpl_tool.proofs.LoadLemmas.{asked-nothing}
 use Rattle.tmpl_tool.proofs.ParseLemmas.{for_each}
@@ -18,15 +18,15 @@ use Rattle.tmpl_tool.proofs.files.inputs.read_inputs.Goals as goal
 -- the templates of FILEs, which are given as a slice, and what is read for them
 loads_as : (Made : List Bytes → Type 0) (files : Files) (old : List Template) (given names : List (Bor Bytes)) (set : List Template)
     (r : Result (Unit {0}) Stop) → old ≡ [] → given ≡ names
-    → ComesOf Made (λ fails. loaded parsed files fails 0 old (map (λ s. s.now) given)) (λ fails. file_reads parsed files fails 0 old (map (λ s. s.now) given))
+    → ComesOf Made (λ fails. load_each parsed files fails 0 old (map (λ s. s.now) given)) (λ fails. file_reads parsed files fails 0 old (map (λ s. s.now) given))
     (λ u. set) r
-    → ComesOf Made (λ fails. loaded parsed files fails 0 [] (map (λ s. s.now) names)) (λ fails. file_reads parsed files fails 0 [] (map (λ s. s.now) names))
+    → ComesOf Made (λ fails. load_each parsed files fails 0 [] (map (λ s. s.now) names)) (λ fails. file_reads parsed files fails 0 [] (map (λ s. s.now) names))
     (λ u. set) r
 loads_as Made files old given names set r none same h = rw (none, same) at h
 
 pub returns-in_err-load_files-clause-reads : goal.returns-in_err-load_files-clause-reads
 returns-in_err-load_files-clause-reads g c =
-    let w = seen c.args.request.now in
+    let w = request_seen c.args.request.now in
     let Made = Asked (g.S.Source.asked c.args.source.now) (g.S.Source.asked c.load_files.new.source) in
     for_each (λ parse. IfSome (g.S.Source.contents c.args.source.now) (λ files. ComesOf Made (inputs_of parse files w) (inputs_reads parse files w) inputs_seen
     _)) (
@@ -39,7 +39,7 @@ returns-in_err-load_files-clause-reads g c =
 
 pub returns-in_err-data-clause-reads : goal.returns-in_err-data-clause-reads
 returns-in_err-data-clause-reads g c =
-    let w = seen c.args.request.now in
+    let w = request_seen c.args.request.now in
     let before = g.S.Source.asked c.args.source.now in
     let between = g.S.Source.asked c.load_files.new.source in
     let after = g.S.Source.asked c.read_data.new.source in
@@ -57,7 +57,7 @@ returns-in_err-data-clause-reads g c =
 
 pub returns-clause-reads : goal.returns-clause-reads
 returns-clause-reads g c parse is =
-    let w = seen c.args.request.now in
+    let w = request_seen c.args.request.now in
     let set = set_view c.load_files.new.set in
     let input = option_map value_of c.in_ok-data.data in
     let before = g.S.Source.asked c.args.source.now in
@@ -73,7 +73,7 @@ returns-clause-reads g c parse is =
 
 pub returns-then-request-clause-reads : goal.returns-then-request-clause-reads
 returns-then-request-clause-reads g c parse is =
-    let w = seen c.args.request.now in
+    let w = request_seen c.args.request.now in
     let set = set_view c.load_files.new.set in
     let before = g.S.Source.asked c.args.source.now in
     let between = g.S.Source.asked c.load_files.new.source in

@@ -4,7 +4,7 @@ use Rattle.tmpl_syntax.specs.View.{set_view}
 use Rattle.tmpl_syntax.specs.computed.Parse.{parsed}
 use Rattle.tmpl_meaning.proofs.ToldLemmas.{err_up, if_told, of_told}
 use Rattle.tmpl_tool.specs.Source.{Asked, Bytes}
-use Rattle.tmpl_tool.specs.Tool.{file_reads, loaded}
+use Rattle.tmpl_tool.specs.Tool.{file_reads, load_each}
 use Rattle.tmpl_tool.specs.Inputs.{ComesOf, stop_seen}
 use Rattle.tmpl_tool.proofs.LoadLemmas.{ComesTo, all_come, one_more, stops_there}
 use Rattle.tmpl_tool.proofs.files.load.load_files.Goals as goal
@@ -21,7 +21,7 @@ returns-in_err-load_file-clause-loads g c =
     let between = g.S.Source.asked c.loop-name.source in
     let after = g.S.Source.asked c.load_file.new.source in
     if_told _ (g.S.Source.contents c.args.source.now) (λ files is.
-    err_up (ComesOf (Asked before after) (λ fails. loaded parsed files fails 0 start (map (λ s. s.now) names))
+    err_up (ComesOf (Asked before after) (λ fails. load_each parsed files fails 0 start (map (λ s. s.now) names))
     (λ fails. file_reads parsed files fails 0 start (map (λ s. s.now) names)) _) c.from_residual.result _ c.from_residual.ensures.1
     (stops_there before between after files start (map (λ s. s.now) names) i set _ (map (λ s. s.now) (drop (i + 1) names))
     (subst (λ (ns : List (Bor Bytes)). ComesTo (Asked before between) files start (map (λ s. s.now) names) i set (map (λ s. s.now) ns))

@@ -4,7 +4,7 @@ use Rattle.tmpl_syntax.specs.Place.Role.{role_of}
 use Rattle.tmpl_syntax.specs.computed.Fault.{of_action}
 use Rattle.tmpl_syntax.specs.computed.View.{frame_of, item_of, known_names}
 use Rattle.tmpl_syntax.proofs.RefusalLemmas.{names_decided}
-use Rattle.tmpl_syntax.proofs.place.mend.faulted.Goals as goal
+use Rattle.tmpl_syntax.proofs.place.mend.find_fault.Goals as goal
 
 pub returns-clause-names : goal.returns-clause-names
 returns-clause-names c = c.forget.ensures ∙ names_decided (role_of (item_of c.args.item.now)) (option_map frame_of c.args.outside)
