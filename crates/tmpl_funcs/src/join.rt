@@ -78,7 +78,7 @@ fn add_parted(operands: &[Cell<'_>], bytes: &mut Vec<u8>) -> Result<(), AllocErr
 
 /// Adds a space, but nothing between what is joined.
 fn add_space_unless(joined: bool, bytes: &mut Vec<u8>) -> Result<(), AllocError>
-    ensures { OnOk result (bytes.new.items ≡ bytes.old.items ++ space_unless join_operands) }
+    ensures { OnOk result (bytes.new.items ≡ bytes.old.items ++ space_unless joined) }
 {
     if joined {
         Ok(())
