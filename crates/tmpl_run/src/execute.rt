@@ -54,7 +54,10 @@ impl<'m, 'a> Machine<'m, 'a> {
         match *instruction {
             Instruction::Spend(line) => self.spend(options, line),
             Instruction::Put { text, line } => {
-                self.put_text(options, line as u64, program.tables.text(text), piece, sink)
+                self.take_step(options, line as u64)?;
+                self.place += 1;
+                piece.put(sink, program.tables.text(text))?;
+                Ok(Flow::On)
             }
             Instruction::PushNothing => {
                 self.give(Val::Nothing);
@@ -91,7 +94,12 @@ impl<'m, 'a> Machine<'m, 'a> {
                 self.show(piece, sink)?;
                 Ok(Flow::On)
             }
-            Instruction::ShowDot { line } => self.show_dot(options, line as u64, piece, sink),
+            Instruction::ShowDot { line } => {
+                self.take_step(options, line as u64)?;
+                self.place += 1;
+                piece.show(sink, &self.dot)?;
+                Ok(Flow::On)
+            }
             Instruction::ShowFields { names, line } => {
                 self.show_fields(
                     options,
@@ -102,7 +110,10 @@ impl<'m, 'a> Machine<'m, 'a> {
                 )
             }
             Instruction::ShowSlot { slot, line } => {
-                self.show_slot(options, line as u64, slot as usize, piece, sink)
+                self.take_step(options, line as u64)?;
+                self.place += 1;
+                self.stack.show_slot(slot as usize, piece, sink)?;
+                Ok(Flow::On)
             }
             Instruction::ShowSlotField { slot, name, line } => {
                 self.show_slot_field(
