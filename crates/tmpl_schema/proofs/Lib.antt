@@ -1,11 +1,5 @@
-pub mod KindLemmas
-pub mod ShapeLemmas
-pub mod FormatLemmas
-pub mod FieldLemmas
 pub mod VariableLemmas
-pub mod CallLemmas
 pub mod RunLemmas
-pub mod NameLemmas
 pub mod SafeLemmas
 pub mod ViewLemmas
 pub mod StepLemmas

@@ -8,11 +8,11 @@ use Rattle.tmpl_grammar.specs.declared.tree.Operand as held
 use Rattle.tmpl_funcs.specs.declared.func.Func.{Func}
 use Rattle.tmpl_meaning.specs.Pipeline.{operand_count}
 use Rattle.tmpl_meaning.specs.declared.missing_key.MissingKey.{MissingKey}
-use Rattle.tmpl_schema.specs.Shape.{Shape}
-use Rattle.tmpl_schema.specs.computed.Shapes.{Base}
-use Rattle.tmpl_schema.specs.computed.Calls.{call_shape}
+use Rattle.tmpl_shape.specs.Shape.{Shape}
+use Rattle.tmpl_shape.specs.computed.Shapes.{Base}
+use Rattle.tmpl_shape.specs.computed.Calls.{call_shape}
 use Rattle.tmpl_schema.specs.computed.Check.{State, operand_shape, operand_shapes, printed_shape, text_of}
-use Rattle.tmpl_schema.specs.computed.Formats.{printf_shape}
+use Rattle.tmpl_shape.specs.computed.Formats.{printf_shape}
 use Rattle.tmpl_schema.specs.computed.View.{argument_shapes, called_shape}
 
 pub operand_count-of : (os : List held.Operand) → operand_count (operands_in os) ≡ length os

@@ -19,16 +19,16 @@ use Rattle.tmpl_meaning.specs.Meaning.{meanings, scope, setting_of, show, spend,
 use Rattle.tmpl_meaning.specs.Pipeline.{Environment, commands_value}
 use Rattle.tmpl_meaning.specs.declared.missing_key.MissingKey.{MissingKey}
 use Rattle.tmpl_meaning.proofs.PartLemmas.{controlled, handing, left_by, on_end, on_turn, one_of, over, run_called, scoped, spend_if, turn, uncalled, without_key}
-use Rattle.tmpl_schema.specs.Shape.{Shape, nothings, HasShape, Names}
+use Rattle.tmpl_shape.specs.Shape.{Shape, nothings, HasShape, Names}
 use Rattle.tmpl_schema.specs.Safe.{MayEnd}
-use Rattle.tmpl_schema.specs.computed.Means.{Means}
-use Rattle.tmpl_schema.specs.computed.Shapes.{Base, within, filled, Visit, visit_of}
+use Rattle.tmpl_shape.specs.computed.Means.{Means}
+use Rattle.tmpl_shape.specs.computed.Shapes.{Base, within, filled, Visit, visit_of}
 use Rattle.tmpl_schema.specs.computed.Check.{Known, State, Callee, handed, absent, Table, Checked, last_of, all_within, all_joined, if_within, after_both, settled, settled_soon, kept_by, left_with}
 use Rattle.tmpl_schema.specs.computed.Check.{holds_loop, dot_in, in_body, in_other, after_choice, in_turn, turned, after_range, after_call, after_control, after_node, after_nodes}
 use Rattle.tmpl_schema.specs.computed.Check.{pipeline_shape, narrowed, narrowed_empty, bound_shapes, at_start, is_safe}
 use Rattle.tmpl_schema.specs.computed.Safe.{IsCallee, IsChecked}
-use Rattle.tmpl_schema.proofs.ShapeLemmas.{within-has}
-use Rattle.tmpl_schema.proofs.FieldLemmas.{Gives, Each, IsVisit, Visits, filled-has, visit-gives}
+use Rattle.tmpl_shape.proofs.ShapeLemmas.{within-has}
+use Rattle.tmpl_shape.proofs.FieldLemmas.{Gives, Each, IsVisit, Visits, filled-has, visit-gives}
 use Rattle.tmpl_schema.proofs.VariableLemmas.{HasKnown, Fits, place, known-length, last-known, last-last, within-known, if_within-some, both-known, bound-known}
 use Rattle.tmpl_schema.proofs.VariableLemmas.{pipeline-gives, narrowed-fits, empty-fits}
 

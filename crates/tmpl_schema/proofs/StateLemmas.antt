@@ -4,7 +4,7 @@ use Rattle.tmpl_grammar.specs.Tree.{Operand, operand}
 use Rattle.tmpl_grammar.specs.View.{commands_in, operands_in}
 use Rattle.tmpl_grammar.specs.declared.tree.Operand as held
 use Rattle.tmpl_grammar.specs.declared.tree.Command as held_command
-use Rattle.tmpl_schema.specs.computed.Shapes.{Base}
+use Rattle.tmpl_shape.specs.computed.Shapes.{Base}
 use Rattle.tmpl_schema.specs.computed.Check.{State, narrowed, narrowed_alone, narrowed_by_pipeline, narrowed_empty, two_of}
 
 pub not-alone : (base : Base) (o : Operand) (os : List held.Operand) (k : State) → 1 ≤ length os → narrowed_alone base o (operands_in os) k ≡ k

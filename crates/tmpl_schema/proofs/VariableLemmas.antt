@@ -23,20 +23,20 @@ use Rattle.tmpl_meaning.specs.Pipeline.{Environment, Given, Place, chain, field_
 use Rattle.tmpl_meaning.specs.Meaning.{assign_variable, bind}
 use Rattle.tmpl_meaning.specs.declared.missing_key.MissingKey.{MissingKey}
 use Rattle.tmpl_meaning.specs.declared.missing_key.MissingKey.TheVariants as mode
-use Rattle.tmpl_schema.specs.Shape.{Fields, Shape, never, nothings, nulls, texts, record_of, either, named, HasShape, IsField, Names}
-use Rattle.tmpl_schema.specs.declared.kind.Kind.TheVariants.{Blank}
-use Rattle.tmpl_schema.specs.computed.Formats.{printf_shape}
-use Rattle.tmpl_schema.specs.computed.Means.{Means}
-use Rattle.tmpl_schema.specs.computed.Shapes.{Base, within, both, any_field, filled, has_kind, joined, keyed_shape, null_gone, refined, chain_shape, entry_shape, index_shape, index_shape_by}
-use Rattle.tmpl_schema.specs.computed.Calls.{call_shape, shape_by_function}
+use Rattle.tmpl_shape.specs.Shape.{Fields, Shape, never, nothings, nulls, texts, record_of, either, named, HasShape, IsField, Names}
+use Rattle.tmpl_shape.specs.declared.kind.Kind.TheVariants.{Blank}
+use Rattle.tmpl_shape.specs.computed.Formats.{printf_shape}
+use Rattle.tmpl_shape.specs.computed.Means.{Means}
+use Rattle.tmpl_shape.specs.computed.Shapes.{Base, within, both, any_field, filled, has_kind, joined, keyed_shape, null_gone, refined, chain_shape, entry_shape, index_shape, index_shape_by}
+use Rattle.tmpl_shape.specs.computed.Calls.{call_shape, shape_by_function}
 use Rattle.tmpl_schema.specs.computed.Check.{narrowed_by, narrowed_by_all, narrowed_by_call, narrowed_by_constant, narrowed_by_index, narrowed_by_nil, narrowed_empty, deciding_shape, passing_shape, passed, operand_shapes, junction_shape, commands_shape}
 use Rattle.tmpl_schema.specs.computed.Check.{Known, State, variable_shape, assigned_shape, bound_shapes, refined_variable, all_within, all_joined, last_of, if_within}
 use Rattle.tmpl_schema.specs.computed.Check.{after_both, entry_along, entry_by, operand_shape, indexed_shape, printed_shape, command_shape, pipeline_shape, narrowed}
-use Rattle.tmpl_schema.proofs.KindLemmas.{has_kind-has}
-use Rattle.tmpl_schema.proofs.ShapeLemmas.{same_name, within-has, joined-left, joined-right, null_gone-has}
-use Rattle.tmpl_schema.proofs.FormatLemmas.{printf-gives}
-use Rattle.tmpl_schema.proofs.FieldLemmas.{Gives, any-has, at-entry, both-left, both-right, entry-gives, chain-gives, filled-has, full-thing, refined-has}
-use Rattle.tmpl_schema.proofs.CallLemmas.{HaveShapes, call-gives}
+use Rattle.tmpl_shape.proofs.KindLemmas.{has_kind-has}
+use Rattle.tmpl_shape.proofs.ShapeLemmas.{same_name, within-has, joined-left, joined-right, null_gone-has}
+use Rattle.tmpl_shape.proofs.FormatLemmas.{printf-gives}
+use Rattle.tmpl_shape.proofs.FieldLemmas.{Gives, any-has, at-entry, both-left, both-right, entry-gives, chain-gives, filled-has, full-thing, refined-has}
+use Rattle.tmpl_shape.proofs.CallLemmas.{HaveShapes, call-gives}
 use Rattle.tmpl_funcs.specs.Func.{takes}
 use Rattle.tmpl_funcs.specs.declared.func.Func.{Func}
 use Rattle.tmpl_funcs.specs.declared.func.Func.TheVariants as func

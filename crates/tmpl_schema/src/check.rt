@@ -4,7 +4,7 @@
 ghost use Rattle.std.specs.Prelude.{◌≡◌, Contains, OnOk, Some, true};
 ghost use Rattle.tmpl_syntax.specs.View.{set_view, tree_of};
 ghost use Rattle.tmpl_schema.specs.Safe.{NeverFails};
-ghost use Rattle.tmpl_schema.specs.View.{schema_of, shape_of};
+ghost use Rattle.tmpl_shape.specs.View.{schema_of, shape_of};
 ghost use Rattle.tmpl_schema.specs.computed.Check.{is_safe};
 ghost use Rattle.tmpl_schema.specs.computed.Safe.{EachCallee, IsCallee, NeverFailsIn};
 ghost use Rattle.tmpl_schema.specs.computed.View.{base_of, callee_of, entries_of, table_of};

@@ -3,7 +3,7 @@
 
 ghost use Rattle.std.specs.Prelude.{◌≡◌, IfOk, OnOk, Some, length, ◌∷◌};
 ghost use Rattle.tmpl_grammar.specs.View.{binding_of};
-ghost use Rattle.tmpl_schema.specs.View.{shape_of};
+ghost use Rattle.tmpl_shape.specs.View.{shape_of};
 ghost use Rattle.tmpl_schema.specs.computed.Check.{after_both, all_joined, all_within, assigned_shape, bound_shapes, holds_loop};
 ghost use Rattle.tmpl_schema.specs.computed.Check.{last_of, left_with, refined_variable, variable_shape};
 ghost use Rattle.tmpl_schema.specs.computed.View.{base_of, is_longer, known_of, known_seen, seen};

@@ -4,8 +4,8 @@
 ghost use Rattle.std.specs.Prelude.{◌≡◌, IfOk, None, Some, option_map};
 ghost use Rattle.std.specs.Option.{option_map_or};
 ghost use Rattle.tmpl_grammar.specs.View.{header_of, pipeline_of};
-ghost use Rattle.tmpl_schema.specs.Shape.{nothings};
-ghost use Rattle.tmpl_schema.specs.View.{shape_of};
+ghost use Rattle.tmpl_shape.specs.Shape.{nothings};
+ghost use Rattle.tmpl_shape.specs.View.{shape_of};
 ghost use Rattle.tmpl_schema.specs.computed.Check.{after_node, after_nodes, in_body, in_other, in_turn, left_with};
 ghost use Rattle.tmpl_schema.specs.computed.Check.{kept_by, pipeline_shape, settled, settled_soon};
 ghost use Rattle.tmpl_schema.specs.computed.View.{after_action, after_choice_by, after_range_by, base_of, known_of, known_seen, ranged_by, state_of, table_of, turned_by, visit_seen};

@@ -3,7 +3,7 @@
 
 ghost use Rattle.std.specs.Prelude.{◌≡◌, IfOk, option_map};
 ghost use Rattle.tmpl_grammar.specs.View.{commands_in, operand_of, operands_in};
-ghost use Rattle.tmpl_schema.specs.View.{shape_of};
+ghost use Rattle.tmpl_shape.specs.View.{shape_of};
 ghost use Rattle.tmpl_schema.specs.computed.Check.{at_start, narrowed, narrowed_alone, narrowed_by, narrowed_by_all, narrowed_by_call, narrowed_by_constant, narrowed_by_group, narrowed_by_index, narrowed_by_key, narrowed_by_nil, narrowed_call, two_of};
 ghost use Rattle.tmpl_schema.specs.computed.Check.{narrowed_command, narrowed_empty, narrowed_empty_command, narrowed_not};
 ghost use Rattle.tmpl_schema.specs.computed.View.{base_of, state_of};

@@ -11,16 +11,16 @@ use Rattle.tmpl_grammar.specs.declared.tree.Control.TheVariants as control
 use Rattle.tmpl_syntax.specs.Tree as tree
 use Rattle.tmpl_syntax.specs.Tree.{NodeKind, text, action, control_node, break_node, continue_node, template_node, Nodes}
 use Rattle.tmpl_meaning.specs.declared.missing_key.MissingKey.{MissingKey}
-use Rattle.tmpl_schema.specs.Shape.{Shape, nothings, truths, numbers, texts}
+use Rattle.tmpl_shape.specs.Shape.{Shape, nothings, truths, numbers, texts}
 use Rattle.tmpl_funcs.specs.Func.{takes}
 use Rattle.tmpl_funcs.specs.declared.func.Func.{Func}
 use Rattle.tmpl_funcs.specs.declared.func.Func.TheVariants.{And, Not, Index, Eq, Ne}
 use Rattle.tmpl_meaning.specs.Pipeline.{operand_count}
-use Rattle.tmpl_schema.specs.declared.kind.Kind.TheVariants.{Blank}
-use Rattle.tmpl_schema.specs.computed.Shapes.{Base, has_kind, within, joined, both, filled, null_gone, refined, chain_shape}
-use Rattle.tmpl_schema.specs.computed.Shapes.{index_shape, Visit, visit_of}
-use Rattle.tmpl_schema.specs.computed.Calls.{call_shape, shape_by_function}
-use Rattle.tmpl_schema.specs.computed.Formats.{printf_shape}
+use Rattle.tmpl_shape.specs.declared.kind.Kind.TheVariants.{Blank}
+use Rattle.tmpl_shape.specs.computed.Shapes.{Base, has_kind, within, joined, both, filled, null_gone, refined, chain_shape}
+use Rattle.tmpl_shape.specs.computed.Shapes.{index_shape, Visit, visit_of}
+use Rattle.tmpl_shape.specs.computed.Calls.{call_shape, shape_by_function}
+use Rattle.tmpl_shape.specs.computed.Formats.{printf_shape}
 
 -- the shapes of the variables in scope, the newest first
 abbrev pub Known : Type 0

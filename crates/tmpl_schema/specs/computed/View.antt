@@ -2,9 +2,9 @@
 use Rattle.std.specs.Prelude.{ℕ, Bool, true, false, ◌||◌, List, [], ◌∷◌, ◌++◌, map, Option, Some, None, option_to_list, if◌then◌else◌}
 use Rattle.std.specs.Option.{option_and_then, option_map, option_map_or}
 use Rattle.std.specs.Borrow.{Bor}
-use Rattle.tmpl_schema.specs.Shape as spec
-use Rattle.tmpl_schema.specs.View.{defs_in, shape_of}
-use Rattle.tmpl_schema.specs.computed.Calls.{call_shape}
+use Rattle.tmpl_shape.specs.Shape as spec
+use Rattle.tmpl_shape.specs.View.{defs_in, shape_of}
+use Rattle.tmpl_shape.specs.computed.Calls.{call_shape}
 use Rattle.tmpl_schema.specs.computed.Check.{Known, State, Callee, Table, handed, absent, operand_shapes, after_choice, after_nodes}
 use Rattle.tmpl_schema.specs.computed.Check.{after_range, bound_shapes, pipeline_shape, turned}
 use Rattle.tmpl_grammar.specs.Tree.{Header}
@@ -17,8 +17,8 @@ use Rattle.tmpl_schema.specs.declared.table.Entry as held_entry
 use Rattle.tmpl_grammar.specs.Tree.{Operands}
 use Rattle.tmpl_funcs.specs.declared.func.Func.{Func}
 use Rattle.tmpl_meaning.specs.declared.missing_key.MissingKey.{MissingKey}
-use Rattle.tmpl_schema.specs.computed.Shapes as computed
-use Rattle.tmpl_schema.specs.computed.Shapes.{gone_step, has_name, if_more, null_gone_by, refined_by, refined_step, visit_of, within_by}
+use Rattle.tmpl_shape.specs.computed.Shapes as computed
+use Rattle.tmpl_shape.specs.computed.Shapes.{gone_step, has_name, if_more, null_gone_by, refined_by, refined_step, visit_of, within_by}
 use Rattle.tmpl_schema.specs.declared.call.Shapes as held_shapes
 use Rattle.tmpl_schema.specs.declared.call.Shapes.{fold-Shapes}
 use Rattle.tmpl_schema.specs.declared.call.Shapes.TheOpen.{Shapes-F, Argument-F}
@@ -26,9 +26,9 @@ use Rattle.tmpl_schema.specs.declared.known.Known as held_known
 use Rattle.tmpl_schema.specs.declared.known.Known.{fold-Known}
 use Rattle.tmpl_schema.specs.declared.known.Known.TheOpen.{Known-F, Variable-F}
 use Rattle.tmpl_schema.specs.declared.state.State as held_state
-use Rattle.tmpl_schema.specs.declared.visit.Visit as held_visit
-use Rattle.tmpl_schema.specs.declared.shape.Base as held_base
-use Rattle.tmpl_schema.specs.declared.shape.Shape as held
+use Rattle.tmpl_shape.specs.declared.visit.Visit as held_visit
+use Rattle.tmpl_shape.specs.declared.shape.Base as held_base
+use Rattle.tmpl_shape.specs.declared.shape.Shape as held
 
 abbrev pub base_of : held_base.Base → computed.Base
 base_of base = record { defs = defs_in base.definitions.now; names = base.names; limit = base.limit }

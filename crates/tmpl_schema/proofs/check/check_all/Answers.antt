@@ -2,7 +2,7 @@ use Rattle.std.proofs.Common.{rules, ◌≡◌, true, Option, Some}
 use Rattle.tmpl_syntax.specs.Set.{tree_named}
 use Rattle.tmpl_syntax.specs.Tree.{Tree}
 use Rattle.tmpl_syntax.specs.View.{set_view, tree_of}
-use Rattle.tmpl_schema.specs.View.{shape_of}
+use Rattle.tmpl_shape.specs.View.{shape_of}
 use Rattle.tmpl_schema.specs.computed.Check.{is_safe}
 use Rattle.tmpl_schema.specs.computed.Safe.{EachCallee}
 use Rattle.tmpl_schema.specs.computed.View.{base_of, entries_of, table_of}

@@ -4,7 +4,7 @@ use Rattle.tmpl_grammar.specs.declared.tree.Control.TheVariants as control
 use Rattle.tmpl_syntax.specs.Tree.{control_node}
 use Rattle.tmpl_syntax.specs.View.{control_of, nodes_in}
 use Rattle.tmpl_syntax.specs.declared.tree.ControlNode.{out-ControlNode}
-use Rattle.tmpl_schema.specs.View.{shape_of}
+use Rattle.tmpl_shape.specs.View.{shape_of}
 use Rattle.tmpl_schema.specs.computed.Check.{Known, State, after_nodes, holds_loop, pipeline_shape, settled, settled_soon}
 use Rattle.tmpl_schema.specs.computed.View.{base_of, known_of, known_seen, state_of, table_of, turned_by, visit_seen}
 use Rattle.tmpl_schema.proofs.ControlLemmas.{control_seen, range-control, range-is}
