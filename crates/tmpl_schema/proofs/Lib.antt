@@ -4,7 +4,7 @@ pub mod SafeLemmas
 pub mod ViewLemmas
 pub mod StepLemmas
 pub mod LengthLemmas
-pub mod StateLemmas
+pub mod FactLemmas
 pub mod PipelineLemmas
 pub mod NodeLemmas
 pub mod ControlLemmas

@@ -1,6 +1,5 @@
 -- For code that leaves the shapes of one kind to a last arm: what is computed for what that arm takes.
-use Rattle.std.proofs.Common.{rules, ◌≡◌, ◌-◌, ℕ, zero, suc, Bool, false, List, Box, Global, refl, ap, sym, subst, arith}
-use Rattle.tmpl_grammar.specs.Tree.{Binding}
+use Rattle.std.proofs.Common.{rules, ◌≡◌, ℕ, zero, suc, Bool, false, List, Box, Global, refl, ap, sym, subst}
 use Rattle.tmpl_grammar.specs.View.{binding_of}
 use Rattle.tmpl_grammar.specs.declared.tree.Binding as held_binding
 use Rattle.tmpl_grammar.specs.declared.tree.Binding.TheVariants as variants

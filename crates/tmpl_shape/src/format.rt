@@ -47,11 +47,7 @@ fn kind_in(kind: Kind, kinds: &Kinds) -> Kind
 }
 
 /// Puts a value for each of the arguments, each of this kind where it may be.
-fn put_samples(
-    kind: Kind,
-    arguments: &[Kinds],
-    cells: &mut Vec<Cell<'_>>,
-) -> Result<(), AllocError>
+fn put_samples(kind: Kind, arguments: &[Kinds], cells: &mut Vec<Cell<'_>>) -> Result<(), AllocError>
     ensures { OnOk result (values_of cells.new.items ≡ values_of cells.old.items ++ samples kind arguments.now) }
 {
     match arguments {
@@ -66,12 +62,7 @@ fn put_samples(
 
 /// Whether `printf` takes a value for each of the arguments, each of this kind where it may be.
 #[tactic(auto, unfolding(crate::specs::computed::Formats::prints))]
-fn prints(
-    alloc: Global,
-    format: &[u8],
-    arguments: &[Kinds],
-    kind: Kind,
-) -> Result<bool, AllocError>
+fn prints(alloc: Global, format: &[u8], arguments: &[Kinds], kind: Kind) -> Result<bool, AllocError>
     ensures { IfOk result (λ yes. yes ≡ prints format.now arguments.now kind) }
 {
     let mut cells: Vec<Cell<'_>> = Vec::new(alloc);
