@@ -9,12 +9,12 @@ use Rattle.serde_json.specs.Data.{Data, Items, no_items, Members, no_members, me
 use Rattle.serde_json.specs.Find.{get, pointer}
 use Rattle.tmpl_values.specs.Value.{Value, Entries, no_entry, entry, nothing, null, boolean, number, string, sequence, mapping, item, no_item}
 use Rattle.tmpl_values.specs.Value as value
-use Rattle.tmpl_schema.specs.Shape.{Shape, never, anything, named, record_of, Names, Defs, Fields, EachEntry, EachItem, AreDistinct, HasRequired, HasShape, IsField, stands_for}
-use Rattle.tmpl_schema.specs.View.{defs_in, shape_of}
-use Rattle.tmpl_schema.specs.declared.shape.Definition.{Definition}
-use Rattle.tmpl_schema.specs.computed.Means.{Means}
-use Rattle.tmpl_schema.proofs.NameLemmas.{meant}
-use Rattle.tmpl_schema.proofs.ShapeLemmas.{same_name, or_cases, items-has, entries-has}
+use Rattle.tmpl_shape.specs.Shape.{Shape, never, anything, named, record_of, Names, Defs, Fields, EachEntry, EachItem, AreDistinct, HasRequired, HasShape, IsField, stands_for}
+use Rattle.tmpl_shape.specs.View.{defs_in, shape_of}
+use Rattle.tmpl_shape.specs.declared.shape.Definition.{Definition}
+use Rattle.tmpl_shape.specs.computed.Means.{Means}
+use Rattle.tmpl_shape.proofs.NameLemmas.{meant}
+use Rattle.tmpl_shape.proofs.ShapeLemmas.{same_name, or_cases, items-has, entries-has}
 use Rattle.tmpl_json_schema.specs.Document.{IsInstance, IsOfType, IsConstant, IsOneOf, HasKeys, SomeItem, in_properties, FitsProperty, FitsProperties, FitsAdditional}
 use Rattle.tmpl_json_schema.specs.Document.{FitsItems, FitsSome, fragment_of, referred, ConformsBy, conforms_in}
 use Rattle.tmpl_json_schema.specs.declared.kinds.Kinds.{Kinds}

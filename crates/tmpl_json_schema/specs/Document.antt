@@ -11,7 +11,7 @@ use Rattle.serde_json.specs.Find.{get, pointer}
 use Rattle.serde_json.specs.Read.{read}
 use Rattle.tmpl_values.specs.Value.{Value, Entries, nothing, null, boolean, number, string, sequence, mapping}
 use Rattle.tmpl_values.specs.Field.{entry_at}
-use Rattle.tmpl_schema.specs.Shape.{EachItem, EachEntry, AreDistinct}
+use Rattle.tmpl_shape.specs.Shape.{EachItem, EachEntry, AreDistinct}
 
 -- a value that is looked at (C 4.2.1): there is one, and a map has each key once
 abbrev pub IsInstance : Value → Type 0

@@ -1,8 +1,8 @@
 //! Shapes put together by kinds.
-#![tactic(auto, using(tmpl_schema::proofs::ViewLemmas::parts))]
+#![tactic(auto, using(tmpl_shape::proofs::ViewLemmas::parts))]
 
 ghost use Rattle.std.specs.Prelude.{◌≡◌, IfOk};
-ghost use Rattle.tmpl_schema.specs.View.{fields_of, shape_of};
+ghost use Rattle.tmpl_shape.specs.View.{fields_of, shape_of};
 ghost use Rattle.tmpl_json_schema.specs.computed.Reading.{by_kinds, if_kind, is_never, kept, or_if, or_shape, rest_of, shape_of_rest};
 
 use crate::kinds::Kinds;

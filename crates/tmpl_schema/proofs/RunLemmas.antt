@@ -19,18 +19,18 @@ use Rattle.tmpl_meaning.specs.Meaning.{meanings, scope, setting_of, show, spend,
 use Rattle.tmpl_meaning.specs.Pipeline.{Environment, commands_value}
 use Rattle.tmpl_meaning.specs.declared.missing_key.MissingKey.{MissingKey}
 use Rattle.tmpl_meaning.proofs.PartLemmas.{controlled, handing, left_by, on_end, on_turn, one_of, over, run_called, scoped, spend_if, turn, uncalled, without_key}
-use Rattle.tmpl_schema.specs.Shape.{Shape, nothings, HasShape, Names}
+use Rattle.tmpl_shape.specs.Shape.{Shape, nothings, HasShape, Names}
 use Rattle.tmpl_schema.specs.Safe.{MayEnd}
-use Rattle.tmpl_schema.specs.computed.Means.{Means}
-use Rattle.tmpl_schema.specs.computed.Shapes.{Base, within, filled, Visit, visit_of}
+use Rattle.tmpl_shape.specs.computed.Means.{Means}
+use Rattle.tmpl_shape.specs.computed.Shapes.{Base, within, filled, Visit, visit_of}
 use Rattle.tmpl_schema.specs.computed.Check.{Known, State, Callee, handed, absent, Table, Checked, last_of, all_within, all_joined, if_within, after_both, settled, settled_soon, kept_by, left_with}
 use Rattle.tmpl_schema.specs.computed.Check.{holds_loop, dot_in, in_body, in_other, after_choice, in_turn, turned, after_range, after_call, after_control, after_node, after_nodes}
-use Rattle.tmpl_schema.specs.computed.Check.{pipeline_shape, narrowed, narrowed_empty, bound_shapes, at_start, is_safe}
+use Rattle.tmpl_schema.specs.computed.Check.{pipeline_shape, narrow, bound_shapes, at_start, is_safe}
 use Rattle.tmpl_schema.specs.computed.Safe.{IsCallee, IsChecked}
-use Rattle.tmpl_schema.proofs.ShapeLemmas.{within-has}
-use Rattle.tmpl_schema.proofs.FieldLemmas.{Gives, Each, IsVisit, Visits, filled-has, visit-gives}
+use Rattle.tmpl_shape.proofs.ShapeLemmas.{within-has}
+use Rattle.tmpl_shape.proofs.FieldLemmas.{Gives, Each, IsVisit, Visits, filled-has, visit-gives}
 use Rattle.tmpl_schema.proofs.VariableLemmas.{HasKnown, Fits, place, known-length, last-known, last-last, within-known, if_within-some, both-known, bound-known}
-use Rattle.tmpl_schema.proofs.VariableLemmas.{pipeline-gives, narrowed-fits, empty-fits}
+use Rattle.tmpl_schema.proofs.VariableLemmas.{pipeline-gives, narrow-fits, empty-fits}
 
 module _ (base : Base) (N : Names) (means : Means base.defs N) (stops : List (List ℕ)) where
   -- ---- ends
@@ -126,20 +126,20 @@ module _ (base : Base) (N : Names) (means : Means base.defs N) (stops : List (Li
           → Ends loop out (scoped (length r.env) (one_of t (body (dot_value c v d)) (other d) (with_bound h.binding (without_key v) (record r { made_text = made }))))
       by true t a isa b isb left right =
           let q : Run = with_bound h.binding (without_key v) (record r { made_text = made }) in
-          let n = (narrowed-fits base N means) m h.pipeline k d r.env v fits value t in
+          let n = (narrow-fits base N means) m h.pipeline k d r.env v fits value t in
           let full = (filled-has base N means) sh v has t in
           let x = body (dot_value c v d) q in
           scope-ends loop k.env a out r.env fits.1 holds left x.1 x.0.env
           (in_f (in_body base c h k sh) a isa (dot_value c v d) q (
-            dot-has c (filled base sh) (narrowed base h.pipeline k).dot v d full n.0,
-            (bound-known base N means) h.binding nothings (filled base sh) (without_key v) tt full (narrowed base h.pipeline k).env r.env n.1,
+            dot-has c (filled base sh) (narrow base true h.pipeline k).dot v d full n.0,
+            (bound-known base N means) h.binding nothings (filled base sh) (without_key v) tt full (narrow base true h.pipeline k).env r.env n.1,
           ))
       by false t a isa b isb left right =
           let q : Run = with_bound h.binding (without_key v) (record r { made_text = made }) in
           let n = (empty-fits base N means) m h.pipeline k d r.env v fits value t in
           let x = other d q in
           scope-ends loop k.env b out r.env fits.1 holds right x.1 x.0.env
-          (in_g (in_other base h k sh) b isb d q (n.0, (bound-known base N means) h.binding nothings sh (without_key v) tt has (narrowed_empty base h.pipeline k).env r.env n.1))
+          (in_g (in_other base h k sh) b isb d q (n.0, (bound-known base N means) h.binding nothings sh (without_key v) tt has (narrow base false h.pipeline k).env r.env n.1))
 
   -- ---- ranges
 

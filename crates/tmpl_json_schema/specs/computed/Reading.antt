@@ -6,8 +6,8 @@ use Rattle.std.specs.Str.{bytes_eq}
 use Rattle.serde_json.specs.Data as json
 use Rattle.serde_json.specs.Data.{Data, Items, no_items, Members, no_members, member}
 use Rattle.serde_json.specs.Find.{get}
-use Rattle.tmpl_schema.specs.Shape.{Shape, never, nothings, nulls, truths, numbers, texts, anything, list_of, record_of}
-use Rattle.tmpl_schema.specs.Shape.{either, named, Fields, no_field, others, field}
+use Rattle.tmpl_shape.specs.Shape.{Shape, never, nothings, nulls, truths, numbers, texts, anything, list_of, record_of}
+use Rattle.tmpl_shape.specs.Shape.{either, named, Fields, no_field, others, field}
 use Rattle.tmpl_json_schema.specs.Document.{fragment_of}
 use Rattle.tmpl_json_schema.specs.declared.kinds.Kinds.{Kinds}
 
