@@ -5,7 +5,7 @@ ghost use Rattle.tmpl_code.specs.View.{instruction_of};
 ghost use Rattle.tmpl_run.specs.Machine.{done};
 ghost use Rattle.tmpl_run.specs.computed.Machines.{no_template, state_of};
 ghost use Rattle.tmpl_run.specs.computed.Output.{Grows, given_of};
-ghost use Rattle.tmpl_run.specs.computed.Plain.{IsPlain, SparedOr};
+ghost use Rattle.tmpl_run.specs.computed.Plain.{IsPlain, SparedOr, StopsIn};
 ghost use Rattle.tmpl_run.specs.Ready.{Has};
 ghost use Rattle.tmpl_run.specs.computed.Plan.{plan_of};
 ghost use Rattle.tmpl_run.specs.computed.Turned.{Executed, IsAble, Lands, mark_after, put_by, put_out};
@@ -50,6 +50,7 @@ impl<'m, 'a> Machine<'m, 'a> {
         ensures plain { mark_after (instruction_of program.now.tables instruction.now) false ≡ false
             → IsPlain self.old → SparedOr result (IsPlain self.new) }
         ensures size { size_of self.new.stack ≡ size_of self.old.stack }
+        ensures template { StopsIn result self.old self.new }
     {
         match *instruction {
             Instruction::Spend(line) => self.spend(options, line),

@@ -11,7 +11,7 @@ ghost use Rattle.tmpl_code.specs.Instruction.{settle};
 ghost use Rattle.tmpl_code.specs.View.{names_seen, refusal_of};
 ghost use Rattle.tmpl_run.specs.Cell.{fresh, slot};
 ghost use Rattle.tmpl_run.specs.computed.Machines.{by_mode, state_of, untold};
-ghost use Rattle.tmpl_run.specs.computed.Plain.{IsPlain, SparedOr, Steady, SteadyOr};
+ghost use Rattle.tmpl_run.specs.computed.Plain.{IsPlain, SparedOr, Steady, SteadyOr, StopsIn};
 ghost use Rattle.tmpl_run.specs.Step as pipe;
 ghost use Rattle.tmpl_run.specs.computed.Turned.{Executed, IsFound, TurnedOr};
 ghost use Rattle.tmpl_run.specs.computed.View.{cells_of, size_of};
@@ -153,6 +153,7 @@ impl<'m, 'a> Machine<'m, 'a> {
         ensures step { TurnedOr untold (act (call_with func count piped)) self.old self.new result }
         ensures plain { makes_text func ≡ false → IsPlain self.old → SparedOr result (IsPlain self.new) }
         ensures size { size_of self.new.stack ≡ size_of self.old.stack }
+        ensures template { StopsIn result self.old self.new }
     {
         let alloc = self.alloc;
         match self.stack.call(alloc, func, count, piped) {

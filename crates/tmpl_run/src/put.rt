@@ -8,7 +8,7 @@ ghost use Rattle.tmpl_code.specs.View.{names_seen};
 ghost use Rattle.tmpl_run.specs.Cell.{slot};
 ghost use Rattle.tmpl_run.specs.computed.Machines.{untold};
 ghost use Rattle.tmpl_run.specs.computed.Output.{Grows, given_of};
-ghost use Rattle.tmpl_run.specs.computed.Plain.{Steady, SteadyOr};
+ghost use Rattle.tmpl_run.specs.computed.Plain.{Steady, SteadyOr, StopsIn};
 ghost use Rattle.tmpl_run.specs.computed.Turned.{Executed, HoldsOfEach, put_by, put_out};
 ghost use Rattle.tmpl_run.specs.computed.View.{cells_of};
 ghost use Rattle.tmpl_run.specs.declared.flow.Flow.TheVariants as flow;
@@ -35,6 +35,7 @@ impl<'m, 'a> Machine<'m, 'a> {
             (text_of (slot 0 (cells_of self.old.stack))) }
         ensures taken { Grows (S.so_far sink.old) (S.so_far sink.new) }
         ensures steady { Steady self.old self.new }
+        ensures template { StopsIn result self.old self.new }
     {
         self.place += 1;
         let put = self.stack.show_slot(0, piece, sink);

@@ -8,7 +8,7 @@ ghost use Rattle.tmpl_code.specs.Instruction as code;
 ghost use Rattle.tmpl_run.specs.Cell.{slot, slot_cell};
 ghost use Rattle.tmpl_run.specs.Machine.{elements_for, variables_on};
 ghost use Rattle.tmpl_run.specs.computed.Machines.{state_of, untold};
-ghost use Rattle.tmpl_run.specs.computed.Plain.{IsPlain, Spared, Steady, SteadyOr};
+ghost use Rattle.tmpl_run.specs.computed.Plain.{IsPlain, Spared, Steady, SteadyOr, StopsIn};
 ghost use Rattle.tmpl_run.specs.computed.Turned.{Executed, TurnedOr, TurnedUnder};
 ghost use Rattle.tmpl_run.specs.computed.View.{cells_of, size_of};
 ghost use Rattle.tmpl_run.specs.computed.Held.{has_more};
@@ -100,6 +100,7 @@ impl<'m, 'a> Machine<'m, 'a> {
         ensures plain { is_made key.entry ≡ false → is_made element.now ≡ false
             → IsPlain self.old → Spared result (IsPlain self.new) }
         ensures size { size_of self.new.stack ≡ size_of self.old.stack }
+        ensures template { StopsIn result self.old self.new }
     {
         match count {
             0 => {}
