@@ -11,6 +11,7 @@ use crate::pipeline::pipeline_shape;
 use crate::state::{State, at_start, copy_state};
 use crate::table::{Call, Callee, Entry};
 use std::alloc::{AllocError, Global};
+use std::mem;
 use tmpl_meaning::MissingKey;
 use tmpl_shape::{
     Base, Cause, Shape, Visit, copy_name, copy_shape, either, joined, visit_of, within,
@@ -318,28 +319,25 @@ fn part_beyond(base: &Base<'_>, shape: &Shape, other: &Shape) -> Result<Shape, A
 
 /// The values of both. The alternatives of the first change sides, so that however many are added, one by one, each is
 /// reached in few steps.
-fn with_alternative(alloc: Global, all: &Shape, more: &Shape) -> Result<Shape, AllocError> {
+fn with_alternative(alloc: Global, all: Shape, more: Shape) -> Result<Shape, AllocError> {
     match all {
-        Shape::Never => copy_shape(alloc, more),
+        Shape::Never => Ok(more),
         Shape::Either(one, other) => {
-            let other = copy_shape(alloc, other)?;
-            either(alloc, other, with_alternative(alloc, one, more)?)
+            let one = with_alternative(alloc, Box::into_inner(one), more)?;
+            either(alloc, Box::into_inner(other), one)
         }
-        _ => {
-            let all = copy_shape(alloc, all)?;
-            either(alloc, all, copy_shape(alloc, more)?)
-        }
+        _ => either(alloc, all, more),
     }
 }
 
 /// The values of both, where the alternatives of the second are added one by one.
-fn with_alternatives(alloc: Global, all: Shape, more: &Shape) -> Result<Shape, AllocError> {
+fn with_alternatives(alloc: Global, all: Shape, more: Shape) -> Result<Shape, AllocError> {
     match more {
         Shape::Either(one, other) => {
-            let all = with_alternatives(alloc, all, one)?;
-            with_alternatives(alloc, all, other)
+            let all = with_alternatives(alloc, all, Box::into_inner(one))?;
+            with_alternatives(alloc, all, Box::into_inner(other))
         }
-        _ => with_alternative(alloc, &all, more),
+        _ => with_alternative(alloc, all, more),
     }
 }
 
@@ -361,10 +359,9 @@ fn grow(
             })?;
             return Ok(Shape::Never);
         }
-        let handed = with_alternatives(base.alloc, Shape::Never, shape)?;
         table.push(Entry {
             name,
-            callee: Callee::Handed(handed),
+            callee: Callee::Handed(copy_shape(base.alloc, shape)?),
         })?;
         return copy_shape(base.alloc, shape);
     };
@@ -378,10 +375,9 @@ fn grow(
         return Ok(Shape::Never);
     };
     let more = part_beyond(base, shape, held)?;
-    if !matches!(more, Shape::Never) {
-        let all = copy_shape(base.alloc, held)?;
-        *held = with_alternatives(base.alloc, all, &more)?;
-    }
+    let added = copy_shape(base.alloc, &more)?;
+    let all = mem::replace(held, Shape::Never);
+    *held = with_alternatives(base.alloc, all, added)?;
     Ok(more)
 }
 
