@@ -2,7 +2,7 @@
 ghost use Rattle.std.specs.Prelude.{◌≡◌, ◌+◌, ◌-◌, ◌<◌, ◌≤◌, ◌^◌, false, length};
 ghost use Rattle.tmpl_meaning.specs.Sink.{IsPut};
 ghost use Rattle.tmpl_code.specs.View.{instruction_of};
-ghost use Rattle.tmpl_run.specs.Machine.{done};
+ghost use Rattle.tmpl_run.specs.Machine.{carry_out};
 ghost use Rattle.tmpl_run.specs.computed.Machines.{no_template, state_of};
 ghost use Rattle.tmpl_run.specs.computed.Output.{Grows, given_of};
 ghost use Rattle.tmpl_run.specs.computed.Plain.{IsPlain, SparedOr, StopsIn};
@@ -37,7 +37,7 @@ impl<'m, 'a> Machine<'m, 'a> {
         requires depth { self.old.depth + 1 < 2 ^ 64 }
         requires ready { Has (instruction_of program.now.tables instruction.now) (length (cells_of self.old.stack))
             (size_of self.old.stack) }
-        requires lands { Lands (done (plan_of options.now program.now) no_template (instruction_of program.now.tables instruction.now)
+        requires lands { Lands (carry_out (plan_of options.now program.now) no_template (instruction_of program.now.tables instruction.now)
             (state_of self.old)) }
         requires able { IsAble (plan_of options.now program.now) (instruction_of program.now.tables instruction.now) (state_of self.old) }
         requires countable { (S.so_far sink.old).failures < 2 ^ 64 - 1 }

@@ -6,7 +6,7 @@ ghost use Rattle.tmpl_meaning.specs.View.{rules_of};
 ghost use Rattle.tmpl_code.specs.Instruction as code;
 ghost use Rattle.tmpl_code.specs.View.{names_seen};
 ghost use Rattle.tmpl_run.specs.Cell.{slot};
-ghost use Rattle.tmpl_run.specs.computed.Machines.{untold};
+ghost use Rattle.tmpl_run.specs.computed.Machines.{without_bytes};
 ghost use Rattle.tmpl_run.specs.computed.Output.{Grows, given_of};
 ghost use Rattle.tmpl_run.specs.computed.Plain.{Steady, SteadyOr, StopsIn};
 ghost use Rattle.tmpl_run.specs.computed.Turned.{Executed, HoldsOfEach, put_by, put_out};
@@ -30,7 +30,7 @@ impl<'m, 'a> Machine<'m, 'a> {
         requires place { self.old.place + 1 < 2 ^ 64 }
         requires found { 1 ≤ length (cells_of self.old.stack) }
         requires failures { (S.so_far sink.old).failures < 2 ^ 64 - 1 }
-        ensures step { Executed untold code.show self.old self.new (Ok flow.On) }
+        ensures step { Executed without_bytes code.show self.old self.new (Ok flow.On) }
         ensures given { IsPut result (given_of (S.so_far sink.old) piece.old) (given_of (S.so_far sink.new) piece.new)
             (text_of (slot 0 (cells_of self.old.stack))) }
         ensures taken { Grows (S.so_far sink.old) (S.so_far sink.new) }

@@ -27,7 +27,7 @@ use Rattle.tmpl_shape.specs.Shape.{Fields, Shape, never, nothings, nulls, texts,
 use Rattle.tmpl_shape.specs.declared.kind.Kind.TheVariants.{Blank}
 use Rattle.tmpl_shape.specs.computed.Formats.{printf_shape}
 use Rattle.tmpl_shape.specs.computed.Means.{Means}
-use Rattle.tmpl_shape.specs.computed.Shapes.{Base, within, both, any_field, filled, has_kind, joined, keyed_shape, null_gone, refined, chain_shape, entry_shape, index_shape, index_shape_by}
+use Rattle.tmpl_shape.specs.computed.Shapes.{Base, within, both, any_field, fill, has_kind, joined, keyed_shape, null_gone, refine, chain_shape, entry_shape, index_shape, index_shape_by}
 use Rattle.tmpl_shape.specs.computed.Calls.{call_shape, shape_by_function}
 use Rattle.tmpl_schema.specs.computed.Check.{call_place, index_place, pair_facts, narrow_as, narrow_by, narrow_by_all, narrow_to, deciding_shape, passing_shape, passed, operand_shapes, junction_shape, commands_shape}
 use Rattle.tmpl_schema.specs.computed.Check.{Known, State, variable_shape, assigned_shape, bound_shapes, refined_variable, all_within, all_joined, last_of, if_within}
@@ -134,7 +134,7 @@ module _ (base : Base) (N : Names) (means : Means base.defs N) where
     where
       by : (b : Bool) → chain m ns (option_map_or (λ v. v.1) (if b then Some (k.0, v.1) else find (λ v. bytes_eq v.0 name) env) nothing) ≡ Ok x
           → (chain m ns (lookup name env) ≡ Ok x → HasKnown (refined_variable base name ns ks) env)
-          → HasKnown (if b then (k.0, refined base ns k.1) ∷ ks else k ∷ refined_variable base name ns ks) (v ∷ env)
+          → HasKnown (if b then (k.0, refine base ns k.1) ∷ ks else k ∷ refined_variable base name ns ks) (v ∷ env)
       by true y more = (h.0, (refined-has base N means) k.1 m ns v.1 x h.1 y t, h.2)
       by false y more = (h.0, h.1, more y)
   refined-known m name ns x t _ _ h e = absurd h
@@ -511,17 +511,17 @@ module _ (base : Base) (N : Names) (means : Means base.defs N) where
         (decided (decides is_or v) v (junction is_or (place m d env) v os pv)).result
     junction-step true o os k ps pv fits more s v e h = by (truth v) refl
       where
-        by : (b : Bool) → truth v ≡ b → (Gives base N means) (both base (Some (filled base s)) (junction_shape base true m k s os ps)) (decided b v (junction true (place m d env) v os pv)).result
-        by true t = (both-left base N means) (Some (filled base s)) (junction_shape base true m k s os ps) (Ok v) ((filled-has base N means) s v h t)
-        by false t = (both-right base N means) (Some (filled base s)) (junction_shape base true m k s os ps) (junction true (place m d env) v os pv).result (more k s v fits h)
+        by : (b : Bool) → truth v ≡ b → (Gives base N means) (both base (Some (fill base s)) (junction_shape base true m k s os ps)) (decided b v (junction true (place m d env) v os pv)).result
+        by true t = (both-left base N means) (Some (fill base s)) (junction_shape base true m k s os ps) (Ok v) ((filled-has base N means) s v h t)
+        by false t = (both-right base N means) (Some (fill base s)) (junction_shape base true m k s os ps) (junction true (place m d env) v os pv).result (more k s v fits h)
     junction-step false o os k ps pv fits more s v e h = by (truth v) refl
       where
-        by : (b : Bool) → truth v ≡ b → (Gives base N means) (both base (Some s) (junction_shape base false m (narrow_by base o k) (filled base s) os ps))
+        by : (b : Bool) → truth v ≡ b → (Gives base N means) (both base (Some s) (junction_shape base false m (narrow_by base o k) (fill base s) os ps))
             (decided (not b) v (junction false (place m d env) v os pv)).result
-        by false t = (both-left base N means) (Some s) (junction_shape base false m (narrow_by base o k) (filled base s) os ps) (Ok v) h
+        by false t = (both-left base N means) (Some s) (junction_shape base false m (narrow_by base o k) (fill base s) os ps) (Ok v) h
         by true t =
-            (both-right base N means) (Some s) (junction_shape base false m (narrow_by base o k) (filled base s) os ps) (junction false (place m d env) v os pv).result
-            (more (narrow_by base o k) (filled base s) v (narrow_by-fits m o k d env v fits e (full-thing v t)) ((filled-has base N means) s v h t))
+            (both-right base N means) (Some s) (junction_shape base false m (narrow_by base o k) (fill base s) os ps) (junction false (place m d env) v os pv).result
+            (more (narrow_by base o k) (fill base s) v (narrow_by-fits m o k d env v fits e (full-thing v t)) ((filled-has base N means) s v h t))
 
     mutual
       operand-gives : (o : Operand) (k : State) → Fits k d env → (Gives base N means) (operand_shape base m k o) (operand_value (place m d env) o).result

@@ -6,7 +6,7 @@ ghost use Rattle.tmpl_grammar.specs.View.{binding_of};
 ghost use Rattle.tmpl_shape.specs.View.{shape_of};
 ghost use Rattle.tmpl_schema.specs.computed.Check.{after_both, all_joined, all_within, assigned_shape, bound_shapes, holds_loop};
 ghost use Rattle.tmpl_schema.specs.computed.Check.{last_of, left_with, refined_variable, variable_shape};
-ghost use Rattle.tmpl_shape.specs.computed.View.{base_of, seen};
+ghost use Rattle.tmpl_shape.specs.computed.View.{base_of, shape_seen};
 ghost use Rattle.tmpl_schema.specs.computed.View.{is_longer, known_of, known_seen};
 
 use std::alloc::{AllocError, Global};
@@ -60,7 +60,7 @@ pub(crate) fn copy_known(alloc: Global, known: &Known) -> Result<Known, AllocErr
 
 /// The shape of the newest variable of a name.
 pub(crate) fn variable_shape<'k>(name: &[u8], known: &'k Known) -> Option<&'k Shape>
-    ensures { seen result ≡ variable_shape name.now (known_of known.now) }
+    ensures { shape_seen result ≡ variable_shape name.now (known_of known.now) }
 {
     match known {
         Known::Empty => None,

@@ -8,7 +8,7 @@ ghost use Rattle.tmpl_shape.specs.Shape.{nothings};
 ghost use Rattle.tmpl_shape.specs.View.{shape_of};
 ghost use Rattle.tmpl_shape.specs.computed.View.{base_of, visit_seen};
 ghost use Rattle.tmpl_schema.specs.computed.Check.{after_node, after_nodes, in_body, in_other, in_turn, left_with};
-ghost use Rattle.tmpl_schema.specs.computed.Check.{kept_by, pipeline_shape, settled, settled_soon};
+ghost use Rattle.tmpl_schema.specs.computed.Check.{kept_by, pipeline_shape, settle_known, settled_soon};
 ghost use Rattle.tmpl_schema.specs.computed.View.{after_action, after_choice_by, after_range_by, known_of, known_seen, ranged_by, state_of, table_of, turned_by};
 ghost use Rattle.tmpl_syntax.specs.Tree.{template_node};
 ghost use Rattle.tmpl_syntax.specs.View.{control_of, node_of, nodes_in};
@@ -250,7 +250,7 @@ fn settled(
     visit: &Visit,
     body: &[Node],
 ) -> Result<Known, Failure>
-    ensures { IfOk result (λ ks. settled (base_of checker.now.base) rounds (turned_by
+    ensures { IfOk result (λ ks. settle_known (base_of checker.now.base) rounds (turned_by
         (base_of checker.now.base) checker.now.mode (table_of checker.now.table.now) (header_of header.now)
         (visit_seen visit.now) (nodes_in body.now)) (known_of known) ≡ Some (known_of ks)) }
 {

@@ -9,7 +9,7 @@ ghost use Rattle.tmpl_meaning.specs.Pipeline.{operand_count};
 ghost use Rattle.tmpl_funcs.specs.Func.{takes};
 ghost use Rattle.tmpl_shape.specs.View.{shape_of};
 ghost use Rattle.tmpl_shape.specs.computed.Calls.{kinds_shape};
-ghost use Rattle.tmpl_shape.specs.computed.View.{base_of, seen};
+ghost use Rattle.tmpl_shape.specs.computed.View.{base_of, shape_seen};
 ghost use Rattle.tmpl_schema.specs.computed.Check.{alone, command_shape, commands_shape, entry_along, entry_by, indexed_shape, junction_shape, operand_shape, pipeline_shape, printed_shape};
 ghost use Rattle.tmpl_schema.specs.computed.View.{argument_kinds, called_shape, state_of};
 
@@ -86,7 +86,7 @@ fn put_arguments(
     kinds: &mut Vec<Kinds>,
 ) -> Result<(), Trouble>
     ensures { OnOk result (option_map (λ ks. kinds.old.items ++ ks) (argument_kinds (base_of base.now) mode
-        (state_of state.now) (operands_in operands.now) (seen piped.entry)) ≡ Some kinds.new.items) }
+        (state_of state.now) (operands_in operands.now) (shape_seen piped.entry)) ≡ Some kinds.new.items) }
 {
     match operands {
         [] => match piped {
@@ -115,7 +115,7 @@ fn argument_kinds(
     piped: Option<&Shape>,
 ) -> Result<Vec<Kinds>, Trouble>
     ensures { IfOk result (λ ks. argument_kinds (base_of base.now) mode (state_of state.now)
-        (operands_in operands.now) (seen piped.entry) ≡ Some ks.items) }
+        (operands_in operands.now) (shape_seen piped.entry) ≡ Some ks.items) }
 {
     let mut kinds: Vec<Kinds> = Vec::new(base.alloc);
     put_arguments(base, mode, state, operands, piped, &mut kinds)?;
@@ -134,7 +134,7 @@ fn called_shape(
     piped: Option<&Shape>,
 ) -> Result<Shape, Trouble>
     ensures { IfOk result (λ s. called_shape (base_of base.now) mode (state_of state.now) func
-        (operands_in operands.now) (seen piped.entry) ≡ Some (shape_of s)) }
+        (operands_in operands.now) (shape_seen piped.entry) ≡ Some (shape_of s)) }
 {
     let kinds = argument_kinds(base, mode, state, operands, piped)?;
     shape_of_call(func, kinds.as_slice())
@@ -152,7 +152,7 @@ fn junction_shape(
     piped: Option<&Shape>,
 ) -> Result<Shape, Trouble>
     ensures { IfOk result (λ s. junction_shape (base_of base.now) is_or mode (state_of state.now)
-        (shape_of last.now) (operands_in operands.now) (seen piped.entry) ≡ Some (shape_of s)) }
+        (shape_of last.now) (operands_in operands.now) (shape_seen piped.entry) ≡ Some (shape_of s)) }
 {
     match operands {
         [] => match piped {
@@ -176,7 +176,7 @@ fn junction_shape(
 /// How many arguments there are.
 #[tactic(auto, using(crate::proofs::PipelineLemmas::counts))]
 fn argument_count(operands: &[Operand], piped: Option<&Shape>) -> u64
-    ensures { result ≡ operand_count (operands_in operands.now) + length (option_to_list (seen piped.entry)) }
+    ensures { result ≡ operand_count (operands_in operands.now) + length (option_to_list (shape_seen piped.entry)) }
 {
     match piped {
         Some(_) => operands.len() as u64 + 1,
@@ -206,7 +206,7 @@ fn entry_along(
     shape: &Shape,
 ) -> Result<Shape, Trouble>
     ensures { IfOk result (λ s. entry_along (base_of base.now) mode (state_of state.now)
-        (operands_in keys.now) (seen piped.entry) (shape_of shape.now) ≡ Some (shape_of s)) }
+        (operands_in keys.now) (shape_seen piped.entry) (shape_of shape.now) ≡ Some (shape_of s)) }
 {
     match keys {
         [] => match piped {
@@ -234,7 +234,7 @@ fn indexed_shape(
     piped: Option<&Shape>,
 ) -> Result<Shape, Trouble>
     ensures { IfOk result (λ s. indexed_shape (base_of base.now) mode (state_of state.now)
-        (operands_in operands.now) (seen piped.entry) ≡ Some (shape_of s)) }
+        (operands_in operands.now) (shape_seen piped.entry) ≡ Some (shape_of s)) }
 {
     match operands {
         [] => Err(Trouble::MayFail(Cause::NotFollowed(Func::Index))),
@@ -259,7 +259,7 @@ fn printed_shape(
     piped: Option<&Shape>,
 ) -> Result<Shape, Trouble>
     ensures { IfOk result (λ s. printed_shape (base_of base.now) mode (state_of state.now)
-        (operands_in operands.now) (seen piped.entry) ≡ Some (shape_of s)) }
+        (operands_in operands.now) (shape_seen piped.entry) ≡ Some (shape_of s)) }
 {
     match operands {
         [] => Err(Trouble::MayFail(Cause::NotFollowed(Func::Printf))),
@@ -288,7 +288,7 @@ fn function_shape(
     piped: Option<&Shape>,
 ) -> Result<Shape, Trouble>
     ensures { IfOk result (λ s. command_shape (base_of base.now) mode (state_of state.now) (operand (function func)
-        (operands_in operands.now)) (seen piped.entry) ≡ Some (shape_of s)) }
+        (operands_in operands.now)) (shape_seen piped.entry) ≡ Some (shape_of s)) }
 {
     if !func.takes(argument_count(operands, piped)) {
         return Err(Trouble::MayFail(Cause::Command));
@@ -314,7 +314,7 @@ fn alone_shape(
     piped: Option<&Shape>,
 ) -> Result<Shape, Trouble>
     ensures { IfOk result (λ s. alone (operand_shape (base_of base.now) mode (state_of state.now)
-        (operand_of first.now)) (seen piped.entry) (operands_in rest.now) ≡ Some (shape_of s)) }
+        (operand_of first.now)) (shape_seen piped.entry) (operands_in rest.now) ≡ Some (shape_of s)) }
 {
     match piped {
         Some(_) => Err(Trouble::MayFail(Cause::Command)),
@@ -336,7 +336,7 @@ fn command_shape(
     piped: Option<&Shape>,
 ) -> Result<Shape, Trouble>
     ensures { IfOk result (λ s. command_shape (base_of base.now) mode (state_of state.now)
-        (operands_in operands.now) (seen piped.entry) ≡ Some (shape_of s)) }
+        (operands_in operands.now) (shape_seen piped.entry) ≡ Some (shape_of s)) }
 {
     match operands {
         [] => Err(Trouble::MayFail(Cause::Command)),
@@ -358,7 +358,7 @@ fn commands_shape(
     piped: Option<&Shape>,
 ) -> Result<Shape, Trouble>
     ensures { IfOk result (λ s. commands_shape (base_of base.now) mode (state_of state.now)
-        (commands_in commands.now) (seen piped.entry) ≡ Some (shape_of s)) }
+        (commands_in commands.now) (shape_seen piped.entry) ≡ Some (shape_of s)) }
 {
     match commands {
         [] => match piped {

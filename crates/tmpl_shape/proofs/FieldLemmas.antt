@@ -20,7 +20,7 @@ use Rattle.tmpl_meaning.specs.declared.missing_key.MissingKey.TheVariants as mod
 use Rattle.tmpl_shape.specs.Shape.{Shape, never, nothings, nulls, numbers, texts, list_of, record_of, either, named, Names, Fields, no_field, others, field}
 use Rattle.tmpl_shape.specs.Shape.{EachItem, EachEntry, AreDistinct, HasRequired, HasShape, IsField}
 use Rattle.tmpl_shape.specs.computed.Means.{Means}
-use Rattle.tmpl_shape.specs.computed.Shapes.{Base, shape_at, with_field, both, refined_by, refined, filled, absent_shape, of_field, entry_shape}
+use Rattle.tmpl_shape.specs.computed.Shapes.{Base, shape_at, with_field, both, refined_by, refine, fill, absent_shape, of_field, entry_shape}
 use Rattle.tmpl_shape.specs.computed.Shapes.{field_shape_by, field_shape, chain_shape, any_field, Visit, both_visits, visit_by, visit_of}
 use Rattle.tmpl_shape.proofs.ShapeLemmas.{same_name, joined-left, joined-right}
 
@@ -282,10 +282,10 @@ module _ (base : Base) (N : Names) (means : Means base.defs N) where
   refined_by-has (suc i) (name ∷ ns) (record_of fs) m _ x h e t = absurd h
   refined_by-has (suc i) ns s m v x h e t = h
 
-  pub refined-has : (s : Shape) (m : MissingKey) (ns : List (List ℕ)) (v x : Value) → HasShape N s v → chain m ns v ≡ Ok x → is_nothing x ≡ false → HasShape N (refined base ns s) v
+  pub refined-has : (s : Shape) (m : MissingKey) (ns : List (List ℕ)) (v x : Value) → HasShape N s v → chain m ns v ≡ Ok x → is_nothing x ≡ false → HasShape N (refine base ns s) v
   refined-has s m ns v x h e t = refined_by-has base.limit ns s m v x h e t
 
-  pub filled-has : (s : Shape) (v : Value) → HasShape N s v → truth v ≡ true → HasShape N (filled base s) v
+  pub filled-has : (s : Shape) (v : Value) → HasShape N s v → truth v ≡ true → HasShape N (fill base s) v
   filled-has s v h t = refined-has s mode.Error [] v v h refl (full-thing v t)
 
   -- ---- elements

@@ -5,13 +5,13 @@ ghost use Rattle.std.specs.Prelude.{◌≡◌};
 ghost use Rattle.tmpl_shape.specs.View.{defs_in, fields_of, shape_of};
 ghost use Rattle.tmpl_shape.specs.computed.Shapes.{fields_along, fields_within, has_name, is_listed, is_required, others_within};
 ghost use Rattle.tmpl_shape.specs.computed.Shapes.{plain_within, record_within, requires_all, shape_at, some_part, within, within_by};
-ghost use Rattle.tmpl_shape.specs.computed.View.{base_of, name_within, seen};
+ghost use Rattle.tmpl_shape.specs.computed.View.{base_of, name_within, shape_seen};
 
 use crate::shape::{Base, Definition, Fields, Shape};
 
 /// The shape of the first definition of a name.
 pub(crate) fn find<'s>(definitions: &'s [Definition], name: &[u8]) -> Option<&'s Shape>
-    ensures { seen result ≡ defs_in definitions.now name.now }
+    ensures { shape_seen result ≡ defs_in definitions.now name.now }
 {
     match definitions {
         [] => None,
@@ -27,7 +27,7 @@ pub(crate) fn find<'s>(definitions: &'s [Definition], name: &[u8]) -> Option<&'s
 
 /// The shape that a field of a name has if it is there.
 pub(crate) fn shape_at<'f>(name: &[u8], fields: &'f Fields) -> Option<&'f Shape>
-    ensures { seen result ≡ shape_at name.now (fields_of fields.now) }
+    ensures { shape_seen result ≡ shape_at name.now (fields_of fields.now) }
 {
     match fields {
         Fields::Closed => None,

@@ -3,7 +3,7 @@
 
 ghost use Rattle.std.specs.Prelude.{◌≡◌, IfOk};
 ghost use Rattle.tmpl_shape.specs.View.{fields_of, shape_of};
-ghost use Rattle.tmpl_shape.specs.computed.Shapes.{filled, joined, null_gone, null_gone_by, refined, refined_by};
+ghost use Rattle.tmpl_shape.specs.computed.Shapes.{fill, joined, null_gone, null_gone_by, refine, refined_by};
 ghost use Rattle.tmpl_shape.specs.computed.Shapes.{refined_record, with_field};
 ghost use Rattle.tmpl_shape.specs.computed.View.{base_of};
 
@@ -151,14 +151,14 @@ fn refined_record(
 
 /// Of the values of which the field of the field of .. is there and not empty, as far as is looked.
 pub fn refined(base: &Base<'_>, names: &[Bytes], shape: &Shape) -> Result<Shape, AllocError>
-    ensures { IfOk result (λ s. shape_of s ≡ refined (base_of base.now) names.now (shape_of shape.now)) }
+    ensures { IfOk result (λ s. shape_of s ≡ refine (base_of base.now) names.now (shape_of shape.now)) }
 {
     refined_by(base, base.limit, names, shape)
 }
 
 /// Of the values that are not empty.
 pub fn filled(base: &Base<'_>, shape: &Shape) -> Result<Shape, AllocError>
-    ensures { IfOk result (λ s. shape_of s ≡ filled (base_of base.now) (shape_of shape.now)) }
+    ensures { IfOk result (λ s. shape_of s ≡ fill (base_of base.now) (shape_of shape.now)) }
 {
     refined(base, &[], shape)
 }

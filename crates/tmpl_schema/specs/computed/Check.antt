@@ -17,7 +17,7 @@ use Rattle.tmpl_funcs.specs.declared.func.Func.{Func}
 use Rattle.tmpl_funcs.specs.declared.func.Func.TheVariants.{And, Not, Index, Eq, Ne}
 use Rattle.tmpl_meaning.specs.Pipeline.{operand_count}
 use Rattle.tmpl_shape.specs.declared.kind.Kind.TheVariants.{Blank}
-use Rattle.tmpl_shape.specs.computed.Shapes.{Base, has_kind, within, joined, both, filled, null_gone, refined, chain_shape}
+use Rattle.tmpl_shape.specs.computed.Shapes.{Base, has_kind, within, joined, both, fill, null_gone, refine, chain_shape}
 use Rattle.tmpl_shape.specs.computed.Shapes.{index_shape, Visit, visit_of}
 use Rattle.tmpl_shape.specs.computed.Calls.{call_shape, shape_by_function}
 use Rattle.tmpl_shape.specs.computed.Formats.{printf_shape}
@@ -195,8 +195,8 @@ abbrev pub in_turn : Header → Visit → Known → State
 in_turn h v ks = record { dot = v.element; env = bound_shapes h.binding v.key v.element ks }
 
 -- the variables after a turn
-abbrev pub turned : Header → Visit → (Option Known → Checked) → Known → Option Known
-turned h v body ks = option_map (last_of (length ks)) (body (Some ks) (in_turn h v ks))
+abbrev pub turn_known : Header → Visit → (Option Known → Checked) → Known → Option Known
+turn_known h v body ks = option_map (last_of (length ks)) (body (Some ks) (in_turn h v ks))
 
 module _ (base : Base) where
   -- ---- variables
@@ -205,7 +205,7 @@ module _ (base : Base) where
   abbrev pub refined_variable : List ℕ → List (List ℕ) → Known → Known
   refined_variable name ns [] = []
   refined_variable name ns (k ∷ ks) =
-      if bytes_eq k.0 name then (k.0, refined base ns k.1) ∷ ks else k ∷ refined_variable name ns ks
+      if bytes_eq k.0 name then (k.0, refine base ns k.1) ∷ ks else k ∷ refined_variable name ns ks
 
   -- the same variables, each within the other's shape
   abbrev pub all_within : Known → Known → Bool
@@ -223,7 +223,7 @@ module _ (base : Base) where
   abbrev pub narrow_to : Option Place → State → State
   narrow_to None k = k
   narrow_to (Some p) k = option_map_or (λ name. record k { env = refined_variable name p.path k.env })
-      p.root (record k { dot = refined base p.path k.dot })
+      p.root (record k { dot = refine base p.path k.dot })
 
   -- .. where an operand is so, and therefore where it is not empty; and where all these are not empty
   abbrev pub narrow_by : Operand → State → State
@@ -235,10 +235,10 @@ module _ (base : Base) where
 
   -- the values that decide an `or`, or else an `and`, and those that do not
   abbrev pub deciding_shape : Bool → Shape → Shape
-  deciding_shape is_or s = if is_or then filled base s else s
+  deciding_shape is_or s = if is_or then fill base s else s
 
   abbrev pub passing_shape : Bool → Shape → Shape
-  passing_shape is_or s = if is_or then s else filled base s
+  passing_shape is_or s = if is_or then s else fill base s
 
   -- after an operand that does not decide
   abbrev pub passed : Bool → Operand → State → State
@@ -342,12 +342,12 @@ module _ (base : Base) where
       option_and_then (λ end. if all_within end ks then Some ks else more (all_joined ks end)) (turn ks)
 
   -- .. looked for in as many rounds as this
-  abbrev pub settled : ℕ → (Known → Option Known) → Known → Option Known
-  settled zero turn ks = None
-  settled (suc n) turn ks = settled_step (settled n turn) turn ks
+  abbrev pub settle_known : ℕ → (Known → Option Known) → Known → Option Known
+  settle_known zero turn ks = None
+  settle_known (suc n) turn ks = settled_step (settle_known n turn) turn ks
 
   unfoldable pub settled_soon : (Known → Option Known) → Known → Option Known
-  settled_soon turn ks = settled 12 turn ks
+  settled_soon turn ks = settle_known 12 turn ks
 
   -- .. from these before it
   abbrev pub kept_by : (Known → Option Known) → Known → Option Known
@@ -362,7 +362,7 @@ module _ (base : Base) where
   abbrev pub in_body : Control → Header → State → Shape → State
   in_body c h k s =
       let u = narrow true h.pipeline k in
-      record { dot = dot_in c (filled base s) u.dot; env = bound_shapes h.binding nothings (filled base s) u.env }
+      record { dot = dot_in c (fill base s) u.dot; env = bound_shapes h.binding nothings (fill base s) u.env }
 
   abbrev pub in_other : Header → State → Shape → State
   in_other h k s = let u = narrow false h.pipeline k in record u { env = bound_shapes h.binding nothings s u.env }
@@ -373,7 +373,7 @@ module _ (base : Base) where
 
   abbrev pub after_range : Header → State → (Option Known → Checked) → Checked → Visit → Option Known
   after_range h k body other v =
-      option_and_then (λ head. option_and_then (after_both (length k.env) head) (other k)) (kept_by (turned h v body) k.env)
+      option_and_then (λ head. option_and_then (after_both (length k.env) head) (other k)) (kept_by (turn_known h v body) k.env)
 
   abbrev pub after_control :
       Control → Option Known → Header → State → (Option Known → Checked) → Checked → Shape → Option Known

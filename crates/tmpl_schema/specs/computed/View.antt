@@ -15,7 +15,7 @@ use Rattle.tmpl_schema.specs.declared.facts.Head.TheVariants as head
 use Rattle.tmpl_schema.specs.declared.facts.Place as held_place
 use Rattle.tmpl_schema.specs.computed.Check.{Facts, of_operands, of_index, Head, calls, is_nil, is_value, Place}
 use Rattle.tmpl_schema.specs.computed.Check.{Known, State, Callee, Table, handed, absent, operand_shapes, after_choice, after_nodes}
-use Rattle.tmpl_schema.specs.computed.Check.{after_range, bound_shapes, pipeline_shape, turned}
+use Rattle.tmpl_schema.specs.computed.Check.{after_range, bound_shapes, pipeline_shape, turn_known}
 use Rattle.tmpl_grammar.specs.Tree.{Header}
 use Rattle.tmpl_syntax.specs.Tree.{Nodes}
 use Rattle.tmpl_grammar.specs.declared.tree.Control.{Control}
@@ -92,7 +92,7 @@ after_action base m k h = option_map (λ s. bound_shapes h.binding spec.nothings
 
 -- after a turn of a range with this body
 abbrev pub turned_by : computed.Base → MissingKey → Table → Header → computed.Visit → Nodes → Known → Option Known
-turned_by base m table h v body = turned h v (λ l u. after_nodes base m table l u body)
+turned_by base m table h v body = turn_known h v (λ l u. after_nodes base m table l u body)
 
 -- after an `if` or a `with`, and after a range that visits these, by their nodes
 abbrev pub after_choice_by :

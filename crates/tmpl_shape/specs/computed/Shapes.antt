@@ -218,12 +218,12 @@ module _ (base : Base) where
   refined_by zero ns s = s
   refined_by (suc n) ns s = refined_step (refined_by n) ns s
 
-  abbrev pub refined : List (List ℕ) → Shape → Shape
-  refined ns s = refined_by base.limit ns s
+  abbrev pub refine : List (List ℕ) → Shape → Shape
+  refine ns s = refined_by base.limit ns s
 
   -- of the values that are not empty
-  abbrev pub filled : Shape → Shape
-  filled s = refined [] s
+  abbrev pub fill : Shape → Shape
+  fill s = refine [] s
 
   -- ---- fields
 

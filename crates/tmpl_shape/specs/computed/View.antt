@@ -13,8 +13,8 @@ use Rattle.tmpl_shape.specs.declared.visit.Visit as held_visit
 abbrev pub base_of : held_base.Base → computed.Base
 base_of base = record { defs = defs_in base.definitions.now; names = base.names; limit = base.limit }
 
-abbrev pub seen : Option (Bor held.Shape) → Option spec.Shape
-seen shape = option_map (λ s. shape_of s.now) shape
+abbrev pub shape_seen : Option (Bor held.Shape) → Option spec.Shape
+shape_seen shape = option_map (λ s. shape_of s.now) shape
 
 abbrev pub visit_seen : held_visit.Visit → computed.Visit
 visit_seen v = record { key = shape_of v.key; element = shape_of v.element }

@@ -5,19 +5,19 @@ use Rattle.tmpl_syntax.specs.Tree.{control_node}
 use Rattle.tmpl_syntax.specs.View.{control_of, nodes_in}
 use Rattle.tmpl_syntax.specs.declared.tree.ControlNode.{out-ControlNode}
 use Rattle.tmpl_shape.specs.View.{shape_of}
-use Rattle.tmpl_schema.specs.computed.Check.{Known, State, after_nodes, holds_loop, pipeline_shape, settled, settled_soon}
+use Rattle.tmpl_schema.specs.computed.Check.{Known, State, after_nodes, holds_loop, pipeline_shape, settle_known, settled_soon}
 use Rattle.tmpl_shape.specs.computed.View.{base_of, visit_seen}
 use Rattle.tmpl_schema.specs.computed.View.{known_of, known_seen, state_of, table_of, turned_by}
 use Rattle.tmpl_schema.proofs.ControlLemmas.{control_seen, range-control, range-is}
-use Rattle.tmpl_schema.proofs.StepLemmas.{soon-settled}
+use Rattle.tmpl_schema.proofs.StepLemmas.{soon-settle_known}
 use Rattle.tmpl_schema.proofs.node.+node.Goals as goal
 
 pub settled_soon-returns : goal.settled_soon-returns
 settled_soon-returns t c =
     let base = base_of c.args.checker.now.base in
     let turn = turned_by base c.args.checker.now.mode (table_of c.args.checker.now.table.now) (header_of c.args.header.now) (visit_seen c.args.visit.now) (nodes_in c.args.body.now) in
-    let same : settled_soon base turn (known_of c.args.known.now) ≡ settled base 12 turn (known_of c.in_ok-start.start) =
-    soon-settled base turn (known_of c.args.known.now) ∙ ap (settled base 12 turn) (sym c.in_ok-start.ensures) in
+    let same : settled_soon base turn (known_of c.args.known.now) ≡ settle_known base 12 turn (known_of c.in_ok-start.start) =
+    soon-settle_known base turn (known_of c.args.known.now) ∙ ap (settle_known base 12 turn) (sym c.in_ok-start.ensures) in
     subst (λ (o : Option Known). IfOk c.settled.result (λ ks. o ≡ Some (known_of ks))) (sym same) c.settled.ensures
 
 pub after_range-returns : goal.after_range-returns
