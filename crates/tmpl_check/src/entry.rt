@@ -29,6 +29,8 @@ pub(crate) struct Entry<'a> {
     pub(crate) column: u64,
     pub(crate) rule: Rule,
     pub(crate) text: String,
+    /// What else is said of it.
+    pub(crate) note: Option<String>,
 }
 
 impl Entry<'_> {

@@ -10,6 +10,9 @@ static FORMATS: [&str; 3] = ["text", "json", "sarif"];
 /// The words of `--missingkey`.
 static MODES: [&str; 4] = ["default", "invalid", "zero", "error"];
 
+/// The options of which none goes with `--infer`.
+static ALONE: [&str; 5] = ["data", "name", "schema", "missingkey", "stop"];
+
 /// How what is found is put out.
 #[derive(Clone, Copy, Debug, PartialEq, Eq)]
 pub(crate) enum Format {
@@ -29,6 +32,8 @@ pub(crate) struct Request<'a> {
     /// The names of templates that need not be there.
     pub(crate) stops: Vec<&'a str>,
     pub(crate) format: Format,
+    /// Whether a schema of the files is asked for.
+    pub(crate) is_to_infer: bool,
     pub(crate) files: Vec<&'a str>,
 }
 
@@ -67,6 +72,13 @@ pub(crate) fn command<'a>(alloc: Global) -> Result<Command<'a>, AllocError> {
                 .help("How it is said: a line each, as JSON, or as SARIF 2.1.0"),
         )?
         .arg(
+            Arg::new(alloc, "infer")
+                .long("infer")
+                .action(ArgAction::SetTrue)
+                .conflicts_with_all(ALONE.as_slice())?
+                .help("Prints a JSON Schema to which the files conform, which are data"),
+        )?
+        .arg(
             Arg::new(alloc, "file")
                 .value_name("FILE")
                 .required(true)
@@ -103,6 +115,7 @@ pub(crate) fn request_of<'a>(
         mode: mode_named(matches.get_str("missingkey")),
         stops,
         format: format_named(matches.get_str("format")),
+        is_to_infer: matches.get_flag("infer"),
         files,
     })
 }
