@@ -1,13 +1,15 @@
 """Tries the edits crates/NAME/edits/*.edit as the gate tries those of must-fail/: the prover must refuse each. This is
 done on a copy of the repository, where they take the place of those of must-fail/, over what earlier runs kept in out/.
 
-    edits.py [NAME..]     tries the edits of these crates, or of all; RT_JOBS=N takes N crates side by side, else one
+    edits.py [NAME..]     tries the edits of these crates, or of all whose source, definitions or edits have changed since they were all
+                          refused; RT_JOBS=N takes N crates side by side, else one
     edits.py --apply      only looks whether each edit of edits/ and of must-fail/ still applies to its file, and, where the crate has
                           changed since, has the compiler's front end read each of edits/ over the libraries that `rt ci` left, so that
                           one which no longer compiles is found
 
 When all edits of a crate were refused, or read and found to compile, a checksum of its source and of its edits is written to
-tests/gate/edits.seen."""
+tests/gate/edits.seen; when all were refused, one of its source, definitions and edits to tests/gate/edits.refused, with the day."""
+import datetime
 import hashlib
 import os
 import re
@@ -22,6 +24,9 @@ from tests.lib import harness
 FOLDERS = ("edits", "must-fail")
 REFUSED = ": refused, as it must be"
 SEEN = f"{harness.TESTS}/gate/edits.seen"
+READ_OF = ("src", "edits")  # what the front end reads
+REFUSED_AT = f"{harness.TESTS}/gate/edits.refused"
+TRIED_OF = ("src", "specs", "edits")  # on what a refusal rests, beside the crates below
 READ = "only=0 proved=0"  # what a check of no function says at its end
 
 
@@ -81,10 +86,10 @@ def attempt(room, name):
     return refused, len(wanted) - refused
 
 
-def checksum(name):
-    """Of the source of a crate, and of its edits."""
+def checksum(name, folders):
+    """Of these folders of a crate."""
     told = hashlib.sha256()
-    for folder in ("src", "edits"):
+    for folder in folders:
         for place, folders, files in os.walk(f"{harness.TOP}/crates/{name}/{folder}"):
             folders.sort()
             for file in sorted(files):
@@ -93,19 +98,24 @@ def checksum(name):
     return told.hexdigest()
 
 
-def seen():
-    """The checksums of the crates, by name, at which all their edits were refused or read."""
-    if not os.path.exists(SEEN):
+def told_in(path):
+    """What stands there of each crate, by name: a checksum, and perhaps a day."""
+    if not os.path.exists(path):
         return {}
-    with open(SEEN, encoding="ascii") as it:
-        return dict(line.split() for line in it)
+    with open(path, encoding="ascii") as it:
+        return {line.split()[0]: line.split()[1:] for line in it}
 
 
-def record(names):
-    """Writes down that all edits of these crates were refused or read."""
-    told = {**seen(), **{name: checksum(name) for name in names}}
-    with open(SEEN, "w", encoding="ascii") as it:
-        it.writelines(f"{name} {told[name]}\n" for name in sorted(told))
+def is_told(path, name, folders):
+    """Whether the crate is now as it was when it was written down there."""
+    return told_in(path).get(name, [""])[0] == checksum(name, folders)
+
+
+def record(path, names, folders, *more):
+    """Writes down how these crates are now."""
+    told = {**told_in(path), **{name: [checksum(name, folders), *more] for name in names}}
+    with open(path, "w", encoding="ascii") as it:
+        it.writelines(" ".join((name, *told[name])) + "\n" for name in sorted(told))
 
 
 def compiles(crate, edit):
@@ -167,13 +177,12 @@ def read_edits_in(crate, name):
 
 def read_changed(crates):
     """Has the front end read the edits of those crates that changed since: how many it takes and how many not."""
-    told = seen()
-    changed = [it for it in crates if edits_in(f"{harness.TOP}/crates/{it}/edits") and told.get(it) != checksum(it)]
+    changed = [it for it in crates if edits_in(f"{harness.TOP}/crates/{it}/edits") and not is_told(SEEN, it, READ_OF)]
     with ThreadPoolExecutor(int(os.environ.get("RT_JOBS") or 1)) as pool:
         came = [(name, pool.submit(read_edits, name)) for name in changed]
         for name, it in came:
             if not it.result()[1]:
-                record([name])
+                record(SEEN, [name], READ_OF)
     return tuple(map(sum, zip((0, 0), *(it.result() for _, it in came))))
 
 
@@ -192,7 +201,7 @@ def attempt_all(room, every, crates):
 def main(words):
     only_apply = words == ["--apply"]
     every = sorted(os.listdir(f"{harness.TOP}/crates"))
-    crates = every if only_apply else words or every
+    crates = every if only_apply else words or [it for it in every if not is_told(REFUSED_AT, it, TRIED_OF)]
     unknown = [it for it in crates if it not in every]
     if unknown:
         sys.exit(f"there is no crate {unknown[0]}")
@@ -211,7 +220,9 @@ def main(words):
             counted = [(0, bad), *came]
             if bad:
                 print(f"BAD EDIT: {bad} can't be applied, as told at the start")
-            record(name for name, (refused, others) in zip(crates, came) if refused and not others)
+            refused = [name for name, (passed, others) in zip(crates, came) if passed and not others]
+            record(SEEN, refused, READ_OF)
+            record(REFUSED_AT, refused, TRIED_OF, datetime.date.today().isoformat())
     return harness.closing(*map(sum, zip(*counted)))
 
 

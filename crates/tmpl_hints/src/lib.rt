@@ -10,6 +10,6 @@ mod sentence;
 mod unread;
 
 pub use action::{Open, Opening, Role, role_named, role_of, role_unread, significant};
-pub use detail::{detail_of, left_open, misplaced, undeclared};
+pub use detail::{detail_of, left_open, misplaced_text, undeclared_text};
 pub use sentence::Sentence;
 pub use unread::{marker_len, opens_comment, unreadable};

@@ -60,14 +60,14 @@ module _ (xs : List Role) (i : ℕ) (known : Known) (p : Names) (fs : List Frame
   stands-opened (opened.control d) at = (
     here-control xs i known.inner d p at (top fs) h,
     i,
-    stood-opened (opened.control d) at inside (record { started = part-low d known.inner p.declares; with_part = part-high d known.inner p.declares })
+    stood-opened (opened.control d) at inside (record { started = part-low d known.inner p.declares; parted = part-high d known.inner p.declares })
         (λ own. subst (Sees xs (Some i) (i + 1)) (sym (take-part d known.inner p.declares)) (part-first d at d refl)),
     subst (λ l. Stands xs i (with_inner known l) fs) (sym (take-before known.inner p.declares)) s,
   )
   stands-opened c at = (
     here-template xs i known.inner c p at (top fs) h refl,
     i,
-    stood-opened c at [] (record { started = omega arith; with_part = omega arith }) (λ none. cc),
+    stood-opened c at [] (record { started = omega arith; parted = omega arith }) (λ none. cc),
     s,
   )
 
@@ -209,7 +209,7 @@ module _ (xs : List Role) (i : ℕ) (known : Known) (f : Frame) (fs : List Frame
     over = omega (arith, s.2.over, even.balance);
     has = has-came xs i s.1 b f.has_else part s.2.has;
     around = s.2.around;
-    within = record { started = let a = s.2.within.started in omega (arith, front, with-longer (take f.part names) ds); with_part = omega arith };
+    within = record { started = let a = s.2.within.started in omega (arith, front, with-longer (take f.part names) ds); parted = omega arith };
     part = λ o. subst (Sees xs (Some s.1) (i + 1)) (sym (take-length seen)) (sees-parted (Some s.1) (λ q e. cc));
   }
 
