@@ -59,7 +59,11 @@ pub(crate) fn load_all<'a>(rt: &HostRuntime, request: &Request<'a>) -> Result<Al
 }
 
 /// Reads a file; none where that can't be done, which is said.
-pub(crate) fn load<'a>(rt: &HostRuntime, name: &'a str, most: u64) -> Result<Option<Loaded<'a>>, Stop> {
+pub(crate) fn load<'a>(
+    rt: &HostRuntime,
+    name: &'a str,
+    most: u64,
+) -> Result<Option<Loaded<'a>>, Stop> {
     match read_front(rt, name, most) {
         Ok(bytes) => Ok(Some(Loaded { name, bytes })),
         Err(error) => match error.kind() {

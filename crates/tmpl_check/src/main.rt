@@ -85,7 +85,11 @@ fn check(rt: &HostRuntime, request: &Request<'_>) -> Result<u8, Stop> {
 }
 
 /// Puts out what is found.
-pub(crate) fn put_out(rt: &HostRuntime, format: Format, findings: &Findings<'_>) -> Result<(), Stop> {
+pub(crate) fn put_out(
+    rt: &HostRuntime,
+    format: Format,
+    findings: &Findings<'_>,
+) -> Result<(), Stop> {
     let alloc = rt.alloc();
     let shown = match format {
         Format::Text => text::lines(alloc, findings)?,

@@ -67,11 +67,7 @@ pub(crate) fn add_schema<'a>(
 }
 
 /// What is said of a value for which a template fails, by the mode that was asked for or by each.
-fn failure_text(
-    alloc: Global,
-    failure: &Failure,
-    is_by_mode: bool,
-) -> Result<String, AllocError> {
+fn failure_text(alloc: Global, failure: &Failure, is_by_mode: bool) -> Result<String, AllocError> {
     let mut text = String::from_str(alloc, "fails ")?;
     if failure.is_strict && !is_by_mode {
         text.push_str("with --missingkey error ")?;

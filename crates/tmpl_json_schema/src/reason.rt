@@ -31,8 +31,8 @@ pub struct Reason {
     pub line: u64,
 }
 
-/// For each doubt why what it speaks of may come, in a run of the template of this name over data of the document, where
-/// one place of that alone lets it through; else none. The doubts are those that `check_document` gives.
+/// For each doubt why what it speaks of may come, in a run of the template of this name over data of the document,
+/// where one place of that alone lets it through; else none. The doubts are those that `check_document` gives.
 pub fn reasons_of(
     alloc: Global,
     set: &Set,

@@ -291,11 +291,7 @@ impl<'w> Walk<'w> {
     }
 
     /// Binds the variables of a header to a value.
-    fn bind(
-        &mut self,
-        binding: &'w Binding,
-        origin: &Option<Origin>,
-    ) -> Result<(), AllocError> {
+    fn bind(&mut self, binding: &'w Binding, origin: &Option<Origin>) -> Result<(), AllocError> {
         match binding {
             Binding::Declare(name) => self.declare(name.as_slice(), origin),
             Binding::DeclarePair(pair) => {
@@ -408,7 +404,13 @@ fn add_assigned<'w>(
             }
             _ => None,
         };
-        if let Some(Header { binding: Binding::Assign(name), .. }) = header {
+        if let Some(
+            Header {
+                binding: Binding::Assign(name),
+                ..
+            },
+        ) = header
+        {
             names.push(name.as_slice())?;
         }
     }
@@ -463,6 +465,7 @@ fn round<'w>(
     set: &'w Set,
     dots: &mut Vec<Source<'w>>,
 ) -> Result<bool, AllocError> {
+    let none: &[Doubt] = &[];
     let mut is_more = false;
     for index in 0..=set.len() {
         let Some(dot) = dots.get(index) else {
@@ -471,7 +474,7 @@ fn round<'w>(
         let Some(tree) = set.get(dot.name) else {
             continue;
         };
-        let walk = walked(document, [].as_slice(), Vec::new(document.alloc), dot, tree)?;
+        let walk = walked(document, none, Vec::new(document.alloc), dot, tree)?;
         let Walk { handed, .. } = walk;
         for source in handed.into_iter() {
             if hand(document, dots, source)? {

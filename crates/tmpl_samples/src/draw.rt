@@ -9,6 +9,7 @@ pub(crate) const LEVELS: usize = 120;
 
 /// After how many references, one into the other, what may be left out is, and after how many no value is made.
 const FEW_REFERENCES: usize = 1;
+
 const MOST_REFERENCES: usize = 12;
 
 /// The most parts that a value has.
@@ -171,8 +172,10 @@ impl<'d> Draw<'d> {
                     _ => Ok(None),
                 }
             }
-            _ if is_map_schema(schema) => self.of_map(levels, schema),
-            _ if schema.get("items").is_some() => self.of_list(levels, schema),
+            _ if is_map_schema(schema) && self.choose(2, 0)? == 0 => self.of_map(levels, schema),
+            _ if schema.get("items").is_some() && self.choose(2, 0)? == 0 => {
+                self.of_list(levels, schema)
+            }
             _ => self.of_any(),
         }
     }
@@ -209,11 +212,7 @@ impl<'d> Draw<'d> {
     }
 
     /// One of these values, of which those count that are of the schema.
-    fn one_of(
-        &mut self,
-        schema: &Value,
-        values: Vec<Value>,
-    ) -> Result<Option<Value>, AllocError> {
+    fn one_of(&mut self, schema: &Value, values: Vec<Value>) -> Result<Option<Value>, AllocError> {
         let root = self.root;
         let mut fit = values;
         fit.retain(|value| conforms(root, LEVELS, schema, value));

@@ -139,8 +139,8 @@ fn add_properties(
     Ok(())
 }
 
-/// A JSON Schema to which each of the samples conforms: their types, the properties of maps, of which those are required
-/// that each has, and the items of lists.
+/// A JSON Schema to which each of the samples conforms: their types, the properties of maps, of which those are
+/// required that each has, and the items of lists.
 pub fn infer_schema(alloc: Global, samples: &[&Value]) -> Result<Value, AllocError> {
     let mut schema = schema_of(alloc, LEVELS, samples)?;
     put(&mut schema, alloc, "$schema", text_value(alloc, DRAFT)?)?;

@@ -16,25 +16,30 @@ use tmpl_values::Bytes;
 
 /// The most renders from one beginning, the most of making a value smaller, and the most bytes of all values for that.
 const MOST_TRIES: usize = 500;
+
 const MOST_SMALLER: usize = 200;
+
 const MOST_SMALLER_BYTES: usize = 500_000;
 
 /// The most parts of all values that are made.
-const MOST_WORK: usize = 100_000;
+const MOST_WORK: usize = 50_000;
 
 /// How often it is gone on from the value over which the template comes farthest.
 const MOST_ROUNDS: usize = 10;
 
 /// How far a run comes: to its end, or else to a line, and less by its text.
 const END: u64 = u64::MAX;
+
 const LINE: u64 = 10_000_000;
 
 /// The most bytes of a value that is rendered, and of one that is shown.
 const MOST_BYTES: usize = 100_000;
+
 const MOST_SHOWN: usize = 500;
 
 /// The limits of a render.
 const STEPS: u64 = 20_000;
+
 const DEPTH: u32 = 50;
 
 /// The most bytes that a render puts out.
@@ -160,6 +165,9 @@ fn is_doubted(doubt: &Doubt, fault: &RunFault<'_>, stops: &[Bytes]) -> bool {
 fn said_of(alloc: Global, fault: RunFault<'_>, name: &[u8]) -> Result<String, AllocError> {
     let mut sink = WriterSink::new(Vec::new(alloc));
     let _ = tell_end(Err(RenderError::Fault(fault)), name, &mut sink);
+    if sink.failures > 0 {
+        return Err(AllocError);
+    }
     let line = sink.writer.as_slice();
     let start = b"tmpl: ".len().saturating_add(fault.file.len());
     let rest = line.get(start..).unwrap_or(&[]);
@@ -192,8 +200,8 @@ fn reason_in(line: &[u8]) -> &[u8] {
 }
 
 impl Question<'_> {
-    /// Renders the template over a value, if that conforms. Gives what comes of it: of one doubt alone, where it is asked
-    /// for.
+    /// Renders the template over a value, if that conforms. Gives what comes of it: of one doubt alone, where it is
+    /// asked for.
     fn outcome(&self, value: &Value, only: Option<usize>) -> Result<Outcome, AllocError> {
         if !conforms(self.root, LEVELS, self.root, value) {
             return Ok(NO_RUN);
@@ -224,10 +232,17 @@ impl Question<'_> {
             room: MOST_TEXT,
             failures: 0,
         };
-        match self.renderer.render(self.alloc, self.name, Some(tree), &options, &mut out) {
+        match self
+            .renderer
+            .render(self.alloc, self.name, Some(tree), &options, &mut out)
+        {
             Err(RenderError::Fault(fault)) => {
                 let text = MOST_TEXT.saturating_sub(out.room) as u64;
-                let line = if fault.template == self.name { fault.line } else { 0 };
+                let line = if fault.template == self.name {
+                    fault.line
+                } else {
+                    0
+                };
                 Ok(Outcome {
                     progress: line.saturating_mul(LINE).saturating_add(text),
                     shown: self.shown(fault, data, only)?,
@@ -454,15 +469,13 @@ pub fn failures_of(
         Err(_) => return Ok(Vec::new(alloc)),
     };
     let renderer = Renderer::new(alloc, set)?;
-    searched(
-        &Question {
-            alloc,
-            renderer: &renderer,
-            name,
-            root: &root,
-            mode: mode.unwrap_or(MissingKey::Error),
-            stops,
-            doubts,
-        },
-    )
+    searched(&Question {
+        alloc,
+        renderer: &renderer,
+        name,
+        root: &root,
+        mode: mode.unwrap_or(MissingKey::Error),
+        stops,
+        doubts,
+    })
 }
