@@ -1,5 +1,5 @@
 //! The templates that a file defines and calls, by the tokens of its actions.
-ghost use Rattle.std.specs.Prelude.{IfOk};
+ghost use Rattle.std.specs.Prelude.{◌≡◌, IfOk};
 ghost use Rattle.tmpl_refusals.specs.Column.{IsPlace};
 
 use crate::scan::place_in;
@@ -47,17 +47,9 @@ pub(crate) fn second_definition(
         let part = first_part(bytes, rest, &mut tokens)?;
         if let Some(name) = name_after(tokens.as_slice(), &[b"define", b"block"]) {
             place = place_in(place, bytes, part.opens);
-            match first.get(name).copied() {
-                Some(earlier) if place.line == line => {
-                    return Ok(Second {
-                        place,
-                        detail: second_text(alloc, name, earlier)?,
-                    });
-                }
-                Some(_) => {}
-                None => {
-                    first.insert(name, place.line)?;
-                }
+            let earlier = first_line(&mut first, name, place.line)?;
+            if place.line == line && earlier.is_some() {
+                return second_at(alloc, place, name, earlier);
             }
         }
         match part.rest {
@@ -66,11 +58,34 @@ pub(crate) fn second_definition(
         }
     }
     let name = base_name(file);
-    let earlier = first.get(name).copied().unwrap_or(1);
-    Ok(Second {
-        place: Place::first(),
-        detail: second_text(alloc, name, earlier)?,
-    })
+    let earlier = first.get(name).copied();
+    second_at(alloc, Place::first(), name, earlier)
+}
+
+/// The line of the first definition of a name, which this one is if there was none.
+fn first_line<'b>(
+    first: &mut IndexMap<&'b [u8], u64, NameHash>,
+    name: &'b [u8],
+    line: u64,
+) -> Result<Option<u64>, AllocError> {
+    let earlier = first.get(name).copied();
+    if earlier.is_none() {
+        first.insert(name, line)?;
+    }
+    Ok(earlier)
+}
+
+/// A second definition of this name at this place, of which the first is on this line.
+fn second_at(
+    alloc: Global,
+    place: Place,
+    name: &[u8],
+    earlier: Option<u64>,
+) -> Result<Second, AllocError>
+    ensures { IfOk result (λ s. s.place ≡ place) }
+{
+    let detail = second_text(alloc, name, earlier.unwrap_or(1))?;
+    Ok(Second { place, detail })
 }
 
 /// What is said of a second definition of this name, of which the first is on this line.
