@@ -4,8 +4,8 @@ data of the schema, by each mode, and must end well, or at the call of `stop`; a
 fails.
 
 Then it is held to rows over a JSON Schema each, and to random ones: a template that it accepts is rendered over values that conform, and
-none may fail; over each value that it shows tmpl must fail, at that line and as it is told, and the value must conform. Schemas that it
-infers are held to rows and to random samples, which must conform. `verdicts.py SEED COUNT` draws others. Where the Python package
+none may fail; over each value that it shows tmpl must fail, at that line and as it is told, and the value must conform. Where it tells a line of
+the schema and that is mended, it must say the same no more. Schemas that it infers are held to rows and to random samples, which must conform. `verdicts.py SEED COUNT` draws others. Where the Python package
 jsonschema is installed, what conforms is held to it."""
 import itertools
 import json
@@ -59,6 +59,9 @@ DATA = [
     )
 ]
 NOTE = re.compile(r"(t:[0-9]+:[0-9]+): note: fails (?:with --missingkey ([a-z]+) )?for (.*)")
+ABSENT = re.compile(r'(t:[0-9]+:[0-9]+: error: may fail: \.)([a-z]+) (may be absent: )(?:not in|no) "(required|properties)" (?:of|at) s:([0-9]+)\n')
+KIND = re.compile(r"(t:[0-9]+:[0-9]+: error: may fail: .* (?:of|over) )(null|a truth value|a number|a text|a list)(, which may come here) \(s:([0-9]+)\).*\n")
+TYPES = {"null": ["null"], "a truth value": ["boolean"], "a number": ["integer", "number"], "a text": ["string"], "a list": ["array"]}
 STOPPED = b': no template "stop"\n'
 # a template that never fails, and the modes by which it is accepted
 ACCEPTED = [
@@ -304,6 +307,62 @@ def drawn_values(seed, count):
     yield "values that are shown", 1, [] if shown > count / 2 else [f"    {shown} alone"]
 
 
+def placed_parts(value, line=1, path=()):
+    """The parts of a value with the lines on which they begin, where it is put out with each part on a line of its own."""
+    yield line, path
+    line += 1
+    for key, part in value.items() if isinstance(value, dict) else enumerate(value) if isinstance(value, list) else ():
+        yield from placed_parts(part, line, (*path, key))
+        line += json.dumps(part, indent=1).count("\n") + 1
+
+
+def at(value, path):
+    for key in path:
+        value = value[key]
+    return value
+
+
+def mended(schema, line, found):
+    """The schema in which what a line of tmpl-check names at this line no longer lets the value through."""
+    mended = json.loads(json.dumps(schema))
+    path = dict(placed_parts(schema))[line]
+    if found.re is ABSENT:
+        it = at(mended, path[:-1] if path and path[-1] in ("required", "properties") and isinstance(at(schema, path), (list, dict)) else path)
+        name = found[2]
+        it.setdefault("properties", {}).setdefault(name, True)
+        it["required"] = [*it.get("required", []), name]
+        return mended
+    it = at(mended, path[:-1]) if path and path[-1] in ("type", "enum", "const") else at(mended, path)
+    if it is True:
+        return None
+    types = it.get("type", ["null", "boolean", "integer", "string", "array", "object"])
+    it["type"] = [name for name in ([types] if isinstance(types, str) else types) if name not in TYPES[found[2]]]
+    return mended
+
+
+def drawn_reasons(seed, count):
+    """Lines of schemas that are told as reasons: where the schema is mended there, the same is said of the action no more."""
+    tried = 0
+    with tempfile.TemporaryDirectory(dir=harness.MEMORY) as folder:
+        for number in range(seed, seed + count):
+            draw = random.Random(number)
+            schema = conforming.drawn_document(draw)
+            mode = draw.choice(("each", *MODES))
+            words = [] if mode == "each" else ["--missingkey", mode]
+            template = "\n".join(['{{define "w"}}{{print .}}{{end}}', *conforming.drawn_template(draw)])
+            _, lines = said_of(folder, json.dumps(schema, indent=1), template, words)
+            for line in lines:
+                found = ABSENT.fullmatch(line) or KIND.fullmatch(line)
+                other = mended(schema, int(found[found.lastindex]), found) if found else None
+                if other is None:
+                    continue
+                tried += 1
+                _, after = said_of(folder, json.dumps(other, indent=1), template, words)
+                good = not any(it.startswith(line[: found.end(2)] + " " if found.re is ABSENT else line[: found.end(3)]) for it in after)
+                yield f"reason of {number}", 1, [] if good else [f"    {line}    {json.dumps(schema)}\n    {template!r}\n    {json.dumps(other)}: {after}"]
+    yield "reasons that were mended", 1, [] if tried > count / 4 else [f"    {tried} alone"]
+
+
 def accepted_part(folder, schema, lines, words):
     """What is left of a template once the lines are taken out that are refused."""
     lines = ['{{define "w"}}{{print .}}{{end}}', *lines]
@@ -375,7 +434,9 @@ def main():
         print("what conforms is not held to the package jsonschema, which is not installed")
     seed, count = map(int, sys.argv[1:3]) if len(sys.argv) > 2 else (1, 400)
     passed, failed, _ = harness.tally(
-        itertools.chain(results(), row_results(), drawn_results(seed, count), drawn_values(seed, count), drawn_samples(seed, count // 4))
+        itertools.chain(
+            results(), row_results(), drawn_results(seed, count), drawn_values(seed, count // 4), drawn_reasons(seed, count // 8), drawn_samples(seed, count // 4)
+        )
     )
     return harness.closing(passed, failed)
 

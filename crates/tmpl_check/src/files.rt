@@ -14,14 +14,14 @@ const STANDARD_INPUT: &str = "/dev/stdin";
 const MOST_READ: u64 = 16_777_217;
 
 /// A file that was read.
-#[derive(Debug, Drop)]
+#[derive(Drop)]
 pub(crate) struct Loaded<'a> {
     pub(crate) name: &'a str,
     pub(crate) bytes: Vec<u8>,
 }
 
 /// The files that were read, and whether others could not be.
-#[derive(Debug, Drop)]
+#[derive(Drop)]
 pub(crate) struct AllLoaded<'a> {
     pub(crate) templates: Vec<Loaded<'a>>,
     pub(crate) data: Option<Loaded<'a>>,

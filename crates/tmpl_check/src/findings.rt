@@ -16,7 +16,7 @@ use tmpl_problems::{
 use tmpl_syntax::{NameHash, Set, base_name};
 
 /// What is found, file by file.
-#[derive(Debug, Drop)]
+#[derive(Drop)]
 pub(crate) struct Findings<'a> {
     pub(crate) entries: Vec<Entry<'a>>,
 }

@@ -10,11 +10,8 @@ static FORMATS: [&str; 3] = ["text", "json", "sarif"];
 /// The words of `--missingkey`.
 static MODES: [&str; 4] = ["default", "invalid", "zero", "error"];
 
-/// The options of which none goes with `--infer`.
-static ALONE: [&str; 5] = ["data", "name", "schema", "missingkey", "stop"];
-
 /// How what is found is put out.
-#[derive(Clone, Copy, Debug, PartialEq, Eq)]
+#[derive(Clone, Copy)]
 pub(crate) enum Format {
     Text,
     Json,
@@ -22,7 +19,7 @@ pub(crate) enum Format {
 }
 
 /// What the words ask for.
-#[derive(Debug, Drop)]
+#[derive(Drop)]
 pub(crate) struct Request<'a> {
     pub(crate) data_file: Option<&'a str>,
     pub(crate) name: Option<&'a str>,
@@ -39,6 +36,7 @@ pub(crate) struct Request<'a> {
 
 /// The command line.
 pub(crate) fn command<'a>(alloc: Global) -> Result<Command<'a>, AllocError> {
+    let unlike_infer: [&'a str; 5] = ["data", "name", "schema", "missingkey", "stop"];
     Command::new(alloc, "tmpl-check")
         .version("0")
         .about(
@@ -75,7 +73,7 @@ pub(crate) fn command<'a>(alloc: Global) -> Result<Command<'a>, AllocError> {
             Arg::new(alloc, "infer")
                 .long("infer")
                 .action(ArgAction::SetTrue)
-                .conflicts_with_all(ALONE.as_slice())?
+                .conflicts_with_all(unlike_infer.as_slice())?
                 .help("Prints a JSON Schema to which the files conform, which are data"),
         )?
         .arg(

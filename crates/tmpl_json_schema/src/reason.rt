@@ -9,7 +9,7 @@ use tmpl_schema::{Cause, Doubt};
 use tmpl_syntax::Set;
 
 /// Why a document lets it through.
-#[derive(Clone, Copy, Debug, PartialEq, Eq)]
+#[derive(Clone, Copy)]
 pub enum Why {
     /// The field is none of the names in this `required`.
     NotRequired,
