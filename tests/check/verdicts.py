@@ -5,8 +5,8 @@ fails.
 
 Then it is held to rows over a JSON Schema each, and to random ones: a template that it accepts is rendered over values that conform, and
 none may fail; over each value that it shows tmpl must fail, at that line and as it is told, and the value must conform. Where it tells a line of
-the schema and that is mended, it must say the same no more. Schemas that it infers are held to rows and to random samples, which must conform. `verdicts.py SEED COUNT` draws others. Where the Python package
-jsonschema is installed, what conforms is held to it."""
+the schema and that is mended, it must say the same no more. Schemas that it infers are held to rows and to random samples, which must
+conform. `verdicts.py SEED COUNT` draws others. Where the Python package jsonschema is installed, what conforms is held to it."""
 import itertools
 import json
 import os
