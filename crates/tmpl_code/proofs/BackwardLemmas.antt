@@ -5,7 +5,7 @@ use Rattle.tmpl_grammar.specs.Tree.{Operands, no_operand, operand}
 use Rattle.tmpl_grammar.specs.View.{operand_of, operands_in, commands_in}
 use Rattle.tmpl_grammar.specs.declared.tree.Operand as held
 use Rattle.tmpl_grammar.specs.declared.tree.Command as held_command
-use Rattle.tmpl_code.specs.computed.Held.{Ends, decided}
+use Rattle.tmpl_code.specs.computed.Held.{Ends, after_decision}
 use Rattle.tmpl_code.specs.Layout.{Layout}
 use Rattle.tmpl_code.specs.Code.{Code, is_last, DecideAt, OperandAt, JunctionAt}
 use Rattle.tmpl_code.proofs.TailLemmas.{passes}
@@ -27,15 +27,15 @@ operands_from os i o h is = at_drop_more operands_in os i o h ∙ ap (λ (d : he
 
 -- one operand more
 pub junction_more : (lay : Layout) (above : ℕ) (is_or piped : Bool) (os : List held.Operand) (i : ℕ) (o : held.Operand) (last : Bool) (new mid more old : Code)
-    → i < length os → o ≡ get_or os i o → last ≡ is_last (operands_in (drop (i + 1) os)) piped → mid ≡ decided last is_or piped (length old) more
+    → i < length os → o ≡ get_or os i o → last ≡ is_last (operands_in (drop (i + 1) os)) piped → mid ≡ after_decision last is_or piped (length old) more
     → OperandAt (operand_of o) above lay new mid → JunctionAt is_or (operands_in (drop (i + 1) os)) piped above lay more old
     → Ends old more → JunctionAt is_or (operands_in (drop i os)) piped above lay new old
 junction_more lay above is_or piped os i o last new mid more old h is e put at others on =
     let rest : Operands = operands_in (drop (i + 1) os) in
-    let decided_here : mid ≡ decided (is_last rest piped) is_or piped (length old) more = rw (← e) put in
+    let decided_here : mid ≡ after_decision (is_last rest piped) is_or piped (length old) more = rw (← e) put in
     rw (operands_from os i o h is) (mid, at, decides rest (is_last rest piped) decided_here others (λ t. none rest piped t others))
   where
-    decides : (rest : Operands) (b : Bool) → mid ≡ decided b is_or piped (length old) more → JunctionAt is_or rest piped above lay more old
+    decides : (rest : Operands) (b : Bool) → mid ≡ after_decision b is_or piped (length old) more → JunctionAt is_or rest piped above lay more old
         → (b ≡ true → more ≡ old) → DecideAt b is_or piped (JunctionAt is_or rest piped above lay) mid old
     decides rest true put others none = put ∙ none refl
     decides rest false put others none = (length more - length old, more, put, others, passes on refl)

@@ -13,7 +13,7 @@ use Rattle.tmpl_syntax.specs.Tree.{NodeKind, Nodes, text, action, control_node, 
 use Rattle.tmpl_syntax.specs.Place.Role.{Name, names_of, names_given}
 use Rattle.tmpl_syntax.specs.Formed.{is_among, are_among, declared_to, else_scope, is_looped, scope_after, is_formed, are_formed}
 use Rattle.tmpl_syntax.proofs.FormedLemmas.{control-formed}
-use Rattle.tmpl_code.specs.Layout.{Layout, is_named, found_at, slot_named, bound_on, grown, first_layout}
+use Rattle.tmpl_code.specs.Layout.{Layout, is_named, found_at, slot_named, bound_on, after_node, first_layout}
 use Rattle.tmpl_code.specs.Laws.{have_each, have_slots, body_layout, other_layout, is_placed, are_placed, PlacesFormed}
 
 abbrev HasSlot : Name → Layout → Type 0
@@ -62,9 +62,9 @@ other-slots : (c : Control) (b : Binding) (scope : List Name) (cells : Layout) �
 other-slots control.Range b scope cells h = h
 other-slots _ b scope cells h = bound-slots b scope cells h
 
-grown-slots : (n : NodeKind) (scope : List Name) (cells : Layout) → HaveSlots scope cells → HaveSlots (scope_after n scope) (grown n cells)
-grown-slots (action h) scope cells k = bound-slots h.binding scope cells k
-grown-slots _ scope cells k = k
+after_node-slots : (n : NodeKind) (scope : List Name) (cells : Layout) → HaveSlots scope cells → HaveSlots (scope_after n scope) (after_node n cells)
+after_node-slots (action h) scope cells k = bound-slots h.binding scope cells k
+after_node-slots _ scope cells k = k
 
 all-slots : (names : List Name) (scope : List Name) (cells : Layout) → HaveSlots scope cells → are_among scope names ≡ true → have_slots names cells ≡ true
 all-slots names scope cells h e = both_true h.0 (go names e)
@@ -94,7 +94,7 @@ mutual
   nodes-placed (tree.then line n ns) scope cells loop levels h e =
       let p = and_parts (is_formed n scope loop levels) (are_formed ns (scope_after n scope) loop levels) e in
       both_true (node-placed n scope cells loop levels h p.0)
-      (nodes-placed ns (scope_after n scope) (grown n cells) loop levels (grown-slots n scope cells h) p.1)
+      (nodes-placed ns (scope_after n scope) (after_node n cells) loop levels (after_node-slots n scope cells h) p.1)
 
 pub places-formed : PlacesFormed
 places-formed ns e = nodes-placed ns [] first_layout false 0 (refl, λ name f. absurd (false≢true f)) e

@@ -23,7 +23,7 @@ use Rattle.tmpl_code.specs.Instruction.{push_nothing, push_bool, push_number, pu
 use Rattle.tmpl_code.specs.Instruction.{push_slot, chained, call_with, decide, settle, refuse, Instruction, spend, put}
 use Rattle.tmpl_code.specs.Instruction.{act, show, show_fields, show_slot, hold, set, set_dot, unless, enter_with, end_with, forget, enter}
 use Rattle.tmpl_code.specs.Instruction.{turn, next, leave, deepen, invoke, return_from}
-use Rattle.tmpl_code.specs.Layout.{Layout, slot_named, bound_on, declares, declares_key, grown, declared_in}
+use Rattle.tmpl_code.specs.Layout.{Layout, slot_named, bound_on, declares, declares_key, after_node, declared_in}
 use Rattle.tmpl_code.specs.Layout.{first_layout}
 
 -- from a place on
@@ -356,7 +356,7 @@ abbrev mutual
   NodesAt ts tree.none cells exit code rest = code ≡ rest
   NodesAt ts (tree.then line n ns) cells exit code rest =
       (start : Code) × (mid : Code) × StepAt ts line n code start
-      × NodeAt ts line n cells exit start mid × NodesAt ts ns (grown n cells) exit mid rest
+      × NodeAt ts line n cells exit start mid × NodesAt ts ns (after_node n cells) exit mid rest
 
 -- a whole template
 abbrev pub TreeAt : List Template → Nodes → Stretch

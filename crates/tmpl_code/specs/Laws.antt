@@ -9,7 +9,7 @@ use Rattle.tmpl_syntax.specs.Tree.{NodeKind, text, action, control_node, break_n
 use Rattle.tmpl_syntax.specs.Tree.{Nodes}
 use Rattle.tmpl_syntax.specs.Place.Role.{Name, names_of, names_given}
 use Rattle.tmpl_syntax.specs.Formed.{IsFormed, is_looped}
-use Rattle.tmpl_code.specs.Layout.{Layout, slot_named, bound_on, grown, first_layout}
+use Rattle.tmpl_code.specs.Layout.{Layout, slot_named, bound_on, after_node, first_layout}
 
 -- each of these names has a slot in this layout
 abbrev pub have_each : List Name → Layout → Bool
@@ -45,7 +45,7 @@ abbrev mutual
 
   pub are_placed : Nodes → Layout → Bool → Bool
   are_placed tree.none cells loop = true
-  are_placed (tree.then line n ns) cells loop = is_placed n cells loop && are_placed ns (grown n cells) loop
+  are_placed (tree.then line n ns) cells loop = is_placed n cells loop && are_placed ns (after_node n cells) loop
 
 -- the code of a formed tree, which starts with the layout of a template and in no range, comes neither to
 -- `VariableAt`, `SetAt` or `SetDotAt` of no slot nor to `BreakAt` or `ContinueAt` of no range

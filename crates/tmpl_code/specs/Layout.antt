@@ -44,9 +44,9 @@ declares_key (declare_pair key name) = true
 declares_key b = false
 
 -- after a node, which leaves the variables that an action declares
-abbrev pub grown : NodeKind → Layout → Layout
-grown (action h) cells = bound_on h.binding cells
-grown n cells = cells
+abbrev pub after_node : NodeKind → Layout → Layout
+after_node (action h) cells = bound_on h.binding cells
+after_node n cells = cells
 
 -- how many variables nodes leave
 abbrev pub declared_in : Nodes → ℕ

@@ -8,7 +8,7 @@ ghost use Rattle.tmpl_grammar.specs.declared.tree.Control.TheVariants as control
 ghost use Rattle.tmpl_syntax.specs.Need.{left_after};
 ghost use Rattle.tmpl_syntax.specs.View.{control_of, node_of, nodes_in, set_view};
 ghost use Rattle.tmpl_code.specs.Code as spec;
-ghost use Rattle.tmpl_code.specs.Layout.{declared_in, grown};
+ghost use Rattle.tmpl_code.specs.Layout.{declared_in, after_node};
 ghost use Rattle.tmpl_code.specs.computed.Held.{BoundPart, DottedPart, EndedPart, IsOpen, PartsAt, Placed, Put, StepBy};
 ghost use Rattle.tmpl_code.specs.computed.Held.{TurnsPart, all_grown, code_of, exit_seen, layout_of, number_called, shrunk};
 
@@ -92,7 +92,7 @@ pub(crate) fn left_after(node: &Node) -> usize
 
 /// The variables that a node leaves come into scope.
 fn grow<'s>(scope: &mut Scope<'s>, node: &'s Node) -> Result<(), AllocError>
-    ensures { OnOk result (layout_of scope.new ≡ grown (node_of node.now).what (layout_of scope.old)) }
+    ensures { OnOk result (layout_of scope.new ≡ after_node (node_of node.now).what (layout_of scope.old)) }
 {
     match &node.what {
         NodeKind::Action(header) => open(scope, &header.binding),

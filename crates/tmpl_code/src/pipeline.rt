@@ -6,7 +6,7 @@ ghost use Rattle.tmpl_funcs.specs.Func.{takes};
 ghost use Rattle.tmpl_grammar.specs.View.{commands_in, operand_of, operands_in, pipeline_of};
 ghost use Rattle.tmpl_code.specs.Code as spec;
 ghost use Rattle.tmpl_code.specs.Layout.{slot_named};
-ghost use Rattle.tmpl_code.specs.computed.Held.{CalledAt, Ends, Placed, code_of, decided, layout_of};
+ghost use Rattle.tmpl_code.specs.computed.Held.{CalledAt, Ends, Placed, code_of, after_decision, layout_of};
 
 use crate::code::Code;
 use crate::instruction::{CommandError, Instruction};
@@ -242,7 +242,7 @@ fn put_decide(
     last: bool,
 ) -> Result<(), AllocError>
     requires { end ≤ length (code_of code.old) }
-    ensures code { OnOk result (code_of code.new ≡ decided last is_or piped end (code_of code.old)) }
+    ensures code { OnOk result (code_of code.new ≡ after_decision last is_or piped end (code_of code.old)) }
     ensures ends { OnOk result (Ends (code_of code.old) (code_of code.new)) }
 {
     if last {

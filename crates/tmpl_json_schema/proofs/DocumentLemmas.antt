@@ -9,17 +9,17 @@ use Rattle.serde_json.specs.Data.{Data, Items, no_items, Members, no_members, me
 use Rattle.serde_json.specs.Find.{get, pointer}
 use Rattle.tmpl_values.specs.Value.{Value, Entries, no_entry, entry, nothing, null, boolean, number, string, sequence, mapping, item, no_item}
 use Rattle.tmpl_values.specs.Value as value
-use Rattle.tmpl_schema.specs.Shape.{Shape, never, anything, named, record_of, Names, Defs, Fields, EachEntry, EachItem, AreDistinct, HasRequired, HasShape, IsField, stands_for}
-use Rattle.tmpl_schema.specs.View.{defs_in, shape_of}
-use Rattle.tmpl_schema.specs.declared.shape.Definition.{Definition}
-use Rattle.tmpl_schema.specs.computed.Means.{Means}
-use Rattle.tmpl_schema.proofs.NameLemmas.{meant}
-use Rattle.tmpl_schema.proofs.ShapeLemmas.{same_name, or_cases, items-has, entries-has}
+use Rattle.tmpl_shape.specs.Shape.{Shape, never, anything, named, record_of, Names, Defs, Fields, EachEntry, EachItem, AreDistinct, HasRequired, HasShape, IsField, stands_for}
+use Rattle.tmpl_shape.specs.View.{defs_in, shape_of}
+use Rattle.tmpl_shape.specs.declared.shape.Definition.{Definition}
+use Rattle.tmpl_shape.specs.computed.Means.{Means}
+use Rattle.tmpl_shape.proofs.NameLemmas.{meant}
+use Rattle.tmpl_shape.proofs.ShapeLemmas.{same_name, or_cases, items-has, entries-has}
 use Rattle.tmpl_json_schema.specs.Document.{IsInstance, IsOfType, IsConstant, IsOneOf, HasKeys, SomeItem, in_properties, FitsProperty, FitsProperties, FitsAdditional}
-use Rattle.tmpl_json_schema.specs.Document.{FitsItems, FitsSome, fragment_of, referred, ConformsBy, conforms_in}
+use Rattle.tmpl_json_schema.specs.Document.{FitsItems, FitsSome, fragment_of, refer, ConformsBy, conforms_in}
 use Rattle.tmpl_json_schema.specs.declared.kinds.Kinds.{Kinds}
 use Rattle.tmpl_json_schema.specs.computed.Reading.{fold, fold_members, every_kind, both_kinds, types_in, const_in, enum_in, kinds_in, type_kinds, enum_kinds, constant_kind}
-use Rattle.tmpl_json_schema.specs.computed.Reading.{is_every_kind, by_kinds, kept, rest_of, shape_of_rest, has_content, choices_in, or_else, is_listed, reference_shape, or_shape}
+use Rattle.tmpl_json_schema.specs.computed.Reading.{is_every_kind, by_kinds, keep_kinds, rest_of, shape_of_rest, has_content, choices_in, or_else, is_listed, reference_shape, or_shape}
 use Rattle.tmpl_json_schema.specs.computed.Reading.{choice_with, choice_shape, shape_under, required_in, required_fields, properties_in, property_fields, with_property}
 use Rattle.tmpl_json_schema.specs.computed.Reading.{fields_in, content_shape, plain_shape, object_shape, shape_by}
 use Rattle.tmpl_json_schema.specs.computed.Defined.{IsDefinition, are_defined}
@@ -219,11 +219,11 @@ module _ (N : Names) (read : Data → Option Shape) (C : Data → Value → Type
     plain-has : (ks : Kinds) (s : Shape) → plain_shape read whole ks ≡ Some s → HasKind ks v → HasShape N s v
     plain-has ks s e k = by (choices_in whole) refl e
       where
-        pick : (c : Data) → choices_in whole ≡ Some c → (o : Option Shape) → choice_shape read c ≡ o → option_map (kept ks) o ≡ Some s → HasShape N s v
+        pick : (c : Data) → choices_in whole ≡ Some c → (o : Option Shape) → choice_shape read c ≡ o → option_map (keep_kinds ks) o ≡ Some s → HasShape N s v
         pick c is None x f = absurd (not-some s f)
-        pick c is (Some t) x f = is-some (λ u. HasShape N u v) (kept ks t) s f (kept-has N ks t v k (choice-has c t v x (chosen c is)))
+        pick c is (Some t) x f = is-some (λ u. HasShape N u v) (keep_kinds ks t) s f (kept-has N ks t v k (choice-has c t v x (chosen c is)))
 
-        by : (o : Option Data) → choices_in whole ≡ o → option_map_or (λ c. option_map (kept ks) (choice_shape read c)) o (content_shape read whole ks) ≡ Some s → HasShape N s v
+        by : (o : Option Data) → choices_in whole ≡ o → option_map_or (λ c. option_map (keep_kinds ks) (choice_shape read c)) o (content_shape read whole ks) ≡ Some s → HasShape N s v
         by None is f = content-has ks s f k
         by (Some c) is f = pick c is (choice_shape read c) refl f
 
@@ -231,7 +231,7 @@ module _ (N : Names) (read : Data → Option Shape) (C : Data → Value → Type
     all-kinds ks e = kinds-has whole ks v e h.0 h.1 h.2 h.3
 
     object-has : (names : List (List ℕ))
-        → ((r : Data) (s : Shape) → reference_shape names r ≡ Some s → IfSome (referred root r) (λ d. C d v) → HasShape N s v)
+        → ((r : Data) (s : Shape) → reference_shape names r ≡ Some s → IfSome (refer root r) (λ d. C d v) → HasShape N s v)
         → (s : Shape) → object_shape read names whole ≡ Some s → HasShape N s v
     object-has names refers s e = by (get (codes "$ref") whole) h.10 e
       where
@@ -239,7 +239,7 @@ module _ (N : Names) (read : Data → Option Shape) (C : Data → Value → Type
         rest None is f = absurd (not-some s f)
         rest (Some ks) is f = plain-has ks s f (all-kinds ks is)
 
-        by : (o : Option Data) → IfSome o (λ r. IfSome (referred root r) (λ d. C d v))
+        by : (o : Option Data) → IfSome o (λ r. IfSome (refer root r) (λ d. C d v))
             → option_map_or (reference_shape names) o (option_and_then (plain_shape read whole) (kinds_in whole)) ≡ Some s → HasShape N s v
         by None x f = rest (kinds_in whole) refl f
         by (Some r) x f = refers r s f x
@@ -253,7 +253,7 @@ EachDefined root names l defs = (p : List ℕ) → is_listed names p ≡ true
 
 module _ (root : Data) (names : List (List ℕ)) (l : ℕ) (defs : Defs) (defined : EachDefined root names l defs) (N : Names) (means : Means defs N) where
   module _ (C : Data → Value → Type 0) (ok : (d : Data) (s : Shape) (v : Value) → shape_by names l d ≡ Some s → C d v → HasShape N s v) where
-    refers-has : (v : Value) (r : Data) (s : Shape) → reference_shape names r ≡ Some s → IfSome (referred root r) (λ d. C d v) → HasShape N s v
+    refers-has : (v : Value) (r : Data) (s : Shape) → reference_shape names r ≡ Some s → IfSome (refer root r) (λ d. C d v) → HasShape N s v
     refers-has v (json.string t) s e h = by (fragment_of t) e h
       where
         found : (p : List ℕ) → is_listed names p ≡ true → IfSome (pointer p root) (λ d. C d v) → N p v

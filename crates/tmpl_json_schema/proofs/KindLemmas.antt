@@ -5,12 +5,12 @@ use Rattle.std.proofs.lemmas.Bool.{false≢true}
 use Rattle.serde_json.specs.Data as json
 use Rattle.serde_json.specs.Data.{Data, Items, no_items}
 use Rattle.tmpl_values.specs.Value.{Value, nothing, null, boolean, number, string, sequence, mapping}
-use Rattle.tmpl_schema.specs.Shape.{Shape, never, nothings, nulls, truths, numbers, texts, anything, list_of, record_of, either, named, Names, Fields}
-use Rattle.tmpl_schema.specs.Shape.{EachItem, HasShape}
+use Rattle.tmpl_shape.specs.Shape.{Shape, never, nothings, nulls, truths, numbers, texts, anything, list_of, record_of, either, named, Names, Fields}
+use Rattle.tmpl_shape.specs.Shape.{EachItem, HasShape}
 use Rattle.tmpl_json_schema.specs.Document.{IsInstance, HasType, type_of, SomeItem, IsNameOfType, IsOfType, IsConstant, IsOneOf}
 use Rattle.tmpl_json_schema.specs.declared.kinds.Kinds.{Kinds}
 use Rattle.tmpl_json_schema.specs.computed.Reading.{fold, either_kinds, both_kinds, no_kind, kind_named, kind_with, type_kinds}
-use Rattle.tmpl_json_schema.specs.computed.Reading.{constant_kind, constant_with, enum_kinds, is_never, or_shape, or_if, by_kinds, if_kind, kept}
+use Rattle.tmpl_json_schema.specs.computed.Reading.{constant_kind, constant_with, enum_kinds, is_never, or_shape, or_if, by_kinds, if_kind, keep_kinds}
 
 -- a value is of one of the kinds
 abbrev pub HasKind : Kinds → Value → Type 0
@@ -213,7 +213,7 @@ module _ (N : Names) where
   if_kind-has true s v e h = h
   if_kind-has false s v e h = absurd (false≢true e)
 
-  pub kept-has : (ks : Kinds) (s : Shape) (v : Value) → HasKind ks v → HasShape N s v → HasShape N (kept ks s) v
+  pub kept-has : (ks : Kinds) (s : Shape) (v : Value) → HasKind ks v → HasShape N s v → HasShape N (keep_kinds ks s) v
   kept-has ks never v k h = h
   kept-has ks nothings nothing k h = k
   kept-has ks nothings v k h = absurd h
@@ -230,8 +230,8 @@ module _ (N : Names) where
   kept-has ks (record_of fs) (mapping es) k h = if_kind-has ks.map (record_of fs) (mapping es) k h
   kept-has ks (record_of fs) v k h = absurd h
   kept-has ks (either s t) v k h = elim h [
-    | inl x ↦ or-one (kept ks s) (kept ks t) v (kept-has ks s v k x)
-    | inr x ↦ or-other (kept ks s) (kept ks t) v (kept-has ks t v k x)
+    | inl x ↦ or-one (keep_kinds ks s) (keep_kinds ks t) v (kept-has ks s v k x)
+    | inr x ↦ or-other (keep_kinds ks s) (keep_kinds ks t) v (kept-has ks t v k x)
   ]
   kept-has ks anything v k h = h
   kept-has ks (named x) v k h = h

@@ -3,7 +3,7 @@ use Rattle.std.proofs.Common.{ℕ, List, Option, Some}
 use Rattle.tmpl_values.specs.Value.{Value}
 use Rattle.tmpl_syntax.specs.Set.{Template}
 use Rattle.tmpl_meaning.specs.declared.missing_key.MissingKey.{MissingKey}
-use Rattle.tmpl_schema.specs.Shape.{Fits, Schema}
+use Rattle.tmpl_shape.specs.Shape.{Fits, Schema}
 use Rattle.tmpl_schema.specs.Safe.{NeverFails}
 use Rattle.tmpl_json_schema.specs.Document.{ConformsTo}
 use Rattle.tmpl_json_schema.specs.Safe.{NeverFailsOver}

@@ -11,7 +11,7 @@ use Rattle.serde_json.specs.Find.{get, pointer}
 use Rattle.serde_json.specs.Read.{read}
 use Rattle.tmpl_values.specs.Value.{Value, Entries, nothing, null, boolean, number, string, sequence, mapping}
 use Rattle.tmpl_values.specs.Field.{entry_at}
-use Rattle.tmpl_schema.specs.Shape.{EachItem, EachEntry, AreDistinct}
+use Rattle.tmpl_shape.specs.Shape.{EachItem, EachEntry, AreDistinct}
 
 -- a value that is looked at (C 4.2.1): there is one, and a map has each key once
 abbrev pub IsInstance : Value → Type 0
@@ -116,9 +116,9 @@ abbrev pub fragment_of : List ℕ → Option (List ℕ)
 fragment_of [] = None
 fragment_of (b ∷ rest) = if b == 35 then Some (percent_decode rest) else None
 
-abbrev pub referred : Data → Data → Option Data
-referred root (json.string r) = option_and_then (λ p. pointer p root) (fragment_of r)
-referred root d = None
+abbrev pub refer : Data → Data → Option Data
+refer root (json.string r) = option_and_then (λ p. pointer p root) (fragment_of r)
+refer root d = None
 
 -- a value conforms to what stands in a document (C 4.3.1, 4.3.2): to each keyword by itself
 abbrev pub ConformsBy : Data → (Data → Value → Type 0) → Data → Value → Type 0
@@ -135,7 +135,7 @@ ConformsBy root Conforms (json.object ms) v =
     × IfSome (keyword (codes "items")) (FitsItems Conforms v)
     × IfSome (keyword (codes "anyOf")) (FitsSome Conforms v)
     × IfSome (keyword (codes "oneOf")) (FitsSome Conforms v)
-    × IfSome (keyword (codes "$ref")) (λ r. IfSome (referred root r) (λ d. Conforms d v))
+    × IfSome (keyword (codes "$ref")) (λ r. IfSome (refer root r) (λ d. Conforms d v))
 ConformsBy root Conforms d v = Unit {0}
 
 -- .. where as many schemas are followed, one into the other

@@ -1,10 +1,10 @@
 //! The fields of maps, by `required`.
-#![tactic(auto, using(tmpl_schema::proofs::ViewLemmas::parts))]
+#![tactic(auto, using(tmpl_shape::proofs::ViewLemmas::parts))]
 
 ghost use Rattle.std.specs.Prelude.{◌≡◌, IfOk, Some};
 ghost use Rattle.std.specs.Option.{option_map, option_map_or};
 ghost use Rattle.serde_json.specs.View.{items_view, view};
-ghost use Rattle.tmpl_schema.specs.View.{fields_of, shape_of};
+ghost use Rattle.tmpl_shape.specs.View.{fields_of, shape_of};
 ghost use Rattle.tmpl_json_schema.specs.computed.Reading.{fold, has_content, is_key, required_fields, required_in, is_required, shape_of_rest, with_required};
 
 use crate::fault::{SchemaFault, at_index, refusal, under};

@@ -1,11 +1,11 @@
 //! The shape of a schema.
-#![tactic(auto, using(tmpl_schema::proofs::ViewLemmas::parts))]
+#![tactic(auto, using(tmpl_shape::proofs::ViewLemmas::parts))]
 
 ghost use Rattle.std.specs.Prelude.{◌≡◌, IfOk, Some, codes};
 ghost use Rattle.std.specs.Option.{option_map, option_map_or};
 ghost use Rattle.serde_json.specs.View.{items_view, members_view, view};
-ghost use Rattle.tmpl_schema.specs.Shape.{never};
-ghost use Rattle.tmpl_schema.specs.View.{fields_of, shape_of};
+ghost use Rattle.tmpl_shape.specs.Shape.{never};
+ghost use Rattle.tmpl_shape.specs.View.{fields_of, shape_of};
 ghost use Rattle.tmpl_json_schema.specs.computed.Reading.{choice_shape, choice_with, choices_in, content_shape, fields_in, fold, fold_members};
 ghost use Rattle.tmpl_json_schema.specs.computed.Reading.{object_shape, plain_shape, properties_in, reference_shape, shape_by, shape_under, with_property};
 

@@ -1,11 +1,11 @@
 //! A schema of a document's bytes.
-#![tactic(auto, using(tmpl_schema::proofs::ViewLemmas::parts))]
+#![tactic(auto, using(tmpl_shape::proofs::ViewLemmas::parts))]
 
 ghost use Rattle.std.specs.Prelude.{◌≡◌, ℕ, All, IfOk, is_some};
 ghost use Rattle.serde_json.specs.View.{view};
 ghost use Rattle.tmpl_values.specs.Value.{Value as DataValue};
-ghost use Rattle.tmpl_schema.specs.Shape.{Fits};
-ghost use Rattle.tmpl_schema.specs.View.{defs_in, schema_of};
+ghost use Rattle.tmpl_shape.specs.Shape.{Fits};
+ghost use Rattle.tmpl_shape.specs.View.{defs_in, schema_of};
 ghost use Rattle.tmpl_json_schema.specs.Document.{ConformsTo, conforms_in};
 ghost use Rattle.tmpl_json_schema.specs.computed.Defined.{IsDefinition, are_defined};
 

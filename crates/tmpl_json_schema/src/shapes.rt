@@ -1,9 +1,9 @@
 //! Shapes put together by kinds.
-#![tactic(auto, using(tmpl_schema::proofs::ViewLemmas::parts))]
+#![tactic(auto, using(tmpl_shape::proofs::ViewLemmas::parts))]
 
 ghost use Rattle.std.specs.Prelude.{◌≡◌, IfOk};
-ghost use Rattle.tmpl_schema.specs.View.{fields_of, shape_of};
-ghost use Rattle.tmpl_json_schema.specs.computed.Reading.{by_kinds, if_kind, is_never, kept, or_if, or_shape, rest_of, shape_of_rest};
+ghost use Rattle.tmpl_shape.specs.View.{fields_of, shape_of};
+ghost use Rattle.tmpl_json_schema.specs.computed.Reading.{by_kinds, if_kind, is_never, keep_kinds, or_if, or_shape, rest_of, shape_of_rest};
 
 use crate::kinds::Kinds;
 use std::alloc::{AllocError, Global};
@@ -75,7 +75,7 @@ fn if_kind(is_asked: bool, shape: Shape) -> Shape
 
 /// Those of these kinds.
 pub(crate) fn kept(alloc: Global, kinds: Kinds, shape: Shape) -> Result<Shape, AllocError>
-    ensures { IfOk result (λ s. shape_of s ≡ kept kinds (shape_of shape)) }
+    ensures { IfOk result (λ s. shape_of s ≡ keep_kinds kinds (shape_of shape)) }
 {
     match shape {
         Shape::Never => Ok(Shape::Never),

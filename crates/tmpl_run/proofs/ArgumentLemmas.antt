@@ -19,7 +19,7 @@ use Rattle.tmpl_funcs.specs.declared.fault.CallError.{CallError}
 use Rattle.tmpl_meaning.specs.Pipeline.{apply_function}
 use Rattle.tmpl_code.specs.Code.{piped_count}
 use Rattle.tmpl_run.specs.Cell.{Cell, values_in}
-use Rattle.tmpl_run.specs.Step.{called_on, pushed}
+use Rattle.tmpl_run.specs.Step.{called_on, push_value}
 use Rattle.tmpl_run.specs.computed.Held.{cell_of, cells_in}
 
 module _ {A B : Type 0} (f : A → B) where
@@ -107,7 +107,7 @@ pub ruleset arguments = (table-is, borrowed-turned)
 -- a call over the cells that it takes
 pub called-is : (f : Func) (n : ℕ) (p : Bool) (cs : List Cell) → n + piped_count p ≤ length cs
     → called_on f (values_in (reverse (take n cs))) p (drop n cs)
-    ≡ pushed (apply_function f (values_in (reverse (take n cs) ++ take (piped_count p) (drop n cs)))).result (drop (n + piped_count p) cs)
+    ≡ push_value (apply_function f (values_in (reverse (take n cs) ++ take (piped_count p) (drop n cs)))).result (drop (n + piped_count p) cs)
 called-is f n p cs h =
     grind (arith, append-nil, map-append (λ (c : Cell). c.val) (reverse (take n cs)) (take (piped_count p) (drop n cs)), drop-drop 1 n cs, length-drop n cs)
 

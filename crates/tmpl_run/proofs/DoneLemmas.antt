@@ -16,13 +16,13 @@ use Rattle.tmpl_code.specs.Instruction.{Instruction, act}
 use Rattle.tmpl_run.specs.Cell.{Cell}
 use Rattle.tmpl_run.specs.State.{Plan, State}
 use Rattle.tmpl_run.specs.Step.{step}
-use Rattle.tmpl_run.specs.Machine.{Turn, done, done_in, ended, goes, next_of}
+use Rattle.tmpl_run.specs.Machine.{Turn, carry_out, done_in, ended, goes, next_of}
 use Rattle.tmpl_run.specs.Machine.{stuck}
 use Rattle.tmpl_run.specs.Ready.{Has}
 use Rattle.tmpl_run.specs.Ends.{Comes, Ends, IsReady, RunsTo}
 use Rattle.tmpl_run.specs.Laws.{Begins, Lessens}
 use Rattle.tmpl_run.specs.computed.Machines.{no_template}
-use Rattle.tmpl_run.specs.computed.Turned.{added, mark_after}
+use Rattle.tmpl_run.specs.computed.Turned.{added_text, mark_after}
 
 -- what a fault is told of as in a template
 abbrev pub retold : Template → Option Fault → Option Fault
@@ -38,14 +38,14 @@ abbrev pub with_told : List ℕ → Bool → State → State
 with_told x m s = record s { text = x; made_text = m }
 
 -- what an instruction does hangs neither on the template that is told nor on what was put out before it
-pub done-told : (plan : Plan) (t : Template) (x : List ℕ) (m : Bool) (i : Instruction) (s : State)
-    → done plan t i (with_told x m s) ≡ tell t (x ++ added plan.rules.missing_key i s) (m || mark_after i false) (done plan no_template i (with_told [] false s))
-done-told plan t x m i s = grind (arith, common_steps, append-nil, or-false)
+pub carry_out-told : (plan : Plan) (t : Template) (x : List ℕ) (m : Bool) (i : Instruction) (s : State)
+    → carry_out plan t i (with_told x m s) ≡ tell t (x ++ added_text plan.rules.missing_key i s) (m || mark_after i false) (carry_out plan no_template i (with_told [] false s))
+carry_out-told plan t x m i s = grind (arith, common_steps, append-nil, or-false)
 
 -- what the instruction at a place puts out, and the mark after it
 abbrev added_at : MissingKey → Option Instruction → State → List ℕ
 added_at mode None s = []
-added_at mode (Some i) s = added mode i s
+added_at mode (Some i) s = added_text mode i s
 
 abbrev pub mark_at : Option Instruction → Bool → Bool
 mark_at None made = made
@@ -149,25 +149,25 @@ module _ (plan : Plan) (room : ℕ) (f : Ran) where
 
   module _ (i : Instruction) (t : Template) (s : State) (here : slice_get plan.code s.place ≡ Some i) (runs : slice_get plan.templates s.template ≡ Some t)
       (h : Ends plan room s f) where
-    pub is-next : next_of plan s ≡ done plan t i s
+    pub is-next : next_of plan s ≡ carry_out plan t i s
     is-next = ap (λ o. done_in plan o (slice_get plan.code s.place) s) runs ∙ ap (λ o. done_in plan (Some t) o s) here
 
     pub ready : Has i (length s.cells) room
     ready = subst (λ o. IsReady room o s) here (now s h).0
 
-    comes : (u : Turn) → done plan t i s ≡ u → Comes (λ t. Ends plan room t f) u f
+    comes : (u : Turn) → carry_out plan t i s ≡ u → Comes (λ t. Ends plan room t f) u f
     comes u e = subst (λ x. Comes (λ t. Ends plan room t f) x f) (is-next ∙ e) (now s h).1
 
-    pub goes-on : (u : State) → done plan t i s ≡ goes u → Ends plan room u f
+    pub goes-on : (u : State) → carry_out plan t i s ≡ goes u → Ends plan room u f
     goes-on u e = comes (goes u) e
 
-    pub ends-so : (r : Ran) → done plan t i s ≡ ended r → r ≡ f
+    pub ends-so : (r : Ran) → carry_out plan t i s ≡ ended r → r ≡ f
     ends-so r e = comes (ended r) e
 
-    pub finds : done plan t i s ≡ stuck → ⊥
+    pub finds : carry_out plan t i s ≡ stuck → ⊥
     finds e = comes stuck e
 
-    pub falls : (u : State) → done plan t i s ≡ goes u → work (length plan.code) u < work (length plan.code) s
+    pub falls : (u : State) → carry_out plan t i s ≡ goes u → work (length plan.code) u < work (length plan.code) s
     falls u e = by (each-lessens plan s u (is-next ∙ e))
       where
         size : ℕ

@@ -19,13 +19,13 @@ use Rattle.tmpl_code.specs.declared.tables.Tables.{Tables}
 use Rattle.tmpl_code.specs.declared.instruction.Instruction as held
 use Rattle.tmpl_run.specs.Ends.{Ends}
 use Rattle.tmpl_run.specs.Laws.{Begins}
-use Rattle.tmpl_run.specs.Machine.{Turn, done, ended, fault_in, goes, next_of, ran_so, stuck}
+use Rattle.tmpl_run.specs.Machine.{Turn, carry_out, ended, fault_in, goes, next_of, ran_so, stuck}
 use Rattle.tmpl_run.specs.Ready.{Has}
 use Rattle.tmpl_run.specs.State.{Plan, State}
 use Rattle.tmpl_run.specs.computed.Came.{Came, ComesTo, IsStopped}
 use Rattle.tmpl_run.specs.computed.Machines.{no_template, state_of}
 use Rattle.tmpl_run.specs.computed.Plain.{IsPlain, SparedOr}
-use Rattle.tmpl_run.specs.computed.Turned.{Executed, Lands, added, mark_after, put_by, put_out}
+use Rattle.tmpl_run.specs.computed.Turned.{Executed, Lands, added_text, mark_after, put_by, put_out}
 use Rattle.tmpl_run.specs.computed.Turned as turning
 use Rattle.tmpl_run.specs.computed.View.{size_of}
 use Rattle.tmpl_run.specs.declared.fault.RunError.{RunError}
@@ -35,7 +35,7 @@ use Rattle.tmpl_run.specs.declared.flow.Flow.TheVariants as flow
 use Rattle.tmpl_run.specs.declared.halt.Halt.{Halt}
 use Rattle.tmpl_run.specs.declared.halt.Halt.TheVariants as stop
 use Rattle.tmpl_run.specs.declared.machine.Machine.{Machine}
-use Rattle.tmpl_run.proofs.DoneLemmas.{done-told, each-lessens, ends-so, falls, finds, goes-on, in-code, is-next, mark_at, next-depth, ready, retold, tell}
+use Rattle.tmpl_run.proofs.DoneLemmas.{carry_out-told, each-lessens, ends-so, falls, finds, goes-on, in-code, is-next, mark_at, next-depth, ready, retold, tell}
 use Rattle.tmpl_run.proofs.DoneLemmas.{tells-more, text-begins, with_told, work}
 
 -- what the loop keeps: after what was put out so far and the mark, the machine comes to the end
@@ -82,25 +82,25 @@ module _ {plan : Plan} {end : Ran} {m : Machine} {before now : Puts} (inv : Stan
 
       -- what the turn puts out
       abbrev out : List ℕ
-      out = added plan.rules.missing_key i s
+      out = added_text plan.rules.missing_key i s
 
       -- the text and the mark after a turn that puts this out
       abbrev told : List ℕ → State → State
       told bytes u = with_told (inv.text ++ bytes) (inv.made || mark_after i false) u
 
-      shifted : (u : Turn) → done plan no_template i s ≡ u → done plan runs.0 i past ≡ tell runs.0 (inv.text ++ out) (inv.made || mark_after i false) u
-      shifted u e = done-told plan runs.0 inv.text inv.made i s ∙ ap (tell runs.0 (inv.text ++ out) (inv.made || mark_after i false)) e
+      shifted : (u : Turn) → carry_out plan no_template i s ≡ u → carry_out plan runs.0 i past ≡ tell runs.0 (inv.text ++ out) (inv.made || mark_after i false) u
+      shifted u e = carry_out-told plan runs.0 inv.text inv.made i s ∙ ap (tell runs.0 (inv.text ++ out) (inv.made || mark_after i false)) e
 
-      next-ends : (u : State) → done plan no_template i s ≡ goes u → Ends plan room (told out u) end
+      next-ends : (u : State) → carry_out plan no_template i s ≡ goes u → Ends plan room (told out u) end
       next-ends u e = goes-on plan room end i runs.0 past here runs.1 inv.ends (told out u) (shifted (goes u) e)
 
       pub has : Has i (length s.cells) room
       has = ready plan room end i runs.0 past here runs.1 inv.ends
 
-      pub lands : length items < 2 ^ 64 → Lands (done plan no_template i s)
-      lands fits = by (done plan no_template i s) refl
+      pub lands : length items < 2 ^ 64 → Lands (carry_out plan no_template i s)
+      lands fits = by (carry_out plan no_template i s) refl
         where
-          by : (u : Turn) → done plan no_template i s ≡ u → Lands u
+          by : (u : Turn) → carry_out plan no_template i s ≡ u → Lands u
           by (goes v) e = let next = in-code plan room end (told out v) (next-ends v e) in let same = same-length in omega arith
           by (ended r) e = tt
           by stuck e = finds plan room end i runs.0 past here runs.1 inv.ends (shifted stuck e)
@@ -145,7 +145,7 @@ module _ {plan : Plan} {end : Ran} {m : Machine} {before now : Puts} (inv : Stan
         Outcome (Err halt) = (e : RunError) → IsStopped (slice_get plan.templates m.template) n.line halt e → Came end before after (Err e)
 
         -- the run is over, or stops at a fault
-        over : (fault : Option Fault) → done plan no_template i s ≡ ended (ran_so (turning.beyond plan.rules.missing_key i s s) fault)
+        over : (fault : Option Fault) → carry_out plan no_template i s ≡ ended (ran_so (turning.beyond plan.rules.missing_key i s s) fault)
             → IsPut {F = SinkFault} (Ok tt) now after out
             → IsPut {F = SinkFault} (Ok tt) before after end.text × (end.fault ≡ retold runs.0 fault)
         over fault e more =

@@ -23,7 +23,7 @@ use Rattle.tmpl_meaning.specs.Meaning.{scope}
 use Rattle.tmpl_meaning.proofs.PartLemmas.{choosing, oldest, one_of, without_key}
 use Rattle.tmpl_meaning.specs.Meaning as meaning
 use Rattle.tmpl_code.specs.Instruction as code
-use Rattle.tmpl_code.specs.Layout.{Layout, bound_on, declares, slot_named, declared_in, grown}
+use Rattle.tmpl_code.specs.Layout.{Layout, bound_on, declares, slot_named, declared_in, after_node}
 use Rattle.tmpl_code.specs.Code.{ActionAt, BindAt, Code, show_in, show_of, sole_of, HeaderAt, PipelineAt, SetAt, Ended, NodeAt, NodesAt, ShownAt, StepAt}
 use Rattle.tmpl_run.specs.Cell.{Cell, fresh, slot}
 use Rattle.tmpl_run.specs.State.{State}
@@ -33,7 +33,7 @@ use Rattle.tmpl_run.specs.Ends.{Comes}
 use Rattle.tmpl_run.proofs.PipelineLemmas.{FollowsBy, Puts, found-within, given_in, pipeline-leads}
 use Rattle.tmpl_run.proofs.WayLemmas.{Ring, Stands, Way, who_of, Inside, cut_to, exit_of}
 use Rattle.tmpl_run.proofs.SlotLemmas.{Cells, First, Frame, Over, all_grown, all_grown_in, bound_in, cells-set, dropped, env-dropped, env_of, first-saved}
-use Rattle.tmpl_run.proofs.SlotLemmas.{grown_in, length-cells, length-env, named, named-less, over-binding, over-bound, over-grown, over-more}
+use Rattle.tmpl_run.proofs.SlotLemmas.{grown_in, length-cells, length-env, named, named-less, over-binding, over-bound, over-after_node, over-more}
 use Rattle.tmpl_run.proofs.SlotLemmas.{run_of, slots-are, stored, stored-none}
 use Rattle.tmpl_run.proofs.WayLemmas as ways
 
@@ -153,10 +153,10 @@ inside-bound home g (declare x) lay fr h = inside-more home g lay fr (Some x) No
 inside-bound home g (declare_pair k x) lay fr h = inside-more home g (Some k ∷ lay) (None ∷ fr) (Some x) None (inside-more home g lay fr (Some k) None h)
 inside-bound home g _ lay fr h = h
 
-pub inside-grown : (home : Frame) (g : Option Ring) (n : NodeKind) (lay : Layout) (fr : Frame) → Inside home g lay fr
-    → Inside home g (grown n lay) (grown_in n fr)
-inside-grown home g (tree.action a) lay fr h = inside-bound home g a.binding lay fr h
-inside-grown home g _ lay fr h = h
+pub inside-after_node : (home : Frame) (g : Option Ring) (n : NodeKind) (lay : Layout) (fr : Frame) → Inside home g lay fr
+    → Inside home g (after_node n lay) (grown_in n fr)
+inside-after_node home g (tree.action a) lay fr h = inside-bound home g a.binding lay fr h
+inside-after_node home g _ lay fr h = h
 
 -- the value of a header, and the variables under it
 length-under : (b : Binding) (cs : List Cell) (room n : ℕ) → length cs + (1 + declared_count b + n) ≤ room
@@ -184,7 +184,7 @@ module _ (way : Way) (calls : Calls) (spare : ℕ) where
   NodeLeads n =
       (g : Option Ring) (lay : Layout) (fr : Frame) (here rest : Code) (s : State) → NodeAt way.plan.templates s.line n lay (exit_of g) here rest
       → Here g lay fr here (need_of_node n) s → length fr + left_after n ≤ way.room
-      → ways.After way (ways.Onward way rest (grown n lay) (grown_in n fr) s.dot) g (stepped (set way calls) s.line n s.dot (run_of lay s))
+      → ways.After way (ways.Onward way rest (after_node n lay) (grown_in n fr) s.dot) g (stepped (set way calls) s.line n s.dot (run_of lay s))
       → ways.Leading way s
 
   -- .. and of one whose step is to be taken
@@ -192,13 +192,13 @@ module _ (way : Way) (calls : Calls) (spare : ℕ) where
   StepLeads line n =
       (g : Option Ring) (lay : Layout) (fr : Frame) (here start rest : Code) (s : State) → StepAt way.plan.templates line n here start
       → NodeAt way.plan.templates line n lay (exit_of g) start rest → Here g lay fr here (need_of_node n) s → length fr + left_after n ≤ way.room
-      → ways.After way (ways.Onward way rest (grown n lay) (grown_in n fr) s.dot) g
+      → ways.After way (ways.Onward way rest (after_node n lay) (grown_in n fr) s.dot) g
       (meaning.spend (set way calls) line (stepped (set way calls) line n s.dot) (run_of lay s)) → ways.Leading way s
 
   pub spent : (line : ℕ) (n : NodeKind) → ((first after : Code) → StepAt way.plan.templates line n first after → first ≡ code.spend line ∷ after)
       → NodeLeads n → StepLeads line n
   spent line n e leads g lay fr here start rest s l at-node h room k =
-      ways.spends way calls (ways.Onward way rest (grown n lay) (grown_in n fr) s.dot) g lay line start s (stepped (set way calls) line n s.dot)
+      ways.spends way calls (ways.Onward way rest (after_node n lay) (grown_in n fr) s.dot) g lay line start s (stepped (set way calls) line n s.dot)
       h.stands.runs (h.stands.at ∙ e here start l) k
       (λ at k. leads g lay fr start rest (ways.step_taken line s) at-node
       (record { stands = record { at = at; runs = h.stands.runs; cells = h.stands.cells }; inside = h.inside; fits = h.fits }) room k)
@@ -411,7 +411,7 @@ module _ (way : Way) (calls : Calls) (spare : ℕ) where
           })
           (subst (λ r. ways.After way goal g (meanings (set way calls) body v r)) (sym (kept-env h.binding v m bound))
           (ways.then-map way B goal g x.0 x.1 (λ r k u su du ru. with-closes h.binding (declared_in body) l.2.3 l.2.1 su
-          (over-grown body (None ∷ bound_on h.binding lay) (Some (fresh s.dot) ∷ bound_in h.binding fr)) l.2.8 ru k) k))
+          (over-after_node body (None ∷ bound_on h.binding lay) (Some (fresh s.dot) ∷ bound_in h.binding fr)) l.2.8 ru k) k))
         where
           kept : Cells (bound_on h.binding lay) (bound_in h.binding fr) (kept_on (declares h.binding) (fresh v) (under h.binding cs))
           kept = kept-cells h.binding v bound.cells

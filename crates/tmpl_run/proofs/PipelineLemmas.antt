@@ -22,8 +22,8 @@ use Rattle.tmpl_code.specs.Code.{BareAt, CallBy, Code, CommandAt, CommandsAt, Co
 use Rattle.tmpl_code.specs.Code.{VariableAt, chain_before, is_last, operand_count, piped_count}
 use Rattle.tmpl_run.specs.Cell.{Cell, fresh, values_in}
 use Rattle.tmpl_run.specs.State.{State}
-use Rattle.tmpl_run.specs.Step.{Went, called_on, cause_of, decided_by, halted, lacks, made_by, on, pushed, step}
-use Rattle.tmpl_run.specs.Machine.{fault_in, piped, ran_so}
+use Rattle.tmpl_run.specs.Step.{Went, called_on, cause_of, decided_by, halted, lacks, made_by, on, push_value, step}
+use Rattle.tmpl_run.specs.Machine.{fault_in, turn_of_operation, ran_so}
 use Rattle.tmpl_run.specs.Ready.{Fits}
 use Rattle.tmpl_run.specs.Ends.{Comes}
 use Rattle.tmpl_run.proofs.WayLemmas.{Way, who_of}
@@ -46,16 +46,16 @@ some-both f g (suc n) none e t = omega arith
 
 -- ---- values on the stack
 
--- a value that is piped
+-- a value that is turn_of_operation
 abbrev with : Option Value → List Cell → List Cell
 with None cs = cs
 with (Some p) cs = fresh p ∷ cs
 
-length-with : (piped : Option Value) (cs : List Cell) → length (with piped cs) ≡ length cs + piped_count (is_some piped)
-length-with piped cs = grind arith
+length-with : (turn_of_operation : Option Value) (cs : List Cell) → length (with turn_of_operation cs) ≡ length cs + piped_count (is_some turn_of_operation)
+length-with turn_of_operation cs = grind arith
 
-slots-with : {n : ℕ} {lay : Layout} {cs : List Cell} {env : Environment} (piped : Option Value) → Slots n lay cs env
-    → Slots (n + piped_count (is_some piped)) lay (with piped cs) env
+slots-with : {n : ℕ} {lay : Layout} {cs : List Cell} {env : Environment} (turn_of_operation : Option Value) → Slots n lay cs env
+    → Slots (n + piped_count (is_some turn_of_operation)) lay (with turn_of_operation cs) env
 slots-with {n} {lay} {cs} {env} None h = let same : n ≡ n + 0 = omega arith in subst (λ m. Slots m lay cs env) same h
 slots-with {n} {lay} {cs} {env} (Some v) h = let same : suc n ≡ n + 1 = omega arith in subst (λ m. Slots m lay (fresh v ∷ cs) env) same (slots-more v h)
 
@@ -96,9 +96,9 @@ count-same : (os : Operands) → operand_count os ≡ meaning.operand_count os
 count-same no_operand = refl
 count-same (operand o os) = ap suc (count-same os)
 
-arguments-same : (os : Operands) (piped : Option Value)
-    → meaning.operand_count os + length (option_to_list piped) ≡ operand_count os + piped_count (is_some piped)
-arguments-same os piped = grind (arith, count-same)
+arguments-same : (os : Operands) (turn_of_operation : Option Value)
+    → meaning.operand_count os + length (option_to_list turn_of_operation) ≡ operand_count os + piped_count (is_some turn_of_operation)
+arguments-same os turn_of_operation = grind (arith, count-same)
 
 -- ---- what follows what is as_given
 
@@ -135,13 +135,13 @@ module _ (way : Way) (s : State) where
   Gone is m (halted cause) = FollowsBy {T = Value} (Err cause) m (Puts is [])
   Gone is m lacks = ⊥
 
-  pushes : (r : Result Value Cause) (is : Code) (cs : List Cell) (m : Bool) → FollowsBy r m (Puts is cs) → Gone is m (pushed r cs)
+  pushes : (r : Result Value Cause) (is : Code) (cs : List Cell) (m : Bool) → FollowsBy r m (Puts is cs) → Gone is m (push_value r cs)
   pushes (Ok v) is cs m k = k
   pushes (Err cause) is cs m k = k
 
   -- .. of a function
   calls : (f : Func) (ws : List Value) (is : Code) (cs : List Cell) (m : Bool) → Follows (meaning.apply_function f ws) m (Puts is cs)
-      → Gone is (m || makes_text f) (pushed (meaning.apply_function f ws).result cs)
+      → Gone is (m || makes_text f) (push_value (meaning.apply_function f ws).result cs)
   calls f ws is cs m k = pushes _ is cs _ (subst (λ b. FollowsBy (meaning.apply_function f ws).result b (Puts is cs)) (or_comm (makes_text f) m) k)
 
   module _ (same : who_of s ≡ way.who) (env : Environment) where
@@ -158,7 +158,7 @@ module _ (way : Way) (s : State) where
     steps {o} {code} {is} {cs} {m} l fits k place at = ways.does way same (at ∙ l) fits (by (step (spot []) o cs) k)
       where
         by : (w : Went) → Gone is (made_by o m) w
-            → Comes (ways.Leading way) (piped way.me o w (record s { cells = cs; made_text = m; place = place })) way.end
+            → Comes (ways.Leading way) (turn_of_operation way.me o w (record s { cells = cs; made_text = m; place = place })) way.end
         by (on skip ds) k = k (place + 1 + skip) (ways.jump way place skip (at ∙ l))
         by (halted cause) k = k
         by lacks k = k
@@ -193,26 +193,26 @@ module _ (way : Way) (s : State) where
 
     -- ---- `and` and `or`
 
-    -- what decides is passed over the other operands, and a piped value below it is forgotten
-    short : {mid more rest : Code} {v : Value} {m : Bool} (cs : List Cell) (stop : Bool) (piped : Option Value) (skip : ℕ) (others : Given Value)
-        → mid ≡ act (decide stop (is_some piped) skip) ∷ more → drop skip more ≡ rest → (Follows others m (Puts rest cs) → Goes more (with piped cs) m)
-        → Follows (decided (decides stop v) v others) m (Puts rest cs) → Puts mid (with piped cs) v m
-    short {more = more} {rest = rest} {v = v} {m = m} cs stop piped skip others l far h k =
-        steps l (let long = length-with piped cs in omega arith) (by (decides stop v) piped h k)
+    -- what decides is passed over the other operands, and a turn_of_operation value below it is forgotten
+    short : {mid more rest : Code} {v : Value} {m : Bool} (cs : List Cell) (stop : Bool) (turn_of_operation : Option Value) (skip : ℕ) (others : Given Value)
+        → mid ≡ act (decide stop (is_some turn_of_operation) skip) ∷ more → drop skip more ≡ rest → (Follows others m (Puts rest cs) → Goes more (with turn_of_operation cs) m)
+        → Follows (decided (decides stop v) v others) m (Puts rest cs) → Puts mid (with turn_of_operation cs) v m
+    short {more = more} {rest = rest} {v = v} {m = m} cs stop turn_of_operation skip others l far h k =
+        steps l (let long = length-with turn_of_operation cs in omega arith) (by (decides stop v) turn_of_operation h k)
       where
-        by : (t : Bool) (piped : Option Value) → (Follows others m (Puts rest cs) → Goes more (with piped cs) m)
-            → Follows (decided t v others) m (Puts rest cs) → Gone more m (decided_by t skip (is_some piped) v (with piped cs))
+        by : (t : Bool) (turn_of_operation : Option Value) → (Follows others m (Puts rest cs) → Goes more (with turn_of_operation cs) m)
+            → Follows (decided t v others) m (Puts rest cs) → Gone more m (decided_by t skip (is_some turn_of_operation) v (with turn_of_operation cs))
         by true None h k = goes-is far k
         by true (Some p) h k = goes-is far k
-        by false piped h k = h k
+        by false turn_of_operation h k = h k
 
     -- after an operand, by what the others do
-    decide-leads : {mid : Code} {v : Value} {m : Bool} (n : ℕ) (lay : Layout) (cs : List Cell) (os : Operands) (piped : Option Value) (stop : Bool)
+    decide-leads : {mid : Code} {v : Value} {m : Bool} (n : ℕ) (lay : Layout) (cs : List Cell) (os : Operands) (turn_of_operation : Option Value) (stop : Bool)
         (rest : Code)
-        → DecideAt (is_last os (is_some piped)) stop (is_some piped) (JunctionAt stop os (is_some piped) n lay) mid rest
-        → (1 ≤ operand_count os + piped_count (is_some piped) → (more : Code) → JunctionAt stop os (is_some piped) n lay more rest
-        → Follows (junction stop here v os piped) m (Puts rest cs) → Goes more (with piped cs) m)
-        → Follows (decided (decides stop v) v (junction stop here v os piped)) m (Puts rest cs) → Puts mid (with piped cs) v m
+        → DecideAt (is_last os (is_some turn_of_operation)) stop (is_some turn_of_operation) (JunctionAt stop os (is_some turn_of_operation) n lay) mid rest
+        → (1 ≤ operand_count os + piped_count (is_some turn_of_operation) → (more : Code) → JunctionAt stop os (is_some turn_of_operation) n lay more rest
+        → Follows (junction stop here v os turn_of_operation) m (Puts rest cs) → Goes more (with turn_of_operation cs) m)
+        → Follows (decided (decides stop v) v (junction stop here v os turn_of_operation)) m (Puts rest cs) → Puts mid (with turn_of_operation cs) v m
     decide-leads {v = v} {m = m} n lay cs no_operand None stop rest l h k = goes-is l (by (decides stop v) k)
       where
         by : (t : Bool) → Follows (decided t v (as_given (Ok v))) m (Puts rest cs) → Puts rest cs v m
@@ -220,24 +220,24 @@ module _ (way : Way) (s : State) where
         by false k = k
     decide-leads {v = v} n lay cs no_operand (Some p) stop rest l h k =
         short cs stop (Some p) l.0 (junction stop here v no_operand (Some p)) l.2 l.4 (h (omega arith) l.1 l.3) k
-    decide-leads {v = v} n lay cs (operand o os) piped stop rest l h k =
-        short cs stop piped l.0 (junction stop here v (operand o os) piped) l.2 l.4 (h (omega arith) l.1 l.3) k
+    decide-leads {v = v} n lay cs (operand o os) turn_of_operation stop rest l h k =
+        short cs stop turn_of_operation l.0 (junction stop here v (operand o os) turn_of_operation) l.2 l.4 (h (omega arith) l.1 l.3) k
 
     -- ---- calls
 
     -- of a function over the operands that were put on the stack
-    applied-leads : {m : Bool} (cs : List Cell) (f : Func) (os : Operands) (piped : Option Value) (rest : Code) (ws : List Value) → is_called f ≡ true
-        → length cs < way.room → length ws ≡ operand_count os → Follows (meaning.apply_function f (ws ++ option_to_list piped)) m (Puts rest cs)
-        → Goes (act (call_with f (operand_count os) (is_some piped)) ∷ rest) (stacked ws (with piped cs)) m
-    applied-leads {m} cs f os piped rest ws named room count k =
-        let high = length-stacked ws (with piped cs) in
-        let long = length-with piped cs in
+    applied-leads : {m : Bool} (cs : List Cell) (f : Func) (os : Operands) (turn_of_operation : Option Value) (rest : Code) (ws : List Value) → is_called f ≡ true
+        → length cs < way.room → length ws ≡ operand_count os → Follows (meaning.apply_function f (ws ++ option_to_list turn_of_operation)) m (Puts rest cs)
+        → Goes (act (call_with f (operand_count os) (is_some turn_of_operation)) ∷ rest) (stacked ws (with turn_of_operation cs)) m
+    applied-leads {m} cs f os turn_of_operation rest ws named room count k =
+        let high = length-stacked ws (with turn_of_operation cs) in
+        let long = length-with turn_of_operation cs in
         steps refl (named, omega arith, omega arith) (subst (Gone rest (m || makes_text f))
-        (λ j. called_on f (sym (taken ws (with piped cs) (operand_count os) (sym count)) j) (is_some piped)
-        (sym (dropped ws (with piped cs) (operand_count os) (sym count)) j)) (by piped k))
+        (λ j. called_on f (sym (taken ws (with turn_of_operation cs) (operand_count os) (sym count)) j) (is_some turn_of_operation)
+        (sym (dropped ws (with turn_of_operation cs) (operand_count os) (sym count)) j)) (by turn_of_operation k))
       where
-        by : (piped : Option Value) → Follows (meaning.apply_function f (ws ++ option_to_list piped)) m (Puts rest cs)
-            → Gone rest (m || makes_text f) (called_on f ws (is_some piped) (with piped cs))
+        by : (turn_of_operation : Option Value) → Follows (meaning.apply_function f (ws ++ option_to_list turn_of_operation)) m (Puts rest cs)
+            → Gone rest (m || makes_text f) (called_on f ws (is_some turn_of_operation) (with turn_of_operation cs))
         by None k = calls f ws rest cs m (subst (λ l. Follows (meaning.apply_function f l) m (Puts rest cs)) (append-nil ws) k)
         by (Some p) k = calls f (ws ++ p ∷ []) rest cs m k
 
@@ -272,7 +272,7 @@ module _ (way : Way) (s : State) where
           (follows-then (commands_value here commands None) m _ (Puts rest cs) (Puts (chain_before names rest) cs) (λ v b k. chained-leads names rest k) k)
       operand-leads o rest h room l k = steps l (omega arith) k
 
-      -- above this many operands and a piped value of the call
+      -- above this many operands and a turn_of_operation value of the call
       operands-leads : {n : ℕ} {lay : Layout} {code : Code} {cs : List Cell} {m : Bool} (os : Operands) (above : ℕ) (rest : Code) (base : ℕ)
           → Slots n lay cs env
           → length cs ≡ base + above → base + need_of_arguments above os ≤ way.room → OperandsAt os n lay code rest
@@ -286,51 +286,51 @@ module _ (way : Way) (s : State) where
           (follows-then (operand_values here os) b (λ ws. as_given (Ok (v ∷ ws))) Go
           (λ ws b. length ws ≡ operand_count os → Goes rest (stacked ws (fresh v ∷ cs)) b) (λ ws b k count. k (ap suc count)) k)) k)
 
-      junction-leads : {n : ℕ} {lay : Layout} {code : Code} {m : Bool} (cs : List Cell) (os : Operands) (above : ℕ) (stop : Bool) (piped : Option Value)
-          (last : Value) (rest : Code) → Slots n lay (with piped cs) env → piped_count (is_some piped) ≤ above
-          → length cs + need_of_arguments above os ≤ way.room → 1 ≤ operand_count os + piped_count (is_some piped)
-          → JunctionAt stop os (is_some piped) n lay code rest → Follows (junction stop here last os piped) m (Puts rest cs) → Goes code (with piped cs) m
+      junction-leads : {n : ℕ} {lay : Layout} {code : Code} {m : Bool} (cs : List Cell) (os : Operands) (above : ℕ) (stop : Bool) (turn_of_operation : Option Value)
+          (last : Value) (rest : Code) → Slots n lay (with turn_of_operation cs) env → piped_count (is_some turn_of_operation) ≤ above
+          → length cs + need_of_arguments above os ≤ way.room → 1 ≤ operand_count os + piped_count (is_some turn_of_operation)
+          → JunctionAt stop os (is_some turn_of_operation) n lay code rest → Follows (junction stop here last os turn_of_operation) m (Puts rest cs) → Goes code (with turn_of_operation cs) m
       junction-leads cs no_operand above stop None last rest h past room some l k = absurd (omega arith)
       junction-leads cs no_operand above stop (Some p) last rest h past room some l k = goes-is l k
-      junction-leads {n} {lay} {m = m} cs (operand o os) above stop piped last rest h past room some l k =
-          operand-leads o l.0 h (let long = length-with piped cs in omega arith) l.1
-          (follows-then (operand_value here o) m (λ v. decided (decides stop v) v (junction stop here v os piped)) (Puts rest cs) (Puts l.0 (with piped cs))
-          (λ v b k. decide-leads n lay cs os piped stop rest l.2
-          (λ some more j k. junction-leads cs os (suc above) stop piped v rest h (omega arith) (omega arith) some j k) k) k)
+      junction-leads {n} {lay} {m = m} cs (operand o os) above stop turn_of_operation last rest h past room some l k =
+          operand-leads o l.0 h (let long = length-with turn_of_operation cs in omega arith) l.1
+          (follows-then (operand_value here o) m (λ v. decided (decides stop v) v (junction stop here v os turn_of_operation)) (Puts rest cs) (Puts l.0 (with turn_of_operation cs))
+          (λ v b k. decide-leads n lay cs os turn_of_operation stop rest l.2
+          (λ some more j k. junction-leads cs os (suc above) stop turn_of_operation v rest h (omega arith) (omega arith) some j k) k) k)
 
-      command-leads : {n : ℕ} {lay : Layout} {code : Code} {m : Bool} (cs : List Cell) (os : Operands) (piped : Option Value) (rest : Code)
-          → Slots n lay (with piped cs) env → length cs + need_of_command (piped_count (is_some piped)) os ≤ way.room
-          → CommandAt os (is_some piped) n lay code rest → Follows (command_value here os piped) m (Puts rest cs) → Goes code (with piped cs) m
-      command-leads {n} {lay} {m = m} cs (operand (function f) os) piped rest h room l k =
-          let p = is_some piped in
+      command-leads : {n : ℕ} {lay : Layout} {code : Code} {m : Bool} (cs : List Cell) (os : Operands) (turn_of_operation : Option Value) (rest : Code)
+          → Slots n lay (with turn_of_operation cs) env → length cs + need_of_command (piped_count (is_some turn_of_operation)) os ≤ way.room
+          → CommandAt os (is_some turn_of_operation) n lay code rest → Follows (command_value here os turn_of_operation) m (Puts rest cs) → Goes code (with turn_of_operation cs) m
+      command-leads {n} {lay} {m = m} cs (operand (function f) os) turn_of_operation rest h room l k =
+          let p = is_some turn_of_operation in
           let count = operand_count os + piped_count p in
           let all : Code = act (call_with f (operand_count os) p) ∷ rest in
           let All : Stretch = λ code rest. OperandsAt os n lay code (act (call_with f (operand_count os) p) ∷ rest) in
-          let apply : List Value → Given Value = λ ws. meaning.apply_function f (ws ++ option_to_list piped) in
-          let both : Given Value = junction false here nothing os piped in
-          let either : Given Value = junction true here nothing os piped in
+          let apply : List Value → Given Value = λ ws. meaning.apply_function f (ws ++ option_to_list turn_of_operation) in
+          let both : Given Value = junction false here nothing os turn_of_operation in
+          let either : Given Value = junction true here nothing os turn_of_operation in
           let g : Given Value = meaning.by_function f (given_then (operand_values here os) apply) both either in
           counted-leads (takes f count) f rest g (CallBy f All (JunctionAt false os p n lay) (JunctionAt true os p n lay)) (Puts rest cs)
           (λ t j k. call-leads m f All (JunctionAt false os p n lay) (JunctionAt true os p n lay) rest (given_then (operand_values here os) apply) both
           either (Puts rest cs)
-          (λ named j k. operands-leads os (piped_count p) all (length cs) h (length-with piped cs) (omega arith) j
-          (follows-then (operand_values here os) m apply (Puts rest cs) (λ ws b. length ws ≡ operand_count os → Goes all (stacked ws (with piped cs)) b)
-          (λ ws b k long. applied-leads cs f os piped rest ws named (omega arith) long k) k))
-          (λ e j k. junction-leads cs os (piped_count p) false piped nothing rest h (omega arith) (omega arith) (some-both f And count (λ x. cc) e t) j k)
-          (λ e j k. junction-leads cs os (piped_count p) true piped nothing rest h (omega arith) (omega arith) (some-both f Or count (λ x. cc) e t) j k) j k) l
-          (subst (λ n. Follows (by_count f (takes f n) g) m (Puts rest cs)) (arguments-same os piped) k)
+          (λ named j k. operands-leads os (piped_count p) all (length cs) h (length-with turn_of_operation cs) (omega arith) j
+          (follows-then (operand_values here os) m apply (Puts rest cs) (λ ws b. length ws ≡ operand_count os → Goes all (stacked ws (with turn_of_operation cs)) b)
+          (λ ws b k long. applied-leads cs f os turn_of_operation rest ws named (omega arith) long k) k))
+          (λ e j k. junction-leads cs os (piped_count p) false turn_of_operation nothing rest h (omega arith) (omega arith) (some-both f And count (λ x. cc) e t) j k)
+          (λ e j k. junction-leads cs os (piped_count p) true turn_of_operation nothing rest h (omega arith) (omega arith) (some-both f Or count (λ x. cc) e t) j k) j k) l
+          (subst (λ n. Follows (by_count f (takes f n) g) m (Puts rest cs)) (arguments-same os turn_of_operation) k)
       command-leads cs (operand nil no_operand) None rest h room l k = refuses l k
       command-leads cs (operand o no_operand) None rest h room l k = operand-leads o rest h (omega arith) l k
-      command-leads cs _ piped rest h room l k = refuses l k
+      command-leads cs _ turn_of_operation rest h room l k = refuses l k
 
-      commands-leads : {n : ℕ} {lay : Layout} {code : Code} {cs : List Cell} {m : Bool} (commands : Pipeline) (piped : Option Value) (rest : Code)
-          → Slots n lay cs env → length cs + need_of_commands (piped_count (is_some piped)) commands ≤ way.room
-          → CommandsAt commands (is_some piped) n lay code rest → Follows (commands_value here commands piped) m (Puts rest cs) → Goes code (with piped cs) m
+      commands-leads : {n : ℕ} {lay : Layout} {code : Code} {cs : List Cell} {m : Bool} (commands : Pipeline) (turn_of_operation : Option Value) (rest : Code)
+          → Slots n lay cs env → length cs + need_of_commands (piped_count (is_some turn_of_operation)) commands ≤ way.room
+          → CommandsAt commands (is_some turn_of_operation) n lay code rest → Follows (commands_value here commands turn_of_operation) m (Puts rest cs) → Goes code (with turn_of_operation cs) m
       commands-leads no_command None rest h room l k = steps l (omega arith) k
       commands-leads no_command (Some p) rest h room l k = goes-is l k
-      commands-leads {cs = cs} {m = m} (command os commands) piped rest h room l k =
-          command-leads cs os piped (act settle ∷ l.0) (slots-with piped h) (omega arith) l.1
-          (follows-then (command_value here os piped) m (λ v. commands_value here commands (Some (without_null v))) (Puts rest cs) (Puts (act settle ∷ l.0) cs)
+      commands-leads {cs = cs} {m = m} (command os commands) turn_of_operation rest h room l k =
+          command-leads cs os turn_of_operation (act settle ∷ l.0) (slots-with turn_of_operation h) (omega arith) l.1
+          (follows-then (command_value here os turn_of_operation) m (λ v. commands_value here commands (Some (without_null v))) (Puts rest cs) (Puts (act settle ∷ l.0) cs)
           (λ v b k. steps refl (omega arith) (commands-leads commands (Some (without_null v)) rest h (omega arith) l.2 k)) k)
 
 -- what a pipeline gives in a state

@@ -19,7 +19,7 @@ use Rattle.tmpl_code.specs.Layout.{Layout, bound_on, declared_in, declares_key, 
 use Rattle.tmpl_code.specs.Code.{Above, Code, Ended, NodesAt, SetDotAt, TurnAt}
 use Rattle.tmpl_run.specs.Cell.{Cell, cell, fresh}
 use Rattle.tmpl_run.specs.State.{State}
-use Rattle.tmpl_run.specs.Machine.{again, elements_for, elements_in, goes, left_in, onto, opened, paid_if, ring, turned, variables_on}
+use Rattle.tmpl_run.specs.Machine.{again, elements_for, elements_in, goes, left_in, onto, open_range, after_step_if, ring, start_element, variables_on}
 use Rattle.tmpl_run.specs.Ends.{Comes}
 use Rattle.tmpl_run.proofs.NodeLemmas.{run_at, set, value-leads, valued}
 use Rattle.tmpl_run.proofs.NodeLemmas as nodes
@@ -206,7 +206,7 @@ module _ (way : Way) (calls : Calls) (spare : ℕ) where
             → ways.Leading way now
         turns-by n is l fits h =
             ways.does way same (at ∙ l) fits
-            (subst (λ l. Comes (ways.Leading way) (turned n l now) way.end) (sym here) (h (ways.next way s.place (at ∙ l))))
+            (subst (λ l. Comes (ways.Leading way) (start_element n l now) way.end) (sym here) (h (ways.next way s.place (at ∙ l))))
 
         long : length cs ≡ length fr
         long = length-cells cells
@@ -285,7 +285,7 @@ module _ (way : Way) (calls : Calls) (spare : ℕ) where
         on : ((r : Run) → ways.After way B g (others es r) → (t : State) → beyond (suc k) r t → ways.Leading way t)
             → (c : Bool) → ways.After way B g (after_turn (spend_if c (set way calls) line (scope (λ r. part e r))
             (run_of lay (record t { cells = tu.cs }))) (others es))
-            → Comes (ways.Leading way) (paid_if c way.plan way.me line t (λ s. onto (saved ∷ cell v (suc k) ∷ tu.cs) place s)) way.end
+            → Comes (ways.Leading way) (after_step_if c way.plan way.me line t (λ s. onto (saved ∷ cell v (suc k) ∷ tu.cs) place s)) way.end
         on next true h = h
         on next false h =
             turn-leads ih e es (suc k) tu.cs (record t { left = t.left - 1; line = line; place = place }) tu.runs here begin tu.under h next
@@ -324,7 +324,7 @@ module _ (way : Way) (calls : Calls) (spare : ℕ) where
       by : (v : Value) (m : Bool) (place : ℕ) → drop place way.plan.code ≡ code.enter (declares_key h.binding) l.2.3 ∷ l.2.0
           → (o : Option (List Element)) → elements_for (declares_key h.binding) v ≡ o
           → ways.After way B g (over (set way calls) s.line h.binding body-of other-of o (run_at lay m s))
-          → Comes (ways.Leading way) (opened way.plan way.me l.2.3 (fresh v) s.cells o (valued v m place s)) way.end
+          → Comes (ways.Leading way) (open_range way.plan way.me l.2.3 (fresh v) s.cells o (valued v m place s)) way.end
       by v m place at None e k = k
       by v m place at (Some []) e k =
           nodes.part-leads way calls spare other ih-other unbound g lay fr rest 0
@@ -344,7 +344,7 @@ module _ (way : Way) (calls : Calls) (spare : ℕ) where
 
           on : (c : Bool) → ways.After way B g (after_turn (spend_if c (set way calls) s.line (scope (λ r. body-of e.1 (with_bound h.binding e r)))
               (run_at lay m s)) (turns (set way calls) s.line h.binding body-of es))
-              → Comes (ways.Leading way) (paid_if c way.plan way.me s.line (valued v m place s)
+              → Comes (ways.Leading way) (after_step_if c way.plan way.me s.line (valued v m place s)
               (λ t. goes (record t { cells = cell t.dot (t.place + 1) ∷ fresh v ∷ s.cells; dot = nothing; place = t.place + 1 }))) way.end
           on true k = k
           on false k =

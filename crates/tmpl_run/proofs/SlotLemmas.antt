@@ -13,7 +13,7 @@ use Rattle.tmpl_grammar.specs.Need.{declared_count}
 use Rattle.tmpl_syntax.specs.Tree as tree
 use Rattle.tmpl_syntax.specs.Tree.{NodeKind, text, action, Nodes}
 use Rattle.tmpl_syntax.specs.Need.{left_after}
-use Rattle.tmpl_code.specs.Layout.{Layout, bound_on, declared_in, grown, slot_named}
+use Rattle.tmpl_code.specs.Layout.{Layout, bound_on, declared_in, after_node, slot_named}
 use Rattle.tmpl_run.specs.Cell.{Cell, fresh, slot}
 use Rattle.tmpl_run.specs.State.{State}
 
@@ -73,7 +73,7 @@ all_grown_in (tree.then line n ns) fr = all_grown_in ns (grown_in n fr)
 
 abbrev pub all_grown : Nodes → Layout → Layout
 all_grown tree.none lay = lay
-all_grown (tree.then line n ns) lay = all_grown ns (grown n lay)
+all_grown (tree.then line n ns) lay = all_grown ns (after_node n lay)
 
 -- the run that a machine stands for
 abbrev pub run_of : Layout → State → Run
@@ -208,18 +208,18 @@ pub over-binding : (b : Binding) (lay : Layout) (fr : Frame) → Over (declared_
 over-binding unbound lay fr = over-none lay fr
 over-binding _ lay fr = record { rest = refl; size = omega arith; frame = refl; tall = omega arith }
 
-pub over-node : (n : NodeKind) (lay : Layout) (fr : Frame) → Over (left_after n) (grown n lay) lay (grown_in n fr) fr
+pub over-node : (n : NodeKind) (lay : Layout) (fr : Frame) → Over (left_after n) (after_node n lay) lay (grown_in n fr) fr
 over-node (action h) lay fr = over-binding h.binding lay fr
 over-node _ lay fr = over-none lay fr
 
-pub over-grown : (ns : Nodes) (lay : Layout) (fr : Frame) → Over (declared_in ns) (all_grown ns lay) lay (all_grown_in ns fr) fr
-over-grown tree.none lay fr = over-none lay fr
-over-grown (tree.then line n ns) lay fr = over-all (over-grown ns (grown n lay) (grown_in n fr)) (over-node n lay fr)
+pub over-after_node : (ns : Nodes) (lay : Layout) (fr : Frame) → Over (declared_in ns) (all_grown ns lay) lay (all_grown_in ns fr) fr
+over-after_node tree.none lay fr = over-none lay fr
+over-after_node (tree.then line n ns) lay fr = over-all (over-after_node ns (after_node n lay) (grown_in n fr)) (over-node n lay fr)
 
 -- .. and nodes above what a header binds
 pub over-bound : (b : Binding) (ns : Nodes) (lay : Layout) (fr : Frame)
     → Over (declared_count b + declared_in ns) (all_grown ns (bound_on b lay)) lay (all_grown_in ns (bound_in b fr)) fr
-over-bound b ns lay fr = over-all (over-grown ns (bound_on b lay) (bound_in b fr)) (over-binding b lay fr)
+over-bound b ns lay fr = over-all (over-after_node ns (bound_on b lay) (bound_in b fr)) (over-binding b lay fr)
 
 -- what lies under the variables: a cell that a control saves
 pub record First (lay : Layout) (cs : List Cell) (c : Cell) (fr : Frame) : Type 0 where

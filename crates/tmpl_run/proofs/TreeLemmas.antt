@@ -17,20 +17,20 @@ use Rattle.tmpl_meaning.specs.Meaning as meaning
 use Rattle.tmpl_meaning.specs.Meaning.{Calls, End, Next, Ran, Run, Setting, calls_within, meanings, setting_of, with_value, stepped}
 use Rattle.tmpl_meaning.proofs.PartLemmas.{apart, calling, handing, left_by, ran_of, ran_with, returned, run_called, spend_if, started, uncalled}
 use Rattle.tmpl_code.specs.Instruction as code
-use Rattle.tmpl_code.specs.Layout.{Layout, first_layout, declared_in, grown}
+use Rattle.tmpl_code.specs.Layout.{Layout, first_layout, declared_in, after_node}
 use Rattle.tmpl_code.specs.Calls.{IsChain, NodesName, NodeNames}
 use Rattle.tmpl_code.specs.Room.{need_at, need_found, needs_along, Suffices}
 use Rattle.tmpl_code.specs.Code.{CallAt, Code, GivenAt, Starts, TreeAt, step_of_call, NodesAt}
 use Rattle.tmpl_run.specs.Cell.{Cell, cell, fresh}
 use Rattle.tmpl_run.specs.State.{Plan, State, starting}
-use Rattle.tmpl_run.specs.Machine.{deepened, frame, goes, invoked, paid_if, returned_if}
+use Rattle.tmpl_run.specs.Machine.{deepen_run, frame, goes, invoke_template, after_step_if, returned_if}
 use Rattle.tmpl_run.specs.Ends.{Comes, Ends}
-use Rattle.tmpl_run.proofs.NodeLemmas.{run_at, value-leads, valued, with_left, action-leads, if-leads, inside-grown, spent, with-leads}
+use Rattle.tmpl_run.proofs.NodeLemmas.{run_at, value-leads, valued, with_left, action-leads, if-leads, inside-after_node, spent, with-leads}
 use Rattle.tmpl_run.proofs.DepthLemmas.{absent}
 use Rattle.tmpl_run.proofs.NodeLemmas as nodes
 use Rattle.tmpl_run.proofs.WayLemmas.{Ring, Stands, Way, Who, way_of, who_of, bare, seen}
 use Rattle.tmpl_run.proofs.SlotLemmas.{Frame, all_grown, all_grown_in, below, below-same, dropped, env_of, frame_of, grown_in, length-cells, length-frame}
-use Rattle.tmpl_run.proofs.SlotLemmas.{over-grown, over-node, over-none, run_of}
+use Rattle.tmpl_run.proofs.SlotLemmas.{over-after_node, over-node, over-none, run_of}
 use Rattle.tmpl_run.proofs.WayLemmas as ways
 use Rattle.tmpl_run.proofs.RangeLemmas.{break-leads, continue-leads, range-leads}
 
@@ -167,9 +167,9 @@ module _ (way : Way) (first : 1 ≤ way.who.depth) (linked : Starts way.plan.tem
     invokes m callee depth g lay fr rest s name number named v made place some st at left k =
         ways.does way st.runs at
         (let a = own in let b = most in omega arith)
-        (subst (λ o. Comes (ways.Leading way) (invoked way.plan way.me number o (fresh v) s.cells (valued v made place s)) way.end) (sym start.at)
+        (subst (λ o. Comes (ways.Leading way) (invoke_template way.plan way.me number o (fresh v) s.cells (valued v made place s)) way.end) (sym start.at)
         (subst
-        (λ b. Comes (ways.Leading way) (paid_if b way.plan way.me s.line (valued v made place s) (λ t. goes (entered number start.place v s.cells t))) way.end)
+        (λ b. Comes (ways.Leading way) (after_step_if b way.plan way.me s.line (valued v made place s) (λ t. goes (entered number start.place v s.cells t))) way.end)
         (sym some)
         (callee (record { number = number; depth = suc s.depth }) named.t named.at (omega arith)
         (let same : s.depth ≡ way.who.depth = ap (λ (w : Who). w.depth) st.runs in omega arith)
@@ -245,16 +245,16 @@ module _ (way : Way) (first : 1 ≤ way.who.depth) (linked : Starts way.plan.tem
                 → nat_eq s.left 0 ≡ false
                 → ways.After way A g
                 (with_value (set_of n) line (calls_of n name) (handing (set_of n) line given s.dot) (with_left (s.left - 1) (run_of lay s)))
-                → Comes (ways.Leading way) (deepened false (nat_lt s.depth way.plan.rules.depth_limit) way.plan way.me line s) way.end
+                → Comes (ways.Leading way) (deepen_run false (nat_lt s.depth way.plan.rules.depth_limit) way.plan way.me line s) way.end
             enters zero deeper depth left fits some k =
-                subst (λ b. Comes (ways.Leading way) (deepened false b way.plan way.me line s) way.end) (sym closed)
+                subst (λ b. Comes (ways.Leading way) (deepen_run false b way.plan way.me line s) way.end) (sym closed)
                 (subst (λ c. ways.After way A g (with_value (set_of zero) line c (handing (set_of zero) line given s.dot)
                 (with_left (s.left - 1) (run_of lay s)))) (ap (uncalled way.plan.rules name) named.tree) k)
               where
                 closed : nat_lt s.depth way.plan.rules.depth_limit ≡ false
                 closed = let same = same-depth in let under : way.plan.rules.depth_limit ≤ s.depth = omega arith in grind (arith, nat_tests)
             enters (suc m) deeper depth left fits some k =
-                subst (λ b. Comes (ways.Leading way) (deepened false b way.plan way.me line s) way.end) (sym is-open)
+                subst (λ b. Comes (ways.Leading way) (deepen_run false b way.plan way.me line s) way.end) (sym is-open)
                 (hands given at-node fits (subst (λ c. ways.After way A g (with_value (set_of (suc m)) line c (handing (set_of (suc m)) line given s.dot)
                 (with_left (s.left - 1) (run_of lay s)))) (ap (run_called way.plan.rules (calls_of m) name) named.tree) k))
               where
@@ -282,7 +282,7 @@ module _ (way : Way) (first : 1 ≤ way.who.depth) (linked : Starts way.plan.tem
 
             pays : (b : Bool) → nat_eq s.left 0 ≡ b → ways.After way A g (spend_if b (set_of n) line (calling (set_of n) line name given s.dot)
                 (run_of lay s))
-                → Comes (ways.Leading way) (deepened b (nat_lt s.depth way.plan.rules.depth_limit) way.plan way.me line s) way.end
+                → Comes (ways.Leading way) (deepen_run b (nat_lt s.depth way.plan.rules.depth_limit) way.plan way.me line s) way.end
             pays true is k = k
             pays false is k = enters n deeper depth left w.fits is k
 
@@ -337,20 +337,20 @@ module _ (way : Way) (first : 1 ≤ way.who.depth) (linked : Starts way.plan.tem
     nodes-lead (tree.then line n ns) mine g lay fr here rest s l w k =
         step-leads line n (λ name names. mine name (inl names)) g lay fr here l.0 l.1 s l.2 l.3
         (record { stands = w.stands; inside = w.inside; fits = (let fits = w.fits in omega arith) }) (let fits = w.fits in omega arith)
-        (ways.then-map way (λ r. ways.After way A g (meanings set ns s.dot r)) (ways.Onward way l.1 (grown n lay) (grown_in n fr) s.dot) g x.0 x.1
-        (λ r k t stands dot run. nodes-lead ns (λ name names. mine name (inr names)) g (grown n lay) (grown_in n fr) l.1 rest t l.4
+        (ways.then-map way (λ r. ways.After way A g (meanings set ns s.dot r)) (ways.Onward way l.1 (after_node n lay) (grown_in n fr) s.dot) g x.0 x.1
+        (λ r k t stands dot run. nodes-lead ns (λ name names. mine name (inr names)) g (after_node n lay) (grown_in n fr) l.1 rest t l.4
         (record {
           stands = stands;
-          inside = inside-grown way.home g n lay fr w.inside;
+          inside = inside-after_node way.home g n lay fr w.inside;
           fits = (let fits = w.fits in let tall = (over-node n lay fr).tall in omega arith);
         })
-        (subst (λ d. ways.After way (ways.Onward way rest (all_grown ns (grown n lay)) (all_grown_in ns (grown_in n fr)) d) g
-        (meanings set ns d (run_of (grown n lay) t))) (sym dot)
+        (subst (λ d. ways.After way (ways.Onward way rest (all_grown ns (after_node n lay)) (all_grown_in ns (grown_in n fr)) d) g
+        (meanings set ns d (run_of (after_node n lay) t))) (sym dot)
         (subst (λ r. ways.After way A g (meanings set ns s.dot r)) (sym run) k)))
         (ways.then-on way A g x.0 x.1 (meanings set ns s.dot) k))
       where
         A : Run → Type 0
-        A = ways.Onward way rest (all_grown ns (grown n lay)) (all_grown_in ns (grown_in n fr)) s.dot
+        A = ways.Onward way rest (all_grown ns (after_node n lay)) (all_grown_in ns (grown_in n fr)) s.dot
 
         x : Run × End
         x = meaning.spend set line (stepped set line n s.dot) (run_of lay s)
@@ -375,7 +375,7 @@ module _ (way : Way) (first : 1 ≤ way.who.depth) (linked : Starts way.plan.tem
         more = start.rest;
         at = st.at;
         runs = st.runs;
-        frame = (dropped (over-grown way.me.1.nodes first_layout way.home) st.cells).frame;
+        frame = (dropped (over-after_node way.me.1.nodes first_layout way.home) st.cells).frame;
       }) (ap bare run)) k)
     where
       start : Started way.plan.templates way.me way.plan.starts way.plan.code way.who.number

@@ -16,7 +16,7 @@ use Rattle.tmpl_code.specs.Instruction as code
 use Rattle.tmpl_code.specs.Layout.{Layout, first_layout}
 use Rattle.tmpl_run.specs.Cell.{Cell, cell}
 use Rattle.tmpl_run.specs.State.{Plan, State}
-use Rattle.tmpl_run.specs.Machine.{Turn, done, done_in, ended, goes, next_of, onto, paid, paid_if, stuck}
+use Rattle.tmpl_run.specs.Machine.{Turn, carry_out, done_in, ended, goes, next_of, onto, after_step, after_step_if, stuck}
 use Rattle.tmpl_run.specs.Ready.{Has}
 use Rattle.tmpl_run.specs.Ends.{Comes, Ends, IsReady, RunsTo}
 use Rattle.tmpl_run.proofs.SlotLemmas.{Cells, Frame, Over, dropped, env-dropped, frame_of, named, named-less, run_of}
@@ -131,8 +131,8 @@ module _ (way : Way) where
 
   -- one instruction, by where it goes
   pub does : {s : State} {i : Instruction} {is : Code} → who_of s ≡ way.who → drop s.place way.plan.code ≡ i ∷ is → Has i (length s.cells) way.room
-      → Comes Leading (done way.plan way.me i s) way.end → Leading s
-  does {s} {i} {is} same at ready more = by (done way.plan way.me i s) refl more
+      → Comes Leading (carry_out way.plan way.me i s) way.end → Leading s
+  does {s} {i} {is} same at ready more = by (carry_out way.plan way.me i s) refl more
     where
       there : slice_get way.plan.code s.place ≡ Some i
       there = here way.plan.code is s.place i at
@@ -140,17 +140,17 @@ module _ (way : Way) where
       able : IsReady way.room (slice_get way.plan.code s.place) s
       able = subst (λ o. IsReady way.room o s) (sym there) ready
 
-      after : next_of way.plan s ≡ done way.plan way.me i s
+      after : next_of way.plan s ≡ carry_out way.plan way.me i s
       after = ap (λ (w : Who). done_in way.plan (slice_get way.plan.templates w.number) (slice_get way.plan.code s.place) s) same
           ∙ ap (λ o. done_in way.plan o (slice_get way.plan.code s.place) s) way.is-me ∙ ap (λ o. done_in way.plan (Some way.me) o s) there
 
-      by : (t : Turn) → done way.plan way.me i s ≡ t → Comes Leading t way.end → Leading s
+      by : (t : Turn) → carry_out way.plan way.me i s ≡ t → Comes Leading t way.end → Leading s
       by (goes t) e h = let leads = h.ends in
           record { ends = (suc leads.0, (able, subst (λ x. Comes (λ t. RunsTo way.plan way.room leads.0 t way.end) x way.end) (sym (after ∙ e)) leads.1)) }
       by (ended r) e h = record { ends = (1, (able, subst (λ x. Comes (λ t. RunsTo way.plan way.room 0 t way.end) x way.end) (sym (after ∙ e)) h)) }
       by stuck e h = absurd h
 
-  -- where a part that is done goes on
+  -- where a part that is carry_out goes on
   abbrev pub Onward : Code → Layout → Frame → Value → Run → Type 0
   Onward rest lay fr d r = (t : State) → Stands way.plan way.who rest lay fr t → t.dot ≡ d → run_of lay t ≡ r → Leading t
 
@@ -222,12 +222,12 @@ module _ (way : Way) where
   -- the step of a node, taken by an instruction that may do more
   pub pays : {i : Instruction} {is : Code} (calls : Calls) (A : Run → Type 0) (g : Option Ring) (lay : Layout) (line : ℕ) (s : State) (go : Next)
       (more : State → Turn) → who_of s ≡ way.who → drop s.place way.plan.code ≡ i ∷ is → Has i (length s.cells) way.room
-      → done way.plan way.me i s ≡ paid way.plan way.me line s more
+      → carry_out way.plan way.me i s ≡ after_step way.plan way.me line s more
       → After A g (meaning.spend (setting calls) line go (run_of lay s))
       → (After A g (go (run_of lay (paying line s))) → Comes Leading (more (paying line s)) way.end) → Leading s
   pays calls A g lay line s go more same at ready is k leads = does same at ready (subst (λ u. Comes Leading u way.end) (sym is) (by (nat_eq s.left 0) k))
     where
-      by : (b : Bool) → After A g (spend_if b (setting calls) line go (run_of lay s)) → Comes Leading (paid_if b way.plan way.me line s more) way.end
+      by : (b : Bool) → After A g (spend_if b (setting calls) line go (run_of lay s)) → Comes Leading (after_step_if b way.plan way.me line s more) way.end
       by true k = k
       by false k = leads k
 

@@ -32,18 +32,18 @@ abbrev pub fault_in : Template → ℕ → Cause → Fault
 fault_in t line cause = record { file = t.1.file; line = line; template = t.0; cause = cause }
 
 -- a fault of this template
-abbrev pub failed : Template → ℕ → Cause → State → Turn
-failed t line cause s = ended (ran_so s (Some (fault_in t line cause)))
+abbrev pub fail_with : Template → ℕ → Cause → State → Turn
+fail_with t line cause s = ended (ran_so s (Some (fault_in t line cause)))
 
 -- ---- steps
 
-abbrev pub paid_if : Bool → Plan → Template → ℕ → State → (State → Turn) → Turn
-paid_if true plan t line s go = failed t line (steps_spent plan.rules.step_limit) s
-paid_if false plan t line s go = go (record s { left = s.left - 1; line = line })
+abbrev pub after_step_if : Bool → Plan → Template → ℕ → State → (State → Turn) → Turn
+after_step_if true plan t line s go = fail_with t line (steps_spent plan.rules.step_limit) s
+after_step_if false plan t line s go = go (record s { left = s.left - 1; line = line })
 
 -- takes a step and goes on, or stops where none is left
-abbrev pub paid : Plan → Template → ℕ → State → (State → Turn) → Turn
-paid plan t line s go = paid_if (nat_eq s.left 0) plan t line s go
+abbrev pub after_step : Plan → Template → ℕ → State → (State → Turn) → Turn
+after_step plan t line s go = after_step_if (nat_eq s.left 0) plan t line s go
 
 -- ---- cells
 
@@ -72,18 +72,18 @@ frame (c ∷ back ∷ saved ∷ cs) go = go back saved cs
 
 -- ---- pipelines
 
-abbrev pub piped : Template → Operation → Went → State → Turn
-piped t o (on skip cs) s =
+abbrev pub turn_of_operation : Template → Operation → Went → State → Turn
+turn_of_operation t o (on skip cs) s =
     goes (record s { cells = cs; made_text = made_by o s.made_text; place = s.place + 1 + skip })
-piped t o (halted cause) s = failed t s.line cause (record s { made_text = made_by o s.made_text })
-piped t o lacks s = stuck
+turn_of_operation t o (halted cause) s = fail_with t s.line cause (record s { made_text = made_by o s.made_text })
+turn_of_operation t o lacks s = stuck
 
 -- ---- variables
 
 -- the newest value is a variable; below it there is one for an index or key, if that is wanted
-abbrev pub held : Bool → Cell → List Cell → List Cell
-held false c cs = c ∷ cs
-held true c cs = c ∷ fresh nothing ∷ cs
+abbrev pub hold_variable : Bool → Cell → List Cell → List Cell
+hold_variable false c cs = c ∷ cs
+hold_variable true c cs = c ∷ fresh nothing ∷ cs
 
 -- a cell that stays if it is a variable
 abbrev pub kept_on : Bool → Cell → List Cell → List Cell
@@ -109,11 +109,11 @@ elements_for false v = elements v
 elements_for true v = pairs v
 
 -- a range opens over these elements, whose value is in this cell; its turn gives a dot again
-abbrev pub opened : Plan → Template → ℕ → Cell → List Cell → Option (List Element) → State → Turn
-opened plan t skip c cs None s = failed t s.line not_a_range s
-opened plan t skip c cs (Some []) s = onto cs (s.place + 1 + skip) s
-opened plan t skip c cs (Some (e ∷ es)) s =
-    paid plan t s.line s (λ s. goes (record s {
+abbrev pub open_range : Plan → Template → ℕ → Cell → List Cell → Option (List Element) → State → Turn
+open_range plan t skip c cs None s = fail_with t s.line not_a_range s
+open_range plan t skip c cs (Some []) s = onto cs (s.place + 1 + skip) s
+open_range plan t skip c cs (Some (e ∷ es)) s =
+    after_step plan t s.line s (λ s. goes (record s {
       cells = cell s.dot (s.place + 1) ∷ fresh c.val ∷ cs;
       dot = nothing;
       place = s.place + 1;
@@ -133,29 +133,29 @@ variables_on zero e cs = cs
 variables_on (suc zero) e cs = fresh e.1 ∷ cs
 variables_on (suc (suc n)) e cs = fresh e.1 ∷ fresh e.0 ∷ cs
 
-abbrev pub turned : ℕ → List Element → State → Turn
-turned n [] s = stuck
-turned n (e ∷ es) s = goes (record s { cells = variables_on n e s.cells; dot = e.1; place = s.place + 1 })
+abbrev pub start_element : ℕ → List Element → State → Turn
+start_element n [] s = stuck
+start_element n (e ∷ es) s = goes (record s { cells = variables_on n e s.cells; dot = e.1; place = s.place + 1 })
 
 -- after a turn, by the elements that are left
 abbrev pub again : Plan → Template → ℕ → ℕ → Cell → Cell → List Cell → List Element → State → Turn
 again plan t skip line d v cs [] s = goes (record s { cells = cs; dot = d.val; place = s.place + 1 + skip })
 again plan t skip line d v cs (e ∷ es) s =
-    paid plan t line s (λ s. onto (d ∷ cell v.val (suc v.num) ∷ cs) d.num s)
+    after_step plan t line s (λ s. onto (d ∷ cell v.val (suc v.num) ∷ cs) d.num s)
 
 -- ---- calls
 
 -- by whether no step is left, and whether fewer templates are inside one another than may be
-abbrev pub deepened : Bool → Bool → Plan → Template → ℕ → State → Turn
-deepened true shallow plan t line s = failed t line (steps_spent plan.rules.step_limit) s
-deepened false true plan t line s = goes (record s { line = line; place = s.place + 1 })
-deepened false false plan t line s = failed t line (calls_too_deep plan.rules.depth_limit) s
+abbrev pub deepen_run : Bool → Bool → Plan → Template → ℕ → State → Turn
+deepen_run true shallow plan t line s = fail_with t line (steps_spent plan.rules.step_limit) s
+deepen_run false true plan t line s = goes (record s { line = line; place = s.place + 1 })
+deepen_run false false plan t line s = fail_with t line (calls_too_deep plan.rules.depth_limit) s
 
 -- the template of this number, which starts here, over a value
-abbrev pub invoked : Plan → Template → ℕ → Option ℕ → Cell → List Cell → State → Turn
-invoked plan t number None c cs s = stuck
-invoked plan t number (Some start) c cs s =
-    paid plan t s.line s (λ s. goes (record s {
+abbrev pub invoke_template : Plan → Template → ℕ → Option ℕ → Cell → List Cell → State → Turn
+invoke_template plan t number None c cs s = stuck
+invoke_template plan t number (Some start) c cs s =
+    after_step plan t s.line s (λ s. goes (record s {
       cells = fresh c.val ∷ cell nothing (s.place + 1) ∷ cell s.dot s.template ∷ cs;
       dot = c.val;
       template = number;
@@ -180,49 +180,49 @@ returned_if true cs s =
 -- the text of a value is put out, or there is no value
 abbrev pub put_value : Template → Result Value Cause → State → Turn
 put_value t (Ok v) s = goes (record s { text = s.text ++ text_of v; place = s.place + 1 })
-put_value t (Err cause) s = failed t s.line cause s
+put_value t (Err cause) s = fail_with t s.line cause s
 
 -- ---- instructions
 
 -- an instruction of this template
-abbrev pub done : Plan → Template → Instruction → State → Turn
-done plan t (code.spend line) s = paid plan t line s (λ s. onto s.cells (s.place + 1) s)
-done plan t (code.put line bytes) s =
-    paid plan t line s (λ s. goes (record s { text = s.text ++ bytes; place = s.place + 1 }))
-done plan t (code.act o) s =
-    piped t o (pipe.step (record { missing_key = plan.rules.missing_key; dot = s.dot; env = [] }) o s.cells) s
-done plan t code.show s =
+abbrev pub carry_out : Plan → Template → Instruction → State → Turn
+carry_out plan t (code.spend line) s = after_step plan t line s (λ s. onto s.cells (s.place + 1) s)
+carry_out plan t (code.put line bytes) s =
+    after_step plan t line s (λ s. goes (record s { text = s.text ++ bytes; place = s.place + 1 }))
+carry_out plan t (code.act o) s =
+    turn_of_operation t o (pipe.step (record { missing_key = plan.rules.missing_key; dot = s.dot; env = [] }) o s.cells) s
+carry_out plan t code.show s =
     top s.cells (λ c cs. goes (record s { cells = cs; text = s.text ++ text_of c.val; place = s.place + 1 }))
-done plan t (code.show_fields line names) s =
-    paid plan t line s (λ s. put_value t (chain plan.rules.missing_key names s.dot) s)
-done plan t (code.show_slot line k names) s =
-    paid plan t line s (λ s. put_value t (chain plan.rules.missing_key names (slot k s.cells)) s)
-done plan t (code.hold key) s = top s.cells (λ c cs. onto (held key c cs) (s.place + 1) s)
-done plan t (code.set slot) s = top s.cells (λ c cs. onto (c ∷ slice_set cs slot (fresh c.val)) (s.place + 1) s)
-done plan t (code.set_dot slot) s = onto (slice_set s.cells slot (fresh s.dot)) (s.place + 1) s
-done plan t (code.unless kept skip) s = top s.cells (λ c cs. branch (truth c.val) kept skip c cs s)
-done plan t (code.enter_with kept skip) s = top s.cells (λ c cs. with_dot (truth c.val) kept skip c cs s)
-done plan t (code.end_with n variables skip) s =
+carry_out plan t (code.show_fields line names) s =
+    after_step plan t line s (λ s. put_value t (chain plan.rules.missing_key names s.dot) s)
+carry_out plan t (code.show_slot line k names) s =
+    after_step plan t line s (λ s. put_value t (chain plan.rules.missing_key names (slot k s.cells)) s)
+carry_out plan t (code.hold key) s = top s.cells (λ c cs. onto (hold_variable key c cs) (s.place + 1) s)
+carry_out plan t (code.set slot) s = top s.cells (λ c cs. onto (c ∷ slice_set cs slot (fresh c.val)) (s.place + 1) s)
+carry_out plan t (code.set_dot slot) s = onto (slice_set s.cells slot (fresh s.dot)) (s.place + 1) s
+carry_out plan t (code.unless kept skip) s = top s.cells (λ c cs. branch (truth c.val) kept skip c cs s)
+carry_out plan t (code.enter_with kept skip) s = top s.cells (λ c cs. with_dot (truth c.val) kept skip c cs s)
+carry_out plan t (code.end_with n variables skip) s =
     top (drop n s.cells)
     (λ c cs. goes (record s { cells = drop variables cs; dot = c.val; place = s.place + 1 + skip }))
-done plan t (code.forget n skip) s = onto (drop n s.cells) (s.place + 1 + skip) s
-done plan t (code.enter key skip) s = top s.cells (λ c cs. opened plan t skip c cs (elements_for key c.val) s)
-done plan t (code.turn n) s = ring s.cells (λ d v cs. turned n (left_in v) s)
-done plan t (code.next n skip line) s =
+carry_out plan t (code.forget n skip) s = onto (drop n s.cells) (s.place + 1 + skip) s
+carry_out plan t (code.enter key skip) s = top s.cells (λ c cs. open_range plan t skip c cs (elements_for key c.val) s)
+carry_out plan t (code.turn n) s = ring s.cells (λ d v cs. start_element n (left_in v) s)
+carry_out plan t (code.next n skip line) s =
     ring (drop n s.cells) (λ d v cs. again plan t skip line d v cs (drop 1 (left_in v)) s)
-done plan t (code.leave n skip) s =
+carry_out plan t (code.leave n skip) s =
     ring (drop n s.cells) (λ d v cs. goes (record s { cells = cs; dot = d.val; place = s.place + 1 + skip }))
-done plan t (code.deepen line) s =
-    deepened (nat_eq s.left 0) (nat_lt s.depth plan.rules.depth_limit) plan t line s
-done plan t (code.invoke number) s =
-    top s.cells (λ c cs. invoked plan t number (slice_get plan.starts number) c cs s)
-done plan t (code.return_from n) s = returned_if (nat_lt 1 s.depth) (drop n s.cells) s
+carry_out plan t (code.deepen line) s =
+    deepen_run (nat_eq s.left 0) (nat_lt s.depth plan.rules.depth_limit) plan t line s
+carry_out plan t (code.invoke number) s =
+    top s.cells (λ c cs. invoke_template plan t number (slice_get plan.starts number) c cs s)
+carry_out plan t (code.return_from n) s = returned_if (nat_lt 1 s.depth) (drop n s.cells) s
 
 -- the instruction at its place, in the template that runs
 abbrev pub done_in : Plan → Option Template → Option Instruction → State → Turn
 done_in plan None i s = stuck
 done_in plan (Some t) None s = stuck
-done_in plan (Some t) (Some i) s = done plan t i s
+done_in plan (Some t) (Some i) s = carry_out plan t i s
 
 abbrev pub next_of : Plan → State → Turn
 next_of plan s = done_in plan (slice_get plan.templates s.template) (slice_get plan.code s.place) s

@@ -21,9 +21,9 @@ pub data Went : Type 0 where
   lacks : Went
 
 -- a value is put on the stack, or the run stops
-abbrev pub pushed : Result Value Cause → List Cell → Went
-pushed (Ok v) cs = on 0 (fresh v ∷ cs)
-pushed (Err cause) cs = halted cause
+abbrev pub push_value : Result Value Cause → List Cell → Went
+push_value (Ok v) cs = on 0 (fresh v ∷ cs)
+push_value (Err cause) cs = halted cause
 
 -- the newest value is taken
 abbrev pub newest : List Cell → (Value → List Cell → Went) → Went
@@ -38,8 +38,8 @@ cause_of (no_template name) = fault.no_template name
 
 -- a function over these arguments, and over a piped one that lies on the stack
 abbrev pub called_on : Func → List Value → Bool → List Cell → Went
-called_on f args false cs = pushed (apply_function f args).result cs
-called_on f args true cs = newest cs (λ v cs. pushed (apply_function f (args ++ v ∷ [])).result cs)
+called_on f args false cs = push_value (apply_function f args).result cs
+called_on f args true cs = newest cs (λ v cs. push_value (apply_function f (args ++ v ∷ [])).result cs)
 
 -- a value that decides stays, and a piped one below it goes; another goes
 abbrev pub decided_by : Bool → ℕ → Bool → Value → List Cell → Went
@@ -53,9 +53,9 @@ step s (push_bool b) cs = on 0 (fresh (boolean b) ∷ cs)
 step s (push_number n) cs = on 0 (fresh (number n) ∷ cs)
 step s (push_text bytes) cs = on 0 (fresh (string bytes) ∷ cs)
 step s push_dot cs = on 0 (fresh s.dot ∷ cs)
-step s (push_fields names) cs = pushed (chain s.missing_key names s.dot) cs
+step s (push_fields names) cs = push_value (chain s.missing_key names s.dot) cs
 step s (push_slot k) cs = on 0 (fresh (slot k cs) ∷ cs)
-step s (chained names) cs = newest cs (λ v cs. pushed (chain s.missing_key names v) cs)
+step s (chained names) cs = newest cs (λ v cs. push_value (chain s.missing_key names v) cs)
 step s (call_with f n piped) cs = called_on f (values_in (reverse (take n cs))) piped (drop n cs)
 step s (decide is_or piped skip) cs = newest cs (λ v cs. decided_by (decides is_or v) skip piped v cs)
 step s settle cs = newest cs (λ v cs. on 0 (fresh (without_null v) ∷ cs))

@@ -5,7 +5,7 @@ ghost use Rattle.tmpl_values.specs.View.{is_kept};
 ghost use Rattle.tmpl_meaning.specs.View.{rules_of};
 ghost use Rattle.tmpl_code.specs.Instruction as code;
 ghost use Rattle.tmpl_run.specs.Cell.{slot};
-ghost use Rattle.tmpl_run.specs.computed.Machines.{untold};
+ghost use Rattle.tmpl_run.specs.computed.Machines.{without_bytes};
 ghost use Rattle.tmpl_run.specs.computed.Plain.{Steady, SteadyOr};
 ghost use Rattle.tmpl_run.specs.Ready.{RoomIf};
 ghost use Rattle.tmpl_run.specs.computed.Turned.{Executed, StepTaken, TurnedOr, TurnedUnder};
@@ -47,7 +47,7 @@ impl<'m, 'a> Machine<'m, 'a> {
     pub(crate) fn forget(&mut self, count: usize, skip: usize) -> Flow
         requires place { self.old.place + 1 + skip < 2 ^ 64 }
         requires found { count ≤ length (cells_of self.old.stack) }
-        ensures step { Executed untold (code.forget count skip) self.old self.new (Ok result) }
+        ensures step { Executed without_bytes (code.forget count skip) self.old self.new (Ok result) }
         ensures steady { Steady self.old self.new }
     {
         self.stack.pop(count);
@@ -60,7 +60,7 @@ impl<'m, 'a> Machine<'m, 'a> {
         requires found { 1 ≤ length (cells_of self.old.stack) }
         requires body { self.old.place + 1 < 2 ^ 64 }
         requires other { truth (slot 0 (cells_of self.old.stack)) ≡ false → self.old.place + 1 + skip < 2 ^ 64 }
-        ensures step { Executed untold (code.unless kept skip) self.old self.new (Ok result) }
+        ensures step { Executed without_bytes (code.unless kept skip) self.old self.new (Ok result) }
         ensures steady { Steady self.old self.new }
     {
         self.place += 1;
@@ -80,7 +80,7 @@ impl<'m, 'a> Machine<'m, 'a> {
         requires room { RoomIf kept (length (cells_of self.old.stack)) (size_of self.old.stack) }
         requires body { self.old.place + 1 < 2 ^ 64 }
         requires other { truth (slot 0 (cells_of self.old.stack)) ≡ false → self.old.place + 1 + skip < 2 ^ 64 }
-        ensures step { TurnedOr untold (code.enter_with kept skip) self.old self.new result }
+        ensures step { TurnedOr without_bytes (code.enter_with kept skip) self.old self.new result }
         ensures dot { truth (slot 0 (cells_of self.old.stack)) ≡ true
             → OnOk result (is_kept self.new.dot ≡ true) }
         ensures steady { SteadyOr result self.old self.new }
@@ -107,7 +107,7 @@ impl<'m, 'a> Machine<'m, 'a> {
     pub(crate) fn close_with(&mut self, count: usize, variables: usize, skip: usize) -> Flow
         requires place { self.old.place + 1 + skip < 2 ^ 64 }
         requires found { count + 1 + variables ≤ length (cells_of self.old.stack) }
-        ensures step { Executed untold (code.end_with count variables skip) self.old self.new (Ok result) }
+        ensures step { Executed without_bytes (code.end_with count variables skip) self.old self.new (Ok result) }
         ensures steady { Steady self.old self.new }
     {
         self.stack.pop(count);

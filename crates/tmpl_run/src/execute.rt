@@ -2,10 +2,10 @@
 ghost use Rattle.std.specs.Prelude.{◌≡◌, ◌+◌, ◌-◌, ◌<◌, ◌≤◌, ◌^◌, false, length};
 ghost use Rattle.tmpl_meaning.specs.Sink.{IsPut};
 ghost use Rattle.tmpl_code.specs.View.{instruction_of};
-ghost use Rattle.tmpl_run.specs.Machine.{done};
+ghost use Rattle.tmpl_run.specs.Machine.{carry_out};
 ghost use Rattle.tmpl_run.specs.computed.Machines.{no_template, state_of};
 ghost use Rattle.tmpl_run.specs.computed.Output.{Grows, given_of};
-ghost use Rattle.tmpl_run.specs.computed.Plain.{IsPlain, SparedOr};
+ghost use Rattle.tmpl_run.specs.computed.Plain.{IsPlain, SparedOr, StopsIn};
 ghost use Rattle.tmpl_run.specs.Ready.{Has};
 ghost use Rattle.tmpl_run.specs.computed.Plan.{plan_of};
 ghost use Rattle.tmpl_run.specs.computed.Turned.{Executed, IsAble, Lands, mark_after, put_by, put_out};
@@ -37,7 +37,7 @@ impl<'m, 'a> Machine<'m, 'a> {
         requires depth { self.old.depth + 1 < 2 ^ 64 }
         requires ready { Has (instruction_of program.now.tables instruction.now) (length (cells_of self.old.stack))
             (size_of self.old.stack) }
-        requires lands { Lands (done (plan_of options.now program.now) no_template (instruction_of program.now.tables instruction.now)
+        requires lands { Lands (carry_out (plan_of options.now program.now) no_template (instruction_of program.now.tables instruction.now)
             (state_of self.old)) }
         requires able { IsAble (plan_of options.now program.now) (instruction_of program.now.tables instruction.now) (state_of self.old) }
         requires countable { (S.so_far sink.old).failures < 2 ^ 64 - 1 }
@@ -50,11 +50,15 @@ impl<'m, 'a> Machine<'m, 'a> {
         ensures plain { mark_after (instruction_of program.now.tables instruction.now) false ≡ false
             → IsPlain self.old → SparedOr result (IsPlain self.new) }
         ensures size { size_of self.new.stack ≡ size_of self.old.stack }
+        ensures template { StopsIn result self.old self.new }
     {
         match *instruction {
             Instruction::Spend(line) => self.spend(options, line),
             Instruction::Put { text, line } => {
-                self.put_text(options, line as u64, program.tables.text(text), piece, sink)
+                self.take_step(options, line as u64)?;
+                self.place += 1;
+                piece.put(sink, program.tables.text(text))?;
+                Ok(Flow::On)
             }
             Instruction::PushNothing => {
                 self.give(Val::Nothing);
@@ -91,7 +95,12 @@ impl<'m, 'a> Machine<'m, 'a> {
                 self.show(piece, sink)?;
                 Ok(Flow::On)
             }
-            Instruction::ShowDot { line } => self.show_dot(options, line as u64, piece, sink),
+            Instruction::ShowDot { line } => {
+                self.take_step(options, line as u64)?;
+                self.place += 1;
+                piece.show(sink, &self.dot)?;
+                Ok(Flow::On)
+            }
             Instruction::ShowFields { names, line } => {
                 self.show_fields(
                     options,
@@ -102,7 +111,10 @@ impl<'m, 'a> Machine<'m, 'a> {
                 )
             }
             Instruction::ShowSlot { slot, line } => {
-                self.show_slot(options, line as u64, slot as usize, piece, sink)
+                self.take_step(options, line as u64)?;
+                self.place += 1;
+                self.stack.show_slot(slot as usize, piece, sink)?;
+                Ok(Flow::On)
             }
             Instruction::ShowSlotField { slot, name, line } => {
                 self.show_slot_field(

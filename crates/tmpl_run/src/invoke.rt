@@ -3,7 +3,7 @@ ghost use Rattle.std.specs.Prelude.{◌≡◌, ◌+◌, ◌<◌, ◌≤◌, ◌^
 ghost use Rattle.tmpl_values.specs.View.{is_kept};
 ghost use Rattle.tmpl_meaning.specs.View.{rules_of};
 ghost use Rattle.tmpl_code.specs.Instruction as code;
-ghost use Rattle.tmpl_run.specs.computed.Machines.{untold};
+ghost use Rattle.tmpl_run.specs.computed.Machines.{without_bytes};
 ghost use Rattle.tmpl_run.specs.computed.Plain.{Steady, SteadyOr};
 ghost use Rattle.tmpl_run.specs.computed.Plan.{plan_of};
 ghost use Rattle.tmpl_run.specs.computed.Turned.{Executed, TurnedOr, TurnedUnder};
@@ -70,7 +70,7 @@ impl<'m, 'a> Machine<'m, 'a> {
     /// there is no caller.
     pub(crate) fn return_from(&mut self, count: usize) -> Flow
         requires found { 1 < self.old.depth → count + 3 ≤ length (cells_of self.old.stack) }
-        ensures step { Executed untold (code.return_from count) self.old self.new (Ok result) }
+        ensures step { Executed without_bytes (code.return_from count) self.old self.new (Ok result) }
         ensures steady { Steady self.old self.new }
     {
         if self.depth <= 1 {

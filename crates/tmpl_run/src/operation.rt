@@ -10,8 +10,8 @@ ghost use Rattle.tmpl_code.specs.Instruction.{act, call_with, chained, decide, p
 ghost use Rattle.tmpl_code.specs.Instruction.{settle};
 ghost use Rattle.tmpl_code.specs.View.{names_seen, refusal_of};
 ghost use Rattle.tmpl_run.specs.Cell.{fresh, slot};
-ghost use Rattle.tmpl_run.specs.computed.Machines.{by_mode, state_of, untold};
-ghost use Rattle.tmpl_run.specs.computed.Plain.{IsPlain, SparedOr, Steady, SteadyOr};
+ghost use Rattle.tmpl_run.specs.computed.Machines.{by_mode, state_of, without_bytes};
+ghost use Rattle.tmpl_run.specs.computed.Plain.{IsPlain, SparedOr, Steady, SteadyOr, StopsIn};
 ghost use Rattle.tmpl_run.specs.Step as pipe;
 ghost use Rattle.tmpl_run.specs.computed.Turned.{Executed, IsFound, TurnedOr};
 ghost use Rattle.tmpl_run.specs.computed.View.{cells_of, size_of};
@@ -72,7 +72,7 @@ impl<'m, 'a> Machine<'m, 'a> {
     pub(crate) fn push_dot(&mut self) -> Result<Flow, Halt<'a>>
         requires room { length (cells_of self.old.stack) < size_of self.old.stack }
         requires place { self.old.place + 1 < 2 ^ 64 }
-        ensures step { TurnedOr untold (act push_dot) self.old self.new result }
+        ensures step { TurnedOr without_bytes (act push_dot) self.old self.new result }
         ensures steady { SteadyOr result self.old self.new }
     {
         self.stack.push_shared(&self.dot)?;
@@ -118,7 +118,7 @@ impl<'m, 'a> Machine<'m, 'a> {
         requires found { slot < length (cells_of self.old.stack) }
         requires room { length (cells_of self.old.stack) < size_of self.old.stack }
         requires place { self.old.place + 1 < 2 ^ 64 }
-        ensures step { TurnedOr untold (act (push_slot slot)) self.old self.new result }
+        ensures step { TurnedOr without_bytes (act (push_slot slot)) self.old self.new result }
         ensures steady { SteadyOr result self.old self.new }
     {
         self.stack.push_slot(slot)?;
@@ -150,9 +150,10 @@ impl<'m, 'a> Machine<'m, 'a> {
         requires found { count + piped_count piped ≤ length (cells_of self.old.stack) }
         requires room { length (cells_of self.old.stack) - (count + piped_count piped) < size_of self.old.stack }
         requires place { self.old.place + 1 < 2 ^ 64 }
-        ensures step { TurnedOr untold (act (call_with func count piped)) self.old self.new result }
+        ensures step { TurnedOr without_bytes (act (call_with func count piped)) self.old self.new result }
         ensures plain { makes_text func ≡ false → IsPlain self.old → SparedOr result (IsPlain self.new) }
         ensures size { size_of self.new.stack ≡ size_of self.old.stack }
+        ensures template { StopsIn result self.old self.new }
     {
         let alloc = self.alloc;
         match self.stack.call(alloc, func, count, piped) {
@@ -170,7 +171,7 @@ impl<'m, 'a> Machine<'m, 'a> {
         requires found { 1 + piped_count piped ≤ length (cells_of self.old.stack) }
         requires place { self.old.place + 1 < 2 ^ 64 }
         requires over { decides is_or (slot 0 (cells_of self.old.stack)) ≡ true → self.old.place + 1 + skip < 2 ^ 64 }
-        ensures step { Executed untold (act (decide is_or piped skip)) self.old self.new (Ok result) }
+        ensures step { Executed without_bytes (act (decide is_or piped skip)) self.old self.new (Ok result) }
         ensures steady { Steady self.old self.new }
     {
         let val = self.stack.take().val;
@@ -188,7 +189,7 @@ impl<'m, 'a> Machine<'m, 'a> {
     pub(crate) fn settle(&mut self) -> Flow
         requires found { 1 ≤ length (cells_of self.old.stack) }
         requires place { self.old.place + 1 < 2 ^ 64 }
-        ensures step { Executed untold (act settle) self.old self.new (Ok result) }
+        ensures step { Executed without_bytes (act settle) self.old self.new (Ok result) }
         ensures steady { Steady self.old self.new }
     {
         self.stack.settle();

@@ -74,13 +74,38 @@ impl LentPiece<'_> {
             self.keep_number(number as u64);
             return Ok(());
         }
+        self.put_any_number(sink, number)
+    }
+
+    /// Puts a number in base 10, whatever the room. It is no part of what puts most numbers, whose frame it would widen.
+    #[inline(never)]
+    fn put_any_number<S: Sink>(&mut self, sink: &mut S, number: i64) -> Result<(), SinkFault>
+        requires { (S.so_far sink.old).failures < 2 ^ 64 - 1 }
+        ensures given { IsPut result (given_of (S.so_far sink.old) self.old) (given_of (S.so_far sink.new) self.new)
+            (signed_decimal number) }
+        ensures taken { Grows (S.so_far sink.old) (S.so_far sink.new) }
+    {
         let mut buffer = Buffer::new();
         self.put(sink, buffer.format(number).as_bytes())
     }
 
-    /// Puts the text that a value has as an action. Those that are a single put take the short way.
-    #[tactic(auto, using(crate::proofs::OutputLemmas::text_of_bytes))]
+    /// Puts the text that a value has as an action. Numbers take the short way.
+    #[inline(always)]
     pub(crate) fn show<S: Sink>(&mut self, sink: &mut S, value: &Val<'_>) -> Result<(), SinkFault>
+        requires { (S.so_far sink.old).failures < 2 ^ 64 - 1 }
+        ensures given { IsPut result (given_of (S.so_far sink.old) self.old) (given_of (S.so_far sink.new) self.new)
+            (text_of (val_of value.now)) }
+        ensures taken { Grows (S.so_far sink.old) (S.so_far sink.new) }
+    {
+        match value {
+            Val::Num(number) => self.put_number(sink, *number),
+            _ => self.show_other(sink, value),
+        }
+    }
+
+    /// Puts the text of a value that is no number. Those that are a single put take the short way.
+    #[tactic(auto, using(crate::proofs::OutputLemmas::text_of_bytes))]
+    fn show_other<S: Sink>(&mut self, sink: &mut S, value: &Val<'_>) -> Result<(), SinkFault>
         requires { (S.so_far sink.old).failures < 2 ^ 64 - 1 }
         ensures given { IsPut result (given_of (S.so_far sink.old) self.old) (given_of (S.so_far sink.new) self.new)
             (text_of (val_of value.now)) }
@@ -90,7 +115,6 @@ impl LentPiece<'_> {
             return self.put(sink, text);
         }
         match value {
-            Val::Num(number) => self.put_number(sink, *number),
             Val::Bool(true) => self.put(sink, b"true"),
             Val::Bool(false) => self.put(sink, b"false"),
             _ => put_any::<S, Brand>(self, sink, value),

@@ -6,9 +6,9 @@ ghost use Rattle.tmpl_meaning.specs.View.{rules_of};
 ghost use Rattle.tmpl_code.specs.Instruction as code;
 ghost use Rattle.tmpl_code.specs.View.{names_seen};
 ghost use Rattle.tmpl_run.specs.Cell.{slot};
-ghost use Rattle.tmpl_run.specs.computed.Machines.{untold};
+ghost use Rattle.tmpl_run.specs.computed.Machines.{without_bytes};
 ghost use Rattle.tmpl_run.specs.computed.Output.{Grows, given_of};
-ghost use Rattle.tmpl_run.specs.computed.Plain.{Steady, SteadyOr};
+ghost use Rattle.tmpl_run.specs.computed.Plain.{Steady, SteadyOr, StopsIn};
 ghost use Rattle.tmpl_run.specs.computed.Turned.{Executed, HoldsOfEach, put_by, put_out};
 ghost use Rattle.tmpl_run.specs.computed.View.{cells_of};
 ghost use Rattle.tmpl_run.specs.declared.flow.Flow.TheVariants as flow;
@@ -21,31 +21,6 @@ use tmpl_code::Names;
 use tmpl_meaning::{Options, Sink, SinkFault};
 
 impl<'m, 'a> Machine<'m, 'a> {
-    /// Takes a step at this line, and puts out a text of the template.
-    pub(crate) fn put_text<S: Sink>(
-        &mut self,
-        options: &Options,
-        line: u64,
-        text: &[u8],
-        piece: &mut LentPiece<'_>,
-        sink: &mut S,
-    ) -> Result<Flow, Halt<'a>>
-        requires place { self.old.place + 1 < 2 ^ 64 }
-        requires failures { (S.so_far sink.old).failures < 2 ^ 64 - 1 }
-        ensures step { HoldsOfEach (rules_of options.now) (λ plan.
-            Executed plan (code.put line text.now) self.old self.new result) }
-        ensures given { IsPut (put_by result) (given_of (S.so_far sink.old) piece.old)
-            (given_of (S.so_far sink.new) piece.new)
-            (put_out options.now.missing_key (code.put line text.now) self.old result) }
-        ensures taken { Grows (S.so_far sink.old) (S.so_far sink.new) }
-        ensures steady { SteadyOr result self.old self.new }
-    {
-        self.take_step(options, line)?;
-        self.place += 1;
-        piece.put(sink, text)?;
-        Ok(Flow::On)
-    }
-
     /// Takes the newest value, and puts out its text.
     pub(crate) fn show<S: Sink>(
         &mut self,
@@ -55,41 +30,17 @@ impl<'m, 'a> Machine<'m, 'a> {
         requires place { self.old.place + 1 < 2 ^ 64 }
         requires found { 1 ≤ length (cells_of self.old.stack) }
         requires failures { (S.so_far sink.old).failures < 2 ^ 64 - 1 }
-        ensures step { Executed untold code.show self.old self.new (Ok flow.On) }
+        ensures step { Executed without_bytes code.show self.old self.new (Ok flow.On) }
         ensures given { IsPut result (given_of (S.so_far sink.old) piece.old) (given_of (S.so_far sink.new) piece.new)
             (text_of (slot 0 (cells_of self.old.stack))) }
         ensures taken { Grows (S.so_far sink.old) (S.so_far sink.new) }
         ensures steady { Steady self.old self.new }
+        ensures template { StopsIn result self.old self.new }
     {
         self.place += 1;
         let put = self.stack.show_slot(0, piece, sink);
         self.stack.pop(1);
         put
-    }
-
-    /// Takes a step at this line, and puts out the text of dot.
-    #[inline(always)]
-    pub(crate) fn show_dot<S: Sink>(
-        &mut self,
-        options: &Options,
-        line: u64,
-        piece: &mut LentPiece<'_>,
-        sink: &mut S,
-    ) -> Result<Flow, Halt<'a>>
-        requires place { self.old.place + 1 < 2 ^ 64 }
-        requires failures { (S.so_far sink.old).failures < 2 ^ 64 - 1 }
-        ensures step { HoldsOfEach (rules_of options.now) (λ plan.
-            Executed plan (code.show_fields line []) self.old self.new result) }
-        ensures given { IsPut (put_by result) (given_of (S.so_far sink.old) piece.old)
-            (given_of (S.so_far sink.new) piece.new)
-            (put_out options.now.missing_key (code.show_fields line []) self.old result) }
-        ensures taken { Grows (S.so_far sink.old) (S.so_far sink.new) }
-        ensures steady { SteadyOr result self.old self.new }
-    {
-        self.take_step(options, line)?;
-        self.place += 1;
-        piece.show(sink, &self.dot)?;
-        Ok(Flow::On)
     }
 
     /// Takes a step at this line, and puts out the text of a field of a field of .. of dot.
@@ -116,33 +67,6 @@ impl<'m, 'a> Machine<'m, 'a> {
         let val = self.field_of_dot(options.missing_key, names)?;
         self.place += 1;
         piece.show(sink, &val)?;
-        Ok(Flow::On)
-    }
-
-    /// Takes a step at this line, and puts out the text of the value of a slot.
-    #[inline(always)]
-    pub(crate) fn show_slot<S: Sink>(
-        &mut self,
-        options: &Options,
-        line: u64,
-        slot: usize,
-        piece: &mut LentPiece<'_>,
-        sink: &mut S,
-    ) -> Result<Flow, Halt<'a>>
-        requires found { slot < length (cells_of self.old.stack) }
-        requires place { self.old.place + 1 < 2 ^ 64 }
-        requires failures { (S.so_far sink.old).failures < 2 ^ 64 - 1 }
-        ensures step { HoldsOfEach (rules_of options.now) (λ plan.
-            Executed plan (code.show_slot line slot []) self.old self.new result) }
-        ensures given { IsPut (put_by result) (given_of (S.so_far sink.old) piece.old)
-            (given_of (S.so_far sink.new) piece.new)
-            (put_out options.now.missing_key (code.show_slot line slot []) self.old result) }
-        ensures taken { Grows (S.so_far sink.old) (S.so_far sink.new) }
-        ensures steady { SteadyOr result self.old self.new }
-    {
-        self.take_step(options, line)?;
-        self.place += 1;
-        self.stack.show_slot(slot, piece, sink)?;
         Ok(Flow::On)
     }
 

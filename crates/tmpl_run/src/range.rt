@@ -7,8 +7,8 @@ ghost use Rattle.tmpl_meaning.specs.View.{rules_of};
 ghost use Rattle.tmpl_code.specs.Instruction as code;
 ghost use Rattle.tmpl_run.specs.Cell.{slot, slot_cell};
 ghost use Rattle.tmpl_run.specs.Machine.{elements_for, variables_on};
-ghost use Rattle.tmpl_run.specs.computed.Machines.{state_of, untold};
-ghost use Rattle.tmpl_run.specs.computed.Plain.{IsPlain, Spared, Steady, SteadyOr};
+ghost use Rattle.tmpl_run.specs.computed.Machines.{state_of, without_bytes};
+ghost use Rattle.tmpl_run.specs.computed.Plain.{IsPlain, Spared, Steady, SteadyOr, StopsIn};
 ghost use Rattle.tmpl_run.specs.computed.Turned.{Executed, TurnedOr, TurnedUnder};
 ghost use Rattle.tmpl_run.specs.computed.View.{cells_of, size_of};
 ghost use Rattle.tmpl_run.specs.computed.Held.{has_more};
@@ -79,7 +79,7 @@ impl<'m, 'a> Machine<'m, 'a> {
             (slot_cell 1 (cells_of self.old.stack)).val ≡ None → ⊥ }
         requires room { length (cells_of self.old.stack) + count ≤ size_of self.old.stack }
         requires place { self.old.place + 1 < 2 ^ 64 }
-        ensures step { TurnedOr untold (code.turn count) self.old self.new result }
+        ensures step { TurnedOr without_bytes (code.turn count) self.old self.new result }
         ensures steady { SteadyOr result self.old self.new }
     {
         let Some((key, element)) = self.stack.element() else {
@@ -100,6 +100,7 @@ impl<'m, 'a> Machine<'m, 'a> {
         ensures plain { is_made key.entry ≡ false → is_made element.now ≡ false
             → IsPlain self.old → Spared result (IsPlain self.new) }
         ensures size { size_of self.new.stack ≡ size_of self.old.stack }
+        ensures template { StopsIn result self.old self.new }
     {
         match count {
             0 => {}
@@ -152,7 +153,7 @@ impl<'m, 'a> Machine<'m, 'a> {
     pub(crate) fn leave(&mut self, count: usize, skip: usize) -> Flow
         requires found { count + 2 ≤ length (cells_of self.old.stack) }
         requires place { self.old.place + 1 + skip < 2 ^ 64 }
-        ensures step { Executed untold (code.leave count skip) self.old self.new (Ok result) }
+        ensures step { Executed without_bytes (code.leave count skip) self.old self.new (Ok result) }
         ensures steady { Steady self.old self.new }
     {
         self.stack.pop(count);

@@ -94,11 +94,10 @@ impl<'m, 'a> Machine<'m, 'a> {
     {
         let instructions = program.instructions.as_slice();
         loop {
-            let number = self.template;
             match self.execute(program, options, &instructions[self.place], piece, sink) {
                 Ok(Flow::On) => {}
                 Ok(Flow::Over) => return Ok(()),
-                Err(stop) => return Err(error_for(program, number, self.line, stop)),
+                Err(stop) => return Err(error_for(program, self.template, self.line, stop)),
             }
         }
     }

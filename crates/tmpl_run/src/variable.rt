@@ -1,7 +1,7 @@
 //! Variables.
 ghost use Rattle.std.specs.Prelude.{◌≡◌, ◌+◌, ◌<◌, ◌≤◌, ◌^◌, length};
 ghost use Rattle.tmpl_code.specs.Instruction as code;
-ghost use Rattle.tmpl_run.specs.computed.Machines.{untold};
+ghost use Rattle.tmpl_run.specs.computed.Machines.{without_bytes};
 ghost use Rattle.tmpl_run.specs.computed.Plain.{SteadyOr};
 ghost use Rattle.tmpl_run.specs.Ready.{RoomIf};
 ghost use Rattle.tmpl_run.specs.computed.Turned.{TurnedOr};
@@ -18,7 +18,7 @@ impl<'m, 'a> Machine<'m, 'a> {
         requires found { 1 ≤ length (cells_of self.old.stack) }
         requires room { RoomIf key (length (cells_of self.old.stack)) (size_of self.old.stack) }
         requires place { self.old.place + 1 < 2 ^ 64 }
-        ensures step { TurnedOr untold (code.hold key) self.old self.new result }
+        ensures step { TurnedOr without_bytes (code.hold key) self.old self.new result }
         ensures steady { SteadyOr result self.old self.new }
     {
         let Cell { val, num } = self.stack.take_shared(self.alloc)?;
@@ -34,7 +34,7 @@ impl<'m, 'a> Machine<'m, 'a> {
     pub(crate) fn set(&mut self, slot: usize) -> Result<Flow, Halt<'a>>
         requires found { slot + 1 < length (cells_of self.old.stack) }
         requires place { self.old.place + 1 < 2 ^ 64 }
-        ensures step { TurnedOr untold (code.set slot) self.old self.new result }
+        ensures step { TurnedOr without_bytes (code.set slot) self.old self.new result }
         ensures steady { SteadyOr result self.old self.new }
     {
         let Cell { val, num } = self.stack.take_shared(self.alloc)?;
@@ -48,7 +48,7 @@ impl<'m, 'a> Machine<'m, 'a> {
     pub(crate) fn set_dot(&mut self, slot: usize) -> Result<Flow, Halt<'a>>
         requires found { slot < length (cells_of self.old.stack) }
         requires place { self.old.place + 1 < 2 ^ 64 }
-        ensures step { TurnedOr untold (code.set_dot slot) self.old self.new result }
+        ensures step { TurnedOr without_bytes (code.set_dot slot) self.old self.new result }
         ensures steady { SteadyOr result self.old self.new }
     {
         self.stack.set(slot, self.dot.share()?);

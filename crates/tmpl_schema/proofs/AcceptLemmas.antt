@@ -9,16 +9,16 @@ use Rattle.tmpl_meaning.specs.Meaning.{Rules, ran}
 use Rattle.tmpl_meaning.specs.Pipeline.{without_null}
 use Rattle.tmpl_meaning.specs.declared.missing_key.MissingKey.{MissingKey}
 use Rattle.tmpl_meaning.specs.declared.missing_key.MissingKey.TheVariants as mode
-use Rattle.tmpl_schema.specs.Shape.{Shape, Schema, Fits, HasShape, stands_for}
+use Rattle.tmpl_shape.specs.Shape.{Shape, Schema, Fits, HasShape, stands_for}
 use Rattle.tmpl_schema.specs.Safe.{MayEnd, NeverFails}
 use Rattle.tmpl_schema.specs.declared.table.Entry as held
-use Rattle.tmpl_schema.specs.computed.Shapes.{Base, null_gone}
+use Rattle.tmpl_shape.specs.computed.Shapes.{Base, null_gone}
 use Rattle.tmpl_schema.specs.computed.Check.{Callee, Table, handed, is_safe}
 use Rattle.tmpl_schema.specs.computed.Safe.{EachCallee, IsCallee, IsChecked, NeverFailsIn}
 use Rattle.tmpl_schema.specs.computed.View.{callee_of, entries_of, table_of}
 use Rattle.tmpl_schema.proofs.SafeLemmas.{runs-safely}
-use Rattle.tmpl_schema.proofs.NameLemmas.{meant}
-use Rattle.tmpl_schema.proofs.ShapeLemmas.{null_gone-has, same_name}
+use Rattle.tmpl_shape.proofs.NameLemmas.{meant}
+use Rattle.tmpl_shape.proofs.ShapeLemmas.{null_gone-has, same_name}
 
 module _ (base : Base) (m : MissingKey) (stops : List (List ℕ)) (set : List Template) (table : Table) where
   each-found : (es : List held.Entry) → EachCallee base m stops set table (entries_of es)

@@ -9,8 +9,8 @@ use Rattle.tmpl_syntax.specs.View.{control_of, nodes_in}
 use Rattle.tmpl_syntax.specs.declared.tree.NodeKind.{the_lemmas}
 use Rattle.tmpl_syntax.specs.declared.tree.ControlNode.{ControlNode, out-ControlNode}
 use Rattle.tmpl_meaning.specs.declared.missing_key.MissingKey.{MissingKey}
-use Rattle.tmpl_schema.specs.Shape.{Shape}
-use Rattle.tmpl_schema.specs.computed.Shapes.{Base, Visit, visit_of}
+use Rattle.tmpl_shape.specs.Shape.{Shape}
+use Rattle.tmpl_shape.specs.computed.Shapes.{Base, Visit, visit_of}
 use Rattle.tmpl_schema.specs.computed.Check.{Known, State, Table, after_both, after_node, after_nodes, holds_loop, in_body, in_other, kept_by, pipeline_shape}
 use Rattle.tmpl_schema.specs.computed.View.{after_choice_by, after_range_by, ranged_by, turned_by}
 

@@ -5,9 +5,9 @@ use Rattle.tmpl_grammar.specs.declared.tree.Control.TheVariants as control
 use Rattle.tmpl_syntax.specs.Tree as tree
 use Rattle.tmpl_syntax.specs.Tree.{NodeKind, Nodes, text, action, control_node, break_node, continue_node, template_node}
 use Rattle.tmpl_meaning.specs.declared.missing_key.MissingKey.TheVariants as mode
-use Rattle.tmpl_schema.specs.Shape.{Shape, nulls, numbers, texts, anything, list_of, record_of, either, named, Defs, no_field, others, field}
+use Rattle.tmpl_shape.specs.Shape.{Shape, nulls, numbers, texts, anything, list_of, record_of, either, named, Defs, no_field, others, field}
 use Rattle.tmpl_schema.specs.computed.Check.{Table, handed, absent, is_safe, settled_soon}
-use Rattle.tmpl_schema.specs.computed.Shapes.{Base, within, joined, has_kind}
+use Rattle.tmpl_shape.specs.computed.Shapes.{Base, within, joined, has_kind}
 use Rattle.std.specs.Prelude.{pos}
 use Rattle.tmpl_funcs.specs.declared.func.Func.{Func}
 use Rattle.tmpl_funcs.specs.declared.func.Func.TheVariants as func

@@ -1,16 +1,10 @@
-pub mod KindLemmas
-pub mod ShapeLemmas
-pub mod FormatLemmas
-pub mod FieldLemmas
 pub mod VariableLemmas
-pub mod CallLemmas
 pub mod RunLemmas
-pub mod NameLemmas
 pub mod SafeLemmas
 pub mod ViewLemmas
 pub mod StepLemmas
 pub mod LengthLemmas
-pub mod StateLemmas
+pub mod FactLemmas
 pub mod PipelineLemmas
 pub mod NodeLemmas
 pub mod ControlLemmas

@@ -19,18 +19,18 @@ use Rattle.tmpl_meaning.specs.Meaning.{meanings, scope, setting_of, show, spend,
 use Rattle.tmpl_meaning.specs.Pipeline.{Environment, commands_value}
 use Rattle.tmpl_meaning.specs.declared.missing_key.MissingKey.{MissingKey}
 use Rattle.tmpl_meaning.proofs.PartLemmas.{controlled, handing, left_by, on_end, on_turn, one_of, over, run_called, scoped, spend_if, turn, uncalled, without_key}
-use Rattle.tmpl_schema.specs.Shape.{Shape, nothings, HasShape, Names}
+use Rattle.tmpl_shape.specs.Shape.{Shape, nothings, HasShape, Names}
 use Rattle.tmpl_schema.specs.Safe.{MayEnd}
-use Rattle.tmpl_schema.specs.computed.Means.{Means}
-use Rattle.tmpl_schema.specs.computed.Shapes.{Base, within, filled, Visit, visit_of}
-use Rattle.tmpl_schema.specs.computed.Check.{Known, State, Callee, handed, absent, Table, Checked, last_of, all_within, all_joined, if_within, after_both, settled, settled_soon, kept_by, left_with}
-use Rattle.tmpl_schema.specs.computed.Check.{holds_loop, dot_in, in_body, in_other, after_choice, in_turn, turned, after_range, after_call, after_control, after_node, after_nodes}
-use Rattle.tmpl_schema.specs.computed.Check.{pipeline_shape, narrowed, narrowed_empty, bound_shapes, at_start, is_safe}
+use Rattle.tmpl_shape.specs.computed.Means.{Means}
+use Rattle.tmpl_shape.specs.computed.Shapes.{Base, within, fill, Visit, visit_of}
+use Rattle.tmpl_schema.specs.computed.Check.{Known, State, Callee, handed, absent, Table, Checked, last_of, all_within, all_joined, if_within, after_both, settle_known, settled_soon, kept_by, left_with}
+use Rattle.tmpl_schema.specs.computed.Check.{holds_loop, dot_in, in_body, in_other, after_choice, in_turn, turn_known, after_range, after_call, after_control, after_node, after_nodes}
+use Rattle.tmpl_schema.specs.computed.Check.{pipeline_shape, narrow, bound_shapes, at_start, is_safe}
 use Rattle.tmpl_schema.specs.computed.Safe.{IsCallee, IsChecked}
-use Rattle.tmpl_schema.proofs.ShapeLemmas.{within-has}
-use Rattle.tmpl_schema.proofs.FieldLemmas.{Gives, Each, IsVisit, Visits, filled-has, visit-gives}
+use Rattle.tmpl_shape.proofs.ShapeLemmas.{within-has}
+use Rattle.tmpl_shape.proofs.FieldLemmas.{Gives, Each, IsVisit, Visits, filled-has, visit-gives}
 use Rattle.tmpl_schema.proofs.VariableLemmas.{HasKnown, Fits, place, known-length, last-known, last-last, within-known, if_within-some, both-known, bound-known}
-use Rattle.tmpl_schema.proofs.VariableLemmas.{pipeline-gives, narrowed-fits, empty-fits}
+use Rattle.tmpl_schema.proofs.VariableLemmas.{pipeline-gives, narrow-fits, empty-fits}
 
 module _ (base : Base) (N : Names) (means : Means base.defs N) (stops : List (List ℕ)) where
   -- ---- ends
@@ -126,31 +126,31 @@ module _ (base : Base) (N : Names) (means : Means base.defs N) (stops : List (Li
           → Ends loop out (scoped (length r.env) (one_of t (body (dot_value c v d)) (other d) (with_bound h.binding (without_key v) (record r { made_text = made }))))
       by true t a isa b isb left right =
           let q : Run = with_bound h.binding (without_key v) (record r { made_text = made }) in
-          let n = (narrowed-fits base N means) m h.pipeline k d r.env v fits value t in
+          let n = (narrow-fits base N means) m h.pipeline k d r.env v fits value t in
           let full = (filled-has base N means) sh v has t in
           let x = body (dot_value c v d) q in
           scope-ends loop k.env a out r.env fits.1 holds left x.1 x.0.env
           (in_f (in_body base c h k sh) a isa (dot_value c v d) q (
-            dot-has c (filled base sh) (narrowed base h.pipeline k).dot v d full n.0,
-            (bound-known base N means) h.binding nothings (filled base sh) (without_key v) tt full (narrowed base h.pipeline k).env r.env n.1,
+            dot-has c (fill base sh) (narrow base true h.pipeline k).dot v d full n.0,
+            (bound-known base N means) h.binding nothings (fill base sh) (without_key v) tt full (narrow base true h.pipeline k).env r.env n.1,
           ))
       by false t a isa b isb left right =
           let q : Run = with_bound h.binding (without_key v) (record r { made_text = made }) in
           let n = (empty-fits base N means) m h.pipeline k d r.env v fits value t in
           let x = other d q in
           scope-ends loop k.env b out r.env fits.1 holds right x.1 x.0.env
-          (in_g (in_other base h k sh) b isb d q (n.0, (bound-known base N means) h.binding nothings sh (without_key v) tt has (narrowed_empty base h.pipeline k).env r.env n.1))
+          (in_g (in_other base h k sh) b isb d q (n.0, (bound-known base N means) h.binding nothings sh (without_key v) tt has (narrow base false h.pipeline k).env r.env n.1))
 
   -- ---- ranges
 
-  settled-so : (n : ℕ) (turn : Known → Option Known) (ks head : Known) → settled base n turn ks ≡ Some head
+  settled-so : (n : ℕ) (turn : Known → Option Known) (ks head : Known) → settle_known base n turn ks ≡ Some head
       → (end : Known) × (turn head ≡ Some end) × (all_within base end head ≡ true)
   settled-so zero turn ks head e = cc
   settled-so (suc n) turn ks head e =
       option_and_then_some _ (turn ks) head e (λ end is rest. by end is (all_within base end ks) refl rest (settled-so n turn (all_joined base ks end) head))
     where
-      by : (end : Known) → turn ks ≡ Some end → (b : Bool) → all_within base end ks ≡ b → (if b then Some ks else settled base n turn (all_joined base ks end)) ≡ Some head
-          → (settled base n turn (all_joined base ks end) ≡ Some head → (end : Known) × (turn head ≡ Some end) × (all_within base end head ≡ true))
+      by : (end : Known) → turn ks ≡ Some end → (b : Bool) → all_within base end ks ≡ b → (if b then Some ks else settle_known base n turn (all_joined base ks end)) ≡ Some head
+          → (settle_known base n turn (all_joined base ks end) ≡ Some head → (end : Known) × (turn head ≡ Some end) × (all_within base end head ≡ true))
           → (end : Known) × (turn head ≡ Some end) × (all_within base end head ≡ true)
       by end is true w rest more =
           let same : ks ≡ head = cc in subst (λ (i : Known). (end : Known) × (turn i ≡ Some end) × (all_within base end i ≡ true)) same (end, is, w)
@@ -206,14 +206,14 @@ module _ (base : Base) (N : Names) (means : Means base.defs N) (stops : List (Li
       → (d : Value) (r : Run) → (Fits base N means) k d r.env → (made : Bool) (o : Option (List Element)) → (Visits base N means) (Some v) o
       → Ends loop out (scoped (length r.env) (over s line h.binding body (other d) o (record r { made_text = made })))
   over-ends s line h k loop f g body other v out is holds in_f in_g d r fits made o visits =
-      option_and_then_some _ (kept_by base (turned h v f) k.env) out is (λ head ish rest.
+      option_and_then_some _ (kept_by base (turn_known h v f) k.env) out is (λ head ish rest.
       option_and_then_some (after_both base (length k.env) head) (g k) out rest (λ b isb joint.
       let joins = (both-known base N means) (length k.env) head b out joint in
-      option_and_then_some (if_within base k.env) (settled_soon base (turned h v f) k.env) head ish (λ x isx keeps.
+      option_and_then_some (if_within base k.env) (settled_soon base (turn_known h v f) k.env) head ish (λ x isx keeps.
       let p = (if_within-some base N means) k.env x head keeps in
-      let set = soon-so (turned h v f) k.env x isx in
+      let set = soon-so (turn_known h v f) k.env x isx in
       by o visits head b isb joins.0 joins.1 (subst (λ (i : Known). all_within base k.env i ≡ true) p.1 p.0)
-      (subst (λ (i : Known). (end : Known) × (turned h v f i ≡ Some end) × (all_within base end i ≡ true)) p.1 set))))
+      (subst (λ (i : Known). (end : Known) × (turn_known h v f i ≡ Some end) × (all_within base end i ≡ true)) p.1 set))))
     where
       r1 : Run
       r1 = record r { made_text = made }
@@ -228,7 +228,7 @@ module _ (base : Base) (N : Names) (means : Means base.defs N) (stops : List (Li
       by : (o : Option (List Element)) → (Visits base N means) (Some v) o → (head b : Known) → g k ≡ Some b
           → ((env : Environment) → (HasKnown base N means) (last_of (length k.env) head) env → (HasKnown base N means) out env)
           → ((env : Environment) → (HasKnown base N means) (last_of (length k.env) b) env → (HasKnown base N means) out env) → all_within base k.env head ≡ true
-          → ((end : Known) × (turned h v f head ≡ Some end) × (all_within base end head ≡ true))
+          → ((end : Known) × (turn_known h v f head ≡ Some end) × (all_within base end head ≡ true))
           → Ends loop out (scoped (length r.env) (over s line h.binding body (other d) o r1))
       by None visits head b isb left right start set = absurd visits
       by (Some []) visits head b isb left right start set =

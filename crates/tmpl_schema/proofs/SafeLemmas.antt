@@ -5,10 +5,10 @@ use Rattle.tmpl_values.specs.Value.{nothing}
 use Rattle.tmpl_meaning.specs.Meaning.{Setting, calls_within, meanings, setting_of}
 use Rattle.tmpl_meaning.specs.Pipeline.{without_null}
 use Rattle.tmpl_meaning.proofs.PartLemmas.{started}
-use Rattle.tmpl_schema.specs.Shape.{stands_for}
+use Rattle.tmpl_shape.specs.Shape.{stands_for}
 use Rattle.tmpl_schema.specs.computed.Check.{at_start}
 use Rattle.tmpl_schema.specs.computed.Safe.{RunsSafely}
-use Rattle.tmpl_schema.proofs.NameLemmas.{meant}
+use Rattle.tmpl_shape.proofs.NameLemmas.{meant}
 use Rattle.tmpl_schema.proofs.RunLemmas.{safe-some, quiet-fault, nodes-end, calls-have}
 
 pub runs-safely : RunsSafely

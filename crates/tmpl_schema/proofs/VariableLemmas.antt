@@ -23,20 +23,20 @@ use Rattle.tmpl_meaning.specs.Pipeline.{Environment, Given, Place, chain, field_
 use Rattle.tmpl_meaning.specs.Meaning.{assign_variable, bind}
 use Rattle.tmpl_meaning.specs.declared.missing_key.MissingKey.{MissingKey}
 use Rattle.tmpl_meaning.specs.declared.missing_key.MissingKey.TheVariants as mode
-use Rattle.tmpl_schema.specs.Shape.{Fields, Shape, never, nothings, nulls, texts, record_of, either, named, HasShape, IsField, Names}
-use Rattle.tmpl_schema.specs.declared.kind.Kind.TheVariants.{Blank}
-use Rattle.tmpl_schema.specs.computed.Formats.{printf_shape}
-use Rattle.tmpl_schema.specs.computed.Means.{Means}
-use Rattle.tmpl_schema.specs.computed.Shapes.{Base, within, both, any_field, filled, has_kind, joined, keyed_shape, null_gone, refined, chain_shape, entry_shape, index_shape, index_shape_by}
-use Rattle.tmpl_schema.specs.computed.Calls.{call_shape, shape_by_function}
-use Rattle.tmpl_schema.specs.computed.Check.{narrowed_by, narrowed_by_all, narrowed_by_call, narrowed_by_constant, narrowed_by_index, narrowed_by_nil, narrowed_empty, deciding_shape, passing_shape, passed, operand_shapes, junction_shape, commands_shape}
+use Rattle.tmpl_shape.specs.Shape.{Fields, Shape, never, nothings, nulls, texts, record_of, either, named, HasShape, IsField, Names}
+use Rattle.tmpl_shape.specs.declared.kind.Kind.TheVariants.{Blank}
+use Rattle.tmpl_shape.specs.computed.Formats.{printf_shape}
+use Rattle.tmpl_shape.specs.computed.Means.{Means}
+use Rattle.tmpl_shape.specs.computed.Shapes.{Base, within, both, any_field, fill, has_kind, joined, keyed_shape, null_gone, refine, chain_shape, entry_shape, index_shape, index_shape_by}
+use Rattle.tmpl_shape.specs.computed.Calls.{call_shape, shape_by_function}
+use Rattle.tmpl_schema.specs.computed.Check.{call_place, index_place, pair_facts, narrow_as, narrow_by, narrow_by_all, narrow_to, deciding_shape, passing_shape, passed, operand_shapes, junction_shape, commands_shape}
 use Rattle.tmpl_schema.specs.computed.Check.{Known, State, variable_shape, assigned_shape, bound_shapes, refined_variable, all_within, all_joined, last_of, if_within}
-use Rattle.tmpl_schema.specs.computed.Check.{after_both, entry_along, entry_by, operand_shape, indexed_shape, printed_shape, command_shape, pipeline_shape, narrowed}
-use Rattle.tmpl_schema.proofs.KindLemmas.{has_kind-has}
-use Rattle.tmpl_schema.proofs.ShapeLemmas.{same_name, within-has, joined-left, joined-right, null_gone-has}
-use Rattle.tmpl_schema.proofs.FormatLemmas.{printf-gives}
-use Rattle.tmpl_schema.proofs.FieldLemmas.{Gives, any-has, at-entry, both-left, both-right, entry-gives, chain-gives, filled-has, full-thing, refined-has}
-use Rattle.tmpl_schema.proofs.CallLemmas.{HaveShapes, call-gives}
+use Rattle.tmpl_schema.specs.computed.Check.{after_both, entry_along, entry_by, operand_shape, indexed_shape, printed_shape, command_shape, pipeline_shape, narrow}
+use Rattle.tmpl_shape.proofs.KindLemmas.{has_kind-has}
+use Rattle.tmpl_shape.proofs.ShapeLemmas.{same_name, within-has, joined-left, joined-right, null_gone-has}
+use Rattle.tmpl_shape.proofs.FormatLemmas.{printf-gives}
+use Rattle.tmpl_shape.proofs.FieldLemmas.{Gives, any-has, at-entry, both-left, both-right, entry-gives, chain-gives, filled-has, full-thing, refined-has}
+use Rattle.tmpl_shape.proofs.CallLemmas.{HaveShapes, call-gives}
 use Rattle.tmpl_funcs.specs.Func.{takes}
 use Rattle.tmpl_funcs.specs.declared.func.Func.{Func}
 use Rattle.tmpl_funcs.specs.declared.func.Func.TheVariants as func
@@ -134,7 +134,7 @@ module _ (base : Base) (N : Names) (means : Means base.defs N) where
     where
       by : (b : Bool) → chain m ns (option_map_or (λ v. v.1) (if b then Some (k.0, v.1) else find (λ v. bytes_eq v.0 name) env) nothing) ≡ Ok x
           → (chain m ns (lookup name env) ≡ Ok x → HasKnown (refined_variable base name ns ks) env)
-          → HasKnown (if b then (k.0, refined base ns k.1) ∷ ks else k ∷ refined_variable base name ns ks) (v ∷ env)
+          → HasKnown (if b then (k.0, refine base ns k.1) ∷ ks else k ∷ refined_variable base name ns ks) (v ∷ env)
       by true y more = (h.0, (refined-has base N means) k.1 m ns v.1 x h.1 y t, h.2)
       by false y more = (h.0, h.1, more y)
   refined-known m name ns x t _ _ h e = absurd h
@@ -357,7 +357,7 @@ module _ (base : Base) (N : Names) (means : Means base.defs N) where
   index_value m d env os = (given_then (operand_values (place m d env) os) (λ vs. apply_function func.Index (vs ++ []))).result
 
   index-fits : (m : MissingKey) (os : Operands) (k : State) (d : Value) (env : Environment) (v : Value) → Fits k d env
-      → index_value m d env os ≡ Ok v → is_nothing v ≡ false → Fits (narrowed_by_index base os k) d env
+      → index_value m d env os ≡ Ok v → is_nothing v ≡ false → Fits (narrow_to base (index_place os) k) d env
   index-fits m (operand dot (operand (text_constant n) no_operand)) k d env v h e t =
       ((refined-has base N means) k.dot mode.Zero (n ∷ []) d v h.0 (index-chain n d v e) t, h.1)
   index-fits m (operand (variable name []) (operand (text_constant n) no_operand)) k d env v h e t =
@@ -384,28 +384,28 @@ module _ (base : Base) (N : Names) (means : Means base.defs N) where
   by_count-ok f false g v e = cc
 
   group-fits : (m : MissingKey) (f : Func) (os : Operands) (k : State) (d : Value) (env : Environment) (v : Value) → Fits k d env
-      → (command_value (place m d env) (operand (function f) os) None).result ≡ Ok v → is_nothing v ≡ false → Fits (narrowed_by_call base f os k) d env
+      → (command_value (place m d env) (operand (function f) os) None).result ≡ Ok v → is_nothing v ≡ false → Fits (narrow_to base (call_place f os) k) d env
   group-fits m func.Index os k d env v h e t =
       index-fits m os k d env v h
       (by_count-ok func.Index (takes func.Index (operand_count os + 0)) (given_then (operand_values (place m d env) os) (λ vs. apply_function func.Index (vs ++ []))) v e) t
   group-fits m _ os k d env v h e t = h
 
-  narrowed_by-fits : (m : MissingKey) (o : Operand) (k : State) (d : Value) (env : Environment) (v : Value) → Fits k d env
-      → (operand_value (place m d env) o).result ≡ Ok v → is_nothing v ≡ false → Fits (narrowed_by base o k) d env
-  narrowed_by-fits m dot k d env v h e t =
+  narrow_by-fits : (m : MissingKey) (o : Operand) (k : State) (d : Value) (env : Environment) (v : Value) → Fits k d env
+      → (operand_value (place m d env) o).result ≡ Ok v → is_nothing v ≡ false → Fits (narrow_by base o k) d env
+  narrow_by-fits m dot k d env v h e t =
       let same : d ≡ v = cc in ((refined-has base N means) k.dot mode.Error [] d d h.0 refl (ap is_nothing same ∙ t), h.1)
-  narrowed_by-fits m (fields names) k d env v h e t = ((refined-has base N means) k.dot m names d v h.0 e t, h.1)
-  narrowed_by-fits m (variable name names) k d env v h e t = (h.0, refined-known m name names v t k.env env h.1 e)
-  narrowed_by-fits m (group (command (operand (function f) os) no_command) []) k d env v h e t =
+  narrow_by-fits m (fields names) k d env v h e t = ((refined-has base N means) k.dot m names d v h.0 e t, h.1)
+  narrow_by-fits m (variable name names) k d env v h e t = (h.0, refined-known m name names v t k.env env h.1 e)
+  narrow_by-fits m (group (command (operand (function f) os) no_command) []) k d env v h e t =
       let c = command_value (place m d env) (operand (function f) os) None in
       let g = group-ok c.result c.made_text (commands_value (place m d env) (command (operand (function f) os) no_command) None).made_text v e in
       group-fits m f os k d env g.0 h g.1 (g.2 ∙ t)
-  narrowed_by-fits m (group p (n ∷ ns)) k d env v h e t = h
-  narrowed_by-fits m (group no_command []) k d env v h e t = h
-  narrowed_by-fits m (group (command no_operand no_command) []) k d env v h e t = h
-  narrowed_by-fits m (group (command (operand _ os) no_command) []) k d env v h e t = h
-  narrowed_by-fits m (group (command os (command us cs)) []) k d env v h e t = h
-  narrowed_by-fits m _ k d env v h e t = h
+  narrow_by-fits m (group p (n ∷ ns)) k d env v h e t = h
+  narrow_by-fits m (group no_command []) k d env v h e t = h
+  narrow_by-fits m (group (command no_operand no_command) []) k d env v h e t = h
+  narrow_by-fits m (group (command (operand _ os) no_command) []) k d env v h e t = h
+  narrow_by-fits m (group (command os (command us cs)) []) k d env v h e t = h
+  narrow_by-fits m _ k d env v h e t = h
 
   -- ---- narrowing by comparisons
 
@@ -474,26 +474,26 @@ module _ (base : Base) (N : Names) (means : Means base.defs N) where
       → (u : Value) × (x ≡ Ok u) × (equality u w ≡ Some false)
 
   constant-fits : (f : Func) (c : Bool) → EqualSo f c → (m : MissingKey) (os : Operands) (k : State) (d : Value) (env : Environment) (v : Value) → Fits k d env
-      → pair_call f m d env os ≡ Ok v → truth v ≡ c → Fits (narrowed_by_constant base os k) d env
+      → pair_call f m d env os ≡ Ok v → truth v ≡ c → Fits (narrow_as base (pair_facts true os) k) d env
   constant-fits f c g m (operand o (operand (bool_constant q) no_operand)) k d env v h e t =
       let x = operand_value (place m d env) o in let n = g x.result x.made_text _ (boolean q) v e t in
-      narrowed_by-fits m o k d env n.0 h n.1 (equal-thing n.0 (boolean q) refl n.2)
+      narrow_by-fits m o k d env n.0 h n.1 (equal-thing n.0 (boolean q) refl n.2)
   constant-fits f c g m (operand o (operand (number_constant q) no_operand)) k d env v h e t =
       let x = operand_value (place m d env) o in let n = g x.result x.made_text _ (number q) v e t in
-      narrowed_by-fits m o k d env n.0 h n.1 (equal-thing n.0 (number q) refl n.2)
+      narrow_by-fits m o k d env n.0 h n.1 (equal-thing n.0 (number q) refl n.2)
   constant-fits f c g m (operand o (operand (text_constant q) no_operand)) k d env v h e t =
       let x = operand_value (place m d env) o in let n = g x.result x.made_text _ (string q) v e t in
-      narrowed_by-fits m o k d env n.0 h n.1 (equal-thing n.0 (string q) refl n.2)
+      narrow_by-fits m o k d env n.0 h n.1 (equal-thing n.0 (string q) refl n.2)
   constant-fits f c g m (operand _ (operand _ no_operand)) k d env v h e t = h
   constant-fits f c g m (operand _ (operand _ (operand _ _))) k d env v h e t = h
   constant-fits f c g m (operand _ no_operand) k d env v h e t = h
   constant-fits f c g m no_operand k d env v h e t = h
 
   nil-fits : (f : Func) (c : Bool) → UnequalSo f c → (m : MissingKey) (os : Operands) (k : State) (d : Value) (env : Environment) (v : Value) → Fits k d env
-      → pair_call f m d env os ≡ Ok v → truth v ≡ c → Fits (narrowed_by_nil base os k) d env
+      → pair_call f m d env os ≡ Ok v → truth v ≡ c → Fits (narrow_as base (pair_facts false os) k) d env
   nil-fits f c g m (operand o (operand nil no_operand)) k d env v h e t =
       let x = operand_value (place m d env) o in let n = g x.result x.made_text _ nothing v e t in
-      narrowed_by-fits m o k d env n.0 h n.1 (unequal-thing n.0 n.2)
+      narrow_by-fits m o k d env n.0 h n.1 (unequal-thing n.0 n.2)
   nil-fits f c g m (operand _ (operand _ no_operand)) k d env v h e t = h
   nil-fits f c g m (operand _ (operand _ (operand _ _))) k d env v h e t = h
   nil-fits f c g m (operand _ no_operand) k d env v h e t = h
@@ -511,17 +511,17 @@ module _ (base : Base) (N : Names) (means : Means base.defs N) where
         (decided (decides is_or v) v (junction is_or (place m d env) v os pv)).result
     junction-step true o os k ps pv fits more s v e h = by (truth v) refl
       where
-        by : (b : Bool) → truth v ≡ b → (Gives base N means) (both base (Some (filled base s)) (junction_shape base true m k s os ps)) (decided b v (junction true (place m d env) v os pv)).result
-        by true t = (both-left base N means) (Some (filled base s)) (junction_shape base true m k s os ps) (Ok v) ((filled-has base N means) s v h t)
-        by false t = (both-right base N means) (Some (filled base s)) (junction_shape base true m k s os ps) (junction true (place m d env) v os pv).result (more k s v fits h)
+        by : (b : Bool) → truth v ≡ b → (Gives base N means) (both base (Some (fill base s)) (junction_shape base true m k s os ps)) (decided b v (junction true (place m d env) v os pv)).result
+        by true t = (both-left base N means) (Some (fill base s)) (junction_shape base true m k s os ps) (Ok v) ((filled-has base N means) s v h t)
+        by false t = (both-right base N means) (Some (fill base s)) (junction_shape base true m k s os ps) (junction true (place m d env) v os pv).result (more k s v fits h)
     junction-step false o os k ps pv fits more s v e h = by (truth v) refl
       where
-        by : (b : Bool) → truth v ≡ b → (Gives base N means) (both base (Some s) (junction_shape base false m (narrowed_by base o k) (filled base s) os ps))
+        by : (b : Bool) → truth v ≡ b → (Gives base N means) (both base (Some s) (junction_shape base false m (narrow_by base o k) (fill base s) os ps))
             (decided (not b) v (junction false (place m d env) v os pv)).result
-        by false t = (both-left base N means) (Some s) (junction_shape base false m (narrowed_by base o k) (filled base s) os ps) (Ok v) h
+        by false t = (both-left base N means) (Some s) (junction_shape base false m (narrow_by base o k) (fill base s) os ps) (Ok v) h
         by true t =
-            (both-right base N means) (Some s) (junction_shape base false m (narrowed_by base o k) (filled base s) os ps) (junction false (place m d env) v os pv).result
-            (more (narrowed_by base o k) (filled base s) v (narrowed_by-fits m o k d env v fits e (full-thing v t)) ((filled-has base N means) s v h t))
+            (both-right base N means) (Some s) (junction_shape base false m (narrow_by base o k) (fill base s) os ps) (junction false (place m d env) v os pv).result
+            (more (narrow_by base o k) (fill base s) v (narrow_by-fits m o k d env v fits e (full-thing v t)) ((filled-has base N means) s v h t))
 
     mutual
       operand-gives : (o : Operand) (k : State) → Fits k d env → (Gives base N means) (operand_shape base m k o) (operand_value (place m d env) o).result
@@ -627,12 +627,12 @@ module _ (base : Base) (N : Names) (means : Means base.defs N) where
       by true is e = (w, refl, is, e)
       by false is e = let same : w ≡ v = cc in absurd (false≢true (sym is ∙ (ap truth same ∙ t)))
 
-  narrowed_all-fits : (m : MissingKey) (os : Operands) (k : State) (d : Value) (env : Environment) (last v : Value) → Fits k d env
-      → (junction false (place m d env) last os None).result ≡ Ok v → truth v ≡ true → Fits (narrowed_by_all base os k) d env
-  narrowed_all-fits m no_operand k d env last v h e t = h
-  narrowed_all-fits m (operand o os) k d env last v h e t =
+  narrow_all-fits : (m : MissingKey) (os : Operands) (k : State) (d : Value) (env : Environment) (last v : Value) → Fits k d env
+      → (junction false (place m d env) last os None).result ≡ Ok v → truth v ≡ true → Fits (narrow_by_all base os k) d env
+  narrow_all-fits m no_operand k d env last v h e t = h
+  narrow_all-fits m (operand o os) k d env last v h e t =
       let p = and-step (operand_value (place m d env) o).result (operand_value (place m d env) o).made_text (λ w. junction false (place m d env) w os None) v e t in
-      narrowed_all-fits m os (narrowed_by base o k) d env p.0 v (narrowed_by-fits m o k d env p.0 h p.1 (full-thing p.0 p.2)) p.3 t
+      narrow_all-fits m os (narrow_by base o k) d env p.0 v (narrow_by-fits m o k d env p.0 h p.1 (full-thing p.0 p.2)) p.3 t
 
   -- what a call gives that is the whole pipeline
   called-ok : (m : MissingKey) (f : Func) (os : Operands) (d : Value) (env : Environment) (v : Value)
@@ -646,37 +646,37 @@ module _ (base : Base) (N : Names) (means : Means base.defs N) where
       (g.0, by_count-ok f (takes f (operand_count os + 0)) (given_then (operand_values (place m d env) os) (λ vs. apply_function f (vs ++ []))) g.0 g.1, g.2)
 
   -- where the value of a pipeline is not empty, what is known then holds
-  pub narrowed-fits : (m : MissingKey) (p : Pipeline) (k : State) (d : Value) (env : Environment) (v : Value) → Fits k d env
-      → (commands_value (place m d env) p None).result ≡ Ok v → truth v ≡ true → Fits (narrowed base p k) d env
-  narrowed-fits m (command (operand (function func.And) os) no_command) k d env v h e t =
+  pub narrow-fits : (m : MissingKey) (p : Pipeline) (k : State) (d : Value) (env : Environment) (v : Value) → Fits k d env
+      → (commands_value (place m d env) p None).result ≡ Ok v → truth v ≡ true → Fits (narrow base true p k) d env
+  narrow-fits m (command (operand (function func.And) os) no_command) k d env v h e t =
       let c = command_value (place m d env) (operand (function func.And) os) None in
       let g = gone-ok c.result c.made_text v e in
-      narrowed_all-fits m os k d env nothing g.0 h (by_count-ok func.And _ (junction false (place m d env) nothing os None) g.0 g.1) (g.2 ∙ t)
-  narrowed-fits m (command (operand (function func.Index) os) no_command) k d env v h e t =
+      narrow_all-fits m os k d env nothing g.0 h (by_count-ok func.And _ (junction false (place m d env) nothing os None) g.0 g.1) (g.2 ∙ t)
+  narrow-fits m (command (operand (function func.Index) os) no_command) k d env v h e t =
       let g = called-ok m func.Index os d env v e in index-fits m os k d env g.0 h g.1 (full-thing g.0 (g.2 ∙ t))
-  narrowed-fits m (command (operand (function func.Eq) os) no_command) k d env v h e t =
+  narrow-fits m (command (operand (function func.Eq) os) no_command) k d env v h e t =
       let g = called-ok m func.Eq os d env v e in
       constant-fits func.Eq true (λ x a b w u. eq-ok x a b w u true) m os k d env g.0 h g.1 (g.2 ∙ t)
-  narrowed-fits m (command (operand (function func.Ne) os) no_command) k d env v h e t =
+  narrow-fits m (command (operand (function func.Ne) os) no_command) k d env v h e t =
       let g = called-ok m func.Ne os d env v e in
       nil-fits func.Ne true (λ x a b w u. ne-ok x a b w u true) m os k d env g.0 h g.1 (g.2 ∙ t)
-  narrowed-fits m (command (operand (function _) no_operand) no_command) k d env v h e t = h
-  narrowed-fits m (command (operand (function _) (operand _ _)) no_command) k d env v h e t = h
-  narrowed-fits m (command (operand dot no_operand) no_command) k d env v h e t =
-      let g = gone-ok (Ok d) false v e in narrowed_by-fits m dot k d env g.0 h g.1 (full-thing g.0 (g.2 ∙ t))
-  narrowed-fits m (command (operand (fields names) no_operand) no_command) k d env v h e t =
-      let g = gone-ok (chain m names d) false v e in narrowed_by-fits m (fields names) k d env g.0 h g.1 (full-thing g.0 (g.2 ∙ t))
-  narrowed-fits m (command (operand (variable name names) no_operand) no_command) k d env v h e t =
+  narrow-fits m (command (operand (function _) no_operand) no_command) k d env v h e t = h
+  narrow-fits m (command (operand (function _) (operand _ _)) no_command) k d env v h e t = h
+  narrow-fits m (command (operand dot no_operand) no_command) k d env v h e t =
+      let g = gone-ok (Ok d) false v e in narrow_by-fits m dot k d env g.0 h g.1 (full-thing g.0 (g.2 ∙ t))
+  narrow-fits m (command (operand (fields names) no_operand) no_command) k d env v h e t =
+      let g = gone-ok (chain m names d) false v e in narrow_by-fits m (fields names) k d env g.0 h g.1 (full-thing g.0 (g.2 ∙ t))
+  narrow-fits m (command (operand (variable name names) no_operand) no_command) k d env v h e t =
       let g = gone-ok (chain m names (lookup name env)) false v e in
-      narrowed_by-fits m (variable name names) k d env g.0 h g.1 (full-thing g.0 (g.2 ∙ t))
-  narrowed-fits m (command (operand (group p names) no_operand) no_command) k d env v h e t =
+      narrow_by-fits m (variable name names) k d env g.0 h g.1 (full-thing g.0 (g.2 ∙ t))
+  narrow-fits m (command (operand (group p names) no_operand) no_command) k d env v h e t =
       let o = operand_value (place m d env) (group p names) in
-      let g = gone-ok o.result o.made_text v e in narrowed_by-fits m (group p names) k d env g.0 h g.1 (full-thing g.0 (g.2 ∙ t))
-  narrowed-fits m (command (operand _ no_operand) no_command) k d env v h e t = h
-  narrowed-fits m (command (operand _ (operand _ _)) no_command) k d env v h e t = h
-  narrowed-fits m (command no_operand no_command) k d env v h e t = h
-  narrowed-fits m (command _ (command _ _)) k d env v h e t = h
-  narrowed-fits m no_command k d env v h e t = h
+      let g = gone-ok o.result o.made_text v e in narrow_by-fits m (group p names) k d env g.0 h g.1 (full-thing g.0 (g.2 ∙ t))
+  narrow-fits m (command (operand _ no_operand) no_command) k d env v h e t = h
+  narrow-fits m (command (operand _ (operand _ _)) no_command) k d env v h e t = h
+  narrow-fits m (command no_operand no_command) k d env v h e t = h
+  narrow-fits m (command _ (command _ _)) k d env v h e t = h
+  narrow-fits m no_command k d env v h e t = h
 
   not-ok : (x : Result Value Cause) (a b : Bool) (v : Value)
       → (go_on (go_on x a (λ w. as_given (Ok (w ∷ [])))).result b (λ vs. apply_function func.Not (vs ++ []))).result ≡ Ok v → truth v ≡ false
@@ -686,7 +686,7 @@ module _ (base : Base) (N : Names) (means : Means base.defs N) where
 
   -- .. and where it is empty
   pub empty-fits : (m : MissingKey) (p : Pipeline) (k : State) (d : Value) (env : Environment) (v : Value) → Fits k d env
-      → (commands_value (place m d env) p None).result ≡ Ok v → truth v ≡ false → Fits (narrowed_empty base p k) d env
+      → (commands_value (place m d env) p None).result ≡ Ok v → truth v ≡ false → Fits (narrow base false p k) d env
   empty-fits m (command (operand (function func.Not) (operand o no_operand)) no_command) k d env v h e t =
       let c = command_value (place m d env) (operand (function func.Not) (operand o no_operand)) None in
       let g = gone-ok c.result c.made_text v e in
@@ -694,7 +694,7 @@ module _ (base : Base) (N : Names) (means : Means base.defs N) where
       let vs = operand_values (place m d env) (operand o no_operand) in
       let n = not-ok x.result x.made_text vs.made_text g.0
       (by_count-ok func.Not (takes func.Not (operand_count (operand o no_operand) + 0)) (given_then vs (λ ws. apply_function func.Not (ws ++ []))) g.0 g.1) (g.2 ∙ t) in
-      narrowed_by-fits m o k d env n.0 h n.1 (full-thing n.0 n.2)
+      narrow_by-fits m o k d env n.0 h n.1 (full-thing n.0 n.2)
   empty-fits m (command (operand (function func.Eq) os) no_command) k d env v h e t =
       let g = called-ok m func.Eq os d env v e in
       nil-fits func.Eq false (λ x a b w u. eq-ok x a b w u false) m os k d env g.0 h g.1 (g.2 ∙ t)

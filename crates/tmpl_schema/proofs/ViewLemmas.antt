@@ -1,83 +1,11 @@
--- For code on shapes: shapes and fields, seen by their parts.
-use Rattle.std.proofs.Common.{rules, ◌≡◌, List, [], ◌∷◌, ℕ, suc, Box, Global}
-use Rattle.tmpl_schema.specs.Shape as spec
-use Rattle.tmpl_schema.specs.View.{fields_of, shape_of}
-use Rattle.tmpl_schema.specs.declared.shape.Shape as held
-use Rattle.tmpl_schema.specs.declared.shape.Shape.{the_lemmas}
-use Rattle.tmpl_schema.specs.declared.shape.Fields as held_fields
-use Rattle.tmpl_schema.specs.declared.shape.Field as held_field
-use Rattle.tmpl_schema.specs.declared.shape.Field.{out-Field}
-use Rattle.tmpl_schema.specs.computed.View.{known_of, shapes_of}
+-- For code on what is known of variables: they are seen by their parts.
+use Rattle.std.proofs.Common.{rules, ◌≡◌, [], ◌∷◌, Box, Global}
+use Rattle.tmpl_shape.specs.View.{shape_of}
+use Rattle.tmpl_schema.specs.computed.View.{known_of}
 use Rattle.tmpl_schema.specs.declared.known.Known as held_known
 use Rattle.tmpl_schema.specs.declared.known.Known.{the_lemmas as known_lemmas}
 use Rattle.tmpl_schema.specs.declared.known.Variable as held_variable
 use Rattle.tmpl_schema.specs.declared.known.Variable.{out-Variable}
-use Rattle.tmpl_schema.specs.declared.call.Shapes as held_shapes
-use Rattle.tmpl_schema.specs.declared.call.Shapes.{the_lemmas as call_lemmas}
-use Rattle.tmpl_schema.specs.declared.call.Argument as held_argument
-use Rattle.tmpl_schema.specs.declared.call.Argument.{out-Argument}
-
-pub list_seen : (s : Box held.Shape Global) → shape_of (held.List s) ≡ spec.list_of (shape_of s.value)
-list_seen s = search (rules, the_lemmas)
-
-pub record_seen : (fs : held_fields.Fields) → shape_of (held.Record fs) ≡ spec.record_of (fields_of fs)
-record_seen fs = search (rules, the_lemmas)
-
-pub either_seen : (s t : Box held.Shape Global) → shape_of (held.Either s t) ≡ spec.either (shape_of s.value) (shape_of t.value)
-either_seen s t = search (rules, the_lemmas)
-
-pub others_seen : (s : Box held.Shape Global) → fields_of (held_fields.Others s) ≡ spec.others (shape_of s.value)
-others_seen s = search (rules, the_lemmas)
-
-pub field_seen : (f : Box held_field.Field Global)
-    → fields_of (held_fields.Field f)
-    ≡ spec.field (out-Field f.value).name (out-Field f.value).required (shape_of (out-Field f.value).shape) (fields_of (out-Field f.value).rest)
-field_seen f = search (rules, the_lemmas)
-
-pub never_seen : shape_of held.Never ≡ spec.never
-never_seen = search (rules, the_lemmas)
-
-pub nothings_seen : shape_of held.Nothings ≡ spec.nothings
-nothings_seen = search (rules, the_lemmas)
-
-pub nulls_seen : shape_of held.Nulls ≡ spec.nulls
-nulls_seen = search (rules, the_lemmas)
-
-pub truths_seen : shape_of held.Truths ≡ spec.truths
-truths_seen = search (rules, the_lemmas)
-
-pub numbers_seen : shape_of held.Numbers ≡ spec.numbers
-numbers_seen = search (rules, the_lemmas)
-
-pub texts_seen : shape_of held.Texts ≡ spec.texts
-texts_seen = search (rules, the_lemmas)
-
-pub anything_seen : shape_of held.Anything ≡ spec.anything
-anything_seen = search (rules, the_lemmas)
-
-pub named_seen : (x : List ℕ) → shape_of (held.Named x) ≡ spec.named x
-named_seen x = search (rules, the_lemmas)
-
-pub closed_seen : fields_of held_fields.Closed ≡ spec.no_field
-closed_seen = search (rules, the_lemmas)
-
-pub ruleset parts =
-    (list_seen, record_seen, either_seen, others_seen, field_seen, never_seen, nothings_seen, nulls_seen, truths_seen, numbers_seen, texts_seen, anything_seen, named_seen, closed_seen)
-
--- how many fields there are
-abbrev pub count : spec.Fields → ℕ
-count spec.no_field = 0
-count (spec.others s) = 0
-count (spec.field n r s fs) = suc (count fs)
-
-pub empty_seen : shapes_of held_shapes.Empty ≡ []
-empty_seen = search (rules, call_lemmas)
-
-pub more_seen : (a : Box held_argument.Argument Global)
-    → shapes_of (held_shapes.More a) ≡ shape_of (out-Argument a.value).shape ∷ shapes_of (out-Argument a.value).rest
-more_seen a = search (rules, call_lemmas)
-
-pub ruleset arguments = (empty_seen, more_seen)
 
 pub none_seen : known_of held_known.Empty ≡ []
 none_seen = search (rules, known_lemmas)

@@ -1,4 +1,2 @@
 pub mod Safe
-pub mod Shape
-pub mod View
 pub mod computed

@@ -6,7 +6,7 @@ use Rattle.tmpl_syntax.specs.Tree.{Tree}
 use Rattle.tmpl_meaning.specs.Fault.{Cause, steps_spent, calls_too_deep, no_template}
 use Rattle.tmpl_meaning.specs.Meaning.{Rules, ran}
 use Rattle.tmpl_meaning.specs.declared.missing_key.MissingKey.{MissingKey}
-use Rattle.tmpl_schema.specs.Shape.{Schema, Fits}
+use Rattle.tmpl_shape.specs.Shape.{Schema, Fits}
 
 -- a fault that an accepted template may have: no step is left, calls are too deep, or one of these names, of which there
 -- is no template, is called to stop the run

@@ -4,20 +4,20 @@
 ghost use Rattle.std.specs.Prelude.{◌≡◌, Contains, OnOk, Some, true};
 ghost use Rattle.tmpl_syntax.specs.View.{set_view, tree_of};
 ghost use Rattle.tmpl_schema.specs.Safe.{NeverFails};
-ghost use Rattle.tmpl_schema.specs.View.{schema_of, shape_of};
+ghost use Rattle.tmpl_shape.specs.View.{schema_of, shape_of};
 ghost use Rattle.tmpl_schema.specs.computed.Check.{is_safe};
 ghost use Rattle.tmpl_schema.specs.computed.Safe.{EachCallee, IsCallee, NeverFailsIn};
-ghost use Rattle.tmpl_schema.specs.computed.View.{base_of, callee_of, entries_of, table_of};
+ghost use Rattle.tmpl_shape.specs.computed.View.{base_of};
+ghost use Rattle.tmpl_schema.specs.computed.View.{callee_of, entries_of, table_of};
 
-use crate::join::null_gone;
+use crate::failure::{Doubt, Failure};
 use crate::node::{Checker, after_nodes};
-use crate::shape::{Base, Schema, Shape};
 use crate::state::at_start;
-use crate::survey::{Question, doubts_in, fill_table};
+use crate::survey::{Question, fill_table, unseen};
 use crate::table::{Callee, Entry};
-use crate::trouble::{Doubt, Trouble};
 use std::alloc::Global;
 use tmpl_meaning::MissingKey;
+use tmpl_shape::{Base, Cause, Schema, Shape, null_gone};
 use tmpl_syntax::{Set, Tree};
 use tmpl_values::Bytes;
 
@@ -32,7 +32,7 @@ pub enum Refusal {
 }
 
 /// Whether a template is accepted for values of this shape.
-fn check_tree(checker: &Checker<'_>, shape: &Shape, tree: &Tree) -> Result<(), Trouble>
+fn check_tree(checker: &Checker<'_>, shape: &Shape, tree: &Tree) -> Result<(), Failure>
     ensures { OnOk result (is_safe (base_of checker.now.base) checker.now.mode (table_of checker.now.table.now)
         (shape_of shape.now) (tree_of tree.now).nodes ≡ true) }
 {
@@ -57,7 +57,7 @@ fn check_callee(
     set: &Set,
     stops: &[Bytes],
     entry: &Entry,
-) -> Result<(), Trouble>
+) -> Result<(), Failure>
     ensures { OnOk result (IsCallee (base_of checker.now.base) checker.now.mode stops.now (set_view set.now)
         (table_of checker.now.table.now) entry.now.name (callee_of entry.now.callee)) }
 {
@@ -65,17 +65,17 @@ fn check_callee(
         Callee::Handed(shape) => match set.get(entry.name.as_slice()) {
             Some(tree) => match check_tree(checker, shape, tree) {
                 Ok(()) => Ok(()),
-                Err(trouble) => Err(trouble),
+                Err(failure) => Err(failure),
             },
-            None => Err(Trouble::Refused),
+            None => Err(Failure::MayFail(Cause::Command, 0)),
         },
         Callee::Absent => match set.get(entry.name.as_slice()) {
-            Some(_) => Err(Trouble::Refused),
+            Some(_) => Err(Failure::MayFail(Cause::Command, 0)),
             None => {
                 if is_stop(stops, entry.name.as_slice()) {
                     return Ok(());
                 }
-                Err(Trouble::Refused)
+                Err(Failure::MayFail(Cause::Command, 0))
             }
         },
     }
@@ -87,7 +87,7 @@ fn check_callees(
     set: &Set,
     stops: &[Bytes],
     entries: &[Entry],
-) -> Result<(), Trouble>
+) -> Result<(), Failure>
     ensures { OnOk result (EachCallee (base_of checker.now.base) checker.now.mode stops.now (set_view set.now)
         (table_of checker.now.table.now) (entries_of entries.now)) }
 {
@@ -107,7 +107,7 @@ fn check_all(
     stops: &[Bytes],
     name: &[u8],
     shape: &Shape,
-) -> Result<(), Trouble>
+) -> Result<(), Failure>
     ensures { OnOk result (NeverFailsIn (base_of checker.now.base) checker.now.mode stops.now
         (set_view set.now) name.now (shape_of shape.now)) }
 {
@@ -117,15 +117,15 @@ fn check_all(
                 check_callees(checker, set, stops, checker.table)?;
                 Ok(())
             }
-            Err(trouble) => Err(trouble),
+            Err(failure) => Err(failure),
         },
-        None => Err(Trouble::Refused),
+        None => Err(Failure::MayFail(Cause::Command, 0)),
     }
 }
 
-/// Why the template is refused: each place that may fail.
-fn refusal_of(base: &Base<'_>, question: &Question<'_>, table: &[Entry]) -> Refusal {
-    match doubts_in(base, question, table) {
+/// That it is not seen why a template may fail.
+fn refusal_unseen(alloc: Global, name: &[u8]) -> Refusal {
+    match unseen(alloc, name) {
         Ok(doubts) => Refusal::MayFail(doubts),
         Err(_) => Refusal::OutOfMemory,
     }
@@ -152,8 +152,11 @@ fn check_shape(
     };
     let mut table: Vec<Entry> = Vec::new(base.alloc);
     match fill_table(base, &question, &mut table) {
-        Ok(true) => {}
-        Ok(false) => return Err(refusal_of(base, &question, table.as_slice())),
+        Ok(doubts) => {
+            if doubts.len() > 0 {
+                return Err(Refusal::MayFail(doubts));
+            }
+        }
         Err(_) => return Err(Refusal::OutOfMemory),
     }
     let checker = Checker {
@@ -163,8 +166,8 @@ fn check_shape(
     };
     match check_all(&checker, set, stops, name, shape) {
         Ok(()) => Ok(()),
-        Err(Trouble::OutOfMemory) => Err(Refusal::OutOfMemory),
-        Err(_) => Err(refusal_of(base, &question, table.as_slice())),
+        Err(Failure::OutOfMemory) => Err(Refusal::OutOfMemory),
+        Err(_) => Err(refusal_unseen(base.alloc, name)),
     }
 }
 

@@ -3,17 +3,15 @@
 
 ghost use Rattle.std.specs.Prelude.{◌≡◌, IfOk, OnOk, Some, length, ◌∷◌};
 ghost use Rattle.tmpl_grammar.specs.View.{binding_of};
-ghost use Rattle.tmpl_schema.specs.View.{shape_of};
+ghost use Rattle.tmpl_shape.specs.View.{shape_of};
 ghost use Rattle.tmpl_schema.specs.computed.Check.{after_both, all_joined, all_within, assigned_shape, bound_shapes, holds_loop};
 ghost use Rattle.tmpl_schema.specs.computed.Check.{last_of, left_with, refined_variable, variable_shape};
-ghost use Rattle.tmpl_schema.specs.computed.View.{base_of, is_longer, known_of, known_seen, seen};
+ghost use Rattle.tmpl_shape.specs.computed.View.{base_of, shape_seen};
+ghost use Rattle.tmpl_schema.specs.computed.View.{is_longer, known_of, known_seen};
 
-use crate::inclusion::within;
-use crate::join::{joined, refined};
-use crate::shape::{Base, Shape, copy_name, copy_shape};
-use crate::trouble::{Cause, Trouble, unsafe_by};
 use std::alloc::{AllocError, Global};
 use tmpl_grammar::Binding;
+use tmpl_shape::{Base, Cause, Shape, Trouble, copy_name, copy_shape, joined, refined, within};
 use tmpl_values::Bytes;
 
 /// The shapes of the variables in scope, the newest first.
@@ -62,7 +60,7 @@ pub(crate) fn copy_known(alloc: Global, known: &Known) -> Result<Known, AllocErr
 
 /// The shape of the newest variable of a name.
 pub(crate) fn variable_shape<'k>(name: &[u8], known: &'k Known) -> Option<&'k Shape>
-    ensures { seen result ≡ variable_shape name.now (known_of known.now) }
+    ensures { shape_seen result ≡ variable_shape name.now (known_of known.now) }
 {
     match known {
         Known::Empty => None,
@@ -77,20 +75,15 @@ pub(crate) fn variable_shape<'k>(name: &[u8], known: &'k Known) -> Option<&'k Sh
 }
 
 /// Where the newest variable of a name is assigned a value of this shape.
-fn assigned(alloc: Global, name: &[u8], shape: &Shape, known: &Known) -> Result<Known, AllocError>
-    ensures { IfOk result (λ ks. known_of ks ≡ assigned_shape name.now (shape_of shape.now) (known_of known.now)) }
+fn assigned(alloc: Global, name: &[u8], shape: Shape, known: &Known) -> Result<Known, AllocError>
+    ensures { IfOk result (λ ks. known_of ks ≡ assigned_shape name.now (shape_of shape) (known_of known.now)) }
 {
     match known {
         Known::Empty => Ok(Known::Empty),
         Known::More(newest) => {
             if newest.name.as_slice() == name {
-                let shape = copy_shape(alloc, shape)?;
-                put_variable(
-                    alloc,
-                    newest.name.as_slice(),
-                    shape,
-                    copy_known(alloc, &newest.older)?,
-                )
+                let older = copy_known(alloc, &newest.older)?;
+                put_variable(alloc, name, shape, older)
             } else {
                 let kept = copy_shape(alloc, &newest.shape)?;
                 let older = assigned(alloc, name, shape, &newest.older)?;
@@ -117,7 +110,12 @@ pub(crate) fn bound(
             let shape = copy_shape(alloc, element)?;
             put_variable(alloc, name.as_slice(), shape, copy_known(alloc, known)?)
         }
-        Binding::Assign(name) => assigned(alloc, name.as_slice(), element, known),
+        Binding::Assign(name) => assigned(
+            alloc,
+            name.as_slice(),
+            copy_shape(alloc, element)?,
+            known,
+        ),
         Binding::DeclarePair(pair) => {
             let shape = copy_shape(alloc, key)?;
             let older = put_variable(alloc, pair.key.as_slice(), shape, copy_known(alloc, known)?)?;
@@ -166,6 +164,7 @@ pub(crate) fn holds_loop(head: Option<&Known>, known: &Known) -> bool
 }
 
 /// Where a chain of fields from a variable is not empty.
+#[tactic(auto, using(crate::proofs::ViewLemmas::variables, crate::proofs::LengthLemmas::refinements))]
 pub(crate) fn refined_variable(
     base: &Base<'_>,
     name: &[u8],
@@ -175,23 +174,12 @@ pub(crate) fn refined_variable(
     ensures { IfOk result (λ ks. known_of ks
         ≡ refined_variable (base_of base.now) name.now names.now (known_of known.now)) }
 {
-    match known {
-        Known::Empty => Ok(Known::Empty),
-        Known::More(newest) => {
-            if newest.name.as_slice() == name {
-                let shape = refined(base, names, &newest.shape)?;
-                put_variable(
-                    base.alloc,
-                    newest.name.as_slice(),
-                    shape,
-                    copy_known(base.alloc, &newest.older)?,
-                )
-            } else {
-                let kept = copy_shape(base.alloc, &newest.shape)?;
-                let older = refined_variable(base, name, names, &newest.older)?;
-                put_variable(base.alloc, newest.name.as_slice(), kept, older)
-            }
+    match variable_shape(name, known) {
+        Some(shape) => {
+            let part = refined(base, names, shape)?;
+            assigned(base.alloc, name, part, known)
         }
+        None => copy_known(base.alloc, known),
     }
 }
 
@@ -199,19 +187,14 @@ pub(crate) fn refined_variable(
 pub(crate) fn all_within(base: &Base<'_>, known: &Known, others: &Known) -> bool
     ensures { result ≡ all_within (base_of base.now) (known_of known.now) (known_of others.now) }
 {
-    match known {
-        Known::Empty => match others {
-            Known::Empty => true,
-            Known::More(_) => false,
-        },
-        Known::More(newest) => match others {
-            Known::Empty => false,
-            Known::More(other) => {
-                newest.name.as_slice() == other.name.as_slice()
-                    && within(base, &newest.shape, &other.shape)
-                    && all_within(base, &newest.older, &other.older)
-            }
-        },
+    match (known, others) {
+        (Known::Empty, Known::Empty) => true,
+        (Known::More(newest), Known::More(other)) => {
+            newest.name.as_slice() == other.name.as_slice()
+                && within(base, &newest.shape, &other.shape)
+                && all_within(base, &newest.older, &other.older)
+        }
+        (Known::Empty, Known::More(_)) | (Known::More(_), Known::Empty) => false,
     }
 }
 
@@ -252,10 +235,10 @@ pub(crate) fn after_both(
     let other = oldest(other, before);
     let both = all_joined(base, one, other)?;
     if !all_within(base, one, &both) {
-        return Err(unsafe_by(base.alloc, Cause::Variables));
+        return Err(Trouble::MayFail(Cause::Variables));
     }
     if !all_within(base, other, &both) {
-        return Err(unsafe_by(base.alloc, Cause::Variables));
+        return Err(Trouble::MayFail(Cause::Variables));
     }
     Ok(both)
 }
@@ -268,10 +251,10 @@ pub(crate) fn left_with(base: &Base<'_>, known: &Known, head: Option<&Known>) ->
     match head {
         Some(head) => {
             if !all_within(base, oldest(known, head), head) {
-                return Err(unsafe_by(base.alloc, Cause::Variables));
+                return Err(Trouble::MayFail(Cause::Variables));
             }
             Ok(())
         }
-        None => Err(unsafe_by(base.alloc, Cause::Variables)),
+        None => Err(Trouble::MayFail(Cause::Variables)),
     }
 }

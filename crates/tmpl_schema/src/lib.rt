@@ -1,27 +1,20 @@
 //! The check of a template against a schema of its data.
 #![tactic(auto)]
 
-mod call;
 mod check;
-mod field;
-mod format;
-mod inclusion;
-mod join;
-mod kind;
+mod facts;
+mod failure;
 mod known;
 mod laws;
 mod node;
 mod pipeline;
-mod shape;
 mod state;
 mod survey;
 mod table;
-mod trouble;
-mod visit;
 
 pub use check::{Refusal, check_schema};
+pub use failure::Doubt;
 pub use laws::runs_safely;
-pub use shape::{
-    Definition, Field, Fields, Schema, Shape, copy_name, copy_shape, either, put_field,
+pub use tmpl_shape::{
+    Cause, Definition, Field, Fields, Schema, Shape, copy_name, copy_shape, either, put_field,
 };
-pub use trouble::{Cause, Doubt};

@@ -1,31 +1,29 @@
 //! The check of nodes.
-#![tactic(auto, using(crate::proofs::ViewLemmas::parts))]
+#![tactic(auto, using(tmpl_shape::proofs::ViewLemmas::parts))]
 
 ghost use Rattle.std.specs.Prelude.{◌≡◌, IfOk, None, Some, option_map};
 ghost use Rattle.std.specs.Option.{option_map_or};
 ghost use Rattle.tmpl_grammar.specs.View.{header_of, pipeline_of};
-ghost use Rattle.tmpl_schema.specs.Shape.{nothings};
-ghost use Rattle.tmpl_schema.specs.View.{shape_of};
+ghost use Rattle.tmpl_shape.specs.Shape.{nothings};
+ghost use Rattle.tmpl_shape.specs.View.{shape_of};
+ghost use Rattle.tmpl_shape.specs.computed.View.{base_of, visit_seen};
 ghost use Rattle.tmpl_schema.specs.computed.Check.{after_node, after_nodes, in_body, in_other, in_turn, left_with};
-ghost use Rattle.tmpl_schema.specs.computed.Check.{kept_by, pipeline_shape, settled, settled_soon};
-ghost use Rattle.tmpl_schema.specs.computed.View.{after_action, after_choice_by, after_range_by, base_of, known_of, known_seen, ranged_by, state_of, table_of, turned_by, visit_seen};
+ghost use Rattle.tmpl_schema.specs.computed.Check.{kept_by, pipeline_shape, settle_known, settled_soon};
+ghost use Rattle.tmpl_schema.specs.computed.View.{after_action, after_choice_by, after_range_by, known_of, known_seen, ranged_by, state_of, table_of, turned_by};
 ghost use Rattle.tmpl_syntax.specs.Tree.{template_node};
 ghost use Rattle.tmpl_syntax.specs.View.{control_of, node_of, nodes_in};
 
-use crate::inclusion::within;
-use crate::join::filled;
+use crate::failure::{Failure, at_line};
 use crate::known::{
     Known, after_both, all_joined, all_within, bound, copy_known, holds_loop, left_with, oldest,
 };
 use crate::pipeline::pipeline_shape;
-use crate::shape::{Base, Shape, copy_name, copy_shape};
-use crate::state::{State, copy_state, narrowed, narrowed_empty};
-use crate::table::{Callee, Entry, find_callee};
-use crate::trouble::{Cause, Trouble, at_line, unsafe_by};
-use crate::visit::{Visit, visit_of};
+use crate::state::{State, copy_state, narrow};
+use crate::table::{Call, Callee, Entry, find_callee};
 use std::alloc::{AllocError, Global};
 use tmpl_grammar::{Control, Header, Pipeline};
 use tmpl_meaning::MissingKey;
+use tmpl_shape::{Base, Cause, Shape, Visit, copy_name, copy_shape, filled, visit_of, within};
 use tmpl_syntax::{ControlNode, Node, NodeKind};
 use tmpl_values::Bytes;
 
@@ -49,7 +47,7 @@ pub(crate) fn in_body(
         ≡ in_body (base_of base.now) control (header_of header.now) (state_of state.now) (shape_of shape.now)) }
 {
     let full = filled(base, shape)?;
-    let before = narrowed(base, header.pipeline.commands.as_slice(), state)?;
+    let before = narrow(base, true, header.pipeline.commands.as_slice(), state)?;
     let known = bound(
         base.alloc,
         &header.binding,
@@ -75,7 +73,7 @@ pub(crate) fn in_other(
     ensures { IfOk result (λ k. state_of k
         ≡ in_other (base_of base.now) (header_of header.now) (state_of state.now) (shape_of shape.now)) }
 {
-    let before = narrowed_empty(base, header.pipeline.commands.as_slice(), state)?;
+    let before = narrow(base, false, header.pipeline.commands.as_slice(), state)?;
     let known = bound(
         base.alloc,
         &header.binding,
@@ -105,7 +103,7 @@ pub(crate) fn in_turn(
 }
 
 /// After an action.
-fn after_action(checker: &Checker<'_>, state: &State, header: &Header) -> Result<Known, Trouble>
+fn after_action(checker: &Checker<'_>, state: &State, header: &Header) -> Result<Known, Failure>
     ensures { IfOk result (λ ks. after_action (base_of checker.now.base) checker.now.mode (state_of state.now)
         (header_of header.now) ≡ Some (known_of ks)) }
 {
@@ -129,29 +127,26 @@ fn handed_shape(
     checker: &Checker<'_>,
     state: &State,
     given: &Option<Pipeline>,
-) -> Result<Shape, Trouble>
+) -> Result<Shape, Failure>
     ensures { IfOk result (λ s. option_map_or (pipeline_shape (base_of checker.now.base) checker.now.mode
         (state_of state.now)) (option_map pipeline_of given.now) (Some nothings) ≡ Some (shape_of s)) }
 {
     match given {
-        Some(pipeline) => pipeline_shape(
+        Some(pipeline) => Ok(pipeline_shape(
             &checker.base,
             checker.mode,
             state,
             pipeline.commands.as_slice(),
-        ),
+        )?),
         None => Ok(Shape::Nothings),
     }
 }
 
 /// That a template is called with values of this shape.
-fn wanted(alloc: Global, name: &Bytes, shape: Shape) -> Trouble {
+fn wanted(alloc: Global, name: &Bytes, shape: Shape) -> Failure {
     match copy_name(alloc, name.as_slice()) {
-        Ok(name) => Trouble::Wanted(Entry {
-            name,
-            callee: Callee::Handed(shape),
-        }),
-        Err(_) => Trouble::OutOfMemory,
+        Ok(name) => Failure::Wanted(Call { name, shape }),
+        Err(_) => Failure::OutOfMemory,
     }
 }
 
@@ -161,7 +156,7 @@ fn after_call(
     state: &State,
     name: &Bytes,
     given: &Option<Pipeline>,
-) -> Result<Known, Trouble>
+) -> Result<Known, Failure>
     ensures { IfOk result (λ ks. after_node (base_of checker.now.base) checker.now.mode
         (table_of checker.now.table.now) None (state_of state.now) (template_node name.now
         (option_map pipeline_of given.now)) ≡ Some (known_of ks)) }
@@ -187,7 +182,7 @@ fn after_leaving(
     checker: &Checker<'_>,
     head: Option<&Known>,
     state: &State,
-) -> Result<Known, Trouble>
+) -> Result<Known, Failure>
     ensures { IfOk result (λ ks. left_with (base_of checker.now.base) (known_of state.now.known)
         (known_seen head.entry) ≡ Some (known_of ks)) }
 {
@@ -213,7 +208,7 @@ fn after_choice(
     control: Control,
     parts: &Parts<'_>,
     shape: &Shape,
-) -> Result<Known, Trouble>
+) -> Result<Known, Failure>
     ensures { IfOk result (λ ks. after_choice_by (base_of checker.now.base) checker.now.mode
         (table_of checker.now.table.now) (known_seen head.entry) control (header_of parts.now.header.now)
         (state_of state.now) (nodes_in parts.now.body.now) (nodes_in parts.now.other.now) (shape_of shape.now)
@@ -223,7 +218,7 @@ fn after_choice(
     let one = after_nodes(checker, head, inside, parts.body)?;
     let outside = in_other(&checker.base, parts.header, state, shape)?;
     let other = after_nodes(checker, head, outside, parts.other)?;
-    after_both(&checker.base, &state.known, &one, &other)
+    Ok(after_both(&checker.base, &state.known, &one, &other)?)
 }
 
 /// After a turn of a range.
@@ -234,7 +229,7 @@ fn turned(
     header: &Header,
     visit: &Visit,
     body: &[Node],
-) -> Result<Known, Trouble>
+) -> Result<Known, Failure>
     ensures { IfOk result (λ ks. turned_by (base_of checker.now.base) checker.now.mode
         (table_of checker.now.table.now) (header_of header.now) (visit_seen visit.now) (nodes_in body.now)
         (known_of known.now) ≡ Some (known_of ks)) }
@@ -254,13 +249,13 @@ fn settled(
     header: &Header,
     visit: &Visit,
     body: &[Node],
-) -> Result<Known, Trouble>
-    ensures { IfOk result (λ ks. settled (base_of checker.now.base) rounds (turned_by
+) -> Result<Known, Failure>
+    ensures { IfOk result (λ ks. settle_known (base_of checker.now.base) rounds (turned_by
         (base_of checker.now.base) checker.now.mode (table_of checker.now.table.now) (header_of header.now)
         (visit_seen visit.now) (nodes_in body.now)) (known_of known) ≡ Some (known_of ks)) }
 {
     if rounds == 0 {
-        return Err(unsafe_by(checker.base.alloc, Cause::Variables));
+        return Err(Failure::MayFail(Cause::Variables, 0));
     }
     let end = turned(checker, &known, header, visit, body)?;
     if all_within(&checker.base, &end, &known) {
@@ -278,7 +273,7 @@ fn settled_soon(
     header: &Header,
     visit: &Visit,
     body: &[Node],
-) -> Result<Known, Trouble>
+) -> Result<Known, Failure>
     ensures { IfOk result (λ ks. settled_soon (base_of checker.now.base) (turned_by
         (base_of checker.now.base) checker.now.mode (table_of checker.now.table.now) (header_of header.now)
         (visit_seen visit.now) (nodes_in body.now)) (known_of known.now) ≡ Some (known_of ks)) }
@@ -295,14 +290,14 @@ pub(crate) fn kept(
     header: &Header,
     visit: &Visit,
     body: &[Node],
-) -> Result<Known, Trouble>
+) -> Result<Known, Failure>
     ensures { IfOk result (λ ks. kept_by (base_of checker.now.base) (turned_by
         (base_of checker.now.base) checker.now.mode (table_of checker.now.table.now) (header_of header.now)
         (visit_seen visit.now) (nodes_in body.now)) (known_of known.now) ≡ Some (known_of ks)) }
 {
     let head = settled_soon(checker, known, header, visit, body)?;
     if !all_within(&checker.base, known, &head) {
-        return Err(unsafe_by(checker.base.alloc, Cause::Variables));
+        return Err(Failure::MayFail(Cause::Variables, 0));
     }
     Ok(head)
 }
@@ -316,7 +311,7 @@ fn after_range(
     state: &State,
     parts: &Parts<'_>,
     visit: &Visit,
-) -> Result<Known, Trouble>
+) -> Result<Known, Failure>
     ensures { IfOk result (λ ks. after_range_by (base_of checker.now.base) checker.now.mode
         (table_of checker.now.table.now) (known_seen head.entry) (header_of parts.now.header.now)
         (state_of state.now) (nodes_in parts.now.body.now) (nodes_in parts.now.other.now) (visit_seen visit.now)
@@ -325,7 +320,7 @@ fn after_range(
     let kept = kept(checker, &state.known, parts.header, visit, parts.body)?;
     let outside = copy_state(checker.base.alloc, state)?;
     let other = after_nodes(checker, head, outside, parts.other)?;
-    after_both(&checker.base, &state.known, &kept, &other)
+    Ok(after_both(&checker.base, &state.known, &kept, &other)?)
 }
 
 /// After a range over values of this shape.
@@ -337,7 +332,7 @@ fn after_ranging(
     state: &State,
     parts: &Parts<'_>,
     shape: &Shape,
-) -> Result<Known, Trouble>
+) -> Result<Known, Failure>
     ensures { IfOk result (λ ks. ranged_by (base_of checker.now.base) checker.now.mode
         (table_of checker.now.table.now) (known_seen head.entry) (header_of parts.now.header.now)
         (state_of state.now) (nodes_in parts.now.body.now) (nodes_in parts.now.other.now) (shape_of shape.now)
@@ -354,13 +349,13 @@ fn after_control(
     head: Option<&Known>,
     state: &State,
     control: &ControlNode,
-) -> Result<Known, Trouble>
+) -> Result<Known, Failure>
     ensures { IfOk result (λ ks. after_node (base_of checker.now.base) checker.now.mode
         (table_of checker.now.table.now) (known_seen head.entry) (state_of state.now) (control_of control.now)
         ≡ Some (known_of ks)) }
 {
     if !holds_loop(head, &state.known) {
-        return Err(unsafe_by(checker.base.alloc, Cause::Variables));
+        return Err(Failure::MayFail(Cause::Variables, 0));
     }
     let shape = pipeline_shape(
         &checker.base,
@@ -387,7 +382,7 @@ pub(crate) fn after_node(
     head: Option<&Known>,
     state: &State,
     node: &Node,
-) -> Result<Known, Trouble>
+) -> Result<Known, Failure>
     ensures { IfOk result (λ ks. after_node (base_of checker.now.base) checker.now.mode
         (table_of checker.now.table.now) (known_seen head.entry) (state_of state.now) (node_of node.now).what
         ≡ Some (known_of ks)) }
@@ -410,7 +405,7 @@ pub(crate) fn after_nodes(
     head: Option<&Known>,
     state: State,
     nodes: &[Node],
-) -> Result<Known, Trouble>
+) -> Result<Known, Failure>
     ensures { IfOk result (λ ks. after_nodes (base_of checker.now.base) checker.now.mode
         (table_of checker.now.table.now) (known_seen head.entry) (state_of state) (nodes_in nodes.now)
         ≡ Some (known_of ks)) }

@@ -1,30 +1,28 @@
 //! The shapes of pipelines.
-#![tactic(auto, using(tmpl_grammar::proofs::ViewLemmas::group_seen, crate::proofs::ViewLemmas::parts, crate::proofs::ViewLemmas::arguments))]
+#![tactic(auto, using(tmpl_grammar::proofs::ViewLemmas::group_seen, tmpl_shape::proofs::ViewLemmas::parts))]
 
-ghost use Rattle.std.specs.Prelude.{◌≡◌, ◌+◌, [], IfOk, None, Some, if◌then◌else◌, length, option_to_list};
+ghost use Rattle.std.specs.Prelude.{◌≡◌, ◌+◌, ◌++◌, [], IfOk, OnOk, None, Some, if◌then◌else◌, length, option_to_list};
 ghost use Rattle.std.specs.Option.{option_map};
 ghost use Rattle.tmpl_grammar.specs.Tree.{function, operand};
 ghost use Rattle.tmpl_grammar.specs.View.{commands_in, operand_of, operands_in};
 ghost use Rattle.tmpl_meaning.specs.Pipeline.{operand_count};
-ghost use Rattle.tmpl_schema.specs.View.{shape_of};
-ghost use Rattle.tmpl_schema.specs.computed.Calls.{call_shape};
-ghost use Rattle.tmpl_schema.specs.computed.Check.{alone, command_shape, commands_shape, entry_along, entry_by, indexed_shape, junction_shape, operand_shape, pipeline_shape, printed_shape, text_of};
-ghost use Rattle.tmpl_schema.specs.computed.View.{argument_shapes, base_of, called_shape, seen, shapes_of, state_of};
 ghost use Rattle.tmpl_funcs.specs.Func.{takes};
+ghost use Rattle.tmpl_shape.specs.View.{shape_of};
+ghost use Rattle.tmpl_shape.specs.computed.Calls.{kinds_shape};
+ghost use Rattle.tmpl_shape.specs.computed.View.{base_of, shape_seen};
+ghost use Rattle.tmpl_schema.specs.computed.Check.{alone, command_shape, commands_shape, entry_along, entry_by, indexed_shape, junction_shape, operand_shape, pipeline_shape, printed_shape};
+ghost use Rattle.tmpl_schema.specs.computed.View.{argument_kinds, called_shape, state_of};
 
-use crate::call::{Shapes, call_shape, put_argument};
-use crate::field::{chain_shape, index_shape};
-use crate::format::printf_shape;
-use crate::inclusion::within;
-use crate::join::{filled, joined, null_gone};
-use crate::kind::{Kind, has_kind};
+use crate::facts::{Head, head_of, text_of};
 use crate::known::variable_shape;
-use crate::shape::{Base, Shape, copy_shape};
-use crate::state::{State, narrowed_by};
-use crate::trouble::{Cause, Trouble, of_call, unsafe_by};
+use crate::state::{State, narrow_by};
 use tmpl_funcs::Func;
 use tmpl_grammar::{Command, Operand};
 use tmpl_meaning::MissingKey;
+use tmpl_shape::{
+    Base, Cause, Kind, Kinds, Shape, Trouble, call_shape, chain_shape, copy_shape, filled,
+    has_kind, index_shape, joined, kinds_of, null_gone, printf_shape, within,
+};
 
 /// The shape of an operand, if it never is a fault.
 #[cycle(pipeline)]
@@ -42,13 +40,13 @@ fn operand_shape(
         Operand::Fields(names) => chain_shape(base, mode, names.as_slice(), &state.dot),
         Operand::Variable { name, fields } => match variable_shape(name.as_slice(), &state.known) {
             Some(shape) => chain_shape(base, mode, fields.as_slice(), shape),
-            None => Err(unsafe_by(base.alloc, Cause::Command)),
+            None => Err(Trouble::MayFail(Cause::Command)),
         },
         Operand::Bool(_) => Ok(Shape::Truths),
         Operand::Number(_) => Ok(Shape::Numbers),
         Operand::Text(_) => Ok(Shape::Texts),
         Operand::Nil => Ok(Shape::Nothings),
-        Operand::Function(func) => bare_shape(base, *func),
+        Operand::Function(func) => bare_shape(*func),
         Operand::Group { commands, fields } => {
             let shape = commands_shape(base, mode, state, commands.as_slice(), None)?;
             chain_shape(base, mode, fields.as_slice(), &shape)
@@ -57,51 +55,76 @@ fn operand_shape(
 }
 
 /// The shape of a function as an argument: a call without arguments.
-fn bare_shape(base: &Base<'_>, func: Func) -> Result<Shape, Trouble>
-    ensures { IfOk result (λ s. (if takes func 0 then call_shape (base_of base.now) func [] else None)
-        ≡ Some (shape_of s)) }
+fn bare_shape(func: Func) -> Result<Shape, Trouble>
+    ensures { IfOk result (λ s. (if takes func 0 then kinds_shape func [] else None) ≡ Some (shape_of s)) }
 {
     if !func.takes(0) {
-        return Err(unsafe_by(base.alloc, Cause::Command));
+        return Err(Trouble::MayFail(Cause::Command));
     }
-    match call_shape(base, func, &Shapes::Empty) {
-        Ok(shape) => Ok(shape),
-        Err(trouble) => Err(of_call(base.alloc, trouble, func)),
+    shape_of_call(func, &[])
+}
+
+/// The shape of a call with arguments of these kinds.
+fn shape_of_call(func: Func, kinds: &[Kinds]) -> Result<Shape, Trouble>
+    ensures { IfOk result (λ s. kinds_shape func kinds.now ≡ Some (shape_of s)) }
+{
+    match call_shape(func, kinds) {
+        Some(shape) => Ok(shape),
+        None => Err(Trouble::MayFail(Cause::Arguments(func))),
     }
 }
 
-/// The shapes of the arguments of a call, of which a piped one is the last.
+/// Puts the kinds of which the arguments of a call may be, of which a piped one is the last.
 #[cycle(pipeline)]
-#[tactic(auto, using(crate::proofs::ViewLemmas::parts, crate::proofs::ViewLemmas::arguments, crate::proofs::PipelineLemmas::more))]
-fn argument_shapes(
+#[tactic(auto, using(crate::proofs::PipelineLemmas::more))]
+fn put_arguments(
     base: &Base<'_>,
     mode: MissingKey,
     state: &State,
     operands: &[Operand],
     piped: Option<&Shape>,
-) -> Result<Shapes, Trouble>
-    ensures { IfOk result (λ ss. argument_shapes (base_of base.now) mode (state_of state.now)
-        (operands_in operands.now) (seen piped.entry) ≡ Some (shapes_of ss)) }
+    kinds: &mut Vec<Kinds>,
+) -> Result<(), Trouble>
+    ensures { OnOk result (option_map (λ ks. kinds.old.items ++ ks) (argument_kinds (base_of base.now) mode
+        (state_of state.now) (operands_in operands.now) (shape_seen piped.entry)) ≡ Some kinds.new.items) }
 {
     match operands {
         [] => match piped {
             Some(shape) => {
-                let shape = copy_shape(base.alloc, shape)?;
-                Ok(put_argument(base.alloc, shape, Shapes::Empty)?)
+                kinds.push(kinds_of(base, shape))?;
+                Ok(())
             }
-            None => Ok(Shapes::Empty),
+            None => Ok(()),
         },
         [first, others @ ..] => {
             let shape = operand_shape(base, mode, state, first)?;
-            let rest = argument_shapes(base, mode, state, others, piped)?;
-            Ok(put_argument(base.alloc, shape, rest)?)
+            kinds.push(kinds_of(base, &shape))?;
+            put_arguments(base, mode, state, others, piped, kinds)
         }
     }
 }
 
+/// The kinds of which the arguments of a call may be.
+#[cycle(pipeline)]
+#[tactic(auto, using(crate::proofs::PipelineLemmas::all))]
+fn argument_kinds(
+    base: &Base<'_>,
+    mode: MissingKey,
+    state: &State,
+    operands: &[Operand],
+    piped: Option<&Shape>,
+) -> Result<Vec<Kinds>, Trouble>
+    ensures { IfOk result (λ ks. argument_kinds (base_of base.now) mode (state_of state.now)
+        (operands_in operands.now) (shape_seen piped.entry) ≡ Some ks.items) }
+{
+    let mut kinds: Vec<Kinds> = Vec::new(base.alloc);
+    put_arguments(base, mode, state, operands, piped, &mut kinds)?;
+    Ok(kinds)
+}
+
 /// The shape of a call, if it never is a fault.
 #[cycle(pipeline)]
-#[tactic(auto, using(crate::proofs::PipelineLemmas::calls))]
+#[tactic(auto, using(crate::proofs::PipelineLemmas::calls_by))]
 fn called_shape(
     base: &Base<'_>,
     mode: MissingKey,
@@ -111,13 +134,10 @@ fn called_shape(
     piped: Option<&Shape>,
 ) -> Result<Shape, Trouble>
     ensures { IfOk result (λ s. called_shape (base_of base.now) mode (state_of state.now) func
-        (operands_in operands.now) (seen piped.entry) ≡ Some (shape_of s)) }
+        (operands_in operands.now) (shape_seen piped.entry) ≡ Some (shape_of s)) }
 {
-    let shapes = argument_shapes(base, mode, state, operands, piped)?;
-    match call_shape(base, func, &shapes) {
-        Ok(shape) => Ok(shape),
-        Err(trouble) => Err(of_call(base.alloc, trouble, func)),
-    }
+    let kinds = argument_kinds(base, mode, state, operands, piped)?;
+    shape_of_call(func, kinds.as_slice())
 }
 
 /// The shape of an `or`, or else of an `and`, whose operands before these do not decide.
@@ -132,7 +152,7 @@ fn junction_shape(
     piped: Option<&Shape>,
 ) -> Result<Shape, Trouble>
     ensures { IfOk result (λ s. junction_shape (base_of base.now) is_or mode (state_of state.now)
-        (shape_of last.now) (operands_in operands.now) (seen piped.entry) ≡ Some (shape_of s)) }
+        (shape_of last.now) (operands_in operands.now) (shape_seen piped.entry) ≡ Some (shape_of s)) }
 {
     match operands {
         [] => match piped {
@@ -146,7 +166,7 @@ fn junction_shape(
                 let more = junction_shape(base, true, mode, state, &shape, rest, piped)?;
                 return Ok(joined(base, full, more)?);
             }
-            let passed = narrowed_by(base, first, state)?;
+            let passed = narrow_by(base, first, state)?;
             let more = junction_shape(base, false, mode, &passed, &full, rest, piped)?;
             Ok(joined(base, shape, more)?)
         }
@@ -156,23 +176,11 @@ fn junction_shape(
 /// How many arguments there are.
 #[tactic(auto, using(crate::proofs::PipelineLemmas::counts))]
 fn argument_count(operands: &[Operand], piped: Option<&Shape>) -> u64
-    ensures { result ≡ operand_count (operands_in operands.now) + length (option_to_list (seen piped.entry)) }
+    ensures { result ≡ operand_count (operands_in operands.now) + length (option_to_list (shape_seen piped.entry)) }
 {
     match piped {
         Some(_) => operands.len() as u64 + 1,
         None => operands.len() as u64,
-    }
-}
-
-/// The text of a constant.
-fn text_of(operand: &Operand) -> Option<&[u8]>
-    ensures { option_map (λ k. k.now) result ≡ text_of (operand_of operand.now) }
-{
-    match operand {
-        Operand::Text(text) => Some(text.as_slice()),
-        Operand::Dot | Operand::Fields(_) | Operand::Variable { .. } => None,
-        Operand::Bool(_) | Operand::Number(_) | Operand::Nil | Operand::Function(_) => None,
-        Operand::Group { .. } => None,
     }
 }
 
@@ -183,7 +191,7 @@ fn entry_by(base: &Base<'_>, key: &Shape, shape: &Shape) -> Result<Shape, Troubl
     if within(base, key, &Shape::Texts) {
         index_shape(base, None, shape)
     } else {
-        Err(Trouble::Refused)
+        Err(Trouble::MayFail(Cause::Arguments(Func::Index)))
     }
 }
 
@@ -198,7 +206,7 @@ fn entry_along(
     shape: &Shape,
 ) -> Result<Shape, Trouble>
     ensures { IfOk result (λ s. entry_along (base_of base.now) mode (state_of state.now)
-        (operands_in keys.now) (seen piped.entry) (shape_of shape.now) ≡ Some (shape_of s)) }
+        (operands_in keys.now) (shape_seen piped.entry) (shape_of shape.now) ≡ Some (shape_of s)) }
 {
     match keys {
         [] => match piped {
@@ -208,7 +216,7 @@ fn entry_along(
         [first, rest @ ..] => {
             let key = operand_shape(base, mode, state, first)?;
             let entry = match text_of(first) {
-                Some(name) => index_shape(base, Some(name), shape)?,
+                Some(name) => index_shape(base, Some(name.as_slice()), shape)?,
                 None => entry_by(base, &key, shape)?,
             };
             entry_along(base, mode, state, rest, piped, &entry)
@@ -226,19 +234,16 @@ fn indexed_shape(
     piped: Option<&Shape>,
 ) -> Result<Shape, Trouble>
     ensures { IfOk result (λ s. indexed_shape (base_of base.now) mode (state_of state.now)
-        (operands_in operands.now) (seen piped.entry) ≡ Some (shape_of s)) }
+        (operands_in operands.now) (shape_seen piped.entry) ≡ Some (shape_of s)) }
 {
     match operands {
-        [] => Err(unsafe_by(base.alloc, Cause::NotFollowed(Func::Index))),
+        [] => Err(Trouble::MayFail(Cause::NotFollowed(Func::Index))),
         [first, rest @ ..] => {
             let shape = operand_shape(base, mode, state, first)?;
             if has_kind(base, Kind::Blank, &shape) {
-                return Err(unsafe_by(base.alloc, Cause::Arguments(Func::Index)));
+                return Err(Trouble::MayFail(Cause::Arguments(Func::Index)));
             }
-            match entry_along(base, mode, state, rest, piped, &shape) {
-                Ok(entry) => Ok(entry),
-                Err(trouble) => Err(of_call(base.alloc, trouble, Func::Index)),
-            }
+            entry_along(base, mode, state, rest, piped, &shape)
         }
     }
 }
@@ -254,25 +259,26 @@ fn printed_shape(
     piped: Option<&Shape>,
 ) -> Result<Shape, Trouble>
     ensures { IfOk result (λ s. printed_shape (base_of base.now) mode (state_of state.now)
-        (operands_in operands.now) (seen piped.entry) ≡ Some (shape_of s)) }
+        (operands_in operands.now) (shape_seen piped.entry) ≡ Some (shape_of s)) }
 {
     match operands {
-        [] => Err(unsafe_by(base.alloc, Cause::NotFollowed(Func::Printf))),
+        [] => Err(Trouble::MayFail(Cause::NotFollowed(Func::Printf))),
         [first, rest @ ..] => match text_of(first) {
             Some(format) => {
-                let shapes = argument_shapes(base, mode, state, rest, piped)?;
-                match printf_shape(base, format, &shapes) {
-                    Ok(shape) => Ok(shape),
-                    Err(trouble) => Err(of_call(base.alloc, trouble, Func::Printf)),
+                let kinds = argument_kinds(base, mode, state, rest, piped)?;
+                match printf_shape(base.alloc, format.as_slice(), kinds.as_slice())? {
+                    Some(shape) => Ok(shape),
+                    None => Err(Trouble::MayFail(Cause::Arguments(Func::Printf))),
                 }
             }
-            None => Err(unsafe_by(base.alloc, Cause::NotFollowed(Func::Printf))),
+            None => Err(Trouble::MayFail(Cause::NotFollowed(Func::Printf))),
         },
     }
 }
 
 /// The shape of a command that calls a function.
 #[cycle(pipeline)]
+#[tactic(auto, using(crate::proofs::PipelineLemmas::functions))]
 fn function_shape(
     base: &Base<'_>,
     mode: MissingKey,
@@ -282,29 +288,18 @@ fn function_shape(
     piped: Option<&Shape>,
 ) -> Result<Shape, Trouble>
     ensures { IfOk result (λ s. command_shape (base_of base.now) mode (state_of state.now) (operand (function func)
-        (operands_in operands.now)) (seen piped.entry) ≡ Some (shape_of s)) }
+        (operands_in operands.now)) (shape_seen piped.entry) ≡ Some (shape_of s)) }
 {
     if !func.takes(argument_count(operands, piped)) {
-        return Err(unsafe_by(base.alloc, Cause::Command));
+        return Err(Trouble::MayFail(Cause::Command));
     }
     match func {
         Func::And => junction_shape(base, false, mode, state, &Shape::Nothings, operands, piped),
         Func::Or => junction_shape(base, true, mode, state, &Shape::Nothings, operands, piped),
-        Func::Not => called_shape(base, mode, state, func, operands, piped),
-        Func::Len => called_shape(base, mode, state, func, operands, piped),
-        Func::Print => called_shape(base, mode, state, func, operands, piped),
-        Func::Println => called_shape(base, mode, state, func, operands, piped),
-        Func::Html => called_shape(base, mode, state, func, operands, piped),
-        Func::Urlquery => called_shape(base, mode, state, func, operands, piped),
-        Func::Eq => called_shape(base, mode, state, func, operands, piped),
-        Func::Ne => called_shape(base, mode, state, func, operands, piped),
-        Func::Lt => called_shape(base, mode, state, func, operands, piped),
-        Func::Le => called_shape(base, mode, state, func, operands, piped),
-        Func::Gt => called_shape(base, mode, state, func, operands, piped),
-        Func::Ge => called_shape(base, mode, state, func, operands, piped),
         Func::Index => indexed_shape(base, mode, state, operands, piped),
         Func::Printf => printed_shape(base, mode, state, operands, piped),
-        Func::Slice => Err(unsafe_by(base.alloc, Cause::NotFollowed(func))),
+        Func::Slice => Err(Trouble::MayFail(Cause::NotFollowed(func))),
+        _ => called_shape(base, mode, state, func, operands, piped),
     }
 }
 
@@ -319,19 +314,20 @@ fn alone_shape(
     piped: Option<&Shape>,
 ) -> Result<Shape, Trouble>
     ensures { IfOk result (λ s. alone (operand_shape (base_of base.now) mode (state_of state.now)
-        (operand_of first.now)) (seen piped.entry) (operands_in rest.now) ≡ Some (shape_of s)) }
+        (operand_of first.now)) (shape_seen piped.entry) (operands_in rest.now) ≡ Some (shape_of s)) }
 {
     match piped {
-        Some(_) => Err(unsafe_by(base.alloc, Cause::Command)),
+        Some(_) => Err(Trouble::MayFail(Cause::Command)),
         None => match rest {
             [] => operand_shape(base, mode, state, first),
-            [_, _more @ ..] => Err(unsafe_by(base.alloc, Cause::Command)),
+            [_, _more @ ..] => Err(Trouble::MayFail(Cause::Command)),
         },
     }
 }
 
 /// The shape of a command, if it never is a fault.
 #[cycle(pipeline)]
+#[tactic(auto, using(crate::proofs::PipelineLemmas::heads))]
 fn command_shape(
     base: &Base<'_>,
     mode: MissingKey,
@@ -340,20 +336,14 @@ fn command_shape(
     piped: Option<&Shape>,
 ) -> Result<Shape, Trouble>
     ensures { IfOk result (λ s. command_shape (base_of base.now) mode (state_of state.now)
-        (operands_in operands.now) (seen piped.entry) ≡ Some (shape_of s)) }
+        (operands_in operands.now) (shape_seen piped.entry) ≡ Some (shape_of s)) }
 {
     match operands {
-        [] => Err(unsafe_by(base.alloc, Cause::Command)),
-        [first, rest @ ..] => match first {
-            Operand::Function(func) => function_shape(base, mode, state, *func, rest, piped),
-            Operand::Nil => Err(unsafe_by(base.alloc, Cause::Command)),
-            Operand::Dot => alone_shape(base, mode, state, first, rest, piped),
-            Operand::Fields(_) => alone_shape(base, mode, state, first, rest, piped),
-            Operand::Variable { .. } => alone_shape(base, mode, state, first, rest, piped),
-            Operand::Bool(_) => alone_shape(base, mode, state, first, rest, piped),
-            Operand::Number(_) => alone_shape(base, mode, state, first, rest, piped),
-            Operand::Text(_) => alone_shape(base, mode, state, first, rest, piped),
-            Operand::Group { .. } => alone_shape(base, mode, state, first, rest, piped),
+        [] => Err(Trouble::MayFail(Cause::Command)),
+        [first, rest @ ..] => match head_of(first) {
+            Head::Function(func) => function_shape(base, mode, state, func, rest, piped),
+            Head::Nil => Err(Trouble::MayFail(Cause::Command)),
+            Head::Value => alone_shape(base, mode, state, first, rest, piped),
         },
     }
 }
@@ -368,7 +358,7 @@ fn commands_shape(
     piped: Option<&Shape>,
 ) -> Result<Shape, Trouble>
     ensures { IfOk result (λ s. commands_shape (base_of base.now) mode (state_of state.now)
-        (commands_in commands.now) (seen piped.entry) ≡ Some (shape_of s)) }
+        (commands_in commands.now) (shape_seen piped.entry) ≡ Some (shape_of s)) }
 {
     match commands {
         [] => match piped {

@@ -4,17 +4,18 @@
 #![tactic(auto)]
 
 use crate::check::is_stop;
-use crate::join::joined;
+use crate::failure::{Doubt, Failure};
 use crate::known::{Known, after_both, bound, copy_known};
 use crate::node::{Checker, after_node, in_body, in_other, in_turn, kept};
 use crate::pipeline::pipeline_shape;
-use crate::shape::{Base, Shape, copy_shape};
 use crate::state::{State, at_start, copy_state};
-use crate::table::{Callee, Entry};
-use crate::trouble::{Cause, Doubt, Trouble, at_line, in_template, no_template, unsafe_by};
-use crate::visit::{Visit, visit_of};
-use std::alloc::AllocError;
+use crate::table::{Call, Callee, Entry};
+use std::alloc::{AllocError, Global};
+use std::mem;
 use tmpl_meaning::MissingKey;
+use tmpl_shape::{
+    Base, Cause, Shape, Visit, copy_name, copy_shape, either, joined, visit_of, within,
+};
 use tmpl_syntax::{Control, ControlNode, Node, NodeKind, Set};
 use tmpl_values::Bytes;
 
@@ -40,10 +41,10 @@ pub(crate) struct Question<'q> {
 
 /// What is found.
 #[derive(Drop)]
-pub(crate) struct Found {
-    pub(crate) doubts: Vec<Doubt>,
+struct Found {
+    doubts: Vec<Doubt>,
     /// Calls for which the table has less than they hand over.
-    wanted: Vec<Entry>,
+    wanted: Vec<Call>,
 }
 
 /// The template that is gone over, by its name.
@@ -55,35 +56,42 @@ struct Walk<'w> {
 }
 
 impl Found {
-    /// Adds a trouble that was met in the action of this line.
-    fn add(&mut self, walk: &Walk<'_>, trouble: Trouble, line: u64) -> Result<(), AllocError> {
-        let alloc = walk.checker.base.alloc;
-        match trouble {
-            Trouble::Wanted(entry) => {
-                let name = entry.name.as_slice();
-                if walk.question.set.get(name).is_some() || is_stop(walk.question.stops, name) {
-                    self.wanted.push(entry)?;
-                    return Ok(());
-                }
-                let trouble = no_template(alloc, name);
-                self.add_doubt(in_template(alloc, at_line(trouble, line), walk.name))
-            }
-            _ => self.add_doubt(in_template(alloc, at_line(trouble, line), walk.name)),
+    /// Nothing.
+    fn new(alloc: Global) -> Found {
+        Found {
+            doubts: Vec::new(alloc),
+            wanted: Vec::new(alloc),
         }
     }
 
-    /// Adds a doubt, if that is what it is.
-    fn add_doubt(&mut self, trouble: Trouble) -> Result<(), AllocError> {
-        match trouble {
-            Trouble::Unsafe(doubt) => {
-                if self.doubts.len() < MOST_DOUBTS {
-                    self.doubts.push(doubt)?;
+    /// Adds a failure that was met in the action of this line.
+    fn add(&mut self, walk: &Walk<'_>, failure: Failure, line: u64) -> Result<(), AllocError> {
+        match failure {
+            Failure::OutOfMemory => Err(AllocError),
+            Failure::MayFail(cause, 0) => self.add_doubt(walk, cause, line),
+            Failure::MayFail(cause, inner) => self.add_doubt(walk, cause, inner),
+            Failure::Wanted(call) => {
+                let name = call.name.as_slice();
+                if walk.question.set.get(name).is_some() || is_stop(walk.question.stops, name) {
+                    self.wanted.push(call)?;
+                    return Ok(());
                 }
-                Ok(())
+                self.add_doubt(walk, Cause::NoTemplate(call.name), line)
             }
-            Trouble::OutOfMemory => Err(AllocError),
-            Trouble::Refused | Trouble::Wanted(_) => Ok(()),
         }
+    }
+
+    /// Adds a doubt, if there is room for one more.
+    fn add_doubt(&mut self, walk: &Walk<'_>, cause: Cause, line: u64) -> Result<(), AllocError> {
+        if self.doubts.len() < MOST_DOUBTS {
+            let template = copy_name(walk.checker.base.alloc, walk.name)?;
+            self.doubts.push(Doubt {
+                template,
+                line,
+                cause,
+            })?;
+        }
+        Ok(())
     }
 }
 
@@ -102,8 +110,8 @@ fn survey_nodes(
     for node in nodes {
         match after_node(walk.checker, head, &state, node) {
             Ok(known) => state.known = known,
-            Err(trouble) => {
-                let known = survey_node(walk, head, &state, node, trouble, found)?;
+            Err(failure) => {
+                let known = survey_node(walk, head, &state, node, failure, found)?;
                 state.known = known;
             }
         }
@@ -118,14 +126,14 @@ fn survey_node(
     head: Option<&Known>,
     state: &State,
     node: &Node,
-    trouble: Trouble,
+    failure: Failure,
     found: &mut Found,
 ) -> Result<Known, AllocError> {
     let alloc = walk.checker.base.alloc;
     match &node.what {
         NodeKind::Control(control) => survey_control(walk, head, state, control, node.line, found),
         NodeKind::Action(header) => {
-            found.add(walk, trouble, node.line)?;
+            found.add(walk, failure, node.line)?;
             bound(
                 alloc,
                 &header.binding,
@@ -135,7 +143,7 @@ fn survey_node(
             )
         }
         NodeKind::Text(_) | NodeKind::Break | NodeKind::Continue | NodeKind::Template(_, _) => {
-            found.add(walk, trouble, node.line)?;
+            found.add(walk, failure, node.line)?;
             copy_known(alloc, &state.known)
         }
     }
@@ -155,8 +163,8 @@ fn survey_control(
     let commands = control.header.pipeline.commands.as_slice();
     let shape = match pipeline_shape(&checker.base, checker.mode, state, commands) {
         Ok(shape) => shape,
-        Err(trouble) => {
-            found.add(walk, trouble, line)?;
+        Err(failure) => {
+            found.add(walk, failure.into(), line)?;
             Shape::Never
         }
     };
@@ -197,8 +205,8 @@ fn survey_end(
 ) -> Result<Known, AllocError> {
     match after_both(&walk.checker.base, &state.known, one, other) {
         Ok(known) => Ok(known),
-        Err(trouble) => {
-            found.add(walk, trouble, line)?;
+        Err(failure) => {
+            found.add(walk, failure.into(), line)?;
             copy_known(walk.checker.base.alloc, &state.known)
         }
     }
@@ -220,8 +228,8 @@ fn survey_range(
     let header = &control.header;
     let visit = match visit_of(&checker.base, &header.binding, shape) {
         Ok(visit) => visit,
-        Err(trouble) => {
-            found.add(walk, trouble, line)?;
+        Err(failure) => {
+            found.add(walk, failure.into(), line)?;
             Visit {
                 key: Shape::Never,
                 element: Shape::Never,
@@ -236,7 +244,7 @@ fn survey_range(
         control.body.as_slice(),
     ) {
         Ok(known) => known,
-        Err(trouble) => {
+        Err(failure) => {
             let before = found.doubts.len().saturating_add(found.wanted.len());
             let inside = in_turn(alloc, header, &visit, &state.known)?;
             survey_nodes(
@@ -247,7 +255,7 @@ fn survey_range(
                 found,
             )?;
             if found.doubts.len().saturating_add(found.wanted.len()) == before {
-                found.add(walk, trouble, line)?;
+                found.add(walk, failure.into(), line)?;
             }
             copy_known(alloc, &state.known)?
         }
@@ -276,7 +284,10 @@ fn survey_template(
             survey_nodes(&walk, None, start, tree.nodes.as_slice(), found)?;
             Ok(())
         }
-        None => found.add(&walk, no_template(checker.base.alloc, name), 0),
+        None => {
+            let wanted = copy_name(checker.base.alloc, name)?;
+            found.add_doubt(&walk, Cause::NoTemplate(wanted), 0)
+        }
     }
 }
 
@@ -290,141 +301,198 @@ fn place(table: &[Entry], name: &[u8]) -> Option<usize> {
     None
 }
 
-/// The values of the one, and those alternatives of the other that are not within it: so each is there once.
-fn with_more(base: &Base<'_>, one: Shape, other: &Shape) -> Result<Shape, AllocError> {
-    match other {
-        Shape::Either(first, second) => {
-            let one = with_more(base, one, first)?;
-            with_more(base, one, second)
+/// The alternatives of the one that are not within the other.
+fn part_beyond(base: &Base<'_>, shape: &Shape, other: &Shape) -> Result<Shape, AllocError> {
+    match shape {
+        Shape::Either(one, two) => {
+            let one = part_beyond(base, one, other)?;
+            joined(base, one, part_beyond(base, two, other)?)
         }
         _ => {
-            let other = copy_shape(base.alloc, other)?;
-            joined(base, other, one)
+            if within(base, shape, other) {
+                return Ok(Shape::Never);
+            }
+            copy_shape(base.alloc, shape)
         }
     }
 }
 
-/// What two calls hand over.
-fn widened(base: &Base<'_>, one: &Callee, other: &Callee) -> Result<Callee, AllocError> {
-    match (one, other) {
-        (Callee::Handed(one), Callee::Handed(other)) => {
-            let one = copy_shape(base.alloc, one)?;
-            Ok(Callee::Handed(with_more(base, one, other)?))
+/// The values of both. The alternatives of the first change sides, so that however many are added, one by one, each is
+/// reached in few steps.
+fn with_alternative(alloc: Global, all: Shape, more: Shape) -> Result<Shape, AllocError> {
+    match all {
+        Shape::Never => Ok(more),
+        Shape::Either(one, other) => {
+            let one = with_alternative(alloc, Box::into_inner(one), more)?;
+            either(alloc, Box::into_inner(other), one)
         }
-        _ => Ok(Callee::Absent),
+        _ => either(alloc, all, more),
     }
 }
 
-/// Puts a call into the table, with what other calls of the template hand over, and gives its place.
+/// The values of both, where the alternatives of the second are added one by one.
+fn with_alternatives(alloc: Global, all: Shape, more: Shape) -> Result<Shape, AllocError> {
+    match more {
+        Shape::Either(one, other) => {
+            let all = with_alternatives(alloc, all, Box::into_inner(one))?;
+            with_alternatives(alloc, all, Box::into_inner(other))
+        }
+        _ => with_alternative(alloc, all, more),
+    }
+}
+
+/// Puts a call into the table. Gives the values for which the template is yet to be gone over.
 fn grow(
     base: &Base<'_>,
     set: &Set,
     table: &mut Vec<Entry>,
-    entry: Entry,
-) -> Result<usize, AllocError> {
-    let Entry { name, callee } = entry;
-    match place(table.as_slice(), name.as_slice()) {
-        Some(place) => {
-            if let Some(held) = table.get_mut(place) {
-                let callee = widened(base, &held.callee, &callee)?;
-                held.callee = callee;
-            }
-            Ok(place)
+    name: &[u8],
+    shape: &Shape,
+) -> Result<Shape, AllocError> {
+    let Some(place) = place(table.as_slice(), name) else {
+        let is_there = set.get(name).is_some();
+        let name = copy_name(base.alloc, name)?;
+        if !is_there {
+            table.push(Entry {
+                name,
+                callee: Callee::Absent,
+            })?;
+            return Ok(Shape::Never);
         }
-        None => {
-            let callee = if set.get(name.as_slice()).is_some() {
-                callee
-            } else {
-                Callee::Absent
-            };
-            let place = table.len();
-            table.push(Entry { name, callee })?;
-            Ok(place)
-        }
-    }
-}
-
-/// Goes over the template that is asked for, where no place is given, or else over that of this place of the table.
-fn survey_place(
-    base: &Base<'_>,
-    question: &Question<'_>,
-    table: &[Entry],
-    place: Option<usize>,
-    found: &mut Found,
-) -> Result<(), AllocError> {
-    let checker = Checker {
-        base: *base,
-        mode: question.mode,
-        table,
+        table.push(Entry {
+            name,
+            callee: Callee::Handed(copy_shape(base.alloc, shape)?),
+        })?;
+        return copy_shape(base.alloc, shape);
     };
-    match place {
-        None => survey_template(&checker, question, question.name, question.shape, found),
-        Some(place) => match table.get(place) {
-            Some(
-                Entry {
-                    name,
-                    callee: Callee::Handed(shape),
-                },
-            ) => survey_template(&checker, question, name.as_slice(), shape, found),
-            _ => Ok(()),
+    let Some(
+        Entry {
+            callee: Callee::Handed(held),
+            ..
         },
-    }
+    ) = table.get_mut(place)
+    else {
+        return Ok(Shape::Never);
+    };
+    let more = part_beyond(base, shape, held)?;
+    let added = copy_shape(base.alloc, &more)?;
+    let all = mem::replace(held, Shape::Never);
+    *held = with_alternatives(base.alloc, all, added)?;
+    Ok(more)
 }
 
-/// Puts each call that is reached into the table. Gives whether all was seen, and no place found that may fail.
-pub(crate) fn fill_table(
+/// Puts calls into the table, and those templates that are yet to be gone over with them to those that wait.
+fn grow_all(
     base: &Base<'_>,
     question: &Question<'_>,
     table: &mut Vec<Entry>,
+    wanted: Vec<Call>,
+    waiting: &mut Vec<Call>,
+) -> Result<(), AllocError> {
+    for call in wanted.into_iter() {
+        let Call { name, shape } = call;
+        let more = grow(base, question.set, table, name.as_slice(), &shape)?;
+        if !matches!(more, Shape::Never) {
+            waiting.push(Call { name, shape: more })?;
+        }
+    }
+    Ok(())
+}
+
+/// Goes over templates that wait, each for the values alone that are new to it, and over those that they call. Gives
+/// whether none is left: what a template is handed settles in a few rounds for each definition, or is not followed.
+fn spread(
+    base: &Base<'_>,
+    question: &Question<'_>,
+    table: &mut Vec<Entry>,
+    waiting: &mut Vec<Call>,
 ) -> Result<bool, AllocError> {
-    let mut is_good = true;
-    let mut waiting: Vec<Option<usize>> = Vec::new(base.alloc);
-    waiting.push(None)?;
     for visits in 0..MOST_VISITS {
-        let Some(place) = waiting.pop() else {
-            return Ok(is_good);
+        let Some(call) = waiting.pop() else {
+            return Ok(true);
         };
-        if visits / MOST_ROUNDS > table.len() {
+        if visits / MOST_ROUNDS > table.len().saturating_add(base.definitions.len()) {
             return Ok(false);
         }
-        let mut found = Found {
-            doubts: Vec::new(base.alloc),
-            wanted: Vec::new(base.alloc),
+        let checker = Checker {
+            base: *base,
+            mode: question.mode,
+            table: table.as_slice(),
         };
-        survey_place(base, question, table.as_slice(), place, &mut found)?;
-        let Found { doubts, wanted } = found;
-        if wanted.is_empty() {
-            is_good = is_good && doubts.is_empty();
-        } else {
-            waiting.push(place)?;
-        }
-        for entry in wanted.into_iter() {
-            let place = Some(grow(base, question.set, table, entry)?);
-            if !waiting.as_slice().contains(&place) {
-                waiting.push(place)?;
-            }
+        let mut found = Found::new(base.alloc);
+        survey_template(
+            &checker,
+            question,
+            call.name.as_slice(),
+            &call.shape,
+            &mut found,
+        )?;
+        let Found { wanted, .. } = found;
+        if !wanted.is_empty() {
+            waiting.push(call)?;
+            grow_all(base, question, table, wanted, waiting)?;
         }
     }
     Ok(false)
 }
 
-/// Each place that may fail, in the template that is asked for and in those of the table.
-pub(crate) fn doubts_in(
+/// Goes over the template that is asked for, and over each of the table.
+fn survey_all(
     base: &Base<'_>,
     question: &Question<'_>,
     table: &[Entry],
-) -> Result<Vec<Doubt>, AllocError> {
-    let mut found = Found {
-        doubts: Vec::new(base.alloc),
-        wanted: Vec::new(base.alloc),
+) -> Result<Found, AllocError> {
+    let checker = Checker {
+        base: *base,
+        mode: question.mode,
+        table,
     };
-    survey_place(base, question, table, None, &mut found)?;
-    for place in 0..table.len() {
-        survey_place(base, question, table, Some(place), &mut found)?;
+    let mut found = Found::new(base.alloc);
+    survey_template(
+        &checker,
+        question,
+        question.name,
+        question.shape,
+        &mut found,
+    )?;
+    for entry in table {
+        if let Callee::Handed(shape) = &entry.callee {
+            survey_template(&checker, question, entry.name.as_slice(), shape, &mut found)?;
+        }
     }
-    if found.doubts.is_empty() {
-        found.add_doubt(unsafe_by(base.alloc, Cause::Command))?;
-    }
-    let Found { doubts, .. } = found;
+    Ok(found)
+}
+
+/// That it is not seen why a template may fail.
+pub(crate) fn unseen(alloc: Global, name: &[u8]) -> Result<Vec<Doubt>, AllocError> {
+    let mut doubts: Vec<Doubt> = Vec::new(alloc);
+    doubts.push(Doubt {
+        template: copy_name(alloc, name)?,
+        line: 0,
+        cause: Cause::Command,
+    })?;
     Ok(doubts)
+}
+
+/// Puts each call that is reached into the table. Gives each place that may fail.
+pub(crate) fn fill_table(
+    base: &Base<'_>,
+    question: &Question<'_>,
+    table: &mut Vec<Entry>,
+) -> Result<Vec<Doubt>, AllocError> {
+    let mut waiting: Vec<Call> = Vec::new(base.alloc);
+    let name = copy_name(base.alloc, question.name)?;
+    let shape = copy_shape(base.alloc, question.shape)?;
+    waiting.push(Call { name, shape })?;
+    for _ in 0..MOST_ROUNDS {
+        if !spread(base, question, table, &mut waiting)? {
+            break;
+        }
+        let Found { doubts, wanted } = survey_all(base, question, table.as_slice())?;
+        if wanted.is_empty() {
+            return Ok(doubts);
+        }
+        grow_all(base, question, table, wanted, &mut waiting)?;
+    }
+    unseen(base.alloc, question.name)
 }

@@ -4,7 +4,7 @@
 ghost use Rattle.std.specs.Prelude.{◌≡◌};
 ghost use Rattle.tmpl_schema.specs.computed.View.{callee_seen, table_of};
 
-use crate::shape::Shape;
+use tmpl_shape::Shape;
 use tmpl_values::Bytes;
 
 /// What is known of a template that is called.
@@ -21,6 +21,13 @@ pub(crate) enum Callee {
 pub(crate) struct Entry {
     pub(crate) name: Bytes,
     pub(crate) callee: Callee,
+}
+
+/// A call of a template: its name, and the shape of what it is handed.
+#[derive(Drop)]
+pub(crate) struct Call {
+    pub(crate) name: Bytes,
+    pub(crate) shape: Shape,
 }
 
 /// What is known of the template of a name.

@@ -16,7 +16,7 @@ use Rattle.tmpl_syntax.specs.View.{nodes_in}
 use Rattle.tmpl_code.specs.Code.{argument_count, operand_count, CallBy, CountedAt, JunctionAt, OperandsAt}
 use Rattle.tmpl_code.specs.Code.{Code, Ended, Exit, NodeAt, NodesAt, NodesPart, Stretch, TreeAt, TurnAt, step_of_call}
 use Rattle.tmpl_code.specs.Instruction.{Instruction, act, call_with, decide}
-use Rattle.tmpl_code.specs.Layout.{Layout, bound_on, declared_in, grown}
+use Rattle.tmpl_code.specs.Layout.{Layout, bound_on, declared_in, after_node}
 use Rattle.tmpl_code.specs.View.{instruction_of}
 use Rattle.tmpl_code.specs.computed.Cells.{layout_in}
 use Rattle.tmpl_code.specs.declared.code.Code as held_code
@@ -37,9 +37,9 @@ unfoldable pub layout_of : held_scope.Scope → Layout
 layout_of s = layout_in s.cells.items
 
 -- after an operand of `and` or `or`, of which the last of this many instructions come after the whole
-abbrev pub decided : Bool → Bool → Bool → ℕ → Code → Code
-decided true is_or piped end code = code
-decided false is_or piped end code = act (decide is_or piped (length code - end)) ∷ code
+abbrev pub after_decision : Bool → Bool → Bool → ℕ → Code → Code
+after_decision true is_or piped end code = code
+after_decision false is_or piped end code = act (decide is_or piped (length code - end)) ∷ code
 
 -- the code ends with other code
 pub record Ends (rest code : Code) : Type 0 where
@@ -72,7 +72,7 @@ IsOpen (Some a) code cells = (a.after ≤ length code) × (a.below + 2 ≤ lengt
 -- after nodes
 abbrev pub all_grown : Nodes → Layout → Layout
 all_grown tree.none cells = cells
-all_grown (tree.then line n ns) cells = all_grown ns (grown n cells)
+all_grown (tree.then line n ns) cells = all_grown ns (after_node n cells)
 
 -- a call of a function
 abbrev pub CalledAt : Func → Operands → Bool → ℕ → Layout → Stretch

@@ -2,9 +2,9 @@
 use Rattle.std.specs.Prelude.{◌≡◌, ℕ, Bool, true, ◌&&◌, List, [], ◌∷◌, Some, is_some}
 use Rattle.serde_json.specs.Data.{Data}
 use Rattle.serde_json.specs.Find.{pointer}
-use Rattle.tmpl_schema.specs.Shape.{Defs}
-use Rattle.tmpl_schema.specs.View.{shape_of}
-use Rattle.tmpl_schema.specs.declared.shape.Definition.{Definition}
+use Rattle.tmpl_shape.specs.Shape.{Defs}
+use Rattle.tmpl_shape.specs.View.{shape_of}
+use Rattle.tmpl_shape.specs.declared.shape.Definition.{Definition}
 use Rattle.tmpl_json_schema.specs.computed.Reading.{shape_by}
 
 -- its name is the pointer to what its shape was read of, as many levels deep

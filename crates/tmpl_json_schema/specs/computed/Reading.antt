@@ -6,8 +6,8 @@ use Rattle.std.specs.Str.{bytes_eq}
 use Rattle.serde_json.specs.Data as json
 use Rattle.serde_json.specs.Data.{Data, Items, no_items, Members, no_members, member}
 use Rattle.serde_json.specs.Find.{get}
-use Rattle.tmpl_schema.specs.Shape.{Shape, never, nothings, nulls, truths, numbers, texts, anything, list_of, record_of}
-use Rattle.tmpl_schema.specs.Shape.{either, named, Fields, no_field, others, field}
+use Rattle.tmpl_shape.specs.Shape.{Shape, never, nothings, nulls, truths, numbers, texts, anything, list_of, record_of}
+use Rattle.tmpl_shape.specs.Shape.{either, named, Fields, no_field, others, field}
 use Rattle.tmpl_json_schema.specs.Document.{fragment_of}
 use Rattle.tmpl_json_schema.specs.declared.kinds.Kinds.{Kinds}
 
@@ -140,17 +140,17 @@ abbrev pub if_kind : Bool → Shape → Shape
 if_kind c s = if c then s else never
 
 -- of the values of these kinds
-abbrev pub kept : Kinds → Shape → Shape
-kept ks never = never
-kept ks nothings = never
-kept ks nulls = if_kind ks.null nulls
-kept ks truths = if_kind ks.truth truths
-kept ks numbers = if_kind ks.number numbers
-kept ks texts = if_kind ks.text texts
-kept ks (list_of s) = if_kind ks.list (list_of s)
-kept ks (record_of fs) = if_kind ks.map (record_of fs)
-kept ks (either s t) = or_shape (kept ks s) (kept ks t)
-kept ks s = s
+abbrev pub keep_kinds : Kinds → Shape → Shape
+keep_kinds ks never = never
+keep_kinds ks nothings = never
+keep_kinds ks nulls = if_kind ks.null nulls
+keep_kinds ks truths = if_kind ks.truth truths
+keep_kinds ks numbers = if_kind ks.number numbers
+keep_kinds ks texts = if_kind ks.text texts
+keep_kinds ks (list_of s) = if_kind ks.list (list_of s)
+keep_kinds ks (record_of fs) = if_kind ks.map (record_of fs)
+keep_kinds ks (either s t) = or_shape (keep_kinds ks s) (keep_kinds ks t)
+keep_kinds ks s = s
 
 -- the fields that are not named
 abbrev pub rest_of : Shape → Fields
@@ -239,7 +239,7 @@ module _ (read : Data → Option Shape) where
       else option_and_then (λ i. option_map (by_kinds ks i) (fields_in d)) (shape_under (codes "items") d)
 
   abbrev pub plain_shape : Data → Kinds → Option Shape
-  plain_shape d ks = option_map_or (λ c. option_map (kept ks) (choice_shape c)) (choices_in d) (content_shape d ks)
+  plain_shape d ks = option_map_or (λ c. option_map (keep_kinds ks) (choice_shape c)) (choices_in d) (content_shape d ks)
 
   abbrev pub object_shape : List (List ℕ) → Data → Option Shape
   object_shape names d = option_map_or (reference_shape names) (get (codes "$ref") d) (option_and_then (plain_shape d) (kinds_in d))

@@ -37,5 +37,5 @@ by_mode mode = record {
 }
 
 -- .. or nothing
-abbrev pub untold : Plan
-untold = by_mode Default
+abbrev pub without_bytes : Plan
+without_bytes = by_mode Default

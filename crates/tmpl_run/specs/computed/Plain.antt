@@ -1,6 +1,6 @@
 -- Whether a value of a run owns its text. One that does not is taken once more without memory, so a run in which none
 -- does wants none.
-use Rattle.std.specs.Prelude.{◌≡◌, false, take, Result, Ok, Err}
+use Rattle.std.specs.Prelude.{◌≡◌, false, take, Result, Ok, Err, OnErr}
 use Rattle.std.specs.declared.alloc.AllocError.{AllocError}
 use Rattle.tmpl_values.specs.View.{is_made}
 use Rattle.tmpl_funcs.specs.Answer.{AreBorrowed}
@@ -37,6 +37,11 @@ SteadyStack old new = (size_of new ≡ size_of old) × (IsPlainStack old → IsP
 abbrev pub Steady : Machine → Machine → Type 0
 Steady old new = (IsPlain old → IsPlain new) × (size_of new.stack ≡ size_of old.stack)
 
+-- the template that runs is the same where it stops
+abbrev pub StopsIn : {A E : Type 0} → Result A E → Machine → Machine → Type 0
+StopsIn result old new = OnErr result (new.template ≡ old.template)
+
 -- .. and memory was not refused then
 abbrev pub SteadyOr : {A : Type 0} → Result A Halt → Machine → Machine → Type 0
-SteadyOr result old new = (IsPlain old → SparedOr result (IsPlain new)) × (size_of new.stack ≡ size_of old.stack)
+SteadyOr result old new =
+    (IsPlain old → SparedOr result (IsPlain new)) × (size_of new.stack ≡ size_of old.stack) × StopsIn result old new

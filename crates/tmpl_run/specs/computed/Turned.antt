@@ -18,7 +18,7 @@ use Rattle.tmpl_code.specs.Instruction.{Instruction}
 use Rattle.tmpl_run.specs.Cell.{slot}
 use Rattle.tmpl_run.specs.State.{Plan, State}
 use Rattle.tmpl_run.specs.Step.{made_by}
-use Rattle.tmpl_run.specs.Machine.{Turn, done, ended, failed, goes, ran_so, stuck}
+use Rattle.tmpl_run.specs.Machine.{Turn, carry_out, ended, fail_with, goes, ran_so, stuck}
 use Rattle.tmpl_run.specs.declared.flow.Flow.{Flow}
 use Rattle.tmpl_run.specs.declared.flow.Flow.TheVariants as flow
 use Rattle.tmpl_run.specs.computed.Machines.{no_template, state_of}
@@ -55,28 +55,28 @@ text_in (Ok v) = text_of v
 text_in (Err cause) = []
 
 -- what it puts out in a state
-abbrev pub added : MissingKey → Instruction → State → List ℕ
-added mode (code.put line bytes) s = paid_for (nat_eq s.left 0) bytes
-added mode code.show s = text_of (slot 0 s.cells)
-added mode (code.show_fields line names) s = paid_for (nat_eq s.left 0) (text_in (chain mode names s.dot))
-added mode (code.show_slot line k names) s = paid_for (nat_eq s.left 0) (text_in (chain mode names (slot k s.cells)))
-added mode i s = []
+abbrev pub added_text : MissingKey → Instruction → State → List ℕ
+added_text mode (code.put line bytes) s = paid_for (nat_eq s.left 0) bytes
+added_text mode code.show s = text_of (slot 0 s.cells)
+added_text mode (code.show_fields line names) s = paid_for (nat_eq s.left 0) (text_in (chain mode names s.dot))
+added_text mode (code.show_slot line k names) s = paid_for (nat_eq s.left 0) (text_in (chain mode names (slot k s.cells)))
+added_text mode i s = []
 
 -- a state after it, with what it puts out and whether it makes a text
 abbrev pub beyond : MissingKey → Instruction → State → State → State
-beyond mode i s t = record t { text = added mode i s; made_text = mark_after i false }
+beyond mode i s t = record t { text = added_text mode i s; made_text = mark_after i false }
 
--- it was carried out, and the run goes on or is over, or it stops; where a put failed it was carried out up to that
+-- it was carried out, and the run goes on or is over, or it stops; where a put fail_with it was carried out up to that
 abbrev pub Executed : Plan → Instruction → Machine → Machine → Result Flow Halt → Type 0
 Executed plan i m n (Ok flow.On) =
-    done plan no_template i (state_of m) ≡ goes (beyond plan.rules.missing_key i (state_of m) (state_of n))
+    carry_out plan no_template i (state_of m) ≡ goes (beyond plan.rules.missing_key i (state_of m) (state_of n))
 Executed plan i m n (Ok flow.Over) =
-    done plan no_template i (state_of m) ≡ ended (ran_so (beyond plan.rules.missing_key i (state_of m) (state_of m)) None)
+    carry_out plan no_template i (state_of m) ≡ ended (ran_so (beyond plan.rules.missing_key i (state_of m) (state_of m)) None)
 Executed plan i m n (Err (stop.Fault kind)) =
-    done plan no_template i (state_of m)
-    ≡ failed no_template n.line (cause_of kind) (beyond plan.rules.missing_key i (state_of m) (state_of m))
+    carry_out plan no_template i (state_of m)
+    ≡ fail_with no_template n.line (cause_of kind) (beyond plan.rules.missing_key i (state_of m) (state_of m))
 Executed plan i m n (Err stop.WriteFailed) =
-    done plan no_template i (state_of m) ≡ goes (beyond plan.rules.missing_key i (state_of m) (state_of n))
+    carry_out plan no_template i (state_of m) ≡ goes (beyond plan.rules.missing_key i (state_of m) (state_of n))
 Executed plan i m n (Err stop.OutOfMemory) = Unit {0}
 
 -- .. by an instruction that puts nothing out, and may stop where memory is refused
@@ -108,7 +108,7 @@ StepTaken limit line m n (Err (stop.Fault kind)) =
 StepTaken limit line m n (Err stop.WriteFailed) = ⊥
 StepTaken limit line m n (Err stop.OutOfMemory) = ⊥
 
--- whether a put failed
+-- whether a put fail_with
 abbrev pub put_by : {A : Type 0} → Result A Halt → Result (Unit {0}) SinkFault
 put_by (Ok a) = Ok tt
 put_by (Err (stop.Fault kind)) = Ok tt
@@ -117,9 +117,9 @@ put_by (Err stop.OutOfMemory) = Ok tt
 
 -- what it puts out, by what it answers
 abbrev pub put_out : MissingKey → Instruction → Machine → Result Flow Halt → List ℕ
-put_out mode i m (Ok f) = added mode i (state_of m)
-put_out mode i m (Err (stop.Fault kind)) = added mode i (state_of m)
-put_out mode i m (Err stop.WriteFailed) = added mode i (state_of m)
+put_out mode i m (Ok f) = added_text mode i (state_of m)
+put_out mode i m (Err (stop.Fault kind)) = added_text mode i (state_of m)
+put_out mode i m (Err stop.WriteFailed) = added_text mode i (state_of m)
 put_out mode i m (Err stop.OutOfMemory) = []
 
 -- a field of a field of .. of a value was found, or there is none, or memory was refused

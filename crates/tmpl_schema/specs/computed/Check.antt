@@ -1,5 +1,5 @@
 -- The check of a template against a shape, as a function that goes over the tree.
-use Rattle.std.specs.Prelude.{ℕ, zero, suc, ◌+◌, ◌-◌, nat_le, Bool, true, false, ◌&&◌, List, [], ◌∷◌, ◌++◌, length, drop}
+use Rattle.std.specs.Prelude.{ℕ, zero, suc, ◌+◌, ◌-◌, nat_le, Bool, true, false, not, ◌&&◌, List, [], ◌∷◌, ◌++◌, length, drop}
 use Rattle.std.specs.Prelude.{Option, Some, None, option_to_list, unwrap_or, if◌then◌else◌}
 use Rattle.std.specs.Option.{option_map, option_map_or, option_and_then}
 use Rattle.std.specs.Str.{bytes_eq}
@@ -11,16 +11,16 @@ use Rattle.tmpl_grammar.specs.declared.tree.Control.TheVariants as control
 use Rattle.tmpl_syntax.specs.Tree as tree
 use Rattle.tmpl_syntax.specs.Tree.{NodeKind, text, action, control_node, break_node, continue_node, template_node, Nodes}
 use Rattle.tmpl_meaning.specs.declared.missing_key.MissingKey.{MissingKey}
-use Rattle.tmpl_schema.specs.Shape.{Shape, nothings, truths, numbers, texts}
+use Rattle.tmpl_shape.specs.Shape.{Shape, nothings, truths, numbers, texts}
 use Rattle.tmpl_funcs.specs.Func.{takes}
 use Rattle.tmpl_funcs.specs.declared.func.Func.{Func}
 use Rattle.tmpl_funcs.specs.declared.func.Func.TheVariants.{And, Not, Index, Eq, Ne}
 use Rattle.tmpl_meaning.specs.Pipeline.{operand_count}
-use Rattle.tmpl_schema.specs.declared.kind.Kind.TheVariants.{Blank}
-use Rattle.tmpl_schema.specs.computed.Shapes.{Base, has_kind, within, joined, both, filled, null_gone, refined, chain_shape}
-use Rattle.tmpl_schema.specs.computed.Shapes.{index_shape, Visit, visit_of}
-use Rattle.tmpl_schema.specs.computed.Calls.{call_shape, shape_by_function}
-use Rattle.tmpl_schema.specs.computed.Formats.{printf_shape}
+use Rattle.tmpl_shape.specs.declared.kind.Kind.TheVariants.{Blank}
+use Rattle.tmpl_shape.specs.computed.Shapes.{Base, has_kind, within, joined, both, fill, null_gone, refine, chain_shape}
+use Rattle.tmpl_shape.specs.computed.Shapes.{index_shape, Visit, visit_of}
+use Rattle.tmpl_shape.specs.computed.Calls.{call_shape, shape_by_function}
+use Rattle.tmpl_shape.specs.computed.Formats.{printf_shape}
 
 -- the shapes of the variables in scope, the newest first
 abbrev pub Known : Type 0
@@ -60,16 +60,104 @@ abbrev pub two_of : Operands → Option (Operand × Operand)
 two_of (operand o (operand p no_operand)) = Some (o, p)
 two_of os = None
 
--- the operand is a constant, and not `nil`
-abbrev pub is_constant : Operand → Bool
-is_constant (bool_constant c) = true
-is_constant (number_constant n) = true
-is_constant (text_constant bytes) = true
-is_constant o = false
+-- the operand is a constant, and not `nil`, or else is `nil`
+abbrev pub tells : Bool → Operand → Bool
+tells true (bool_constant c) = true
+tells true (number_constant n) = true
+tells true (text_constant bytes) = true
+tells false nil = true
+tells c o = false
 
-abbrev pub is_nil : Operand → Bool
-is_nil nil = true
-is_nil o = false
+-- what the first operand of a command is: a function that is called, `nil`, or what gives a value
+pub data Head : Type 0 where
+  calls : Func → Head
+  is_nil : Head
+  is_value : Head
+
+abbrev pub head_of : Operand → Head
+head_of (function f) = calls f
+head_of nil = is_nil
+head_of o = is_value
+
+-- a chain of fields from dot, or from the variable of a name
+pub record Place : Type 0 where
+  pub root : Option (List ℕ)
+  pub path : List (List ℕ)
+
+-- the place of an entry of a key
+abbrev pub key_place : List ℕ → Operand → Option Place
+key_place n dot = Some (record { root = None; path = n ∷ [] })
+key_place n (variable name []) = Some (record { root = Some name; path = n ∷ [] })
+key_place n o = None
+
+-- .. of what `index` gives
+abbrev pub index_place : Operands → Option Place
+index_place os = option_and_then (λ p. option_and_then (λ n. key_place n p.0) (text_of p.1)) (two_of os)
+
+abbrev pub call_place : Func → Operands → Option Place
+call_place Index os = index_place os
+call_place f os = None
+
+abbrev pub head_place : Head → Operands → Option Place
+head_place (calls f) os = call_place f os
+head_place h os = None
+
+abbrev pub command_place : Operands → Option Place
+command_place (operand o os) = head_place (head_of o) os
+command_place no_operand = None
+
+abbrev pub pipeline_place : Pipeline → Option Place
+pipeline_place (command os no_command) = command_place os
+pipeline_place p = None
+
+abbrev pub group_place : Pipeline → List (List ℕ) → Option Place
+group_place p [] = pipeline_place p
+group_place p names = None
+
+-- the place whose value is that of an operand, but for nothing and null
+abbrev pub place_of : Operand → Option Place
+place_of dot = Some (record { root = None; path = [] })
+place_of (fields names) = Some (record { root = None; path = names })
+place_of (variable name names) = Some (record { root = Some name; path = names })
+place_of (group p names) = group_place p names
+place_of o = None
+
+-- what a value tells that is or is not empty: that each of these operands is neither nothing nor null, or so the `index` of
+-- these
+pub data Facts : Type 0 where
+  of_operands : Operands → Facts
+  of_index : Operands → Facts
+
+-- the first of two, if the second is a constant, or else `nil`
+abbrev pub pair_facts : Bool → Operands → Facts
+pair_facts c os = option_map_or (λ p. if tells c p.1 then of_operands (operand p.0 no_operand) else of_operands no_operand) (two_of os)
+    (of_operands no_operand)
+
+-- by an operand that is the whole command
+abbrev pub alone_facts : Bool → Operand → Operands → Facts
+alone_facts true o no_operand = of_operands (operand o no_operand)
+alone_facts c o os = of_operands no_operand
+
+-- by a call that gives what is not empty, or else what is
+abbrev pub call_facts : Bool → Func → Operands → Facts
+call_facts true And os = of_operands os
+call_facts true Index os = of_index os
+call_facts false Not (operand o os) = alone_facts true o os
+call_facts c Eq os = pair_facts c os
+call_facts c Ne os = pair_facts (not c) os
+call_facts c f os = of_operands no_operand
+
+abbrev pub head_facts : Bool → Head → Operand → Operands → Facts
+head_facts c (calls f) o os = call_facts c f os
+head_facts c h o os = alone_facts c o os
+
+abbrev pub command_facts : Bool → Operands → Facts
+command_facts c (operand o os) = head_facts c (head_of o) o os
+command_facts c no_operand = of_operands no_operand
+
+abbrev pub facts_of : Bool → Pipeline → Facts
+facts_of c (command os no_command) = command_facts c os
+facts_of c p = of_operands no_operand
 
 -- dot, and the variables
 pub record State : Type 0 where
@@ -107,8 +195,8 @@ abbrev pub in_turn : Header → Visit → Known → State
 in_turn h v ks = record { dot = v.element; env = bound_shapes h.binding v.key v.element ks }
 
 -- the variables after a turn
-abbrev pub turned : Header → Visit → (Option Known → Checked) → Known → Option Known
-turned h v body ks = option_map (last_of (length ks)) (body (Some ks) (in_turn h v ks))
+abbrev pub turn_known : Header → Visit → (Option Known → Checked) → Known → Option Known
+turn_known h v body ks = option_map (last_of (length ks)) (body (Some ks) (in_turn h v ks))
 
 module _ (base : Base) where
   -- ---- variables
@@ -117,7 +205,7 @@ module _ (base : Base) where
   abbrev pub refined_variable : List ℕ → List (List ℕ) → Known → Known
   refined_variable name ns [] = []
   refined_variable name ns (k ∷ ks) =
-      if bytes_eq k.0 name then (k.0, refined base ns k.1) ∷ ks else k ∷ refined_variable name ns ks
+      if bytes_eq k.0 name then (k.0, refine base ns k.1) ∷ ks else k ∷ refined_variable name ns ks
 
   -- the same variables, each within the other's shape
   abbrev pub all_within : Known → Known → Bool
@@ -131,55 +219,30 @@ module _ (base : Base) where
 
   -- ---- pipelines
 
-  -- what is known where the entry of a key is neither nothing nor null
-  abbrev pub narrowed_by_key : List ℕ → Operand → State → State
-  narrowed_by_key n dot k = record k { dot = refined base (n ∷ []) k.dot }
-  narrowed_by_key n (variable name []) k = record k { env = refined_variable name (n ∷ []) k.env }
-  narrowed_by_key n o k = k
-
-  -- .. where what `index` gives is so
-  abbrev pub narrowed_by_index : Operands → State → State
-  narrowed_by_index os k =
-      option_map_or (λ p. option_map_or (λ n. narrowed_by_key n p.0 k) (text_of p.1) k) (two_of os) k
-
-  abbrev pub narrowed_by_call : Func → Operands → State → State
-  narrowed_by_call Index os k = narrowed_by_index os k
-  narrowed_by_call f os k = k
-
-  abbrev pub narrowed_by_command : Operands → State → State
-  narrowed_by_command (operand (function f) os) k = narrowed_by_call f os k
-  narrowed_by_command os k = k
-
-  abbrev pub narrowed_by_pipeline : Pipeline → State → State
-  narrowed_by_pipeline (command os no_command) k = narrowed_by_command os k
-  narrowed_by_pipeline p k = k
-
-  abbrev pub narrowed_by_group : Pipeline → List (List ℕ) → State → State
-  narrowed_by_group p [] k = narrowed_by_pipeline p k
-  narrowed_by_group p ns k = k
+  -- what is known where the value of a place is neither nothing nor null
+  abbrev pub narrow_to : Option Place → State → State
+  narrow_to None k = k
+  narrow_to (Some p) k = option_map_or (λ name. record k { env = refined_variable name p.path k.env })
+      p.root (record k { dot = refine base p.path k.dot })
 
   -- .. where an operand is so, and therefore where it is not empty; and where all these are not empty
-  abbrev pub narrowed_by : Operand → State → State
-  narrowed_by dot k = record k { dot = filled base k.dot }
-  narrowed_by (group p names) k = narrowed_by_group p names k
-  narrowed_by (fields names) k = record k { dot = refined base names k.dot }
-  narrowed_by (variable name names) k = record k { env = refined_variable name names k.env }
-  narrowed_by o k = k
+  abbrev pub narrow_by : Operand → State → State
+  narrow_by o k = narrow_to (place_of o) k
 
-  abbrev pub narrowed_by_all : Operands → State → State
-  narrowed_by_all no_operand k = k
-  narrowed_by_all (operand o os) k = narrowed_by_all os (narrowed_by o k)
+  abbrev pub narrow_by_all : Operands → State → State
+  narrow_by_all no_operand k = k
+  narrow_by_all (operand o os) k = narrow_by_all os (narrow_by o k)
 
   -- the values that decide an `or`, or else an `and`, and those that do not
   abbrev pub deciding_shape : Bool → Shape → Shape
-  deciding_shape is_or s = if is_or then filled base s else s
+  deciding_shape is_or s = if is_or then fill base s else s
 
   abbrev pub passing_shape : Bool → Shape → Shape
-  passing_shape is_or s = if is_or then s else filled base s
+  passing_shape is_or s = if is_or then s else fill base s
 
   -- after an operand that does not decide
   abbrev pub passed : Bool → Operand → State → State
-  passed is_or o k = if is_or then k else narrowed_by o k
+  passed is_or o k = if is_or then k else narrow_by o k
 
   -- what `index` gives for a key of this shape, which has to be a text
   abbrev pub entry_by : Shape → Shape → Option Shape
@@ -253,49 +316,13 @@ module _ (base : Base) where
   abbrev pub pipeline_shape : MissingKey → State → Pipeline → Option Shape
   pipeline_shape m k p = commands_shape m k p None
 
-  -- what is known where the value of a pipeline is not empty
-  -- where an operand equals a constant
-  abbrev pub narrowed_by_constant : Operands → State → State
-  narrowed_by_constant os k = option_map_or (λ p. if is_constant p.1 then narrowed_by p.0 k else k) (two_of os) k
+  abbrev pub narrow_as : Facts → State → State
+  narrow_as (of_operands os) k = narrow_by_all os k
+  narrow_as (of_index os) k = narrow_to (index_place os) k
 
-  -- .. and where it differs from `nil`
-  abbrev pub narrowed_by_nil : Operands → State → State
-  narrowed_by_nil os k = option_map_or (λ p. if is_nil p.1 then narrowed_by p.0 k else k) (two_of os) k
-
-  abbrev pub narrowed_call : Func → Operands → State → State
-  narrowed_call And os k = narrowed_by_all os k
-  narrowed_call Index os k = narrowed_by_index os k
-  narrowed_call Eq os k = narrowed_by_constant os k
-  narrowed_call Ne os k = narrowed_by_nil os k
-  narrowed_call f os k = k
-
-  abbrev pub narrowed_alone : Operand → Operands → State → State
-  narrowed_alone o no_operand k = narrowed_by o k
-  narrowed_alone o os k = k
-
-  abbrev pub narrowed_command : Operands → State → State
-  narrowed_command (operand (function f) os) k = narrowed_call f os k
-  narrowed_command (operand o os) k = narrowed_alone o os k
-  narrowed_command no_operand k = k
-
-  abbrev pub narrowed : Pipeline → State → State
-  narrowed (command os no_command) k = narrowed_command os k
-  narrowed p k = k
-
-  -- .. and where it is empty
-  abbrev pub narrowed_not : Func → Operands → State → State
-  narrowed_not Not (operand o os) k = narrowed_alone o os k
-  narrowed_not Eq os k = narrowed_by_nil os k
-  narrowed_not Ne os k = narrowed_by_constant os k
-  narrowed_not f os k = k
-
-  abbrev pub narrowed_empty_command : Operands → State → State
-  narrowed_empty_command (operand (function f) os) k = narrowed_not f os k
-  narrowed_empty_command os k = k
-
-  abbrev pub narrowed_empty : Pipeline → State → State
-  narrowed_empty (command os no_command) k = narrowed_empty_command os k
-  narrowed_empty p k = k
+  -- what is known where the value of a pipeline is not empty, or else where it is
+  abbrev pub narrow : Bool → Pipeline → State → State
+  narrow c p k = narrow_as (facts_of c p) k
 
   -- ---- nodes
 
@@ -315,12 +342,12 @@ module _ (base : Base) where
       option_and_then (λ end. if all_within end ks then Some ks else more (all_joined ks end)) (turn ks)
 
   -- .. looked for in as many rounds as this
-  abbrev pub settled : ℕ → (Known → Option Known) → Known → Option Known
-  settled zero turn ks = None
-  settled (suc n) turn ks = settled_step (settled n turn) turn ks
+  abbrev pub settle_known : ℕ → (Known → Option Known) → Known → Option Known
+  settle_known zero turn ks = None
+  settle_known (suc n) turn ks = settled_step (settle_known n turn) turn ks
 
   unfoldable pub settled_soon : (Known → Option Known) → Known → Option Known
-  settled_soon turn ks = settled 12 turn ks
+  settled_soon turn ks = settle_known 12 turn ks
 
   -- .. from these before it
   abbrev pub kept_by : (Known → Option Known) → Known → Option Known
@@ -334,11 +361,11 @@ module _ (base : Base) where
   -- where an `if` or a `with` goes on with its body, and with its other part
   abbrev pub in_body : Control → Header → State → Shape → State
   in_body c h k s =
-      let u = narrowed h.pipeline k in
-      record { dot = dot_in c (filled base s) u.dot; env = bound_shapes h.binding nothings (filled base s) u.env }
+      let u = narrow true h.pipeline k in
+      record { dot = dot_in c (fill base s) u.dot; env = bound_shapes h.binding nothings (fill base s) u.env }
 
   abbrev pub in_other : Header → State → Shape → State
-  in_other h k s = let u = narrowed_empty h.pipeline k in record u { env = bound_shapes h.binding nothings s u.env }
+  in_other h k s = let u = narrow false h.pipeline k in record u { env = bound_shapes h.binding nothings s u.env }
 
   abbrev pub after_choice : Control → Header → State → Checked → Checked → Shape → Option Known
   after_choice c h k body other s =
@@ -346,7 +373,7 @@ module _ (base : Base) where
 
   abbrev pub after_range : Header → State → (Option Known → Checked) → Checked → Visit → Option Known
   after_range h k body other v =
-      option_and_then (λ head. option_and_then (after_both (length k.env) head) (other k)) (kept_by (turned h v body) k.env)
+      option_and_then (λ head. option_and_then (after_both (length k.env) head) (other k)) (kept_by (turn_known h v body) k.env)
 
   abbrev pub after_control :
       Control → Option Known → Header → State → (Option Known → Checked) → Checked → Shape → Option Known

@@ -7,9 +7,9 @@ use Rattle.tmpl_syntax.specs.Tree.{Tree}
 use Rattle.tmpl_meaning.specs.Meaning.{Rules, ran}
 use Rattle.tmpl_meaning.specs.Pipeline.{without_null}
 use Rattle.tmpl_meaning.specs.declared.missing_key.MissingKey.{MissingKey}
-use Rattle.tmpl_schema.specs.Shape.{Shape, HasShape, stands_for}
+use Rattle.tmpl_shape.specs.Shape.{Shape, HasShape, stands_for}
 use Rattle.tmpl_schema.specs.Safe.{MayEnd}
-use Rattle.tmpl_schema.specs.computed.Shapes.{Base}
+use Rattle.tmpl_shape.specs.computed.Shapes.{Base}
 use Rattle.tmpl_schema.specs.computed.Check.{Callee, handed, absent, Table, is_safe}
 
 -- a template that is called is in the set, and is accepted for values of its shape; or it is not, and its call is a stop

@@ -3,7 +3,7 @@ use Rattle.std.proofs.lemmas.Grind.{common_steps}
 use borrow.Author.Rules.{get_or_read}
 use Rattle.tmpl_grammar.specs.declared.tree.Operand.TheFolds.{the_lemmas}
 use Rattle.tmpl_grammar.specs.View.{commands_in, operand_of, operands_in}
-use Rattle.tmpl_code.specs.computed.Held.{Placed, code_of, decided, layout_of}
+use Rattle.tmpl_code.specs.computed.Held.{Placed, code_of, after_decision, layout_of}
 use Rattle.tmpl_code.specs.Code.{Code, is_last, CommandAt, CommandsAt, JunctionAt, OperandAt}
 use Rattle.tmpl_code.proofs.BackwardLemmas.{junction_more, operands_from}
 use Rattle.tmpl_code.proofs.TailLemmas.{ends_both}
@@ -21,8 +21,8 @@ put_junction-loop-i-preserved t c =
     let others = subst (λ n. JunctionAt a.is_or (operands_in (drop n os)) a.piped a.above lay (code_of l.code) old) next l.invariant.put in
     let last = l.invariant.last ∙ ap (λ n. is_last (operands_in (drop n os)) a.piped) next in
     let mid : Code = code_of c.put_decide.new.code in
-    let put : mid ≡ decided l.last a.is_or a.piped (length old) (code_of l.code) =
-    c.in_ok-put_decide.ensures.code ∙ ap (λ n. decided l.last a.is_or a.piped n (code_of l.code)) l.invariant.end in
+    let put : mid ≡ after_decision l.last a.is_or a.piped (length old) (code_of l.code) =
+    c.in_ok-put_decide.ensures.code ∙ ap (λ n. after_decision l.last a.is_or a.piped n (code_of l.code)) l.invariant.end in
     record {
       within = omega arith;
       last = sym (ap (λ x. is_last x a.piped) (operands_from os (l.i - 1) c.index-operands-i.result (omega arith) c.index-operands-i.is));

@@ -1,5 +1,5 @@
 use Rattle.tmpl_syntax.specs.View.{set_view}
-use Rattle.tmpl_schema.specs.View.{schema_of}
+use Rattle.tmpl_shape.specs.View.{schema_of}
 use Rattle.tmpl_json_schema.proofs.SafeLemmas.{over-document}
 use Rattle.tmpl_json_schema.proofs.check.check_document.Goals as goal
 

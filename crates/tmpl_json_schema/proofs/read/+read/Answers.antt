@@ -2,8 +2,8 @@ use Rattle.std.proofs.Common.{◌≡◌, ◌∙◌, IfOk, Option, Some, ap, subs
 use Rattle.serde_json.specs.Data as json
 use Rattle.serde_json.specs.View.{members_view, view}
 use Rattle.serde_json.proofs.Views.{view-Object}
-use Rattle.tmpl_schema.specs.Shape.{Shape}
-use Rattle.tmpl_schema.specs.View.{shape_of}
+use Rattle.tmpl_shape.specs.Shape.{Shape}
+use Rattle.tmpl_shape.specs.View.{shape_of}
 use Rattle.tmpl_json_schema.proofs.FoldLemmas.{object-next}
 use Rattle.tmpl_json_schema.proofs.read.+read.Goals as goal
 

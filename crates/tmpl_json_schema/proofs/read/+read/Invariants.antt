@@ -1,8 +1,8 @@
 use Rattle.std.proofs.Common.{◌≡◌, ◌+◌, ◌*◌, drop}
 use Rattle.std.specs.Option.{option_map}
 use Rattle.serde_json.specs.View.{items_view, members_view, view}
-use Rattle.tmpl_schema.specs.Shape.{never}
-use Rattle.tmpl_schema.specs.View.{fields_of, shape_of}
+use Rattle.tmpl_shape.specs.Shape.{never}
+use Rattle.tmpl_shape.specs.View.{fields_of, shape_of}
 use Rattle.tmpl_json_schema.specs.computed.Reading.{choice_with, fold, fold_members, shape_by, with_property}
 use Rattle.tmpl_json_schema.proofs.read.+read.Given as goal
 

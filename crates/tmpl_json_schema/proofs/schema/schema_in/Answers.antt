@@ -1,6 +1,6 @@
 use Rattle.std.proofs.Common.{rules, ◌≡◌, All, Some, true}
 use Rattle.serde_json.specs.View.{view}
-use Rattle.tmpl_schema.specs.View.{defs_in, shape_of}
+use Rattle.tmpl_shape.specs.View.{defs_in, shape_of}
 use Rattle.tmpl_json_schema.specs.computed.Reading.{shape_by}
 use Rattle.tmpl_json_schema.specs.computed.Defined.{IsDefinition, are_defined}
 use Rattle.tmpl_json_schema.proofs.DocumentLemmas.{document-fits}

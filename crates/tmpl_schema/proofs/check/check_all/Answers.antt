@@ -2,10 +2,11 @@ use Rattle.std.proofs.Common.{rules, ◌≡◌, true, Option, Some}
 use Rattle.tmpl_syntax.specs.Set.{tree_named}
 use Rattle.tmpl_syntax.specs.Tree.{Tree}
 use Rattle.tmpl_syntax.specs.View.{set_view, tree_of}
-use Rattle.tmpl_schema.specs.View.{shape_of}
+use Rattle.tmpl_shape.specs.View.{shape_of}
 use Rattle.tmpl_schema.specs.computed.Check.{is_safe}
 use Rattle.tmpl_schema.specs.computed.Safe.{EachCallee}
-use Rattle.tmpl_schema.specs.computed.View.{base_of, entries_of, table_of}
+use Rattle.tmpl_shape.specs.computed.View.{base_of}
+use Rattle.tmpl_schema.specs.computed.View.{entries_of, table_of}
 use Rattle.tmpl_schema.proofs.AcceptLemmas.{all-accepted}
 use Rattle.tmpl_schema.proofs.check.check_all.Goals as goal
 

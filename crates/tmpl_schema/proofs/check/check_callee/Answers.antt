@@ -2,10 +2,11 @@ use Rattle.std.proofs.Common.{rules, ◌≡◌, true, Option, Some, ap, sym, sub
 use Rattle.tmpl_syntax.specs.Set.{tree_named}
 use Rattle.tmpl_syntax.specs.Tree.{Tree}
 use Rattle.tmpl_syntax.specs.View.{set_view, tree_of}
-use Rattle.tmpl_schema.specs.View.{shape_of}
+use Rattle.tmpl_shape.specs.View.{shape_of}
 use Rattle.tmpl_schema.specs.computed.Check.{Callee, is_safe}
 use Rattle.tmpl_schema.specs.computed.Safe.{IsCallee}
-use Rattle.tmpl_schema.specs.computed.View.{base_of, callee_of, table_of}
+use Rattle.tmpl_shape.specs.computed.View.{base_of}
+use Rattle.tmpl_schema.specs.computed.View.{callee_of, table_of}
 use Rattle.tmpl_schema.proofs.AcceptLemmas.{handed-callee}
 use Rattle.tmpl_schema.proofs.check.check_callee.Goals as goal
 

@@ -1,10 +1,10 @@
 use Rattle.std.proofs.Common.{ap, subst}
 use Rattle.std.proofs.lemmas.Result.{on_ok_weaker}
 use Rattle.tmpl_syntax.specs.View.{set_view}
-use Rattle.tmpl_schema.specs.Shape.{Shape}
-use Rattle.tmpl_schema.specs.View.{defs_in, schema_of}
+use Rattle.tmpl_shape.specs.Shape.{Shape}
+use Rattle.tmpl_shape.specs.View.{defs_in, schema_of}
 use Rattle.tmpl_schema.specs.computed.Safe.{NeverFailsIn}
-use Rattle.tmpl_schema.specs.computed.Shapes.{Base}
+use Rattle.tmpl_shape.specs.computed.Shapes.{Base}
 use Rattle.tmpl_schema.proofs.AcceptLemmas.{mode-accepted}
 use Rattle.tmpl_schema.proofs.check.check_mode.Goals as goal
 

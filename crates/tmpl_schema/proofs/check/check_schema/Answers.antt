@@ -2,7 +2,7 @@ use Rattle.std.proofs.Common.{Option, OnOk, sym, subst}
 use Rattle.tmpl_syntax.specs.View.{set_view}
 use Rattle.tmpl_meaning.specs.declared.missing_key.MissingKey.{MissingKey}
 use Rattle.tmpl_schema.specs.Safe.{NeverFails}
-use Rattle.tmpl_schema.specs.View.{schema_of}
+use Rattle.tmpl_shape.specs.View.{schema_of}
 use Rattle.tmpl_schema.proofs.AcceptLemmas.{each-mode}
 use Rattle.tmpl_schema.proofs.check.check_schema.Goals as goal
 

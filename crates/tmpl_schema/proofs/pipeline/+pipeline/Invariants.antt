@@ -15,8 +15,11 @@ decreases-function_shape l = 8 * weights (operands_in l.operands.now) + 3
 abbrev pub decreases-called_shape : goal.decreases-called_shape
 decreases-called_shape l = 8 * weights (operands_in l.operands.now) + 2
 
-abbrev pub decreases-argument_shapes : goal.decreases-argument_shapes
-decreases-argument_shapes l = 8 * weights (operands_in l.operands.now) + 1
+abbrev pub decreases-argument_kinds : goal.decreases-argument_kinds
+decreases-argument_kinds l = 8 * weights (operands_in l.operands.now) + 1
+
+abbrev pub decreases-put_arguments : goal.decreases-put_arguments
+decreases-put_arguments l = 8 * weights (operands_in l.operands.now)
 
 abbrev pub decreases-junction_shape : goal.decreases-junction_shape
 decreases-junction_shape l = 8 * weights (operands_in l.operands.now) + 1

@@ -1,16 +1,7 @@
 use Rattle.tmpl_run.proofs.machine.Machine.execute.Goals as goal
 
-pub returns-in-Put-clause-step : goal.returns-in-Put-clause-step
-returns-in-Put-clause-step g c = rw (c.in-Put.is, ← c.text.ensures) (c.put_text.ensures.step _ _ _)
-
-pub returns-in-ShowDot-clause-step : goal.returns-in-ShowDot-clause-step
-returns-in-ShowDot-clause-step g c = rw (c.in-ShowDot.is) (c.show_dot.ensures.step _ _ _)
-
 pub returns-in-ShowFields-clause-step : goal.returns-in-ShowFields-clause-step
 returns-in-ShowFields-clause-step g c = rw (c.in-ShowFields.is, ← c.names-in-ShowFields.ensures) (c.show_fields.ensures.step _ _ _)
-
-pub returns-in-ShowSlot-clause-step : goal.returns-in-ShowSlot-clause-step
-returns-in-ShowSlot-clause-step g c = rw (c.in-ShowSlot.is) (c.show_slot.ensures.step _ _ _)
 
 pub returns-in-ShowSlotField-clause-step : goal.returns-in-ShowSlotField-clause-step
 returns-in-ShowSlotField-clause-step g c = rw (c.in-ShowSlotField.is, ← c.name-in-ShowSlotField.ensures) (c.show_slot_field.ensures.step _ _ _)

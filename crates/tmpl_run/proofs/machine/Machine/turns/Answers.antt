@@ -1,7 +1,10 @@
-use Rattle.std.proofs.Common.{arith, ap, refl, sym, Ok, Err}
+use Rattle.std.proofs.Common.{arith, ap, refl, subst, sym, ◌∙◌, Ok, Err}
+use Rattle.std.specs.Prelude.{slice_get}
 use Rattle.std.proofs.lemmas.Option.{slice_get_within}
 use Rattle.tmpl_code.specs.View.{instructions_of}
 use Rattle.tmpl_code.specs.declared.instruction.Instruction.TheVariants as i
+use Rattle.tmpl_syntax.specs.View.{set_view}
+use Rattle.tmpl_run.specs.computed.Came.{IsStopped}
 use Rattle.tmpl_run.specs.computed.Plan.{plan_of}
 use Rattle.tmpl_run.specs.computed.Machines.{no_template, state_of}
 use Rattle.tmpl_run.specs.declared.flow.Flow.TheVariants as flow
@@ -65,14 +68,16 @@ returns-in-Ok-Over-clause-taken g c = grows-on _ _ _ c.loop-stop.invariant.taken
 
 pub error_for-requires : goal.error_for-requires
 error_for-requires g c = record {
-  number = slice_get_within _ c.loop-stop.self.template _ (going.runs c.loop-stop.invariant.stands).1;
+  number = slice_get_within _ _ _ (ap (slice_get (set_view c.args.program.now.set.value)) c.in-Err.ensures.template ∙ (going.runs c.loop-stop.invariant.stands).1);
   outline = c.requires.1.1.1.1.1;
 }
 
 pub returns-in-Err-clause-came : goal.returns-in-Err-clause-came
 returns-in-Err-clause-came g c = let did = c.in-Err.ensures in
     going.turned c.loop-stop.invariant.stands c.args.program.now.tables _ (ap (instructions_of c.args.program.now.tables) (sym c.as_slice-instructions.ensures.value)) (i.Spend 0)
-    c.execute.new.self _ _ (Err c.in-Err.stop) refl did.step did.given did.size did.plain c.error_for.result c.error_for.ensures
+    c.execute.new.self _ _ (Err c.in-Err.stop) refl did.step did.given did.size did.plain c.error_for.result
+    (subst (λ number. IsStopped (slice_get (set_view c.args.program.now.set.value) number) c.execute.new.self.line c.in-Err.stop c.error_for.result) did.template
+    c.error_for.ensures)
 
 pub returns-in-Err-clause-taken : goal.returns-in-Err-clause-taken
 returns-in-Err-clause-taken g c = grows-on _ _ _ c.loop-stop.invariant.taken c.in-Err.ensures.taken

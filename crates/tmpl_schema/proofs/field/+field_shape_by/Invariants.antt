@@ -1,4 +1,0 @@
-use Rattle.tmpl_schema.proofs.field.+field_shape_by.Given as goal
-
-abbrev pub decreases-field_shape_by : goal.decreases-field_shape_by
-decreases-field_shape_by l = l.steps

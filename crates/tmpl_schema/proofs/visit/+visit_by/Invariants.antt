@@ -1,4 +1,0 @@
-use Rattle.tmpl_schema.proofs.visit.+visit_by.Given as goal
-
-abbrev pub decreases-visit_by : goal.decreases-visit_by
-decreases-visit_by l = l.steps

@@ -1,0 +1,5 @@
+pub mod Calls
+pub mod Formats
+pub mod Means
+pub mod Shapes
+pub mod View

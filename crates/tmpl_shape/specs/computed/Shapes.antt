@@ -1,0 +1,307 @@
+-- What is computed with shapes: whether one is within another, what they become where a value is not empty, and the
+-- shapes of fields and elements.
+use Rattle.std.specs.Prelude.{ℕ, zero, suc, Bool, true, false, not, ◌&&◌, ◌||◌, List, [], ◌∷◌, Option, Some, None}
+use Rattle.std.specs.Prelude.{if◌then◌else◌}
+use Rattle.std.specs.Option.{option_map, option_map_or, option_and_then}
+use Rattle.std.specs.Str.{bytes_eq}
+use Rattle.tmpl_grammar.specs.Tree.{Binding, declare_pair}
+use Rattle.tmpl_meaning.specs.declared.missing_key.MissingKey.{MissingKey}
+use Rattle.tmpl_meaning.specs.declared.missing_key.MissingKey.TheVariants.{Zero, Error}
+use Rattle.tmpl_shape.specs.declared.kind.Kind.{Kind}
+use Rattle.tmpl_shape.specs.declared.kind.Kinds.{Kinds}
+use Rattle.tmpl_shape.specs.declared.kind.Kind.TheVariants.{Blank, Truth, Number, Text, Many}
+use Rattle.tmpl_shape.specs.Shape.{Shape, never, nothings, nulls, truths, numbers, texts, anything, list_of, record_of}
+use Rattle.tmpl_shape.specs.Shape.{either, named, Defs, Fields, no_field, others, field}
+
+-- the shapes of names; and before a question is given up, how many names are followed one into the other where shapes
+-- are compared, and how many steps are taken into a shape, as to an alternative or to what a name stands for
+pub record Base : Type 0 where
+  pub defs : Defs
+  pub names : ℕ
+  pub limit : ℕ
+
+-- the shapes of an index or key, and of an element
+pub record Visit : Type 0 where
+  pub key : Shape
+  pub element : Shape
+
+-- ---- fields
+
+-- the shape that a field of this name has if it is there
+abbrev pub shape_at : List ℕ → Fields → Option Shape
+shape_at name no_field = None
+shape_at name (others s) = Some s
+shape_at name (field n required s fs) = if bytes_eq name n then Some s else shape_at name fs
+
+-- a field of this name is always there
+abbrev pub is_required : List ℕ → Fields → Bool
+is_required name no_field = false
+is_required name (others s) = false
+is_required name (field n required s fs) = (bytes_eq name n && required) || is_required name fs
+
+-- the fields of the second that are always there are so in the first
+abbrev pub requires_all : Fields → Fields → Bool
+requires_all fs no_field = true
+requires_all fs (others s) = true
+requires_all fs (field n required s gs) = (not required || is_required n fs) && requires_all fs gs
+
+-- there is a field of this name
+abbrev pub is_listed : List ℕ → Fields → Bool
+is_listed name no_field = false
+is_listed name (others s) = false
+is_listed name (field n required s fs) = bytes_eq name n || is_listed name fs
+
+-- with a field of this name that is always there and has the shape
+abbrev pub with_field : List ℕ → Shape → Fields → Fields
+with_field n t no_field = no_field
+with_field n t (others s) = field n true t (others s)
+with_field n t (field name required s fs) =
+    if bytes_eq n name then field name true t fs else field name required s (with_field n t fs)
+
+-- ---- inclusion
+
+-- each field that is none of all these may be among the others
+abbrev pub others_within : (Shape → Bool) → Fields → Fields → Bool
+others_within p all no_field = false
+others_within p all (others t) = p t
+others_within p all (field n required t gs) = (is_listed n all || p t) && others_within p all gs
+
+-- each field of the second, the last of all these, may be among the third
+abbrev pub fields_within : (Shape → Shape → Bool) → Fields → Fields → Fields → Bool
+fields_within w all no_field gs = true
+fields_within w all (others s) gs = others_within (w s) all gs
+fields_within w all (field n required s fs) gs = option_map_or (w s) (shape_at n gs) false && fields_within w all fs gs
+
+abbrev pub record_within : (Shape → Shape → Bool) → Fields → Fields → Bool
+record_within w fs gs = fields_within w fs fs gs && requires_all fs gs
+
+-- .. of which those at the front are compared one by one as long as both have the same names
+abbrev pub fields_along : (Shape → Shape → Bool) → Fields → Fields → Bool
+fields_along w (field n r s fs) (field m q t gs) =
+    if bytes_eq n m then (not q || r) && (w s t && fields_along w fs gs)
+    else record_within w (field n r s fs) (field m q t gs)
+fields_along w fs gs = record_within w fs gs
+
+-- this name is one of the alternatives
+abbrev pub has_name : List ℕ → Shape → Bool
+has_name x (either a b) = has_name x a || has_name x b
+has_name x (named y) = bytes_eq x y
+has_name x s = false
+
+-- where as many are left, with one less
+abbrev pub if_more : (ℕ → Bool) → ℕ → Bool
+if_more f zero = false
+if_more f (suc k) = f k
+
+-- a shape of one kind of values is of this kind
+abbrev pub is_of_kind : Kind → Shape → Bool
+is_of_kind Blank nothings = true
+is_of_kind Blank nulls = true
+is_of_kind Truth truths = true
+is_of_kind Number numbers = true
+is_of_kind Text texts = true
+is_of_kind Many (list_of s) = true
+is_of_kind Many (record_of fs) = true
+is_of_kind k s = false
+
+-- each value of a shape of one kind has another of one kind
+abbrev pub plain_within : (Shape → Shape → Bool) → Shape → Shape → Bool
+plain_within w nothings nothings = true
+plain_within w nulls nulls = true
+plain_within w truths truths = true
+plain_within w numbers numbers = true
+plain_within w texts texts = true
+plain_within w (list_of s) (list_of t) = w s t
+plain_within w (record_of fs) (record_of gs) = fields_along w fs gs
+plain_within w s t = false
+
+-- what stands for a field that is absent, if that is no fault
+abbrev pub absent_shape : MissingKey → Option Shape
+absent_shape Error = None
+absent_shape Zero = Some nulls
+absent_shape m = Some nothings
+
+abbrev pub visit : Shape → Shape → Option Visit
+visit k e = Some (record { key = k; element = e })
+
+abbrev pub number_visit : Binding → Option Visit
+number_visit (declare_pair key name) = None
+number_visit c = visit numbers numbers
+
+module _ (base : Base) where
+  -- some alternative is such, or it has each value, as far as as many steps show
+  abbrev pub some_part : ℕ → (Shape → Bool) → Shape → Bool
+  some_part zero p t = false
+  some_part (suc n) p (either s t) = some_part n p s || some_part n p t
+  some_part (suc n) p (named x) = option_map_or (some_part n p) (base.defs x) false
+  some_part (suc n) p anything = true
+  some_part (suc n) p t = p t
+
+  -- each value of the first has the second, as far as is seen where as many names are followed, and as many steps taken
+  abbrev pub within_by : ℕ → ℕ → Shape → Shape → Bool
+  within_by k zero s t = false
+  within_by k (suc n) never t = true
+  within_by k (suc n) (either s u) t = within_by k n s t && within_by k n u t
+  within_by k (suc n) (named x) t =
+      has_name x t || if_more (λ i. option_map_or (λ s. within_by i n s t) (base.defs x) false) k
+  within_by k (suc n) s t = some_part 64 (plain_within (within_by k n) s) t
+
+  unfoldable pub within : Shape → Shape → Bool
+  within s t = within_by base.names base.limit s t
+
+  -- ---- alternatives
+
+  unfoldable pub joined : Shape → Shape → Shape
+  joined s t = if within s t then t else if within t s then s else either s t
+
+  -- two parts where there are both
+  abbrev pub both : Option Shape → Option Shape → Option Shape
+  both (Some s) (Some t) = Some (joined s t)
+  both s t = None
+
+  -- it may have values of the kind, by whether what is in it may
+  abbrev pub kind_step : (Shape → Bool) → Kind → Shape → Bool
+  kind_step p k never = false
+  kind_step p k anything = true
+  kind_step p k (either s t) = p s || p t
+  kind_step p k (named x) = option_map_or p (base.defs x) true
+  kind_step p k s = is_of_kind k s
+
+  abbrev pub may_be : ℕ → Kind → Shape → Bool
+  may_be zero k s = true
+  may_be (suc n) k s = kind_step (may_be n k) k s
+
+  unfoldable pub has_kind : Kind → Shape → Bool
+  has_kind k s = may_be base.limit k s
+
+  -- the kinds of which it may have values
+  abbrev pub kinds_of : Shape → Kinds
+  kinds_of s = record {
+    blank = has_kind Blank s;
+    truth = has_kind Truth s;
+    number = has_kind Number s;
+    text = has_kind Text s;
+    many = has_kind Many s;
+  }
+
+  -- of what a command gives: null is nothing
+  abbrev pub gone_step : (Shape → Shape) → Shape → Shape
+  gone_step f nulls = nothings
+  gone_step f (either s t) = joined (f s) (f t)
+  gone_step f (named x) =
+      if has_kind Blank (named x) then option_map_or f (base.defs x) (either (named x) nothings) else named x
+  gone_step f s = s
+
+  abbrev pub null_gone_by : ℕ → Shape → Shape
+  null_gone_by zero s = either s nothings
+  null_gone_by (suc n) s = gone_step (null_gone_by n) s
+
+  abbrev pub null_gone : Shape → Shape
+  null_gone s = null_gone_by base.limit s
+
+  -- of the maps of which the field of this name becomes such
+  abbrev pub refined_record : (List (List ℕ) → Shape → Shape) → List (List ℕ) → Fields → Shape
+  refined_record f [] fs = record_of fs
+  refined_record f (name ∷ ns) fs =
+      option_map_or (λ s. record_of (with_field name (f ns s) fs)) (shape_at name fs) (record_of fs)
+
+  -- of the values of which the field of the field of .. is there and not empty
+  abbrev pub refined_step : (List (List ℕ) → Shape → Shape) → List (List ℕ) → Shape → Shape
+  refined_step f ns nothings = never
+  refined_step f ns nulls = never
+  refined_step f ns (either s t) = joined (f ns s) (f ns t)
+  refined_step f ns (named x) = option_map_or (f ns) (base.defs x) (named x)
+  refined_step f ns (record_of fs) = refined_record f ns fs
+  refined_step f ns s = s
+
+  abbrev pub refined_by : ℕ → List (List ℕ) → Shape → Shape
+  refined_by zero ns s = s
+  refined_by (suc n) ns s = refined_step (refined_by n) ns s
+
+  abbrev pub refine : List (List ℕ) → Shape → Shape
+  refine ns s = refined_by base.limit ns s
+
+  -- of the values that are not empty
+  abbrev pub fill : Shape → Shape
+  fill s = refine [] s
+
+  -- ---- fields
+
+  abbrev pub of_field : MissingKey → Bool → Shape → Option Shape
+  of_field m true s = Some s
+  of_field m false s = both (Some s) (absent_shape m)
+
+  abbrev pub entry_shape : MissingKey → List ℕ → Fields → Option Shape
+  entry_shape m n no_field = absent_shape m
+  entry_shape m n (others s) = of_field m false s
+  entry_shape m n (field name required s fs) = if bytes_eq n name then of_field m required s else entry_shape m n fs
+
+  -- the shape of a field, if that is never a fault
+  abbrev pub field_step : (Shape → Option Shape) → MissingKey → List ℕ → Shape → Option Shape
+  field_step f m name never = Some never
+  field_step f m name nothings = option_map (λ s. nothings) (absent_shape m)
+  field_step f m name (record_of fs) = entry_shape m name fs
+  field_step f m name (either s t) = both (f s) (f t)
+  field_step f m name (named x) = option_and_then f (base.defs x)
+  field_step f m name s = None
+
+  abbrev pub field_shape_by : ℕ → MissingKey → List ℕ → Shape → Option Shape
+  field_shape_by zero m name s = None
+  field_shape_by (suc n) m name s = field_step (field_shape_by n m name) m name s
+
+  abbrev pub field_shape : MissingKey → List ℕ → Shape → Option Shape
+  field_shape m name s = field_shape_by base.limit m name s
+
+  abbrev pub chain_shape : MissingKey → List (List ℕ) → Shape → Option Shape
+  chain_shape m [] s = Some s
+  chain_shape m (n ∷ ns) s = option_and_then (chain_shape m ns) (field_shape m n s)
+
+  -- any of the fields
+  abbrev pub any_field : Fields → Shape
+  any_field no_field = never
+  any_field (others s) = s
+  any_field (field n required s fs) = joined s (any_field fs)
+
+  -- what `index` gives for a key that is known, or for any, if it gives something of each value: the entry, or null
+  abbrev pub keyed_shape : Option (List ℕ) → Fields → Option Shape
+  keyed_shape (Some name) fs = entry_shape Zero name fs
+  keyed_shape None fs = Some (joined (any_field fs) nulls)
+
+  abbrev pub index_step : (Shape → Option Shape) → Option (List ℕ) → Shape → Option Shape
+  index_step f key never = Some never
+  index_step f key (record_of fs) = keyed_shape key fs
+  index_step f key (either s t) = both (f s) (f t)
+  index_step f key (named x) = option_and_then f (base.defs x)
+  index_step f key s = None
+
+  abbrev pub index_shape_by : ℕ → Option (List ℕ) → Shape → Option Shape
+  index_shape_by zero key s = None
+  index_shape_by (suc n) key s = index_step (index_shape_by n key) key s
+
+  abbrev pub index_shape : Option (List ℕ) → Shape → Option Shape
+  index_shape key s = index_shape_by base.limit key s
+
+  -- ---- elements
+
+  abbrev pub both_visits : Option Visit → Option Visit → Option Visit
+  both_visits (Some v) (Some w) = visit (joined v.key w.key) (joined v.element w.element)
+  both_visits v w = None
+
+  -- .. that a range visits, if it may range over each value of the shape
+  abbrev pub visit_step : (Shape → Option Visit) → Binding → Shape → Option Visit
+  visit_step f c never = visit never never
+  visit_step f c nothings = visit never never
+  visit_step f c nulls = visit never never
+  visit_step f c numbers = number_visit c
+  visit_step f c (list_of s) = visit numbers s
+  visit_step f c (record_of fs) = visit texts (any_field fs)
+  visit_step f c (either s t) = both_visits (f s) (f t)
+  visit_step f c (named x) = option_and_then f (base.defs x)
+  visit_step f c s = None
+
+  abbrev pub visit_by : ℕ → Binding → Shape → Option Visit
+  visit_by zero c s = None
+  visit_by (suc n) c s = visit_step (visit_by n c) c s
+
+  abbrev pub visit_of : Binding → Shape → Option Visit
+  visit_of c s = visit_by base.limit c s

@@ -1,0 +1,24 @@
+-- What the program's values that only the check has stand for.
+use Rattle.std.specs.Prelude.{ℕ, Bool, false, ◌||◌, List, Option}
+use Rattle.std.specs.Option.{option_map, option_map_or}
+use Rattle.std.specs.Borrow.{Bor}
+use Rattle.tmpl_shape.specs.Shape as spec
+use Rattle.tmpl_shape.specs.View.{defs_in, shape_of}
+use Rattle.tmpl_shape.specs.computed.Shapes as computed
+use Rattle.tmpl_shape.specs.computed.Shapes.{has_name, if_more, within_by}
+use Rattle.tmpl_shape.specs.declared.shape.Base as held_base
+use Rattle.tmpl_shape.specs.declared.shape.Shape as held
+use Rattle.tmpl_shape.specs.declared.visit.Visit as held_visit
+
+abbrev pub base_of : held_base.Base → computed.Base
+base_of base = record { defs = defs_in base.definitions.now; names = base.names; limit = base.limit }
+
+abbrev pub shape_seen : Option (Bor held.Shape) → Option spec.Shape
+shape_seen shape = option_map (λ s. shape_of s.now) shape
+
+abbrev pub visit_seen : held_visit.Visit → computed.Visit
+visit_seen v = record { key = shape_of v.key; element = shape_of v.element }
+
+-- a name is one of the alternatives, or what it stands for is within the shape, where one more name is followed
+abbrev pub name_within : computed.Base → ℕ → ℕ → List ℕ → spec.Shape → Bool
+name_within base k n x t = has_name x t || if_more (λ i. option_map_or (λ s. within_by base i n s t) (base.defs x) false) k

@@ -1,0 +1,63 @@
+//! Why what is asked of values of a shape may fail.
+use crate::shape::Shape;
+use std::alloc::{AllocError, AllocFailed};
+use tmpl_funcs::Func;
+use tmpl_values::Bytes;
+
+/// What may come at a place where it is a fault, or what is not followed there.
+#[derive(Drop)]
+pub enum Cause {
+    /// A field of this name may be absent, as far as the schema says.
+    Absent(Bytes),
+    /// A field of this name is asked for, and the value may be of this kind, which has no fields.
+    NoFields(Bytes, &'static str),
+    /// The function may get arguments that it refuses.
+    Arguments(Func),
+    /// Calls of the function are not followed.
+    NotFollowed(Func),
+    /// The value that is ranged over may be of this kind.
+    Range(&'static str),
+    /// There is no template of this name.
+    NoTemplate(Bytes),
+    /// What variables hold after the parts of an action, or after the turns of a range, is not followed.
+    Variables,
+    /// The form of a command is a fault, or what it gives is not followed.
+    Command,
+}
+
+/// Why no shape is given.
+#[derive(Drop)]
+pub enum Trouble {
+    /// Want of memory.
+    OutOfMemory,
+    /// A fault may come, for this cause.
+    MayFail(Cause),
+}
+
+impl From<AllocError> for Trouble {
+    fn from(_: AllocError) -> Trouble {
+        Trouble::OutOfMemory
+    }
+}
+
+impl<T: Drop> From<AllocFailed<T>> for Trouble {
+    fn from(_: AllocFailed<T>) -> Trouble {
+        Trouble::OutOfMemory
+    }
+}
+
+/// The kind of the values of a shape.
+pub(crate) fn kind_word(shape: &Shape) -> &'static str {
+    match shape {
+        Shape::Never => "no value",
+        Shape::Nothings => "nothing",
+        Shape::Nulls => "null",
+        Shape::Truths => "a truth value",
+        Shape::Numbers => "a number",
+        Shape::Texts => "a text",
+        Shape::Anything => "any value",
+        Shape::List(_) => "a list",
+        Shape::Record(_) => "a map",
+        Shape::Either(..) | Shape::Named(_) => "more than is followed",
+    }
+}

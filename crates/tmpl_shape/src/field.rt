@@ -1,0 +1,196 @@
+//! The shapes of fields.
+#![tactic(auto, using(crate::proofs::ViewLemmas::parts, crate::proofs::StepLemmas::steps))]
+
+ghost use Rattle.std.specs.Prelude.{◌≡◌, IfOk, Some};
+ghost use Rattle.std.specs.Option.{option_map};
+ghost use Rattle.tmpl_shape.specs.View.{fields_of, shape_of};
+ghost use Rattle.tmpl_shape.specs.computed.Shapes.{absent_shape, any_field, chain_shape, entry_shape, field_shape_by, index_shape, index_shape_by, keyed_shape, of_field};
+ghost use Rattle.tmpl_shape.specs.computed.View.{base_of};
+
+use crate::cause::{Cause, Trouble, kind_word};
+use crate::inclusion::find;
+use crate::join::joined;
+use crate::shape::{Base, Fields, Shape, copy_name, copy_shape};
+use std::alloc::{AllocError, Global};
+use tmpl_funcs::Func;
+use tmpl_meaning::MissingKey;
+use tmpl_values::Bytes;
+
+/// What stands for a field of this name that is absent, if that is no fault.
+fn absent_shape(alloc: Global, mode: MissingKey, name: &[u8]) -> Result<Shape, Trouble>
+    ensures { IfOk result (λ s. absent_shape mode ≡ Some (shape_of s)) }
+{
+    match mode {
+        MissingKey::Default | MissingKey::Invalid => Ok(Shape::Nothings),
+        MissingKey::Zero => Ok(Shape::Nulls),
+        MissingKey::Error => Err(Trouble::MayFail(Cause::Absent(copy_name(alloc, name)?))),
+    }
+}
+
+/// That a field of this name is asked of values of this shape, which have none.
+fn no_fields(alloc: Global, name: &[u8], shape: &Shape) -> Trouble {
+    match copy_name(alloc, name) {
+        Ok(name) => Trouble::MayFail(Cause::NoFields(name, kind_word(shape))),
+        Err(_) => Trouble::OutOfMemory,
+    }
+}
+
+/// A field of this shape.
+fn of_field(
+    base: &Base<'_>,
+    mode: MissingKey,
+    name: &[u8],
+    required: bool,
+    shape: &Shape,
+) -> Result<Shape, Trouble>
+    ensures { IfOk result (λ s. of_field (base_of base.now) mode required (shape_of shape.now) ≡ Some (shape_of s)) }
+{
+    let shape = copy_shape(base.alloc, shape)?;
+    if required {
+        return Ok(shape);
+    }
+    Ok(joined(base, shape, absent_shape(base.alloc, mode, name)?)?)
+}
+
+/// The field of a name of a map of these fields.
+fn entry_shape(
+    base: &Base<'_>,
+    mode: MissingKey,
+    name: &[u8],
+    fields: &Fields,
+) -> Result<Shape, Trouble>
+    ensures { IfOk result (λ s. entry_shape (base_of base.now) mode name.now (fields_of fields.now)
+        ≡ Some (shape_of s)) }
+{
+    match fields {
+        Fields::Closed => absent_shape(base.alloc, mode, name),
+        Fields::Others(shape) => of_field(base, mode, name, false, shape),
+        Fields::Field(first) => {
+            if name == first.name.as_slice() {
+                of_field(base, mode, name, first.required, &first.shape)
+            } else {
+                entry_shape(base, mode, name, &first.rest)
+            }
+        }
+    }
+}
+
+/// The field of a name, if that is never a fault.
+fn field_shape_by(
+    base: &Base<'_>,
+    steps: usize,
+    mode: MissingKey,
+    name: &[u8],
+    shape: &Shape,
+) -> Result<Shape, Trouble>
+    ensures { IfOk result (λ s. field_shape_by (base_of base.now) steps mode name.now (shape_of shape.now)
+        ≡ Some (shape_of s)) }
+{
+    if steps == 0 {
+        return Err(Trouble::MayFail(Cause::Command));
+    }
+    let fewer = steps - 1;
+    match shape {
+        Shape::Never => Ok(Shape::Never),
+        Shape::Nothings => match mode {
+            MissingKey::Default | MissingKey::Invalid | MissingKey::Zero => Ok(Shape::Nothings),
+            MissingKey::Error => Err(no_fields(base.alloc, name, shape)),
+        },
+        Shape::Record(fields) => entry_shape(base, mode, name, fields),
+        Shape::Either(one, other) => {
+            let one = field_shape_by(base, fewer, mode, name, one)?;
+            let other = field_shape_by(base, fewer, mode, name, other)?;
+            Ok(joined(base, one, other)?)
+        }
+        Shape::Named(defined) => match find(base.definitions, defined.as_slice()) {
+            Some(shape) => field_shape_by(base, fewer, mode, name, shape),
+            None => Err(Trouble::MayFail(Cause::Command)),
+        },
+        _ => Err(no_fields(base.alloc, name, shape)),
+    }
+}
+
+/// The field of the field of .. of a shape, if that is never a fault.
+pub fn chain_shape(
+    base: &Base<'_>,
+    mode: MissingKey,
+    names: &[Bytes],
+    shape: &Shape,
+) -> Result<Shape, Trouble>
+    ensures { IfOk result (λ s. chain_shape (base_of base.now) mode names.now (shape_of shape.now)
+        ≡ Some (shape_of s)) }
+{
+    match names {
+        [] => Ok(copy_shape(base.alloc, shape)?),
+        [first, rest @ ..] => {
+            let shape = field_shape_by(base, base.limit, mode, first.as_slice(), shape)?;
+            chain_shape(base, mode, rest, &shape)
+        }
+    }
+}
+
+/// Any of the fields.
+pub(crate) fn any_field(base: &Base<'_>, fields: &Fields) -> Result<Shape, AllocError>
+    ensures { IfOk result (λ s. shape_of s ≡ any_field (base_of base.now) (fields_of fields.now)) }
+{
+    match fields {
+        Fields::Closed => Ok(Shape::Never),
+        Fields::Others(shape) => copy_shape(base.alloc, shape),
+        Fields::Field(first) => {
+            let shape = copy_shape(base.alloc, &first.shape)?;
+            joined(base, shape, any_field(base, &first.rest)?)
+        }
+    }
+}
+
+/// What `index` gives of a map of these fields, for a key that is known or for any: the entry, or null.
+fn keyed_shape(base: &Base<'_>, key: Option<&[u8]>, fields: &Fields) -> Result<Shape, Trouble>
+    ensures { IfOk result (λ s. keyed_shape (base_of base.now) (option_map (λ k. k.now) key.entry) (fields_of fields.now)
+        ≡ Some (shape_of s)) }
+{
+    match key {
+        Some(name) => entry_shape(base, MissingKey::Zero, name, fields),
+        None => {
+            let any = any_field(base, fields)?;
+            Ok(joined(base, any, Shape::Nulls)?)
+        }
+    }
+}
+
+/// What `index` gives, if it gives something of each value.
+fn index_shape_by(
+    base: &Base<'_>,
+    steps: usize,
+    key: Option<&[u8]>,
+    shape: &Shape,
+) -> Result<Shape, Trouble>
+    ensures { IfOk result (λ s. index_shape_by (base_of base.now) steps (option_map (λ k. k.now) key.entry)
+        (shape_of shape.now) ≡ Some (shape_of s)) }
+{
+    if steps == 0 {
+        return Err(Trouble::MayFail(Cause::Command));
+    }
+    let fewer = steps - 1;
+    match shape {
+        Shape::Never => Ok(Shape::Never),
+        Shape::Record(fields) => keyed_shape(base, key, fields),
+        Shape::Either(one, other) => {
+            let one = index_shape_by(base, fewer, key, one)?;
+            let other = index_shape_by(base, fewer, key, other)?;
+            Ok(joined(base, one, other)?)
+        }
+        Shape::Named(defined) => match find(base.definitions, defined.as_slice()) {
+            Some(shape) => index_shape_by(base, fewer, key, shape),
+            None => Err(Trouble::MayFail(Cause::Command)),
+        },
+        _ => Err(Trouble::MayFail(Cause::Arguments(Func::Index))),
+    }
+}
+
+/// What `index` gives for a key that is known or for any, if it gives something of each value, as far as is looked.
+pub fn index_shape(base: &Base<'_>, key: Option<&[u8]>, shape: &Shape) -> Result<Shape, Trouble>
+    ensures { IfOk result (λ s. index_shape (base_of base.now) (option_map (λ k. k.now) key.entry) (shape_of shape.now)
+        ≡ Some (shape_of s)) }
+{
+    index_shape_by(base, base.limit, key, shape)
+}

@@ -1,0 +1,164 @@
+//! What shapes become: joined, without null, and where a value is not empty.
+#![tactic(auto, using(crate::proofs::ViewLemmas::parts, crate::proofs::StepLemmas::steps, crate::proofs::LeafLemmas::leaves))]
+
+ghost use Rattle.std.specs.Prelude.{◌≡◌, IfOk};
+ghost use Rattle.tmpl_shape.specs.View.{fields_of, shape_of};
+ghost use Rattle.tmpl_shape.specs.computed.Shapes.{fill, joined, null_gone, null_gone_by, refine, refined_by};
+ghost use Rattle.tmpl_shape.specs.computed.Shapes.{refined_record, with_field};
+ghost use Rattle.tmpl_shape.specs.computed.View.{base_of};
+
+use crate::inclusion::{find, shape_at, within};
+use crate::kind::{Kind, has_kind};
+use crate::shape::{Base, Fields, Shape, copy_fields, copy_shape, either, put_field};
+use std::alloc::{AllocError, Global};
+use tmpl_values::Bytes;
+
+/// The values of both.
+#[tactic(auto, unfolding(crate::specs::computed::Shapes::joined))]
+pub fn joined(base: &Base<'_>, one: Shape, other: Shape) -> Result<Shape, AllocError>
+    ensures { IfOk result (λ s. shape_of s ≡ joined (base_of base.now) (shape_of one) (shape_of other)) }
+{
+    if within(base, &one, &other) {
+        return Ok(other);
+    }
+    if within(base, &other, &one) {
+        return Ok(one);
+    }
+    either(base.alloc, one, other)
+}
+
+/// With nothing in place of null.
+fn null_gone_by(base: &Base<'_>, steps: usize, shape: &Shape) -> Result<Shape, AllocError>
+    ensures { IfOk result (λ s. shape_of s ≡ null_gone_by (base_of base.now) steps (shape_of shape.now)) }
+{
+    if steps == 0 {
+        return either(base.alloc, copy_shape(base.alloc, shape)?, Shape::Nothings);
+    }
+    let fewer = steps - 1;
+    match shape {
+        Shape::Nulls => Ok(Shape::Nothings),
+        Shape::Either(one, other) => {
+            joined(
+                base,
+                null_gone_by(base, fewer, one)?,
+                null_gone_by(base, fewer, other)?,
+            )
+        }
+        Shape::Named(name) => {
+            if !has_kind(base, Kind::Blank, shape) {
+                return copy_shape(base.alloc, shape);
+            }
+            match find(base.definitions, name.as_slice()) {
+                Some(defined) => null_gone_by(base, fewer, defined),
+                None => either(base.alloc, copy_shape(base.alloc, shape)?, Shape::Nothings),
+            }
+        }
+        _ => copy_shape(base.alloc, shape),
+    }
+}
+
+/// What a command gives: nothing in place of null.
+pub fn null_gone(base: &Base<'_>, shape: &Shape) -> Result<Shape, AllocError>
+    ensures { IfOk result (λ s. shape_of s ≡ null_gone (base_of base.now) (shape_of shape.now)) }
+{
+    null_gone_by(base, base.limit, shape)
+}
+
+/// The fields with one that is always there and has the shape.
+fn with_field(
+    alloc: Global,
+    name: &[u8],
+    shape: Shape,
+    fields: &Fields,
+) -> Result<Fields, AllocError>
+    ensures { IfOk result (λ fs. fields_of fs ≡ with_field name.now (shape_of shape) (fields_of fields.now)) }
+{
+    match fields {
+        Fields::Closed => Ok(Fields::Closed),
+        Fields::Others(_) => put_field(alloc, name, true, shape, copy_fields(alloc, fields)?),
+        Fields::Field(first) => {
+            if name == first.name.as_slice() {
+                put_field(
+                    alloc,
+                    first.name.as_slice(),
+                    true,
+                    shape,
+                    copy_fields(alloc, &first.rest)?,
+                )
+            } else {
+                let kept = copy_shape(alloc, &first.shape)?;
+                let rest = with_field(alloc, name, shape, &first.rest)?;
+                put_field(alloc, first.name.as_slice(), first.required, kept, rest)
+            }
+        }
+    }
+}
+
+/// Of the values of which the field of the field of .. is there and not empty.
+#[cycle(refined)]
+fn refined_by(
+    base: &Base<'_>,
+    steps: usize,
+    names: &[Bytes],
+    shape: &Shape,
+) -> Result<Shape, AllocError>
+    ensures { IfOk result (λ s. shape_of s ≡ refined_by (base_of base.now) steps names.now (shape_of shape.now)) }
+{
+    if steps == 0 {
+        return copy_shape(base.alloc, shape);
+    }
+    let fewer = steps - 1;
+    match shape {
+        Shape::Nothings | Shape::Nulls => Ok(Shape::Never),
+        Shape::Either(one, other) => {
+            joined(
+                base,
+                refined_by(base, fewer, names, one)?,
+                refined_by(base, fewer, names, other)?,
+            )
+        }
+        Shape::Named(name) => match find(base.definitions, name.as_slice()) {
+            Some(defined) => refined_by(base, fewer, names, defined),
+            None => copy_shape(base.alloc, shape),
+        },
+        Shape::Record(fields) => refined_record(base, fewer, names, fields),
+        _ => copy_shape(base.alloc, shape),
+    }
+}
+
+/// Of maps of these fields.
+#[cycle(refined)]
+fn refined_record(
+    base: &Base<'_>,
+    steps: usize,
+    names: &[Bytes],
+    fields: &Fields,
+) -> Result<Shape, AllocError>
+    ensures { IfOk result (λ s. shape_of s
+        ≡ refined_record (base_of base.now) (refined_by (base_of base.now) steps) names.now (fields_of fields.now)) }
+{
+    match names {
+        [] => Ok(Shape::Record(copy_fields(base.alloc, fields)?)),
+        [first, rest @ ..] => match shape_at(first.as_slice(), fields) {
+            Some(shape) => {
+                let shape = refined_by(base, steps, rest, shape)?;
+                Ok(Shape::Record(with_field(base.alloc, first.as_slice(), shape, fields)?))
+            }
+            None => Ok(Shape::Record(copy_fields(base.alloc, fields)?)),
+        },
+    }
+}
+
+/// Of the values of which the field of the field of .. is there and not empty, as far as is looked.
+pub fn refined(base: &Base<'_>, names: &[Bytes], shape: &Shape) -> Result<Shape, AllocError>
+    ensures { IfOk result (λ s. shape_of s ≡ refine (base_of base.now) names.now (shape_of shape.now)) }
+{
+    refined_by(base, base.limit, names, shape)
+}
+
+/// Of the values that are not empty.
+pub fn filled(base: &Base<'_>, shape: &Shape) -> Result<Shape, AllocError>
+    ensures { IfOk result (λ s. shape_of s ≡ fill (base_of base.now) (shape_of shape.now)) }
+{
+    refined(base, &[], shape)
+}

@@ -1,0 +1,24 @@
+//! Shapes: what may be known of a value before a run, and what is computed with that.
+#![tactic(auto)]
+
+mod call;
+mod cause;
+mod field;
+mod format;
+mod inclusion;
+mod join;
+mod kind;
+mod shape;
+mod visit;
+
+pub use call::call_shape;
+pub use cause::{Cause, Trouble};
+pub use field::{chain_shape, index_shape};
+pub use format::printf_shape;
+pub use inclusion::within;
+pub use join::{filled, joined, null_gone, refined};
+pub use kind::{Kind, Kinds, has_kind, kinds_of};
+pub use shape::{
+    Base, Definition, Field, Fields, Schema, Shape, copy_name, copy_shape, either, put_field,
+};
+pub use visit::{Visit, visit_of};
