@@ -77,7 +77,7 @@ impl LentPiece<'_> {
         self.put_any_number(sink, number)
     }
 
-    /// Puts a number in base 10, whatever the room. It is no part of what puts most numbers, whose frame it would widen.
+    /// Puts a number in base 10, whatever the room; apart, so that what puts most numbers takes a small frame.
     #[inline(never)]
     fn put_any_number<S: Sink>(&mut self, sink: &mut S, number: i64) -> Result<(), SinkFault>
         requires { (S.so_far sink.old).failures < 2 ^ 64 - 1 }
