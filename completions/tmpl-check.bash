@@ -21,7 +21,7 @@ _tmpl_check() {
     --format) mapfile -t COMPREPLY < <(compgen -W "text json sarif" -- "$word"); return ;;
     esac
     if [[ $word == -* ]]; then
-        mapfile -t COMPREPLY < <(compgen -W "--data --name --schema --missingkey --stop --format --help" -- "$word")
+        mapfile -t COMPREPLY < <(compgen -W "--data --name --schema --missingkey --stop --format --infer --help" -- "$word")
     else
         compopt -o filenames 2>/dev/null
         mapfile -t COMPREPLY < <(compgen -f -- "$word")

@@ -5,4 +5,5 @@ complete -c tmpl-check -l schema -r -F -d 'says where the template may fail over
 complete -c tmpl-check -l missingkey -x -a 'default invalid zero error' -d 'with --schema'
 complete -c tmpl-check -l stop -x -d 'with --schema'
 complete -c tmpl-check -l format -x -a 'text json sarif' -d 'puts it out in this form'
+complete -c tmpl-check -l infer -d 'prints a JSON Schema of the files'
 complete -c tmpl-check -s h -l help -d 'the words and what they do'

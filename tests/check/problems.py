@@ -90,9 +90,9 @@ OBJECTS = {
     "3.19 toolComponent": ({"name"}, {"rules"}),
     "3.49 reportingDescriptor": ({"id"}, {"shortDescription"}),
     "3.12 multiformatMessageString": ({"text"}, set()),
-    "3.27 result": ({"message"}, {"ruleId", "level", "locations"}),
+    "3.27 result": ({"message"}, {"ruleId", "level", "locations", "relatedLocations"}),
     "3.11 message": ({"text"}, set()),
-    "3.28 location": (set(), {"physicalLocation"}),
+    "3.28 location": (set(), {"physicalLocation", "message"}),
     "3.29 physicalLocation": ({"artifactLocation"}, {"region"}),
     "3.4 artifactLocation": ({"uri"}, set()),
     "3.30 region": ({"startLine", "startColumn"}, set()),
@@ -137,7 +137,9 @@ def sarif_faults(log):
                 yield f"3.27.5 ruleId: {result['ruleId']!r}"
             if result["level"] not in ("none", "note", "warning", "error"):
                 yield f"3.27.10 level: {result['level']!r}"
-            for place in result["locations"]:
+            for place in result.get("relatedLocations", []):
+                yield from text("3.11 message", place["message"])
+            for place in result["locations"] + result.get("relatedLocations", []):
                 yield from shaped("3.28 location", place)
                 yield from shaped("3.29 physicalLocation", place["physicalLocation"])
                 file = place["physicalLocation"]["artifactLocation"]
@@ -163,6 +165,25 @@ def uris(folder, failures):
         told = result["locations"][0]["physicalLocation"]["artifactLocation"]["uri"]
         hold(name, "URI", uri, told, failures)
         hold(name, "name of the URI", name, urllib.parse.unquote(told.removeprefix("file://")), failures)
+
+
+def notes(folder, failures):
+    """A note is a line after that of its error, a member in JSON and a related location in SARIF."""
+    write(folder, "m", "{{.a}}")
+    write(folder, "s", '{"type": "object", "properties": {"a": true}}')
+    said = 'may fail: .a may be absent: no "required" at s:1'
+    note = 'fails for {}: no entry for key "a"'
+    given = ["--schema", "s", "--missingkey", "error"]
+    out = run(CHECK, [*given, "m"], folder)[1].decode()
+    hold("note", "lines", f"m:1:1: error: {said}\nm:1:1: note: {note}\n", out, failures)
+    (told,) = json.loads(run(CHECK, [*given, "--format", "json", "m"], folder)[1])["problems"]
+    hold("note", "JSON", (said, note), (told["text"], told["note"]), failures)
+    log = json.loads(run(CHECK, [*given, "--format", "sarif", "m"], folder)[1])
+    hold("note", "faults of SARIF", [], list(sarif_faults(log)), failures)
+    (result,) = log["runs"][0]["results"]
+    (related,) = result["relatedLocations"]
+    hold("note", "SARIF", (said, note), (result["message"]["text"], related["message"]["text"]), failures)
+    hold("note", "its place", result["locations"][0]["physicalLocation"], related["physicalLocation"], failures)
 
 
 def version(folder, failures):
@@ -224,19 +245,27 @@ def words(folder, failures):
     hold("a template of another file", "lines", b"", run(CHECK, ["over", "n"], folder)[1], failures)
     hold("a name that is not there", "lines", b'over:1:1: warning: no file defines the template "x" of --name\n',
          run(CHECK, ["--name", "x", "over", "n"], folder)[1], failures)
+    write(folder, "i", '{"a": 1}')
+    for given, wanted in [(["--infer", "i"], 0), (["--infer", "i", "m"], 1), (["--infer", "i", "nosuch"], 3), (["--infer"], 2),
+                          (["--infer", "--data", "i", "i"], 2), (["--infer", "--schema", "i", "i"], 2), (["--infer", "--name", "i", "i"], 2),
+                          (["--infer", "--missingkey", "zero", "i"], 2), (["--infer", "--stop", "i", "i"], 2), (["--infer", "--format", "json", "i"], 0)]:
+        hold(" ".join(given), "status", wanted, run(CHECK, given, folder)[0], failures)
     write(folder, "unused", '{{define "u"}}{{end}}')
     hold("a definition that nothing calls", "lines", b'unused:1:1: warning: the template "u" is never called\n',
          run(CHECK, ["--name", "n", "n", "unused"], folder)[1], failures)
 
 
 def refused_memory(folder, failures):
-    """Each allocation of two runs refused in turn: status 7 and its line, or what came without."""
+    """Each allocation of some runs refused in turn: status 7 and its line, or what came without."""
     shim = os.path.join(folder, "fail_alloc.so")
     build_shim("fail_alloc.c", shim)
     write(folder, "m", '{{if .a == 1}}{{$x := nofun}}{{.s.0}}{{template "t"}}{{end}}{{define "u"}}{{$q}}{{end}} }}')
     write(folder, "d", '{"a": [1.5, {"b": 1, "b": 2}]}')
+    write(folder, "t", "{{.a}}")
+    write(folder, "s", '{"type": "object", "properties": {"a": {"type": "string"}}}')
+    write(folder, "i", '[{"a": 1, "b": [null]}, {"a": "x"}]')
     total = 0
-    for given in (["--data", "d", "m"], ["--format", "sarif", "--name", "u", "m"]):
+    for given in (["--data", "d", "m"], ["--format", "sarif", "--name", "u", "m"], ["--schema", "s", "t"], ["--infer", "i"]):
         usual = run(CHECK, given, folder)
         for number in range(1, 20000):
             told, tells = os.pipe()
@@ -267,6 +296,7 @@ def main():
         rows(folder, failures)
         words(folder, failures)
         uris(folder, failures)
+        notes(folder, failures)
         version(folder, failures)
         refused_memory(folder, failures)
         draws(folder, count, seed, failures)

@@ -4,11 +4,14 @@ data of the schema, by each mode, and must end well, or at the call of `stop`; a
 fails.
 
 Then it is held to rows over a JSON Schema each, and to random ones: a template that it accepts is rendered over values that conform, and
-none may fail. `verdicts.py SEED COUNT` draws others. Where the Python package jsonschema is installed, what conforms is held to it."""
+none may fail; over each value that it shows tmpl must fail, at that line and as it is told, and the value must conform. Where it tells a line of
+the schema and that is mended, it must say the same no more. Schemas that it infers are held to rows and to random samples, which must
+conform. `verdicts.py SEED COUNT` draws others. Where the Python package jsonschema is installed, what conforms is held to it."""
 import itertools
 import json
 import os
 import random
+import re
 import resource
 import subprocess
 import sys
@@ -55,6 +58,10 @@ DATA = [
         (0, 7), ([], [{"name": "a"}, {"name": ""}]), (LEAF, TREE), ({}, {"user": {"name": "Ada"}})
     )
 ]
+NOTE = re.compile(r"(t:[0-9]+:[0-9]+): note: fails (?:with --missingkey ([a-z]+) )?for (.*)")
+ABSENT = re.compile(r'(t:[0-9]+:[0-9]+: error: may fail: \.)([a-z]+) (may be absent: )(?:not in|no) "(required|properties)" (?:of|at) s:([0-9]+)\n')
+KIND = re.compile(r"(t:[0-9]+:[0-9]+: error: may fail: .* (?:of|over) )(null|a truth value|a number|a text|a list)(, which may come here) \(s:([0-9]+)\).*\n")
+TYPES = {"null": ["null"], "a truth value": ["boolean"], "a number": ["integer", "number"], "a text": ["string"], "a list": ["array"]}
 STOPPED = b': no template "stop"\n'
 # a template that never fails, and the modes by which it is accepted
 ACCEPTED = [
@@ -83,8 +90,8 @@ REFUSED = [
 ]
 
 
-def ran(words):
-    return subprocess.run(words, stdout=subprocess.PIPE, stderr=subprocess.PIPE, timeout=harness.SECONDS, check=False)
+def ran(words, folder=None):
+    return subprocess.run(words, stdout=subprocess.PIPE, stderr=subprocess.PIPE, timeout=harness.SECONDS, cwd=folder, check=False)
 
 
 def rendered(template, mode, data):
@@ -101,13 +108,43 @@ def write(folder, name, what):
         it.write(what if isinstance(what, str) else json.dumps(what))
 
 
-def checked(folder, schema, template, words):
-    """The status of tmpl-check over a template and a schema, and what it puts out, without warnings."""
+def said_of(folder, schema, template, words):
+    """The status of tmpl-check over a template and a schema, and the lines that it puts out, without warnings."""
     write(folder, "s", schema if isinstance(schema, str) else json.dumps(schema))
     write(folder, "t", template)
     ended = subprocess.run([harness.CHECKER, "--schema", "s", *words, "t"], cwd=folder, capture_output=True, timeout=harness.SECONDS, check=False)
     lines = (ended.stdout + ended.stderr).decode().splitlines(keepends=True)
-    return ended.returncode, "".join(line for line in lines if ": warning: " not in line)
+    return ended.returncode, [line for line in lines if ": warning: " not in line]
+
+
+def checked(folder, schema, template, words):
+    """The same as one text, without notes."""
+    status, lines = said_of(folder, schema, template, words)
+    return status, "".join(line for line in lines if not NOTE.match(line))
+
+
+def note_faults(folder, schema, words, lines):
+    """What is wrong with the notes among these lines, of a check whose files are in the folder: each is of the error before it, its value
+    conforms, and tmpl fails over it at that line, and says the same."""
+    asked = words[words.index("--missingkey") + 1] if "--missingkey" in words else None
+    for before, line in zip(["", *lines], lines):
+        found = NOTE.match(line)
+        if found:
+            place, mode, rest = found.groups()
+            value, end = json.JSONDecoder().raw_decode(rest)
+            write(folder, "d", rest[:end])
+            ended = ran([harness.PROGRAM, "--missingkey", mode or asked or "default", "--data", "d", *named(words), "t"], folder)
+            pattern = re.escape(f"tmpl: t:{place.split(':')[1]}: in ") + r'"(?:[^"\\]|\\.)*"' + re.escape(rest[end:] + "\n")
+            if not before.startswith(f"{place}: error: may fail: "):
+                yield f"    {line!r} after {before!r}"
+            if ended.returncode != 1 or not re.fullmatch(pattern, ended.stderr.decode()):
+                yield f"    {line!r}: {ended.returncode} {ended.stderr!r}"
+            if not conforming.conforms(schema, schema, value) or jsonschema and not jsonschema.Draft202012Validator(schema).is_valid(value):
+                yield f"    {line!r}: the value does not conform to {json.dumps(schema)}"
+
+
+def named(words):
+    return words[words.index("--name") :][:2] if "--name" in words else []
 
 
 def verdict(template, mode):
@@ -126,10 +163,10 @@ def placed(text, token):
     return f"{front.count(chr(10)) + 1}:{len(front) - front.rfind(chr(10))}"
 
 
-def told(words):
-    """What tmpl-check tells, without the file, the line and the column, and without warnings."""
-    lines = [line for line in ran([harness.CHECKER, *words]).stdout.decode().splitlines() if ": warning: " not in line]
-    return [line.partition(": error: may fail: ")[2] for line in lines]
+def told(folder, words):
+    """What tmpl-check tells over the schema s, without the file, the line and the column, and without warnings and notes."""
+    lines = ran([harness.CHECKER, "--schema", "s", *words], folder).stdout.decode().splitlines()
+    return [line.partition(": error: may fail: ")[2] for line in lines if ": warning: " not in line and ": note: " not in line]
 
 
 def hostile_results(folder):
@@ -151,7 +188,7 @@ def example_results(folder):
         with open(f"{example}/args", encoding="utf-8") as it:
             files = [f"{example}/{word}" for word in it.read().split() if word.endswith(".tmpl") and not word.startswith("..")]
         write(folder, "s", schema)
-        came = told(["--schema", f"{folder}/s", "--stop", "nginx", *files])
+        came = told(folder, ["--stop", "nginx", *files])
         yield f"example {name}", 1, [] if came == ([] if said is None else [said]) else [f"    {came}, and not {said}"]
         if said is None and os.access(f"{example}/data.json", os.R_OK):
             with open(f"{example}/data.json", encoding="utf-8") as it:
@@ -170,7 +207,7 @@ def cookbook_results(folder):
         write(folder, "s", schema)
         write(folder, "t", block or template)
         files = [f"{harness.TOP}/examples/quotes/{name}" for name in quotes]
-        came = told(["--schema", f"{folder}/s", *words, f"{folder}/t", *files])
+        came = told(folder, [*words, "t", *files])
         good = came == [] if said is None else said in came
         yield f"cookbook: {template}", 1, [] if good else [f"    {came}, and not {said}"]
 
@@ -182,8 +219,17 @@ def row_results():
             came = checked(folder, schema, template, words)
             yield f"accepted: {title}", 1, [] if came == (0, "") else [f"    {came}, and not accepted"]
         for title, schema, template, words, line in schema_rows.REFUSED:
-            came = checked(folder, schema, template, words)
+            status, lines = said_of(folder, schema, template, words)
+            came = status, "".join(line for line in lines if not NOTE.match(line))
             yield f"refused: {title}", 1, [] if came == (1, f"t:{line}\n") else [f"    {came}, and not {line}"]
+            yield f"value for: {title}", 1, list(note_faults(folder, schema, words, lines))
+        for title, schema, template, words, wanted in schema_rows.SHOWN:
+            status, lines = said_of(folder, schema, template, words)
+            good = (status, lines) == (1, [f"t:{line}\n" for line in wanted])
+            yield f"shown: {title}", 1, [] if good else [f"    {status} {lines}, and not {wanted}"]
+            read = json.loads(schema) if isinstance(schema, str) else schema
+            yield f"value for: {title}", 1, list(note_faults(folder, read, words, lines))
+        yield from inferred_rows(folder)
         for title, schema, template, words, lines in schema_rows.SEVERAL:
             came = checked(folder, schema, template, words)
             wanted = "".join(f"t:{line}\n" for line in lines)
@@ -197,6 +243,124 @@ def row_results():
         yield from cookbook_results(folder)
         came = checked(folder, '{"type": "object",}', "text", [])
         yield "schema that is not JSON", 1, [] if came[0] == 1 and came[1].startswith("s:1:19: error: not JSON: ") else [f"    {came}"]
+
+
+def inferred(folder, texts):
+    """The status of tmpl-check --infer over files of these texts, and what it puts out."""
+    names = []
+    for number, text in enumerate(texts):
+        names.append(f"d{number}")
+        write(folder, names[-1], text)
+    ended = ran([harness.CHECKER, "--infer", *names], folder)
+    return ended.returncode, (ended.stdout + ended.stderr).decode()
+
+
+def inferred_faults(folder, samples, out):
+    """What is wrong with a schema that is inferred: tmpl-check reads it, and each sample conforms."""
+    schema = json.loads(out)
+    if out != json.dumps(schema, indent=2, ensure_ascii=False) + "\n" or schema.get("$schema") != conforming.HEAD:
+        yield f"    {out!r}"
+    came = checked(folder, out, "text", [])
+    if came != (0, ""):
+        yield f"    {out}: {came}"
+    for sample in samples:
+        if not conforming.conforms(schema, schema, sample) or jsonschema and not jsonschema.Draft202012Validator(schema).is_valid(sample):
+            yield f"    {json.dumps(sample)} does not conform to {out}"
+
+
+def inferred_rows(folder):
+    for title, samples, wanted in schema_rows.INFERRED:
+        status, out = inferred(folder, map(json.dumps, samples))
+        schema = {"$schema": conforming.HEAD, **wanted}
+        good = status == 0 and json.loads(out) == schema
+        yield f"inferred: {title}", 1, [] if good else [f"    {status} {out}, and not {schema}"]
+        yield f"samples of: {title}", 1, list(inferred_faults(folder, samples, out)) if status == 0 else []
+    for title, texts, wanted in schema_rows.NOT_INFERRED:
+        came = inferred(folder, texts)
+        yield f"not inferred: {title}", 1, [] if came == wanted else [f"    {came}, and not {wanted}"]
+
+
+def drawn_samples(seed, count):
+    """Schemas that are inferred of random samples."""
+    with tempfile.TemporaryDirectory(dir=harness.MEMORY) as folder:
+        for number in range(seed, seed + count):
+            draw = random.Random(number)
+            schema = conforming.drawn_document(draw)
+            samples = [conforming.drawn_value(draw, schema, schema, 5) for _ in range(draw.randrange(1, 5))]
+            status, out = inferred(folder, map(json.dumps, samples))
+            yield f"inferred of samples {number}", 1, list(inferred_faults(folder, samples, out)) if status == 0 else [f"    {status} {out}"]
+
+
+def drawn_values(seed, count):
+    """Values that are shown for random templates over random schemas."""
+    shown = 0
+    with tempfile.TemporaryDirectory(dir=harness.MEMORY) as folder:
+        for number in range(seed, seed + count):
+            draw = random.Random(number)
+            schema = conforming.drawn_document(draw)
+            mode = draw.choice(("each", *MODES))
+            words = [] if mode == "each" else ["--missingkey", mode]
+            template = "\n".join(['{{define "w"}}{{print .}}{{end}}', *conforming.drawn_template(draw)])
+            _, lines = said_of(folder, schema, template, words)
+            shown += sum(": note: " in line for line in lines)
+            yield f"values of drawn {number}", 1, [f"{fault}\n    {template!r}" for fault in note_faults(folder, schema, words, lines)]
+    yield "values that are shown", 1, [] if shown > count / 2 else [f"    {shown} alone"]
+
+
+def placed_parts(value, line=1, path=()):
+    """The parts of a value with the lines on which they begin, where it is put out with each part on a line of its own."""
+    yield line, path
+    line += 1
+    for key, part in value.items() if isinstance(value, dict) else enumerate(value) if isinstance(value, list) else ():
+        yield from placed_parts(part, line, (*path, key))
+        line += json.dumps(part, indent=1).count("\n") + 1
+
+
+def at(value, path):
+    for key in path:
+        value = value[key]
+    return value
+
+
+def mended(schema, line, found):
+    """The schema in which what a line of tmpl-check names at this line no longer lets the value through."""
+    mended = json.loads(json.dumps(schema))
+    path = dict(placed_parts(schema))[line]
+    if found.re is ABSENT:
+        it = at(mended, path[:-1] if path and path[-1] in ("required", "properties") and isinstance(at(schema, path), (list, dict)) else path)
+        name = found[2]
+        it.setdefault("properties", {}).setdefault(name, True)
+        it["required"] = [*it.get("required", []), name]
+        return mended
+    it = at(mended, path[:-1]) if path and path[-1] in ("type", "enum", "const") else at(mended, path)
+    if it is True:
+        return None
+    types = it.get("type", ["null", "boolean", "integer", "string", "array", "object"])
+    it["type"] = [name for name in ([types] if isinstance(types, str) else types) if name not in TYPES[found[2]]]
+    return mended
+
+
+def drawn_reasons(seed, count):
+    """Lines of schemas that are told as reasons: where the schema is mended there, the same is said of the action no more."""
+    tried = 0
+    with tempfile.TemporaryDirectory(dir=harness.MEMORY) as folder:
+        for number in range(seed, seed + count):
+            draw = random.Random(number)
+            schema = conforming.drawn_document(draw)
+            mode = draw.choice(("each", *MODES))
+            words = [] if mode == "each" else ["--missingkey", mode]
+            template = "\n".join(['{{define "w"}}{{print .}}{{end}}', *conforming.drawn_template(draw)])
+            _, lines = said_of(folder, json.dumps(schema, indent=1), template, words)
+            for line in lines:
+                found = ABSENT.fullmatch(line) or KIND.fullmatch(line)
+                other = mended(schema, int(found[found.lastindex]), found) if found else None
+                if other is None:
+                    continue
+                tried += 1
+                _, after = said_of(folder, json.dumps(other, indent=1), template, words)
+                good = not any(it.startswith(line[: found.end(2)] + " " if found.re is ABSENT else line[: found.end(3)]) for it in after)
+                yield f"reason of {number}", 1, [] if good else [f"    {line}    {json.dumps(schema)}\n    {template!r}\n    {json.dumps(other)}: {after}"]
+    yield "reasons that were mended", 1, [] if tried > count / 4 else [f"    {tried} alone"]
 
 
 def accepted_part(folder, schema, lines, words):
@@ -269,7 +433,11 @@ def main():
     if jsonschema is None:
         print("what conforms is not held to the package jsonschema, which is not installed")
     seed, count = map(int, sys.argv[1:3]) if len(sys.argv) > 2 else (1, 400)
-    passed, failed, _ = harness.tally(itertools.chain(results(), row_results(), drawn_results(seed, count)))
+    passed, failed, _ = harness.tally(
+        itertools.chain(
+            results(), row_results(), drawn_results(seed, count), drawn_values(seed, count // 4), drawn_reasons(seed, count // 8), drawn_samples(seed, count // 4)
+        )
+    )
     return harness.closing(passed, failed)
 
 

@@ -72,24 +72,24 @@ ACCEPTED = [
 
 INDEX, PRINTF = (f'1:1: error: may fail: "{name}" may get what it refuses' for name in ("index", "printf"))
 REFUSED = [
-    ("optional field", of({"a": TEXT}, []), "x\n {{.a}}", [], "2:2: error: may fail: .a may be absent: the schema does not require it"),
-    ("optional field by with", of({"a": TEXT}, []), "{{with .a}}{{.}}{{end}}", [], "1:1: error: may fail: .a may be absent: the schema does not require it"),
-    ("null", of({"a": {"type": ["object", "null"], "required": ["b"]}}), "{{.a.b}}", [], "1:1: error: may fail: .b of null, which may come here and has no fields"),
-    ("other part of a condition", of({"a": {"type": ["object", "null"], "required": ["b"]}}), "{{if .a}}{{else}}{{.a.b}}{{end}}", DEFAULT, "1:18: error: may fail: .b of null, which may come here and has no fields"),
+    ("optional field", of({"a": TEXT}, []), "x\n {{.a}}", [], "2:2: error: may fail: .a may be absent: not in \"required\" of s:1"),
+    ("optional field by with", of({"a": TEXT}, []), "{{with .a}}{{.}}{{end}}", [], "1:1: error: may fail: .a may be absent: not in \"required\" of s:1"),
+    ("null", of({"a": {"type": ["object", "null"], "required": ["b"]}}), "{{.a.b}}", [], "1:1: error: may fail: .b of null, which may come here (s:1) and has no fields"),
+    ("other part of a condition", of({"a": {"type": ["object", "null"], "required": ["b"]}}), "{{if .a}}{{else}}{{.a.b}}{{end}}", DEFAULT, "1:18: error: may fail: .b of null, which may come here (s:1) and has no fields"),
     ("else part of a range", of({"a": {"type": "integer"}}), "{{range .a}}{{else}}{{len .a}}{{end}}", [], '1:21: error: may fail: "len" may get what it refuses'),
-    ("list means its items", of({"a": ITEMS}), "{{.a.b}}", [], "1:1: error: may fail: .b of a list, which may come here and has no fields"),
-    ("range over a text", of({"a": TEXT}), "{{range .a}}{{end}}", [], "1:1: error: may fail: a range over a text, which may come here"),
+    ("list means its items", of({"a": ITEMS}), "{{.a.b}}", [], "1:1: error: may fail: .b of a list, which may come here (s:1) and has no fields"),
+    ("range over a text", of({"a": TEXT}), "{{range .a}}{{end}}", [], "1:1: error: may fail: a range over a text, which may come here (s:1)"),
     ("order of a text and a number", of({"a": TEXT}), "{{lt .a 3}}", [], '1:1: error: may fail: "lt" may get what it refuses'),
-    ("a field that is not listed", of({"a": TEXT}), "{{.b}}", [], "1:1: error: may fail: .b may be absent: the schema does not require it"),
-    ("no type", of({"a": {"required": ["b"]}}), "{{.a.b}}", [], "1:1: error: may fail: .b of null, which may come here and has no fields"),
-    ("alternative without the field", of({"a": {"anyOf": [of({"b": TEXT}), of({"c": TEXT})]}}), "{{.a.b}}", [], "1:1: error: may fail: .b may be absent: the schema does not require it"),
+    ("a field that is not listed", of({"a": TEXT}), "{{.b}}", [], "1:1: error: may fail: .b may be absent: not in \"properties\" of s:1"),
+    ("no type", of({"a": {"required": ["b"]}}), "{{.a.b}}", [], "1:1: error: may fail: .b of null, which may come here (s:1) and has no fields"),
+    ("alternative without the field", of({"a": {"anyOf": [of({"b": TEXT}), of({"c": TEXT})]}}), "{{.a.b}}", [], "1:1: error: may fail: .b may be absent: not in \"properties\" of s:1"),
     ("a template that is not there", of({"a": TEXT}), '{{template "stop"}}', ["--stop", "other"], '1:1: error: may fail: there is no template "stop"'),
-    ("what is nil is not there", of({"a": TEXT}, []), '{{if eq (index . "a") nil}}{{.a}}{{end}}', [], "1:28: error: may fail: .a may be absent: the schema does not require it"),
-    ("what is nil is not there by ne", of({"a": TEXT}, []), '{{if ne (index . "a") nil}}{{else}}{{.a}}{{end}}', [], "1:36: error: may fail: .a may be absent: the schema does not require it"),
+    ("what is nil is not there", of({"a": TEXT}, []), '{{if eq (index . "a") nil}}{{.a}}{{end}}', [], "1:28: error: may fail: .a may be absent: not in \"required\" of s:1"),
+    ("what is nil is not there by ne", of({"a": TEXT}, []), '{{if ne (index . "a") nil}}{{else}}{{.a}}{{end}}', [], "1:36: error: may fail: .a may be absent: not in \"required\" of s:1"),
     ("what differs from a constant may be null", of({"a": {"type": ["string", "null"]}}), '{{if ne .a "x"}}{{len .a}}{{end}}', [], '1:17: error: may fail: "len" may get what it refuses'),
     ("what does not equal a constant may be null", of({"a": {"type": ["string", "null"]}}), '{{if eq .a "x"}}{{else}}{{len .a}}{{end}}', [], '1:25: error: may fail: "len" may get what it refuses'),
-    ("index of another key", of({"a": TEXT, "b": TEXT}, []), '{{if index . "a"}}{{.b}}{{end}}', [], "1:19: error: may fail: .b may be absent: the schema does not require it"),
-    ("index of a field is not followed", of({"c": of({"a": TEXT}, [])}), '{{if index .c "a"}}{{.c.a}}{{end}}', [], "1:20: error: may fail: .a may be absent: the schema does not require it"),
+    ("index of another key", of({"a": TEXT, "b": TEXT}, []), '{{if index . "a"}}{{.b}}{{end}}', [], "1:19: error: may fail: .b may be absent: not in \"required\" of s:1"),
+    ("index of a field is not followed", of({"c": of({"a": TEXT}, [])}), '{{if index .c "a"}}{{.c.a}}{{end}}', [], "1:20: error: may fail: .a may be absent: not in \"required\" of s:1"),
     ("index by a number", of({"a": ITEMS}), "{{index .a 0}}", [], INDEX),
     ("index of a list by a text", of({"a": ITEMS}), '{{index .a "0"}}', [], INDEX),
     ("index of a map by a number", of({"a": of({"b": TEXT})}), "{{index .a 0}}", [], INDEX),
@@ -142,17 +142,113 @@ REFUSED = [
 ]
 
 # .. and where more than one line is said: each place, once, and nothing that only follows of another
-ABSENT = "%s: error: may fail: .%s may be absent: the schema does not require it"
+ABSENT = '%s: error: may fail: .%s may be absent: not in "properties" of s:1'
+OPTIONAL = '%s: error: may fail: .%s may be absent: not in "required" of s:1'
 SEVERAL = [
-    ("each action", of({"a": TEXT}, []), "{{.a}}\n{{.b}}\n{{len .c}}", [], [ABSENT % ("1:1", "a"), ABSENT % ("2:1", "b"), ABSENT % ("3:1", "c")]),
+    ("each action", of({"a": TEXT}, []), "{{.a}}\n{{.b}}\n{{len .c}}", [], [OPTIONAL % ("1:1", "a"), ABSENT % ("2:1", "b"), ABSENT % ("3:1", "c")]),
     ("both parts of a condition", of({"a": {"type": "boolean"}}), "{{if .a}}{{.x}}\n{{else}}{{.y}}{{end}}", [], [ABSENT % ("1:10", "x"), ABSENT % ("2:9", "y")]),
     ("in a range and after it", of({"a": {"type": "array", "items": of({})}}), "{{range .a}}{{.x}}{{end}}\n{{.y}}", [], [ABSENT % ("1:13", "x"), ABSENT % ("2:1", "y")]),
-    ("a header and its body", of({"a": {"type": "object"}}), "{{if .x}}\n{{len .a.y}}{{end}}", [], [ABSENT % ("1:1", "x"), ABSENT % ("2:1", "y")]),
+    ("a header and its body", of({"a": {"type": "object"}}), "{{if .x}}\n{{len .a.y}}{{end}}", [], [ABSENT % ("1:1", "x"), '2:1: error: may fail: .y may be absent: no "properties" at s:1']),
     ("nothing follows", of({}), "{{$x := .a}}{{$x.b}}{{range $x}}{{.c}}{{end}}{{with .d}}{{.e}}{{end}}{{len $x}}", [], [ABSENT % ("1:1", "a"), ABSENT % ("1:46", "d")]),
     ("in a template that is called twice", of({}), '{{define "w"}}{{.x}}{{end}}{{.y}}{{template "w" .}}\n{{template "w" .}}', [], [ABSENT % ("1:28", "y"), ABSENT % ("1:15", "x")]),
     ("in a template that calls itself", of({"a": TEXT}), '{{define "w"}}{{.a}}{{.x}}{{template "w" .}}{{end}}{{template "w" .}}', [], [ABSENT % ("1:21", "x")]),
     ("templates that are not there", of({}), 'x\n{{template "one"}}\n{{if true}}{{template "two"}}{{end}}', ["--stop", "three"],
      ['2:1: error: may fail: there is no template "one"', '3:12: error: may fail: there is no template "two"']),
+]
+
+# .. where what is said has a line of the schema and a value for which the template fails, the smallest that there is: each line is said
+PORTS = """{
+  "type": "object",
+  "required": ["ports"],
+  "properties": {
+    "ports": {"type": "array", "items": {"$ref": "#/$defs/port"}},
+    "tls": {
+      "type": "object",
+      "properties": {"secret": {"type": "string"}}
+    },
+    "owner": {
+      "type": ["object", "null"],
+      "required": ["name"]
+    }
+  },
+  "$defs": {
+    "port": {
+      "type": "object",
+      "properties": {"number": {"type": "integer"}, "protocol": {"enum": ["TCP", "UDP"]}},
+      "required": ["number"]
+    }
+  }
+}"""
+SHOWN = [
+    ("in a range by a reference", PORTS, "{{range .ports}}\n{{.protocol}}{{end}}", [],
+     ['2:1: error: may fail: .protocol may be absent: not in "required" of s:19',
+      '2:1: note: fails with --missingkey error for {"ports":[{"number":1}]}: no entry for key "protocol"']),
+    ("at the top", PORTS, "{{.tls}}", [],
+     ['1:1: error: may fail: .tls may be absent: not in "required" of s:3', '1:1: note: fails with --missingkey error for {"ports":[]}: no entry for key "tls"']),
+    ("a schema without required", PORTS, '{{with index . "tls"}}{{.secret}}{{end}}', [],
+     ['1:23: error: may fail: .secret may be absent: no "required" at s:6',
+      '1:23: note: fails with --missingkey error for {"ports":[],"tls":{"other":"a"}}: no entry for key "secret"']),
+    ("a name that is not listed", PORTS, "{{range $p := .ports}}{{$p.numbr}}{{end}}", [],
+     ['1:23: error: may fail: .numbr may be absent: not in "properties" of s:18',
+      '1:23: note: fails with --missingkey error for {"ports":[{"number":1}]}: no entry for key "numbr"']),
+    ("null by a type", PORTS, "{{.owner.name}}", ["--missingkey", "default"],
+     ["1:1: error: may fail: .name of null, which may come here and has no fields", '1:1: note: fails for {"owner":null,"ports":[]}: no field "name" here']),
+    ("in a template that is called", PORTS, '{{define "p"}}{{.protocol}}{{end}}{{range .ports}}{{template "p" .}}{{end}}', [],
+     ['1:15: error: may fail: .protocol may be absent: not in "required" of s:19',
+      '1:15: note: fails with --missingkey error for {"ports":[{"number":1}]}: no entry for key "protocol"']),
+    ("null", of({"a": {"type": ["object", "null"], "required": ["b"]}}), "{{.a.b}}", [],
+     ["1:1: error: may fail: .b of null, which may come here (s:1) and has no fields", '1:1: note: fails for {"a":null}: no field "b" here']),
+    ("a field by a mode", of({"a": TEXT}, []), "{{.a}}", ["--missingkey", "error"],
+     ['1:1: error: may fail: .a may be absent: not in "required" of s:1', '1:1: note: fails for {}: no entry for key "a"']),
+    ("two alternatives without the field", of({"a": {"anyOf": [of({"b": TEXT}), of({"c": TEXT}), of({"d": TEXT})]}}), "{{.a.b}}", [],
+     ["1:1: error: may fail: .b may be absent: the schema does not require it", '1:1: note: fails with --missingkey error for {"a":{"c":"a"}}: no entry for key "b"']),
+    ("an alternative", of({"a": {"anyOf": [{"type": "null"}, TEXT]}}), "{{range .a}}{{end}}", [],
+     ["1:1: error: may fail: a range over a text, which may come here (s:1)", '1:1: note: fails for {"a":"a"}: can\'t range over this value']),
+    ("an empty list", of({"a": ITEMS}), "{{index .a 0}}", [], [INDEX, '1:1: note: fails for {"a":[]}: index: out of range']),
+    ("a list that is not empty", of({"a": {**ITEMS, "minItems": 2}}), "{{index .a 2}}", [], [INDEX, '1:1: note: fails for {"a":["a","a"]}: index: out of range']),
+    ("an empty text", of({"a": TEXT}), "{{slice .a 1}}", [],
+     ['1:1: error: may fail: "slice" is not followed by this check', '1:1: note: fails for {"a":""}: slice: out of range']),
+    ("a length", of({"a": {"type": "string", "minLength": 3}}), "{{slice .a 4}}", [],
+     ['1:1: error: may fail: "slice" is not followed by this check', '1:1: note: fails for {"a":"aaa"}: slice: out of range']),
+    ("no value fails", of({"a": {"type": "string", "minLength": 3}}), "{{slice .a 1}}", [], ['1:1: error: may fail: "slice" is not followed by this check']),
+    ("bounds", of({"a": {"type": "integer", "minimum": 5, "maximum": 9}}), "{{range .a}}{{.b}}{{end}}", [],
+     ["1:13: error: may fail: .b of a number, which may come here and has no fields", '1:13: note: fails for {"a":5}: no field "b" here']),
+    ("a constant", of({"a": {"enum": ["x", None]}}), "{{len .a}}", [],
+     ['1:1: error: may fail: "len" may get what it refuses', '1:1: note: fails for {"a":null}: len: wrong kind of argument']),
+    ("a pattern is not met", of({"a": {"type": "string", "pattern": "^x"}}), "{{range .a}}{{end}}", [],
+     ["1:1: error: may fail: a range over a text, which may come here (s:1)"]),
+    ("a pattern of what may be left out", of({"a": {"type": "string", "pattern": "^x"}}, []), "{{.a}}", [],
+     ['1:1: error: may fail: .a may be absent: not in "required" of s:1', '1:1: note: fails with --missingkey error for {}: no entry for key "a"']),
+    ("a text of its format", of({"a": {"type": "string", "format": "date"}}), "{{range .a}}{{end}}", [],
+     ["1:1: error: may fail: a range over a text, which may come here (s:1)", '1:1: note: fails for {"a":"2000-01-01"}: can\'t range over this value']),
+    ("one needs another", of({"a": TEXT, "b": TEXT}, [], dependentRequired={"a": ["b"]}), '{{if index . "b"}}{{else}}{{.a}}{{end}}', [],
+     ['1:27: error: may fail: .a may be absent: not in "required" of s:1', '1:27: note: fails with --missingkey error for {}: no entry for key "a"']),
+    ("two choices together", of({"a": TEXT, "b": TEXT}, []), '{{if index . "a"}}{{if not (index . "b")}}{{.b}}{{end}}{{end}}', [],
+     ['1:43: error: may fail: .b may be absent: not in "required" of s:1', '1:43: note: fails with --missingkey error for {"a":"a"}: no entry for key "b"']),
+    ("a variable that is assigned", of({"a": of({"b": TEXT}, [])}), "{{$x := .a}}{{$x = .a}}{{$x.b}}", [],
+     ["1:24: error: may fail: .b may be absent: the schema does not require it", '1:24: note: fails with --missingkey error for {"a":{}}: no entry for key "b"']),
+    ("a template that is not there", of({}), '{{template "u"}}', [], ['1:1: error: may fail: there is no template "u"', '1:1: note: fails for {}: no template "u"']),
+    ("a range over two variables", of({"a": WHOLE}), "{{range $i, $e := .a}}{{end}}", [],
+     ["1:1: error: may fail: a range over a number, which may come here (s:1)", '1:1: note: fails for {"a":1}: can\'t range over this value']),
+]
+
+# samples, and the schema that is inferred of them but for `$schema`; and what is said of files that are no data
+INFERRED = [
+    ("a text", ["x"], {"type": "string"}),
+    ("kinds", [None, True, 1, "x", [], {}], {"type": ["null", "boolean", "integer", "string", "array", "object"]}),
+    ("a map", [{"b": 1, "a": "x"}], {"type": "object", "properties": {"a": {"type": "string"}, "b": {"type": "integer"}}, "required": ["a", "b"]}),
+    ("a key that one has", [{"a": 1, "b": 2}, {"a": 3}], {"type": "object", "properties": {"a": {"type": "integer"}, "b": {"type": "integer"}}, "required": ["a"]}),
+    ("a value that may be null", [{"a": None}, {"a": "x"}], {"type": "object", "properties": {"a": {"type": ["null", "string"]}}, "required": ["a"]}),
+    ("items", [[1, "x"], [], [{"a": 1}]], {"type": "array", "items": {"type": ["integer", "string", "object"], "properties": {"a": {"type": "integer"}}, "required": ["a"]}}),
+    ("no items", [[]], {"type": "array"}),
+    ("a list and a map", [[1], {"a": 1}], {"type": ["array", "object"], "items": {"type": "integer"}, "properties": {"a": {"type": "integer"}}, "required": ["a"]}),
+    ("maps in a list", [[{"a": 1, "b": 1}, {"a": 1}]], {"type": "array", "items": {"type": "object", "properties": {"a": {"type": "integer"}, "b": {"type": "integer"}}, "required": ["a"]}}),
+    ("no key that each has", [{"a": 1}, {}], {"type": "object", "properties": {"a": {"type": "integer"}}, "required": []}),
+    ("names with escapes", [{'a"/~b': 1}], {"type": "object", "properties": {'a"/~b': {"type": "integer"}}, "required": ['a"/~b']}),
+]
+NOT_INFERRED = [
+    ("not JSON", ["{,}"], (1, "d0:1:2: error: not JSON: a key in double quotes is wanted\n")),
+    ("not whole", ['{"a": 1}', "1.5"], (1, "d1:1:1: error: number not whole or out of range: .: 1.5 is not whole or is out of range\n")),
 ]
 
 # a schema that is not read, by its text; before what in it the place is, or none for its beginning; and what is said
@@ -195,7 +291,7 @@ EXAMPLES = [
                                                  "seconds": {"type": "object", "additionalProperties": WHOLE}},
                                                 ["number", "passed", "tags", "seconds", "skipped"])}), None),
     ("report", of({"project": TEXT, "build": of({"number": WHOLE, "passed": {"type": "boolean"}, "tags": ITEMS, "seconds": {"type": "object"}, "note": TEXT},
-                                                ["number", "passed", "tags", "seconds"])}), ".skipped may be absent: the schema does not require it"),
+                                                ["number", "passed", "tags", "seconds"])}), '.skipped may be absent: not in "properties" of s:1'),
     ("service", of({"description": TEXT, "after": TEXT, "user": TEXT, "restart": {"enum": ["no", "on-failure", "always"]},
                     "paths": of({"home": TEXT, "program": TEXT}), "listen": of({"address": TEXT, "port": WHOLE})}), None),
     ("library", of({"app": TEXT, "version": TEXT, "registry": TEXT, "ports": {"type": "array", "items": of({"name": TEXT, "port": WHOLE, "protocol": TEXT}, ["name", "port"])}},
@@ -225,7 +321,7 @@ COOKBOOK = [
     ("compose.tmpl", of({"services": {"type": "object", "additionalProperties": SERVICE}}), ["quotes.tmpl"], ["--stop", "to json"], None),
     ("{{range .hosts}}{{.}}; {{end}}", of({"hosts": ITEMS}), [], [], None),
     ("Hello, {{.GREETED}}!", of({"GREETED": TEXT}), [], [], None),
-    ("Hello, {{.GREETED}}!", of({"GREETED": TEXT}, []), [], [], ".GREETED may be absent: the schema does not require it"),
+    ("Hello, {{.GREETED}}!", of({"GREETED": TEXT}, []), [], [], '.GREETED may be absent: not in "required" of s:1'),
     ("{{.port}} {{.tls.on}} {{.tls.versions}}", of({"port": WHOLE, "tls": of({"on": {"type": "boolean"}, "versions": ITEMS})}), [], [], None),
     ("listen {{.port}};", of({"port": WHOLE}), [], [], None),
     ('{{if gt .port 65535}}{{template "a port is at most 65535"}}{{end}}port {{.port}}', of({"port": WHOLE}), [], ["--stop", "a port is at most 65535"], None),

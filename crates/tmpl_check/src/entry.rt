@@ -4,7 +4,7 @@ use crate::rule::Rule;
 use std::alloc::{AllocError, AllocFailed};
 
 /// How grave it is.
-#[derive(Clone, Copy, Debug, PartialEq, Eq)]
+#[derive(Clone, Copy, PartialEq)]
 pub(crate) enum Level {
     Error,
     Warning,
@@ -21,7 +21,7 @@ impl Level {
 }
 
 /// Something that is found at a place of a file.
-#[derive(Debug, Drop)]
+#[derive(Drop)]
 pub(crate) struct Entry<'a> {
     pub(crate) file: &'a str,
     pub(crate) level: Level,
@@ -29,6 +29,8 @@ pub(crate) struct Entry<'a> {
     pub(crate) column: u64,
     pub(crate) rule: Rule,
     pub(crate) text: String,
+    /// What else is said of it.
+    pub(crate) note: Option<String>,
 }
 
 impl Entry<'_> {
@@ -41,7 +43,7 @@ impl Entry<'_> {
 }
 
 /// Why the command ends before all is told.
-#[derive(Clone, Copy, Debug)]
+#[derive(Clone, Copy)]
 pub(crate) enum Stop {
     OutOfMemory,
     WriteFailed,

@@ -14,14 +14,14 @@ const STANDARD_INPUT: &str = "/dev/stdin";
 const MOST_READ: u64 = 16_777_217;
 
 /// A file that was read.
-#[derive(Debug, Drop)]
+#[derive(Drop)]
 pub(crate) struct Loaded<'a> {
     pub(crate) name: &'a str,
     pub(crate) bytes: Vec<u8>,
 }
 
 /// The files that were read, and whether others could not be.
-#[derive(Debug, Drop)]
+#[derive(Drop)]
 pub(crate) struct AllLoaded<'a> {
     pub(crate) templates: Vec<Loaded<'a>>,
     pub(crate) data: Option<Loaded<'a>>,
@@ -59,7 +59,11 @@ pub(crate) fn load_all<'a>(rt: &HostRuntime, request: &Request<'a>) -> Result<Al
 }
 
 /// Reads a file; none where that can't be done, which is said.
-fn load<'a>(rt: &HostRuntime, name: &'a str, most: u64) -> Result<Option<Loaded<'a>>, Stop> {
+pub(crate) fn load<'a>(
+    rt: &HostRuntime,
+    name: &'a str,
+    most: u64,
+) -> Result<Option<Loaded<'a>>, Stop> {
     match read_front(rt, name, most) {
         Ok(bytes) => Ok(Some(Loaded { name, bytes })),
         Err(error) => match error.kind() {

@@ -16,7 +16,7 @@ use tmpl_problems::{
 use tmpl_syntax::{NameHash, Set, base_name};
 
 /// What is found, file by file.
-#[derive(Debug, Drop)]
+#[derive(Drop)]
 pub(crate) struct Findings<'a> {
     pub(crate) entries: Vec<Entry<'a>>,
 }
@@ -73,6 +73,7 @@ impl<'a> Findings<'a> {
             column: place.1,
             rule,
             text,
+            note: None,
         })?;
         Ok(())
     }
@@ -200,6 +201,7 @@ fn data_entry<'a>(file: &'a str, reason: DataReason, place: (u64, u64), text: St
         column: place.1,
         rule: data_rule_of(reason),
         text,
+        note: None,
     }
 }
 
@@ -217,6 +219,7 @@ fn problem_entry<'a>(
         column: refusal.column,
         rule: rule_of(refusal.refused.kind),
         text: problem_text(alloc, &problem)?,
+        note: None,
     })
 }
 

@@ -29,6 +29,10 @@ fn push_entry(alloc: Global, out: &mut String, entry: &Entry<'_>) -> Result<(), 
         ",\"line\":{line},\"column\":{column},\"level\":\"{level}\",\"rule\":\"{rule}\",\"text\":"
     )?;
     push_quoted(alloc, out, entry.text.as_str())?;
+    if let Some(note) = &entry.note {
+        out.push_str(",\"note\":")?;
+        push_quoted(alloc, out, note.as_str())?;
+    }
     out.push_str("}")
 }
 

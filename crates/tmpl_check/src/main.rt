@@ -5,6 +5,7 @@ mod build;
 mod entry;
 mod files;
 mod findings;
+mod infer;
 mod json;
 mod rule;
 mod sarif;
@@ -68,6 +69,9 @@ fn run(rt: &HostRuntime) -> Result<u8, Stop> {
 
 /// Checks the files of a request, and puts out what is found.
 fn check(rt: &HostRuntime, request: &Request<'_>) -> Result<u8, Stop> {
+    if request.is_to_infer {
+        return infer::infer_all(rt, request);
+    }
     let loaded = files::load_all(rt, request)?;
     let findings = findings_of(rt.alloc(), files::name_hash(rt), request, &loaded)?;
     put_out(rt, request.format, &findings)?;
@@ -81,7 +85,11 @@ fn check(rt: &HostRuntime, request: &Request<'_>) -> Result<u8, Stop> {
 }
 
 /// Puts out what is found.
-fn put_out(rt: &HostRuntime, format: Format, findings: &Findings<'_>) -> Result<(), Stop> {
+pub(crate) fn put_out(
+    rt: &HostRuntime,
+    format: Format,
+    findings: &Findings<'_>,
+) -> Result<(), Stop> {
     let alloc = rt.alloc();
     let shown = match format {
         Format::Text => text::lines(alloc, findings)?,
@@ -92,7 +100,7 @@ fn put_out(rt: &HostRuntime, format: Format, findings: &Findings<'_>) -> Result<
 }
 
 /// Writes a text to the standard output.
-fn write_all(rt: &HostRuntime, text: &str) -> Result<(), Stop> {
+pub(crate) fn write_all(rt: &HostRuntime, text: &str) -> Result<(), Stop> {
     let mut out = rt.stdout();
     match out.write_all(text.as_bytes()) {
         Ok(()) => {}

@@ -4,7 +4,7 @@ use tmpl_data_problems::DataReason;
 use tmpl_syntax::ParseKind;
 
 /// A rule: its name, in words with hyphens, and what it asks for.
-#[derive(Clone, Copy, Debug)]
+#[derive(Clone, Copy)]
 pub(crate) struct Rule {
     pub(crate) id: &'static str,
     pub(crate) text: &'static str,

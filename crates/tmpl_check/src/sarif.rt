@@ -59,19 +59,28 @@ fn push_result(alloc: Global, out: &mut String, entry: &Entry<'_>) -> Result<(),
     )?;
     push_quoted(alloc, out, entry.text.as_str())?;
     out.push_str("},\"locations\":[")?;
+    out.push_str("{")?;
     push_location(out, entry)?;
-    out.push_str("]}")
+    out.push_str("}]")?;
+    if let Some(note) = &entry.note {
+        out.push_str(",\"relatedLocations\":[{\"message\":{\"text\":")?;
+        push_quoted(alloc, out, note.as_str())?;
+        out.push_str("},")?;
+        push_location(out, entry)?;
+        out.push_str("}]")?;
+    }
+    out.push_str("}")
 }
 
-/// Adds where it is.
+/// Adds where it is, as the property of a location.
 fn push_location(out: &mut String, entry: &Entry<'_>) -> Result<(), AllocError> {
     let line = entry.line;
     let column = entry.column;
-    out.push_str("{\"physicalLocation\":{\"artifactLocation\":{\"uri\":\"")?;
+    out.push_str("\"physicalLocation\":{\"artifactLocation\":{\"uri\":\"")?;
     push_uri(out, entry.file)?;
     write!(
         out,
-        "\"}},\"region\":{{\"startLine\":{line},\"startColumn\":{column}}}}}}}"
+        "\"}},\"region\":{{\"startLine\":{line},\"startColumn\":{column}}}}}"
     )
 }
 

@@ -8,7 +8,10 @@ use crate::words::Request;
 use std::alloc::{AllocError, Global};
 use std::str::from_utf8;
 use tmpl_funcs::Func;
-use tmpl_json_schema::{CheckFault, Refused, SchemaFault, check_document};
+use tmpl_json_schema::{
+    CheckFault, Reason, Refused, SchemaFault, Why, check_document, position_of, reasons_of,
+};
+use tmpl_samples::{Failure, failures_of};
 use tmpl_schema::{Cause, Doubt, Refusal};
 use tmpl_syntax::{Set, base_name};
 use tmpl_values::Bytes;
@@ -43,14 +46,37 @@ pub(crate) fn add_schema<'a>(
             Ok(())
         }
         Err(CheckFault::Template(Refusal::MayFail(doubts))) => {
-            for doubt in doubts.as_slice() {
-                findings.add_once(doubt_entry(alloc, set, *first, loaded, doubt)?)?;
+            let doubts = doubts.as_slice();
+            let reasons = reasons_of(alloc, set, name, document, doubts)?;
+            let mode = request.mode;
+            let failures = failures_of(alloc, set, name, document, mode, stops.as_slice(), doubts)?;
+            for (index, doubt) in doubts.iter().enumerate() {
+                let mut entry = doubt_entry(alloc, set, *first, loaded, doubt)?;
+                let reason = reasons.get(index).and_then(Option::as_ref);
+                entry.text = cause_text(alloc, &doubt.cause, schema.name, reason)?;
+                if let Some(Some(failure)) = failures.get(index) {
+                    entry.note = Some(failure_text(alloc, failure, mode.is_some())?);
+                }
+                findings.add_once(entry)?;
             }
             Ok(())
         }
         Err(CheckFault::Schema(SchemaFault::OutOfMemory)) => Err(AllocError),
         Err(CheckFault::Template(Refusal::OutOfMemory)) => Err(AllocError),
     }
+}
+
+/// What is said of a value for which a template fails, by the mode that was asked for or by each.
+fn failure_text(alloc: Global, failure: &Failure, is_by_mode: bool) -> Result<String, AllocError> {
+    let mut text = String::from_str(alloc, "fails ")?;
+    if failure.is_strict && !is_by_mode {
+        text.push_str("with --missingkey error ")?;
+    }
+    text.push_str("for ")?;
+    text.push_str(failure.data.as_str())?;
+    text.push_str(": ")?;
+    text.push_str(failure.said.as_str())?;
+    Ok(text)
 }
 
 /// The names of templates that need not be there.
@@ -68,9 +94,7 @@ fn schema_entry<'a>(
     schema: &Loaded<'a>,
     refused: &Refused,
 ) -> Result<Entry<'a>, AllocError> {
-    let bytes = schema.bytes.as_slice();
-    let start = start_of(bytes, refused.path.as_slice());
-    let (line, column) = place_of(bytes, start);
+    let (line, column) = position_of(schema.bytes.as_slice(), refused.path.as_slice());
     let mut text = String::from_str(alloc, "schema not understood: ")?;
     for part in refused.path.as_slice().iter().rev() {
         text.push('/')?;
@@ -87,6 +111,7 @@ fn schema_entry<'a>(
         column,
         rule: SCHEMA_NOT_UNDERSTOOD,
         text,
+        note: None,
     })
 }
 
@@ -116,7 +141,8 @@ fn doubt_entry<'a>(
         line: doubt.line.max(1),
         column: 1,
         rule: MAY_FAIL,
-        text: cause_text(alloc, &doubt.cause)?,
+        text: String::new(alloc),
+        note: None,
     };
     let Some(tree) = set.get(doubt.template.as_slice()) else {
         return Ok(entry);
@@ -131,28 +157,33 @@ fn doubt_entry<'a>(
     Ok(entry)
 }
 
-/// What is said of a cause.
-fn cause_text(alloc: Global, cause: &Cause) -> Result<String, AllocError> {
+/// What is said of a cause, for which there may be a reason in the schema of this name.
+fn cause_text(
+    alloc: Global,
+    cause: &Cause,
+    schema: &str,
+    reason: Option<&Reason>,
+) -> Result<String, AllocError> {
     let mut text = String::from_str(alloc, "may fail: ")?;
     match cause {
         Cause::Absent(name) => {
             text.push('.')?;
             push_bytes(&mut text, name.as_slice())?;
-            text.push_str(" may be absent: the schema does not require it")?;
+            text.push_str(" may be absent: ")?;
+            push_absence(&mut text, schema, reason)?;
         }
         Cause::NoFields(name, kind) => {
             text.push('.')?;
             push_bytes(&mut text, name.as_slice())?;
             text.push_str(" of ")?;
-            text.push_str(*kind)?;
-            text.push_str(", which may come here and has no fields")?;
+            push_kind(&mut text, *kind, schema, reason)?;
+            text.push_str(" and has no fields")?;
         }
         Cause::Arguments(func) => push_func(&mut text, *func, " may get what it refuses")?,
         Cause::NotFollowed(func) => push_func(&mut text, *func, " is not followed by this check")?,
         Cause::Range(kind) => {
             text.push_str("a range over ")?;
-            text.push_str(*kind)?;
-            text.push_str(", which may come here")?;
+            push_kind(&mut text, *kind, schema, reason)?;
         }
         Cause::NoTemplate(name) => {
             text.push_str("there is no template \"")?;
@@ -163,6 +194,37 @@ fn cause_text(alloc: Global, cause: &Cause) -> Result<String, AllocError> {
         Cause::Command => text.push_str("what it gives is not followed by this check")?,
     }
     Ok(text)
+}
+
+/// Adds why a field may be absent.
+fn push_absence(
+    text: &mut String,
+    schema: &str,
+    reason: Option<&Reason>,
+) -> Result<(), AllocError> {
+    let Some(Reason { why, line }) = reason else {
+        return text.push_str("the schema does not require it");
+    };
+    match why {
+        Why::NotRequired => write!(text, "not in \"required\" of {schema}:{line}"),
+        Why::NotListed => write!(text, "not in \"properties\" of {schema}:{line}"),
+        Why::NoneRequired => write!(text, "no \"required\" at {schema}:{line}"),
+        Why::NoneListed => write!(text, "no \"properties\" at {schema}:{line}"),
+        Why::Kind => Ok(()),
+    }
+}
+
+/// Adds a kind of values, and what lets them through.
+fn push_kind(
+    text: &mut String,
+    kind: &str,
+    schema: &str,
+    reason: Option<&Reason>,
+) -> Result<(), AllocError> {
+    match reason {
+        Some(Reason { line, .. }) => write!(text, "{kind}, which may come here ({schema}:{line})"),
+        None => write!(text, "{kind}, which may come here"),
+    }
 }
 
 /// Adds the name of a function and what is said of it.
@@ -238,138 +300,4 @@ fn columns_in(front: &[u8]) -> u64 {
         }
     }
     column
-}
-
-/// The line and the column of a byte.
-fn place_of(bytes: &[u8], start: usize) -> (u64, u64) {
-    let mut line: u64 = 1;
-    let mut column: u64 = 1;
-    for byte in bytes.get(..start).unwrap_or(&[]) {
-        if *byte == b'\n' {
-            line = line.saturating_add(1);
-            column = 1;
-        } else if !(0x80..=0xBF).contains(byte) {
-            column = column.saturating_add(1);
-        }
-    }
-    (line, column)
-}
-
-/// A member or an item: where its key or itself begins, and its value.
-#[derive(Clone, Copy)]
-struct Part {
-    start: usize,
-    value: usize,
-}
-
-/// Where what is at a path stands in a JSON text: the last part of the path stands first.
-fn start_of(bytes: &[u8], path: &[String]) -> usize {
-    let value = after_space(bytes, 0);
-    let mut part = Part {
-        start: value,
-        value,
-    };
-    for name in path.iter().rev() {
-        match inner_part(bytes, part.value, name.as_str()) {
-            Some(inner) => part = inner,
-            None => return part.start,
-        }
-    }
-    part.start
-}
-
-/// The member of this key, or the item of this index, of the value that begins here.
-fn inner_part(bytes: &[u8], start: usize, name: &str) -> Option<Part> {
-    let is_object = bytes.get(start).copied() == Some(b'{');
-    let mut at = after_space(bytes, start.saturating_add(1));
-    for index in 0..bytes.len() {
-        let part = part_at(bytes, at, is_object);
-        let is_wanted = if is_object {
-            is_key(bytes, part.start, after_value(bytes, at), name)
-        } else {
-            is_index(index, name)
-        };
-        if is_wanted {
-            return Some(part);
-        }
-        let next = after_space(bytes, after_value(bytes, part.value));
-        if bytes.get(next).copied() != Some(b',') {
-            return None;
-        }
-        at = after_space(bytes, next.saturating_add(1));
-    }
-    None
-}
-
-/// The member or the item that begins here.
-fn part_at(bytes: &[u8], start: usize, is_member: bool) -> Part {
-    if !is_member {
-        return Part {
-            start,
-            value: start,
-        };
-    }
-    let colon = after_space(bytes, after_value(bytes, start));
-    Part {
-        start,
-        value: after_space(bytes, colon.saturating_add(1)),
-    }
-}
-
-/// Whether the text in quotes between these places is the key.
-fn is_key(bytes: &[u8], start: usize, end: usize, key: &str) -> bool {
-    bytes.get(start.saturating_add(1)..end.saturating_sub(1)) == Some(key.as_bytes())
-}
-
-/// Whether the digits are those of the index.
-fn is_index(index: usize, digits: &str) -> bool {
-    match digits.parse::<u64>() {
-        Ok(wanted) => wanted == index as u64,
-        Err(_) => false,
-    }
-}
-
-/// The place after white space.
-fn after_space(bytes: &[u8], start: usize) -> usize {
-    let rest = bytes.get(start..).unwrap_or(&[]);
-    let count = rest
-        .iter()
-        .take_while(|b| matches!(**b, b' ' | b'\t' | b'\n' | b'\r'))
-        .count();
-    start.saturating_add(count)
-}
-
-/// The place after the value, or the key, that begins here.
-fn after_value(bytes: &[u8], start: usize) -> usize {
-    let mut depth: usize = 0;
-    let mut is_text = false;
-    let mut is_escaped = false;
-    let mut at = start;
-    for byte in bytes.get(start..).unwrap_or(&[]) {
-        if is_escaped {
-            is_escaped = false;
-        } else if is_text {
-            is_escaped = *byte == b'\\';
-            is_text = *byte != b'"';
-            if !is_text && depth == 0 {
-                return at.saturating_add(1);
-            }
-        } else {
-            match *byte {
-                b'"' => is_text = true,
-                b'{' | b'[' => depth = depth.saturating_add(1),
-                b'}' | b']' if depth == 0 => return at,
-                b'}' | b']' => {
-                    depth = depth.saturating_sub(1);
-                    if depth == 0 {
-                        return at.saturating_add(1);
-                    }
-                }
-                b',' | b':' if depth == 0 => return at,
-                _ => {}
-            }
-        }
-        at = at.saturating_add(1);
-    }
-    at
 }

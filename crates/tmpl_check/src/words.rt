@@ -11,7 +11,7 @@ static FORMATS: [&str; 3] = ["text", "json", "sarif"];
 static MODES: [&str; 4] = ["default", "invalid", "zero", "error"];
 
 /// How what is found is put out.
-#[derive(Clone, Copy, Debug, PartialEq, Eq)]
+#[derive(Clone, Copy)]
 pub(crate) enum Format {
     Text,
     Json,
@@ -19,7 +19,7 @@ pub(crate) enum Format {
 }
 
 /// What the words ask for.
-#[derive(Debug, Drop)]
+#[derive(Drop)]
 pub(crate) struct Request<'a> {
     pub(crate) data_file: Option<&'a str>,
     pub(crate) name: Option<&'a str>,
@@ -29,11 +29,14 @@ pub(crate) struct Request<'a> {
     /// The names of templates that need not be there.
     pub(crate) stops: Vec<&'a str>,
     pub(crate) format: Format,
+    /// Whether a schema of the files is asked for.
+    pub(crate) is_to_infer: bool,
     pub(crate) files: Vec<&'a str>,
 }
 
 /// The command line.
 pub(crate) fn command<'a>(alloc: Global) -> Result<Command<'a>, AllocError> {
+    let unlike_infer: [&'a str; 5] = ["data", "name", "schema", "missingkey", "stop"];
     Command::new(alloc, "tmpl-check")
         .version("0")
         .about(
@@ -65,6 +68,13 @@ pub(crate) fn command<'a>(alloc: Global) -> Result<Command<'a>, AllocError> {
             option_arg(alloc, "format", "FORMAT")
                 .value_parser(FORMATS.as_slice())
                 .help("How it is said: a line each, as JSON, or as SARIF 2.1.0"),
+        )?
+        .arg(
+            Arg::new(alloc, "infer")
+                .long("infer")
+                .action(ArgAction::SetTrue)
+                .conflicts_with_all(unlike_infer.as_slice())?
+                .help("Prints a JSON Schema to which the files conform, which are data"),
         )?
         .arg(
             Arg::new(alloc, "file")
@@ -103,6 +113,7 @@ pub(crate) fn request_of<'a>(
         mode: mode_named(matches.get_str("missingkey")),
         stops,
         format: format_named(matches.get_str("format")),
+        is_to_infer: matches.get_flag("infer"),
         files,
     })
 }

@@ -31,7 +31,7 @@ const NO_KIND: Kinds = Kinds {
 };
 
 /// Each of them.
-fn every_kind() -> Kinds
+pub(crate) fn every_kind() -> Kinds
     ensures { result ≡ every_kind }
 {
     Kinds {
@@ -45,7 +45,7 @@ fn every_kind() -> Kinds
 }
 
 /// None of them.
-fn no_kind() -> Kinds
+pub(crate) fn no_kind() -> Kinds
     ensures { result ≡ no_kind }
 {
     NO_KIND

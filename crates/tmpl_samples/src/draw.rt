@@ -1,0 +1,394 @@
+//! Values of a schema: one for each way to choose, where there are several.
+
+use crate::conform::{conforms, is_property, referred, text_of_format};
+use serde_json::{Map, Value};
+use std::alloc::{AllocError, Global};
+
+/// How many levels of a schema are followed, one into the other.
+pub(crate) const LEVELS: usize = 120;
+
+/// After how many references, one into the other, what may be left out is, and after how many no value is made.
+const FEW_REFERENCES: usize = 1;
+
+const MOST_REFERENCES: usize = 12;
+
+/// The most parts that a value has.
+const MOST_PARTS: usize = 1_000;
+
+/// The longest text that is made.
+const LETTERS: &str =
+    "aaaaaaaaaaaaaaaaaaaaaaaaaaaaaaaaaaaaaaaaaaaaaaaaaaaaaaaaaaaaaaaaaaaaaaaaaaaaaaaaaaaaaaaaaaaaaaaaaaaa";
+
+/// The keywords of numbers, and what is added to what stands under them for a number that is of the schema.
+static BOUNDS: [(&str, i64); 5] = [
+    ("minimum", 0),
+    ("maximum", 0),
+    ("exclusiveMinimum", 1),
+    ("exclusiveMaximum", -1),
+    ("multipleOf", 0),
+];
+
+/// The longest list that is made.
+const LONGEST: u64 = 100;
+
+/// The key of a member that is no property.
+const OTHER_KEY: &str = "other";
+
+/// Another choice than the usual one, at the point of this number: the usual one is 0 away.
+#[derive(Clone, Copy)]
+pub(crate) struct Flip {
+    pub(crate) point: usize,
+    pub(crate) away: usize,
+}
+
+/// How a value is made: what is chosen, and between how many at each point.
+#[derive(Drop)]
+pub(crate) struct Draw<'d> {
+    root: &'d Value,
+    alloc: Global,
+    flips: &'d [Flip],
+    /// Whether usually what may be left out is.
+    is_lean: bool,
+    /// Between how many was chosen, at each point.
+    pub(crate) counts: Vec<usize>,
+    pub(crate) parts: usize,
+    references: usize,
+}
+
+impl<'d> Draw<'d> {
+    pub(crate) fn new(
+        alloc: Global,
+        root: &'d Value,
+        is_lean: bool,
+        flips: &'d [Flip],
+    ) -> Draw<'d> {
+        Draw {
+            root,
+            alloc,
+            flips,
+            is_lean,
+            counts: Vec::new(alloc),
+            parts: 0,
+            references: 0,
+        }
+    }
+
+    /// A value of the whole document, if one is made. It need not conform.
+    pub(crate) fn whole(&mut self) -> Result<Option<Value>, AllocError> {
+        let root = self.root;
+        self.of_schema(LEVELS, root)
+    }
+
+    /// Chooses one of so many, which is usually this.
+    fn choose(&mut self, count: usize, usual: usize) -> Result<usize, AllocError> {
+        let point = self.counts.len();
+        self.counts.push(count)?;
+        for flip in self.flips {
+            if flip.point == point && count > 0 {
+                return Ok(usual.saturating_add(flip.away) % count);
+            }
+        }
+        Ok(usual)
+    }
+
+    /// Chooses whether what may be left out is there.
+    fn keeps(&mut self) -> Result<bool, AllocError> {
+        let is_left = self.is_lean || self.references > FEW_REFERENCES;
+        Ok(self.choose(2, usize::from(is_left))? == 0)
+    }
+
+    /// A value of a schema.
+    #[cycle(draw)]
+    fn of_schema(&mut self, levels: usize, schema: &Value) -> Result<Option<Value>, AllocError> {
+        self.parts = self.parts.saturating_add(1);
+        if levels == 0 || self.parts > MOST_PARTS {
+            return Ok(None);
+        }
+        let fewer = levels - 1;
+        match schema {
+            Value::Bool(true) => self.of_any(),
+            Value::Object(_) => self.of_object(fewer, schema),
+            _ => Ok(None),
+        }
+    }
+
+    /// A value of a schema that is an object.
+    #[cycle(draw)]
+    fn of_object(&mut self, levels: usize, schema: &Value) -> Result<Option<Value>, AllocError> {
+        if let Some(reference) = schema.get("$ref") {
+            return self.of_reference(levels, reference);
+        }
+        if let Some(constant) = schema.get("const") {
+            return Ok(Some(constant.clone()?));
+        }
+        if let Some(Value::Array(constants)) = schema.get("enum") {
+            let index = self.choose(constants.len(), 0)?;
+            return match constants.get(index) {
+                Some(constant) => Ok(Some(constant.clone()?)),
+                None => Ok(None),
+            };
+        }
+        match choices_in(schema) {
+            Some(choices) => {
+                let index = self.choose(choices.len(), 0)?;
+                match choices.get(index) {
+                    Some(choice) => self.of_schema(levels, choice),
+                    None => Ok(None),
+                }
+            }
+            None => self.of_types(levels, schema),
+        }
+    }
+
+    /// A value of what a `$ref` points to.
+    #[cycle(draw)]
+    fn of_reference(
+        &mut self,
+        levels: usize,
+        reference: &Value,
+    ) -> Result<Option<Value>, AllocError> {
+        let root = self.root;
+        let Some(schema) = referred(root, reference) else {
+            return Ok(None);
+        };
+        if self.references >= MOST_REFERENCES {
+            return Ok(None);
+        }
+        self.references = self.references.saturating_add(1);
+        let value = self.of_schema(levels, schema)?;
+        self.references = self.references.saturating_sub(1);
+        Ok(value)
+    }
+
+    /// A value of one of the types of a schema.
+    #[cycle(draw)]
+    fn of_types(&mut self, levels: usize, schema: &Value) -> Result<Option<Value>, AllocError> {
+        match schema.get("type") {
+            Some(Value::String(name)) => self.of_type(levels, schema, name.as_str()),
+            Some(Value::Array(names)) => {
+                let index = self.choose(names.len(), 0)?;
+                match names.get(index) {
+                    Some(Value::String(name)) => self.of_type(levels, schema, name.as_str()),
+                    _ => Ok(None),
+                }
+            }
+            _ if is_map_schema(schema) && self.choose(2, 0)? == 0 => self.of_map(levels, schema),
+            _ if schema.get("items").is_some() && self.choose(2, 0)? == 0 => {
+                self.of_list(levels, schema)
+            }
+            _ => self.of_any(),
+        }
+    }
+
+    /// A value of the type of this name.
+    #[cycle(draw)]
+    fn of_type(
+        &mut self,
+        levels: usize,
+        schema: &Value,
+        name: &str,
+    ) -> Result<Option<Value>, AllocError> {
+        match name {
+            "null" => Ok(Some(Value::Null)),
+            "boolean" => Ok(Some(Value::Bool(self.choose(2, 0)? == 0))),
+            "string" => self.of_text(schema),
+            "array" => self.of_list(levels, schema),
+            "object" => self.of_map(levels, schema),
+            _ => self.of_number(schema),
+        }
+    }
+
+    /// A value of any kind.
+    fn of_any(&mut self) -> Result<Option<Value>, AllocError> {
+        let alloc = self.alloc;
+        Ok(Some(match self.choose(6, 0)? {
+            0 => Value::try_from_str(alloc, "a")?,
+            1 => Value::Null,
+            2 => Value::Object(Map::new(alloc)),
+            3 => Value::Array(Vec::new(alloc)),
+            4 => Value::from(1_i64),
+            _ => Value::Bool(true),
+        }))
+    }
+
+    /// One of these values, of which those count that are of the schema.
+    fn one_of(&mut self, schema: &Value, values: Vec<Value>) -> Result<Option<Value>, AllocError> {
+        let root = self.root;
+        let mut fit = values;
+        fit.retain(|value| conforms(root, LEVELS, schema, value));
+        let mut index = self.choose(fit.len(), 0)?;
+        for value in fit.into_iter() {
+            if index == 0 {
+                return Ok(Some(value));
+            }
+            index = index.saturating_sub(1);
+        }
+        Ok(None)
+    }
+
+    /// A number: a small one, or one at a bound.
+    fn of_number(&mut self, schema: &Value) -> Result<Option<Value>, AllocError> {
+        let mut values: Vec<Value> = Vec::new(self.alloc);
+        for number in [1_i64, 0, -1] {
+            values.push(Value::from(number))?;
+        }
+        for (keyword, step) in BOUNDS.iter() {
+            if let Some(number) = bound_in(schema, *keyword, *step) {
+                values.push(Value::from(number))?;
+            }
+        }
+        self.one_of(schema, values)
+    }
+
+    /// A text: a short one, or one of the least length, or of a format.
+    fn of_text(&mut self, schema: &Value) -> Result<Option<Value>, AllocError> {
+        let mut values: Vec<Value> = Vec::new(self.alloc);
+        for text in ["a", "", least_text(schema), format_text(schema)] {
+            values.push(Value::try_from_str(self.alloc, text)?)?;
+        }
+        values.dedup();
+        self.one_of(schema, values)
+    }
+
+    /// A list: usually of one item, or of as many as there have to be.
+    #[cycle(draw)]
+    fn of_list(&mut self, levels: usize, schema: &Value) -> Result<Option<Value>, AllocError> {
+        let least = schema.get("minItems").and_then(Value::as_u64).unwrap_or(0);
+        let is_empty = self.is_lean || self.references > FEW_REFERENCES;
+        let length = match self.choose(3, usize::from(is_empty))? {
+            0 => least.max(1),
+            1 => least,
+            _ => least.max(1).saturating_add(1),
+        };
+        let mut items: Vec<Value> = Vec::new(self.alloc);
+        for _ in 0..length.min(LONGEST) {
+            let item = match schema.get("items") {
+                Some(items) => self.of_schema(levels, items)?,
+                None => self.of_any()?,
+            };
+            match item {
+                Some(item) => items.push(item)?,
+                None => break,
+            }
+        }
+        Ok(Some(Value::Array(items)))
+    }
+
+    /// A map.
+    #[cycle(draw)]
+    fn of_map(&mut self, levels: usize, schema: &Value) -> Result<Option<Value>, AllocError> {
+        let mut members: Map<String, Value> = Map::new(self.alloc);
+        if let Some(Value::Object(properties)) = schema.get("properties") {
+            for (name, property) in properties.iter() {
+                if is_required(schema, name.as_str()) || self.keeps()? {
+                    if let Some(value) = self.of_schema(levels, property)? {
+                        serde_json::put(&mut members, self.alloc, name.as_str(), value)?;
+                    }
+                }
+            }
+        }
+        if let Some(Value::Array(names)) = schema.get("required") {
+            for name in names {
+                if let Value::String(name) = name {
+                    if !is_property(schema, name.as_str()) {
+                        self.add_other(levels, schema, name.as_str(), &mut members)?;
+                    }
+                }
+            }
+        }
+        if self.has_others(schema)? {
+            self.add_other(levels, schema, OTHER_KEY, &mut members)?;
+        }
+        Ok(Some(Value::Object(members)))
+    }
+
+    /// Chooses whether a map has a member that is no property: usually where it has no properties.
+    fn has_others(&mut self, schema: &Value) -> Result<bool, AllocError> {
+        if is_property(schema, OTHER_KEY) || is_required(schema, OTHER_KEY) {
+            return Ok(false);
+        }
+        match schema.get("additionalProperties") {
+            Some(Value::Bool(false)) => Ok(false),
+            _ => {
+                let is_left = self.is_lean || schema.get("properties").is_some();
+                Ok(self.choose(2, usize::from(is_left))? == 0)
+            }
+        }
+    }
+
+    /// Adds a member that is no property.
+    #[cycle(draw)]
+    fn add_other(
+        &mut self,
+        levels: usize,
+        schema: &Value,
+        name: &str,
+        members: &mut Map<String, Value>,
+    ) -> Result<(), AllocError> {
+        let value = match schema.get("additionalProperties") {
+            Some(others) => self.of_schema(levels, others)?,
+            None => self.of_any()?,
+        };
+        match value {
+            Some(value) => serde_json::put(members, self.alloc, name, value),
+            None => Ok(()),
+        }
+    }
+}
+
+/// A number by what stands under a keyword.
+fn bound_in(schema: &Value, keyword: &str, step: i64) -> Option<i64> {
+    schema.get(keyword)?.as_i64()?.checked_add(step)
+}
+
+/// A text of the least length, if it is not too long.
+fn least_text(schema: &Value) -> &'static str {
+    match schema.get("minLength") {
+        Some(Value::Number(least)) => match least.as_u64() {
+            Some(least) if least < 100 => LETTERS.get(..least as usize).unwrap_or(""),
+            _ => "",
+        },
+        _ => "",
+    }
+}
+
+/// A text of the format.
+fn format_text(schema: &Value) -> &'static str {
+    match schema.get("format") {
+        Some(Value::String(format)) => text_of_format(format.as_str()).unwrap_or(""),
+        _ => "",
+    }
+}
+
+/// The alternatives that a value is made by, where nothing is said of fields and items beside them.
+fn choices_in(schema: &Value) -> Option<&[Value]> {
+    if is_map_schema(schema) || schema.get("items").is_some() {
+        return None;
+    }
+    match (schema.get("anyOf"), schema.get("oneOf")) {
+        (Some(Value::Array(choices)), _) | (None, Some(Value::Array(choices))) => {
+            Some(choices.as_slice())
+        }
+        _ => None,
+    }
+}
+
+/// Whether a schema speaks of fields.
+fn is_map_schema(schema: &Value) -> bool {
+    schema.get("properties").is_some()
+        || schema.get("required").is_some()
+        || schema.get("additionalProperties").is_some()
+}
+
+/// Whether a schema requires this key.
+fn is_required(schema: &Value, key: &str) -> bool {
+    let Some(Value::Array(names)) = schema.get("required") else {
+        return false;
+    };
+    for name in names {
+        if name.as_str() == Some(key) {
+            return true;
+        }
+    }
+    false
+}

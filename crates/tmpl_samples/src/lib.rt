@@ -1,0 +1,11 @@
+//! Values of a JSON Schema for which a template fails, and a schema of samples.
+#![tactic(auto)]
+
+mod conform;
+mod draw;
+mod infer;
+mod search;
+mod smaller;
+
+pub use infer::infer_schema;
+pub use search::{Failure, failures_of};
