@@ -340,6 +340,10 @@ WIDE = {"type": "object", "properties": {name: TEXT for name in MANY[:3_200]}, "
 ASKS = "".join("{{if .%s}}{{len .%s}}{{else}}{{range .%s}}{{end}}{{end}}" % (name, name, name) for name in ("x", "y", "z"))
 LISTS = of({"x": ITEMS, "y": ITEMS, "z": ITEMS})
 DOUBLED = {**{f"d{number}": {"anyOf": [{"$ref": f"#/$defs/d{number + 1}"}] * 2} for number in range(300)}, "d300": LISTS}
+# definitions that lead round in a circle, by the items of a list, or by what may be null
+ROUND = [{"$ref": "#/$defs/d0", "$defs": {f"d{number}": of({"name": TEXT, "next": after(f"#/$defs/d{(number + 1) % 300}")}) for number in range(300)}}
+         for after in (lambda path: {"type": "array", "items": {"$ref": path}}, lambda path: {"anyOf": [{"$ref": path}, {"type": "null"}]})]
+WALKS = ['{{define "w"}}{{.name}}{{%s .next}}{{template "w" .}}{{end}}{{end}}{{template "w" .}}' % word for word in ("range", "with")]
 HOSTILE = [
     ("9,900 names in one required", {"type": "object", "required": MANY, "properties": {"x": ITEMS, "y": ITEMS, "z": ITEMS}}, ASKS, DEFAULT, None),
     ("3,200 properties", {**WIDE, "properties": {**WIDE["properties"], **LISTS["properties"]}, "required": [*WIDE["required"], "x", "y", "z"]}, ASKS, [], None),
@@ -351,5 +355,7 @@ HOSTILE = [
     ("names beside a large rest", {"type": "object", "required": MANY[:4_900], "additionalProperties": of({name: TEXT for name in MANY[:1_600]})}, "{{if .name7}}x{{end}}", [], "more than 10000 values"),
     ("500 templates that call one another", of({"x": TEXT}), "".join('{{define "t%d"}}{{.x}}{{template "t%d" .}}{{end}}' % (number, number + 1) for number in range(500))
      + '{{define "t500"}}{{len .x}}{{end}}{{template "t0" .}}', [], None),
+    ("300 definitions in a circle of lists", ROUND[0], WALKS[0], [], None),
+    ("300 definitions in a circle of what may be null", ROUND[1], WALKS[1], [], None),
     ("5,000 lines", of({"x": ITEMS, "y": ITEMS, "z": ITEMS}), "{{range .x}}{{len .}}{{end}}{{if .y}}{{len .z}}{{end}}\n" * 5_000, [], None),
 ]

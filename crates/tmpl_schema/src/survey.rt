@@ -14,7 +14,7 @@ use std::alloc::{AllocError, Global};
 use std::mem;
 use tmpl_meaning::MissingKey;
 use tmpl_shape::{
-    Base, Cause, Shape, Visit, copy_name, copy_shape, either, joined, visit_of, within,
+    Base, Cause, Shape, Visit, copy_name, copy_shape, either, has_name, visit_of, within,
 };
 use tmpl_syntax::{Control, ControlNode, Node, NodeKind, Set};
 use tmpl_values::Bytes;
@@ -301,20 +301,21 @@ fn place(table: &[Entry], name: &[u8]) -> Option<usize> {
     None
 }
 
-/// The alternatives of the one that are not within the other.
+/// The alternatives of the one that are not within the other. A definition that is not one of its alternatives by its name
+/// is not looked for inside of them, which would take long where there are many.
 fn part_beyond(base: &Base<'_>, shape: &Shape, other: &Shape) -> Result<Shape, AllocError> {
-    match shape {
+    let is_within = match shape {
         Shape::Either(one, two) => {
             let one = part_beyond(base, one, other)?;
-            joined(base, one, part_beyond(base, two, other)?)
+            return with_alternatives(base.alloc, one, part_beyond(base, two, other)?);
         }
-        _ => {
-            if within(base, shape, other) {
-                return Ok(Shape::Never);
-            }
-            copy_shape(base.alloc, shape)
-        }
+        Shape::Named(name) => has_name(name.as_slice(), other),
+        _ => within(base, shape, other),
+    };
+    if is_within {
+        return Ok(Shape::Never);
     }
+    copy_shape(base.alloc, shape)
 }
 
 /// The values of both. The alternatives of the first change sides, so that however many are added, one by one, each is
@@ -333,6 +334,7 @@ fn with_alternative(alloc: Global, all: Shape, more: Shape) -> Result<Shape, All
 /// The values of both, where the alternatives of the second are added one by one.
 fn with_alternatives(alloc: Global, all: Shape, more: Shape) -> Result<Shape, AllocError> {
     match more {
+        Shape::Never => Ok(all),
         Shape::Either(one, other) => {
             let all = with_alternatives(alloc, all, Box::into_inner(one))?;
             with_alternatives(alloc, all, Box::into_inner(other))
@@ -407,6 +409,12 @@ fn spread(
     table: &mut Vec<Entry>,
     waiting: &mut Vec<Call>,
 ) -> Result<bool, AllocError> {
+    // by no table each call is one for which the table has less than it hands over
+    let checker = Checker {
+        base: *base,
+        mode: question.mode,
+        table: &[],
+    };
     for visits in 0..MOST_VISITS {
         let Some(call) = waiting.pop() else {
             return Ok(true);
@@ -414,11 +422,6 @@ fn spread(
         if visits / MOST_ROUNDS > table.len().saturating_add(base.definitions.len()) {
             return Ok(false);
         }
-        let checker = Checker {
-            base: *base,
-            mode: question.mode,
-            table: table.as_slice(),
-        };
         let mut found = Found::new(base.alloc);
         survey_template(
             &checker,
@@ -428,10 +431,7 @@ fn spread(
             &mut found,
         )?;
         let Found { wanted, .. } = found;
-        if !wanted.is_empty() {
-            waiting.push(call)?;
-            grow_all(base, question, table, wanted, waiting)?;
-        }
+        grow_all(base, question, table, wanted, waiting)?;
     }
     Ok(false)
 }

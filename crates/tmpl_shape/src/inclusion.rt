@@ -78,7 +78,7 @@ fn is_listed(name: &[u8], fields: &Fields) -> bool
 }
 
 /// Whether this name is one of the alternatives.
-fn has_name(name: &[u8], shape: &Shape) -> bool
+pub fn has_name(name: &[u8], shape: &Shape) -> bool
     ensures { result ≡ has_name name.now (shape_of shape.now) }
 {
     match shape {

@@ -15,7 +15,7 @@ pub use call::call_shape;
 pub use cause::{Cause, Trouble};
 pub use field::{chain_shape, index_shape};
 pub use format::printf_shape;
-pub use inclusion::within;
+pub use inclusion::{has_name, within};
 pub use join::{filled, joined, null_gone, refined};
 pub use kind::{Kind, Kinds, has_kind, kinds_of};
 pub use shape::{
