@@ -383,7 +383,11 @@ fn shape_text(said: Sentence, first: Token<'_>, tokens: &[Token<'_>]) -> Sentenc
 }
 
 /// What is said of an action that is out of place.
-pub fn misplaced_text(alloc: Global, role: Role, outside: Option<Open>) -> Result<String, AllocError> {
+pub fn misplaced_text(
+    alloc: Global,
+    role: Role,
+    outside: Option<Open>,
+) -> Result<String, AllocError> {
     let said = Sentence::new(alloc);
     let said = match role {
         Role::End => said.say(

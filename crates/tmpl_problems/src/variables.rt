@@ -35,7 +35,10 @@ pub(crate) fn declared_names<'b>(
 }
 
 /// The names that an action uses or assigns.
-pub(crate) fn used_names<'b>(alloc: Global, tokens: &[Token<'b>]) -> Result<Vec<&'b [u8]>, AllocError> {
+pub(crate) fn used_names<'b>(
+    alloc: Global,
+    tokens: &[Token<'b>],
+) -> Result<Vec<&'b [u8]>, AllocError> {
     let (_, rest) = tokens.split_at(declaration_len(tokens));
     all_names(alloc, rest)
 }
