@@ -1,4 +1,4 @@
--- What is buffer_seen of the lent memory and the status, where a call ends.
+-- What is seen of the lent memory and the status, where a call ends.
 use Rattle.std.specs.Prelude.{◌≡◌, ◌⊎◌, ◌++◌, ◌||◌, ℕ, Bool, eqb, leb, length, take, if◌then◌else◌}
 use Rattle.tmpl_tool.specs.Outcome.{Answer, memory_line, write_line}
 use Rattle.tmpl_tool.specs.Source.{Bytes}

@@ -41,7 +41,7 @@ pub data Early : Type 0 where
   help : Early
   -- the words are refused
   bad_words : Early
-  -- there is no file of this name, or the read_file of it failed
+  -- there is no file of this name, or the read of it failed
   not_found : Bytes → Early
   unread : Bytes → Early
   -- a template file is refused at this line, or the data are
@@ -83,7 +83,7 @@ stop_answer help = only_text usage
 stop_answer (printed set) = only_text (printed_set set)
 stop_answer bad_words = only_line 2 (codes "arguments refused; see tmpl --help")
 stop_answer (not_found file) = only_line 3 (file ++ codes ": no such file")
-stop_answer (unread file) = record (only_line 3 (file ++ codes ": read_file failed")) { unread = true }
+stop_answer (unread file) = record (only_line 3 (file ++ codes ": read failed")) { unread = true }
 stop_answer (refused file r) =
     only_line 4 (file ++ (codes ":" ++ (decimal r.0 ++ (codes ": " ++ reason_text r.1))))
 stop_answer (unnamed name) = only_line 4 (codes "no template " ++ quote name)
@@ -145,7 +145,7 @@ Failing = ℕ → Bool
 abbrev pub no_read : Failing
 no_read k = false
 
--- the bytes of a file, if the read_file of it does not fail
+-- the bytes of a file, if the read of it does not fail
 abbrev pub read_file : Files → Bool → Bytes → Result Bytes Early
 read_file files fails name = if fails then Err (unread name) else ok_or (files name) (not_found name)
 
@@ -157,7 +157,7 @@ add_file parse set name bytes = result_map_both (λ s. s) (refused name) (parse 
 abbrev pub with_file : Parse → Files → Bool → List Template → Bytes → Result (List Template) Early
 with_file parse files fails set name = and_then (read_file files fails name) (add_file parse set name)
 
--- each FILE in turn, read_file and then parsed, after this many
+-- each FILE in turn, read and then parsed, after this many
 abbrev pub load_each : Parse → Files → Failing → ℕ → List Template → List Bytes → Result (List Template) Early
 load_each parse files fails k set [] = Ok set
 load_each parse files fails k set (name ∷ names) =
@@ -167,7 +167,7 @@ load_each parse files fails k set (name ∷ names) =
 abbrev pub data_in : Bytes → Bytes → Result (Option Value) Early
 data_in name bytes = result_map_both Some (flawed name) (data_of bytes)
 
--- the data, read_file and parsed, if the words name a file of it
+-- the data, read and parsed, if the words name a file of it
 abbrev pub data_found : Files → Bool → Option Bytes → Result (Option Value) Early
 data_found files fails None = Ok None
 data_found files fails (Some name) = and_then (read_file files fails name) (data_in name)
@@ -204,7 +204,7 @@ file_reads parse files fails k set [] = []
 file_reads parse files fails k set (name ∷ names) = name ∷ option_map_or
     (λ s. file_reads parse files fails (suc k) s names) (result_ok (with_file parse files (fails k) set name)) []
 
--- the files that are read_file, in order: the FILEs, and then the data of a run
+-- the files that are read, in order: the FILEs, and then the data of a run
 abbrev pub tool_reads : Parse → List Bytes → Files → Failing → List Bytes
 tool_reads parse words files fails = option_map_or (λ w. file_reads parse files fails 0 [] w.files ++ option_map_or
     (λ set. option_to_list (data_wanted w)) (result_ok (load_each parse files fails 0 [] w.files)) [])
@@ -227,13 +227,13 @@ pub record Observed : Type 0 where
 abbrev pub MadeOf : (List Bytes → Type 0) → List Bytes → Type 0
 MadeOf Made names = (front : List Bytes) × (rest : List Bytes) × (front ++ rest ≡ names) × Made front
 
--- no read_file failed: these reads were made, or memory was refused, and a beginning of them was; and this comes of it
+-- no read failed: these reads were made, or memory was refused, and a beginning of them was; and this comes of it
 abbrev pub NoneFailed : List Bytes → Answer → Observed → Type 0
 NoneFailed reads answer o = (o.failed_after ≡ o.failed_before)
     × (Asked o.asked_before o.asked_after reads ⊎ ((o.code ≡ 7) × MadeOf (Asked o.asked_before o.asked_after) reads))
     × Outcome answer o.out o.err o.code
 
--- a read_file failed, at which the command stops: these reads were made, and this comes of it
+-- a read failed, at which the command stops: these reads were made, and this comes of it
 abbrev pub OneFailed : List Bytes → Answer → Observed → Type 0
 OneFailed reads answer o = (o.failed_after ≡ o.failed_before + 1) × (answer.unread ≡ true)
     × Asked o.asked_before o.asked_after reads × Outcome answer o.out o.err o.code
