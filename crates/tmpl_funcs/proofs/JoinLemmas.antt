@@ -1,4 +1,4 @@
--- For `add_joined`, `add_parted` and `print`: operands are join_operands one by one.
+-- For `add_joined`, `add_parted` and `print`: operands are joined one by one.
 use Rattle.std.proofs.Common.{◌≡◌, ℕ, Bool, true, false, ◌||◌, List, [], ◌∷◌, ◌++◌, map, refl, sym, ap, append-nil}
 use Rattle.std.specs.List.{join_with_byte}
 use Rattle.std.proofs.lemmas.List.{map-id}
@@ -37,7 +37,7 @@ pub parted-by : (vs : List Value) → join_with_byte 32 (map inner_text vs) ≡ 
 parted-by [] = refl
 parted-by (v ∷ vs) = spaced-by v vs
 
--- the values that are join_operands
+-- the values that are joined
 abbrev pub operands_of : NothingText → List Cell → List Value
 operands_of m cells = map (operand_shown m) (values_of cells)
 

@@ -6,7 +6,7 @@ use Rattle.tmpl_values.specs.Compare.{equality, order}
 use Rattle.tmpl_funcs.specs.declared.fault.CallFault.{CallFault}
 use Rattle.tmpl_funcs.specs.declared.fault.CallFault.TheVariants.{NotComparable}
 
--- whether the first value equals one of the others, comparison_answer in order up to the first equal one
+-- whether the first value equals one of the others, compared in order up to the first equal one
 abbrev pub equal_to_one : Value → List Value → Option Bool
 equal_to_one v [] = Some false
 equal_to_one v (w ∷ ws) = option_and_then (λ equal. if equal then Some true else equal_to_one v ws) (equality v w)
@@ -15,6 +15,6 @@ equal_to_one v (w ∷ ws) = option_and_then (λ equal. if equal then Some true e
 abbrev pub at_most : Value → Value → Option Bool
 at_most v w = option_and_then (λ below. if below then Some true else equality v w) (order v w)
 
--- the answer of a comparison; values that can't be comparison_answer are a fault
+-- the answer of a comparison; values that can't be compared are a fault
 abbrev pub comparison_answer : Option Bool → Result Value CallFault
 comparison_answer answer = ok_or (option_map boolean answer) NotComparable

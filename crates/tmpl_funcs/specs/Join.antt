@@ -10,7 +10,7 @@ use Rattle.tmpl_values.specs.Text.{inner_text}
 abbrev pub is_string : Value → Bool
 is_string v = is_some (bytes_of v)
 
--- the operands join_operands, with a space between two neighbours where neither is a string; nothing is `<nil>`
+-- the operands joined, with a space between two neighbours where neither is a string; nothing is `<nil>`
 abbrev pub join_operands : List Value → List ℕ
 join_operands [] = []
 join_operands (v ∷ []) = inner_text v

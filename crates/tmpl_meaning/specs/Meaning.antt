@@ -21,7 +21,7 @@ use Rattle.tmpl_meaning.specs.declared.missing_key.MissingKey.{MissingKey}
 
 -- ---- variables
 
--- a value assign_variable to the newest variable of a name
+-- a value assigned to the newest variable of a name
 abbrev pub assign_variable : List ℕ → Value → Environment → Environment
 assign_variable name x [] = []
 assign_variable name x (v ∷ env) = if bytes_eq v.0 name then (v.0, x) ∷ env else v ∷ assign_variable name x env
@@ -95,7 +95,7 @@ with_pipeline s line p d go r =
     with_value s line g.result go (record r { made_text = r.made_text || g.made_text })
 
 -- a part whose variables last to its end: after it there are the oldest, as many as there were before it, so those
--- declared in it are gone, and values assign_variable stay
+-- declared in it are gone, and values assigned stay
 abbrev pub scope : Next → Next
 scope part r = let q = part r in (record q.0 { env = drop (length q.0.env - length r.env) q.0.env }, q.1)
 

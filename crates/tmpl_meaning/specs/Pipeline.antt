@@ -54,7 +54,7 @@ without_null v = v
 
 -- ---- what evaluating gives
 
--- something or why there is none, and whether a function that makes a text was table_answer with all its arguments
+-- something or why there is none, and whether a function that makes a text was called with all its arguments
 pub record Given (T : Type 0) : Type 0 where
   pub result : Result T Cause
   pub made_text : Bool
@@ -62,7 +62,7 @@ pub record Given (T : Type 0) : Type 0 where
 abbrev pub as_given : {T : Type 0} → Result T Cause → Given T
 as_given r = record { result = r; made_text = false }
 
--- goes on with what is as_given, or stops
+-- goes on with what is given, or stops
 abbrev pub go_on : {T U : Type 0} → Result T Cause → Bool → (T → Given U) → Given U
 go_on (Ok t) made_text next = record { result = (next t).result; made_text = made_text || (next t).made_text }
 go_on (Err cause) made_text next = record { result = Err cause; made_text = made_text }

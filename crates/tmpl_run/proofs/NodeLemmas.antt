@@ -1,4 +1,4 @@
--- For the law `comes_to_meaning`: the pipeline of a header and what is bound to its value, what is to be show of the
+-- For the law `comes_to_meaning`: the pipeline of a header and what is bound to its value, what is to be shown of the
 -- code of a node, and that the code of actions, `if` and `with` comes to what they mean.
 use Rattle.std.proofs.Common.{arith, ◌≡◌, ◌∙◌, ◌+◌, ◌≤◌, ◌||◌, ℕ, Bool, true, false, List, ◌∷◌, length, drop, refl, ap, sym, Option, Some, None, Result, Ok}
 use Rattle.std.proofs.Common.{Err, ◌++◌, ◌-◌, [], suc, subst}
@@ -172,7 +172,7 @@ module _ (way : Way) (calls : Calls) (spare : ℕ) where
     pub inside : Inside way.home g lay fr
     pub fits : length fr + need + spare ≤ way.room
 
-  -- what is to be show of nodes, and of a node whose step is taken
+  -- what is to be shown of nodes, and of a node whose step is taken
   abbrev pub NodesLead : Nodes → Type 0
   NodesLead ns =
       (g : Option Ring) (lay : Layout) (fr : Frame) (here rest : Code) (s : State) → NodesAt way.plan.templates ns lay (exit_of g) here rest

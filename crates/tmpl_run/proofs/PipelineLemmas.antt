@@ -46,7 +46,7 @@ some-both f g (suc n) none e t = omega arith
 
 -- ---- values on the stack
 
--- a value that is turn_of_operation
+-- a value that is piped
 abbrev with : Option Value → List Cell → List Cell
 with None cs = cs
 with (Some p) cs = fresh p ∷ cs
@@ -100,7 +100,7 @@ arguments-same : (os : Operands) (turn_of_operation : Option Value)
     → meaning.operand_count os + length (option_to_list turn_of_operation) ≡ operand_count os + piped_count (is_some turn_of_operation)
 arguments-same os turn_of_operation = grind (arith, count-same)
 
--- ---- what follows what is as_given
+-- ---- what follows what is given
 
 module _ (way : Way) (s : State) where
   -- from this code on, wherever the machine stands at it, the run comes to its end with these cells and this mark
@@ -111,12 +111,12 @@ module _ (way : Way) (s : State) where
   abbrev pub Puts : Code → List Cell → Value → Bool → Type 0
   Puts rest cs v m = Goes rest (fresh v ∷ cs) m
 
-  -- goes on with what was as_given, or is at its end with the fault
+  -- goes on with what was given, or is at its end with the fault
   abbrev pub FollowsBy : {T : Type 0} → Result T Cause → Bool → (T → Bool → Type 0) → Type 0
   FollowsBy (Ok v) m Go = Go v m
   FollowsBy (Err cause) m Go = ran_so (record s { made_text = m }) (Some (fault_in way.me s.line cause)) ≡ way.end
 
-  -- the mark stands last, so that it is what it was where no function made what is as_given
+  -- the mark stands last, so that it is what it was where no function made what is given
   abbrev Follows : {T : Type 0} → Given T → Bool → (T → Bool → Type 0) → Type 0
   Follows g m Go = FollowsBy g.result (g.made_text || m) Go
 
@@ -193,7 +193,7 @@ module _ (way : Way) (s : State) where
 
     -- ---- `and` and `or`
 
-    -- what decides is passed over the other operands, and a turn_of_operation value below it is forgotten
+    -- what decides is passed over the other operands, and a piped value below it is forgotten
     short : {mid more rest : Code} {v : Value} {m : Bool} (cs : List Cell) (stop : Bool) (turn_of_operation : Option Value) (skip : ℕ) (others : Given Value)
         → mid ≡ act (decide stop (is_some turn_of_operation) skip) ∷ more → drop skip more ≡ rest → (Follows others m (Puts rest cs) → Goes more (with turn_of_operation cs) m)
         → Follows (decided (decides stop v) v others) m (Puts rest cs) → Puts mid (with turn_of_operation cs) v m
@@ -272,7 +272,7 @@ module _ (way : Way) (s : State) where
           (follows-then (commands_value here commands None) m _ (Puts rest cs) (Puts (chain_before names rest) cs) (λ v b k. chained-leads names rest k) k)
       operand-leads o rest h room l k = steps l (omega arith) k
 
-      -- above this many operands and a turn_of_operation value of the call
+      -- above this many operands and a piped value of the call
       operands-leads : {n : ℕ} {lay : Layout} {code : Code} {cs : List Cell} {m : Bool} (os : Operands) (above : ℕ) (rest : Code) (base : ℕ)
           → Slots n lay cs env
           → length cs ≡ base + above → base + need_of_arguments above os ≤ way.room → OperandsAt os n lay code rest

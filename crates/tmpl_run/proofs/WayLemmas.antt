@@ -150,7 +150,7 @@ module _ (way : Way) where
       by (ended r) e h = record { ends = (1, (able, subst (λ x. Comes (λ t. RunsTo way.plan way.room 0 t way.end) x way.end) (sym (after ∙ e)) h)) }
       by stuck e h = absurd h
 
-  -- where a part that is carry_out goes on
+  -- where a part that is done goes on
   abbrev pub Onward : Code → Layout → Frame → Value → Run → Type 0
   Onward rest lay fr d r = (t : State) → Stands way.plan way.who rest lay fr t → t.dot ≡ d → run_of lay t ≡ r → Leading t
 

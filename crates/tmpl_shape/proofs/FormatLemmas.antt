@@ -52,7 +52,7 @@ taken-if : {T U : Type 0} (c : Bool) (o : Option T) (p : Option U) → (is_some 
 taken-if true o p f h = f h
 taken-if false o p f h = h
 
--- a text is pad whatever it is
+-- a text is padded whatever it is
 taken-form : (f : Form) (a b : List ℕ) → IsTaken (text_form f (Some a)) → IsTaken (text_form f (Some b))
 taken-form f a b h = taken-if (not (f.plus || (f.zero || f.space))) (Some (pad f a)) (Some (pad f b)) (λ e. refl) h
 

@@ -51,7 +51,7 @@ ended last ys s r = by s.frames refl
     by [] e = law.none (judged [] e)
     by (f ∷ fs) e = law.left_open (judged (f ∷ fs) e)
 
--- ---- what is ask leaves what stands as it was, unless the item is an else branch
+-- ---- what is asked leaves what stands as it was, unless the item is an else branch
 
 -- an item that is mended uses nothing, and is an else branch where it was one
 abbrev pub StaysBranch : Role → Role → Type 0

@@ -1,4 +1,4 @@
--- The set of templates: a list of names and trees, in the order in which the names were first add_definition, which is our
+-- The set of templates: a list of names and trees, in the order in which the names were first defined, which is our
 -- own rule. That a blank definition replaces no body is from the documentation of Go's `Template.Parse`.
 use Rattle.std.specs.Prelude.{ℕ, Bool, true, false, ◌&&◌, List, [], ◌∷◌, Option, find, position, option_map}
 use Rattle.std.specs.Prelude.{if◌then◌else◌}

@@ -18,6 +18,6 @@ abbrev pub or_itself : ℕ → Option (List ℕ) → List ℕ
 or_itself b None = b ∷ []
 or_itself b (Some text) = text
 
--- the operands join_operands and escaped
+-- the operands joined and escaped
 abbrev pub escaped_of : Escape → List Value → Result Value CallFault
 escaped_of escape vs = Ok (string (flat_map (escaped_byte escape) (join_operands (map as_text vs))))

@@ -18,7 +18,7 @@ use Rattle.tmpl_funcs.specs.printf.Form.{Form, is_bare}
 use Rattle.tmpl_funcs.specs.printf.Pad.{pad, laid_out}
 use Rattle.tmpl_funcs.specs.printf.Rune.{truncated_to}
 
--- the text of a value that is no number, pad, in a form with no flag but `-`
+-- the text of a value that is no number, padded, in a form with no flag but `-`
 abbrev pub text_form : Form → Option (List ℕ) → Option (List ℕ)
 text_form f text = if not (f.plus || (f.zero || f.space)) then option_map (pad f) text else None
 

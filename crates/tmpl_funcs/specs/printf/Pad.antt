@@ -1,4 +1,4 @@
--- Texts and numbers pad to the width of a form ("Printing" in the documentation of `fmt`: "Width is measured in
+-- Texts and numbers padded to the width of a form ("Printing" in the documentation of `fmt`: "Width is measured in
 -- units of Unicode code points, that is, runes").
 use Rattle.std.specs.Prelude.{ℕ, ◌+◌, ◌-◌, List, ◌++◌, length, replicate, if◌then◌else◌}
 use Rattle.std.specs.Str.{byte}

@@ -66,7 +66,7 @@ added_text mode i s = []
 abbrev pub beyond : MissingKey → Instruction → State → State → State
 beyond mode i s t = record t { text = added_text mode i s; made_text = mark_after i false }
 
--- it was carried out, and the run goes on or is over, or it stops; where a put fail_with it was carried out up to that
+-- it was carried out, and the run goes on or is over, or it stops; where a put failed it was carried out up to that
 abbrev pub Executed : Plan → Instruction → Machine → Machine → Result Flow Halt → Type 0
 Executed plan i m n (Ok flow.On) =
     carry_out plan no_template i (state_of m) ≡ goes (beyond plan.rules.missing_key i (state_of m) (state_of n))
@@ -108,7 +108,7 @@ StepTaken limit line m n (Err (stop.Fault kind)) =
 StepTaken limit line m n (Err stop.WriteFailed) = ⊥
 StepTaken limit line m n (Err stop.OutOfMemory) = ⊥
 
--- whether a put fail_with
+-- whether a put failed
 abbrev pub put_by : {A : Type 0} → Result A Halt → Result (Unit {0}) SinkFault
 put_by (Ok a) = Ok tt
 put_by (Err (stop.Fault kind)) = Ok tt

@@ -1,4 +1,4 @@
--- Laws of print_nodes trees.
+-- Laws of printed trees.
 use Rattle.std.specs.Prelude.{◌≡◌, ◌≤◌, ℕ, List, [], ◌∷◌, ◌++◌, length, map, MatchOption, codes}
 use Rattle.tmpl_values.specs.Bytes.{AreBytes}
 use Rattle.tmpl_syntax.specs.Tree.{Nodes, none, then, text, Definition}
@@ -22,7 +22,7 @@ pub data Says : List Said → List Item → Type 0 where
   says : {line : ℕ} {a : Action} {ss : List Said} {xs : List Item} → Says ss xs
       → Says (said a ∷ ss) (item line (action_item a) ∷ xs)
 
--- print_nodes nodes are cut into pieces, and these are read as items, which spell no definition, and the same nodes apart
+-- printed nodes are cut into pieces, and these are read as items, which spell no definition, and the same nodes apart
 -- from lines
 pub record ReadBack (ns : Nodes) : Type 0 where
   pub items : List Item
@@ -35,7 +35,7 @@ pub record ReadBack (ns : Nodes) : Type 0 where
 abbrev pub ReadsSame : Type 0
 ReadsSame = (ns : Nodes) → IsPrintable ns → ReadBack ns
 
--- a template of each definition that a file of bytes spells can be print_nodes, and so can the file's own
+-- a template of each definition that a file of bytes spells can be printed, and so can the file's own
 abbrev pub KeepsPrintable : Type 0
 KeepsPrintable =
     (language : Language) (bytes : List ℕ) (items : List Item) (ds : List Definition) (own : Nodes) → AreBytes bytes
@@ -79,7 +79,7 @@ pub record SetBack (bytes : List ℕ) (ts : List Template) : Type 0 where
 abbrev pub SetReadsSame : Type 0
 SetReadsSame = (ts : List Template) → ArePrintable ts → SetBack (printed_set ts) ts
 
--- ---- a print_nodes set as a file
+-- ---- a printed set as a file
 
 -- where a template has the base name of this file, these are the same templates in the same order, apart from files and
 -- lines; where none has it, there is one more, which is last: that of the file, of newlines alone
@@ -95,13 +95,13 @@ pub record IsAcceptedAs (file bytes : List ℕ) (ts : List Template) : Type 0 wh
   pub accepted : IsAccepted every_action [] file bytes set
   pub same : IsSameSet file ts set
 
--- what is print_nodes of a set is accepted, as a file of any path, unless it is longer than a file may be
+-- what is printed of a set is accepted, as a file of any path, unless it is longer than a file may be
 abbrev pub AcceptsPrinted : Type 0
 AcceptsPrinted =
     (ts : List Template) (file : List ℕ) → IsSet ts → length (printed_set ts) ≤ most_bytes
     → IsAcceptedAs file (printed_set ts) ts
 
--- sets that are alike apart from files and lines are print_nodes as the same bytes
+-- sets that are alike apart from files and lines are printed as the same bytes
 abbrev pub PrintsAlike : Type 0
 PrintsAlike =
     (ts us : List Template) → map unlined_template us ≡ map unlined_template ts → printed_set us ≡ printed_set ts

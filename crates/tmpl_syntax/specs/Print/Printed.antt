@@ -1,4 +1,4 @@
--- How a tree and a set are print_nodes: their texts and actions one after the other.
+-- How a tree and a set are printed: their texts and actions one after the other.
 use Rattle.std.specs.Prelude.{ℕ, nat_eq, List, [], ◌∷◌, ◌++◌, Option, Some, None, flat_map, codes}
 use Rattle.std.specs.Prelude.{if◌then◌else◌}
 use Rattle.std.specs.List.{ends_with}

@@ -74,7 +74,7 @@ after x s =
     let seen = names_at x (top s.frames) s.known.inner in
     record { frames = frames_after x s.frames seen; known = known_after x (top s.frames) (with_inner s.known seen) }
 
--- whether the form or the place of an item decides on it, so that its names are not ask for
+-- whether the form or the place of an item decides on it, so that its names are not asked for
 abbrev pub place_decides : Option Reason → Bool
 place_decides None = false
 place_decides (Some reason.undeclared_variable) = false
