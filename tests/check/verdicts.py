@@ -354,7 +354,8 @@ def drawn_reasons(seed, count):
             for line in lines:
                 found = ABSENT.fullmatch(line) or KIND.fullmatch(line)
                 other = mended(schema, int(found[found.lastindex]), found) if found else None
-                if other is None:
+                # an action that may fail is told by its first column, so of two in a line that ask for one name nothing is known
+                if other is None or found.re is ABSENT and template.split("\n")[int(line.split(":")[1]) - 1].count(f".{found[2]}") > 1:
                     continue
                 tried += 1
                 _, after = said_of(folder, json.dumps(other, indent=1), template, words)

@@ -341,8 +341,14 @@ ASKS = "".join("{{if .%s}}{{len .%s}}{{else}}{{range .%s}}{{end}}{{end}}" % (nam
 LISTS = of({"x": ITEMS, "y": ITEMS, "z": ITEMS})
 DOUBLED = {**{f"d{number}": {"anyOf": [{"$ref": f"#/$defs/d{number + 1}"}] * 2} for number in range(300)}, "d300": LISTS}
 # definitions that lead round in a circle, by the items of a list, or by what may be null
-ROUND = [{"$ref": "#/$defs/d0", "$defs": {f"d{number}": of({"name": TEXT, "next": after(f"#/$defs/d{(number + 1) % 300}")}) for number in range(300)}}
-         for after in (lambda path: {"type": "array", "items": {"$ref": path}}, lambda path: {"anyOf": [{"$ref": path}, {"type": "null"}]})]
+def circle(count, after):
+    """This many definitions, each with the next one after a name, and the first after the last."""
+    names = {f"d{number}": of({"name": TEXT, "next": after(f"#/$defs/d{(number + 1) % count}")}) for number in range(count)}
+    return {"$ref": "#/$defs/d0", "$defs": names}
+
+
+LISTS_ROUND = circle(300, lambda path: {"type": "array", "items": {"$ref": path}})
+NULLS_ROUND = circle(100, lambda path: {"anyOf": [{"$ref": path}, {"type": "null"}]})
 WALKS = ['{{define "w"}}{{.name}}{{%s .next}}{{template "w" .}}{{end}}{{end}}{{template "w" .}}' % word for word in ("range", "with")]
 HOSTILE = [
     ("9,900 names in one required", {"type": "object", "required": MANY, "properties": {"x": ITEMS, "y": ITEMS, "z": ITEMS}}, ASKS, DEFAULT, None),
@@ -355,7 +361,7 @@ HOSTILE = [
     ("names beside a large rest", {"type": "object", "required": MANY[:4_900], "additionalProperties": of({name: TEXT for name in MANY[:1_600]})}, "{{if .name7}}x{{end}}", [], "more than 10000 values"),
     ("500 templates that call one another", of({"x": TEXT}), "".join('{{define "t%d"}}{{.x}}{{template "t%d" .}}{{end}}' % (number, number + 1) for number in range(500))
      + '{{define "t500"}}{{len .x}}{{end}}{{template "t0" .}}', [], None),
-    ("300 definitions in a circle of lists", ROUND[0], WALKS[0], [], None),
-    ("300 definitions in a circle of what may be null", ROUND[1], WALKS[1], [], None),
+    ("300 definitions in a circle of lists", LISTS_ROUND, WALKS[0], [], None),
+    ("100 definitions in a circle of what may be null", NULLS_ROUND, WALKS[1], [], None),
     ("5,000 lines", of({"x": ITEMS, "y": ITEMS, "z": ITEMS}), "{{range .x}}{{len .}}{{end}}{{if .y}}{{len .z}}{{end}}\n" * 5_000, [], None),
 ]
