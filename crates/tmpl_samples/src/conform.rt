@@ -40,7 +40,7 @@ pub(crate) fn referred<'d>(root: &'d Value, reference: &Value) -> Option<&'d Val
     root.pointer(pointer)
 }
 
-/// Whether a value conforms to a schema of the document, as far as so many levels show.
+/// Whether a value conforms to a schema of the document, as far as this many levels show.
 #[cycle(conform)]
 pub(crate) fn conforms(root: &Value, levels: usize, schema: &Value, value: &Value) -> bool {
     if levels == 0 {

@@ -79,7 +79,7 @@ impl<'d> Draw<'d> {
         self.of_schema(LEVELS, root)
     }
 
-    /// Chooses one of so many, which is usually this.
+    /// Chooses one of this many, which is usually this.
     fn choose(&mut self, count: usize, usual: usize) -> Result<usize, AllocError> {
         let point = self.counts.len();
         self.counts.push(count)?;

@@ -88,7 +88,7 @@ pub fn has_name(name: &[u8], shape: &Shape) -> bool
     }
 }
 
-/// Whether each value of the one has the other, as far as as many steps as these show.
+/// Whether each value of the one has the other, as far as these steps show.
 #[cycle(within)]
 fn within_by(base: &Base<'_>, names: usize, steps: usize, one: &Shape, other: &Shape) -> bool
     ensures { result ≡ within_by (base_of base.now) names steps (shape_of one.now) (shape_of other.now) }
@@ -125,7 +125,7 @@ fn name_within(base: &Base<'_>, names: usize, steps: usize, name: &[u8], other: 
     }
 }
 
-/// Whether some alternative has each value of a shape of one kind, as far as as many steps show.
+/// Whether some alternative has each value of a shape of one kind, as far as this many steps show.
 #[cycle(within)]
 fn some_part(
     base: &Base<'_>,

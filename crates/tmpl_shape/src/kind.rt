@@ -47,7 +47,7 @@ fn is_of_kind(kind: Kind, shape: &Shape) -> bool
     }
 }
 
-/// Whether values of the kind may be among these, as far as as many steps show.
+/// Whether values of the kind may be among these, as far as this many steps show.
 fn may_be(base: &Base<'_>, steps: usize, kind: Kind, shape: &Shape) -> bool
     ensures { result ≡ may_be (base_of base.now) steps kind (shape_of shape.now) }
 {

@@ -129,7 +129,7 @@ number_visit (declare_pair key name) = None
 number_visit c = visit numbers numbers
 
 module _ (base : Base) where
-  -- some alternative is such, or it has each value, as far as as many steps show
+  -- some alternative is such, or it has each value, as far as this many steps show
   abbrev pub some_part : ℕ → (Shape → Bool) → Shape → Bool
   some_part zero p t = false
   some_part (suc n) p (either s t) = some_part n p s || some_part n p t
