@@ -62,7 +62,7 @@ fn find<'a>(files: &[File<'a>], name: &str) -> Option<&'a [u8]>
 }
 
 impl Source for LentFiles<'_> {
-    ghost contents = { λ s. Some (λ name. found name s.files.now) };
+    ghost contents = { λ s. Some (λ name. file_bytes name s.files.now) };
 
     ghost failures = { λ s. s.failures };
 
