@@ -1,6 +1,6 @@
 //! Which build the program is, as `make install` writes it into the program's file.
 
-use crate::entry::Stop;
+use crate::stop::Stop;
 use std::alloc::{AllocError, Global};
 use std::fs::File;
 use std::io::{self, ErrorKind, Read};

@@ -1,10 +1,11 @@
 //! The files of a request, read from the file system.
 
-use crate::entry::Stop;
+use crate::stop::Stop;
 use crate::words::Request;
 use std::fs::File;
 use std::io::{self, ErrorKind, Read};
 use std::random::RandomSource;
+use tmpl_report::{Source, Sources};
 use tmpl_syntax::NameHash;
 
 /// The name by which standard input is read.
@@ -13,25 +14,9 @@ const STANDARD_INPUT: &str = "/dev/stdin";
 /// The most bytes that are read of a template file: one more than it may have.
 const MOST_READ: u64 = 16_777_217;
 
-/// A file that was read.
-#[derive(Drop)]
-pub(crate) struct Loaded<'a> {
-    pub(crate) name: &'a str,
-    pub(crate) bytes: Vec<u8>,
-}
-
-/// The files that were read, and whether others could not be.
-#[derive(Drop)]
-pub(crate) struct AllLoaded<'a> {
-    pub(crate) templates: Vec<Loaded<'a>>,
-    pub(crate) data: Option<Loaded<'a>>,
-    pub(crate) schema: Option<Loaded<'a>>,
-    pub(crate) is_short: bool,
-}
-
 /// Reads the files of a request, and says of each that can't be read why.
-pub(crate) fn load_all<'a>(rt: &HostRuntime, request: &Request<'a>) -> Result<AllLoaded<'a>, Stop> {
-    let mut all = AllLoaded {
+pub(crate) fn load_all<'a>(rt: &HostRuntime, request: &Request<'a>) -> Result<Sources<'a>, Stop> {
+    let mut all = Sources {
         templates: Vec::new(rt.alloc()),
         data: None,
         schema: None,
@@ -63,9 +48,9 @@ pub(crate) fn load<'a>(
     rt: &HostRuntime,
     name: &'a str,
     most: u64,
-) -> Result<Option<Loaded<'a>>, Stop> {
+) -> Result<Option<Source<'a>>, Stop> {
     match read_front(rt, name, most) {
-        Ok(bytes) => Ok(Some(Loaded { name, bytes })),
+        Ok(bytes) => Ok(Some(Source { name, bytes })),
         Err(error) => match error.kind() {
             ErrorKind::OutOfMemory => Err(Stop::OutOfMemory),
             ErrorKind::NotFound => {

@@ -2,25 +2,19 @@
 #![tactic(auto)]
 
 mod build;
-mod entry;
 mod files;
-mod findings;
-mod infer;
-mod json;
-mod rule;
-mod sarif;
-mod schema;
-mod text;
+mod stop;
 mod words;
 
 use crate::build::version_line;
-use crate::entry::Stop;
-use crate::findings::{Findings, findings_of};
-use crate::words::{Format, Request, command, request_of};
+use crate::files::{load, load_all, name_hash};
+use crate::stop::Stop;
+use crate::words::{Request, command, request_of};
 use clap::error::ErrorKind;
 use std::env;
 use std::io::{ErrorKind as IoErrorKind, Write};
 use std::process::ExitCode;
+use tmpl_report::{Findings, Format, Inferred, findings_of, infer_from};
 
 /// Runs the command over the file system and the standard streams.
 fn main(rt: HostRuntime) -> ExitCode {
@@ -70,12 +64,12 @@ fn run(rt: &HostRuntime) -> Result<u8, Stop> {
 /// Checks the files of a request, and puts out what is found.
 fn check(rt: &HostRuntime, request: &Request<'_>) -> Result<u8, Stop> {
     if request.is_to_infer {
-        return infer::infer_all(rt, request);
+        return infer(rt, request);
     }
-    let loaded = files::load_all(rt, request)?;
-    let findings = findings_of(rt.alloc(), files::name_hash(rt), request, &loaded)?;
+    let sources = load_all(rt, request)?;
+    let findings = findings_of(rt.alloc(), name_hash(rt), &request.question, &sources)?;
     put_out(rt, request.format, &findings)?;
-    if loaded.is_short {
+    if sources.is_short {
         Ok(3)
     } else if findings.has_errors() {
         Ok(1)
@@ -84,23 +78,39 @@ fn check(rt: &HostRuntime, request: &Request<'_>) -> Result<u8, Stop> {
     }
 }
 
+/// Prints a schema of the files of a request, or what is wrong in them.
+fn infer(rt: &HostRuntime, request: &Request<'_>) -> Result<u8, Stop> {
+    let mut sources = Vec::new(rt.alloc());
+    let mut is_short = false;
+    for name in request.files.as_slice() {
+        match load(rt, *name, u64::MAX)? {
+            Some(source) => sources.push(source)?,
+            None => is_short = true,
+        }
+    }
+    match infer_from(rt.alloc(), sources.as_slice())? {
+        Inferred::Schema(schema) if !is_short => {
+            write_all(rt, schema.as_str())?;
+            Ok(0)
+        }
+        Inferred::Schema(_) => {
+            put_out(rt, request.format, &Findings::new(rt.alloc()))?;
+            Ok(3)
+        }
+        Inferred::Refused(findings) => {
+            put_out(rt, request.format, &findings)?;
+            Ok(if is_short { 3 } else { 1 })
+        }
+    }
+}
+
 /// Puts out what is found.
-pub(crate) fn put_out(
-    rt: &HostRuntime,
-    format: Format,
-    findings: &Findings<'_>,
-) -> Result<(), Stop> {
-    let alloc = rt.alloc();
-    let shown = match format {
-        Format::Text => text::lines(alloc, findings)?,
-        Format::Json => json::document(alloc, findings)?,
-        Format::Sarif => sarif::document(alloc, findings)?,
-    };
-    write_all(rt, shown.as_str())
+fn put_out(rt: &HostRuntime, format: Format, findings: &Findings<'_>) -> Result<(), Stop> {
+    write_all(rt, findings.text(rt.alloc(), format)?.as_str())
 }
 
 /// Writes a text to the standard output.
-pub(crate) fn write_all(rt: &HostRuntime, text: &str) -> Result<(), Stop> {
+fn write_all(rt: &HostRuntime, text: &str) -> Result<(), Stop> {
     let mut out = rt.stdout();
     match out.write_all(text.as_bytes()) {
         Ok(()) => {}

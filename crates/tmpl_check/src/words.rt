@@ -3,6 +3,7 @@
 use clap::{Arg, ArgAction, ArgMatches, Command};
 use std::alloc::{AllocError, Global};
 use tmpl_meaning::MissingKey;
+use tmpl_report::{Format, Question};
 
 /// The words of `--format`.
 static FORMATS: [&str; 3] = ["text", "json", "sarif"];
@@ -10,24 +11,12 @@ static FORMATS: [&str; 3] = ["text", "json", "sarif"];
 /// The words of `--missingkey`.
 static MODES: [&str; 4] = ["default", "invalid", "zero", "error"];
 
-/// How what is found is put out.
-#[derive(Clone, Copy)]
-pub(crate) enum Format {
-    Text,
-    Json,
-    Sarif,
-}
-
 /// What the words ask for.
 #[derive(Drop)]
 pub(crate) struct Request<'a> {
     pub(crate) data_file: Option<&'a str>,
-    pub(crate) name: Option<&'a str>,
     pub(crate) schema_file: Option<&'a str>,
-    /// The mode for missing keys by which the template is checked; none where it is checked by each.
-    pub(crate) mode: Option<MissingKey>,
-    /// The names of templates that need not be there.
-    pub(crate) stops: Vec<&'a str>,
+    pub(crate) question: Question<'a>,
     pub(crate) format: Format,
     /// Whether a schema of the files is asked for.
     pub(crate) is_to_infer: bool,
@@ -98,7 +87,7 @@ pub(crate) fn request_of<'a>(
     alloc: Global,
     matches: &ArgMatches<'a>,
 ) -> Result<Request<'a>, AllocError> {
-    let files = match matches.get_strs("file") {
+    let files: Vec<&'a str> = match matches.get_strs("file") {
         Some(given) => given.iter().copied().collect(alloc)?,
         None => Vec::new(alloc),
     };
@@ -108,10 +97,13 @@ pub(crate) fn request_of<'a>(
     };
     Ok(Request {
         data_file: matches.get_str("data"),
-        name: matches.get_str("name"),
         schema_file: matches.get_str("schema"),
-        mode: mode_named(matches.get_str("missingkey")),
-        stops,
+        question: Question {
+            first: files.first().copied(),
+            name: matches.get_str("name"),
+            mode: mode_named(matches.get_str("missingkey")),
+            stops,
+        },
         format: format_named(matches.get_str("format")),
         is_to_infer: matches.get_flag("infer"),
         files,

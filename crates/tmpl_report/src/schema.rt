@@ -1,10 +1,9 @@
 //! Whether a template never fails over the data of a schema, and where it may.
 
 use crate::entry::{Entry, Level};
-use crate::files::{AllLoaded, Loaded};
 use crate::findings::Findings;
 use crate::rule::{MAY_FAIL, SCHEMA_NOT_UNDERSTOOD};
-use crate::words::Request;
+use crate::source::{Question, Source, Sources};
 use std::alloc::{AllocError, Global};
 use std::str::from_utf8;
 use tmpl_funcs::Func;
@@ -21,22 +20,22 @@ pub(crate) fn add_schema<'a>(
     alloc: Global,
     findings: &mut Findings<'a>,
     set: &Set,
-    request: &Request<'a>,
-    loaded: &AllLoaded<'a>,
+    question: &Question<'a>,
+    sources: &Sources<'a>,
 ) -> Result<(), AllocError> {
-    let Some(schema) = &loaded.schema else {
+    let Some(schema) = &sources.schema else {
         return Ok(());
     };
-    let (Some(first), false) = (request.files.first(), findings.has_errors()) else {
+    let (Some(first), false) = (question.first, findings.has_errors()) else {
         return Ok(());
     };
-    let name = match request.name {
+    let name = match question.name {
         Some(name) => name.as_bytes(),
-        None => base_name(*first),
+        None => base_name(first),
     };
-    let stops = stops_of(alloc, request)?;
+    let stops = stops_of(alloc, question)?;
     let document = schema.bytes.as_slice();
-    match check_document(alloc, set, name, document, request.mode, stops.as_slice()) {
+    match check_document(alloc, set, name, document, question.mode, stops.as_slice()) {
         Ok(()) => Ok(()),
         Err(CheckFault::Schema(SchemaFault::NotJson)) => findings.add_data(alloc, schema),
         Err(CheckFault::Schema(SchemaFault::Refused(refused))) => {
@@ -48,10 +47,10 @@ pub(crate) fn add_schema<'a>(
         Err(CheckFault::Template(Refusal::MayFail(doubts))) => {
             let doubts = doubts.as_slice();
             let reasons = reasons_of(alloc, set, name, document, doubts)?;
-            let mode = request.mode;
+            let mode = question.mode;
             let failures = failures_of(alloc, set, name, document, mode, stops.as_slice(), doubts)?;
             for (index, doubt) in doubts.iter().enumerate() {
-                let mut entry = doubt_entry(alloc, set, *first, loaded, doubt)?;
+                let mut entry = doubt_entry(alloc, set, first, sources, doubt)?;
                 let reason = reasons.get(index).and_then(Option::as_ref);
                 entry.text = cause_text(alloc, &doubt.cause, schema.name, reason)?;
                 if let Some(Some(failure)) = failures.get(index) {
@@ -80,9 +79,9 @@ fn failure_text(alloc: Global, failure: &Failure, is_by_mode: bool) -> Result<St
 }
 
 /// The names of templates that need not be there.
-fn stops_of(alloc: Global, request: &Request<'_>) -> Result<Vec<Bytes>, AllocError> {
+fn stops_of(alloc: Global, question: &Question<'_>) -> Result<Vec<Bytes>, AllocError> {
     let mut stops = Vec::new(alloc);
-    for stop in request.stops.as_slice() {
+    for stop in question.stops.as_slice() {
         stops.push(Bytes::new(stop.as_bytes().to_vec(alloc)?))?;
     }
     Ok(stops)
@@ -91,7 +90,7 @@ fn stops_of(alloc: Global, request: &Request<'_>) -> Result<Vec<Bytes>, AllocErr
 /// What of a schema is not understood.
 fn schema_entry<'a>(
     alloc: Global,
-    schema: &Loaded<'a>,
+    schema: &Source<'a>,
     refused: &Refused,
 ) -> Result<Entry<'a>, AllocError> {
     let (line, column) = position_of(schema.bytes.as_slice(), refused.path.as_slice());
@@ -132,7 +131,7 @@ fn doubt_entry<'a>(
     alloc: Global,
     set: &Set,
     first: &'a str,
-    loaded: &AllLoaded<'a>,
+    sources: &Sources<'a>,
     doubt: &Doubt,
 ) -> Result<Entry<'a>, AllocError> {
     let mut entry = Entry {
@@ -148,7 +147,7 @@ fn doubt_entry<'a>(
         return Ok(entry);
     };
     let file: &[u8] = tree.file.as_slice();
-    for template in loaded.templates.as_slice() {
+    for template in sources.templates.as_slice() {
         if template.name.as_bytes() == file {
             entry.file = template.name;
             entry.column = column_in(template.bytes.as_slice(), entry.line, &doubt.cause);

@@ -1,43 +1,40 @@
 //! A schema of files of data.
 
-use crate::entry::Stop;
-use crate::files::{Loaded, load};
 use crate::findings::Findings;
-use crate::words::Request;
-use crate::{put_out, write_all};
+use crate::source::Source;
 use serde_json::Value;
 use std::alloc::{AllocError, Global};
 use tmpl_samples::infer_schema;
 
-/// Prints a schema of the files of a request, or what is wrong in them.
-pub(crate) fn infer_all(rt: &HostRuntime, request: &Request<'_>) -> Result<u8, Stop> {
-    let alloc = rt.alloc();
-    let mut findings = Findings {
-        entries: Vec::new(alloc),
-    };
+/// What comes of files of data.
+#[derive(Drop)]
+pub enum Inferred<'a> {
+    /// The text of a schema to which each of them conforms.
+    Schema(String),
+    /// What is wrong in them.
+    Refused(Findings<'a>),
+}
+
+/// A schema of files of data, or what is wrong in them.
+pub fn infer_from<'a>(alloc: Global, files: &[Source<'a>]) -> Result<Inferred<'a>, AllocError> {
+    let mut findings = Findings::new(alloc);
     let mut samples: Vec<Value> = Vec::new(alloc);
-    let mut is_short = false;
-    for name in request.files.as_slice() {
-        match load(rt, *name, u64::MAX)? {
-            Some(file) => add_sample(alloc, &file, &mut findings, &mut samples)?,
-            None => is_short = true,
-        }
+    for file in files {
+        add_sample(alloc, file, &mut findings, &mut samples)?;
     }
-    if findings.has_errors() || is_short {
-        put_out(rt, request.format, &findings)?;
-        return Ok(if is_short { 3 } else { 1 });
+    if findings.has_errors() {
+        return Ok(Inferred::Refused(findings));
     }
     let all: Vec<&Value> = samples.iter().collect(alloc)?;
     let mut text = infer_schema(alloc, all.as_slice())?.to_string_pretty(alloc)?;
     text.push('\n')?;
-    write_all(rt, text.as_str())?;
-    Ok(0)
+    Ok(Inferred::Schema(text))
 }
 
 /// Adds the value of a file of data, or what is wrong in it.
 fn add_sample<'a>(
     alloc: Global,
-    file: &Loaded<'a>,
+    file: &Source<'a>,
     findings: &mut Findings<'a>,
     samples: &mut Vec<Value>,
 ) -> Result<(), AllocError> {

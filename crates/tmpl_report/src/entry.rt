@@ -1,7 +1,6 @@
-//! What is found, and why the command may end before it is told.
+//! Something that is found.
 
 use crate::rule::Rule;
-use std::alloc::{AllocError, AllocFailed};
 
 /// How grave it is.
 #[derive(Clone, Copy, PartialEq)]
@@ -39,25 +38,5 @@ impl Entry<'_> {
         self.file == other.file
             && (self.line == other.line && self.column == other.column)
             && self.text.as_str() == other.text.as_str()
-    }
-}
-
-/// Why the command ends before all is told.
-#[derive(Clone, Copy)]
-pub(crate) enum Stop {
-    OutOfMemory,
-    WriteFailed,
-    Words,
-}
-
-impl From<AllocError> for Stop {
-    fn from(_: AllocError) -> Stop {
-        Stop::OutOfMemory
-    }
-}
-
-impl<T: Drop> From<AllocFailed<T>> for Stop {
-    fn from(_: AllocFailed<T>) -> Stop {
-        Stop::OutOfMemory
     }
 }

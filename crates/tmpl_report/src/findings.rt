@@ -1,12 +1,12 @@
-//! What is found in the files of a request.
+//! What is found.
 
 use crate::entry::{Entry, Level};
-use crate::files::{AllLoaded, Loaded};
 use crate::rule::{
     KEY_GIVEN_TWICE, NEVER_CALLED, NO_SUCH_TEMPLATE, Rule, SUSPICIOUS, data_rule_of, rule_of,
 };
 use crate::schema::add_schema;
-use crate::words::Request;
+use crate::source::{Question, Source, Sources};
+use crate::{json, sarif, text};
 use indexmap::IndexSet;
 use std::alloc::{AllocError, Global};
 use tmpl_data_problems::{DataProblem, DataReason, DataReport, check_data};
@@ -15,9 +15,20 @@ use tmpl_problems::{
 };
 use tmpl_syntax::{NameHash, Set, base_name};
 
+/// How what is found is told.
+#[derive(Clone, Copy)]
+pub enum Format {
+    /// A line for each finding and each note, as compilers write them.
+    Text,
+    /// An object of JSON.
+    Json,
+    /// A log of SARIF 2.1.0.
+    Sarif,
+}
+
 /// What is found, file by file.
 #[derive(Drop)]
-pub(crate) struct Findings<'a> {
+pub struct Findings<'a> {
     pub(crate) entries: Vec<Entry<'a>>,
 }
 
@@ -29,9 +40,25 @@ struct Templates<'f> {
 }
 
 impl<'a> Findings<'a> {
+    /// None yet.
+    pub fn new(alloc: Global) -> Findings<'a> {
+        Findings {
+            entries: Vec::new(alloc),
+        }
+    }
+
     /// Whether there are errors among them.
-    pub(crate) fn has_errors(&self) -> bool {
+    pub fn has_errors(&self) -> bool {
         self.entries.iter().any(|entry| entry.level == Level::Error)
+    }
+
+    /// The text that tells them, as it is put out.
+    pub fn text(&self, alloc: Global, format: Format) -> Result<String, AllocError> {
+        match format {
+            Format::Text => text::lines(alloc, self),
+            Format::Json => json::document(alloc, self),
+            Format::Sarif => sarif::document(alloc, self),
+        }
     }
 
     /// Adds what is found, unless the same was found before.
@@ -152,7 +179,7 @@ impl<'a> Findings<'a> {
     }
 
     /// Adds what is wrong in data.
-    pub(crate) fn add_data(&mut self, alloc: Global, data: &Loaded<'a>) -> Result<(), AllocError> {
+    pub(crate) fn add_data(&mut self, alloc: Global, data: &Source<'a>) -> Result<(), AllocError> {
         let DataReport {
             refused,
             problems,
@@ -236,35 +263,39 @@ fn about(alloc: Global, before: &str, name: &[u8], after: &str) -> Result<String
     Ok(text)
 }
 
-/// What is found in the files of a request.
-pub(crate) fn findings_of<'a>(
+/// What is found in template files, in the order of the files, and then in data: errors, and what is suspicious. Where all
+/// files are accepted, the template that is asked for is checked against the schema. Names are hashed as is said.
+pub fn findings_of<'a>(
     alloc: Global,
     hash: NameHash,
-    request: &Request<'a>,
-    loaded: &AllLoaded<'a>,
+    question: &Question<'a>,
+    sources: &Sources<'a>,
 ) -> Result<Findings<'a>, AllocError> {
-    let mut findings = Findings {
-        entries: Vec::new(alloc),
-    };
-    let surveys = survey_all(alloc, hash, loaded.templates.as_slice())?;
-    let templates = templates_in(alloc, hash, loaded.templates.as_slice(), surveys.as_slice())?;
+    let mut findings = Findings::new(alloc);
+    let surveys = survey_all(alloc, hash, sources.templates.as_slice())?;
+    let templates = templates_in(
+        alloc,
+        hash,
+        sources.templates.as_slice(),
+        surveys.as_slice(),
+    )?;
     let mut set = Set::with_hash(alloc, hash);
-    for (file, survey) in loaded.templates.as_slice().iter().zip(surveys.into_iter()) {
+    for (file, survey) in sources.templates.as_slice().iter().zip(surveys.into_iter()) {
         let problems = check_file(alloc, &mut set, hash, file.name, file.bytes.as_slice())?;
         findings.add_problems(alloc, file.name, problems)?;
-        if let Some(asked) = request.name {
+        if let Some(asked) = question.name {
             let defined = survey.defined.as_slice();
             findings.add_uncalled(alloc, file.name, asked, defined, &templates)?;
         }
         findings.add_survey(alloc, file.name, survey, &templates)?;
     }
-    if let (Some(name), Some(first)) = (request.name, request.files.first()) {
-        findings.add_asked(alloc, *first, name, &templates)?;
+    if let (Some(name), Some(first)) = (question.name, question.first) {
+        findings.add_asked(alloc, first, name, &templates)?;
     }
-    if !loaded.is_short {
-        add_schema(alloc, &mut findings, &set, request, loaded)?;
+    if !sources.is_short {
+        add_schema(alloc, &mut findings, &set, question, sources)?;
     }
-    if let Some(data) = &loaded.data {
+    if let Some(data) = &sources.data {
         findings.add_data(alloc, data)?;
     }
     Ok(findings)
@@ -274,7 +305,7 @@ pub(crate) fn findings_of<'a>(
 fn survey_all<'f>(
     alloc: Global,
     hash: NameHash,
-    files: &'f [Loaded<'_>],
+    files: &'f [Source<'_>],
 ) -> Result<Vec<Survey<'f>>, AllocError> {
     let mut surveys = Vec::new(alloc);
     for file in files {
@@ -287,7 +318,7 @@ fn survey_all<'f>(
 fn templates_in<'f>(
     alloc: Global,
     hash: NameHash,
-    files: &'f [Loaded<'_>],
+    files: &'f [Source<'_>],
     surveys: &[Survey<'f>],
 ) -> Result<Templates<'f>, AllocError> {
     let mut templates = Templates {

@@ -1,0 +1,16 @@
+//! What is found in template files, data and a schema, and how it is told.
+#![tactic(auto)]
+
+mod entry;
+mod findings;
+mod infer;
+mod json;
+mod rule;
+mod sarif;
+mod schema;
+mod source;
+mod text;
+
+pub use findings::{Findings, Format, findings_of};
+pub use infer::{Inferred, infer_from};
+pub use source::{Question, Source, Sources};
