@@ -113,6 +113,8 @@ impl<'s> Compiler<'s> {
             IfOk result (Surveys (3 + need_of_nodes ns) (nodes_make_text ns) (nodes_call ns)) }
     {
         self.scope = first_scope(alloc)?;
+        // each node has an instruction at least
+        self.code.reserve(nodes.len())?;
         self.code
             .push(Instruction::Return(to_u32(declared_in(nodes)?)?))?;
         self.put_surveyed(Site { set, exit: None }, nodes)?.above(3)

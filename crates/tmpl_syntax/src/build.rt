@@ -16,6 +16,9 @@ use std::mem;
 use tmpl_grammar::{Action, Branch, Control, Header, Pipeline};
 use tmpl_values::Bytes;
 
+/// For how many items there may be room that is not used.
+const MOST_FREE: usize = 65_536;
+
 /// What is known of a part from a place on.
 #[derive(Drop)]
 pub(crate) struct Level {
@@ -74,8 +77,19 @@ fn parts_before(alloc: Global, items: Vec<Item>) -> Result<OpenParts, AllocError
     };
     while let Some(item) = items.pop() {
         put(alloc, &mut parts, item)?;
+        free_room(&mut items);
     }
     Ok(parts)
+}
+
+/// Gives back the room of items that are nodes now, once it is that of many: so a long file never takes the room of all
+/// its items and of all its nodes at once.
+fn free_room(items: &mut Vec<Item>)
+    ensures { items.new.items ≡ items.old.items }
+{
+    if items.capacity() - items.len() > MOST_FREE {
+        items.shrink_to_fit();
+    }
 }
 
 impl Level {

@@ -45,6 +45,14 @@ impl Code {
         to_u32(self.len() - count)
     }
 
+    /// Takes room for as many more instructions.
+    pub(crate) fn reserve(&mut self, count: usize) -> Result<(), AllocError>
+        ensures { OnOk result (code_of self.new ≡ code_of self.old) }
+    {
+        self.instructions.reserve(count)?;
+        Ok(())
+    }
+
     /// Puts an instruction before the others. What it names is in the tables.
     #[tactic(auto, using(crate::proofs::HeldLemmas::code_push, crate::proofs::TailLemmas::ends_one), unfolding(crate::specs::computed::Held::code_of))]
     pub(crate) fn push(&mut self, instruction: Instruction) -> Result<(), AllocError>
