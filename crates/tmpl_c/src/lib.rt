@@ -80,10 +80,8 @@ pub extern "C" fn keyed_render(
         out.bytes,
         err.bytes,
     );
-    out.taken = told.text.taken;
-    out.needed = told.text.needed;
-    err.taken = told.line.taken;
-    err.needed = told.line.needed;
+    out.tell(told.text);
+    err.tell(told.line);
     told.status
 }
 
@@ -112,8 +110,7 @@ pub extern "C" fn keyed_set_add(
     ensures lent { err.new.bytes.ghost_name ≡ err.old.bytes.ghost_name }
 {
     let said = keep::add(alloc, keys.hash(), set, file, err.bytes);
-    err.taken = said.line.taken;
-    err.needed = said.line.needed;
+    err.tell(said.line);
     said.status
 }
 
@@ -139,8 +136,7 @@ pub extern "C" fn tmpl_data_read(
     ensures lent { err.new.bytes.ghost_name ≡ err.old.bytes.ghost_name }
 {
     let said = keep::read(alloc, kept, input, err.bytes);
-    err.taken = said.line.taken;
-    err.needed = said.line.needed;
+    err.tell(said.line);
     said.status
 }
 
@@ -184,10 +180,8 @@ pub extern "C" fn tmpl_render_set(
     ensures kept { kept.new.held ≡ kept.old.held }
 {
     let came = held::render(alloc, settings, set, kept, name, out.bytes, err.bytes);
-    out.taken = came.text.taken;
-    out.needed = came.text.needed;
-    err.taken = came.line.taken;
-    err.needed = came.line.needed;
+    out.tell(came.text);
+    err.tell(came.line);
     came.status
 }
 
@@ -260,10 +254,8 @@ pub extern "C" fn tmpl_render_program(
     ensures kept { kept.new.held ≡ kept.old.held }
 {
     let done = held::render_program(alloc, settings, program, kept, name, out.bytes, err.bytes);
-    out.taken = done.text.taken;
-    out.needed = done.text.needed;
-    err.taken = done.line.taken;
-    err.needed = done.line.needed;
+    out.tell(done.text);
+    err.tell(done.line);
     done.status
 }
 
