@@ -114,9 +114,10 @@ impl<'s> Compiler<'s> {
     {
         self.scope = first_scope(alloc)?;
         // each node has an instruction at least
-        self.code.reserve(nodes.len())?;
-        self.code
-            .push(Instruction::Return(to_u32(declared_in(nodes)?)?))?;
+        self.code.push_before(
+            Instruction::Return(to_u32(declared_in(nodes)?)?),
+            nodes.len(),
+        )?;
         self.put_surveyed(Site { set, exit: None }, nodes)?.above(3)
     }
 

@@ -45,14 +45,6 @@ impl Code {
         to_u32(self.len() - count)
     }
 
-    /// Takes room for as many more instructions.
-    pub(crate) fn reserve(&mut self, count: usize) -> Result<(), AllocError>
-        ensures { OnOk result (code_of self.new ≡ code_of self.old) }
-    {
-        self.instructions.reserve(count)?;
-        Ok(())
-    }
-
     /// Puts an instruction before the others. What it names is in the tables.
     #[tactic(auto, using(crate::proofs::HeldLemmas::code_push, crate::proofs::TailLemmas::ends_one), unfolding(crate::specs::computed::Held::code_of))]
     pub(crate) fn push(&mut self, instruction: Instruction) -> Result<(), AllocError>
@@ -61,6 +53,22 @@ impl Code {
             self.old self.new) }
     {
         self.instructions.push(instruction)?;
+        Ok(())
+    }
+
+    /// Puts an instruction before the others, and takes room for as many more as are to be put before it at least.
+    #[tactic(auto, using(crate::proofs::HeldLemmas::code_push, crate::proofs::TailLemmas::ends_one), unfolding(crate::specs::computed::Held::code_of))]
+    pub(crate) fn push_before(
+        &mut self,
+        instruction: Instruction,
+        more: usize,
+    ) -> Result<(), AllocError>
+        requires { fits self.old.tables instruction ≡ true }
+        ensures { OnOk result (Placed (Pushed (instruction_of self.old.tables instruction))
+            self.old self.new) }
+    {
+        self.instructions.push(instruction)?;
+        self.instructions.reserve(more)?;
         Ok(())
     }
 

@@ -11,4 +11,4 @@ returns-clause-put c =
     let a = c.args in
     let nodes = c.in_ok-put_surveyed.ensures.put in
     IfOk-weaker _ _ (λ s. Placed (TreeAt (set_view a.set.now) (nodes_in a.nodes.now)) a.self.now.code c.put_surveyed.new.self.code)
-    (λ s told. record { code = search rules; ends = ends_both nodes.ends c.in_ok-push.ensures.ends }) c.above.ensures
+    (λ s told. record { code = search rules; ends = ends_both nodes.ends c.in_ok-push_before.ensures.ends }) c.above.ensures
