@@ -1,5 +1,5 @@
 //! What is done with the code so far.
-ghost use Rattle.std.specs.Prelude.{◌≡◌, ◌∷◌, ◌-◌, ◌≤◌, [], IfOk, OnOk, length, true};
+ghost use Rattle.std.specs.Prelude.{◌≡◌, ◌++◌, ◌∷◌, ◌-◌, ◌≤◌, [], IfOk, OnErr, OnOk, length, true};
 ghost use Rattle.tmpl_code.specs.Instruction.{act, chained, no_template, push_fields, push_text, put, refuse};
 ghost use Rattle.tmpl_code.specs.Instruction.{show_fields, show_slot};
 ghost use Rattle.tmpl_code.specs.View.{instruction_of, instructions_of};
@@ -16,6 +16,20 @@ use tmpl_values::Bytes;
 
 /// How many instructions there is room for at first, as many as a short template has.
 const FIRST_CAPACITY: usize = 16;
+
+/// Adds an instruction, and takes room for as many more.
+fn add_before(
+    instructions: &mut Vec<Instruction>,
+    instruction: Instruction,
+    more: usize,
+) -> Result<(), AllocError>
+    ensures added { OnOk result (instructions.new.items ≡ instructions.old.items ++ instruction ∷ []) }
+    ensures kept { OnErr result (instructions.new.items ≡ instructions.old.items) }
+{
+    instructions.reserve(more.saturating_add(1))?;
+    instructions.push(instruction)?;
+    Ok(())
+}
 
 impl Code {
     /// No code.
@@ -57,7 +71,6 @@ impl Code {
     }
 
     /// Puts an instruction before the others, and takes room for as many more as are to be put before it at least.
-    #[tactic(auto, using(crate::proofs::HeldLemmas::code_push, crate::proofs::TailLemmas::ends_one), unfolding(crate::specs::computed::Held::code_of))]
     pub(crate) fn push_before(
         &mut self,
         instruction: Instruction,
@@ -67,8 +80,7 @@ impl Code {
         ensures { OnOk result (Placed (Pushed (instruction_of self.old.tables instruction))
             self.old self.new) }
     {
-        self.instructions.push(instruction)?;
-        self.instructions.reserve(more)?;
+        add_before(&mut self.instructions, instruction, more)?;
         Ok(())
     }
 
