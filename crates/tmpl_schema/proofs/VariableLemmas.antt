@@ -27,15 +27,15 @@ use Rattle.tmpl_shape.specs.Shape.{Fields, Shape, never, nothings, nulls, texts,
 use Rattle.tmpl_shape.specs.declared.kind.Kind.TheVariants.{Blank}
 use Rattle.tmpl_shape.specs.computed.Formats.{printf_shape}
 use Rattle.tmpl_shape.specs.computed.Means.{Means}
-use Rattle.tmpl_shape.specs.computed.Shapes.{Base, within, both, any_field, fill, has_kind, joined, keyed_shape, null_gone, refine, chain_shape, entry_shape, index_shape, index_shape_by}
+use Rattle.tmpl_shape.specs.computed.Shapes.{Base, within, both, any_field, fill, has_kind, join, keyed_shape, null_gone, refine, chain_shape, entry_shape, index_shape, index_shape_by}
 use Rattle.tmpl_shape.specs.computed.Calls.{call_shape, shape_by_function}
 use Rattle.tmpl_schema.specs.computed.Check.{call_place, index_place, pair_facts, narrow_as, narrow_by, narrow_by_all, narrow_to, deciding_shape, passing_shape, passed, operand_shapes, junction_shape, commands_shape}
-use Rattle.tmpl_schema.specs.computed.Check.{Known, State, variable_shape, assigned_shape, bound_shapes, refined_variable, all_within, all_joined, last_of, if_within}
+use Rattle.tmpl_schema.specs.computed.Check.{Known, State, variable_shape, assigned_shape, bound_shapes, refine_variable, all_within, join_all, last_of, if_within}
 use Rattle.tmpl_schema.specs.computed.Check.{after_both, entry_along, entry_by, operand_shape, indexed_shape, printed_shape, command_shape, pipeline_shape, narrow}
 use Rattle.tmpl_shape.proofs.KindLemmas.{has_kind-has}
-use Rattle.tmpl_shape.proofs.ShapeLemmas.{same_name, within-has, joined-left, joined-right, null_gone-has}
+use Rattle.tmpl_shape.proofs.ShapeLemmas.{same_name, within-has, join-left, join-right, null_gone-has}
 use Rattle.tmpl_shape.proofs.FormatLemmas.{printf-gives}
-use Rattle.tmpl_shape.proofs.FieldLemmas.{Gives, any-has, at-entry, both-left, both-right, entry-gives, chain-gives, filled-has, full-thing, refined-has}
+use Rattle.tmpl_shape.proofs.FieldLemmas.{Gives, any-has, at-entry, both-left, both-right, entry-gives, chain-gives, fill-has, full-thing, refine-has}
 use Rattle.tmpl_shape.proofs.CallLemmas.{HaveShapes, call-gives}
 use Rattle.tmpl_funcs.specs.Func.{takes}
 use Rattle.tmpl_funcs.specs.declared.func.Func.{Func}
@@ -88,7 +88,7 @@ module _ (base : Base) (N : Names) (means : Means base.defs N) where
   pub both-known : (n : ℕ) (a b c : Known) → after_both base n a b ≡ Some c
       → ((env : Environment) → HasKnown (last_of n a) env → HasKnown c env) × ((env : Environment) → HasKnown (last_of n b) env → HasKnown c env)
   both-known n a b c e =
-      let u = last_of n a in let w = last_of n b in let j = all_joined base u w in
+      let u = last_of n a in let w = last_of n b in let j = join_all base u w in
       option_and_then_some (λ x. if_within base w x) (if_within base u j) c e (λ x is more.
       let p = if_within-some u j x is in
       let q = if_within-some w x c more in
@@ -127,17 +127,17 @@ module _ (base : Base) (N : Names) (means : Means base.defs N) where
   bound-known (assign name) k s e f g ks env h = assigned-known name s e.1 g ks env h
   bound-known (declare_pair key name) k s e f g ks env h = (refl, g, (refl, f, h))
 
-  refined-known : (m : MissingKey) (name : List ℕ) (ns : List (List ℕ)) (x : Value) → is_nothing x ≡ false → (ks : Known) (env : Environment) → HasKnown ks env
-      → chain m ns (lookup name env) ≡ Ok x → HasKnown (refined_variable base name ns ks) env
-  refined-known m name ns x t [] [] h e = tt
-  refined-known m name ns x t (k ∷ ks) (v ∷ env) h e = by (bytes_eq k.0 name) (rw h.0 at e) (refined-known m name ns x t ks env h.2)
+  refine-known : (m : MissingKey) (name : List ℕ) (ns : List (List ℕ)) (x : Value) → is_nothing x ≡ false → (ks : Known) (env : Environment) → HasKnown ks env
+      → chain m ns (lookup name env) ≡ Ok x → HasKnown (refine_variable base name ns ks) env
+  refine-known m name ns x t [] [] h e = tt
+  refine-known m name ns x t (k ∷ ks) (v ∷ env) h e = by (bytes_eq k.0 name) (rw h.0 at e) (refine-known m name ns x t ks env h.2)
     where
       by : (b : Bool) → chain m ns (option_map_or (λ v. v.1) (if b then Some (k.0, v.1) else find (λ v. bytes_eq v.0 name) env) nothing) ≡ Ok x
-          → (chain m ns (lookup name env) ≡ Ok x → HasKnown (refined_variable base name ns ks) env)
-          → HasKnown (if b then (k.0, refine base ns k.1) ∷ ks else k ∷ refined_variable base name ns ks) (v ∷ env)
-      by true y more = (h.0, (refined-has base N means) k.1 m ns v.1 x h.1 y t, h.2)
+          → (chain m ns (lookup name env) ≡ Ok x → HasKnown (refine_variable base name ns ks) env)
+          → HasKnown (if b then (k.0, refine base ns k.1) ∷ ks else k ∷ refine_variable base name ns ks) (v ∷ env)
+      by true y more = (h.0, (refine-has base N means) k.1 m ns v.1 x h.1 y t, h.2)
       by false y more = (h.0, h.1, more y)
-  refined-known m name ns x t _ _ h e = absurd h
+  refine-known m name ns x t _ _ h e = absurd h
 
   -- ---- pipelines
 
@@ -221,10 +221,10 @@ module _ (base : Base) (N : Names) (means : Means base.defs N) where
   keyed-gives (Some name) n fs es h = told-entry (entry_shape base mode.Zero name fs) name (entry_at name es) ((entry-gives base N means) mode.Zero name fs es h.1 h.2)
   keyed-gives None n fs es h = by (entry_at n es) refl
     where
-      by : (o : Option Value) → entry_at n es ≡ o → HasShape N (joined base (any_field base fs) nulls) (unwrap_or o null)
-      by None is = (joined-right base N means) (any_field base fs) nulls null tt
+      by : (o : Option Value) → entry_at n es ≡ o → HasShape N (join base (any_field base fs) nulls) (unwrap_or o null)
+      by None is = (join-right base N means) (any_field base fs) nulls null tt
       by (Some w) is =
-          (joined-left base N means) (any_field base fs) nulls w ((any-has base N means) fs n w ((at-entry base N means) (IsField N fs) n w es is h.1))
+          (join-left base N means) (any_field base fs) nulls w ((any-has base N means) fs n w ((at-entry base N means) (IsField N fs) n w es is h.1))
 
   index-gives : (i : ℕ) (key : Option (List ℕ)) (n : List ℕ) (s : Shape) (v : Value) → HasShape N s v
       → (Gives base N means) (index_shape_by base i key s) (told (element_at v (string (unwrap_or key n))))
@@ -359,9 +359,9 @@ module _ (base : Base) (N : Names) (means : Means base.defs N) where
   index-fits : (m : MissingKey) (os : Operands) (k : State) (d : Value) (env : Environment) (v : Value) → Fits k d env
       → index_value m d env os ≡ Ok v → is_nothing v ≡ false → Fits (narrow_to base (index_place os) k) d env
   index-fits m (operand dot (operand (text_constant n) no_operand)) k d env v h e t =
-      ((refined-has base N means) k.dot mode.Zero (n ∷ []) d v h.0 (index-chain n d v e) t, h.1)
+      ((refine-has base N means) k.dot mode.Zero (n ∷ []) d v h.0 (index-chain n d v e) t, h.1)
   index-fits m (operand (variable name []) (operand (text_constant n) no_operand)) k d env v h e t =
-      (h.0, refined-known mode.Zero name (n ∷ []) v t k.env env h.1 (index-chain n (lookup name env) v e))
+      (h.0, refine-known mode.Zero name (n ∷ []) v t k.env env h.1 (index-chain n (lookup name env) v e))
   index-fits m (operand (variable name (x ∷ xs)) (operand (text_constant n) no_operand)) k d env v h e t = h
   index-fits m (operand _ (operand (text_constant n) no_operand)) k d env v h e t = h
   index-fits m (operand _ (operand _ no_operand)) k d env v h e t = h
@@ -393,9 +393,9 @@ module _ (base : Base) (N : Names) (means : Means base.defs N) where
   narrow_by-fits : (m : MissingKey) (o : Operand) (k : State) (d : Value) (env : Environment) (v : Value) → Fits k d env
       → (operand_value (place m d env) o).result ≡ Ok v → is_nothing v ≡ false → Fits (narrow_by base o k) d env
   narrow_by-fits m dot k d env v h e t =
-      let same : d ≡ v = cc in ((refined-has base N means) k.dot mode.Error [] d d h.0 refl (ap is_nothing same ∙ t), h.1)
-  narrow_by-fits m (fields names) k d env v h e t = ((refined-has base N means) k.dot m names d v h.0 e t, h.1)
-  narrow_by-fits m (variable name names) k d env v h e t = (h.0, refined-known m name names v t k.env env h.1 e)
+      let same : d ≡ v = cc in ((refine-has base N means) k.dot mode.Error [] d d h.0 refl (ap is_nothing same ∙ t), h.1)
+  narrow_by-fits m (fields names) k d env v h e t = ((refine-has base N means) k.dot m names d v h.0 e t, h.1)
+  narrow_by-fits m (variable name names) k d env v h e t = (h.0, refine-known m name names v t k.env env h.1 e)
   narrow_by-fits m (group (command (operand (function f) os) no_command) []) k d env v h e t =
       let c = command_value (place m d env) (operand (function f) os) None in
       let g = group-ok c.result c.made_text (commands_value (place m d env) (command (operand (function f) os) no_command) None).made_text v e in
@@ -512,7 +512,7 @@ module _ (base : Base) (N : Names) (means : Means base.defs N) where
     junction-step true o os k ps pv fits more s v e h = by (truth v) refl
       where
         by : (b : Bool) → truth v ≡ b → (Gives base N means) (both base (Some (fill base s)) (junction_shape base true m k s os ps)) (decided b v (junction true (place m d env) v os pv)).result
-        by true t = (both-left base N means) (Some (fill base s)) (junction_shape base true m k s os ps) (Ok v) ((filled-has base N means) s v h t)
+        by true t = (both-left base N means) (Some (fill base s)) (junction_shape base true m k s os ps) (Ok v) ((fill-has base N means) s v h t)
         by false t = (both-right base N means) (Some (fill base s)) (junction_shape base true m k s os ps) (junction true (place m d env) v os pv).result (more k s v fits h)
     junction-step false o os k ps pv fits more s v e h = by (truth v) refl
       where
@@ -521,7 +521,7 @@ module _ (base : Base) (N : Names) (means : Means base.defs N) where
         by false t = (both-left base N means) (Some s) (junction_shape base false m (narrow_by base o k) (fill base s) os ps) (Ok v) h
         by true t =
             (both-right base N means) (Some s) (junction_shape base false m (narrow_by base o k) (fill base s) os ps) (junction false (place m d env) v os pv).result
-            (more (narrow_by base o k) (fill base s) v (narrow_by-fits m o k d env v fits e (full-thing v t)) ((filled-has base N means) s v h t))
+            (more (narrow_by base o k) (fill base s) v (narrow_by-fits m o k d env v fits e (full-thing v t)) ((fill-has base N means) s v h t))
 
     mutual
       operand-gives : (o : Operand) (k : State) → Fits k d env → (Gives base N means) (operand_shape base m k o) (operand_value (place m d env) o).result

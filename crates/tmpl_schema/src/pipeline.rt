@@ -20,8 +20,8 @@ use tmpl_funcs::Func;
 use tmpl_grammar::{Command, Operand};
 use tmpl_meaning::MissingKey;
 use tmpl_shape::{
-    Base, Cause, Kind, Kinds, Shape, Trouble, call_shape, chain_shape, copy_shape, filled,
-    has_kind, index_shape, joined, kinds_of, null_gone, printf_shape, within,
+    Base, Cause, Kind, Kinds, Shape, Trouble, call_shape, chain_shape, copy_shape, fill, has_kind,
+    index_shape, join, kinds_of, null_gone, printf_shape, within,
 };
 
 /// The shape of an operand, if it never is a fault.
@@ -161,14 +161,14 @@ fn junction_shape(
         },
         [first, rest @ ..] => {
             let shape = operand_shape(base, mode, state, first)?;
-            let full = filled(base, &shape)?;
+            let full = fill(base, &shape)?;
             if is_or {
                 let more = junction_shape(base, true, mode, state, &shape, rest, piped)?;
-                return Ok(joined(base, full, more)?);
+                return Ok(join(base, full, more)?);
             }
             let passed = narrow_by(base, first, state)?;
             let more = junction_shape(base, false, mode, &passed, &full, rest, piped)?;
-            Ok(joined(base, shape, more)?)
+            Ok(join(base, shape, more)?)
         }
     }
 }

@@ -10,10 +10,10 @@ ghost use Rattle.tmpl_schema.specs.computed.Check.{at_start, narrow, narrow_by, 
 ghost use Rattle.tmpl_schema.specs.computed.View.{place_seen, state_of};
 
 use crate::facts::{Facts, Place, facts_of, index_place, place_of};
-use crate::known::{Known, copy_known, put_variable, refined_variable};
+use crate::known::{Known, copy_known, put_variable, refine_variable};
 use std::alloc::{AllocError, Global};
 use tmpl_grammar::{Command, Operand};
-use tmpl_shape::{Base, Shape, copy_shape, refined};
+use tmpl_shape::{Base, Shape, copy_shape, refine};
 
 /// What is known of dot and of the variables.
 #[derive(Drop)]
@@ -51,7 +51,7 @@ fn narrow_to(base: &Base<'_>, place: Option<Place<'_>>, state: &State) -> Result
         None => copy_state(base.alloc, state),
         Some(place) => match place.root {
             None => {
-                let dot = refined(base, place.path, &state.dot)?;
+                let dot = refine(base, place.path, &state.dot)?;
                 Ok(State {
                     dot,
                     known: copy_known(base.alloc, &state.known)?,
@@ -59,7 +59,7 @@ fn narrow_to(base: &Base<'_>, place: Option<Place<'_>>, state: &State) -> Result
             }
             Some(name) => {
                 let dot = copy_shape(base.alloc, &state.dot)?;
-                let known = refined_variable(base, name, place.path, &state.known)?;
+                let known = refine_variable(base, name, place.path, &state.known)?;
                 Ok(State { dot, known })
             }
         },

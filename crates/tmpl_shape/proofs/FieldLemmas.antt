@@ -20,9 +20,9 @@ use Rattle.tmpl_meaning.specs.declared.missing_key.MissingKey.TheVariants as mod
 use Rattle.tmpl_shape.specs.Shape.{Shape, never, nothings, nulls, numbers, texts, list_of, record_of, either, named, Names, Fields, no_field, others, field}
 use Rattle.tmpl_shape.specs.Shape.{EachItem, EachEntry, AreDistinct, HasRequired, HasShape, IsField}
 use Rattle.tmpl_shape.specs.computed.Means.{Means}
-use Rattle.tmpl_shape.specs.computed.Shapes.{Base, shape_at, with_field, both, refined_by, refine, fill, absent_shape, of_field, entry_shape}
+use Rattle.tmpl_shape.specs.computed.Shapes.{Base, shape_at, with_field, both, refine_by, refine, fill, absent_shape, of_field, entry_shape}
 use Rattle.tmpl_shape.specs.computed.Shapes.{field_shape_by, field_shape, chain_shape, any_field, Visit, both_visits, visit_by, visit_of}
-use Rattle.tmpl_shape.proofs.ShapeLemmas.{same_name, joined-left, joined-right}
+use Rattle.tmpl_shape.proofs.ShapeLemmas.{same_name, join-left, join-right}
 
 -- what is not empty is neither nothing nor null
 pub full-thing : (v : Value) → truth v ≡ true → is_nothing v ≡ false
@@ -40,13 +40,13 @@ module _ (base : Base) (N : Names) (means : Means base.defs N) where
   pub both-left : (o p : Option Shape) (r : Result Value Cause) → Gives o r → Gives (both base o p) r
   both-left None p r h = tt
   both-left (Some a) None r h = tt
-  both-left (Some s) (Some t) (Ok v) h = joined-left base N means s t v h
+  both-left (Some s) (Some t) (Ok v) h = join-left base N means s t v h
   both-left (Some s) (Some t) (Err cause) h = h
 
   pub both-right : (o p : Option Shape) (r : Result Value Cause) → Gives p r → Gives (both base o p) r
   both-right None p r h = tt
   both-right (Some a) None r h = tt
-  both-right (Some s) (Some t) (Ok v) h = joined-right base N means s t v h
+  both-right (Some s) (Some t) (Ok v) h = join-right base N means s t v h
   both-right (Some s) (Some t) (Err cause) h = h
 
   pub then-gives : (f : Shape → Option Shape) (g : Value → Result Value Cause) → ((s : Shape) (v : Value) → HasShape N s v → Gives (f s) (g v))
@@ -253,40 +253,40 @@ module _ (base : Base) (N : Names) (means : Means base.defs N) where
         required-refined n t es (rw is refl) fs h.2,
       )
 
-  refined_by-has : (i : ℕ) (ns : List (List ℕ)) (s : Shape) (m : MissingKey) (v x : Value) → HasShape N s v → chain m ns v ≡ Ok x → is_nothing x ≡ false
-      → HasShape N (refined_by base i ns s) v
-  refined_by-has zero ns s m v x h e t = h
-  refined_by-has (suc i) ns nothings m nothing x h e t = absurd (of_nothing-empty m ns x e t)
-  refined_by-has (suc i) ns nothings m _ x h e t = absurd h
-  refined_by-has (suc i) ns nulls m null x h e t = absurd (of_null-empty m ns x e t)
-  refined_by-has (suc i) ns nulls m _ x h e t = absurd h
-  refined_by-has (suc i) ns (either s u) m v x h e t =
+  refine_by-has : (i : ℕ) (ns : List (List ℕ)) (s : Shape) (m : MissingKey) (v x : Value) → HasShape N s v → chain m ns v ≡ Ok x → is_nothing x ≡ false
+      → HasShape N (refine_by base i ns s) v
+  refine_by-has zero ns s m v x h e t = h
+  refine_by-has (suc i) ns nothings m nothing x h e t = absurd (of_nothing-empty m ns x e t)
+  refine_by-has (suc i) ns nothings m _ x h e t = absurd h
+  refine_by-has (suc i) ns nulls m null x h e t = absurd (of_null-empty m ns x e t)
+  refine_by-has (suc i) ns nulls m _ x h e t = absurd h
+  refine_by-has (suc i) ns (either s u) m v x h e t =
       elim h [
-        | inl y ↦ joined-left base N means (refined_by base i ns s) (refined_by base i ns u) v (refined_by-has i ns s m v x y e t)
-        | inr y ↦ joined-right base N means (refined_by base i ns s) (refined_by base i ns u) v (refined_by-has i ns u m v x y e t)
+        | inl y ↦ join-left base N means (refine_by base i ns s) (refine_by base i ns u) v (refine_by-has i ns s m v x y e t)
+        | inr y ↦ join-right base N means (refine_by base i ns s) (refine_by base i ns u) v (refine_by-has i ns u m v x y e t)
       ]
-  refined_by-has (suc i) ns (named y) m v x h e t = by (base.defs y) refl (λ s k. refined_by-has i ns s m v x k e t)
+  refine_by-has (suc i) ns (named y) m v x h e t = by (base.defs y) refl (λ s k. refine_by-has i ns s m v x k e t)
     where
-      by : (o : Option Shape) → base.defs y ≡ o → ((s : Shape) → HasShape N s v → HasShape N (refined_by base i ns s) v)
-          → HasShape N (option_map_or (refined_by base i ns) o (named y)) v
+      by : (o : Option Shape) → base.defs y ≡ o → ((s : Shape) → HasShape N s v → HasShape N (refine_by base i ns s) v)
+          → HasShape N (option_map_or (refine_by base i ns) o (named y)) v
       by None is f = h
       by (Some s) is f = f s (means.unfolds y s v is h)
-  refined_by-has (suc i) (name ∷ ns) (record_of fs) m (mapping es) x h e t =
-      by (shape_at name fs) refl (λ s w k j. refined_by-has i ns s m w x j k t)
+  refine_by-has (suc i) (name ∷ ns) (record_of fs) m (mapping es) x h e t =
+      by (shape_at name fs) refl (λ s w k j. refine_by-has i ns s m w x j k t)
     where
       by : (o : Option Shape) → shape_at name fs ≡ o
-          → ((s : Shape) (w : Value) → chain m ns w ≡ Ok x → HasShape N s w → HasShape N (refined_by base i ns s) w)
-          → HasShape N (option_map_or (λ s. record_of (with_field name (refined_by base i ns s) fs)) o (record_of fs)) (mapping es)
+          → ((s : Shape) (w : Value) → chain m ns w ≡ Ok x → HasShape N s w → HasShape N (refine_by base i ns s) w)
+          → HasShape N (option_map_or (λ s. record_of (with_field name (refine_by base i ns s) fs)) o (record_of fs)) (mapping es)
       by None is f = h
-      by (Some s) is f = record-refined m name ns s (refined_by base i ns s) fs es x (f s) is h e t
-  refined_by-has (suc i) (name ∷ ns) (record_of fs) m _ x h e t = absurd h
-  refined_by-has (suc i) ns s m v x h e t = h
+      by (Some s) is f = record-refined m name ns s (refine_by base i ns s) fs es x (f s) is h e t
+  refine_by-has (suc i) (name ∷ ns) (record_of fs) m _ x h e t = absurd h
+  refine_by-has (suc i) ns s m v x h e t = h
 
-  pub refined-has : (s : Shape) (m : MissingKey) (ns : List (List ℕ)) (v x : Value) → HasShape N s v → chain m ns v ≡ Ok x → is_nothing x ≡ false → HasShape N (refine base ns s) v
-  refined-has s m ns v x h e t = refined_by-has base.limit ns s m v x h e t
+  pub refine-has : (s : Shape) (m : MissingKey) (ns : List (List ℕ)) (v x : Value) → HasShape N s v → chain m ns v ≡ Ok x → is_nothing x ≡ false → HasShape N (refine base ns s) v
+  refine-has s m ns v x h e t = refine_by-has base.limit ns s m v x h e t
 
-  pub filled-has : (s : Shape) (v : Value) → HasShape N s v → truth v ≡ true → HasShape N (fill base s) v
-  filled-has s v h t = refined-has s mode.Error [] v v h refl (full-thing v t)
+  pub fill-has : (s : Shape) (v : Value) → HasShape N s v → truth v ≡ true → HasShape N (fill base s) v
+  fill-has s v h t = refine-has s mode.Error [] v v h refl (full-thing v t)
 
   -- ---- elements
 
@@ -312,14 +312,14 @@ module _ (base : Base) (N : Names) (means : Means base.defs N) where
   visits-left (Some a) None es h = tt
   visits-left (Some u) (Some w) None h = h
   visits-left (Some u) (Some w) (Some es) h =
-      each-on (IsVisit u) _ (λ e x. ((joined-left base N means) u.key w.key e.0 x.0, (joined-left base N means) u.element w.element e.1 x.1)) es h
+      each-on (IsVisit u) _ (λ e x. ((join-left base N means) u.key w.key e.0 x.0, (join-left base N means) u.element w.element e.1 x.1)) es h
 
   visits-right : (o p : Option Visit) (es : Option (List Element)) → Visits p es → Visits (both_visits base o p) es
   visits-right None p es h = tt
   visits-right (Some a) None es h = tt
   visits-right (Some u) (Some w) None h = h
   visits-right (Some u) (Some w) (Some es) h =
-      each-on (IsVisit w) _ (λ e x. ((joined-right base N means) u.key w.key e.0 x.0, (joined-right base N means) u.element w.element e.1 x.1)) es h
+      each-on (IsVisit w) _ (λ e x. ((join-right base N means) u.key w.key e.0 x.0, (join-right base N means) u.element w.element e.1 x.1)) es h
 
   count-visits : (is : List ℕ) → Each (IsVisit (record { key = numbers; element = numbers })) (map (λ i. (number (pos i), number (pos i))) is)
   count-visits [] = tt
@@ -334,7 +334,7 @@ module _ (base : Base) (N : Names) (means : Means base.defs N) where
   any-has no_field k v h = h
   any-has (others s) k v h = h
   any-has (field n required s fs) k v h =
-      elim h [ inl x ↦ (joined-left base N means) s (any_field base fs) v x.1 | inr x ↦ (joined-right base N means) s (any_field base fs) v (any-has fs k v x.1) ]
+      elim h [ inl x ↦ (join-left base N means) s (any_field base fs) v x.1 | inr x ↦ (join-right base N means) s (any_field base fs) v (any-has fs k v x.1) ]
 
   record-visits : (fs : Fields) (es : Entries) → EachEntry (IsField N fs) es → Each (IsVisit (record { key = texts; element = any_field base fs })) (elements_of_entries es)
   record-visits fs no_entry h = tt

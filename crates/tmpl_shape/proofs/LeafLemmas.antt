@@ -6,7 +6,7 @@ use Rattle.tmpl_grammar.specs.declared.tree.Binding.TheVariants as variants
 use Rattle.tmpl_grammar.specs.declared.tree.Pair as held_pair
 use Rattle.tmpl_shape.specs.Shape as spec
 use Rattle.tmpl_shape.specs.View.{fields_of, shape_of}
-use Rattle.tmpl_shape.specs.computed.Shapes.{Base, gone_step, has_name, is_of_kind, kind_step, number_visit, plain_within, refined_step, some_part, visit}
+use Rattle.tmpl_shape.specs.computed.Shapes.{Base, gone_step, has_name, is_of_kind, kind_step, number_visit, plain_within, refine_step, some_part, visit}
 use Rattle.tmpl_shape.specs.declared.kind.Kind.{Kind}
 use Rattle.tmpl_shape.specs.declared.kind.Kind.TheVariants.{Many}
 use Rattle.tmpl_shape.specs.declared.shape.Shape as held
@@ -143,15 +143,15 @@ gone-leaf base f (held.List' p s) a b c = rw (list_seen (box p s)) refl
 gone-leaf base f (held.Record fs) a b c = rw (record_seen fs) refl
 gone-leaf base f _ a b c = search (rules, the_lemmas)
 
-pub refined-leaf : (base : Base) (f : List (List ℕ) → spec.Shape → spec.Shape) (ns : List (List ℕ)) (s : held.Shape) → (s ≡ held.Nothings → ⊥) → (s ≡ held.Nulls → ⊥)
-    → NotEither s → NotNamed s → NotRecord s → refined_step base f ns (shape_of s) ≡ shape_of s
-refined-leaf base f ns held.Nothings a b c d e = absurd (a refl)
-refined-leaf base f ns held.Nulls a b c d e = absurd (b refl)
-refined-leaf base f ns (held.Either' p s q t) a b c d e = absurd (c (box p s) (box q t) refl)
-refined-leaf base f ns (held.Named y) a b c d e = absurd (d y refl)
-refined-leaf base f ns (held.Record fs) a b c d e = absurd (e fs refl)
-refined-leaf base f ns (held.List' p s) a b c d e = rw (list_seen (box p s)) refl
-refined-leaf base f ns _ a b c d e = search (rules, the_lemmas)
+pub refine-leaf : (base : Base) (f : List (List ℕ) → spec.Shape → spec.Shape) (ns : List (List ℕ)) (s : held.Shape) → (s ≡ held.Nothings → ⊥) → (s ≡ held.Nulls → ⊥)
+    → NotEither s → NotNamed s → NotRecord s → refine_step base f ns (shape_of s) ≡ shape_of s
+refine-leaf base f ns held.Nothings a b c d e = absurd (a refl)
+refine-leaf base f ns held.Nulls a b c d e = absurd (b refl)
+refine-leaf base f ns (held.Either' p s q t) a b c d e = absurd (c (box p s) (box q t) refl)
+refine-leaf base f ns (held.Named y) a b c d e = absurd (d y refl)
+refine-leaf base f ns (held.Record fs) a b c d e = absurd (e fs refl)
+refine-leaf base f ns (held.List' p s) a b c d e = rw (list_seen (box p s)) refl
+refine-leaf base f ns _ a b c d e = search (rules, the_lemmas)
 
 -- ---- what a range visits
 
@@ -159,6 +159,6 @@ pub one-number : (b : held_binding.Binding) → ((x : Box held_pair.Pair Global)
 one-number (variants.DeclarePair x) h = absurd (h x refl)
 one-number _ h = refl
 
-pub ruleset leaves = (no-name, part-leaf, gone-leaf, refined-leaf)
+pub ruleset leaves = (no-name, part-leaf, gone-leaf, refine-leaf)
 
 pub ruleset visits = (one-number)

@@ -15,7 +15,7 @@ use Rattle.tmpl_shape.specs.Shape.{EachItem, EachEntry, HasRequired, HasShape, I
 use Rattle.tmpl_shape.specs.computed.Means.{Means}
 use Rattle.tmpl_shape.specs.computed.Shapes.{Base, shape_at, is_required, requires_all, is_listed, others_within}
 use Rattle.tmpl_shape.specs.computed.Shapes.{fields_along, fields_within, record_within, has_name, plain_within, some_part, within_by}
-use Rattle.tmpl_shape.specs.computed.Shapes.{within, joined, has_kind, null_gone_by, null_gone}
+use Rattle.tmpl_shape.specs.computed.Shapes.{within, join, has_kind, null_gone_by, null_gone}
 use Rattle.tmpl_shape.specs.declared.kind.Kind.TheVariants.{Blank}
 use Rattle.tmpl_shape.proofs.KindLemmas.{has_kind-has}
 
@@ -220,18 +220,18 @@ module _ (base : Base) (N : Names) (means : Means base.defs N) where
 
   -- ---- alternatives
 
-  pub joined-left : (s t : Shape) (v : Value) → HasShape N s v → HasShape N (joined base s t) v
-  unfolding joined
-  joined-left s t v h = by (within base s t) refl (within base t s)
+  pub join-left : (s t : Shape) (v : Value) → HasShape N s v → HasShape N (join base s t) v
+  unfolding join
+  join-left s t v h = by (within base s t) refl (within base t s)
     where
       by : (p : Bool) → within base s t ≡ p → (q : Bool) → HasShape N (if p then t else if q then s else either s t) v
       by true e q = within-has s t v e h
       by false e true = h
       by false e false = inl h
 
-  pub joined-right : (s t : Shape) (v : Value) → HasShape N t v → HasShape N (joined base s t) v
-  unfolding joined
-  joined-right s t v h = by (within base s t) (within base t s) refl
+  pub join-right : (s t : Shape) (v : Value) → HasShape N t v → HasShape N (join base s t) v
+  unfolding join
+  join-right s t v h = by (within base s t) (within base t s) refl
     where
       by : (p q : Bool) → within base t s ≡ q → HasShape N (if p then t else if q then s else either s t) v
       by true q e = h
@@ -251,8 +251,8 @@ module _ (base : Base) (N : Names) (means : Means base.defs N) where
   null_gone_by-has (suc n) anything v h = tt
   null_gone_by-has (suc n) (either s t) v h =
       elim h [
-        | inl x ↦ joined-left (null_gone_by base n s) (null_gone_by base n t) (without_null v) (null_gone_by-has n s v x)
-        | inr x ↦ joined-right (null_gone_by base n s) (null_gone_by base n t) (without_null v) (null_gone_by-has n t v x)
+        | inl x ↦ join-left (null_gone_by base n s) (null_gone_by base n t) (without_null v) (null_gone_by-has n s v x)
+        | inr x ↦ join-right (null_gone_by base n s) (null_gone_by base n t) (without_null v) (null_gone_by-has n t v x)
       ]
   null_gone_by-has (suc n) (named x) v h = by (has_kind base Blank (named x)) refl (λ s. null_gone_by-has n s v)
     where

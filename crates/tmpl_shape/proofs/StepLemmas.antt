@@ -3,7 +3,7 @@ use Rattle.std.proofs.Common.{◌≡◌, ◌∙◌, ◌-◌, ℕ, zero, suc, Boo
 use Rattle.std.specs.Str.{bytes_eq}
 use Rattle.tmpl_shape.specs.Shape.{Shape, never, either, named, Fields, no_field, others, field}
 use Rattle.tmpl_shape.specs.computed.Shapes.{Base, fields_along, record_within, plain_within, some_part, within_by, kind_step, may_be, gone_step, null_gone_by}
-use Rattle.tmpl_shape.specs.computed.Shapes.{refined_step, refined_by, field_step, field_shape_by, index_step, index_shape_by, visit_step, visit_by}
+use Rattle.tmpl_shape.specs.computed.Shapes.{refine_step, refine_by, field_step, field_shape_by, index_step, index_shape_by, visit_step, visit_by}
 use Rattle.tmpl_shape.specs.declared.kind.Kind.{Kind}
 use Rattle.tmpl_grammar.specs.Tree.{Binding}
 use Rattle.tmpl_meaning.specs.declared.missing_key.MissingKey.{MissingKey}
@@ -24,9 +24,9 @@ kind-next base n k s e = by_step (λ i j. may_be base i k s ≡ kind_step base (
 pub gone-next : (base : Base) (n : ℕ) (s : Shape) → (n ≡ 0 → ⊥) → null_gone_by base n s ≡ gone_step base (null_gone_by base (n - 1)) s
 gone-next base n s e = by_step (λ i j. null_gone_by base i s ≡ gone_step base (null_gone_by base j) s) (λ i. refl) n e
 
-pub refined-next : (base : Base) (n : ℕ) (ns : List (List ℕ)) (s : Shape) → (n ≡ 0 → ⊥)
-    → refined_by base n ns s ≡ refined_step base (refined_by base (n - 1)) ns s
-refined-next base n ns s e = by_step (λ i j. refined_by base i ns s ≡ refined_step base (refined_by base j) ns s) (λ i. refl) n e
+pub refine-next : (base : Base) (n : ℕ) (ns : List (List ℕ)) (s : Shape) → (n ≡ 0 → ⊥)
+    → refine_by base n ns s ≡ refine_step base (refine_by base (n - 1)) ns s
+refine-next base n ns s e = by_step (λ i j. refine_by base i ns s ≡ refine_step base (refine_by base j) ns s) (λ i. refl) n e
 
 pub field-next : (base : Base) (n : ℕ) (m : MissingKey) (x : List ℕ) (s : Shape) → (n ≡ 0 → ⊥)
     → field_shape_by base n m x s ≡ field_step base (field_shape_by base (n - 1) m x) m x s
@@ -39,7 +39,7 @@ index-next base n x s e = by_step (λ i j. index_shape_by base i x s ≡ index_s
 pub visit-next : (base : Base) (n : ℕ) (c : Binding) (s : Shape) → (n ≡ 0 → ⊥) → visit_by base n c s ≡ visit_step base (visit_by base (n - 1) c) c s
 visit-next base n c s e = by_step (λ i j. visit_by base i c s ≡ visit_step base (visit_by base j c) c s) (λ i. refl) n e
 
-pub ruleset steps = (kind-next, gone-next, refined-next, field-next, index-next, visit-next)
+pub ruleset steps = (kind-next, gone-next, refine-next, field-next, index-next, visit-next)
 
 module _ (base : Base) (k : ℕ) where
   -- a shape of one kind, or any value

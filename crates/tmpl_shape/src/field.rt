@@ -9,7 +9,7 @@ ghost use Rattle.tmpl_shape.specs.computed.View.{base_of};
 
 use crate::cause::{Cause, Trouble, kind_word};
 use crate::inclusion::find;
-use crate::join::joined;
+use crate::join::join;
 use crate::shape::{Base, Fields, Shape, copy_name, copy_shape};
 use std::alloc::{AllocError, Global};
 use tmpl_funcs::Func;
@@ -49,7 +49,7 @@ fn of_field(
     if required {
         return Ok(shape);
     }
-    Ok(joined(base, shape, absent_shape(base.alloc, mode, name)?)?)
+    Ok(join(base, shape, absent_shape(base.alloc, mode, name)?)?)
 }
 
 /// The field of a name of a map of these fields.
@@ -100,7 +100,7 @@ fn field_shape_by(
         Shape::Either(one, other) => {
             let one = field_shape_by(base, fewer, mode, name, one)?;
             let other = field_shape_by(base, fewer, mode, name, other)?;
-            Ok(joined(base, one, other)?)
+            Ok(join(base, one, other)?)
         }
         Shape::Named(defined) => match find(base.definitions, defined.as_slice()) {
             Some(shape) => field_shape_by(base, fewer, mode, name, shape),
@@ -138,7 +138,7 @@ pub(crate) fn any_field(base: &Base<'_>, fields: &Fields) -> Result<Shape, Alloc
         Fields::Others(shape) => copy_shape(base.alloc, shape),
         Fields::Field(first) => {
             let shape = copy_shape(base.alloc, &first.shape)?;
-            joined(base, shape, any_field(base, &first.rest)?)
+            join(base, shape, any_field(base, &first.rest)?)
         }
     }
 }
@@ -152,7 +152,7 @@ fn keyed_shape(base: &Base<'_>, key: Option<&[u8]>, fields: &Fields) -> Result<S
         Some(name) => entry_shape(base, MissingKey::Zero, name, fields),
         None => {
             let any = any_field(base, fields)?;
-            Ok(joined(base, any, Shape::Nulls)?)
+            Ok(join(base, any, Shape::Nulls)?)
         }
     }
 }
@@ -177,7 +177,7 @@ fn index_shape_by(
         Shape::Either(one, other) => {
             let one = index_shape_by(base, fewer, key, one)?;
             let other = index_shape_by(base, fewer, key, other)?;
-            Ok(joined(base, one, other)?)
+            Ok(join(base, one, other)?)
         }
         Shape::Named(defined) => match find(base.definitions, defined.as_slice()) {
             Some(shape) => index_shape_by(base, fewer, key, shape),

@@ -3,8 +3,8 @@
 
 ghost use Rattle.std.specs.Prelude.{◌≡◌, IfOk};
 ghost use Rattle.tmpl_shape.specs.View.{fields_of, shape_of};
-ghost use Rattle.tmpl_shape.specs.computed.Shapes.{fill, joined, null_gone, null_gone_by, refine, refined_by};
-ghost use Rattle.tmpl_shape.specs.computed.Shapes.{refined_record, with_field};
+ghost use Rattle.tmpl_shape.specs.computed.Shapes.{fill, join, null_gone, null_gone_by, refine, refine_by};
+ghost use Rattle.tmpl_shape.specs.computed.Shapes.{refine_record, with_field};
 ghost use Rattle.tmpl_shape.specs.computed.View.{base_of};
 
 use crate::inclusion::{find, shape_at, within};
@@ -14,9 +14,9 @@ use std::alloc::{AllocError, Global};
 use tmpl_values::Bytes;
 
 /// The values of both.
-#[tactic(auto, unfolding(crate::specs::computed::Shapes::joined))]
-pub fn joined(base: &Base<'_>, one: Shape, other: Shape) -> Result<Shape, AllocError>
-    ensures { IfOk result (λ s. shape_of s ≡ joined (base_of base.now) (shape_of one) (shape_of other)) }
+#[tactic(auto, unfolding(crate::specs::computed::Shapes::join))]
+pub fn join(base: &Base<'_>, one: Shape, other: Shape) -> Result<Shape, AllocError>
+    ensures { IfOk result (λ s. shape_of s ≡ join (base_of base.now) (shape_of one) (shape_of other)) }
 {
     if within(base, &one, &other) {
         return Ok(other);
@@ -38,7 +38,7 @@ fn null_gone_by(base: &Base<'_>, steps: usize, shape: &Shape) -> Result<Shape, A
     match shape {
         Shape::Nulls => Ok(Shape::Nothings),
         Shape::Either(one, other) => {
-            joined(
+            join(
                 base,
                 null_gone_by(base, fewer, one)?,
                 null_gone_by(base, fewer, other)?,
@@ -95,14 +95,14 @@ fn with_field(
 }
 
 /// Of the values of which the field of the field of .. is there and not empty.
-#[cycle(refined)]
-fn refined_by(
+#[cycle(refine)]
+fn refine_by(
     base: &Base<'_>,
     steps: usize,
     names: &[Bytes],
     shape: &Shape,
 ) -> Result<Shape, AllocError>
-    ensures { IfOk result (λ s. shape_of s ≡ refined_by (base_of base.now) steps names.now (shape_of shape.now)) }
+    ensures { IfOk result (λ s. shape_of s ≡ refine_by (base_of base.now) steps names.now (shape_of shape.now)) }
 {
     if steps == 0 {
         return copy_shape(base.alloc, shape);
@@ -111,37 +111,37 @@ fn refined_by(
     match shape {
         Shape::Nothings | Shape::Nulls => Ok(Shape::Never),
         Shape::Either(one, other) => {
-            joined(
+            join(
                 base,
-                refined_by(base, fewer, names, one)?,
-                refined_by(base, fewer, names, other)?,
+                refine_by(base, fewer, names, one)?,
+                refine_by(base, fewer, names, other)?,
             )
         }
         Shape::Named(name) => match find(base.definitions, name.as_slice()) {
-            Some(defined) => refined_by(base, fewer, names, defined),
+            Some(defined) => refine_by(base, fewer, names, defined),
             None => copy_shape(base.alloc, shape),
         },
-        Shape::Record(fields) => refined_record(base, fewer, names, fields),
+        Shape::Record(fields) => refine_record(base, fewer, names, fields),
         _ => copy_shape(base.alloc, shape),
     }
 }
 
 /// Of maps of these fields.
-#[cycle(refined)]
-fn refined_record(
+#[cycle(refine)]
+fn refine_record(
     base: &Base<'_>,
     steps: usize,
     names: &[Bytes],
     fields: &Fields,
 ) -> Result<Shape, AllocError>
     ensures { IfOk result (λ s. shape_of s
-        ≡ refined_record (base_of base.now) (refined_by (base_of base.now) steps) names.now (fields_of fields.now)) }
+        ≡ refine_record (base_of base.now) (refine_by (base_of base.now) steps) names.now (fields_of fields.now)) }
 {
     match names {
         [] => Ok(Shape::Record(copy_fields(base.alloc, fields)?)),
         [first, rest @ ..] => match shape_at(first.as_slice(), fields) {
             Some(shape) => {
-                let shape = refined_by(base, steps, rest, shape)?;
+                let shape = refine_by(base, steps, rest, shape)?;
                 Ok(Shape::Record(with_field(base.alloc, first.as_slice(), shape, fields)?))
             }
             None => Ok(Shape::Record(copy_fields(base.alloc, fields)?)),
@@ -150,15 +150,15 @@ fn refined_record(
 }
 
 /// Of the values of which the field of the field of .. is there and not empty, as far as is looked.
-pub fn refined(base: &Base<'_>, names: &[Bytes], shape: &Shape) -> Result<Shape, AllocError>
+pub fn refine(base: &Base<'_>, names: &[Bytes], shape: &Shape) -> Result<Shape, AllocError>
     ensures { IfOk result (λ s. shape_of s ≡ refine (base_of base.now) names.now (shape_of shape.now)) }
 {
-    refined_by(base, base.limit, names, shape)
+    refine_by(base, base.limit, names, shape)
 }
 
 /// Of the values that are not empty.
-pub fn filled(base: &Base<'_>, shape: &Shape) -> Result<Shape, AllocError>
+pub fn fill(base: &Base<'_>, shape: &Shape) -> Result<Shape, AllocError>
     ensures { IfOk result (λ s. shape_of s ≡ fill (base_of base.now) (shape_of shape.now)) }
 {
-    refined(base, &[], shape)
+    refine(base, &[], shape)
 }

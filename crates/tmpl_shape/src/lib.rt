@@ -16,7 +16,7 @@ pub use cause::{Cause, Trouble};
 pub use field::{chain_shape, index_shape};
 pub use format::printf_shape;
 pub use inclusion::{has_name, within};
-pub use join::{filled, joined, null_gone, refined};
+pub use join::{fill, join, null_gone, refine};
 pub use kind::{Kind, Kinds, has_kind, kinds_of};
 pub use shape::{
     Base, Definition, Field, Fields, Schema, Shape, copy_name, copy_shape, either, put_field,

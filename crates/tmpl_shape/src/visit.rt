@@ -10,7 +10,7 @@ ghost use Rattle.tmpl_shape.specs.computed.View.{base_of, visit_seen};
 use crate::cause::{Cause, Trouble, kind_word};
 use crate::field::any_field;
 use crate::inclusion::find;
-use crate::join::joined;
+use crate::join::join;
 use crate::shape::{Base, Shape, copy_shape};
 use std::alloc::AllocError;
 use tmpl_grammar::Binding;
@@ -40,8 +40,8 @@ fn both_visits(base: &Base<'_>, one: Visit, other: Visit) -> Result<Visit, Alloc
     ensures { IfOk result (λ v. both_visits (base_of base.now) (Some (visit_seen one)) (Some (visit_seen other))
         ≡ Some (visit_seen v)) }
 {
-    let key = joined(base, one.key, other.key)?;
-    let element = joined(base, one.element, other.element)?;
+    let key = join(base, one.key, other.key)?;
+    let element = join(base, one.element, other.element)?;
     Ok(Visit { key, element })
 }
 

@@ -17,7 +17,7 @@ use Rattle.tmpl_funcs.specs.declared.func.Func.{Func}
 use Rattle.tmpl_funcs.specs.declared.func.Func.TheVariants.{And, Not, Index, Eq, Ne}
 use Rattle.tmpl_meaning.specs.Pipeline.{operand_count}
 use Rattle.tmpl_shape.specs.declared.kind.Kind.TheVariants.{Blank}
-use Rattle.tmpl_shape.specs.computed.Shapes.{Base, has_kind, within, joined, both, fill, null_gone, refine, chain_shape}
+use Rattle.tmpl_shape.specs.computed.Shapes.{Base, has_kind, within, join, both, fill, null_gone, refine, chain_shape}
 use Rattle.tmpl_shape.specs.computed.Shapes.{index_shape, Visit, visit_of}
 use Rattle.tmpl_shape.specs.computed.Calls.{call_shape, shape_by_function}
 use Rattle.tmpl_shape.specs.computed.Formats.{printf_shape}
@@ -202,10 +202,10 @@ module _ (base : Base) where
   -- ---- variables
 
   -- .. where a chain from a variable is not empty
-  abbrev pub refined_variable : List ℕ → List (List ℕ) → Known → Known
-  refined_variable name ns [] = []
-  refined_variable name ns (k ∷ ks) =
-      if bytes_eq k.0 name then (k.0, refine base ns k.1) ∷ ks else k ∷ refined_variable name ns ks
+  abbrev pub refine_variable : List ℕ → List (List ℕ) → Known → Known
+  refine_variable name ns [] = []
+  refine_variable name ns (k ∷ ks) =
+      if bytes_eq k.0 name then (k.0, refine base ns k.1) ∷ ks else k ∷ refine_variable name ns ks
 
   -- the same variables, each within the other's shape
   abbrev pub all_within : Known → Known → Bool
@@ -213,16 +213,16 @@ module _ (base : Base) where
   all_within (k ∷ ks) (l ∷ ls) = bytes_eq k.0 l.0 && (within base k.1 l.1 && all_within ks ls)
   all_within ks ls = false
 
-  abbrev pub all_joined : Known → Known → Known
-  all_joined (k ∷ ks) (l ∷ ls) = (k.0, joined base k.1 l.1) ∷ all_joined ks ls
-  all_joined ks ls = []
+  abbrev pub join_all : Known → Known → Known
+  join_all (k ∷ ks) (l ∷ ls) = (k.0, join base k.1 l.1) ∷ join_all ks ls
+  join_all ks ls = []
 
   -- ---- pipelines
 
   -- what is known where the value of a place is neither nothing nor null
   abbrev pub narrow_to : Option Place → State → State
   narrow_to None k = k
-  narrow_to (Some p) k = option_map_or (λ name. record k { env = refined_variable name p.path k.env })
+  narrow_to (Some p) k = option_map_or (λ name. record k { env = refine_variable name p.path k.env })
       p.root (record k { dot = refine base p.path k.dot })
 
   -- .. where an operand is so, and therefore where it is not empty; and where all these are not empty
@@ -333,30 +333,30 @@ module _ (base : Base) where
   -- the variables that were there before, after two parts
   abbrev pub after_both : ℕ → Known → Known → Option Known
   after_both n ks ls =
-      let u = last_of n ks in let w = last_of n ls in let j = all_joined u w in
+      let u = last_of n ks in let w = last_of n ls in let j = join_all u w in
       option_and_then (λ j. if_within w j) (if_within u j)
 
   -- the variables at the head of a range, if a turn keeps these; else those that are found from what a turn adds
-  abbrev pub settled_step : (Known → Option Known) → (Known → Option Known) → Known → Option Known
-  settled_step more turn ks =
-      option_and_then (λ end. if all_within end ks then Some ks else more (all_joined ks end)) (turn ks)
+  abbrev pub settle_step : (Known → Option Known) → (Known → Option Known) → Known → Option Known
+  settle_step more turn ks =
+      option_and_then (λ end. if all_within end ks then Some ks else more (join_all ks end)) (turn ks)
 
   -- .. looked for in as many rounds as this
   abbrev pub settle_known : ℕ → (Known → Option Known) → Known → Option Known
   settle_known zero turn ks = None
-  settle_known (suc n) turn ks = settled_step (settle_known n turn) turn ks
+  settle_known (suc n) turn ks = settle_step (settle_known n turn) turn ks
 
-  unfoldable pub settled_soon : (Known → Option Known) → Known → Option Known
-  settled_soon turn ks = settle_known 12 turn ks
+  unfoldable pub settle_soon : (Known → Option Known) → Known → Option Known
+  settle_soon turn ks = settle_known 12 turn ks
 
   -- .. from these before it
-  abbrev pub kept_by : (Known → Option Known) → Known → Option Known
-  kept_by turn ks = option_and_then (if_within ks) (settled_soon turn ks)
+  abbrev pub settle_head : (Known → Option Known) → Known → Option Known
+  settle_head turn ks = option_and_then (if_within ks) (settle_soon turn ks)
 
   -- at a break or continue the variables are within those at the head of the range
-  abbrev pub left_with : Known → Option Known → Option Known
-  left_with ks None = None
-  left_with ks (Some head) = option_map (λ u. ks) (if_within (last_of (length head) ks) head)
+  abbrev pub leave_with : Known → Option Known → Option Known
+  leave_with ks None = None
+  leave_with ks (Some head) = option_map (λ u. ks) (if_within (last_of (length head) ks) head)
 
   -- where an `if` or a `with` goes on with its body, and with its other part
   abbrev pub in_body : Control → Header → State → Shape → State
@@ -373,7 +373,7 @@ module _ (base : Base) where
 
   abbrev pub after_range : Header → State → (Option Known → Checked) → Checked → Visit → Option Known
   after_range h k body other v =
-      option_and_then (λ head. option_and_then (after_both (length k.env) head) (other k)) (kept_by (turn_known h v body) k.env)
+      option_and_then (λ head. option_and_then (after_both (length k.env) head) (other k)) (settle_head (turn_known h v body) k.env)
 
   abbrev pub after_control :
       Control → Option Known → Header → State → (Option Known → Checked) → Checked → Shape → Option Known
@@ -396,8 +396,8 @@ module _ (base : Base) where
         if holds_loop loop k.env then option_and_then
         (after_control c loop h k (λ l u. after_nodes m table l u body) (λ u. after_nodes m table loop u other))
         (pipeline_shape m k h.pipeline) else None
-    after_node m table loop k break_node = left_with k.env loop
-    after_node m table loop k continue_node = left_with k.env loop
+    after_node m table loop k break_node = leave_with k.env loop
+    after_node m table loop k continue_node = leave_with k.env loop
     after_node m table loop k (template_node name given) =
         option_and_then (λ c. after_call c k.env (option_map_or (pipeline_shape m k) given (Some nothings))) (table name)
 

@@ -91,8 +91,8 @@ abbrev pub after_action : computed.Base → MissingKey → State → Header → 
 after_action base m k h = option_map (λ s. bound_shapes h.binding spec.nothings s k.env) (pipeline_shape base m k h.pipeline)
 
 -- after a turn of a range with this body
-abbrev pub turned_by : computed.Base → MissingKey → Table → Header → computed.Visit → Nodes → Known → Option Known
-turned_by base m table h v body = turn_known h v (λ l u. after_nodes base m table l u body)
+abbrev pub turn_by : computed.Base → MissingKey → Table → Header → computed.Visit → Nodes → Known → Option Known
+turn_by base m table h v body = turn_known h v (λ l u. after_nodes base m table l u body)
 
 -- after an `if` or a `with`, and after a range that visits these, by their nodes
 abbrev pub after_choice_by :

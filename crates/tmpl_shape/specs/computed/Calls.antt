@@ -44,8 +44,8 @@ abbrev pub only_texts : Kinds → Bool
 only_texts ks = not (ks.blank || (ks.truth || (ks.number || ks.many)))
 
 -- each two values can be ordered
-abbrev pub ordered : Kinds → Kinds → Bool
-ordered a b = (only_numbers a && only_numbers b) || (only_texts a && only_texts b)
+abbrev pub orderable : Kinds → Kinds → Bool
+orderable a b = (only_numbers a && only_numbers b) || (only_texts a && only_texts b)
 
 -- texts, lists and maps
 abbrev pub is_sized : Kinds → Bool
@@ -70,7 +70,7 @@ equal_shape (a ∷ b ∷ bs) = truths_if (comparable_to_all a (b ∷ bs))
 equal_shape ks = None
 
 abbrev pub ordered_shape : List Kinds → Option Shape
-ordered_shape ks = two_kinds (λ a b. truths_if (ordered a b)) ks
+ordered_shape ks = two_kinds (λ a b. truths_if (orderable a b)) ks
 
 -- what a call gives, if it never is a fault; `slice` is not looked at, and `index` and `printf` elsewhere
 abbrev pub kinds_shape : Func → List Kinds → Option Shape

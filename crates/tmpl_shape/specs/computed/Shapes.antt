@@ -151,12 +151,12 @@ module _ (base : Base) where
 
   -- ---- alternatives
 
-  unfoldable pub joined : Shape → Shape → Shape
-  joined s t = if within s t then t else if within t s then s else either s t
+  unfoldable pub join : Shape → Shape → Shape
+  join s t = if within s t then t else if within t s then s else either s t
 
   -- two parts where there are both
   abbrev pub both : Option Shape → Option Shape → Option Shape
-  both (Some s) (Some t) = Some (joined s t)
+  both (Some s) (Some t) = Some (join s t)
   both s t = None
 
   -- it may have values of the kind, by whether what is in it may
@@ -187,7 +187,7 @@ module _ (base : Base) where
   -- of what a command gives: null is nothing
   abbrev pub gone_step : (Shape → Shape) → Shape → Shape
   gone_step f nulls = nothings
-  gone_step f (either s t) = joined (f s) (f t)
+  gone_step f (either s t) = join (f s) (f t)
   gone_step f (named x) =
       if has_kind Blank (named x) then option_map_or f (base.defs x) (either (named x) nothings) else named x
   gone_step f s = s
@@ -200,26 +200,26 @@ module _ (base : Base) where
   null_gone s = null_gone_by base.limit s
 
   -- of the maps of which the field of this name becomes such
-  abbrev pub refined_record : (List (List ℕ) → Shape → Shape) → List (List ℕ) → Fields → Shape
-  refined_record f [] fs = record_of fs
-  refined_record f (name ∷ ns) fs =
+  abbrev pub refine_record : (List (List ℕ) → Shape → Shape) → List (List ℕ) → Fields → Shape
+  refine_record f [] fs = record_of fs
+  refine_record f (name ∷ ns) fs =
       option_map_or (λ s. record_of (with_field name (f ns s) fs)) (shape_at name fs) (record_of fs)
 
   -- of the values of which the field of the field of .. is there and not empty
-  abbrev pub refined_step : (List (List ℕ) → Shape → Shape) → List (List ℕ) → Shape → Shape
-  refined_step f ns nothings = never
-  refined_step f ns nulls = never
-  refined_step f ns (either s t) = joined (f ns s) (f ns t)
-  refined_step f ns (named x) = option_map_or (f ns) (base.defs x) (named x)
-  refined_step f ns (record_of fs) = refined_record f ns fs
-  refined_step f ns s = s
+  abbrev pub refine_step : (List (List ℕ) → Shape → Shape) → List (List ℕ) → Shape → Shape
+  refine_step f ns nothings = never
+  refine_step f ns nulls = never
+  refine_step f ns (either s t) = join (f ns s) (f ns t)
+  refine_step f ns (named x) = option_map_or (f ns) (base.defs x) (named x)
+  refine_step f ns (record_of fs) = refine_record f ns fs
+  refine_step f ns s = s
 
-  abbrev pub refined_by : ℕ → List (List ℕ) → Shape → Shape
-  refined_by zero ns s = s
-  refined_by (suc n) ns s = refined_step (refined_by n) ns s
+  abbrev pub refine_by : ℕ → List (List ℕ) → Shape → Shape
+  refine_by zero ns s = s
+  refine_by (suc n) ns s = refine_step (refine_by n) ns s
 
   abbrev pub refine : List (List ℕ) → Shape → Shape
-  refine ns s = refined_by base.limit ns s
+  refine ns s = refine_by base.limit ns s
 
   -- of the values that are not empty
   abbrev pub fill : Shape → Shape
@@ -260,12 +260,12 @@ module _ (base : Base) where
   abbrev pub any_field : Fields → Shape
   any_field no_field = never
   any_field (others s) = s
-  any_field (field n required s fs) = joined s (any_field fs)
+  any_field (field n required s fs) = join s (any_field fs)
 
   -- what `index` gives for a key that is known, or for any, if it gives something of each value: the entry, or null
   abbrev pub keyed_shape : Option (List ℕ) → Fields → Option Shape
   keyed_shape (Some name) fs = entry_shape Zero name fs
-  keyed_shape None fs = Some (joined (any_field fs) nulls)
+  keyed_shape None fs = Some (join (any_field fs) nulls)
 
   abbrev pub index_step : (Shape → Option Shape) → Option (List ℕ) → Shape → Option Shape
   index_step f key never = Some never
@@ -284,7 +284,7 @@ module _ (base : Base) where
   -- ---- elements
 
   abbrev pub both_visits : Option Visit → Option Visit → Option Visit
-  both_visits (Some v) (Some w) = visit (joined v.key w.key) (joined v.element w.element)
+  both_visits (Some v) (Some w) = visit (join v.key w.key) (join v.element w.element)
   both_visits v w = None
 
   -- .. that a range visits, if it may range over each value of the shape
