@@ -1,6 +1,6 @@
 -- Templates that are accepted, and templates that are not.
 use Rattle.std.proofs.Common.{◌≡◌, ℕ, true, false, List, [], ◌∷◌, Some, None, refl, codes}
-use Rattle.tmpl_grammar.specs.Tree.{Operand, dot, fields, variable, bool_constant, text_constant, Operands, no_operand, operand, Pipeline, no_command, command, unbound, declare, assign, Header}
+use Rattle.tmpl_grammar.specs.Tree.{Operand, dot, fields, variable, bool_constant, text_constant, nil, Operands, no_operand, operand, Pipeline, no_command, command, unbound, declare, assign, Header}
 use Rattle.tmpl_grammar.specs.declared.tree.Control.TheVariants as control
 use Rattle.tmpl_syntax.specs.Tree as tree
 use Rattle.tmpl_syntax.specs.Tree.{NodeKind, Nodes, text, action, control_node, break_node, continue_node, template_node}
@@ -52,7 +52,7 @@ items = codes "items"
 -- {user?: {name: text} | null, items: [{name: text}], x: number}
 abbrev page : Shape
 page = record_of (field user false (either nulls (record_of (field name true texts no_field)))
-    (field items true (list_of (record_of (field name true texts no_field))) (field x true numbers no_field)))
+    (field items true (list_of 0 (record_of (field name true texts no_field))) (field x true numbers no_field)))
 
 -- {{.user.name}}: refused where an absent field is null, since null has no fields
 unguarded : is_safe plain_base mode.Zero none page (show (fields (user ∷ name ∷ []))) ≡ false
@@ -141,7 +141,7 @@ piped = refl
 
 -- {{template "y" .items}}, where the table has lists of such records for it, and numbers
 abbrev of_items : Table
-of_items n = Some (handed (list_of (record_of (field name true texts no_field))))
+of_items n = Some (handed (list_of 0 (record_of (field name true texts no_field))))
 
 abbrev of_numbers : Table
 of_numbers n = Some (handed numbers)
@@ -156,7 +156,7 @@ handed_wrong = refl
 
 -- trees: {name: text, children: [tree]}
 abbrev tree_shape : Shape
-tree_shape = record_of (field name true texts (field items true (list_of (named x)) no_field))
+tree_shape = record_of (field name true texts (field items true (list_of 0 (named x)) no_field))
 
 abbrev trees : Defs
 trees n = Some tree_shape
@@ -202,3 +202,66 @@ stopped = refl
 unknown : is_safe plain_base mode.Error none page (one (template_node y None)) ≡ false
 unfolding within join has_kind settle_soon
 unknown = refl
+
+-- ---- lists
+
+-- the first of the items, and its name
+abbrev first : Operand → Operand
+first o = group (command (call func.Index (o ∷ number_constant (pos 0) ∷ [])) no_command) []
+
+abbrev first_name : Operand → Operand
+first_name o = group (command (call func.Index (o ∷ number_constant (pos 0) ∷ [])) no_command) (name ∷ [])
+
+abbrev items_field : Operand
+items_field = fields (items ∷ [])
+
+-- {{(index .items 0).name}}: refused, since the list may be empty
+first_unguarded : is_safe plain_base mode.Error none page (show (first_name items_field)) ≡ false
+unfolding within join has_kind settle_soon
+first_unguarded = refl
+
+-- {{if .items}}{{(index .items 0).name}}{{end}}
+first_guarded : is_safe plain_base mode.Error none page (one (control_node control.If (plain items_field) (show (first_name items_field)) tree.none)) ≡ true
+unfolding within join has_kind settle_soon
+first_guarded = refl
+
+-- {{with .items}}{{(index . 0).name}}{{end}}
+first_with : is_safe plain_base mode.Error none page (one (control_node control.With (plain items_field) (show (first_name dot)) tree.none)) ≡ true
+unfolding within join has_kind settle_soon
+first_with = refl
+
+-- {{if ne .items nil}}{{index .items 0}}{{end}}: refused, since a list that is there may be empty
+there_only : is_safe plain_base mode.Error none page (one (control_node control.If
+    (record { binding = unbound; pipeline = command (call func.Ne (items_field ∷ nil ∷ [])) no_command })
+    (show (first items_field)) tree.none)) ≡ false
+unfolding within join has_kind settle_soon
+there_only = refl
+
+-- two texts at least: {{index . 1}} is accepted, {{index . 2}} is not, and no more is {{index (slice . 1) 1}}
+abbrev pair : Shape
+pair = list_of 2 texts
+
+abbrev item_at : Operand → ℕ → Pipeline
+item_at o i = command (call func.Index (o ∷ number_constant (pos i) ∷ [])) no_command
+
+abbrev gives : Pipeline → Nodes
+gives p = one (action (record { binding = unbound; pipeline = p }))
+
+second : is_safe plain_base mode.Error none pair (gives (item_at dot 1)) ≡ true
+unfolding within join has_kind settle_soon
+second = refl
+
+third : is_safe plain_base mode.Error none pair (gives (item_at dot 2)) ≡ false
+unfolding within join has_kind settle_soon
+third = refl
+
+abbrev rest : Operand
+rest = group (command (call func.Slice (dot ∷ number_constant (pos 1) ∷ [])) no_command) []
+
+first_of_rest : is_safe plain_base mode.Error none pair (gives (item_at rest 0)) ≡ true
+unfolding within join has_kind settle_soon
+first_of_rest = refl
+
+second_of_rest : is_safe plain_base mode.Error none pair (gives (item_at rest 1)) ≡ false
+unfolding within join has_kind settle_soon
+second_of_rest = refl

@@ -158,20 +158,21 @@ pub(crate) fn holds_loop(head: Option<&Known>, known: &Known) -> bool
     }
 }
 
-/// Where a chain of fields from a variable is not empty.
+/// Where a chain of fields from a variable is neither nothing nor null, and has at least as many items if it is a list.
 #[tactic(auto, using(crate::proofs::ViewLemmas::variables, crate::proofs::LengthLemmas::refinements))]
 pub(crate) fn refine_variable(
     base: &Base<'_>,
+    least: u64,
     name: &[u8],
     names: &[Bytes],
     known: &Known,
 ) -> Result<Known, AllocError>
     ensures { IfOk result (λ ks. known_of ks
-        ≡ refine_variable (base_of base.now) name.now names.now (known_of known.now)) }
+        ≡ refine_variable (base_of base.now) least name.now names.now (known_of known.now)) }
 {
     match variable_shape(name, known) {
         Some(shape) => {
-            let part = refine(base, names, shape)?;
+            let part = refine(base, least, names, shape)?;
             assign(base.alloc, name, part, known)
         }
         None => copy_known(base.alloc, known),

@@ -1,7 +1,7 @@
 -- For the law `runs_safely`: what is computed with shapes holds of their values.
-use Rattle.std.proofs.Common.{◌≡◌, ◌∙◌, ◌⊎◌, ℕ, zero, suc, Bool, true, false, not, ◌&&◌, ◌||◌, List, Option, Some, None}
+use Rattle.std.proofs.Common.{arith, ◌≡◌, ◌∙◌, ◌⊎◌, ◌≤◌, ℕ, zero, suc, nat_le, Bool, true, false, not, ◌&&◌, ◌||◌, List, Option, Some, None}
 use Rattle.std.proofs.Common.{IsSome, inl, inr, ap, refl, sym, subst, if◌then◌else◌}
-use Rattle.std.proofs.lemmas.Bool.{false≢true, and_parts}
+use Rattle.std.proofs.lemmas.Bool.{false≢true, and_parts, leb-true}
 use Rattle.std.proofs.lemmas.Slice.Eq.{bytes_eq-Decides}
 use Rattle.std.specs.Option.{option_map_or}
 use Rattle.std.specs.Str.{bytes_eq}
@@ -166,9 +166,11 @@ module _ (N : Names) where
   plain_within-has w f numbers _ v e h = absurd (false≢true e)
   plain_within-has w f texts texts v e h = h
   plain_within-has w f texts _ v e h = absurd (false≢true e)
-  plain_within-has w f (list_of s) (list_of t) (sequence vs) e h = items-has (HasShape N s) (HasShape N t) (λ v. f s t v e) vs h
-  plain_within-has w f (list_of s) (list_of t) _ e h = absurd h
-  plain_within-has w f (list_of s) _ v e h = absurd (false≢true e)
+  plain_within-has w f (list_of n s) (list_of m t) (sequence vs) e h =
+      let p = and_parts (nat_le m n) (w s t) e in
+      let fewer = leb-true m n p.0 in (omega (arith, h.0), items-has (HasShape N s) (HasShape N t) (λ v. f s t v p.1) vs h.1)
+  plain_within-has w f (list_of n s) (list_of m t) _ e h = absurd h
+  plain_within-has w f (list_of n s) _ v e h = absurd (false≢true e)
   plain_within-has w f (record_of fs) (record_of gs) (mapping es) e h = record_within-has w f fs gs es e h
   plain_within-has w f (record_of fs) (record_of gs) _ e h = absurd h
   plain_within-has w f (record_of fs) _ v e h = absurd (false≢true e)

@@ -64,7 +64,7 @@ abbrev pub place_seen : held_place.Place → Place
 place_seen p = record { root = option_map (λ name. name.now) p.root; path = p.path.now }
 
 abbrev pub facts_seen : held_facts.Facts → Facts
-facts_seen (fact.Operands os) = of_operands (operands_in os.now)
+facts_seen (fact.Operands n os) = of_operands n (operands_in os.now)
 facts_seen (fact.Index os) = of_index (operands_in os.now)
 
 -- of a call's arguments, of which a piped one is the last, the kinds of which they may be

@@ -18,7 +18,7 @@ settle_soon-returns t c =
     let turn = turn_by base c.args.checker.now.mode (table_of c.args.checker.now.table.now) (header_of c.args.header.now) (visit_seen c.args.visit.now) (nodes_in c.args.body.now) in
     let same : settle_soon base turn (known_of c.args.known.now) ≡ settle_known base 12 turn (known_of c.in_ok-start.start) =
     soon-settle_known base turn (known_of c.args.known.now) ∙ ap (settle_known base 12 turn) (sym c.in_ok-start.ensures) in
-    subst (λ (o : Option Known). IfOk c.settle.result (λ ks. o ≡ Some (known_of ks))) (sym same) c.settled.ensures
+    subst (λ (o : Option Known). IfOk c.settle.result (λ ks. o ≡ Some (known_of ks))) (sym same) c.settle.ensures
 
 pub after_range-returns : goal.after_range-returns
 after_range-returns t c =

@@ -1,5 +1,5 @@
 use Rattle.std.proofs.Common.{◌+◌, ◌*◌}
-use Rattle.tmpl_shape.proofs.join.+refine.Given as goal
+use Rattle.tmpl_shape.proofs.change.+refine.Given as goal
 
 abbrev pub decreases-refine_by : goal.decreases-refine_by
 decreases-refine_by l = 2 * l.steps

@@ -9,7 +9,7 @@ ghost use Rattle.tmpl_shape.specs.computed.View.{base_of};
 
 use crate::inclusion::{find, shape_at, within};
 use crate::kind::{Kind, has_kind};
-use crate::shape::{Base, Fields, Shape, copy_fields, copy_shape, either, put_field};
+use crate::shape::{Base, Fields, Shape, copy_fields, copy_shape, either, list_of, put_field};
 use std::alloc::{AllocError, Global};
 use tmpl_values::Bytes;
 
@@ -94,15 +94,17 @@ fn with_field(
     }
 }
 
-/// Of the values of which the field of the field of .. is there and not empty.
+/// Of the values of which the field of the field of .. is neither nothing nor null, and has at least as many items if it
+/// is a list.
 #[cycle(refine)]
 fn refine_by(
     base: &Base<'_>,
+    least: u64,
     steps: usize,
     names: &[Bytes],
     shape: &Shape,
 ) -> Result<Shape, AllocError>
-    ensures { IfOk result (λ s. shape_of s ≡ refine_by (base_of base.now) steps names.now (shape_of shape.now)) }
+    ensures { IfOk result (λ s. shape_of s ≡ refine_by (base_of base.now) least steps names.now (shape_of shape.now)) }
 {
     if steps == 0 {
         return copy_shape(base.alloc, shape);
@@ -110,18 +112,25 @@ fn refine_by(
     let fewer = steps - 1;
     match shape {
         Shape::Nothings | Shape::Nulls => Ok(Shape::Never),
+        Shape::List {
+            least: known,
+            items,
+        } => {
+            let items = copy_shape(base.alloc, items)?;
+            list_of(base.alloc, (*known).max(least), items)
+        }
         Shape::Either(one, other) => {
             join(
                 base,
-                refine_by(base, fewer, names, one)?,
-                refine_by(base, fewer, names, other)?,
+                refine_by(base, least, fewer, names, one)?,
+                refine_by(base, least, fewer, names, other)?,
             )
         }
         Shape::Named(name) => match find(base.definitions, name.as_slice()) {
-            Some(defined) => refine_by(base, fewer, names, defined),
+            Some(defined) => refine_by(base, least, fewer, names, defined),
             None => copy_shape(base.alloc, shape),
         },
-        Shape::Record(fields) => refine_record(base, fewer, names, fields),
+        Shape::Record(fields) => refine_record(base, least, fewer, names, fields),
         _ => copy_shape(base.alloc, shape),
     }
 }
@@ -130,18 +139,19 @@ fn refine_by(
 #[cycle(refine)]
 fn refine_record(
     base: &Base<'_>,
+    least: u64,
     steps: usize,
     names: &[Bytes],
     fields: &Fields,
 ) -> Result<Shape, AllocError>
     ensures { IfOk result (λ s. shape_of s
-        ≡ refine_record (base_of base.now) (refine_by (base_of base.now) steps) names.now (fields_of fields.now)) }
+        ≡ refine_record (base_of base.now) (refine_by (base_of base.now) least steps) names.now (fields_of fields.now)) }
 {
     match names {
         [] => Ok(Shape::Record(copy_fields(base.alloc, fields)?)),
         [first, rest @ ..] => match shape_at(first.as_slice(), fields) {
             Some(shape) => {
-                let shape = refine_by(base, steps, rest, shape)?;
+                let shape = refine_by(base, least, steps, rest, shape)?;
                 Ok(Shape::Record(with_field(base.alloc, first.as_slice(), shape, fields)?))
             }
             None => Ok(Shape::Record(copy_fields(base.alloc, fields)?)),
@@ -149,16 +159,22 @@ fn refine_record(
     }
 }
 
-/// Of the values of which the field of the field of .. is there and not empty, as far as is looked.
-pub fn refine(base: &Base<'_>, names: &[Bytes], shape: &Shape) -> Result<Shape, AllocError>
-    ensures { IfOk result (λ s. shape_of s ≡ refine (base_of base.now) names.now (shape_of shape.now)) }
+/// Of the values of which the field of the field of .. is neither nothing nor null, and has at least as many items if it
+/// is a list, as far as is looked.
+pub fn refine(
+    base: &Base<'_>,
+    least: u64,
+    names: &[Bytes],
+    shape: &Shape,
+) -> Result<Shape, AllocError>
+    ensures { IfOk result (λ s. shape_of s ≡ refine (base_of base.now) least names.now (shape_of shape.now)) }
 {
-    refine_by(base, base.limit, names, shape)
+    refine_by(base, least, base.limit, names, shape)
 }
 
 /// Of the values that are not empty.
 pub fn fill(base: &Base<'_>, shape: &Shape) -> Result<Shape, AllocError>
     ensures { IfOk result (λ s. shape_of s ≡ fill (base_of base.now) (shape_of shape.now)) }
 {
-    refine(base, &[], shape)
+    refine(base, 1, &[], shape)
 }
