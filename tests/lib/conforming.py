@@ -59,10 +59,11 @@ def drawn_schema(draw, depth):
             True, {}, {"type": "string"}, {"type": "integer"}, {"type": "boolean"}, {"type": "null"}, {"type": ["string", "null"]},
             {"type": "number", draw.choice(NARROWING[:4]): draw.randrange(-2, 3)}, {"type": "string", "minLength": draw.randrange(2)},
             {"const": draw.choice([None, True, 0, 1, "", "x", [], {}, [1], {"a": 1}])}, {"enum": draw.sample([None, False, True, 0, 1, "", "x", []], 3)},
+            {"type": "array", "items": {"type": "string"}, "minItems": draw.randrange(3)}, {"type": "array", "items": {"type": "string"}},
             {"type": "string", "enum": ["", "x", 1]}, {"$ref": "#/$defs/" + draw.choice(["n", "m~1o", "p%25q"])}, {"$ref": "#"}])
-    if kind < 0.4:
-        return {"type": "array", "items": drawn_schema(draw, depth - 1), **({"minItems": 1} if draw.random() < 0.3 else {})}
     if kind < 0.5:
+        return {"type": "array", "items": drawn_schema(draw, depth - 1), **({"minItems": draw.randrange(4)} if draw.random() < 0.5 else {})}
+    if kind < 0.6:
         out = {draw.choice(["anyOf", "oneOf"]): [drawn_schema(draw, depth - 1) for _ in range(draw.randrange(1, 4))]}
         return {**out, "type": ["object", "string"]} if draw.random() < 0.3 else out
     return drawn_object(draw, depth)
@@ -118,7 +119,8 @@ def drawn_of_type(draw, root, schema, depth, name):
         more = schema.get("additionalProperties", True)
         return {key: drawn_value(draw, root, listed.get(key, more), depth - 1) for key in wanted if listed.get(key, more) is not False}
     if name == "array":
-        return [drawn_value(draw, root, schema.get("items", True), depth - 1) for _ in range(draw.randrange(schema.get("minItems", 0), 3))]
+        count = schema.get("minItems", 0) + draw.choice((0, 0, 1, 2)) - (draw.random() < 0.1)
+        return [drawn_value(draw, root, schema.get("items", True), depth - 1) for _ in range(max(0, count))]
     return {"null": None, "boolean": draw.random() < 0.5, "integer": draw.randrange(-2, 4), "number": draw.randrange(-2, 4),
             "string": draw.choice(["x", "", "long"])}[name]
 
@@ -142,9 +144,23 @@ def drawn_printf(draw, scope):
 
 def drawn_index(draw, scope):
     """A call of index, by more than one key or by a key of the data."""
-    keys = [draw.choice(['"a"', '"b"', '"c"', '"a"', drawn_path(draw, scope), "0"]) for _ in range(draw.randrange(4))]
+    keys = [draw.choice(['"a"', '"b"', '"c"', '"a"', drawn_path(draw, scope), "0", "1", "-1"]) for _ in range(draw.randrange(4))]
     call = " ".join(["index", drawn_path(draw, scope), *keys])
     return draw.choice(["{{%s}}", "{{len (%s)}}", "{{with %s}}{{printf \"%%v\" .}}{{end}}", "{{range %s}}{{.}}{{end}}"]) % call
+
+
+def drawn_part(draw, scope):
+    """An item or a part of a list, mostly after a test of it."""
+    path = drawn_path(draw, scope)
+    path = draw.choice([path, path, '(index %s "a")' % scope[0]])
+    part = draw.choice(["index %s 0", "index %s 0", "index %s 1", "index %s 2", "index %s 0 0", 'index %s 0 "a"', "(index %s 0).a", "slice %s", "slice %s 1",
+                        "slice %s 0 1", "slice %s 1 2", "index (slice %s 1) 0", "len (slice %s 1)"])
+    used = draw.choice(["{{print (%s)}}", '{{printf "%%v" (%s)}}', "{{len (%s)}}", "{{range %s}}{{end}}"])
+    test = draw.choice(["%s", "{{if PATH}}%s{{end}}", "{{if PATH}}%s{{end}}", "{{if not PATH}}none{{else}}%s{{end}}", "{{if and PATH true}}%s{{end}}",
+                        "{{with $l := PATH}}%s{{end}}", "{{with PATH}}%s{{end}}", "{{if or PATH true}}%s{{end}}", "{{if ne PATH nil}}%s{{end}}",
+                        "{{$l := PATH}}{{if $l}}%s{{end}}", "{{if (PATH)}}{{else}}%s{{end}}"])
+    place = "$l" if "$l" in test else "." if test.startswith("{{with") else path
+    return test.replace("PATH", path) % (used % (part % place))
 
 
 def drawn_comparison(draw, scope):
@@ -163,8 +179,8 @@ def drawn_comparison(draw, scope):
 def drawn_line(draw, depth, scope):
     """A part of a template, over dot and the variables in scope."""
     path = drawn_path(draw, scope)
-    if draw.random() < 0.3:
-        return draw.choice([drawn_printf, drawn_index, drawn_comparison])(draw, scope)
+    if draw.random() < 0.4:
+        return draw.choice([drawn_printf, drawn_index, drawn_part, drawn_part, drawn_comparison])(draw, scope)
     kind = draw.randrange(9) if depth else 0
     inner = "".join(drawn_line(draw, depth - 1, scope) for _ in range(draw.randrange(1, 3))) if depth else ""
     if kind == 0:

@@ -1,5 +1,5 @@
 -- For the call `read_schema`: a value that conforms to a document fits the shape that is read of it.
-use Rattle.std.proofs.Common.{◌≡◌, ◌⊎◌, ◌&&◌, Bool, true, false, not, List, [], ◌∷◌, ℕ, zero, suc, Option, Some, None, All, IfSome, IsSome, is_some, inl, inr, refl, sym, subst, if◌then◌else◌, codes}
+use Rattle.std.proofs.Common.{arith, ◌≡◌, ◌⊎◌, ◌≤◌, ◌&&◌, length, Bool, true, false, not, List, [], ◌∷◌, ℕ, zero, suc, Option, Some, None, All, IfSome, IsSome, is_some, inl, inr, refl, sym, subst, if◌then◌else◌, codes}
 use Rattle.std.specs.Option.{option_map, option_map_or, option_and_then}
 use Rattle.std.specs.Str.{bytes_eq}
 use Rattle.std.proofs.lemmas.Bool.{false≢true, and_parts}
@@ -9,6 +9,7 @@ use Rattle.serde_json.specs.Data.{Data, Items, no_items, Members, no_members, me
 use Rattle.serde_json.specs.Find.{get, pointer}
 use Rattle.tmpl_values.specs.Value.{Value, Entries, no_entry, entry, nothing, null, boolean, number, string, sequence, mapping, item, no_item}
 use Rattle.tmpl_values.specs.Value as value
+use Rattle.tmpl_values.specs.Elements.{values_of_items}
 use Rattle.tmpl_shape.specs.Shape.{Shape, never, anything, named, record_of, Names, Defs, Fields, EachEntry, EachItem, AreDistinct, HasRequired, HasShape, IsField, stands_for}
 use Rattle.tmpl_shape.specs.View.{defs_in, shape_of}
 use Rattle.tmpl_shape.specs.declared.shape.Definition.{Definition}
@@ -16,10 +17,10 @@ use Rattle.tmpl_shape.specs.computed.Means.{Means}
 use Rattle.tmpl_shape.proofs.NameLemmas.{meant}
 use Rattle.tmpl_shape.proofs.ShapeLemmas.{same_name, or_cases, items-has, entries-has}
 use Rattle.tmpl_json_schema.specs.Document.{IsInstance, IsOfType, IsConstant, IsOneOf, HasKeys, SomeItem, in_properties, FitsProperty, FitsProperties, FitsAdditional}
-use Rattle.tmpl_json_schema.specs.Document.{FitsItems, FitsSome, fragment_of, refer, ConformsBy, conforms_in}
+use Rattle.tmpl_json_schema.specs.Document.{HasItems, FitsItems, FitsSome, fragment_of, refer, ConformsBy, conforms_in}
 use Rattle.tmpl_json_schema.specs.declared.kinds.Kinds.{Kinds}
 use Rattle.tmpl_json_schema.specs.computed.Reading.{fold, fold_members, every_kind, both_kinds, types_in, const_in, enum_in, kinds_in, type_kinds, enum_kinds, constant_kind}
-use Rattle.tmpl_json_schema.specs.computed.Reading.{is_every_kind, by_kinds, keep_kinds, rest_of, shape_of_rest, has_content, choices_in, or_else, is_listed, reference_shape, or_shape}
+use Rattle.tmpl_json_schema.specs.computed.Reading.{count_of, least_in, is_every_kind, by_kinds, keep_kinds, rest_of, shape_of_rest, has_content, choices_in, or_else, is_listed, reference_shape, or_shape}
 use Rattle.tmpl_json_schema.specs.computed.Reading.{choice_with, choice_shape, shape_under, required_in, required_fields, properties_in, property_fields, with_property}
 use Rattle.tmpl_json_schema.specs.computed.Reading.{fields_in, content_shape, plain_shape, object_shape, shape_by}
 use Rattle.tmpl_json_schema.specs.computed.Defined.{IsDefinition, are_defined}
@@ -60,6 +61,22 @@ kinds-has d ks v e i t c n = by (types_in d) refl (enum_in d) refl e
     by (Some a) x (Some b) y f = is-some (λ k. HasKind k v) (both_kinds a (both_kinds b (const_in d))) ks f
         (both-kinds a (both_kinds b (const_in d)) v (types-has (get (codes "type") d) a v x i t)
         (both-kinds b (const_in d) v (enum-has (get (codes "enum") d) b v y i n) (const-has (get (codes "const") d) v i c)))
+
+-- ---- how many items there are
+
+counted : (d : Data) (vs : value.Items) → HasItems (sequence vs) d → count_of d ≤ length (values_of_items vs)
+counted (json.number (json.unsigned n)) vs h = h
+counted (json.number (json.negative z)) vs h = omega arith
+counted (json.number (json.float x)) vs h = omega arith
+counted json.null vs h = omega arith
+counted (json.boolean b) vs h = omega arith
+counted (json.string s) vs h = omega arith
+counted (json.array ds) vs h = omega arith
+counted (json.object ms) vs h = omega arith
+
+least-has : (o : Option Data) (vs : value.Items) → IfSome o (HasItems (sequence vs)) → option_map_or count_of o 0 ≤ length (values_of_items vs)
+least-has None vs h = omega arith
+least-has (Some d) vs h = counted d vs h
 
 -- ---- what stands in a schema, where what stands inside is read well
 
@@ -187,13 +204,15 @@ module _ (N : Names) (read : Data → Option Shape) (C : Data → Value → Type
     abbrev whole : Data
     whole = json.object ms
 
-    inside : (i : Shape) (fs : Fields) → shape_under read (codes "items") whole ≡ Some i → fields_in read whole ≡ Some fs → HasParts N i fs v
+    inside : (i : Shape) (fs : Fields) → shape_under read (codes "items") whole ≡ Some i → fields_in read whole ≡ Some fs → HasParts N (least_in whole) i fs v
     inside i fs e f = by v h
       where
-        by : (w : Value) → ConformsBy root C whole w → HasParts N i fs w
-        by (sequence vs) k =
-            items-has (λ w. IfSome (get (codes "items") whole) (λ d. C d w)) (HasShape N i) (λ w. under-has (get (codes "items") whole) i w e) vs
-            (items-of (get (codes "items") whole) vs k.7)
+        by : (w : Value) → ConformsBy root C whole w → HasParts N (least_in whole) i fs w
+        by (sequence vs) k = (
+          least-has (get (codes "minItems") whole) vs k.8,
+          items-has (λ w. IfSome (get (codes "items") whole) (λ d. C d w)) (HasShape N i) (λ w. under-has (get (codes "items") whole) i w e) vs
+              (items-of (get (codes "items") whole) vs k.7),
+        )
         by (mapping es) k = fields-has whole fs es f k.0 k.4 k.5 k.6
         by w k = tt
 
@@ -201,14 +220,14 @@ module _ (N : Names) (read : Data → Option Shape) (C : Data → Value → Type
     content-has ks s e k = by (is_every_kind ks && not (has_content whole)) (shape_under read (codes "items") whole) refl (fields_in read whole) refl e
       where
         by : (c : Bool) (o : Option Shape) → shape_under read (codes "items") whole ≡ o → (p : Option Fields) → fields_in read whole ≡ p
-            → (if c then Some anything else option_and_then (λ i. option_map (by_kinds ks i) p) o) ≡ Some s → HasShape N s v
+            → (if c then Some anything else option_and_then (λ i. option_map (by_kinds ks (least_in whole) i) p) o) ≡ Some s → HasShape N s v
         by true o x p y f = is-some (λ t. HasShape N t v) anything s f tt
         by false None x p y f = absurd (not-some s f)
         by false (Some i) x None y f = absurd (not-some s f)
-        by false (Some i) x (Some fs) y f = is-some (λ t. HasShape N t v) (by_kinds ks i fs) s f (by_kinds-has N ks i fs v k (inside i fs x y))
+        by false (Some i) x (Some fs) y f = is-some (λ t. HasShape N t v) (by_kinds ks (least_in whole) i fs) s f (by_kinds-has N ks (least_in whole) i fs v k (inside i fs x y))
 
     chosen : (c : Data) → choices_in whole ≡ Some c → FitsSome C v c
-    chosen c e = by (has_content whole) (get (codes "anyOf") whole) (get (codes "oneOf") whole) h.8 h.9 e
+    chosen c e = by (has_content whole) (get (codes "anyOf") whole) (get (codes "oneOf") whole) h.9 h.10 e
       where
         by : (b : Bool) (o p : Option Data) → IfSome o (FitsSome C v) → IfSome p (FitsSome C v) → (if b then None else or_else o p) ≡ Some c → FitsSome C v c
         by true o p x y f = absurd (not-some c f)
@@ -233,7 +252,7 @@ module _ (N : Names) (read : Data → Option Shape) (C : Data → Value → Type
     object-has : (names : List (List ℕ))
         → ((r : Data) (s : Shape) → reference_shape names r ≡ Some s → IfSome (refer root r) (λ d. C d v) → HasShape N s v)
         → (s : Shape) → object_shape read names whole ≡ Some s → HasShape N s v
-    object-has names refers s e = by (get (codes "$ref") whole) h.10 e
+    object-has names refers s e = by (get (codes "$ref") whole) h.11 e
       where
         rest : (o : Option Kinds) → kinds_in whole ≡ o → option_and_then (plain_shape read whole) o ≡ Some s → HasShape N s v
         rest None is f = absurd (not-some s f)

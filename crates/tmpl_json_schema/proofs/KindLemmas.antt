@@ -163,18 +163,18 @@ module _ (N : Names) where
   or_if-other true s t v h = or-other s t v h
   or_if-other false s t v h = h
 
-  -- what is inside has the shapes of items and fields
-  abbrev pub HasParts : Shape → Fields → Value → Type 0
-  HasParts i fs (sequence vs) = EachItem (HasShape N i) vs
-  HasParts i fs (mapping es) = HasShape N (record_of fs) (mapping es)
-  HasParts i fs v = Unit {0}
+  -- what is inside has the shapes of items, of which there are at least as many, and of fields
+  abbrev pub HasParts : ℕ → Shape → Fields → Value → Type 0
+  HasParts n i fs (sequence vs) = HasShape N (list_of n i) (sequence vs)
+  HasParts n i fs (mapping es) = HasShape N (record_of fs) (mapping es)
+  HasParts n i fs v = Unit {0}
 
-  module _ (ks : Kinds) (i : Shape) (fs : Fields) (v : Value) where
+  module _ (ks : Kinds) (n : ℕ) (i : Shape) (fs : Fields) (v : Value) where
     abbrev maps : Shape
     maps = or_if ks.map (record_of fs) never
 
     abbrev lists : Shape
-    lists = or_if ks.list (list_of i) maps
+    lists = or_if ks.list (list_of n i) maps
 
     abbrev strings : Shape
     strings = or_if ks.text texts lists
@@ -185,29 +185,29 @@ module _ (N : Names) where
     abbrev bools : Shape
     bools = or_if ks.truth truths wholes
 
-    from-bools : HasShape N bools v → HasShape N (by_kinds ks i fs) v
+    from-bools : HasShape N bools v → HasShape N (by_kinds ks n i fs) v
     from-bools h = or_if-other ks.null nulls bools v h
 
-    from-wholes : HasShape N wholes v → HasShape N (by_kinds ks i fs) v
+    from-wholes : HasShape N wholes v → HasShape N (by_kinds ks n i fs) v
     from-wholes h = from-bools (or_if-other ks.truth truths wholes v h)
 
-    from-strings : HasShape N strings v → HasShape N (by_kinds ks i fs) v
+    from-strings : HasShape N strings v → HasShape N (by_kinds ks n i fs) v
     from-strings h = from-wholes (or_if-other ks.number numbers strings v h)
 
-    from-lists : HasShape N lists v → HasShape N (by_kinds ks i fs) v
+    from-lists : HasShape N lists v → HasShape N (by_kinds ks n i fs) v
     from-lists h = from-strings (or_if-other ks.text texts lists v h)
 
-    from-maps : HasShape N maps v → HasShape N (by_kinds ks i fs) v
-    from-maps h = from-lists (or_if-other ks.list (list_of i) maps v h)
+    from-maps : HasShape N maps v → HasShape N (by_kinds ks n i fs) v
+    from-maps h = from-lists (or_if-other ks.list (list_of n i) maps v h)
 
-  pub by_kinds-has : (ks : Kinds) (i : Shape) (fs : Fields) (v : Value) → HasKind ks v → HasParts i fs v → HasShape N (by_kinds ks i fs) v
-  by_kinds-has ks i fs nothing h p = absurd h
-  by_kinds-has ks i fs null h p = or_if-one ks.null nulls (bools ks i fs null) null h tt
-  by_kinds-has ks i fs (boolean b) h p = from-bools ks i fs (boolean b) (or_if-one ks.truth truths (wholes ks i fs (boolean b)) (boolean b) h tt)
-  by_kinds-has ks i fs (number n) h p = from-wholes ks i fs (number n) (or_if-one ks.number numbers (strings ks i fs (number n)) (number n) h tt)
-  by_kinds-has ks i fs (string s) h p = from-strings ks i fs (string s) (or_if-one ks.text texts (lists ks i fs (string s)) (string s) h tt)
-  by_kinds-has ks i fs (sequence vs) h p = from-lists ks i fs (sequence vs) (or_if-one ks.list (list_of i) (maps ks i fs (sequence vs)) (sequence vs) h p)
-  by_kinds-has ks i fs (mapping es) h p = from-maps ks i fs (mapping es) (or_if-one ks.map (record_of fs) never (mapping es) h p)
+  pub by_kinds-has : (ks : Kinds) (n : ℕ) (i : Shape) (fs : Fields) (v : Value) → HasKind ks v → HasParts n i fs v → HasShape N (by_kinds ks n i fs) v
+  by_kinds-has ks n i fs nothing h p = absurd h
+  by_kinds-has ks n i fs null h p = or_if-one ks.null nulls (bools ks n i fs null) null h tt
+  by_kinds-has ks n i fs (boolean b) h p = from-bools ks n i fs (boolean b) (or_if-one ks.truth truths (wholes ks n i fs (boolean b)) (boolean b) h tt)
+  by_kinds-has ks n i fs (number m) h p = from-wholes ks n i fs (number m) (or_if-one ks.number numbers (strings ks n i fs (number m)) (number m) h tt)
+  by_kinds-has ks n i fs (string s) h p = from-strings ks n i fs (string s) (or_if-one ks.text texts (lists ks n i fs (string s)) (string s) h tt)
+  by_kinds-has ks n i fs (sequence vs) h p = from-lists ks n i fs (sequence vs) (or_if-one ks.list (list_of n i) (maps ks n i fs (sequence vs)) (sequence vs) h p)
+  by_kinds-has ks n i fs (mapping es) h p = from-maps ks n i fs (mapping es) (or_if-one ks.map (record_of fs) never (mapping es) h p)
 
   if_kind-has : (c : Bool) (s : Shape) (v : Value) → c ≡ true → HasShape N s v → HasShape N (if_kind c s) v
   if_kind-has true s v e h = h
@@ -225,8 +225,8 @@ module _ (N : Names) where
   kept-has ks numbers v k h = absurd h
   kept-has ks texts (string s) k h = if_kind-has ks.text texts (string s) k h
   kept-has ks texts v k h = absurd h
-  kept-has ks (list_of s) (sequence vs) k h = if_kind-has ks.list (list_of s) (sequence vs) k h
-  kept-has ks (list_of s) v k h = absurd h
+  kept-has ks (list_of n s) (sequence vs) k h = if_kind-has ks.list (list_of n s) (sequence vs) k h
+  kept-has ks (list_of n s) v k h = absurd h
   kept-has ks (record_of fs) (mapping es) k h = if_kind-has ks.map (record_of fs) (mapping es) k h
   kept-has ks (record_of fs) v k h = absurd h
   kept-has ks (either s t) v k h = elim h [

@@ -1,15 +1,16 @@
 -- Which values conform to a JSON Schema (draft 2020-12), by the JSON value of its bytes. C is the core specification, V
 -- that of validation. What only narrows further is left out, as `minLength`: more values conform than by the specification.
-use Rattle.std.specs.Prelude.{◌≡◌, ◌⊎◌, ℕ, zero, suc, true, false, List, [], ◌∷◌, ◌||◌, ◌==◌, Bool, Option, Some, None, IsSome, IfSome, codes}
+use Rattle.std.specs.Prelude.{◌≡◌, ◌⊎◌, ◌≤◌, ℕ, zero, suc, true, false, List, length, [], ◌∷◌, ◌||◌, ◌==◌, Bool, Option, Some, None, IsSome, IfSome, codes}
 use Rattle.std.specs.Option.{option_and_then}
 use Rattle.std.specs.Prelude.{if◌then◌else◌}
 use Rattle.std.specs.Str.{bytes_eq, is_utf8}
 use Rattle.percent_encoding.specs.Percent.{percent_decode}
 use Rattle.serde_json.specs.Data as json
-use Rattle.serde_json.specs.Data.{Data, Items, no_items, Members, no_members, member}
+use Rattle.serde_json.specs.Data.{Data, unsigned, Items, no_items, Members, no_members, member}
 use Rattle.serde_json.specs.Find.{get, pointer}
 use Rattle.serde_json.specs.Read.{read}
 use Rattle.tmpl_values.specs.Value.{Value, Entries, nothing, null, boolean, number, string, sequence, mapping}
+use Rattle.tmpl_values.specs.Elements.{values_of_items}
 use Rattle.tmpl_values.specs.Field.{entry_at}
 use Rattle.tmpl_shape.specs.Shape.{EachItem, EachEntry, AreDistinct}
 
@@ -77,6 +78,11 @@ abbrev pub HasKeys : Value → Data → Type 0
 HasKeys (mapping es) (json.array ds) = EachKey es ds
 HasKeys v d = Unit {0}
 
+-- `minItems` (V 6.4.2): a list has at least as many items; a number that is not written as a whole one is not looked at
+abbrev pub HasItems : Value → Data → Type 0
+HasItems (sequence vs) (json.number (unsigned n)) = n ≤ length (values_of_items vs)
+HasItems v d = Unit {0}
+
 -- the properties have this name
 abbrev pub is_property : List ℕ → Members → Bool
 is_property k no_members = false
@@ -133,6 +139,7 @@ ConformsBy root Conforms (json.object ms) v =
     × IfSome (keyword (codes "properties")) (FitsProperties Conforms v)
     × IfSome (keyword (codes "additionalProperties")) (FitsAdditional Conforms (keyword (codes "properties")) v)
     × IfSome (keyword (codes "items")) (FitsItems Conforms v)
+    × IfSome (keyword (codes "minItems")) (HasItems v)
     × IfSome (keyword (codes "anyOf")) (FitsSome Conforms v)
     × IfSome (keyword (codes "oneOf")) (FitsSome Conforms v)
     × IfSome (keyword (codes "$ref")) (λ r. IfSome (refer root r) (λ d. Conforms d v))

@@ -1,11 +1,11 @@
-//! The fields of maps, by `required`.
+//! The fields of maps, by `required`, and how many items a list has.
 #![tactic(auto, using(tmpl_shape::proofs::ViewLemmas::parts))]
 
 ghost use Rattle.std.specs.Prelude.{◌≡◌, IfOk, Some};
 ghost use Rattle.std.specs.Option.{option_map, option_map_or};
 ghost use Rattle.serde_json.specs.View.{items_view, view};
 ghost use Rattle.tmpl_shape.specs.View.{fields_of, shape_of};
-ghost use Rattle.tmpl_json_schema.specs.computed.Reading.{fold, has_content, is_key, required_fields, required_in, is_required, shape_of_rest, with_required};
+ghost use Rattle.tmpl_json_schema.specs.computed.Reading.{fold, has_content, is_key, is_required, least_in, required_fields, required_in, shape_of_rest, with_required};
 
 use crate::fault::{SchemaFault, at_index, refusal, under};
 use crate::shapes::shape_of_rest;
@@ -21,6 +21,19 @@ fn is_key(key: &[u8], names: &[Value]) -> bool
         [] => false,
         [Value::String(first), rest @ ..] => key == first.as_str().as_bytes() || is_key(key, rest),
         [_, rest @ ..] => is_key(key, rest),
+    }
+}
+
+/// How many items a list has at least.
+pub(crate) fn least_in(schema: &Value) -> u64
+    ensures { result ≡ least_in (view schema.now) }
+{
+    match schema.get("minItems") {
+        Some(least) => match least.as_u64() {
+            Some(count) => count,
+            None => 0,
+        },
+        None => 0,
     }
 }
 

@@ -10,7 +10,7 @@ ghost use Rattle.tmpl_json_schema.specs.computed.Reading.{choice_shape, choice_w
 ghost use Rattle.tmpl_json_schema.specs.computed.Reading.{object_shape, plain_shape, properties_in, reference_shape, shape_by, shape_under, with_property};
 
 use crate::fault::{SchemaFault, at_index, refusal, refusal_of, under};
-use crate::fields::{has_content, is_required, required_in};
+use crate::fields::{has_content, is_required, least_in, required_in};
 use crate::keyword::check_keywords;
 use crate::kinds::{Kinds, is_every_kind, kinds_in};
 use crate::reference::{fragment_of, is_listed};
@@ -221,7 +221,7 @@ fn content_shape(
     }
     let item = items_shape(reader, steps, schema)?;
     let fields = fields_in(reader, steps, schema)?;
-    Ok(by_kinds(reader.alloc, kinds, item, fields)?)
+    Ok(by_kinds(reader.alloc, kinds, least_in(schema), item, fields)?)
 }
 
 /// The shape of items.

@@ -227,7 +227,7 @@ fn add_alternatives(
         | Shape::Truths
         | Shape::Numbers
         | Shape::Texts => Ok(1),
-        Shape::Anything | Shape::List(_) | Shape::Record(_) => Ok(1),
+        Shape::Anything | Shape::List { .. } | Shape::Record(_) => Ok(1),
     }
 }
 

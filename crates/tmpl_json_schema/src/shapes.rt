@@ -7,7 +7,7 @@ ghost use Rattle.tmpl_json_schema.specs.computed.Reading.{by_kinds, if_kind, is_
 
 use crate::kinds::Kinds;
 use std::alloc::{AllocError, Global};
-use tmpl_schema::{Fields, Shape, copy_shape, either};
+use tmpl_schema::{Fields, Shape, copy_shape, either, list_of};
 
 /// Whether there is no value.
 fn is_never(shape: &Shape) -> bool
@@ -21,7 +21,7 @@ fn is_never(shape: &Shape) -> bool
         | Shape::Numbers
         | Shape::Texts
         | Shape::Anything => false,
-        Shape::List(_) | Shape::Record(_) | Shape::Either(..) | Shape::Named(_) => false,
+        Shape::List { .. } | Shape::Record(_) | Shape::Either(..) | Shape::Named(_) => false,
     }
 }
 
@@ -48,17 +48,18 @@ fn or_if(alloc: Global, is_asked: bool, one: Shape, other: Shape) -> Result<Shap
     Ok(other)
 }
 
-/// The values of these kinds, with such items and fields.
+/// The values of these kinds, with at least as many such items, and such fields.
 pub(crate) fn by_kinds(
     alloc: Global,
     kinds: Kinds,
+    least: u64,
     item: Shape,
     fields: Fields,
 ) -> Result<Shape, AllocError>
-    ensures { IfOk result (λ s. shape_of s ≡ by_kinds kinds (shape_of item) (fields_of fields)) }
+    ensures { IfOk result (λ s. shape_of s ≡ by_kinds kinds least (shape_of item) (fields_of fields)) }
 {
     let shape = or_if(alloc, kinds.map, Shape::Record(fields), Shape::Never)?;
-    let list = Shape::List(Box::new(alloc, item)?);
+    let list = list_of(alloc, least, item)?;
     let shape = or_if(alloc, kinds.list, list, shape)?;
     let shape = or_if(alloc, kinds.text, Shape::Texts, shape)?;
     let shape = or_if(alloc, kinds.number, Shape::Numbers, shape)?;
@@ -84,7 +85,7 @@ pub(crate) fn kept(alloc: Global, kinds: Kinds, shape: Shape) -> Result<Shape, A
         Shape::Truths => Ok(if_kind(kinds.truth, Shape::Truths)),
         Shape::Numbers => Ok(if_kind(kinds.number, Shape::Numbers)),
         Shape::Texts => Ok(if_kind(kinds.text, Shape::Texts)),
-        Shape::List(items) => Ok(if_kind(kinds.list, Shape::List(items))),
+        Shape::List { least, items } => Ok(if_kind(kinds.list, Shape::List { least, items })),
         Shape::Record(fields) => Ok(if_kind(kinds.map, Shape::Record(fields))),
         Shape::Either(one, other) => {
             let one = kept(alloc, kinds, Box::into_inner(one))?;

@@ -155,13 +155,15 @@ impl<'w> Walk<'w> {
             [Operand::Function(Func::Index), value, keys @ ..] => {
                 let mut origin = self.operand(levels, value)?;
                 for key in keys {
-                    let Operand::Text(key) = key else {
-                        return Err(Lost::Untold);
+                    origin = match key {
+                        Operand::Text(key) => self.field(&origin, key.as_slice())?,
+                        Operand::Number(_) => self.document.elements(&origin)?,
+                        _ => return Err(Lost::Untold),
                     };
-                    origin = self.field(&origin, key.as_slice())?;
                 }
                 Ok(origin)
             }
+            [Operand::Function(Func::Slice), value, ..] => self.operand(levels, value),
             _ => Err(Lost::Untold),
         }
     }

@@ -179,6 +179,10 @@ fn cause_text(
             text.push_str(" and has no fields")?;
         }
         Cause::Arguments(func) => push_func(&mut text, *func, " may get what it refuses")?,
+        Cause::FewItems(func, count) => {
+            push_func(&mut text, *func, " may get a list of too few items: ")?;
+            push_guard(&mut text, *count)?;
+        }
         Cause::NotFollowed(func) => push_func(&mut text, *func, " is not followed by this check")?,
         Cause::Range(kind) => {
             text.push_str("a range over ")?;
@@ -211,6 +215,14 @@ fn push_absence(
         Why::NoneListed => write!(text, "no \"properties\" at {schema}:{line}"),
         Why::Kind => Ok(()),
     }
+}
+
+/// Adds how a template or a schema tells that a list has as many items.
+fn push_guard(text: &mut String, count: u64) -> Result<(), AllocError> {
+    if count == 1 {
+        return text.push_str("guard it by \"if\" or \"with\", or write \"minItems\": 1");
+    }
+    write!(text, "write \"minItems\": {count}")
 }
 
 /// Adds a kind of values, and what lets them through.
@@ -282,7 +294,7 @@ fn is_named(text: &[u8], cause: &Cause) -> bool {
             _ => false,
         },
         Cause::NoTemplate(name) => text.starts_with(name.as_slice()),
-        Cause::Arguments(func) | Cause::NotFollowed(func) => {
+        Cause::Arguments(func) | Cause::FewItems(func, _) | Cause::NotFollowed(func) => {
             text.starts_with(func.name().as_bytes())
         }
         Cause::Range(_) => text.starts_with(b"range"),

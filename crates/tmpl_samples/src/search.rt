@@ -142,9 +142,10 @@ fn is_caused(cause: &Cause, kind: &RunFaultKind<'_>, stops: &[Bytes]) -> bool {
         (Cause::NoFields(name, _), RunFaultKind::NoEntry(field) | RunFaultKind::NoField(field)) => {
             name.as_slice() == *field
         }
-        (Cause::Arguments(func) | Cause::NotFollowed(func), RunFaultKind::Call(other, _)) => {
-            func.name() == other.name()
-        }
+        (
+            Cause::Arguments(func) | Cause::FewItems(func, _) | Cause::NotFollowed(func),
+            RunFaultKind::Call(other, _),
+        ) => func.name() == other.name(),
         (Cause::Range(_), RunFaultKind::NotARange) => true,
         (Cause::NoTemplate(name), RunFaultKind::NoTemplate(other)) => {
             name.as_slice() == *other && !stops.iter().any(|stop| stop.as_slice() == *other)

@@ -4,14 +4,14 @@ use Rattle.tmpl_grammar.specs.Tree.{Operand, no_operand, operand}
 use Rattle.tmpl_grammar.specs.View.{commands_in, operands_in}
 use Rattle.tmpl_grammar.specs.declared.tree.Operand as held
 use Rattle.tmpl_grammar.specs.declared.tree.Command as held_command
-use Rattle.tmpl_schema.specs.computed.Check.{alone_facts, facts_of, of_operands, pipeline_place, two_of}
+use Rattle.tmpl_schema.specs.computed.Check.{alone_facts, bounds_of, facts_of, no_facts, pipeline_place, two_of}
 
-pub not-alone : (c : Bool) (o : Operand) (os : List held.Operand) → 1 ≤ length os → alone_facts c o (operands_in os) ≡ of_operands no_operand
+pub not-alone : (c : Bool) (o : Operand) (os : List held.Operand) → 1 ≤ length os → alone_facts c o (operands_in os) ≡ no_facts
 not-alone c o [] h = absurd (omega arith)
 not-alone true o (p ∷ os) h = refl
 not-alone false o (p ∷ os) h = refl
 
-pub not-one : (c : Bool) (cs : List held_command.Command) → 2 ≤ length cs → facts_of c (commands_in cs) ≡ of_operands no_operand
+pub not-one : (c : Bool) (cs : List held_command.Command) → 2 ≤ length cs → facts_of c (commands_in cs) ≡ no_facts
 not-one c [] h = absurd (omega arith)
 not-one c (d ∷ []) h = absurd (omega arith)
 not-one c (d ∷ e ∷ cs) h = refl
@@ -25,4 +25,10 @@ not-one-place [] h = absurd (omega arith)
 not-one-place (c ∷ []) h = absurd (omega arith)
 not-one-place (c ∷ d ∷ cs) h = refl
 
-pub ruleset rests = (not-alone, not-one, not-two, not-one-place)
+pub not-bounds : (os : List held.Operand) → 3 ≤ length os → bounds_of None (operands_in os) ≡ None
+not-bounds [] h = absurd (omega arith)
+not-bounds (o ∷ []) h = absurd (omega arith)
+not-bounds (o ∷ p ∷ []) h = absurd (omega arith)
+not-bounds (o ∷ p ∷ q ∷ os) h = refl
+
+pub ruleset rests = (not-alone, not-one, not-two, not-one-place, not-bounds)

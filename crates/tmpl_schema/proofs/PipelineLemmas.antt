@@ -78,14 +78,15 @@ module _ (base : Base) (m : MissingKey) (k : State) where
       by (Some ts) e = let same : map (kinds_of base) (ts ++ option_to_list piped) ≡ ks = cc in rw same call
 
   -- a command of a function that is called as most are
-  pub function-by : (f : Func) (os : Operands) (piped : Option Shape) (s : Shape) → (f ≡ func.And → ⊥) → (f ≡ func.Or → ⊥) → (f ≡ func.Index → ⊥) → (f ≡ func.Printf → ⊥)
+  pub function-by : (f : Func) (os : Operands) (piped : Option Shape) (s : Shape) → (f ≡ func.And → ⊥) → (f ≡ func.Or → ⊥) → (f ≡ func.Index → ⊥) → (f ≡ func.Slice → ⊥) → (f ≡ func.Printf → ⊥)
       → takes f (operand_count os + length (option_to_list piped)) ≡ true → called_shape base m k f os piped ≡ Some s
       → command_shape base m k (operand (function f) os) piped ≡ Some s
-  function-by func.And os piped s a b c d t e = absurd (a refl)
-  function-by func.Or os piped s a b c d t e = absurd (b refl)
-  function-by func.Index os piped s a b c d t e = absurd (c refl)
-  function-by func.Printf os piped s a b c d t e = absurd (d refl)
-  function-by _ os piped s a b c d t e = rw t e
+  function-by func.And os piped s a b c p d t e = absurd (a refl)
+  function-by func.Or os piped s a b c p d t e = absurd (b refl)
+  function-by func.Index os piped s a b c p d t e = absurd (c refl)
+  function-by func.Slice os piped s a b c p d t e = absurd (p refl)
+  function-by func.Printf os piped s a b c p d t e = absurd (d refl)
+  function-by _ os piped s a b c p d t e = rw t e
 
   -- a command by what its first operand is
   pub head-function : (o : Operand) (f : Func) (os : Operands) (piped : Option Shape) (s : Shape) → calls f ≡ head_of o

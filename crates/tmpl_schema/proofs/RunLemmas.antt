@@ -23,12 +23,12 @@ use Rattle.tmpl_shape.specs.Shape.{Shape, nothings, HasShape, Names}
 use Rattle.tmpl_schema.specs.Safe.{MayEnd}
 use Rattle.tmpl_shape.specs.computed.Means.{Means}
 use Rattle.tmpl_shape.specs.computed.Shapes.{Base, within, fill, Visit, visit_of}
-use Rattle.tmpl_schema.specs.computed.Check.{Known, State, Callee, handed, absent, Table, Checked, last_of, all_within, all_joined, if_within, after_both, settle_known, settled_soon, kept_by, left_with}
+use Rattle.tmpl_schema.specs.computed.Check.{Known, State, Callee, handed, absent, Table, Checked, last_of, all_within, join_all, if_within, after_both, settle_known, settle_soon, settle_head, leave_with}
 use Rattle.tmpl_schema.specs.computed.Check.{holds_loop, dot_in, in_body, in_other, after_choice, in_turn, turn_known, after_range, after_call, after_control, after_node, after_nodes}
 use Rattle.tmpl_schema.specs.computed.Check.{pipeline_shape, narrow, bound_shapes, at_start, is_safe}
 use Rattle.tmpl_schema.specs.computed.Safe.{IsCallee, IsChecked}
 use Rattle.tmpl_shape.proofs.ShapeLemmas.{within-has}
-use Rattle.tmpl_shape.proofs.FieldLemmas.{Gives, Each, IsVisit, Visits, filled-has, visit-gives}
+use Rattle.tmpl_shape.proofs.FieldLemmas.{Gives, Each, IsVisit, Visits, fill-has, visit-gives}
 use Rattle.tmpl_schema.proofs.VariableLemmas.{HasKnown, Fits, place, known-length, last-known, last-last, within-known, if_within-some, both-known, bound-known}
 use Rattle.tmpl_schema.proofs.VariableLemmas.{pipeline-gives, narrow-fits, empty-fits}
 
@@ -127,7 +127,7 @@ module _ (base : Base) (N : Names) (means : Means base.defs N) (stops : List (Li
       by true t a isa b isb left right =
           let q : Run = with_bound h.binding (without_key v) (record r { made_text = made }) in
           let n = (narrow-fits base N means) m h.pipeline k d r.env v fits value t in
-          let full = (filled-has base N means) sh v has t in
+          let full = (fill-has base N means) sh v has t in
           let x = body (dot_value c v d) q in
           scope-ends loop k.env a out r.env fits.1 holds left x.1 x.0.env
           (in_f (in_body base c h k sh) a isa (dot_value c v d) q (
@@ -147,18 +147,18 @@ module _ (base : Base) (N : Names) (means : Means base.defs N) (stops : List (Li
       → (end : Known) × (turn head ≡ Some end) × (all_within base end head ≡ true)
   settled-so zero turn ks head e = cc
   settled-so (suc n) turn ks head e =
-      option_and_then_some _ (turn ks) head e (λ end is rest. by end is (all_within base end ks) refl rest (settled-so n turn (all_joined base ks end) head))
+      option_and_then_some _ (turn ks) head e (λ end is rest. by end is (all_within base end ks) refl rest (settled-so n turn (join_all base ks end) head))
     where
-      by : (end : Known) → turn ks ≡ Some end → (b : Bool) → all_within base end ks ≡ b → (if b then Some ks else settle_known base n turn (all_joined base ks end)) ≡ Some head
-          → (settle_known base n turn (all_joined base ks end) ≡ Some head → (end : Known) × (turn head ≡ Some end) × (all_within base end head ≡ true))
+      by : (end : Known) → turn ks ≡ Some end → (b : Bool) → all_within base end ks ≡ b → (if b then Some ks else settle_known base n turn (join_all base ks end)) ≡ Some head
+          → (settle_known base n turn (join_all base ks end) ≡ Some head → (end : Known) × (turn head ≡ Some end) × (all_within base end head ≡ true))
           → (end : Known) × (turn head ≡ Some end) × (all_within base end head ≡ true)
       by end is true w rest more =
           let same : ks ≡ head = cc in subst (λ (i : Known). (end : Known) × (turn i ≡ Some end) × (all_within base end i ≡ true)) same (end, is, w)
       by end is false w rest more = more rest
 
-  soon-so : (turn : Known → Option Known) (ks head : Known) → settled_soon base turn ks ≡ Some head
+  soon-so : (turn : Known → Option Known) (ks head : Known) → settle_soon base turn ks ≡ Some head
       → (end : Known) × (turn head ≡ Some end) × (all_within base end head ≡ true)
-  unfolding settled_soon
+  unfolding settle_soon
   soon-so turn ks head e = settled-so 12 turn ks head e
 
   -- how a turn ends: all but a fault leaves the variables of the range's head
@@ -206,10 +206,10 @@ module _ (base : Base) (N : Names) (means : Means base.defs N) (stops : List (Li
       → (d : Value) (r : Run) → (Fits base N means) k d r.env → (made : Bool) (o : Option (List Element)) → (Visits base N means) (Some v) o
       → Ends loop out (scoped (length r.env) (over s line h.binding body (other d) o (record r { made_text = made })))
   over-ends s line h k loop f g body other v out is holds in_f in_g d r fits made o visits =
-      option_and_then_some _ (kept_by base (turn_known h v f) k.env) out is (λ head ish rest.
+      option_and_then_some _ (settle_head base (turn_known h v f) k.env) out is (λ head ish rest.
       option_and_then_some (after_both base (length k.env) head) (g k) out rest (λ b isb joint.
       let joins = (both-known base N means) (length k.env) head b out joint in
-      option_and_then_some (if_within base k.env) (settled_soon base (turn_known h v f) k.env) head ish (λ x isx keeps.
+      option_and_then_some (if_within base k.env) (settle_soon base (turn_known h v f) k.env) head ish (λ x isx keeps.
       let p = (if_within-some base N means) k.env x head keeps in
       let set = soon-so (turn_known h v f) k.env x isx in
       by o visits head b isb joins.0 joins.1 (subst (λ (i : Known). all_within base k.env i ≡ true) p.1 p.0)
@@ -306,7 +306,7 @@ module _ (base : Base) (N : Names) (means : Means base.defs N) (stops : List (Li
         by (assign name) = (bound-known base N means) (assign name) nothings sh (without_key v) tt has k.env r.env known
         by (declare_pair key name) = (bound-known base N means) (declare_pair key name) nothings sh (without_key v) tt has k.env r.env known
 
-    left-ends : (loop : Option Known) (ks out : Known) (env : Environment) → left_with base ks loop ≡ Some out → (HasKnown base N means) ks env → InLoop loop env
+    left-ends : (loop : Option Known) (ks out : Known) (env : Environment) → leave_with base ks loop ≡ Some out → (HasKnown base N means) ks env → InLoop loop env
     left-ends None ks out env e k = cc
     left-ends (Some head) ks out env e k = by (if_within base (last_of (length head) ks) head) refl e
       where

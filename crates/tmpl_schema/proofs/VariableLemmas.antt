@@ -1,12 +1,12 @@
 -- For the law `runs_safely`: the variables of a run have the shapes that are computed, and so have pipelines.
-use Rattle.std.proofs.Common.{arith, ◌≡◌, ◌∙◌, ◌+◌, ◌-◌, ◌≤◌, ◌&&◌, ◌++◌, inl, inr, not, option_to_list, unwrap_or, ℕ, zero, suc, Bool, true, false, List, [], ◌∷◌, Option, Some, None, Result, Ok, Err, length, drop, ap, refl, sym, subst, if◌then◌else◌}
+use Rattle.std.proofs.Common.{arith, ◌≡◌, ◌∙◌, ◌+◌, ◌-◌, ◌≤◌, ◌<◌, ◌&&◌, pos, nat_lt, ◌++◌, inl, inr, not, option_to_list, unwrap_or, ℕ, zero, suc, Bool, true, false, List, [], ◌∷◌, Option, Some, None, Result, Ok, Err, length, drop, ap, refl, sym, subst, if◌then◌else◌}
 use Rattle.std.proofs.lemmas.List.{drop-drop, length-drop}
-use Rattle.std.proofs.lemmas.Bool.{false≢true, and_parts}
+use Rattle.std.proofs.lemmas.Bool.{false≢true, and_parts, ltb-true}
 use Rattle.std.proofs.lemmas.Option.{cond_some, option_and_then_some}
 use Rattle.std.specs.Option.{option_map, option_map_or, option_and_then}
 use Rattle.std.specs.List.{find}
 use Rattle.std.specs.Str.{bytes_eq}
-use Rattle.tmpl_values.specs.Value.{Value, nothing, null, boolean, number, string, sequence, mapping, Entries}
+use Rattle.tmpl_values.specs.Value.{Value, nothing, null, boolean, number, string, sequence, mapping, Items, Entries}
 use Rattle.tmpl_values.specs.Field.{found, missing, entry_at}
 use Rattle.tmpl_values.specs.Stage.{and_then}
 use Rattle.tmpl_funcs.specs.Index.{element_at, indexed_by}
@@ -23,19 +23,21 @@ use Rattle.tmpl_meaning.specs.Pipeline.{Environment, Given, Place, chain, field_
 use Rattle.tmpl_meaning.specs.Meaning.{assign_variable, bind}
 use Rattle.tmpl_meaning.specs.declared.missing_key.MissingKey.{MissingKey}
 use Rattle.tmpl_meaning.specs.declared.missing_key.MissingKey.TheVariants as mode
-use Rattle.tmpl_shape.specs.Shape.{Fields, Shape, never, nothings, nulls, texts, record_of, either, named, HasShape, IsField, Names}
+use Rattle.tmpl_shape.specs.Shape.{Fields, Shape, never, nothings, nulls, texts, list_of, record_of, either, named, HasShape, IsField, Names}
 use Rattle.tmpl_shape.specs.declared.kind.Kind.TheVariants.{Blank}
 use Rattle.tmpl_shape.specs.computed.Formats.{printf_shape}
 use Rattle.tmpl_shape.specs.computed.Means.{Means}
-use Rattle.tmpl_shape.specs.computed.Shapes.{Base, within, both, any_field, fill, has_kind, joined, keyed_shape, null_gone, refine, chain_shape, entry_shape, index_shape, index_shape_by}
+use Rattle.tmpl_shape.specs.computed.Shapes.{Base, within, both, any_field, fill, has_kind, join, keyed_shape, null_gone, refine, chain_shape, entry_shape, index_shape, index_shape_by}
+use Rattle.tmpl_shape.specs.computed.Shapes.{Key, of_name, of_text, of_place, item_shape, part_shape}
 use Rattle.tmpl_shape.specs.computed.Calls.{call_shape, shape_by_function}
-use Rattle.tmpl_schema.specs.computed.Check.{call_place, index_place, pair_facts, narrow_as, narrow_by, narrow_by_all, narrow_to, deciding_shape, passing_shape, passed, operand_shapes, junction_shape, commands_shape}
-use Rattle.tmpl_schema.specs.computed.Check.{Known, State, variable_shape, assigned_shape, bound_shapes, refined_variable, all_within, all_joined, last_of, if_within}
+use Rattle.tmpl_schema.specs.computed.Check.{bounds_of, sliced_shape, call_place, index_place, pair_facts, narrow_as, narrow_by, narrow_by_all, narrow_to, deciding_shape, passing_shape, passed, operand_shapes, junction_shape, commands_shape}
+use Rattle.tmpl_schema.specs.computed.Check.{Known, State, variable_shape, assigned_shape, bound_shapes, refine_variable, all_within, join_all, last_of, if_within}
 use Rattle.tmpl_schema.specs.computed.Check.{after_both, entry_along, entry_by, operand_shape, indexed_shape, printed_shape, command_shape, pipeline_shape, narrow}
 use Rattle.tmpl_shape.proofs.KindLemmas.{has_kind-has}
-use Rattle.tmpl_shape.proofs.ShapeLemmas.{same_name, within-has, joined-left, joined-right, null_gone-has}
+use Rattle.tmpl_shape.proofs.ShapeLemmas.{same_name, within-has, join-left, join-right, null_gone-has}
 use Rattle.tmpl_shape.proofs.FormatLemmas.{printf-gives}
-use Rattle.tmpl_shape.proofs.FieldLemmas.{Gives, any-has, at-entry, both-left, both-right, entry-gives, chain-gives, filled-has, full-thing, refined-has}
+use Rattle.tmpl_shape.proofs.FieldLemmas.{Gives, IsThere, any-has, any-least, at-entry, both-left, both-right, entry-gives, chain-gives, fill-has, full-thing, refine-has}
+use Rattle.tmpl_shape.proofs.PartLemmas.{item-at, part-gives, part_told}
 use Rattle.tmpl_shape.proofs.CallLemmas.{HaveShapes, call-gives}
 use Rattle.tmpl_funcs.specs.Func.{takes}
 use Rattle.tmpl_funcs.specs.declared.func.Func.{Func}
@@ -88,7 +90,7 @@ module _ (base : Base) (N : Names) (means : Means base.defs N) where
   pub both-known : (n : ℕ) (a b c : Known) → after_both base n a b ≡ Some c
       → ((env : Environment) → HasKnown (last_of n a) env → HasKnown c env) × ((env : Environment) → HasKnown (last_of n b) env → HasKnown c env)
   both-known n a b c e =
-      let u = last_of n a in let w = last_of n b in let j = all_joined base u w in
+      let u = last_of n a in let w = last_of n b in let j = join_all base u w in
       option_and_then_some (λ x. if_within base w x) (if_within base u j) c e (λ x is more.
       let p = if_within-some u j x is in
       let q = if_within-some w x c more in
@@ -127,17 +129,17 @@ module _ (base : Base) (N : Names) (means : Means base.defs N) where
   bound-known (assign name) k s e f g ks env h = assigned-known name s e.1 g ks env h
   bound-known (declare_pair key name) k s e f g ks env h = (refl, g, (refl, f, h))
 
-  refined-known : (m : MissingKey) (name : List ℕ) (ns : List (List ℕ)) (x : Value) → is_nothing x ≡ false → (ks : Known) (env : Environment) → HasKnown ks env
-      → chain m ns (lookup name env) ≡ Ok x → HasKnown (refined_variable base name ns ks) env
-  refined-known m name ns x t [] [] h e = tt
-  refined-known m name ns x t (k ∷ ks) (v ∷ env) h e = by (bytes_eq k.0 name) (rw h.0 at e) (refined-known m name ns x t ks env h.2)
+  refine-known : (least : ℕ) (m : MissingKey) (name : List ℕ) (ns : List (List ℕ)) (x : Value) → IsThere least x → (ks : Known) (env : Environment) → HasKnown ks env
+      → chain m ns (lookup name env) ≡ Ok x → HasKnown (refine_variable base least name ns ks) env
+  refine-known least m name ns x t [] [] h e = tt
+  refine-known least m name ns x t (k ∷ ks) (v ∷ env) h e = by (bytes_eq k.0 name) (rw h.0 at e) (refine-known least m name ns x t ks env h.2)
     where
       by : (b : Bool) → chain m ns (option_map_or (λ v. v.1) (if b then Some (k.0, v.1) else find (λ v. bytes_eq v.0 name) env) nothing) ≡ Ok x
-          → (chain m ns (lookup name env) ≡ Ok x → HasKnown (refined_variable base name ns ks) env)
-          → HasKnown (if b then (k.0, refine base ns k.1) ∷ ks else k ∷ refined_variable base name ns ks) (v ∷ env)
-      by true y more = (h.0, (refined-has base N means) k.1 m ns v.1 x h.1 y t, h.2)
+          → (chain m ns (lookup name env) ≡ Ok x → HasKnown (refine_variable base least name ns ks) env)
+          → HasKnown (if b then (k.0, refine base least ns k.1) ∷ ks else k ∷ refine_variable base least name ns ks) (v ∷ env)
+      by true y more = (h.0, (refine-has base N means) least k.1 m ns v.1 x h.1 y t, h.2)
       by false y more = (h.0, h.1, more y)
-  refined-known m name ns x t _ _ h e = absurd h
+  refine-known least m name ns x t _ _ h e = absurd h
 
   -- ---- pipelines
 
@@ -196,14 +198,15 @@ module _ (base : Base) (N : Names) (means : Means base.defs N) where
   called-gives f ps pv p (Some ss) (Ok vs) b h = (call-gives base N means) f (ss ++ option_to_list ps) (vs ++ option_to_list pv) (with-piped ps pv p ss vs h)
   called-gives f ps pv p (Some ss) (Err cause) b h = absurd h
 
-  by_function-gives : (f : Func) (a b c e p : Option Shape) (x y z : Given Value) → (Gives base N means) a x.result → (Gives base N means) b y.result → (Gives base N means) c z.result
-      → (f ≡ func.Index → (Gives base N means) e x.result) → (f ≡ func.Printf → (Gives base N means) p x.result)
-      → (Gives base N means) (shape_by_function f a b c e p) (by_function f x y z).result
-  by_function-gives func.And a b c e p x y z h i j k l = i
-  by_function-gives func.Or a b c e p x y z h i j k l = j
-  by_function-gives func.Index a b c e p x y z h i j k l = k refl
-  by_function-gives func.Printf a b c e p x y z h i j k l = l refl
-  by_function-gives _ a b c e p x y z h i j k l = h
+  by_function-gives : (f : Func) (a b c e q p : Option Shape) (x y z : Given Value) → (Gives base N means) a x.result → (Gives base N means) b y.result → (Gives base N means) c z.result
+      → (f ≡ func.Index → (Gives base N means) e x.result) → (f ≡ func.Slice → (Gives base N means) q x.result) → (f ≡ func.Printf → (Gives base N means) p x.result)
+      → (Gives base N means) (shape_by_function f a b c e q p) (by_function f x y z).result
+  by_function-gives func.And a b c e q p x y z h i j k o l = i
+  by_function-gives func.Or a b c e q p x y z h i j k o l = j
+  by_function-gives func.Index a b c e q p x y z h i j k o l = k refl
+  by_function-gives func.Slice a b c e q p x y z h i j k o l = o refl
+  by_function-gives func.Printf a b c e q p x y z h i j k o l = l refl
+  by_function-gives _ a b c e q p x y z h i j k o l = h
 
   -- ---- `index` by a key
 
@@ -215,32 +218,52 @@ module _ (base : Base) (N : Names) (means : Means base.defs N) where
   abbrev told : Result Value CallFault → Result Value Cause
   told r = result_map_both (λ v. v) (call_failed func.Index) r
 
-  -- of a map, by a key that is known or by any
-  keyed-gives : (key : Option (List ℕ)) (n : List ℕ) (fs : Fields) (es : Entries) → HasShape N (record_of fs) (mapping es)
-      → (Gives base N means) (keyed_shape base key fs) (told (element_at (mapping es) (string (unwrap_or key n))))
-  keyed-gives (Some name) n fs es h = told-entry (entry_shape base mode.Zero name fs) name (entry_at name es) ((entry-gives base N means) mode.Zero name fs es h.1 h.2)
-  keyed-gives None n fs es h = by (entry_at n es) refl
-    where
-      by : (o : Option Value) → entry_at n es ≡ o → HasShape N (joined base (any_field base fs) nulls) (unwrap_or o null)
-      by None is = (joined-right base N means) (any_field base fs) nulls null tt
-      by (Some w) is =
-          (joined-left base N means) (any_field base fs) nulls w ((any-has base N means) fs n w ((at-entry base N means) (IsField N fs) n w es is h.1))
+  -- the value of a key
+  abbrev key_value : Key → List ℕ → Value
+  key_value (of_name name) n = string name
+  key_value of_text n = string n
+  key_value (of_place i) n = number (pos i)
 
-  index-gives : (i : ℕ) (key : Option (List ℕ)) (n : List ℕ) (s : Shape) (v : Value) → HasShape N s v
-      → (Gives base N means) (index_shape_by base i key s) (told (element_at v (string (unwrap_or key n))))
+  -- of a map
+  keyed-gives : (key : Key) (n : List ℕ) (fs : Fields) (es : Entries) → HasShape N (record_of fs) (mapping es)
+      → (Gives base N means) (keyed_shape base key fs) (told (element_at (mapping es) (key_value key n)))
+  keyed-gives (of_name name) n fs es h = told-entry (entry_shape base mode.Zero name fs) name (entry_at name es) ((entry-gives base N means) mode.Zero name fs es h.1 h.2)
+  keyed-gives (of_place i) n fs es h = tt
+  keyed-gives of_text n fs es h = by (entry_at n es) refl
+    where
+      by : (o : Option Value) → entry_at n es ≡ o → HasShape N (join base (any_field base fs) nulls) (unwrap_or o null)
+      by None is = (join-right base N means) (any_field base fs) nulls null tt
+      by (Some w) is =
+          (join-left base N means) (any_field base fs) nulls w ((any-has base N means) fs n w ((at-entry base N means) (IsField N fs) n w es is h.1))
+
+  -- of a list
+  item-gives : (key : Key) (n : List ℕ) (least : ℕ) (s : Shape) (vs : Items) → HasShape N (list_of least s) (sequence vs)
+      → (Gives base N means) (item_shape key least s) (told (element_at (sequence vs) (key_value key n)))
+  item-gives (of_name name) n least s vs h = tt
+  item-gives of_text n least s vs h = tt
+  item-gives (of_place i) n least s vs h = by (nat_lt i least) refl
+    where
+      by : (c : Bool) → nat_lt i least ≡ c → (Gives base N means) (if c then Some s else None) (told (element_at (sequence vs) (number (pos i))))
+      by true e = let less = ltb-true i least e in let at = item-at (HasShape N s) vs i h.1 (omega (arith, h.0)) in rw (at.1) at.2
+      by false e = tt
+
+  index-gives : (i : ℕ) (key : Key) (n : List ℕ) (s : Shape) (v : Value) → HasShape N s v
+      → (Gives base N means) (index_shape_by base i key s) (told (element_at v (key_value key n)))
   index-gives zero key n s v h = tt
   index-gives (suc i) key n never v h = absurd h
+  index-gives (suc i) key n (list_of least s) (sequence vs) h = item-gives key n least s vs h
+  index-gives (suc i) key n (list_of least s) _ h = absurd h
   index-gives (suc i) key n (record_of fs) (mapping es) h = keyed-gives key n fs es h
   index-gives (suc i) key n (record_of fs) _ h = absurd h
   index-gives (suc i) key n (either s t) v h = elim h [
-    | inl x ↦ (both-left base N means) (index_shape_by base i key s) (index_shape_by base i key t) (told (element_at v (string (unwrap_or key n)))) (index-gives i key n s v x)
-    | inr x ↦ (both-right base N means) (index_shape_by base i key s) (index_shape_by base i key t) (told (element_at v (string (unwrap_or key n)))) (index-gives i key n t v x)
+    | inl x ↦ (both-left base N means) (index_shape_by base i key s) (index_shape_by base i key t) (told (element_at v (key_value key n))) (index-gives i key n s v x)
+    | inr x ↦ (both-right base N means) (index_shape_by base i key s) (index_shape_by base i key t) (told (element_at v (key_value key n))) (index-gives i key n t v x)
   ]
   index-gives (suc i) key n (named y) v h = by (base.defs y) refl (λ s. index-gives i key n s v)
     where
       by : (o : Option Shape) → base.defs y ≡ o
-          → ((s : Shape) → HasShape N s v → (Gives base N means) (index_shape_by base i key s) (told (element_at v (string (unwrap_or key n)))))
-          → (Gives base N means) (option_and_then (index_shape_by base i key) o) (told (element_at v (string (unwrap_or key n))))
+          → ((s : Shape) → HasShape N s v → (Gives base N means) (index_shape_by base i key s) (told (element_at v (key_value key n))))
+          → (Gives base N means) (option_and_then (index_shape_by base i key) o) (told (element_at v (key_value key n)))
       by None is f = tt
       by (Some s) is f = f s (means.unfolds y s v is h)
   index-gives (suc i) key n _ v h = tt
@@ -248,11 +271,11 @@ module _ (base : Base) (N : Names) (means : Means base.defs N) where
   entry_by-gives : (key s : Shape) (w v : Value) → HasShape N key w → HasShape N s v → (Gives base N means) (entry_by base key s) (told (element_at v w))
   entry_by-gives key s w v g h = by (within base key texts) refl
     where
-      text : (u : Value) → HasShape N texts u → (Gives base N means) (index_shape base None s) (told (element_at v u))
-      text (string n) k = index-gives base.limit None n s v h
+      text : (u : Value) → HasShape N texts u → (Gives base N means) (index_shape base of_text s) (told (element_at v u))
+      text (string n) k = index-gives base.limit of_text n s v h
       text _ k = absurd k
 
-      by : (c : Bool) → within base key texts ≡ c → (Gives base N means) (if c then index_shape base None s else None) (told (element_at v w))
+      by : (c : Bool) → within base key texts ≡ c → (Gives base N means) (if c then index_shape base of_text s else None) (told (element_at v w))
       by true e = text w ((within-has base N means) key texts w e g)
       by false e = tt
 
@@ -356,56 +379,61 @@ module _ (base : Base) (N : Names) (means : Means base.defs N) where
   abbrev index_value : MissingKey → Value → Environment → Operands → Result Value Cause
   index_value m d env os = (given_then (operand_values (place m d env) os) (λ vs. apply_function func.Index (vs ++ []))).result
 
-  index-fits : (m : MissingKey) (os : Operands) (k : State) (d : Value) (env : Environment) (v : Value) → Fits k d env
-      → index_value m d env os ≡ Ok v → is_nothing v ≡ false → Fits (narrow_to base (index_place os) k) d env
-  index-fits m (operand dot (operand (text_constant n) no_operand)) k d env v h e t =
-      ((refined-has base N means) k.dot mode.Zero (n ∷ []) d v h.0 (index-chain n d v e) t, h.1)
-  index-fits m (operand (variable name []) (operand (text_constant n) no_operand)) k d env v h e t =
-      (h.0, refined-known mode.Zero name (n ∷ []) v t k.env env h.1 (index-chain n (lookup name env) v e))
-  index-fits m (operand (variable name (x ∷ xs)) (operand (text_constant n) no_operand)) k d env v h e t = h
-  index-fits m (operand _ (operand (text_constant n) no_operand)) k d env v h e t = h
-  index-fits m (operand _ (operand _ no_operand)) k d env v h e t = h
-  index-fits m (operand _ (operand _ (operand _ _))) k d env v h e t = h
-  index-fits m (operand _ no_operand) k d env v h e t = h
-  index-fits m no_operand k d env v h e t = h
+  index-fits : (least : ℕ) (m : MissingKey) (os : Operands) (k : State) (d : Value) (env : Environment) (v : Value) → Fits k d env
+      → index_value m d env os ≡ Ok v → IsThere least v → Fits (narrow_to base least (index_place os) k) d env
+  index-fits least m (operand dot (operand (text_constant n) no_operand)) k d env v h e t =
+      ((refine-has base N means) least k.dot mode.Zero (n ∷ []) d v h.0 (index-chain n d v e) t, h.1)
+  index-fits least m (operand (variable name []) (operand (text_constant n) no_operand)) k d env v h e t =
+      (h.0, refine-known least mode.Zero name (n ∷ []) v t k.env env h.1 (index-chain n (lookup name env) v e))
+  index-fits least m (operand (variable name (x ∷ xs)) (operand (text_constant n) no_operand)) k d env v h e t = h
+  index-fits least m (operand _ (operand (text_constant n) no_operand)) k d env v h e t = h
+  index-fits least m (operand _ (operand _ no_operand)) k d env v h e t = h
+  index-fits least m (operand _ (operand _ (operand _ _))) k d env v h e t = h
+  index-fits least m (operand _ no_operand) k d env v h e t = h
+  index-fits least m no_operand k d env v h e t = h
 
-  thing-same : (v : Value) → is_nothing (without_null v) ≡ is_nothing v
-  thing-same null = refl
-  thing-same _ = refl
+  there-same : (least : ℕ) (v : Value) → IsThere least (without_null v) → IsThere least v
+  there-same least null h = absurd (false≢true (sym h.0))
+  there-same least nothing h = h
+  there-same least (boolean b) h = h
+  there-same least (number n) h = h
+  there-same least (string s) h = h
+  there-same least (sequence vs) h = h
+  there-same least (mapping es) h = h
 
-  group-ok : (r : Result Value Cause) (a b : Bool) (v : Value)
-      → (go_on (go_on r a (λ w. as_given (Ok (without_null w)))).result b (λ w. as_given (chain mode.Zero [] w))).result ≡ Ok v
-      → (w : Value) × (r ≡ Ok w) × (is_nothing w ≡ is_nothing v)
-  group-ok (Ok w) a b v e = let same : without_null w ≡ v = cc in (w, refl, sym (thing-same w) ∙ ap is_nothing same)
-  group-ok (Err cause) a b v e = cc
+  group-ok : (least : ℕ) (r : Result Value Cause) (a b : Bool) (v : Value)
+      → (go_on (go_on r a (λ w. as_given (Ok (without_null w)))).result b (λ w. as_given (chain mode.Zero [] w))).result ≡ Ok v → IsThere least v
+      → (w : Value) × (r ≡ Ok w) × IsThere least w
+  group-ok least (Ok w) a b v e t = let same : v ≡ without_null w = cc in (w, refl, there-same least w (subst (IsThere least) same t))
+  group-ok least (Err cause) a b v e t = cc
 
   by_count-ok : (f : Func) (t : Bool) (g : Given Value) (v : Value) → (by_count f t g).result ≡ Ok v → g.result ≡ Ok v
   by_count-ok f true g v e = e
   by_count-ok f false g v e = cc
 
-  group-fits : (m : MissingKey) (f : Func) (os : Operands) (k : State) (d : Value) (env : Environment) (v : Value) → Fits k d env
-      → (command_value (place m d env) (operand (function f) os) None).result ≡ Ok v → is_nothing v ≡ false → Fits (narrow_to base (call_place f os) k) d env
-  group-fits m func.Index os k d env v h e t =
-      index-fits m os k d env v h
+  group-fits : (least : ℕ) (m : MissingKey) (f : Func) (os : Operands) (k : State) (d : Value) (env : Environment) (v : Value) → Fits k d env
+      → (command_value (place m d env) (operand (function f) os) None).result ≡ Ok v → IsThere least v → Fits (narrow_to base least (call_place f os) k) d env
+  group-fits least m func.Index os k d env v h e t =
+      index-fits least m os k d env v h
       (by_count-ok func.Index (takes func.Index (operand_count os + 0)) (given_then (operand_values (place m d env) os) (λ vs. apply_function func.Index (vs ++ []))) v e) t
-  group-fits m _ os k d env v h e t = h
+  group-fits least m _ os k d env v h e t = h
 
-  narrow_by-fits : (m : MissingKey) (o : Operand) (k : State) (d : Value) (env : Environment) (v : Value) → Fits k d env
-      → (operand_value (place m d env) o).result ≡ Ok v → is_nothing v ≡ false → Fits (narrow_by base o k) d env
-  narrow_by-fits m dot k d env v h e t =
-      let same : d ≡ v = cc in ((refined-has base N means) k.dot mode.Error [] d d h.0 refl (ap is_nothing same ∙ t), h.1)
-  narrow_by-fits m (fields names) k d env v h e t = ((refined-has base N means) k.dot m names d v h.0 e t, h.1)
-  narrow_by-fits m (variable name names) k d env v h e t = (h.0, refined-known m name names v t k.env env h.1 e)
-  narrow_by-fits m (group (command (operand (function f) os) no_command) []) k d env v h e t =
+  narrow_by-fits : (least : ℕ) (m : MissingKey) (o : Operand) (k : State) (d : Value) (env : Environment) (v : Value) → Fits k d env
+      → (operand_value (place m d env) o).result ≡ Ok v → IsThere least v → Fits (narrow_by base least o k) d env
+  narrow_by-fits least m dot k d env v h e t =
+      let same : v ≡ d = cc in ((refine-has base N means) least k.dot mode.Error [] d d h.0 refl (subst (IsThere least) same t), h.1)
+  narrow_by-fits least m (fields names) k d env v h e t = ((refine-has base N means) least k.dot m names d v h.0 e t, h.1)
+  narrow_by-fits least m (variable name names) k d env v h e t = (h.0, refine-known least m name names v t k.env env h.1 e)
+  narrow_by-fits least m (group (command (operand (function f) os) no_command) []) k d env v h e t =
       let c = command_value (place m d env) (operand (function f) os) None in
-      let g = group-ok c.result c.made_text (commands_value (place m d env) (command (operand (function f) os) no_command) None).made_text v e in
-      group-fits m f os k d env g.0 h g.1 (g.2 ∙ t)
-  narrow_by-fits m (group p (n ∷ ns)) k d env v h e t = h
-  narrow_by-fits m (group no_command []) k d env v h e t = h
-  narrow_by-fits m (group (command no_operand no_command) []) k d env v h e t = h
-  narrow_by-fits m (group (command (operand _ os) no_command) []) k d env v h e t = h
-  narrow_by-fits m (group (command os (command us cs)) []) k d env v h e t = h
-  narrow_by-fits m _ k d env v h e t = h
+      let g = group-ok least c.result c.made_text (commands_value (place m d env) (command (operand (function f) os) no_command) None).made_text v e t in
+      group-fits least m f os k d env g.0 h g.1 g.2
+  narrow_by-fits least m (group p (n ∷ ns)) k d env v h e t = h
+  narrow_by-fits least m (group no_command []) k d env v h e t = h
+  narrow_by-fits least m (group (command no_operand no_command) []) k d env v h e t = h
+  narrow_by-fits least m (group (command (operand _ os) no_command) []) k d env v h e t = h
+  narrow_by-fits least m (group (command os (command us cs)) []) k d env v h e t = h
+  narrow_by-fits least m _ k d env v h e t = h
 
   -- ---- narrowing by comparisons
 
@@ -477,13 +505,13 @@ module _ (base : Base) (N : Names) (means : Means base.defs N) where
       → pair_call f m d env os ≡ Ok v → truth v ≡ c → Fits (narrow_as base (pair_facts true os) k) d env
   constant-fits f c g m (operand o (operand (bool_constant q) no_operand)) k d env v h e t =
       let x = operand_value (place m d env) o in let n = g x.result x.made_text _ (boolean q) v e t in
-      narrow_by-fits m o k d env n.0 h n.1 (equal-thing n.0 (boolean q) refl n.2)
+      narrow_by-fits 0 m o k d env n.0 h n.1 (equal-thing n.0 (boolean q) refl n.2, any-least n.0)
   constant-fits f c g m (operand o (operand (number_constant q) no_operand)) k d env v h e t =
       let x = operand_value (place m d env) o in let n = g x.result x.made_text _ (number q) v e t in
-      narrow_by-fits m o k d env n.0 h n.1 (equal-thing n.0 (number q) refl n.2)
+      narrow_by-fits 0 m o k d env n.0 h n.1 (equal-thing n.0 (number q) refl n.2, any-least n.0)
   constant-fits f c g m (operand o (operand (text_constant q) no_operand)) k d env v h e t =
       let x = operand_value (place m d env) o in let n = g x.result x.made_text _ (string q) v e t in
-      narrow_by-fits m o k d env n.0 h n.1 (equal-thing n.0 (string q) refl n.2)
+      narrow_by-fits 0 m o k d env n.0 h n.1 (equal-thing n.0 (string q) refl n.2, any-least n.0)
   constant-fits f c g m (operand _ (operand _ no_operand)) k d env v h e t = h
   constant-fits f c g m (operand _ (operand _ (operand _ _))) k d env v h e t = h
   constant-fits f c g m (operand _ no_operand) k d env v h e t = h
@@ -493,11 +521,48 @@ module _ (base : Base) (N : Names) (means : Means base.defs N) where
       → pair_call f m d env os ≡ Ok v → truth v ≡ c → Fits (narrow_as base (pair_facts false os) k) d env
   nil-fits f c g m (operand o (operand nil no_operand)) k d env v h e t =
       let x = operand_value (place m d env) o in let n = g x.result x.made_text _ nothing v e t in
-      narrow_by-fits m o k d env n.0 h n.1 (unequal-thing n.0 n.2)
+      narrow_by-fits 0 m o k d env n.0 h n.1 (unequal-thing n.0 n.2, any-least n.0)
   nil-fits f c g m (operand _ (operand _ no_operand)) k d env v h e t = h
   nil-fits f c g m (operand _ (operand _ (operand _ _))) k d env v h e t = h
   nil-fits f c g m (operand _ no_operand) k d env v h e t = h
   nil-fits f c g m no_operand k d env v h e t = h
+
+  -- ---- `slice`
+
+  -- a value and the bounds that are written out
+  bound-values : (m : MissingKey) (d : Value) (env : Environment) (os : Operands) (b : ℕ × Option ℕ) → bounds_of None os ≡ Some b → (v : Value) (c : Bool)
+      → (go_on (go_on (operand_values (place m d env) os).result (operand_values (place m d env) os).made_text (λ vs. as_given (Ok (v ∷ vs)))).result c
+      (λ vs. apply_function func.Slice (vs ++ []))).result ≡ part_told base N means b.0 b.1 v
+  bound-values m d env no_operand b e v c = let same : (0, None) ≡ b = cc in subst (λ (x : ℕ × Option ℕ). part_told base N means 0 None v ≡ part_told base N means x.0 x.1 v) same refl
+  bound-values m d env (operand (number_constant (pos i)) no_operand) b e v c =
+      let same : (i, None) ≡ b = cc in subst (λ (x : ℕ × Option ℕ). part_told base N means i None v ≡ part_told base N means x.0 x.1 v) same refl
+  bound-values m d env (operand (number_constant (pos i)) (operand (number_constant (pos j)) no_operand)) b e v c =
+      let same : (i, Some j) ≡ b = cc in subst (λ (x : ℕ × Option ℕ). part_told base N means i (Some j) v ≡ part_told base N means x.0 x.1 v) same refl
+  bound-values m d env (operand (number_constant (pos i)) (operand _ no_operand)) b e v c = cc
+  bound-values m d env (operand _ no_operand) b e v c = cc
+  bound-values m d env (operand _ (operand _ no_operand)) b e v c = cc
+  bound-values m d env (operand _ (operand _ (operand _ _))) b e v c = cc
+
+  sliced-after : (m : MissingKey) (d : Value) (env : Environment) (os : Operands) (ps : Option Shape) (pv : Option Value) → Piped ps pv → (o : Option Shape) (x : Result Value Cause)
+      (a c : Bool) → (Gives base N means) o x
+      → (Gives base N means) (option_and_then (λ s. option_and_then (λ b. part_shape base b.0 b.1 s) (bounds_of ps os)) o)
+      (go_on (go_on x a (λ v. given_then (operand_values (place m d env) os) (λ vs. as_given (Ok (v ∷ vs))))).result c
+      (λ vs. apply_function func.Slice (vs ++ option_to_list pv))).result
+  sliced-after m d env os ps pv p None x a c h = tt
+  sliced-after m d env os ps pv p (Some s) (Err e) a c h = absurd h
+  sliced-after m d env os (Some t) pv p (Some s) (Ok v) a c h = tt
+  sliced-after m d env os None (Some w) p (Some s) (Ok v) a c h = absurd p
+  sliced-after m d env os None None p (Some s) (Ok v) a c h = by (bounds_of None os) refl
+    where
+      r : Result Value Cause
+      r = (go_on (go_on (operand_values (place m d env) os).result (operand_values (place m d env) os).made_text (λ vs. as_given (Ok (v ∷ vs)))).result c
+          (λ vs. apply_function func.Slice (vs ++ []))).result
+
+      by : (o : Option (ℕ × Option ℕ)) → bounds_of None os ≡ o → (Gives base N means) (option_and_then (λ b. part_shape base b.0 b.1 s) o) r
+      by None e = tt
+      by (Some b) e =
+          subst (λ (q : Result Value Cause). (Gives base N means) (part_shape base b.0 b.1 s) q) (sym (bound-values m d env os b e v c))
+          ((part-gives base N means) b.0 b.1 s v h)
 
   not_false : (b : Bool) → not b ≡ false → b ≡ true
   not_false true e = refl
@@ -512,16 +577,16 @@ module _ (base : Base) (N : Names) (means : Means base.defs N) where
     junction-step true o os k ps pv fits more s v e h = by (truth v) refl
       where
         by : (b : Bool) → truth v ≡ b → (Gives base N means) (both base (Some (fill base s)) (junction_shape base true m k s os ps)) (decided b v (junction true (place m d env) v os pv)).result
-        by true t = (both-left base N means) (Some (fill base s)) (junction_shape base true m k s os ps) (Ok v) ((filled-has base N means) s v h t)
+        by true t = (both-left base N means) (Some (fill base s)) (junction_shape base true m k s os ps) (Ok v) ((fill-has base N means) s v h t)
         by false t = (both-right base N means) (Some (fill base s)) (junction_shape base true m k s os ps) (junction true (place m d env) v os pv).result (more k s v fits h)
     junction-step false o os k ps pv fits more s v e h = by (truth v) refl
       where
-        by : (b : Bool) → truth v ≡ b → (Gives base N means) (both base (Some s) (junction_shape base false m (narrow_by base o k) (fill base s) os ps))
+        by : (b : Bool) → truth v ≡ b → (Gives base N means) (both base (Some s) (junction_shape base false m (narrow_by base 1 o k) (fill base s) os ps))
             (decided (not b) v (junction false (place m d env) v os pv)).result
-        by false t = (both-left base N means) (Some s) (junction_shape base false m (narrow_by base o k) (fill base s) os ps) (Ok v) h
+        by false t = (both-left base N means) (Some s) (junction_shape base false m (narrow_by base 1 o k) (fill base s) os ps) (Ok v) h
         by true t =
-            (both-right base N means) (Some s) (junction_shape base false m (narrow_by base o k) (fill base s) os ps) (junction false (place m d env) v os pv).result
-            (more (narrow_by base o k) (fill base s) v (narrow_by-fits m o k d env v fits e (full-thing v t)) ((filled-has base N means) s v h t))
+            (both-right base N means) (Some s) (junction_shape base false m (narrow_by base 1 o k) (fill base s) os ps) (junction false (place m d env) v os pv).result
+            (more (narrow_by base 1 o k) (fill base s) v (narrow_by-fits 1 m o k d env v fits e (full-thing v t)) ((fill-has base N means) s v h t))
 
     mutual
       operand-gives : (o : Operand) (k : State) → Fits k d env → (Gives base N means) (operand_shape base m k o) (operand_value (place m d env) o).result
@@ -555,8 +620,11 @@ module _ (base : Base) (N : Names) (means : Means base.defs N) where
       along-gives no_operand k None (Some w) b fits p s v h = absurd p
       along-gives no_operand k (Some key) None b fits p s v h = absurd p
       along-gives (operand (text_constant n) os) k ps pv b fits p s v h =
-          key-gives (entry_along base m k os ps) (index_shape base (Some n) s) (operand_values (place m d env) os).result (operand_values (place m d env) os).made_text b
-          (option_to_list pv) v (string n) (index-gives base.limit (Some n) n s v h) (λ t u. along-gives os k ps pv b fits p t u)
+          key-gives (entry_along base m k os ps) (index_shape base (of_name n) s) (operand_values (place m d env) os).result (operand_values (place m d env) os).made_text b
+          (option_to_list pv) v (string n) (index-gives base.limit (of_name n) n s v h) (λ t u. along-gives os k ps pv b fits p t u)
+      along-gives (operand (number_constant (pos i)) os) k ps pv b fits p s v h =
+          key-gives (entry_along base m k os ps) (index_shape base (of_place i) s) (operand_values (place m d env) os).result (operand_values (place m d env) os).made_text b
+          (option_to_list pv) v (number (pos i)) (index-gives base.limit (of_place i) [] s v h) (λ t u. along-gives os k ps pv b fits p t u)
       along-gives (operand o os) k ps pv b fits p s v h =
           keys-give (entry_along base m k os ps) (λ key. entry_by base key s) (operand_shape base m k o) (operand_value (place m d env) o).result
           (operand_values (place m d env) os).result (operand_values (place m d env) os).made_text b (operand_value (place m d env) o).made_text (option_to_list pv) v
@@ -570,6 +638,13 @@ module _ (base : Base) (N : Names) (means : Means base.defs N) where
           (operand_values (place m d env) (operand o os)).made_text (operand_values (place m d env) os).made_text (operand_value (place m d env) o).made_text (option_to_list pv)
           (operand-gives o k fits) (λ s v. along-gives os k ps pv _ fits p s v)
 
+      sliced-gives : (os : Operands) (k : State) (ps : Option Shape) (pv : Option Value) → Fits k d env → Piped ps pv
+          → (Gives base N means) (sliced_shape base m k os ps) (given_then (operand_values (place m d env) os) (λ vs. apply_function func.Slice (vs ++ option_to_list pv))).result
+      sliced-gives no_operand k ps pv fits p = tt
+      sliced-gives (operand o os) k ps pv fits p =
+          sliced-after m d env os ps pv p (operand_shape base m k o) (operand_value (place m d env) o).result (operand_value (place m d env) o).made_text
+          (operand_values (place m d env) (operand o os)).made_text (operand-gives o k fits)
+
       printed-gives : (os : Operands) (k : State) (ps : Option Shape) (pv : Option Value) → Fits k d env → Piped ps pv
           → (Gives base N means) (printed_shape base m k os ps) (given_then (operand_values (place m d env) os) (λ vs. apply_function func.Printf (vs ++ option_to_list pv))).result
       printed-gives no_operand k ps pv fits p = tt
@@ -582,11 +657,13 @@ module _ (base : Base) (N : Names) (means : Means base.defs N) where
           → (Gives base N means) (command_shape base m k os ps) (command_value (place m d env) os pv).result
       command-gives (operand (function f) os) k ps pv fits p =
           rw (piped-count ps pv p) (by_count-gives f (takes f (operand_count os + length (option_to_list ps))) _ _
-          (by_function-gives f _ _ _ _ _ _ _ _
+          (by_function-gives f _ _ _ _ _ _ _ _ _
           (called-gives f ps pv p (operand_shapes base m k os) (operand_values (place m d env) os).result (operand_values (place m d env) os).made_text (operands-give os k fits))
           (junction-gives os false ps pv p k nothings nothing fits tt) (junction-gives os true ps pv p k nothings nothing fits tt)
           (λ e. subst (λ (g : Func). (Gives base N means) (indexed_shape base m k os ps) (given_then (operand_values (place m d env) os) (λ vs. apply_function g (vs ++ option_to_list pv))).result)
           (sym e) (indexed-gives os k ps pv fits p))
+          (λ e. subst (λ (g : Func). (Gives base N means) (sliced_shape base m k os ps) (given_then (operand_values (place m d env) os) (λ vs. apply_function g (vs ++ option_to_list pv))).result)
+          (sym e) (sliced-gives os k ps pv fits p))
           (λ e. subst (λ (g : Func). (Gives base N means) (printed_shape base m k os ps) (given_then (operand_values (place m d env) os) (λ vs. apply_function g (vs ++ option_to_list pv))).result)
           (sym e) (printed-gives os k ps pv fits p))))
       command-gives (operand nil _) k ps pv fits p = tt
@@ -628,11 +705,11 @@ module _ (base : Base) (N : Names) (means : Means base.defs N) where
       by false is e = let same : w ≡ v = cc in absurd (false≢true (sym is ∙ (ap truth same ∙ t)))
 
   narrow_all-fits : (m : MissingKey) (os : Operands) (k : State) (d : Value) (env : Environment) (last v : Value) → Fits k d env
-      → (junction false (place m d env) last os None).result ≡ Ok v → truth v ≡ true → Fits (narrow_by_all base os k) d env
+      → (junction false (place m d env) last os None).result ≡ Ok v → truth v ≡ true → Fits (narrow_by_all base 1 os k) d env
   narrow_all-fits m no_operand k d env last v h e t = h
   narrow_all-fits m (operand o os) k d env last v h e t =
       let p = and-step (operand_value (place m d env) o).result (operand_value (place m d env) o).made_text (λ w. junction false (place m d env) w os None) v e t in
-      narrow_all-fits m os (narrow_by base o k) d env p.0 v (narrow_by-fits m o k d env p.0 h p.1 (full-thing p.0 p.2)) p.3 t
+      narrow_all-fits m os (narrow_by base 1 o k) d env p.0 v (narrow_by-fits 1 m o k d env p.0 h p.1 (full-thing p.0 p.2)) p.3 t
 
   -- what a call gives that is the whole pipeline
   called-ok : (m : MissingKey) (f : Func) (os : Operands) (d : Value) (env : Environment) (v : Value)
@@ -653,7 +730,7 @@ module _ (base : Base) (N : Names) (means : Means base.defs N) where
       let g = gone-ok c.result c.made_text v e in
       narrow_all-fits m os k d env nothing g.0 h (by_count-ok func.And _ (junction false (place m d env) nothing os None) g.0 g.1) (g.2 ∙ t)
   narrow-fits m (command (operand (function func.Index) os) no_command) k d env v h e t =
-      let g = called-ok m func.Index os d env v e in index-fits m os k d env g.0 h g.1 (full-thing g.0 (g.2 ∙ t))
+      let g = called-ok m func.Index os d env v e in index-fits 1 m os k d env g.0 h g.1 (full-thing g.0 (g.2 ∙ t))
   narrow-fits m (command (operand (function func.Eq) os) no_command) k d env v h e t =
       let g = called-ok m func.Eq os d env v e in
       constant-fits func.Eq true (λ x a b w u. eq-ok x a b w u true) m os k d env g.0 h g.1 (g.2 ∙ t)
@@ -663,15 +740,15 @@ module _ (base : Base) (N : Names) (means : Means base.defs N) where
   narrow-fits m (command (operand (function _) no_operand) no_command) k d env v h e t = h
   narrow-fits m (command (operand (function _) (operand _ _)) no_command) k d env v h e t = h
   narrow-fits m (command (operand dot no_operand) no_command) k d env v h e t =
-      let g = gone-ok (Ok d) false v e in narrow_by-fits m dot k d env g.0 h g.1 (full-thing g.0 (g.2 ∙ t))
+      let g = gone-ok (Ok d) false v e in narrow_by-fits 1 m dot k d env g.0 h g.1 (full-thing g.0 (g.2 ∙ t))
   narrow-fits m (command (operand (fields names) no_operand) no_command) k d env v h e t =
-      let g = gone-ok (chain m names d) false v e in narrow_by-fits m (fields names) k d env g.0 h g.1 (full-thing g.0 (g.2 ∙ t))
+      let g = gone-ok (chain m names d) false v e in narrow_by-fits 1 m (fields names) k d env g.0 h g.1 (full-thing g.0 (g.2 ∙ t))
   narrow-fits m (command (operand (variable name names) no_operand) no_command) k d env v h e t =
       let g = gone-ok (chain m names (lookup name env)) false v e in
-      narrow_by-fits m (variable name names) k d env g.0 h g.1 (full-thing g.0 (g.2 ∙ t))
+      narrow_by-fits 1 m (variable name names) k d env g.0 h g.1 (full-thing g.0 (g.2 ∙ t))
   narrow-fits m (command (operand (group p names) no_operand) no_command) k d env v h e t =
       let o = operand_value (place m d env) (group p names) in
-      let g = gone-ok o.result o.made_text v e in narrow_by-fits m (group p names) k d env g.0 h g.1 (full-thing g.0 (g.2 ∙ t))
+      let g = gone-ok o.result o.made_text v e in narrow_by-fits 1 m (group p names) k d env g.0 h g.1 (full-thing g.0 (g.2 ∙ t))
   narrow-fits m (command (operand _ no_operand) no_command) k d env v h e t = h
   narrow-fits m (command (operand _ (operand _ _)) no_command) k d env v h e t = h
   narrow-fits m (command no_operand no_command) k d env v h e t = h
@@ -694,7 +771,7 @@ module _ (base : Base) (N : Names) (means : Means base.defs N) where
       let vs = operand_values (place m d env) (operand o no_operand) in
       let n = not-ok x.result x.made_text vs.made_text g.0
       (by_count-ok func.Not (takes func.Not (operand_count (operand o no_operand) + 0)) (given_then vs (λ ws. apply_function func.Not (ws ++ []))) g.0 g.1) (g.2 ∙ t) in
-      narrow_by-fits m o k d env n.0 h n.1 (full-thing n.0 n.2)
+      narrow_by-fits 1 m o k d env n.0 h n.1 (full-thing n.0 n.2)
   empty-fits m (command (operand (function func.Eq) os) no_command) k d env v h e t =
       let g = called-ok m func.Eq os d env v e in
       nil-fits func.Eq false (λ x a b w u. eq-ok x a b w u false) m os k d env g.0 h g.1 (g.2 ∙ t)

@@ -13,7 +13,7 @@ ghost use Rattle.tmpl_schema.specs.computed.View.{callee_of, entries_of, table_o
 use crate::failure::{Doubt, Failure};
 use crate::node::{Checker, after_nodes};
 use crate::state::at_start;
-use crate::survey::{Question, fill_table, unseen};
+use crate::survey::{Question, fill_table, unknown_doubt};
 use crate::table::{Callee, Entry};
 use std::alloc::Global;
 use tmpl_meaning::MissingKey;
@@ -125,7 +125,7 @@ fn check_all(
 
 /// That it is not seen why a template may fail.
 fn refusal_unseen(alloc: Global, name: &[u8]) -> Refusal {
-    match unseen(alloc, name) {
+    match unknown_doubt(alloc, name) {
         Ok(doubts) => Refusal::MayFail(doubts),
         Err(_) => Refusal::OutOfMemory,
     }

@@ -4,12 +4,15 @@
 ghost use Rattle.std.specs.Prelude.{◌≡◌, false, true};
 ghost use Rattle.std.specs.Option.{option_map};
 ghost use Rattle.tmpl_grammar.specs.View.{commands_in, operand_of, operands_in};
-ghost use Rattle.tmpl_schema.specs.computed.Check.{alone_facts, call_facts, call_place, command_facts, facts_of, group_place, head_of, index_place, key_place, pair_facts, place_of, tells, text_of, two_of};
+ghost use Rattle.tmpl_schema.specs.computed.Check.{alone_facts, bounds_of, call_facts, call_place, command_facts, count_of, facts_of, group_place, head_of, index_place, key_of, key_place};
+ghost use Rattle.tmpl_schema.specs.computed.Check.{pair_facts, place_of, tells, text_of, two_of};
 ghost use Rattle.tmpl_schema.specs.computed.View.{facts_seen, head_seen, place_seen};
+ghost use Rattle.tmpl_shape.specs.computed.View.{key_seen, shape_seen};
 
 use std::slice::from_ref;
 use tmpl_funcs::Func;
 use tmpl_grammar::{Command, Operand};
+use tmpl_shape::{Key, Shape};
 use tmpl_values::Bytes;
 
 /// What the first operand of a command is.
@@ -32,9 +35,9 @@ pub(crate) struct Place<'p> {
 /// What a value tells that is or is not empty.
 #[derive(Clone, Copy)]
 pub(crate) enum Facts<'p> {
-    /// That each of these operands is neither nothing nor null.
-    Operands(&'p [Operand]),
-    /// That the `index` of these is so.
+    /// That each of these operands is neither nothing nor null, and has at least as many items if it is a list.
+    Operands(u64, &'p [Operand]),
+    /// That the `index` of these is not empty.
     Index(&'p [Operand]),
 }
 
@@ -60,6 +63,54 @@ pub(crate) fn text_of(operand: &Operand) -> Option<&Bytes>
         Operand::Dot | Operand::Fields(_) | Operand::Variable { .. } => None,
         Operand::Bool(_) | Operand::Number(_) | Operand::Nil | Operand::Function(_) => None,
         Operand::Group { .. } => None,
+    }
+}
+
+/// The number of a constant that counts from 0 on.
+pub(crate) fn count_of(operand: &Operand) -> Option<u64>
+    ensures { result ≡ count_of (operand_of operand.now) }
+{
+    match operand {
+        Operand::Number(number) => {
+            let number = *number;
+            if number < 0 {
+                return None;
+            }
+            Some(number as u64)
+        }
+        Operand::Dot | Operand::Fields(_) | Operand::Variable { .. } => None,
+        Operand::Bool(_) | Operand::Text(_) | Operand::Nil | Operand::Function(_) => None,
+        Operand::Group { .. } => None,
+    }
+}
+
+/// The key that a constant is.
+pub(crate) fn key_of(operand: &Operand) -> Option<Key<'_>>
+    ensures { option_map key_seen result ≡ key_of (operand_of operand.now) }
+{
+    match operand {
+        Operand::Text(text) => Some(Key::Name(text.as_slice())),
+        Operand::Number(_) => match count_of(operand) {
+            Some(place) => Some(Key::Place(place)),
+            None => None,
+        },
+        Operand::Dot | Operand::Fields(_) | Operand::Variable { .. } => None,
+        Operand::Bool(_) | Operand::Nil | Operand::Function(_) | Operand::Group { .. } => None,
+    }
+}
+
+/// The bounds of a part that are written out: where it begins, and where it ends if not where the whole does.
+pub(crate) fn bounds_of(operands: &[Operand], piped: Option<&Shape>) -> Option<(u64, Option<u64>)>
+    ensures { result ≡ bounds_of (shape_seen piped.entry) (operands_in operands.now) }
+{
+    match piped {
+        Some(_) => None,
+        None => match operands {
+            [] => Some((0, None)),
+            [from] => Some((count_of(from)?, None)),
+            [from, to] => Some((count_of(from)?, Some(count_of(to)?))),
+            [_, _, _, ..] => None,
+        },
     }
 }
 
@@ -185,11 +236,11 @@ fn pair_facts(constant: bool, operands: &[Operand]) -> Facts<'_>
     match two_of(operands) {
         Some((first, second)) => {
             if tells(constant, second) {
-                return Facts::Operands(from_ref(first));
+                return Facts::Operands(0, from_ref(first));
             }
-            Facts::Operands(&[])
+            Facts::Operands(0, &[])
         }
-        None => Facts::Operands(&[]),
+        None => Facts::Operands(0, &[]),
     }
 }
 
@@ -198,11 +249,11 @@ fn alone_facts<'p>(full: bool, first: &'p Operand, rest: &[Operand]) -> Facts<'p
     ensures { facts_seen result ≡ alone_facts full (operand_of first.now) (operands_in rest.now) }
 {
     if !full {
-        return Facts::Operands(&[]);
+        return Facts::Operands(0, &[]);
     }
     match rest {
-        [] => Facts::Operands(from_ref(first)),
-        [_, _more @ ..] => Facts::Operands(&[]),
+        [] => Facts::Operands(1, from_ref(first)),
+        [_, _more @ ..] => Facts::Operands(0, &[]),
     }
 }
 
@@ -212,12 +263,12 @@ fn empty_facts(func: Func, operands: &[Operand]) -> Facts<'_>
 {
     match func {
         Func::Not => match operands {
-            [] => Facts::Operands(&[]),
+            [] => Facts::Operands(0, &[]),
             [first, rest @ ..] => alone_facts(true, first, rest),
         },
         Func::Eq => pair_facts(false, operands),
         Func::Ne => pair_facts(true, operands),
-        _ => Facts::Operands(&[]),
+        _ => Facts::Operands(0, &[]),
     }
 }
 
@@ -226,11 +277,11 @@ fn full_facts(func: Func, operands: &[Operand]) -> Facts<'_>
     ensures { facts_seen result ≡ call_facts true func (operands_in operands.now) }
 {
     match func {
-        Func::And => Facts::Operands(operands),
+        Func::And => Facts::Operands(1, operands),
         Func::Index => Facts::Index(operands),
         Func::Eq => pair_facts(true, operands),
         Func::Ne => pair_facts(false, operands),
-        _ => Facts::Operands(&[]),
+        _ => Facts::Operands(0, &[]),
     }
 }
 
@@ -239,7 +290,7 @@ fn command_facts(full: bool, operands: &[Operand]) -> Facts<'_>
     ensures { facts_seen result ≡ command_facts full (operands_in operands.now) }
 {
     match operands {
-        [] => Facts::Operands(&[]),
+        [] => Facts::Operands(0, &[]),
         [first, rest @ ..] => match head_of(first) {
             Head::Function(func) => {
                 if full {
@@ -259,7 +310,7 @@ pub(crate) fn facts_of(full: bool, commands: &[Command]) -> Facts<'_>
 {
     match commands {
         [only] => command_facts(full, only.operands.as_slice()),
-        [] => Facts::Operands(&[]),
-        [_, _, ..] => Facts::Operands(&[]),
+        [] => Facts::Operands(0, &[]),
+        [_, _, ..] => Facts::Operands(0, &[]),
     }
 }

@@ -4,14 +4,14 @@
 ghost use Rattle.std.specs.Prelude.{◌≡◌, IfOk, OnOk, Some, length, ◌∷◌};
 ghost use Rattle.tmpl_grammar.specs.View.{binding_of};
 ghost use Rattle.tmpl_shape.specs.View.{shape_of};
-ghost use Rattle.tmpl_schema.specs.computed.Check.{after_both, all_joined, all_within, assigned_shape, bound_shapes, holds_loop};
-ghost use Rattle.tmpl_schema.specs.computed.Check.{last_of, left_with, refined_variable, variable_shape};
+ghost use Rattle.tmpl_schema.specs.computed.Check.{after_both, all_within, assigned_shape, bound_shapes, holds_loop, join_all};
+ghost use Rattle.tmpl_schema.specs.computed.Check.{last_of, leave_with, refine_variable, variable_shape};
 ghost use Rattle.tmpl_shape.specs.computed.View.{base_of, shape_seen};
 ghost use Rattle.tmpl_schema.specs.computed.View.{is_longer, known_of, known_seen};
 
 use std::alloc::{AllocError, Global};
 use tmpl_grammar::Binding;
-use tmpl_shape::{Base, Cause, Shape, Trouble, copy_name, copy_shape, joined, refined, within};
+use tmpl_shape::{Base, Cause, Shape, Trouble, copy_name, copy_shape, join, refine, within};
 use tmpl_values::Bytes;
 
 /// The shapes of the variables in scope, the newest first.
@@ -75,7 +75,7 @@ pub(crate) fn variable_shape<'k>(name: &[u8], known: &'k Known) -> Option<&'k Sh
 }
 
 /// Where the newest variable of a name is assigned a value of this shape.
-fn assigned(alloc: Global, name: &[u8], shape: Shape, known: &Known) -> Result<Known, AllocError>
+fn assign(alloc: Global, name: &[u8], shape: Shape, known: &Known) -> Result<Known, AllocError>
     ensures { IfOk result (λ ks. known_of ks ≡ assigned_shape name.now (shape_of shape) (known_of known.now)) }
 {
     match known {
@@ -86,7 +86,7 @@ fn assigned(alloc: Global, name: &[u8], shape: Shape, known: &Known) -> Result<K
                 put_variable(alloc, name, shape, older)
             } else {
                 let kept = copy_shape(alloc, &newest.shape)?;
-                let older = assigned(alloc, name, shape, &newest.older)?;
+                let older = assign(alloc, name, shape, &newest.older)?;
                 put_variable(alloc, newest.name.as_slice(), kept, older)
             }
         }
@@ -94,7 +94,7 @@ fn assigned(alloc: Global, name: &[u8], shape: Shape, known: &Known) -> Result<K
 }
 
 /// Where variables take an element of this shape, and its index or key.
-pub(crate) fn bound(
+pub(crate) fn bind(
     alloc: Global,
     binding: &Binding,
     key: &Shape,
@@ -110,12 +110,7 @@ pub(crate) fn bound(
             let shape = copy_shape(alloc, element)?;
             put_variable(alloc, name.as_slice(), shape, copy_known(alloc, known)?)
         }
-        Binding::Assign(name) => assigned(
-            alloc,
-            name.as_slice(),
-            copy_shape(alloc, element)?,
-            known,
-        ),
+        Binding::Assign(name) => assign(alloc, name.as_slice(), copy_shape(alloc, element)?, known),
         Binding::DeclarePair(pair) => {
             let shape = copy_shape(alloc, key)?;
             let older = put_variable(alloc, pair.key.as_slice(), shape, copy_known(alloc, known)?)?;
@@ -163,21 +158,22 @@ pub(crate) fn holds_loop(head: Option<&Known>, known: &Known) -> bool
     }
 }
 
-/// Where a chain of fields from a variable is not empty.
+/// Where a chain of fields from a variable is neither nothing nor null, and has at least as many items if it is a list.
 #[tactic(auto, using(crate::proofs::ViewLemmas::variables, crate::proofs::LengthLemmas::refinements))]
-pub(crate) fn refined_variable(
+pub(crate) fn refine_variable(
     base: &Base<'_>,
+    least: u64,
     name: &[u8],
     names: &[Bytes],
     known: &Known,
 ) -> Result<Known, AllocError>
     ensures { IfOk result (λ ks. known_of ks
-        ≡ refined_variable (base_of base.now) name.now names.now (known_of known.now)) }
+        ≡ refine_variable (base_of base.now) least name.now names.now (known_of known.now)) }
 {
     match variable_shape(name, known) {
         Some(shape) => {
-            let part = refined(base, names, shape)?;
-            assigned(base.alloc, name, part, known)
+            let part = refine(base, least, names, shape)?;
+            assign(base.alloc, name, part, known)
         }
         None => copy_known(base.alloc, known),
     }
@@ -199,13 +195,9 @@ pub(crate) fn all_within(base: &Base<'_>, known: &Known, others: &Known) -> bool
 }
 
 /// The variables of both, with the values of both.
-pub(crate) fn all_joined(
-    base: &Base<'_>,
-    known: &Known,
-    others: &Known,
-) -> Result<Known, AllocError>
+pub(crate) fn join_all(base: &Base<'_>, known: &Known, others: &Known) -> Result<Known, AllocError>
     ensures { IfOk result (λ ks. known_of ks
-        ≡ all_joined (base_of base.now) (known_of known.now) (known_of others.now)) }
+        ≡ join_all (base_of base.now) (known_of known.now) (known_of others.now)) }
 {
     match known {
         Known::Empty => Ok(Known::Empty),
@@ -213,8 +205,8 @@ pub(crate) fn all_joined(
             Known::Empty => Ok(Known::Empty),
             Known::More(other) => {
                 let one = copy_shape(base.alloc, &newest.shape)?;
-                let shape = joined(base, one, copy_shape(base.alloc, &other.shape)?)?;
-                let older = all_joined(base, &newest.older, &other.older)?;
+                let shape = join(base, one, copy_shape(base.alloc, &other.shape)?)?;
+                let older = join_all(base, &newest.older, &other.older)?;
                 put_variable(base.alloc, newest.name.as_slice(), shape, older)
             }
         },
@@ -233,7 +225,7 @@ pub(crate) fn after_both(
 {
     let one = oldest(one, before);
     let other = oldest(other, before);
-    let both = all_joined(base, one, other)?;
+    let both = join_all(base, one, other)?;
     if !all_within(base, one, &both) {
         return Err(Trouble::MayFail(Cause::Variables));
     }
@@ -244,8 +236,12 @@ pub(crate) fn after_both(
 }
 
 /// Whether a break or a continue leaves the variables of the range around within those at its head.
-pub(crate) fn left_with(base: &Base<'_>, known: &Known, head: Option<&Known>) -> Result<(), Trouble>
-    ensures { OnOk result (left_with (base_of base.now) (known_of known.now) (known_seen head.entry)
+pub(crate) fn leave_with(
+    base: &Base<'_>,
+    known: &Known,
+    head: Option<&Known>,
+) -> Result<(), Trouble>
+    ensures { OnOk result (leave_with (base_of base.now) (known_of known.now) (known_seen head.entry)
         ≡ Some (known_of known.now)) }
 {
     match head {

@@ -16,5 +16,6 @@ pub use check::{Refusal, check_schema};
 pub use failure::Doubt;
 pub use laws::runs_safely;
 pub use tmpl_shape::{
-    Cause, Definition, Field, Fields, Schema, Shape, copy_name, copy_shape, either, put_field,
+    Cause, Definition, Field, Fields, Schema, Shape, copy_name, copy_shape, either, list_of,
+    put_field,
 };

@@ -7,15 +7,15 @@ ghost use Rattle.tmpl_grammar.specs.View.{header_of, pipeline_of};
 ghost use Rattle.tmpl_shape.specs.Shape.{nothings};
 ghost use Rattle.tmpl_shape.specs.View.{shape_of};
 ghost use Rattle.tmpl_shape.specs.computed.View.{base_of, visit_seen};
-ghost use Rattle.tmpl_schema.specs.computed.Check.{after_node, after_nodes, in_body, in_other, in_turn, left_with};
-ghost use Rattle.tmpl_schema.specs.computed.Check.{kept_by, pipeline_shape, settle_known, settled_soon};
-ghost use Rattle.tmpl_schema.specs.computed.View.{after_action, after_choice_by, after_range_by, known_of, known_seen, ranged_by, state_of, table_of, turned_by};
+ghost use Rattle.tmpl_schema.specs.computed.Check.{after_node, after_nodes, in_body, in_other, in_turn, leave_with};
+ghost use Rattle.tmpl_schema.specs.computed.Check.{pipeline_shape, settle_head, settle_known, settle_soon};
+ghost use Rattle.tmpl_schema.specs.computed.View.{after_action, after_choice_by, after_range_by, known_of, known_seen, ranged_by, state_of, table_of, turn_by};
 ghost use Rattle.tmpl_syntax.specs.Tree.{template_node};
 ghost use Rattle.tmpl_syntax.specs.View.{control_of, node_of, nodes_in};
 
 use crate::failure::{Failure, at_line};
 use crate::known::{
-    Known, after_both, all_joined, all_within, bound, copy_known, holds_loop, left_with, oldest,
+    Known, after_both, all_within, bind, copy_known, holds_loop, join_all, leave_with, oldest,
 };
 use crate::pipeline::pipeline_shape;
 use crate::state::{State, copy_state, narrow};
@@ -23,7 +23,7 @@ use crate::table::{Call, Callee, Entry, find_callee};
 use std::alloc::{AllocError, Global};
 use tmpl_grammar::{Control, Header, Pipeline};
 use tmpl_meaning::MissingKey;
-use tmpl_shape::{Base, Cause, Shape, Visit, copy_name, copy_shape, filled, visit_of, within};
+use tmpl_shape::{Base, Cause, Shape, Visit, copy_name, copy_shape, fill, visit_of, within};
 use tmpl_syntax::{ControlNode, Node, NodeKind};
 use tmpl_values::Bytes;
 
@@ -46,9 +46,9 @@ pub(crate) fn in_body(
     ensures { IfOk result (λ k. state_of k
         ≡ in_body (base_of base.now) control (header_of header.now) (state_of state.now) (shape_of shape.now)) }
 {
-    let full = filled(base, shape)?;
+    let full = fill(base, shape)?;
     let before = narrow(base, true, header.pipeline.commands.as_slice(), state)?;
-    let known = bound(
+    let known = bind(
         base.alloc,
         &header.binding,
         &Shape::Nothings,
@@ -74,7 +74,7 @@ pub(crate) fn in_other(
         ≡ in_other (base_of base.now) (header_of header.now) (state_of state.now) (shape_of shape.now)) }
 {
     let before = narrow(base, false, header.pipeline.commands.as_slice(), state)?;
-    let known = bound(
+    let known = bind(
         base.alloc,
         &header.binding,
         &Shape::Nothings,
@@ -98,7 +98,7 @@ pub(crate) fn in_turn(
         ≡ in_turn (header_of header.now) (visit_seen visit.now) (known_of known.now)) }
 {
     let dot = copy_shape(alloc, &visit.element)?;
-    let known = bound(alloc, &header.binding, &visit.key, &visit.element, known)?;
+    let known = bind(alloc, &header.binding, &visit.key, &visit.element, known)?;
     Ok(State { dot, known })
 }
 
@@ -113,7 +113,7 @@ fn after_action(checker: &Checker<'_>, state: &State, header: &Header) -> Result
         state,
         header.pipeline.commands.as_slice(),
     )?;
-    Ok(bound(
+    Ok(bind(
         checker.base.alloc,
         &header.binding,
         &Shape::Nothings,
@@ -143,7 +143,7 @@ fn handed_shape(
 }
 
 /// That a template is called with values of this shape.
-fn wanted(alloc: Global, name: &Bytes, shape: Shape) -> Failure {
+fn want_call(alloc: Global, name: &Bytes, shape: Shape) -> Failure {
     match copy_name(alloc, name.as_slice()) {
         Ok(name) => Failure::Wanted(Call { name, shape }),
         Err(_) => Failure::OutOfMemory,
@@ -166,13 +166,13 @@ fn after_call(
         Some(Callee::Handed(shape)) => {
             let given = handed_shape(checker, state, given)?;
             if !within(&checker.base, &given, shape) {
-                return Err(wanted(checker.base.alloc, name, given));
+                return Err(want_call(checker.base.alloc, name, given));
             }
             Ok(copy_known(checker.base.alloc, &state.known)?)
         }
         None => {
             let given = handed_shape(checker, state, given)?;
-            Err(wanted(checker.base.alloc, name, given))
+            Err(want_call(checker.base.alloc, name, given))
         }
     }
 }
@@ -183,10 +183,10 @@ fn after_leaving(
     head: Option<&Known>,
     state: &State,
 ) -> Result<Known, Failure>
-    ensures { IfOk result (λ ks. left_with (base_of checker.now.base) (known_of state.now.known)
+    ensures { IfOk result (λ ks. leave_with (base_of checker.now.base) (known_of state.now.known)
         (known_seen head.entry) ≡ Some (known_of ks)) }
 {
-    left_with(&checker.base, &state.known, head)?;
+    leave_with(&checker.base, &state.known, head)?;
     Ok(copy_known(checker.base.alloc, &state.known)?)
 }
 
@@ -223,14 +223,14 @@ fn after_choice(
 
 /// After a turn of a range.
 #[cycle(node)]
-fn turned(
+fn turn(
     checker: &Checker<'_>,
     known: &Known,
     header: &Header,
     visit: &Visit,
     body: &[Node],
 ) -> Result<Known, Failure>
-    ensures { IfOk result (λ ks. turned_by (base_of checker.now.base) checker.now.mode
+    ensures { IfOk result (λ ks. turn_by (base_of checker.now.base) checker.now.mode
         (table_of checker.now.table.now) (header_of header.now) (visit_seen visit.now) (nodes_in body.now)
         (known_of known.now) ≡ Some (known_of ks)) }
 {
@@ -242,7 +242,7 @@ fn turned(
 /// The variables at the head of a range, looked for in as many rounds as these.
 #[cycle(node)]
 #[tactic(auto, using(crate::proofs::StepLemmas::rounds))]
-fn settled(
+fn settle(
     checker: &Checker<'_>,
     rounds: usize,
     known: Known,
@@ -250,52 +250,52 @@ fn settled(
     visit: &Visit,
     body: &[Node],
 ) -> Result<Known, Failure>
-    ensures { IfOk result (λ ks. settle_known (base_of checker.now.base) rounds (turned_by
+    ensures { IfOk result (λ ks. settle_known (base_of checker.now.base) rounds (turn_by
         (base_of checker.now.base) checker.now.mode (table_of checker.now.table.now) (header_of header.now)
         (visit_seen visit.now) (nodes_in body.now)) (known_of known) ≡ Some (known_of ks)) }
 {
     if rounds == 0 {
         return Err(Failure::MayFail(Cause::Variables, 0));
     }
-    let end = turned(checker, &known, header, visit, body)?;
+    let end = turn(checker, &known, header, visit, body)?;
     if all_within(&checker.base, &end, &known) {
         return Ok(known);
     }
-    let more = all_joined(&checker.base, &known, &end)?;
-    settled(checker, rounds - 1, more, header, visit, body)
+    let more = join_all(&checker.base, &known, &end)?;
+    settle(checker, rounds - 1, more, header, visit, body)
 }
 
 /// The variables at the head of a range.
 #[cycle(node)]
-fn settled_soon(
+fn settle_soon(
     checker: &Checker<'_>,
     known: &Known,
     header: &Header,
     visit: &Visit,
     body: &[Node],
 ) -> Result<Known, Failure>
-    ensures { IfOk result (λ ks. settled_soon (base_of checker.now.base) (turned_by
+    ensures { IfOk result (λ ks. settle_soon (base_of checker.now.base) (turn_by
         (base_of checker.now.base) checker.now.mode (table_of checker.now.table.now) (header_of header.now)
         (visit_seen visit.now) (nodes_in body.now)) (known_of known.now) ≡ Some (known_of ks)) }
 {
     let start = copy_known(checker.base.alloc, known)?;
-    settled(checker, 12, start, header, visit, body)
+    settle(checker, 12, start, header, visit, body)
 }
 
 /// .. from these before it.
 #[cycle(node)]
-pub(crate) fn kept(
+pub(crate) fn settle_head(
     checker: &Checker<'_>,
     known: &Known,
     header: &Header,
     visit: &Visit,
     body: &[Node],
 ) -> Result<Known, Failure>
-    ensures { IfOk result (λ ks. kept_by (base_of checker.now.base) (turned_by
+    ensures { IfOk result (λ ks. settle_head (base_of checker.now.base) (turn_by
         (base_of checker.now.base) checker.now.mode (table_of checker.now.table.now) (header_of header.now)
         (visit_seen visit.now) (nodes_in body.now)) (known_of known.now) ≡ Some (known_of ks)) }
 {
-    let head = settled_soon(checker, known, header, visit, body)?;
+    let head = settle_soon(checker, known, header, visit, body)?;
     if !all_within(&checker.base, known, &head) {
         return Err(Failure::MayFail(Cause::Variables, 0));
     }
@@ -317,10 +317,10 @@ fn after_range(
         (state_of state.now) (nodes_in parts.now.body.now) (nodes_in parts.now.other.now) (visit_seen visit.now)
         ≡ Some (known_of ks)) }
 {
-    let kept = kept(checker, &state.known, parts.header, visit, parts.body)?;
+    let settled_head = settle_head(checker, &state.known, parts.header, visit, parts.body)?;
     let outside = copy_state(checker.base.alloc, state)?;
     let other = after_nodes(checker, head, outside, parts.other)?;
-    Ok(after_both(&checker.base, &state.known, &kept, &other)?)
+    Ok(after_both(&checker.base, &state.known, &settled_head, &other)?)
 }
 
 /// After a range over values of this shape.

@@ -10,18 +10,18 @@ ghost use Rattle.tmpl_funcs.specs.Func.{takes};
 ghost use Rattle.tmpl_shape.specs.View.{shape_of};
 ghost use Rattle.tmpl_shape.specs.computed.Calls.{kinds_shape};
 ghost use Rattle.tmpl_shape.specs.computed.View.{base_of, shape_seen};
-ghost use Rattle.tmpl_schema.specs.computed.Check.{alone, command_shape, commands_shape, entry_along, entry_by, indexed_shape, junction_shape, operand_shape, pipeline_shape, printed_shape};
+ghost use Rattle.tmpl_schema.specs.computed.Check.{alone, command_shape, commands_shape, entry_along, entry_by, indexed_shape, junction_shape, operand_shape, pipeline_shape, printed_shape, sliced_shape};
 ghost use Rattle.tmpl_schema.specs.computed.View.{argument_kinds, called_shape, state_of};
 
-use crate::facts::{Head, head_of, text_of};
+use crate::facts::{Head, bounds_of, head_of, key_of, text_of};
 use crate::known::variable_shape;
 use crate::state::{State, narrow_by};
 use tmpl_funcs::Func;
 use tmpl_grammar::{Command, Operand};
 use tmpl_meaning::MissingKey;
 use tmpl_shape::{
-    Base, Cause, Kind, Kinds, Shape, Trouble, call_shape, chain_shape, copy_shape, filled,
-    has_kind, index_shape, joined, kinds_of, null_gone, printf_shape, within,
+    Base, Cause, Key, Kind, Kinds, Shape, Trouble, call_shape, chain_shape, copy_shape, fill,
+    has_kind, index_shape, join, kinds_of, null_gone, part_shape, printf_shape, within,
 };
 
 /// The shape of an operand, if it never is a fault.
@@ -161,14 +161,14 @@ fn junction_shape(
         },
         [first, rest @ ..] => {
             let shape = operand_shape(base, mode, state, first)?;
-            let full = filled(base, &shape)?;
+            let full = fill(base, &shape)?;
             if is_or {
                 let more = junction_shape(base, true, mode, state, &shape, rest, piped)?;
-                return Ok(joined(base, full, more)?);
+                return Ok(join(base, full, more)?);
             }
-            let passed = narrow_by(base, first, state)?;
+            let passed = narrow_by(base, 1, first, state)?;
             let more = junction_shape(base, false, mode, &passed, &full, rest, piped)?;
-            Ok(joined(base, shape, more)?)
+            Ok(join(base, shape, more)?)
         }
     }
 }
@@ -189,7 +189,7 @@ fn entry_by(base: &Base<'_>, key: &Shape, shape: &Shape) -> Result<Shape, Troubl
     ensures { IfOk result (λ s. entry_by (base_of base.now) (shape_of key.now) (shape_of shape.now) ≡ Some (shape_of s)) }
 {
     if within(base, key, &Shape::Texts) {
-        index_shape(base, None, shape)
+        index_shape(base, Key::Text, shape)
     } else {
         Err(Trouble::MayFail(Cause::Arguments(Func::Index)))
     }
@@ -215,8 +215,8 @@ fn entry_along(
         },
         [first, rest @ ..] => {
             let key = operand_shape(base, mode, state, first)?;
-            let entry = match text_of(first) {
-                Some(name) => index_shape(base, Some(name.as_slice()), shape)?,
+            let entry = match key_of(first) {
+                Some(key) => index_shape(base, key, shape)?,
                 None => entry_by(base, &key, shape)?,
             };
             entry_along(base, mode, state, rest, piped, &entry)
@@ -244,6 +244,30 @@ fn indexed_shape(
                 return Err(Trouble::MayFail(Cause::Arguments(Func::Index)));
             }
             entry_along(base, mode, state, rest, piped, &shape)
+        }
+    }
+}
+
+/// The shape of a `slice`.
+#[cycle(pipeline)]
+fn sliced_shape(
+    base: &Base<'_>,
+    mode: MissingKey,
+    state: &State,
+    operands: &[Operand],
+    piped: Option<&Shape>,
+) -> Result<Shape, Trouble>
+    ensures { IfOk result (λ s. sliced_shape (base_of base.now) mode (state_of state.now)
+        (operands_in operands.now) (shape_seen piped.entry) ≡ Some (shape_of s)) }
+{
+    match operands {
+        [] => Err(Trouble::MayFail(Cause::NotFollowed(Func::Slice))),
+        [first, rest @ ..] => {
+            let shape = operand_shape(base, mode, state, first)?;
+            match bounds_of(rest, piped) {
+                Some((from, to)) => part_shape(base, from, to, &shape),
+                None => Err(Trouble::MayFail(Cause::NotFollowed(Func::Slice))),
+            }
         }
     }
 }
@@ -298,7 +322,7 @@ fn function_shape(
         Func::Or => junction_shape(base, true, mode, state, &Shape::Nothings, operands, piped),
         Func::Index => indexed_shape(base, mode, state, operands, piped),
         Func::Printf => printed_shape(base, mode, state, operands, piped),
-        Func::Slice => Err(Trouble::MayFail(Cause::NotFollowed(func))),
+        Func::Slice => sliced_shape(base, mode, state, operands, piped),
         _ => called_shape(base, mode, state, func, operands, piped),
     }
 }

@@ -10,10 +10,10 @@ ghost use Rattle.tmpl_schema.specs.computed.Check.{at_start, narrow, narrow_by, 
 ghost use Rattle.tmpl_schema.specs.computed.View.{place_seen, state_of};
 
 use crate::facts::{Facts, Place, facts_of, index_place, place_of};
-use crate::known::{Known, copy_known, put_variable, refined_variable};
+use crate::known::{Known, copy_known, put_variable, refine_variable};
 use std::alloc::{AllocError, Global};
 use tmpl_grammar::{Command, Operand};
-use tmpl_shape::{Base, Shape, copy_shape, refined};
+use tmpl_shape::{Base, Shape, copy_shape, refine};
 
 /// What is known of dot and of the variables.
 #[derive(Drop)]
@@ -42,16 +42,21 @@ pub(crate) fn at_start(alloc: Global, shape: &Shape) -> Result<State, AllocError
     Ok(State { dot, known })
 }
 
-/// Where the value of a place is neither nothing nor null.
-fn narrow_to(base: &Base<'_>, place: Option<Place<'_>>, state: &State) -> Result<State, AllocError>
+/// Where the value of a place is neither nothing nor null, and has at least as many items if it is a list.
+fn narrow_to(
+    base: &Base<'_>,
+    least: u64,
+    place: Option<Place<'_>>,
+    state: &State,
+) -> Result<State, AllocError>
     ensures { IfOk result (λ k. state_of k
-        ≡ narrow_to (base_of base.now) (option_map place_seen place.entry) (state_of state.now)) }
+        ≡ narrow_to (base_of base.now) least (option_map place_seen place.entry) (state_of state.now)) }
 {
     match place {
         None => copy_state(base.alloc, state),
         Some(place) => match place.root {
             None => {
-                let dot = refined(base, place.path, &state.dot)?;
+                let dot = refine(base, least, place.path, &state.dot)?;
                 Ok(State {
                     dot,
                     known: copy_known(base.alloc, &state.known)?,
@@ -59,34 +64,41 @@ fn narrow_to(base: &Base<'_>, place: Option<Place<'_>>, state: &State) -> Result
             }
             Some(name) => {
                 let dot = copy_shape(base.alloc, &state.dot)?;
-                let known = refined_variable(base, name, place.path, &state.known)?;
+                let known = refine_variable(base, least, name, place.path, &state.known)?;
                 Ok(State { dot, known })
             }
         },
     }
 }
 
-/// Where an operand is neither nothing nor null, and so where it is not empty.
+/// Where an operand is neither nothing nor null, and has at least as many items if it is a list.
 pub(crate) fn narrow_by(
     base: &Base<'_>,
+    least: u64,
     operand: &Operand,
     state: &State,
 ) -> Result<State, AllocError>
-    ensures { IfOk result (λ k. state_of k ≡ narrow_by (base_of base.now) (operand_of operand.now) (state_of state.now)) }
+    ensures { IfOk result (λ k. state_of k
+        ≡ narrow_by (base_of base.now) least (operand_of operand.now) (state_of state.now)) }
 {
-    narrow_to(base, place_of(operand), state)
+    narrow_to(base, least, place_of(operand), state)
 }
 
 /// Where each of the operands is so.
-fn narrow_by_all(base: &Base<'_>, operands: &[Operand], state: &State) -> Result<State, AllocError>
+fn narrow_by_all(
+    base: &Base<'_>,
+    least: u64,
+    operands: &[Operand],
+    state: &State,
+) -> Result<State, AllocError>
     ensures { IfOk result (λ k. state_of k
-        ≡ narrow_by_all (base_of base.now) (operands_in operands.now) (state_of state.now)) }
+        ≡ narrow_by_all (base_of base.now) least (operands_in operands.now) (state_of state.now)) }
 {
     match operands {
         [] => copy_state(base.alloc, state),
         [first, rest @ ..] => {
-            let state = narrow_by(base, first, state)?;
-            narrow_by_all(base, rest, &state)
+            let state = narrow_by(base, least, first, state)?;
+            narrow_by_all(base, least, rest, &state)
         }
     }
 }
@@ -102,7 +114,7 @@ pub(crate) fn narrow(
         ≡ narrow (base_of base.now) full (commands_in commands.now) (state_of state.now)) }
 {
     match facts_of(full, commands) {
-        Facts::Operands(operands) => narrow_by_all(base, operands, state),
-        Facts::Index(operands) => narrow_to(base, index_place(operands), state),
+        Facts::Operands(least, operands) => narrow_by_all(base, least, operands, state),
+        Facts::Index(operands) => narrow_to(base, 1, index_place(operands), state),
     }
 }

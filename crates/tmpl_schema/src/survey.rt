@@ -5,8 +5,8 @@
 
 use crate::check::is_stop;
 use crate::failure::{Doubt, Failure};
-use crate::known::{Known, after_both, bound, copy_known};
-use crate::node::{Checker, after_node, in_body, in_other, in_turn, kept};
+use crate::known::{Known, after_both, bind, copy_known};
+use crate::node::{Checker, after_node, in_body, in_other, in_turn, settle_head};
 use crate::pipeline::pipeline_shape;
 use crate::state::{State, at_start, copy_state};
 use crate::table::{Call, Callee, Entry};
@@ -134,7 +134,7 @@ fn survey_node(
         NodeKind::Control(control) => survey_control(walk, head, state, control, node.line, found),
         NodeKind::Action(header) => {
             found.add(walk, failure, node.line)?;
-            bound(
+            bind(
                 alloc,
                 &header.binding,
                 &Shape::Never,
@@ -236,7 +236,7 @@ fn survey_range(
             }
         }
     };
-    let known = match kept(
+    let known = match settle_head(
         checker,
         &state.known,
         header,
@@ -464,7 +464,7 @@ fn survey_all(
 }
 
 /// That it is not seen why a template may fail.
-pub(crate) fn unseen(alloc: Global, name: &[u8]) -> Result<Vec<Doubt>, AllocError> {
+pub(crate) fn unknown_doubt(alloc: Global, name: &[u8]) -> Result<Vec<Doubt>, AllocError> {
     let mut doubts: Vec<Doubt> = Vec::new(alloc);
     doubts.push(Doubt {
         template: copy_name(alloc, name)?,
@@ -494,5 +494,5 @@ pub(crate) fn fill_table(
         }
         grow_all(base, question, table, wanted, &mut waiting)?;
     }
-    unseen(base.alloc, question.name)
+    unknown_doubt(base.alloc, question.name)
 }

@@ -19,7 +19,7 @@ use Rattle.tmpl_shape.specs.declared.kind.Kind.{Kind}
 use Rattle.tmpl_shape.specs.declared.kind.Kind.TheVariants.{Blank, Truth, Number, Text, Many}
 use Rattle.tmpl_shape.specs.declared.kind.Kinds.{Kinds}
 use Rattle.tmpl_shape.specs.computed.Shapes.{Base, has_kind, kinds_of}
-use Rattle.tmpl_shape.specs.computed.Calls.{has, each_kind, clashes, comparable, comparable_to_all, only_numbers, only_texts, ordered, is_sized, one_kind, two_kinds}
+use Rattle.tmpl_shape.specs.computed.Calls.{has, each_kind, clashes, comparable, comparable_to_all, only_numbers, only_texts, orderable, is_sized, one_kind, two_kinds}
 use Rattle.tmpl_shape.specs.computed.Calls.{truths_if, numbers_if, equal_shape, kinds_shape, call_shape}
 use Rattle.tmpl_shape.proofs.ShapeLemmas.{or_cases, neither}
 use Rattle.tmpl_shape.proofs.KindLemmas.{kind_of, has_kind-has}
@@ -186,7 +186,7 @@ two-texts (string a) (string b) h g = (tt, tt)
 two-texts (string a) _ h g = absurd g
 two-texts _ w h g = absurd h
 
-ordered-so : (a b : Kinds) (v w : Value) → IsAmong a v → IsAmong b w → ordered a b ≡ true → Compared (order v w) × Compared (equality v w)
+ordered-so : (a b : Kinds) (v w : Value) → IsAmong a v → IsAmong b w → orderable a b ≡ true → Compared (order v w) × Compared (equality v w)
 ordered-so a b v w h g e =
     elim (or_cases _ _ e) [
       | inl x ↦ let p = and_parts (only_numbers a) (only_numbers b) x in two-numbers v w (number-so a v h p.0) (number-so b w g p.1)
@@ -301,13 +301,13 @@ module _ (base : Base) (N : Names) (means : Means base.defs N) where
   kinds-give func.Eq ks vs h = eq-gives ks vs h
   kinds-give func.Ne ks vs h =
       two-give func.Ne _ _ (λ a b v w x y. truths-if-gives func.Ne (comparable a b) _ (λ e. opposite (equality v w) (comparable-so a b v w x y e))) ks vs h
-  kinds-give func.Lt ks vs h = two-give func.Lt _ _ (λ a b v w x y. truths-if-gives func.Lt (ordered a b) _ (λ e. (ordered-so a b v w x y e).0)) ks vs h
+  kinds-give func.Lt ks vs h = two-give func.Lt _ _ (λ a b v w x y. truths-if-gives func.Lt (orderable a b) _ (λ e. (ordered-so a b v w x y e).0)) ks vs h
   kinds-give func.Le ks vs h =
-      two-give func.Le _ _ (λ a b v w x y. truths-if-gives func.Le (ordered a b) _ (λ e. at-most-so v w (ordered-so a b v w x y e))) ks vs h
+      two-give func.Le _ _ (λ a b v w x y. truths-if-gives func.Le (orderable a b) _ (λ e. at-most-so v w (ordered-so a b v w x y e))) ks vs h
   kinds-give func.Gt ks vs h =
-      two-give func.Gt _ _ (λ a b v w x y. truths-if-gives func.Gt (ordered a b) _ (λ e. opposite (at_most v w) (at-most-so v w (ordered-so a b v w x y e)))) ks vs h
+      two-give func.Gt _ _ (λ a b v w x y. truths-if-gives func.Gt (orderable a b) _ (λ e. opposite (at_most v w) (at-most-so v w (ordered-so a b v w x y e)))) ks vs h
   kinds-give func.Ge ks vs h =
-      two-give func.Ge _ _ (λ a b v w x y. truths-if-gives func.Ge (ordered a b) _ (λ e. opposite (order v w) (ordered-so a b v w x y e).0)) ks vs h
+      two-give func.Ge _ _ (λ a b v w x y. truths-if-gives func.Ge (orderable a b) _ (λ e. opposite (order v w) (ordered-so a b v w x y e).0)) ks vs h
   kinds-give _ ks vs h = tt
 
   pub call-gives : (f : Func) (ss : List Shape) (vs : List Value) → HaveShapes ss vs → (Gives base N means) (call_shape base f ss) (apply_function f vs).result

@@ -1,11 +1,12 @@
 -- For the law `runs_safely`: fields and elements of values have the shapes that are computed, and a narrowed shape is the value's.
-use Rattle.std.proofs.Common.{◌≡◌, ◌∙◌, ◌+◌, ℕ, zero, suc, pos, Bool, true, false, List, [], ◌∷◌, map, Option, Some, None, IsSome, Result, Ok, Err, inl, inr, ap, refl, sym, subst, if◌then◌else◌}
+use Rattle.std.proofs.Common.{arith, ◌≡◌, ◌∙◌, ◌+◌, ◌≤◌, max, length, ℕ, zero, suc, pos, Bool, true, false, List, [], ◌∷◌, map, Option, Some, None, IsSome, Result, Ok, Err, inl, inr, ap, refl, sym, subst, if◌then◌else◌}
+use Rattle.std.proofs.Math.Nat.{max-le}
 use Rattle.std.proofs.lemmas.Bool.{false≢true}
 use Rattle.std.proofs.lemmas.Slice.Eq.{bytes_eq-Decides}
 use Rattle.std.specs.List.{enumerate_from}
 use Rattle.std.specs.Option.{option_map, option_map_or, option_and_then}
 use Rattle.std.specs.Str.{bytes_eq}
-use Rattle.tmpl_values.specs.Value.{Value, nothing, null, number, sequence, mapping, Items, no_item, item, Entries, no_entry, entry}
+use Rattle.tmpl_values.specs.Value.{Value, nothing, null, boolean, number, string, sequence, mapping, Items, no_item, item, Entries, no_entry, entry}
 use Rattle.tmpl_values.specs.Elements.{Element, elements, pairs, values_of_items, elements_of_entries}
 use Rattle.tmpl_values.specs.Field.{found, missing, of_nothing, field_at, entry_at}
 use Rattle.tmpl_values.specs.Stage.{and_then}
@@ -20,15 +21,38 @@ use Rattle.tmpl_meaning.specs.declared.missing_key.MissingKey.TheVariants as mod
 use Rattle.tmpl_shape.specs.Shape.{Shape, never, nothings, nulls, numbers, texts, list_of, record_of, either, named, Names, Fields, no_field, others, field}
 use Rattle.tmpl_shape.specs.Shape.{EachItem, EachEntry, AreDistinct, HasRequired, HasShape, IsField}
 use Rattle.tmpl_shape.specs.computed.Means.{Means}
-use Rattle.tmpl_shape.specs.computed.Shapes.{Base, shape_at, with_field, both, refined_by, refine, fill, absent_shape, of_field, entry_shape}
+use Rattle.tmpl_shape.specs.computed.Shapes.{Base, shape_at, with_field, both, refine_by, refine, fill, absent_shape, of_field, entry_shape}
 use Rattle.tmpl_shape.specs.computed.Shapes.{field_shape_by, field_shape, chain_shape, any_field, Visit, both_visits, visit_by, visit_of}
-use Rattle.tmpl_shape.proofs.ShapeLemmas.{same_name, joined-left, joined-right}
+use Rattle.tmpl_shape.proofs.ShapeLemmas.{same_name, join-left, join-right}
 
--- what is not empty is neither nothing nor null
-pub full-thing : (v : Value) → truth v ≡ true → is_nothing v ≡ false
+-- a list has at least as many items
+abbrev pub HasLeast : ℕ → Value → Type 0
+HasLeast n (sequence vs) = n ≤ length (values_of_items vs)
+HasLeast n v = Unit {0}
+
+-- it is neither nothing nor null, and has at least as many items if it is a list
+abbrev pub IsThere : ℕ → Value → Type 0
+IsThere n v = (is_nothing v ≡ false) × HasLeast n v
+
+pub any-least : (v : Value) → HasLeast 0 v
+any-least (sequence vs) = omega arith
+any-least nothing = tt
+any-least null = tt
+any-least (boolean b) = tt
+any-least (number n) = tt
+any-least (string s) = tt
+any-least (mapping es) = tt
+
+-- what is not empty is neither nothing nor null, and has an item if it is a list
+pub full-thing : (v : Value) → truth v ≡ true → IsThere 1 v
 full-thing nothing t = absurd (false≢true t)
 full-thing null t = absurd (false≢true t)
-full-thing _ t = refl
+full-thing (sequence no_item) t = absurd (false≢true t)
+full-thing (sequence (item v vs)) t = (refl, omega arith)
+full-thing (boolean b) t = (refl, tt)
+full-thing (number n) t = (refl, tt)
+full-thing (string s) t = (refl, tt)
+full-thing (mapping es) t = (refl, tt)
 
 module _ (base : Base) (N : Names) (means : Means base.defs N) where
   -- where a shape is computed there is a value, and it has the shape
@@ -40,13 +64,13 @@ module _ (base : Base) (N : Names) (means : Means base.defs N) where
   pub both-left : (o p : Option Shape) (r : Result Value Cause) → Gives o r → Gives (both base o p) r
   both-left None p r h = tt
   both-left (Some a) None r h = tt
-  both-left (Some s) (Some t) (Ok v) h = joined-left base N means s t v h
+  both-left (Some s) (Some t) (Ok v) h = join-left base N means s t v h
   both-left (Some s) (Some t) (Err cause) h = h
 
   pub both-right : (o p : Option Shape) (r : Result Value Cause) → Gives p r → Gives (both base o p) r
   both-right None p r h = tt
   both-right (Some a) None r h = tt
-  both-right (Some s) (Some t) (Ok v) h = joined-right base N means s t v h
+  both-right (Some s) (Some t) (Ok v) h = join-right base N means s t v h
   both-right (Some s) (Some t) (Err cause) h = h
 
   pub then-gives : (f : Shape → Option Shape) (g : Value → Result Value Cause) → ((s : Shape) (v : Value) → HasShape N s v → Gives (f s) (g v))
@@ -253,40 +277,49 @@ module _ (base : Base) (N : Names) (means : Means base.defs N) where
         required-refined n t es (rw is refl) fs h.2,
       )
 
-  refined_by-has : (i : ℕ) (ns : List (List ℕ)) (s : Shape) (m : MissingKey) (v x : Value) → HasShape N s v → chain m ns v ≡ Ok x → is_nothing x ≡ false
-      → HasShape N (refined_by base i ns s) v
-  refined_by-has zero ns s m v x h e t = h
-  refined_by-has (suc i) ns nothings m nothing x h e t = absurd (of_nothing-empty m ns x e t)
-  refined_by-has (suc i) ns nothings m _ x h e t = absurd h
-  refined_by-has (suc i) ns nulls m null x h e t = absurd (of_null-empty m ns x e t)
-  refined_by-has (suc i) ns nulls m _ x h e t = absurd h
-  refined_by-has (suc i) ns (either s u) m v x h e t =
+  -- a list has no fields, and it is its own end of no fields
+  least-has : (least : ℕ) (ns : List (List ℕ)) (m : MissingKey) (vs : Items) (x : Value) → chain m ns (sequence vs) ≡ Ok x → HasLeast least x
+      → least ≤ length (values_of_items vs)
+  least-has least [] m vs x e l = let same : x ≡ sequence vs = cc in subst (HasLeast least) same l
+  least-has least (n ∷ ns) m vs x e l = cc
+
+  refine_by-has : (least i : ℕ) (ns : List (List ℕ)) (s : Shape) (m : MissingKey) (v x : Value) → HasShape N s v → chain m ns v ≡ Ok x → IsThere least x
+      → HasShape N (refine_by base least i ns s) v
+  refine_by-has least zero ns s m v x h e t = h
+  refine_by-has least (suc i) ns nothings m nothing x h e t = absurd (of_nothing-empty m ns x e t.0)
+  refine_by-has least (suc i) ns nothings m _ x h e t = absurd h
+  refine_by-has least (suc i) ns nulls m null x h e t = absurd (of_null-empty m ns x e t.0)
+  refine_by-has least (suc i) ns nulls m _ x h e t = absurd h
+  refine_by-has least (suc i) ns (list_of n s) m (sequence vs) x h e t = (max-le h.0 (least-has least ns m vs x e t.1), h.1)
+  refine_by-has least (suc i) ns (list_of n s) m _ x h e t = absurd h
+  refine_by-has least (suc i) ns (either s u) m v x h e t =
       elim h [
-        | inl y ↦ joined-left base N means (refined_by base i ns s) (refined_by base i ns u) v (refined_by-has i ns s m v x y e t)
-        | inr y ↦ joined-right base N means (refined_by base i ns s) (refined_by base i ns u) v (refined_by-has i ns u m v x y e t)
+        | inl y ↦ join-left base N means (refine_by base least i ns s) (refine_by base least i ns u) v (refine_by-has least i ns s m v x y e t)
+        | inr y ↦ join-right base N means (refine_by base least i ns s) (refine_by base least i ns u) v (refine_by-has least i ns u m v x y e t)
       ]
-  refined_by-has (suc i) ns (named y) m v x h e t = by (base.defs y) refl (λ s k. refined_by-has i ns s m v x k e t)
+  refine_by-has least (suc i) ns (named y) m v x h e t = by (base.defs y) refl (λ s k. refine_by-has least i ns s m v x k e t)
     where
-      by : (o : Option Shape) → base.defs y ≡ o → ((s : Shape) → HasShape N s v → HasShape N (refined_by base i ns s) v)
-          → HasShape N (option_map_or (refined_by base i ns) o (named y)) v
+      by : (o : Option Shape) → base.defs y ≡ o → ((s : Shape) → HasShape N s v → HasShape N (refine_by base least i ns s) v)
+          → HasShape N (option_map_or (refine_by base least i ns) o (named y)) v
       by None is f = h
       by (Some s) is f = f s (means.unfolds y s v is h)
-  refined_by-has (suc i) (name ∷ ns) (record_of fs) m (mapping es) x h e t =
-      by (shape_at name fs) refl (λ s w k j. refined_by-has i ns s m w x j k t)
+  refine_by-has least (suc i) (name ∷ ns) (record_of fs) m (mapping es) x h e t =
+      by (shape_at name fs) refl (λ s w k j. refine_by-has least i ns s m w x j k t)
     where
       by : (o : Option Shape) → shape_at name fs ≡ o
-          → ((s : Shape) (w : Value) → chain m ns w ≡ Ok x → HasShape N s w → HasShape N (refined_by base i ns s) w)
-          → HasShape N (option_map_or (λ s. record_of (with_field name (refined_by base i ns s) fs)) o (record_of fs)) (mapping es)
+          → ((s : Shape) (w : Value) → chain m ns w ≡ Ok x → HasShape N s w → HasShape N (refine_by base least i ns s) w)
+          → HasShape N (option_map_or (λ s. record_of (with_field name (refine_by base least i ns s) fs)) o (record_of fs)) (mapping es)
       by None is f = h
-      by (Some s) is f = record-refined m name ns s (refined_by base i ns s) fs es x (f s) is h e t
-  refined_by-has (suc i) (name ∷ ns) (record_of fs) m _ x h e t = absurd h
-  refined_by-has (suc i) ns s m v x h e t = h
+      by (Some s) is f = record-refined m name ns s (refine_by base least i ns s) fs es x (f s) is h e t.0
+  refine_by-has least (suc i) (name ∷ ns) (record_of fs) m _ x h e t = absurd h
+  refine_by-has least (suc i) ns s m v x h e t = h
 
-  pub refined-has : (s : Shape) (m : MissingKey) (ns : List (List ℕ)) (v x : Value) → HasShape N s v → chain m ns v ≡ Ok x → is_nothing x ≡ false → HasShape N (refine base ns s) v
-  refined-has s m ns v x h e t = refined_by-has base.limit ns s m v x h e t
+  pub refine-has : (least : ℕ) (s : Shape) (m : MissingKey) (ns : List (List ℕ)) (v x : Value) → HasShape N s v → chain m ns v ≡ Ok x → IsThere least x
+      → HasShape N (refine base least ns s) v
+  refine-has least s m ns v x h e t = refine_by-has least base.limit ns s m v x h e t
 
-  pub filled-has : (s : Shape) (v : Value) → HasShape N s v → truth v ≡ true → HasShape N (fill base s) v
-  filled-has s v h t = refined-has s mode.Error [] v v h refl (full-thing v t)
+  pub fill-has : (s : Shape) (v : Value) → HasShape N s v → truth v ≡ true → HasShape N (fill base s) v
+  fill-has s v h t = refine-has 1 s mode.Error [] v v h refl (full-thing v t)
 
   -- ---- elements
 
@@ -312,14 +345,14 @@ module _ (base : Base) (N : Names) (means : Means base.defs N) where
   visits-left (Some a) None es h = tt
   visits-left (Some u) (Some w) None h = h
   visits-left (Some u) (Some w) (Some es) h =
-      each-on (IsVisit u) _ (λ e x. ((joined-left base N means) u.key w.key e.0 x.0, (joined-left base N means) u.element w.element e.1 x.1)) es h
+      each-on (IsVisit u) _ (λ e x. ((join-left base N means) u.key w.key e.0 x.0, (join-left base N means) u.element w.element e.1 x.1)) es h
 
   visits-right : (o p : Option Visit) (es : Option (List Element)) → Visits p es → Visits (both_visits base o p) es
   visits-right None p es h = tt
   visits-right (Some a) None es h = tt
   visits-right (Some u) (Some w) None h = h
   visits-right (Some u) (Some w) (Some es) h =
-      each-on (IsVisit w) _ (λ e x. ((joined-right base N means) u.key w.key e.0 x.0, (joined-right base N means) u.element w.element e.1 x.1)) es h
+      each-on (IsVisit w) _ (λ e x. ((join-right base N means) u.key w.key e.0 x.0, (join-right base N means) u.element w.element e.1 x.1)) es h
 
   count-visits : (is : List ℕ) → Each (IsVisit (record { key = numbers; element = numbers })) (map (λ i. (number (pos i), number (pos i))) is)
   count-visits [] = tt
@@ -334,7 +367,7 @@ module _ (base : Base) (N : Names) (means : Means base.defs N) where
   any-has no_field k v h = h
   any-has (others s) k v h = h
   any-has (field n required s fs) k v h =
-      elim h [ inl x ↦ (joined-left base N means) s (any_field base fs) v x.1 | inr x ↦ (joined-right base N means) s (any_field base fs) v (any-has fs k v x.1) ]
+      elim h [ inl x ↦ (join-left base N means) s (any_field base fs) v x.1 | inr x ↦ (join-right base N means) s (any_field base fs) v (any-has fs k v x.1) ]
 
   record-visits : (fs : Fields) (es : Entries) → EachEntry (IsField N fs) es → Each (IsVisit (record { key = texts; element = any_field base fs })) (elements_of_entries es)
   record-visits fs no_entry h = tt
@@ -357,8 +390,8 @@ module _ (base : Base) (N : Names) (means : Means base.defs N) where
   visit_by-gives (suc i) (declare name) numbers (number n) h = count-visits _
   visit_by-gives (suc i) (assign name) numbers (number n) h = count-visits _
   visit_by-gives (suc i) c numbers _ h = absurd h
-  visit_by-gives (suc i) c (list_of s) (sequence vs) h = rw (no-number c (sequence vs) refl) (list-visits s vs 0 h)
-  visit_by-gives (suc i) c (list_of s) _ h = absurd h
+  visit_by-gives (suc i) c (list_of n s) (sequence vs) h = rw (no-number c (sequence vs) refl) (list-visits s vs 0 h.1)
+  visit_by-gives (suc i) c (list_of n s) _ h = absurd h
   visit_by-gives (suc i) c (record_of fs) (mapping es) h = rw (no-number c (mapping es) refl) (record-visits fs es h.1)
   visit_by-gives (suc i) c (record_of fs) _ h = absurd h
   visit_by-gives (suc i) c (either s t) v h =

@@ -31,7 +31,7 @@ module _ (base : Base) (N : Names) (means : Means base.defs N) where
   may_be-has (suc n) truths (boolean b) h = refl
   may_be-has (suc n) numbers (number i) h = refl
   may_be-has (suc n) texts (string t) h = refl
-  may_be-has (suc n) (list_of s) (sequence vs) h = refl
+  may_be-has (suc n) (list_of m s) (sequence vs) h = refl
   may_be-has (suc n) (record_of fs) (mapping es) h = refl
   may_be-has (suc n) (either s t) v h = elim h [
     | inl x ↦ rw (may_be-has n s v x) refl

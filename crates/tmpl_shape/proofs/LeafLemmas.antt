@@ -6,7 +6,7 @@ use Rattle.tmpl_grammar.specs.declared.tree.Binding.TheVariants as variants
 use Rattle.tmpl_grammar.specs.declared.tree.Pair as held_pair
 use Rattle.tmpl_shape.specs.Shape as spec
 use Rattle.tmpl_shape.specs.View.{fields_of, shape_of}
-use Rattle.tmpl_shape.specs.computed.Shapes.{Base, gone_step, has_name, is_of_kind, kind_step, number_visit, plain_within, refined_step, some_part, visit}
+use Rattle.tmpl_shape.specs.computed.Shapes.{Base, gone_step, has_name, is_of_kind, kind_step, number_visit, plain_within, refine_step, some_part, visit}
 use Rattle.tmpl_shape.specs.declared.kind.Kind.{Kind}
 use Rattle.tmpl_shape.specs.declared.kind.Kind.TheVariants.{Many}
 use Rattle.tmpl_shape.specs.declared.shape.Shape as held
@@ -21,7 +21,7 @@ box p s = record { ptr = p.ptr; alloc = p.alloc; value = s }
 
 module _ (s : held.Shape) where
   abbrev NotList : Type 0
-  NotList = (x : Box held.Shape Global) → s ≡ held.List x → ⊥
+  NotList = (n : ℕ) (x : Box held.Shape Global) → s ≡ held.List n x → ⊥
 
   abbrev NotRecord : Type 0
   NotRecord = (fs : held_fields.Fields) → s ≡ held.Record fs → ⊥
@@ -40,14 +40,14 @@ kind-leaf base p k held.Never a b c d = absurd (a refl)
 kind-leaf base p k held.Anything a b c d = absurd (b refl)
 kind-leaf base p k (held.Either' x s y t) a b c d = absurd (c (box x s) (box y t) refl)
 kind-leaf base p k (held.Named x) a b c d = absurd (d x refl)
-kind-leaf base p k (held.List' x s) a b c d = rw (list_seen (box x s)) refl
+kind-leaf base p k (held.List' n x s) a b c d = rw (list_seen n (box x s)) refl
 kind-leaf base p k (held.Record fs) a b c d = rw (record_seen fs) refl
 kind-leaf base p k _ a b c d = search (rules, the_lemmas)
 
 pub not-many : (s : held.Shape) → NotList s → NotRecord s → is_of_kind Many (shape_of s) ≡ false
 not-many (held.Either' x s y t) a b = ap (is_of_kind Many) (either_seen (box x s) (box y t))
 not-many (held.Named x) a b = ap (is_of_kind Many) (named_seen x)
-not-many (held.List' x s) a b = absurd (a (box x s) refl)
+not-many (held.List' n x s) a b = absurd (a n (box x s) refl)
 not-many (held.Record fs) a b = absurd (b fs refl)
 not-many _ a b = search (rules, the_lemmas)
 
@@ -58,7 +58,7 @@ pub ruleset kinds = (kind-leaf, not-many)
 pub no-name : (x : List ℕ) (s : held.Shape) → NotEither s → NotNamed s → has_name x (shape_of s) ≡ false
 no-name x (held.Either' p s q t) a b = absurd (a (box p s) (box q t) refl)
 no-name x (held.Named y) a b = absurd (b y refl)
-no-name x (held.List' p s) a b = ap (has_name x) (list_seen (box p s))
+no-name x (held.List' n p s) a b = ap (has_name x) (list_seen n (box p s))
 no-name x (held.Record fs) a b = ap (has_name x) (record_seen fs)
 no-name x _ a b = search (rules, the_lemmas)
 
@@ -66,7 +66,7 @@ pub is-leaf : (base : Base) (k : ℕ) (s : held.Shape) → (s ≡ held.Never →
 is-leaf base k held.Never a b c = absurd (a refl)
 is-leaf base k (held.Either' p s q t) a b c = absurd (b (box p s) (box q t) refl)
 is-leaf base k (held.Named y) a b c = absurd (c y refl)
-is-leaf base k (held.List' p s) a b c = subst (IsLeaf base k) (sym (list_seen (box p s))) tt
+is-leaf base k (held.List' n p s) a b c = subst (IsLeaf base k) (sym (list_seen n (box p s))) tt
 is-leaf base k (held.Record fs) a b c = subst (IsLeaf base k) (sym (record_seen fs)) tt
 is-leaf base k held.Nothings a b c = subst (IsLeaf base k) (sym nothings_seen) tt
 is-leaf base k held.Nulls a b c = subst (IsLeaf base k) (sym nulls_seen) tt
@@ -80,7 +80,7 @@ part-step : (base : Base) (n : ℕ) (p : spec.Shape → Bool) (s : held.Shape) �
 part-step base n p held.Anything a b c = absurd (a refl)
 part-step base n p (held.Either' x s y t) a b c = absurd (b (box x s) (box y t) refl)
 part-step base n p (held.Named y) a b c = absurd (c y refl)
-part-step base n p (held.List' x s) a b c = rw (list_seen (box x s)) refl
+part-step base n p (held.List' m x s) a b c = rw (list_seen m (box x s)) refl
 part-step base n p (held.Record fs) a b c = rw (record_seen fs) refl
 part-step base n p held.Never a b c = rw never_seen refl
 part-step base n p held.Nothings a b c = rw nothings_seen refl
@@ -94,20 +94,20 @@ pub part-leaf : (base : Base) (n : ℕ) (p : spec.Shape → Bool) (s : held.Shap
 part-leaf base zero p s e a b c = absurd (e refl)
 part-leaf base (suc n) p s e a b c = part-step base n p s a b c
 
-pub list-plain : (w : spec.Shape → spec.Shape → Bool) (x : Box held.Shape Global) (s t : held.Shape) → s ≡ held.List x → NotList t
+pub list-plain : (w : spec.Shape → spec.Shape → Bool) (n : ℕ) (x : Box held.Shape Global) (s t : held.Shape) → s ≡ held.List n x → NotList t
     → plain_within w (shape_of s) (shape_of t) ≡ false
-list-plain w x s (held.List' p t) is a = absurd (a (box p t) refl)
-list-plain w x s (held.Either' p t q u) is a = rw (is, list_seen x, either_seen (box p t) (box q u)) refl
-list-plain w x s (held.Named y) is a = rw (is, list_seen x, named_seen y) refl
-list-plain w x s (held.Record fs) is a = rw (is, list_seen x, record_seen fs) refl
-list-plain w x s _ is a = rw (is, list_seen x) (search (rules, the_lemmas))
+list-plain w n x s (held.List' m p t) is a = absurd (a m (box p t) refl)
+list-plain w n x s (held.Either' p t q u) is a = rw (is, list_seen n x, either_seen (box p t) (box q u)) refl
+list-plain w n x s (held.Named y) is a = rw (is, list_seen n x, named_seen y) refl
+list-plain w n x s (held.Record fs) is a = rw (is, list_seen n x, record_seen fs) refl
+list-plain w n x s _ is a = rw (is, list_seen n x) (search (rules, the_lemmas))
 
 pub record-plain : (w : spec.Shape → spec.Shape → Bool) (fs : held_fields.Fields) (s t : held.Shape) → s ≡ held.Record fs → NotRecord t
     → plain_within w (shape_of s) (shape_of t) ≡ false
 record-plain w fs s (held.Record gs) is a = absurd (a gs refl)
 record-plain w fs s (held.Either' p t q u) is a = rw (is, record_seen fs, either_seen (box p t) (box q u)) refl
 record-plain w fs s (held.Named y) is a = rw (is, record_seen fs, named_seen y) refl
-record-plain w fs s (held.List' p t) is a = rw (is, record_seen fs, list_seen (box p t)) refl
+record-plain w fs s (held.List' n p t) is a = rw (is, record_seen fs, list_seen n (box p t)) refl
 record-plain w fs s _ is a = rw (is, record_seen fs) (search (rules, the_lemmas))
 
 pub not-plain : (w : spec.Shape → spec.Shape → Bool) (s t : held.Shape) → (s ≡ held.Nothings → ⊥) → (s ≡ held.Nulls → ⊥) → (s ≡ held.Truths → ⊥) → (s ≡ held.Numbers → ⊥)
@@ -117,7 +117,7 @@ not-plain w held.Nulls t a b c d e f g = absurd (b refl)
 not-plain w held.Truths t a b c d e f g = absurd (c refl)
 not-plain w held.Numbers t a b c d e f g = absurd (d refl)
 not-plain w held.Texts t a b c d e f g = absurd (e refl)
-not-plain w (held.List' p s) t a b c d e f g = absurd (f (box p s) refl)
+not-plain w (held.List' n p s) t a b c d e f g = absurd (f n (box p s) refl)
 not-plain w (held.Record fs) t a b c d e f g = absurd (g fs refl)
 not-plain w (held.Either' p s q u) t a b c d e f g = rw (either_seen (box p s) (box q u)) refl
 not-plain w (held.Named y) t a b c d e f g = rw (named_seen y) refl
@@ -139,19 +139,19 @@ pub gone-leaf : (base : Base) (f : spec.Shape → spec.Shape) (s : held.Shape) �
 gone-leaf base f held.Nulls a b c = absurd (a refl)
 gone-leaf base f (held.Either' p s q t) a b c = absurd (b (box p s) (box q t) refl)
 gone-leaf base f (held.Named y) a b c = absurd (c y refl)
-gone-leaf base f (held.List' p s) a b c = rw (list_seen (box p s)) refl
+gone-leaf base f (held.List' n p s) a b c = rw (list_seen n (box p s)) refl
 gone-leaf base f (held.Record fs) a b c = rw (record_seen fs) refl
 gone-leaf base f _ a b c = search (rules, the_lemmas)
 
-pub refined-leaf : (base : Base) (f : List (List ℕ) → spec.Shape → spec.Shape) (ns : List (List ℕ)) (s : held.Shape) → (s ≡ held.Nothings → ⊥) → (s ≡ held.Nulls → ⊥)
-    → NotEither s → NotNamed s → NotRecord s → refined_step base f ns (shape_of s) ≡ shape_of s
-refined-leaf base f ns held.Nothings a b c d e = absurd (a refl)
-refined-leaf base f ns held.Nulls a b c d e = absurd (b refl)
-refined-leaf base f ns (held.Either' p s q t) a b c d e = absurd (c (box p s) (box q t) refl)
-refined-leaf base f ns (held.Named y) a b c d e = absurd (d y refl)
-refined-leaf base f ns (held.Record fs) a b c d e = absurd (e fs refl)
-refined-leaf base f ns (held.List' p s) a b c d e = rw (list_seen (box p s)) refl
-refined-leaf base f ns _ a b c d e = search (rules, the_lemmas)
+pub refine-leaf : (base : Base) (least : ℕ) (f : List (List ℕ) → spec.Shape → spec.Shape) (ns : List (List ℕ)) (s : held.Shape) → (s ≡ held.Nothings → ⊥)
+    → (s ≡ held.Nulls → ⊥) → NotList s → NotEither s → NotNamed s → NotRecord s → refine_step base least f ns (shape_of s) ≡ shape_of s
+refine-leaf base least f ns held.Nothings a b l c d e = absurd (a refl)
+refine-leaf base least f ns held.Nulls a b l c d e = absurd (b refl)
+refine-leaf base least f ns (held.Either' p s q t) a b l c d e = absurd (c (box p s) (box q t) refl)
+refine-leaf base least f ns (held.Named y) a b l c d e = absurd (d y refl)
+refine-leaf base least f ns (held.Record fs) a b l c d e = absurd (e fs refl)
+refine-leaf base least f ns (held.List' n p s) a b l c d e = absurd (l n (box p s) refl)
+refine-leaf base least f ns _ a b l c d e = search (rules, the_lemmas)
 
 -- ---- what a range visits
 
@@ -159,6 +159,6 @@ pub one-number : (b : held_binding.Binding) → ((x : Box held_pair.Pair Global)
 one-number (variants.DeclarePair x) h = absurd (h x refl)
 one-number _ h = refl
 
-pub ruleset leaves = (no-name, part-leaf, gone-leaf, refined-leaf)
+pub ruleset leaves = (no-name, part-leaf, gone-leaf, refine-leaf)
 
 pub ruleset visits = (one-number)

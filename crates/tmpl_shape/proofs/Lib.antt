@@ -7,3 +7,4 @@ pub mod NameLemmas
 pub mod ViewLemmas
 pub mod StepLemmas
 pub mod LeafLemmas
+pub mod PartLemmas

@@ -31,8 +31,8 @@ module _ (N M : Names) (below : Below N M) where
     shape-on numbers _ h = absurd h
     shape-on texts (string t) h = tt
     shape-on texts _ h = absurd h
-    shape-on (list_of s) (sequence vs) h = items-on (HasShape N s) (HasShape M s) (shape-on s) vs h
-    shape-on (list_of s) _ h = absurd h
+    shape-on (list_of n s) (sequence vs) h = (h.0, items-on (HasShape N s) (HasShape M s) (shape-on s) vs h.1)
+    shape-on (list_of n s) _ h = absurd h
     shape-on (record_of fs) (mapping es) h = (h.0, entries-on (IsField N fs) (IsField M fs) (field-on fs) es h.1, h.2)
     shape-on (record_of fs) _ h = absurd h
     shape-on (either a b) v h = elim h [ inl x ↦ inl (shape-on a v x) | inr x ↦ inr (shape-on b v x) ]
@@ -99,8 +99,8 @@ module _ (defs : Defs) where
 
   mutual
     bounded : (s : Shape) (v : Value) → HasShape (stands_for defs) s v → Bounded (λ N. HasShape N s v)
-    bounded (list_of s) (sequence vs) h = items-bounded s (bounded s) vs h
-    bounded (list_of s) _ h = absurd h
+    bounded (list_of n s) (sequence vs) h = let b = items-bounded s (bounded s) vs h.1 in (b.0, (h.0, b.1))
+    bounded (list_of n s) _ h = absurd h
     bounded (record_of fs) (mapping es) h = let b = entries-bounded fs (field-bounded fs) es h.1 in (b.0, (h.0, b.1, h.2))
     bounded (record_of fs) _ h = absurd h
     bounded (either a b) v h = elim h [ inl x ↦ let p = bounded a v x in (p.0, inl p.1) | inr x ↦ let p = bounded b v x in (p.0, inr p.1) ]

@@ -1,7 +1,7 @@
 -- For the law `runs_safely`: what is computed with shapes holds of their values.
-use Rattle.std.proofs.Common.{◌≡◌, ◌∙◌, ◌⊎◌, ℕ, zero, suc, Bool, true, false, not, ◌&&◌, ◌||◌, List, Option, Some, None}
+use Rattle.std.proofs.Common.{arith, ◌≡◌, ◌∙◌, ◌⊎◌, ◌≤◌, ℕ, zero, suc, nat_le, Bool, true, false, not, ◌&&◌, ◌||◌, List, Option, Some, None}
 use Rattle.std.proofs.Common.{IsSome, inl, inr, ap, refl, sym, subst, if◌then◌else◌}
-use Rattle.std.proofs.lemmas.Bool.{false≢true, and_parts}
+use Rattle.std.proofs.lemmas.Bool.{false≢true, and_parts, leb-true}
 use Rattle.std.proofs.lemmas.Slice.Eq.{bytes_eq-Decides}
 use Rattle.std.specs.Option.{option_map_or}
 use Rattle.std.specs.Str.{bytes_eq}
@@ -15,7 +15,7 @@ use Rattle.tmpl_shape.specs.Shape.{EachItem, EachEntry, HasRequired, HasShape, I
 use Rattle.tmpl_shape.specs.computed.Means.{Means}
 use Rattle.tmpl_shape.specs.computed.Shapes.{Base, shape_at, is_required, requires_all, is_listed, others_within}
 use Rattle.tmpl_shape.specs.computed.Shapes.{fields_along, fields_within, record_within, has_name, plain_within, some_part, within_by}
-use Rattle.tmpl_shape.specs.computed.Shapes.{within, joined, has_kind, null_gone_by, null_gone}
+use Rattle.tmpl_shape.specs.computed.Shapes.{within, join, has_kind, null_gone_by, null_gone}
 use Rattle.tmpl_shape.specs.declared.kind.Kind.TheVariants.{Blank}
 use Rattle.tmpl_shape.proofs.KindLemmas.{has_kind-has}
 
@@ -166,9 +166,11 @@ module _ (N : Names) where
   plain_within-has w f numbers _ v e h = absurd (false≢true e)
   plain_within-has w f texts texts v e h = h
   plain_within-has w f texts _ v e h = absurd (false≢true e)
-  plain_within-has w f (list_of s) (list_of t) (sequence vs) e h = items-has (HasShape N s) (HasShape N t) (λ v. f s t v e) vs h
-  plain_within-has w f (list_of s) (list_of t) _ e h = absurd h
-  plain_within-has w f (list_of s) _ v e h = absurd (false≢true e)
+  plain_within-has w f (list_of n s) (list_of m t) (sequence vs) e h =
+      let p = and_parts (nat_le m n) (w s t) e in
+      let fewer = leb-true m n p.0 in (omega (arith, h.0), items-has (HasShape N s) (HasShape N t) (λ v. f s t v p.1) vs h.1)
+  plain_within-has w f (list_of n s) (list_of m t) _ e h = absurd h
+  plain_within-has w f (list_of n s) _ v e h = absurd (false≢true e)
   plain_within-has w f (record_of fs) (record_of gs) (mapping es) e h = record_within-has w f fs gs es e h
   plain_within-has w f (record_of fs) (record_of gs) _ e h = absurd h
   plain_within-has w f (record_of fs) _ v e h = absurd (false≢true e)
@@ -220,18 +222,18 @@ module _ (base : Base) (N : Names) (means : Means base.defs N) where
 
   -- ---- alternatives
 
-  pub joined-left : (s t : Shape) (v : Value) → HasShape N s v → HasShape N (joined base s t) v
-  unfolding joined
-  joined-left s t v h = by (within base s t) refl (within base t s)
+  pub join-left : (s t : Shape) (v : Value) → HasShape N s v → HasShape N (join base s t) v
+  unfolding join
+  join-left s t v h = by (within base s t) refl (within base t s)
     where
       by : (p : Bool) → within base s t ≡ p → (q : Bool) → HasShape N (if p then t else if q then s else either s t) v
       by true e q = within-has s t v e h
       by false e true = h
       by false e false = inl h
 
-  pub joined-right : (s t : Shape) (v : Value) → HasShape N t v → HasShape N (joined base s t) v
-  unfolding joined
-  joined-right s t v h = by (within base s t) (within base t s) refl
+  pub join-right : (s t : Shape) (v : Value) → HasShape N t v → HasShape N (join base s t) v
+  unfolding join
+  join-right s t v h = by (within base s t) (within base t s) refl
     where
       by : (p q : Bool) → within base t s ≡ q → HasShape N (if p then t else if q then s else either s t) v
       by true q e = h
@@ -251,8 +253,8 @@ module _ (base : Base) (N : Names) (means : Means base.defs N) where
   null_gone_by-has (suc n) anything v h = tt
   null_gone_by-has (suc n) (either s t) v h =
       elim h [
-        | inl x ↦ joined-left (null_gone_by base n s) (null_gone_by base n t) (without_null v) (null_gone_by-has n s v x)
-        | inr x ↦ joined-right (null_gone_by base n s) (null_gone_by base n t) (without_null v) (null_gone_by-has n t v x)
+        | inl x ↦ join-left (null_gone_by base n s) (null_gone_by base n t) (without_null v) (null_gone_by-has n s v x)
+        | inr x ↦ join-right (null_gone_by base n s) (null_gone_by base n t) (without_null v) (null_gone_by-has n t v x)
       ]
   null_gone_by-has (suc n) (named x) v h = by (has_kind base Blank (named x)) refl (λ s. null_gone_by-has n s v)
     where

@@ -8,8 +8,8 @@ use Rattle.tmpl_shape.specs.declared.shape.Fields as held_fields
 use Rattle.tmpl_shape.specs.declared.shape.Field as held_field
 use Rattle.tmpl_shape.specs.declared.shape.Field.{out-Field}
 
-pub list_seen : (s : Box held.Shape Global) → shape_of (held.List s) ≡ spec.list_of (shape_of s.value)
-list_seen s = search (rules, the_lemmas)
+pub list_seen : (n : ℕ) (s : Box held.Shape Global) → shape_of (held.List n s) ≡ spec.list_of n (shape_of s.value)
+list_seen n s = search (rules, the_lemmas)
 
 pub record_seen : (fs : held_fields.Fields) → shape_of (held.Record fs) ≡ spec.record_of (fields_of fs)
 record_seen fs = search (rules, the_lemmas)

@@ -1,8 +1,9 @@
 -- Shapes: what may be known of a value before a run.
-use Rattle.std.specs.Prelude.{◌≡◌, ◌⊎◌, ℕ, zero, suc, Bool, true, false, List, Option, Some, None, IsSome}
+use Rattle.std.specs.Prelude.{◌≡◌, ◌⊎◌, ◌≤◌, ℕ, zero, suc, Bool, true, false, List, length, Option, Some, None, IsSome}
 use Rattle.std.specs.Str.{bytes_eq}
 use Rattle.tmpl_values.specs.Value.{Value, nothing, null, boolean, number, string, sequence, mapping, Items, no_item}
 use Rattle.tmpl_values.specs.Value.{item, Entries, no_entry, entry}
+use Rattle.tmpl_values.specs.Elements.{values_of_items}
 use Rattle.tmpl_values.specs.Field.{entry_at}
 
 mutual
@@ -17,8 +18,8 @@ mutual
     texts : Shape
     -- each value
     anything : Shape
-    -- sequences of such values
-    list_of : Shape → Shape
+    -- sequences of at least as many such values
+    list_of : ℕ → Shape → Shape
     -- mappings with these fields
     record_of : Fields → Shape
     either : Shape → Shape → Shape
@@ -63,7 +64,7 @@ abbrev mutual
   HasShape N truths (boolean b) = Unit {0}
   HasShape N numbers (number n) = Unit {0}
   HasShape N texts (string s) = Unit {0}
-  HasShape N (list_of s) (sequence vs) = EachItem (HasShape N s) vs
+  HasShape N (list_of n s) (sequence vs) = (n ≤ length (values_of_items vs)) × EachItem (HasShape N s) vs
   HasShape N (record_of fs) (mapping es) = AreDistinct es × EachEntry (IsField N fs) es × HasRequired fs es
   HasShape N (either a b) v = HasShape N a v ⊎ HasShape N b v
   HasShape N (named x) v = N x v

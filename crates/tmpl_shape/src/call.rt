@@ -3,7 +3,7 @@
 
 ghost use Rattle.std.specs.Prelude.{◌≡◌, IfSome, Some};
 ghost use Rattle.tmpl_shape.specs.View.{shape_of};
-ghost use Rattle.tmpl_shape.specs.computed.Calls.{clashes, comparable, comparable_to_all, is_sized, kinds_shape, only_numbers, only_texts, ordered};
+ghost use Rattle.tmpl_shape.specs.computed.Calls.{clashes, comparable, comparable_to_all, is_sized, kinds_shape, only_numbers, only_texts, orderable};
 
 use crate::kind::{Kind, Kinds};
 use crate::shape::Shape;
@@ -58,8 +58,8 @@ fn only_texts(kinds: &Kinds) -> bool
 }
 
 /// Whether each two values can be ordered.
-fn ordered(one: &Kinds, other: &Kinds) -> bool
-    ensures { result ≡ ordered one.now other.now }
+fn orderable(one: &Kinds, other: &Kinds) -> bool
+    ensures { result ≡ orderable one.now other.now }
 {
     (only_numbers(one) && only_numbers(other)) || (only_texts(one) && only_texts(other))
 }
@@ -96,7 +96,7 @@ pub fn call_shape(func: Func, kinds: &[Kinds]) -> Option<Shape>
             _ => None,
         },
         Func::Lt | Func::Le | Func::Gt | Func::Ge => match kinds {
-            [one, other] if ordered(one, other) => Some(Shape::Truths),
+            [one, other] if orderable(one, other) => Some(Shape::Truths),
             _ => None,
         },
         Func::And | Func::Or | Func::Index | Func::Slice | Func::Printf => None,

@@ -13,6 +13,8 @@ pub enum Cause {
     NoFields(Bytes, &'static str),
     /// The function may get arguments that it refuses.
     Arguments(Func),
+    /// A list may have fewer items than the function needs, which is this many.
+    FewItems(Func, u64),
     /// Calls of the function are not followed.
     NotFollowed(Func),
     /// The value that is ranged over may be of this kind.
@@ -56,7 +58,7 @@ pub(crate) fn kind_word(shape: &Shape) -> &'static str {
         Shape::Numbers => "a number",
         Shape::Texts => "a text",
         Shape::Anything => "any value",
-        Shape::List(_) => "a list",
+        Shape::List { .. } => "a list",
         Shape::Record(_) => "a map",
         Shape::Either(..) | Shape::Named(_) => "more than is followed",
     }

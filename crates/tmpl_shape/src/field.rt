@@ -2,19 +2,29 @@
 #![tactic(auto, using(crate::proofs::ViewLemmas::parts, crate::proofs::StepLemmas::steps))]
 
 ghost use Rattle.std.specs.Prelude.{◌≡◌, IfOk, Some};
-ghost use Rattle.std.specs.Option.{option_map};
 ghost use Rattle.tmpl_shape.specs.View.{fields_of, shape_of};
-ghost use Rattle.tmpl_shape.specs.computed.Shapes.{absent_shape, any_field, chain_shape, entry_shape, field_shape_by, index_shape, index_shape_by, keyed_shape, of_field};
-ghost use Rattle.tmpl_shape.specs.computed.View.{base_of};
+ghost use Rattle.tmpl_shape.specs.computed.Shapes.{absent_shape, any_field, chain_shape, entry_shape, field_shape_by, index_shape, index_shape_by, item_shape, keyed_shape, of_field};
+ghost use Rattle.tmpl_shape.specs.computed.View.{base_of, key_seen};
 
 use crate::cause::{Cause, Trouble, kind_word};
+use crate::change::join;
 use crate::inclusion::find;
-use crate::join::joined;
 use crate::shape::{Base, Fields, Shape, copy_name, copy_shape};
 use std::alloc::{AllocError, Global};
 use tmpl_funcs::Func;
 use tmpl_meaning::MissingKey;
 use tmpl_values::Bytes;
+
+/// What is known of an index.
+#[derive(Clone, Copy)]
+pub enum Key<'k> {
+    /// It is this text.
+    Name(&'k [u8]),
+    /// It is a text.
+    Text,
+    /// It is this number.
+    Place(u64),
+}
 
 /// What stands for a field of this name that is absent, if that is no fault.
 fn absent_shape(alloc: Global, mode: MissingKey, name: &[u8]) -> Result<Shape, Trouble>
@@ -49,7 +59,7 @@ fn of_field(
     if required {
         return Ok(shape);
     }
-    Ok(joined(base, shape, absent_shape(base.alloc, mode, name)?)?)
+    Ok(join(base, shape, absent_shape(base.alloc, mode, name)?)?)
 }
 
 /// The field of a name of a map of these fields.
@@ -100,7 +110,7 @@ fn field_shape_by(
         Shape::Either(one, other) => {
             let one = field_shape_by(base, fewer, mode, name, one)?;
             let other = field_shape_by(base, fewer, mode, name, other)?;
-            Ok(joined(base, one, other)?)
+            Ok(join(base, one, other)?)
         }
         Shape::Named(defined) => match find(base.definitions, defined.as_slice()) {
             Some(shape) => field_shape_by(base, fewer, mode, name, shape),
@@ -138,22 +148,38 @@ pub(crate) fn any_field(base: &Base<'_>, fields: &Fields) -> Result<Shape, Alloc
         Fields::Others(shape) => copy_shape(base.alloc, shape),
         Fields::Field(first) => {
             let shape = copy_shape(base.alloc, &first.shape)?;
-            joined(base, shape, any_field(base, &first.rest)?)
+            join(base, shape, any_field(base, &first.rest)?)
         }
     }
 }
 
-/// What `index` gives of a map of these fields, for a key that is known or for any: the entry, or null.
-fn keyed_shape(base: &Base<'_>, key: Option<&[u8]>, fields: &Fields) -> Result<Shape, Trouble>
-    ensures { IfOk result (λ s. keyed_shape (base_of base.now) (option_map (λ k. k.now) key.entry) (fields_of fields.now)
+/// What `index` gives of a map of these fields: the entry, or null.
+fn keyed_shape(base: &Base<'_>, key: Key<'_>, fields: &Fields) -> Result<Shape, Trouble>
+    ensures { IfOk result (λ s. keyed_shape (base_of base.now) (key_seen key.entry) (fields_of fields.now)
         ≡ Some (shape_of s)) }
 {
     match key {
-        Some(name) => entry_shape(base, MissingKey::Zero, name, fields),
-        None => {
+        Key::Name(name) => entry_shape(base, MissingKey::Zero, name, fields),
+        Key::Text => {
             let any = any_field(base, fields)?;
-            Ok(joined(base, any, Shape::Nulls)?)
+            Ok(join(base, any, Shape::Nulls)?)
         }
+        Key::Place(_) => Err(Trouble::MayFail(Cause::Arguments(Func::Index))),
+    }
+}
+
+/// What `index` gives of a list of at least as many items.
+fn item_shape(base: &Base<'_>, key: Key<'_>, least: u64, items: &Shape) -> Result<Shape, Trouble>
+    ensures { IfOk result (λ s. item_shape (key_seen key.entry) least (shape_of items.now) ≡ Some (shape_of s)) }
+{
+    match key {
+        Key::Place(place) => {
+            if place < least {
+                return Ok(copy_shape(base.alloc, items)?);
+            }
+            Err(Trouble::MayFail(Cause::FewItems(Func::Index, place.saturating_add(1))))
+        }
+        Key::Name(_) | Key::Text => Err(Trouble::MayFail(Cause::Arguments(Func::Index))),
     }
 }
 
@@ -161,11 +187,11 @@ fn keyed_shape(base: &Base<'_>, key: Option<&[u8]>, fields: &Fields) -> Result<S
 fn index_shape_by(
     base: &Base<'_>,
     steps: usize,
-    key: Option<&[u8]>,
+    key: Key<'_>,
     shape: &Shape,
 ) -> Result<Shape, Trouble>
-    ensures { IfOk result (λ s. index_shape_by (base_of base.now) steps (option_map (λ k. k.now) key.entry)
-        (shape_of shape.now) ≡ Some (shape_of s)) }
+    ensures { IfOk result (λ s. index_shape_by (base_of base.now) steps (key_seen key.entry) (shape_of shape.now)
+        ≡ Some (shape_of s)) }
 {
     if steps == 0 {
         return Err(Trouble::MayFail(Cause::Command));
@@ -173,11 +199,12 @@ fn index_shape_by(
     let fewer = steps - 1;
     match shape {
         Shape::Never => Ok(Shape::Never),
+        Shape::List { least, items } => item_shape(base, key, *least, items),
         Shape::Record(fields) => keyed_shape(base, key, fields),
         Shape::Either(one, other) => {
             let one = index_shape_by(base, fewer, key, one)?;
             let other = index_shape_by(base, fewer, key, other)?;
-            Ok(joined(base, one, other)?)
+            Ok(join(base, one, other)?)
         }
         Shape::Named(defined) => match find(base.definitions, defined.as_slice()) {
             Some(shape) => index_shape_by(base, fewer, key, shape),
@@ -187,9 +214,9 @@ fn index_shape_by(
     }
 }
 
-/// What `index` gives for a key that is known or for any, if it gives something of each value, as far as is looked.
-pub fn index_shape(base: &Base<'_>, key: Option<&[u8]>, shape: &Shape) -> Result<Shape, Trouble>
-    ensures { IfOk result (λ s. index_shape (base_of base.now) (option_map (λ k. k.now) key.entry) (shape_of shape.now)
+/// What `index` gives, if it gives something of each value, as far as is looked.
+pub fn index_shape(base: &Base<'_>, key: Key<'_>, shape: &Shape) -> Result<Shape, Trouble>
+    ensures { IfOk result (λ s. index_shape (base_of base.now) (key_seen key.entry) (shape_of shape.now)
         ≡ Some (shape_of s)) }
 {
     index_shape_by(base, base.limit, key, shape)

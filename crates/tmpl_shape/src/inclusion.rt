@@ -168,7 +168,13 @@ fn plain_within(base: &Base<'_>, names: usize, steps: usize, one: &Shape, other:
         (Shape::Truths, Shape::Truths) => true,
         (Shape::Numbers, Shape::Numbers) => true,
         (Shape::Texts, Shape::Texts) => true,
-        (Shape::List(items), Shape::List(others)) => within_by(base, names, steps, items, others),
+        (
+            Shape::List { least, items },
+            Shape::List {
+                least: fewest,
+                items: others,
+            },
+        ) => { *fewest <= *least && within_by(base, names, steps, items, others) }
         (Shape::Record(fields), Shape::Record(others)) => {
             fields_along(base, names, steps, fields, others)
         }

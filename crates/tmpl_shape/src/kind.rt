@@ -43,7 +43,7 @@ fn is_of_kind(kind: Kind, shape: &Shape) -> bool
         Kind::Truth => matches!(shape, Shape::Truths),
         Kind::Number => matches!(shape, Shape::Numbers),
         Kind::Text => matches!(shape, Shape::Texts),
-        Kind::Many => matches!(shape, Shape::List(_) | Shape::Record(_)),
+        Kind::Many => matches!(shape, Shape::List { .. } | Shape::Record(_)),
     }
 }
 

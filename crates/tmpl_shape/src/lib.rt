@@ -3,22 +3,25 @@
 
 mod call;
 mod cause;
+mod change;
 mod field;
 mod format;
 mod inclusion;
-mod join;
 mod kind;
+mod part;
 mod shape;
 mod visit;
 
 pub use call::call_shape;
 pub use cause::{Cause, Trouble};
-pub use field::{chain_shape, index_shape};
+pub use change::{fill, join, null_gone, refine};
+pub use field::{Key, chain_shape, index_shape};
 pub use format::printf_shape;
 pub use inclusion::{has_name, within};
-pub use join::{filled, joined, null_gone, refined};
 pub use kind::{Kind, Kinds, has_kind, kinds_of};
+pub use part::part_shape;
 pub use shape::{
-    Base, Definition, Field, Fields, Schema, Shape, copy_name, copy_shape, either, put_field,
+    Base, Definition, Field, Fields, Schema, Shape, copy_name, copy_shape, either, list_of,
+    put_field,
 };
 pub use visit::{Visit, visit_of};

@@ -2,7 +2,7 @@
 #![tactic(auto, using(crate::proofs::ViewLemmas::parts))]
 
 ghost use Rattle.std.specs.Prelude.{◌≡◌, IfOk};
-ghost use Rattle.tmpl_shape.specs.Shape.{either, field};
+ghost use Rattle.tmpl_shape.specs.Shape.{either, field, list_of};
 ghost use Rattle.tmpl_shape.specs.View.{fields_of, shape_of};
 
 use std::alloc::{AllocError, Global};
@@ -26,8 +26,8 @@ pub enum Shape {
     Texts,
     /// Each value.
     Anything,
-    /// Lists of such items.
-    List(Box<Shape>),
+    /// Lists of at least as many such items.
+    List { least: u64, items: Box<Shape> },
     /// Maps of these fields.
     Record(Fields),
     /// The values of the one and of the other.
@@ -104,7 +104,7 @@ pub fn copy_shape(alloc: Global, shape: &Shape) -> Result<Shape, AllocError>
         Shape::Numbers => Ok(Shape::Numbers),
         Shape::Texts => Ok(Shape::Texts),
         Shape::Anything => Ok(Shape::Anything),
-        Shape::List(items) => Ok(Shape::List(Box::new(alloc, copy_shape(alloc, items)?)?)),
+        Shape::List { least, items } => list_of(alloc, *least, copy_shape(alloc, items)?),
         Shape::Record(fields) => Ok(Shape::Record(copy_fields(alloc, fields)?)),
         Shape::Either(one, other) => either(
             alloc,
@@ -113,6 +113,14 @@ pub fn copy_shape(alloc: Global, shape: &Shape) -> Result<Shape, AllocError>
         ),
         Shape::Named(name) => Ok(Shape::Named(copy_name(alloc, name.as_slice())?)),
     }
+}
+
+/// Lists of at least as many such items.
+pub fn list_of(alloc: Global, least: u64, items: Shape) -> Result<Shape, AllocError>
+    ensures { IfOk result (λ s. shape_of s ≡ list_of least (shape_of items)) }
+{
+    let items = Box::new(alloc, items)?;
+    Ok(Shape::List { least, items })
 }
 
 /// The values of the one and of the other.

@@ -8,9 +8,9 @@ ghost use Rattle.tmpl_shape.specs.computed.Shapes.{both_visits, number_visit, vi
 ghost use Rattle.tmpl_shape.specs.computed.View.{base_of, visit_seen};
 
 use crate::cause::{Cause, Trouble, kind_word};
+use crate::change::join;
 use crate::field::any_field;
 use crate::inclusion::find;
-use crate::join::joined;
 use crate::shape::{Base, Shape, copy_shape};
 use std::alloc::AllocError;
 use tmpl_grammar::Binding;
@@ -40,8 +40,8 @@ fn both_visits(base: &Base<'_>, one: Visit, other: Visit) -> Result<Visit, Alloc
     ensures { IfOk result (λ v. both_visits (base_of base.now) (Some (visit_seen one)) (Some (visit_seen other))
         ≡ Some (visit_seen v)) }
 {
-    let key = joined(base, one.key, other.key)?;
-    let element = joined(base, one.element, other.element)?;
+    let key = join(base, one.key, other.key)?;
+    let element = join(base, one.element, other.element)?;
     Ok(Visit { key, element })
 }
 
@@ -65,7 +65,7 @@ fn visit_by(
             element: Shape::Never,
         }),
         Shape::Numbers => number_visit(binding),
-        Shape::List(items) => Ok(Visit {
+        Shape::List { items, .. } => Ok(Visit {
             key: Shape::Numbers,
             element: copy_shape(base.alloc, items)?,
         }),

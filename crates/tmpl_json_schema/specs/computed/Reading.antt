@@ -1,11 +1,11 @@
 -- The shape that is computed for what stands in a document.
 use Rattle.std.specs.Prelude.{ℕ, zero, suc, Bool, true, false, not, ◌&&◌, ◌||◌, List, [], ◌∷◌, Option, Some, None}
-use Rattle.std.specs.Prelude.{if◌then◌else◌, codes, is_some}
+use Rattle.std.specs.Prelude.{if◌then◌else◌, codes, is_some, unwrap_or}
 use Rattle.std.specs.Option.{option_map, option_map_or, option_and_then}
 use Rattle.std.specs.Str.{bytes_eq}
 use Rattle.serde_json.specs.Data as json
 use Rattle.serde_json.specs.Data.{Data, Items, no_items, Members, no_members, member}
-use Rattle.serde_json.specs.Find.{get}
+use Rattle.serde_json.specs.Find.{as_number, as_u64, get}
 use Rattle.tmpl_shape.specs.Shape.{Shape, never, nothings, nulls, truths, numbers, texts, anything, list_of, record_of}
 use Rattle.tmpl_shape.specs.Shape.{either, named, Fields, no_field, others, field}
 use Rattle.tmpl_json_schema.specs.Document.{fragment_of}
@@ -131,10 +131,10 @@ or_shape s t = if is_never s then t else if is_never t then s else either s t
 abbrev pub or_if : Bool → Shape → Shape → Shape
 or_if c s t = if c then or_shape s t else t
 
-abbrev pub by_kinds : Kinds → Shape → Fields → Shape
-by_kinds ks i fs =
+abbrev pub by_kinds : Kinds → ℕ → Shape → Fields → Shape
+by_kinds ks n i fs =
     or_if ks.null nulls (or_if ks.truth truths (or_if ks.number numbers (or_if ks.text texts
-    (or_if ks.list (list_of i) (or_if ks.map (record_of fs) never)))))
+    (or_if ks.list (list_of n i) (or_if ks.map (record_of fs) never)))))
 
 abbrev pub if_kind : Bool → Shape → Shape
 if_kind c s = if c then s else never
@@ -147,7 +147,7 @@ keep_kinds ks nulls = if_kind ks.null nulls
 keep_kinds ks truths = if_kind ks.truth truths
 keep_kinds ks numbers = if_kind ks.number numbers
 keep_kinds ks texts = if_kind ks.text texts
-keep_kinds ks (list_of s) = if_kind ks.list (list_of s)
+keep_kinds ks (list_of n s) = if_kind ks.list (list_of n s)
 keep_kinds ks (record_of fs) = if_kind ks.map (record_of fs)
 keep_kinds ks (either s t) = or_shape (keep_kinds ks s) (keep_kinds ks t)
 keep_kinds ks s = s
@@ -185,6 +185,13 @@ abbrev pub has_content : Data → Bool
 has_content d =
     is_some (get (codes "properties") d) || (is_some (get (codes "required") d)
     || (is_some (get (codes "additionalProperties") d) || is_some (get (codes "items") d)))
+
+-- how many items a list has at least
+abbrev pub count_of : Data → ℕ
+count_of d = unwrap_or (option_and_then as_u64 (as_number d)) 0
+
+abbrev pub least_in : Data → ℕ
+least_in d = option_map_or count_of (get (codes "minItems") d) 0
 
 -- the first that there is
 abbrev pub or_else : Option Data → Option Data → Option Data
@@ -236,7 +243,7 @@ module _ (read : Data → Option Shape) where
   abbrev pub content_shape : Data → Kinds → Option Shape
   content_shape d ks =
       if is_every_kind ks && not (has_content d) then Some anything
-      else option_and_then (λ i. option_map (by_kinds ks i) (fields_in d)) (shape_under (codes "items") d)
+      else option_and_then (λ i. option_map (by_kinds ks (least_in d) i) (fields_in d)) (shape_under (codes "items") d)
 
   abbrev pub plain_shape : Data → Kinds → Option Shape
   plain_shape d ks = option_map_or (λ c. option_map (keep_kinds ks) (choice_shape c)) (choices_in d) (content_shape d ks)

@@ -1,5 +1,5 @@
 -- The check of a template against a shape, as a function that goes over the tree.
-use Rattle.std.specs.Prelude.{ℕ, zero, suc, ◌+◌, ◌-◌, nat_le, Bool, true, false, not, ◌&&◌, List, [], ◌∷◌, ◌++◌, length, drop}
+use Rattle.std.specs.Prelude.{ℕ, zero, suc, pos, ◌+◌, ◌-◌, nat_le, Bool, true, false, not, ◌&&◌, List, [], ◌∷◌, ◌++◌, length, drop}
 use Rattle.std.specs.Prelude.{Option, Some, None, option_to_list, unwrap_or, if◌then◌else◌}
 use Rattle.std.specs.Option.{option_map, option_map_or, option_and_then}
 use Rattle.std.specs.Str.{bytes_eq}
@@ -17,8 +17,8 @@ use Rattle.tmpl_funcs.specs.declared.func.Func.{Func}
 use Rattle.tmpl_funcs.specs.declared.func.Func.TheVariants.{And, Not, Index, Eq, Ne}
 use Rattle.tmpl_meaning.specs.Pipeline.{operand_count}
 use Rattle.tmpl_shape.specs.declared.kind.Kind.TheVariants.{Blank}
-use Rattle.tmpl_shape.specs.computed.Shapes.{Base, has_kind, within, joined, both, fill, null_gone, refine, chain_shape}
-use Rattle.tmpl_shape.specs.computed.Shapes.{index_shape, Visit, visit_of}
+use Rattle.tmpl_shape.specs.computed.Shapes.{Base, has_kind, within, join, both, fill, null_gone, refine, chain_shape}
+use Rattle.tmpl_shape.specs.computed.Shapes.{Key, of_name, of_text, of_place, index_shape, part_shape, Visit, visit_of}
 use Rattle.tmpl_shape.specs.computed.Calls.{call_shape, shape_by_function}
 use Rattle.tmpl_shape.specs.computed.Formats.{printf_shape}
 
@@ -55,10 +55,29 @@ abbrev pub text_of : Operand → Option (List ℕ)
 text_of (text_constant bytes) = Some bytes
 text_of o = None
 
+-- the number of a constant that counts from 0 on
+abbrev pub count_of : Operand → Option ℕ
+count_of (number_constant (pos n)) = Some n
+count_of o = None
+
+-- the key that a constant is
+abbrev pub key_of : Operand → Option Key
+key_of (text_constant bytes) = Some (of_name bytes)
+key_of (number_constant (pos n)) = Some (of_place n)
+key_of o = None
+
 -- both operands, where there are two
 abbrev pub two_of : Operands → Option (Operand × Operand)
 two_of (operand o (operand p no_operand)) = Some (o, p)
 two_of os = None
+
+-- the bounds of a part that are written out: where it begins, and where it ends if not where the whole does
+abbrev pub bounds_of : Option Shape → Operands → Option (ℕ × Option ℕ)
+bounds_of (Some piped) os = None
+bounds_of None no_operand = Some (0, None)
+bounds_of None (operand o no_operand) = option_map (λ i. (i, None)) (count_of o)
+bounds_of None (operand o (operand p no_operand)) = option_and_then (λ i. option_map (λ j. (i, Some j)) (count_of p)) (count_of o)
+bounds_of None (operand o (operand p (operand q os))) = None
 
 -- the operand is a constant, and not `nil`, or else is `nil`
 abbrev pub tells : Bool → Operand → Bool
@@ -122,30 +141,33 @@ place_of (variable name names) = Some (record { root = Some name; path = names }
 place_of (group p names) = group_place p names
 place_of o = None
 
--- what a value tells that is or is not empty: that each of these operands is neither nothing nor null, or so the `index` of
--- these
+-- what a value tells that is or is not empty: that each of these operands is neither nothing nor null, and has at least as
+-- many items if it is a list; or that the `index` of these is not empty
 pub data Facts : Type 0 where
-  of_operands : Operands → Facts
+  of_operands : ℕ → Operands → Facts
   of_index : Operands → Facts
+
+-- it tells nothing
+abbrev pub no_facts : Facts
+no_facts = of_operands 0 no_operand
 
 -- the first of two, if the second is a constant, or else `nil`
 abbrev pub pair_facts : Bool → Operands → Facts
-pair_facts c os = option_map_or (λ p. if tells c p.1 then of_operands (operand p.0 no_operand) else of_operands no_operand) (two_of os)
-    (of_operands no_operand)
+pair_facts c os = option_map_or (λ p. if tells c p.1 then of_operands 0 (operand p.0 no_operand) else no_facts) (two_of os) no_facts
 
 -- by an operand that is the whole command
 abbrev pub alone_facts : Bool → Operand → Operands → Facts
-alone_facts true o no_operand = of_operands (operand o no_operand)
-alone_facts c o os = of_operands no_operand
+alone_facts true o no_operand = of_operands 1 (operand o no_operand)
+alone_facts c o os = no_facts
 
 -- by a call that gives what is not empty, or else what is
 abbrev pub call_facts : Bool → Func → Operands → Facts
-call_facts true And os = of_operands os
+call_facts true And os = of_operands 1 os
 call_facts true Index os = of_index os
 call_facts false Not (operand o os) = alone_facts true o os
 call_facts c Eq os = pair_facts c os
 call_facts c Ne os = pair_facts (not c) os
-call_facts c f os = of_operands no_operand
+call_facts c f os = no_facts
 
 abbrev pub head_facts : Bool → Head → Operand → Operands → Facts
 head_facts c (calls f) o os = call_facts c f os
@@ -153,11 +175,11 @@ head_facts c h o os = alone_facts c o os
 
 abbrev pub command_facts : Bool → Operands → Facts
 command_facts c (operand o os) = head_facts c (head_of o) o os
-command_facts c no_operand = of_operands no_operand
+command_facts c no_operand = no_facts
 
 abbrev pub facts_of : Bool → Pipeline → Facts
 facts_of c (command os no_command) = command_facts c os
-facts_of c p = of_operands no_operand
+facts_of c p = no_facts
 
 -- dot, and the variables
 pub record State : Type 0 where
@@ -201,11 +223,11 @@ turn_known h v body ks = option_map (last_of (length ks)) (body (Some ks) (in_tu
 module _ (base : Base) where
   -- ---- variables
 
-  -- .. where a chain from a variable is not empty
-  abbrev pub refined_variable : List ℕ → List (List ℕ) → Known → Known
-  refined_variable name ns [] = []
-  refined_variable name ns (k ∷ ks) =
-      if bytes_eq k.0 name then (k.0, refine base ns k.1) ∷ ks else k ∷ refined_variable name ns ks
+  -- .. where a chain from a variable is neither nothing nor null, and has at least as many items if it is a list
+  abbrev pub refine_variable : ℕ → List ℕ → List (List ℕ) → Known → Known
+  refine_variable least name ns [] = []
+  refine_variable least name ns (k ∷ ks) =
+      if bytes_eq k.0 name then (k.0, refine base least ns k.1) ∷ ks else k ∷ refine_variable least name ns ks
 
   -- the same variables, each within the other's shape
   abbrev pub all_within : Known → Known → Bool
@@ -213,25 +235,25 @@ module _ (base : Base) where
   all_within (k ∷ ks) (l ∷ ls) = bytes_eq k.0 l.0 && (within base k.1 l.1 && all_within ks ls)
   all_within ks ls = false
 
-  abbrev pub all_joined : Known → Known → Known
-  all_joined (k ∷ ks) (l ∷ ls) = (k.0, joined base k.1 l.1) ∷ all_joined ks ls
-  all_joined ks ls = []
+  abbrev pub join_all : Known → Known → Known
+  join_all (k ∷ ks) (l ∷ ls) = (k.0, join base k.1 l.1) ∷ join_all ks ls
+  join_all ks ls = []
 
   -- ---- pipelines
 
-  -- what is known where the value of a place is neither nothing nor null
-  abbrev pub narrow_to : Option Place → State → State
-  narrow_to None k = k
-  narrow_to (Some p) k = option_map_or (λ name. record k { env = refined_variable name p.path k.env })
-      p.root (record k { dot = refine base p.path k.dot })
+  -- what is known where the value of a place is neither nothing nor null, and has at least as many items if it is a list
+  abbrev pub narrow_to : ℕ → Option Place → State → State
+  narrow_to least None k = k
+  narrow_to least (Some p) k = option_map_or (λ name. record k { env = refine_variable least name p.path k.env })
+      p.root (record k { dot = refine base least p.path k.dot })
 
-  -- .. where an operand is so, and therefore where it is not empty; and where all these are not empty
-  abbrev pub narrow_by : Operand → State → State
-  narrow_by o k = narrow_to (place_of o) k
+  -- .. where an operand is so, and where all these are
+  abbrev pub narrow_by : ℕ → Operand → State → State
+  narrow_by least o k = narrow_to least (place_of o) k
 
-  abbrev pub narrow_by_all : Operands → State → State
-  narrow_by_all no_operand k = k
-  narrow_by_all (operand o os) k = narrow_by_all os (narrow_by o k)
+  abbrev pub narrow_by_all : ℕ → Operands → State → State
+  narrow_by_all least no_operand k = k
+  narrow_by_all least (operand o os) k = narrow_by_all least os (narrow_by least o k)
 
   -- the values that decide an `or`, or else an `and`, and those that do not
   abbrev pub deciding_shape : Bool → Shape → Shape
@@ -242,15 +264,15 @@ module _ (base : Base) where
 
   -- after an operand that does not decide
   abbrev pub passed : Bool → Operand → State → State
-  passed is_or o k = if is_or then k else narrow_by o k
+  passed is_or o k = if is_or then k else narrow_by 1 o k
 
   -- what `index` gives for a key of this shape, which has to be a text
   abbrev pub entry_by : Shape → Shape → Option Shape
-  entry_by key s = if within base key texts then index_shape base None s else None
+  entry_by key s = if within base key texts then index_shape base of_text s else None
 
-  -- .. for a key that is this text, or has the shape
-  abbrev pub entry_for : Option (List ℕ) → Shape → Shape → Option Shape
-  entry_for (Some name) key s = index_shape base (Some name) s
+  -- .. for a key that is written out, or has the shape
+  abbrev pub entry_for : Option Key → Shape → Shape → Option Shape
+  entry_for (Some k) key s = index_shape base k s
   entry_for None key s = entry_by key s
 
   abbrev mutual
@@ -282,13 +304,19 @@ module _ (base : Base) where
     entry_along m k no_operand None s = Some s
     entry_along m k no_operand (Some key) s = entry_by key s
     entry_along m k (operand o os) piped s =
-        option_and_then (λ key. option_and_then (entry_along m k os piped) (entry_for (text_of o) key s)) (operand_shape m k o)
+        option_and_then (λ key. option_and_then (entry_along m k os piped) (entry_for (key_of o) key s)) (operand_shape m k o)
 
     -- the operands of an `index`, of which the first may not be nothing
     pub indexed_shape : MissingKey → State → Operands → Option Shape → Option Shape
     indexed_shape m k no_operand piped = None
     indexed_shape m k (operand o os) piped =
         option_and_then (λ s. if has_kind base Blank s then None else entry_along m k os piped s) (operand_shape m k o)
+
+    -- the operands of a `slice`, whose bounds are written out
+    pub sliced_shape : MissingKey → State → Operands → Option Shape → Option Shape
+    sliced_shape m k no_operand piped = None
+    sliced_shape m k (operand o os) piped =
+        option_and_then (λ s. option_and_then (λ b. part_shape base b.0 b.1 s) (bounds_of piped os)) (operand_shape m k o)
 
     -- the operands of a `printf`, whose format is written out
     pub printed_shape : MissingKey → State → Operands → Option Shape → Option Shape
@@ -302,7 +330,7 @@ module _ (base : Base) where
         if takes f (operand_count os + length (option_to_list piped)) then
         shape_by_function f (option_and_then (λ ss. call_shape base f (ss ++ option_to_list piped)) (operand_shapes m k os))
         (junction_shape false m k nothings os piped) (junction_shape true m k nothings os piped)
-        (indexed_shape m k os piped) (printed_shape m k os piped) else None
+        (indexed_shape m k os piped) (sliced_shape m k os piped) (printed_shape m k os piped) else None
     command_shape m k (operand nil os) piped = None
     command_shape m k (operand o os) piped = alone (operand_shape m k o) piped os
     command_shape m k no_operand piped = None
@@ -317,8 +345,8 @@ module _ (base : Base) where
   pipeline_shape m k p = commands_shape m k p None
 
   abbrev pub narrow_as : Facts → State → State
-  narrow_as (of_operands os) k = narrow_by_all os k
-  narrow_as (of_index os) k = narrow_to (index_place os) k
+  narrow_as (of_operands least os) k = narrow_by_all least os k
+  narrow_as (of_index os) k = narrow_to 1 (index_place os) k
 
   -- what is known where the value of a pipeline is not empty, or else where it is
   abbrev pub narrow : Bool → Pipeline → State → State
@@ -333,30 +361,30 @@ module _ (base : Base) where
   -- the variables that were there before, after two parts
   abbrev pub after_both : ℕ → Known → Known → Option Known
   after_both n ks ls =
-      let u = last_of n ks in let w = last_of n ls in let j = all_joined u w in
+      let u = last_of n ks in let w = last_of n ls in let j = join_all u w in
       option_and_then (λ j. if_within w j) (if_within u j)
 
   -- the variables at the head of a range, if a turn keeps these; else those that are found from what a turn adds
-  abbrev pub settled_step : (Known → Option Known) → (Known → Option Known) → Known → Option Known
-  settled_step more turn ks =
-      option_and_then (λ end. if all_within end ks then Some ks else more (all_joined ks end)) (turn ks)
+  abbrev pub settle_step : (Known → Option Known) → (Known → Option Known) → Known → Option Known
+  settle_step more turn ks =
+      option_and_then (λ end. if all_within end ks then Some ks else more (join_all ks end)) (turn ks)
 
   -- .. looked for in as many rounds as this
   abbrev pub settle_known : ℕ → (Known → Option Known) → Known → Option Known
   settle_known zero turn ks = None
-  settle_known (suc n) turn ks = settled_step (settle_known n turn) turn ks
+  settle_known (suc n) turn ks = settle_step (settle_known n turn) turn ks
 
-  unfoldable pub settled_soon : (Known → Option Known) → Known → Option Known
-  settled_soon turn ks = settle_known 12 turn ks
+  unfoldable pub settle_soon : (Known → Option Known) → Known → Option Known
+  settle_soon turn ks = settle_known 12 turn ks
 
   -- .. from these before it
-  abbrev pub kept_by : (Known → Option Known) → Known → Option Known
-  kept_by turn ks = option_and_then (if_within ks) (settled_soon turn ks)
+  abbrev pub settle_head : (Known → Option Known) → Known → Option Known
+  settle_head turn ks = option_and_then (if_within ks) (settle_soon turn ks)
 
   -- at a break or continue the variables are within those at the head of the range
-  abbrev pub left_with : Known → Option Known → Option Known
-  left_with ks None = None
-  left_with ks (Some head) = option_map (λ u. ks) (if_within (last_of (length head) ks) head)
+  abbrev pub leave_with : Known → Option Known → Option Known
+  leave_with ks None = None
+  leave_with ks (Some head) = option_map (λ u. ks) (if_within (last_of (length head) ks) head)
 
   -- where an `if` or a `with` goes on with its body, and with its other part
   abbrev pub in_body : Control → Header → State → Shape → State
@@ -373,7 +401,7 @@ module _ (base : Base) where
 
   abbrev pub after_range : Header → State → (Option Known → Checked) → Checked → Visit → Option Known
   after_range h k body other v =
-      option_and_then (λ head. option_and_then (after_both (length k.env) head) (other k)) (kept_by (turn_known h v body) k.env)
+      option_and_then (λ head. option_and_then (after_both (length k.env) head) (other k)) (settle_head (turn_known h v body) k.env)
 
   abbrev pub after_control :
       Control → Option Known → Header → State → (Option Known → Checked) → Checked → Shape → Option Known
@@ -396,8 +424,8 @@ module _ (base : Base) where
         if holds_loop loop k.env then option_and_then
         (after_control c loop h k (λ l u. after_nodes m table l u body) (λ u. after_nodes m table loop u other))
         (pipeline_shape m k h.pipeline) else None
-    after_node m table loop k break_node = left_with k.env loop
-    after_node m table loop k continue_node = left_with k.env loop
+    after_node m table loop k break_node = leave_with k.env loop
+    after_node m table loop k continue_node = leave_with k.env loop
     after_node m table loop k (template_node name given) =
         option_and_then (λ c. after_call c k.env (option_map_or (pipeline_shape m k) given (Some nothings))) (table name)
 

@@ -64,7 +64,7 @@ abbrev pub place_seen : held_place.Place → Place
 place_seen p = record { root = option_map (λ name. name.now) p.root; path = p.path.now }
 
 abbrev pub facts_seen : held_facts.Facts → Facts
-facts_seen (fact.Operands os) = of_operands (operands_in os.now)
+facts_seen (fact.Operands n os) = of_operands n (operands_in os.now)
 facts_seen (fact.Index os) = of_index (operands_in os.now)
 
 -- of a call's arguments, of which a piped one is the last, the kinds of which they may be
@@ -91,8 +91,8 @@ abbrev pub after_action : computed.Base → MissingKey → State → Header → 
 after_action base m k h = option_map (λ s. bound_shapes h.binding spec.nothings s k.env) (pipeline_shape base m k h.pipeline)
 
 -- after a turn of a range with this body
-abbrev pub turned_by : computed.Base → MissingKey → Table → Header → computed.Visit → Nodes → Known → Option Known
-turned_by base m table h v body = turn_known h v (λ l u. after_nodes base m table l u body)
+abbrev pub turn_by : computed.Base → MissingKey → Table → Header → computed.Visit → Nodes → Known → Option Known
+turn_by base m table h v body = turn_known h v (λ l u. after_nodes base m table l u body)
 
 -- after an `if` or a `with`, and after a range that visits these, by their nodes
 abbrev pub after_choice_by :

@@ -1,7 +1,7 @@
 -- The shapes of calls: a row for each function, by the kinds of which its arguments may be.
 use Rattle.std.specs.Prelude.{Bool, true, false, not, ◌&&◌, ◌||◌, List, [], ◌∷◌, map, Option, Some, None, if◌then◌else◌}
 use Rattle.tmpl_funcs.specs.declared.func.Func.{Func}
-use Rattle.tmpl_funcs.specs.declared.func.Func.TheVariants.{And, Or, Not, Len, Index, Print, Println, Printf}
+use Rattle.tmpl_funcs.specs.declared.func.Func.TheVariants.{And, Or, Not, Len, Index, Slice, Print, Println, Printf}
 use Rattle.tmpl_funcs.specs.declared.func.Func.TheVariants.{Html, Urlquery, Eq, Ne, Lt, Le, Gt, Ge}
 use Rattle.tmpl_shape.specs.declared.kind.Kind.{Kind}
 use Rattle.tmpl_shape.specs.declared.kind.Kind.TheVariants.{Blank, Truth, Number, Text, Many}
@@ -44,8 +44,8 @@ abbrev pub only_texts : Kinds → Bool
 only_texts ks = not (ks.blank || (ks.truth || (ks.number || ks.many)))
 
 -- each two values can be ordered
-abbrev pub ordered : Kinds → Kinds → Bool
-ordered a b = (only_numbers a && only_numbers b) || (only_texts a && only_texts b)
+abbrev pub orderable : Kinds → Kinds → Bool
+orderable a b = (only_numbers a && only_numbers b) || (only_texts a && only_texts b)
 
 -- texts, lists and maps
 abbrev pub is_sized : Kinds → Bool
@@ -70,9 +70,9 @@ equal_shape (a ∷ b ∷ bs) = truths_if (comparable_to_all a (b ∷ bs))
 equal_shape ks = None
 
 abbrev pub ordered_shape : List Kinds → Option Shape
-ordered_shape ks = two_kinds (λ a b. truths_if (ordered a b)) ks
+ordered_shape ks = two_kinds (λ a b. truths_if (orderable a b)) ks
 
--- what a call gives, if it never is a fault; `slice` is not looked at, and `index` and `printf` elsewhere
+-- what a call gives, if it never is a fault; `index`, `slice` and `printf` are looked at elsewhere
 abbrev pub kinds_shape : Func → List Kinds → Option Shape
 kinds_shape Not ks = one_kind (λ a. Some truths) ks
 kinds_shape Len ks = one_kind (λ a. numbers_if (is_sized a)) ks
@@ -92,11 +92,12 @@ kinds_shape f ks = None
 abbrev pub call_shape : Base → Func → List Shape → Option Shape
 call_shape base f ss = kinds_shape f (map (kinds_of base) ss)
 
--- of the five, the one that a function is
+-- of the six, the one that a function is
 abbrev pub shape_by_function :
-    Func → Option Shape → Option Shape → Option Shape → Option Shape → Option Shape → Option Shape
-shape_by_function And all every some index printed = every
-shape_by_function Or all every some index printed = some
-shape_by_function Index all every some index printed = index
-shape_by_function Printf all every some index printed = printed
-shape_by_function f all every some index printed = all
+    Func → Option Shape → Option Shape → Option Shape → Option Shape → Option Shape → Option Shape → Option Shape
+shape_by_function And all every some index part printed = every
+shape_by_function Or all every some index part printed = some
+shape_by_function Index all every some index part printed = index
+shape_by_function Slice all every some index part printed = part
+shape_by_function Printf all every some index part printed = printed
+shape_by_function f all every some index part printed = all

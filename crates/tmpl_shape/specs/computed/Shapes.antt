@@ -1,6 +1,6 @@
 -- What is computed with shapes: whether one is within another, what they become where a value is not empty, and the
 -- shapes of fields and elements.
-use Rattle.std.specs.Prelude.{ℕ, zero, suc, Bool, true, false, not, ◌&&◌, ◌||◌, List, [], ◌∷◌, Option, Some, None}
+use Rattle.std.specs.Prelude.{ℕ, zero, suc, ◌-◌, max, nat_le, nat_lt, Bool, true, false, not, ◌&&◌, ◌||◌, List, [], ◌∷◌, Option, Some, None}
 use Rattle.std.specs.Prelude.{if◌then◌else◌}
 use Rattle.std.specs.Option.{option_map, option_map_or, option_and_then}
 use Rattle.std.specs.Str.{bytes_eq}
@@ -100,7 +100,7 @@ is_of_kind Blank nulls = true
 is_of_kind Truth truths = true
 is_of_kind Number numbers = true
 is_of_kind Text texts = true
-is_of_kind Many (list_of s) = true
+is_of_kind Many (list_of n s) = true
 is_of_kind Many (record_of fs) = true
 is_of_kind k s = false
 
@@ -111,9 +111,30 @@ plain_within w nulls nulls = true
 plain_within w truths truths = true
 plain_within w numbers numbers = true
 plain_within w texts texts = true
-plain_within w (list_of s) (list_of t) = w s t
+plain_within w (list_of n s) (list_of m t) = nat_le m n && w s t
 plain_within w (record_of fs) (record_of gs) = fields_along w fs gs
 plain_within w s t = false
+
+-- what is known of an index: it is this text, or a text, or this number
+pub data Key : Type 0 where
+  of_name : List ℕ → Key
+  of_text : Key
+  of_place : ℕ → Key
+
+-- an item of a list of at least n of them, for an index at which there always is one
+abbrev pub item_shape : Key → ℕ → Shape → Option Shape
+item_shape (of_place i) n s = if nat_lt i n then Some s else None
+item_shape key n s = None
+
+-- the part of such a list between two bounds, or from one on, where there always is one
+abbrev pub list_part : ℕ → Option ℕ → ℕ → Shape → Option Shape
+list_part i None n s = if nat_le i n then Some (list_of (n - i) s) else None
+list_part i (Some j) n s = if nat_le i j && nat_le j n then Some (list_of (j - i) s) else None
+
+-- .. of a text: it as a whole
+abbrev pub text_part : ℕ → Option ℕ → Option Shape
+text_part zero None = Some texts
+text_part i to = None
 
 -- what stands for a field that is absent, if that is no fault
 abbrev pub absent_shape : MissingKey → Option Shape
@@ -151,12 +172,12 @@ module _ (base : Base) where
 
   -- ---- alternatives
 
-  unfoldable pub joined : Shape → Shape → Shape
-  joined s t = if within s t then t else if within t s then s else either s t
+  unfoldable pub join : Shape → Shape → Shape
+  join s t = if within s t then t else if within t s then s else either s t
 
   -- two parts where there are both
   abbrev pub both : Option Shape → Option Shape → Option Shape
-  both (Some s) (Some t) = Some (joined s t)
+  both (Some s) (Some t) = Some (join s t)
   both s t = None
 
   -- it may have values of the kind, by whether what is in it may
@@ -187,7 +208,7 @@ module _ (base : Base) where
   -- of what a command gives: null is nothing
   abbrev pub gone_step : (Shape → Shape) → Shape → Shape
   gone_step f nulls = nothings
-  gone_step f (either s t) = joined (f s) (f t)
+  gone_step f (either s t) = join (f s) (f t)
   gone_step f (named x) =
       if has_kind Blank (named x) then option_map_or f (base.defs x) (either (named x) nothings) else named x
   gone_step f s = s
@@ -200,30 +221,32 @@ module _ (base : Base) where
   null_gone s = null_gone_by base.limit s
 
   -- of the maps of which the field of this name becomes such
-  abbrev pub refined_record : (List (List ℕ) → Shape → Shape) → List (List ℕ) → Fields → Shape
-  refined_record f [] fs = record_of fs
-  refined_record f (name ∷ ns) fs =
+  abbrev pub refine_record : (List (List ℕ) → Shape → Shape) → List (List ℕ) → Fields → Shape
+  refine_record f [] fs = record_of fs
+  refine_record f (name ∷ ns) fs =
       option_map_or (λ s. record_of (with_field name (f ns s) fs)) (shape_at name fs) (record_of fs)
 
-  -- of the values of which the field of the field of .. is there and not empty
-  abbrev pub refined_step : (List (List ℕ) → Shape → Shape) → List (List ℕ) → Shape → Shape
-  refined_step f ns nothings = never
-  refined_step f ns nulls = never
-  refined_step f ns (either s t) = joined (f ns s) (f ns t)
-  refined_step f ns (named x) = option_map_or (f ns) (base.defs x) (named x)
-  refined_step f ns (record_of fs) = refined_record f ns fs
-  refined_step f ns s = s
+  -- of the values of which the field of the field of .. is neither nothing nor null, and has at least as many items if it
+  -- is a list
+  abbrev pub refine_step : ℕ → (List (List ℕ) → Shape → Shape) → List (List ℕ) → Shape → Shape
+  refine_step least f ns nothings = never
+  refine_step least f ns nulls = never
+  refine_step least f ns (list_of n s) = list_of (max n least) s
+  refine_step least f ns (either s t) = join (f ns s) (f ns t)
+  refine_step least f ns (named x) = option_map_or (f ns) (base.defs x) (named x)
+  refine_step least f ns (record_of fs) = refine_record f ns fs
+  refine_step least f ns s = s
 
-  abbrev pub refined_by : ℕ → List (List ℕ) → Shape → Shape
-  refined_by zero ns s = s
-  refined_by (suc n) ns s = refined_step (refined_by n) ns s
+  abbrev pub refine_by : ℕ → ℕ → List (List ℕ) → Shape → Shape
+  refine_by least zero ns s = s
+  refine_by least (suc n) ns s = refine_step least (refine_by least n) ns s
 
-  abbrev pub refine : List (List ℕ) → Shape → Shape
-  refine ns s = refined_by base.limit ns s
+  abbrev pub refine : ℕ → List (List ℕ) → Shape → Shape
+  refine least ns s = refine_by least base.limit ns s
 
   -- of the values that are not empty
   abbrev pub fill : Shape → Shape
-  fill s = refine [] s
+  fill s = refine 1 [] s
 
   -- ---- fields
 
@@ -260,31 +283,50 @@ module _ (base : Base) where
   abbrev pub any_field : Fields → Shape
   any_field no_field = never
   any_field (others s) = s
-  any_field (field n required s fs) = joined s (any_field fs)
+  any_field (field n required s fs) = join s (any_field fs)
 
-  -- what `index` gives for a key that is known, or for any, if it gives something of each value: the entry, or null
-  abbrev pub keyed_shape : Option (List ℕ) → Fields → Option Shape
-  keyed_shape (Some name) fs = entry_shape Zero name fs
-  keyed_shape None fs = Some (joined (any_field fs) nulls)
+  -- an entry, or null
+  abbrev pub keyed_shape : Key → Fields → Option Shape
+  keyed_shape (of_name name) fs = entry_shape Zero name fs
+  keyed_shape of_text fs = Some (join (any_field fs) nulls)
+  keyed_shape (of_place i) fs = None
 
-  abbrev pub index_step : (Shape → Option Shape) → Option (List ℕ) → Shape → Option Shape
+  -- what `index` gives, if it gives something of each value
+  abbrev pub index_step : (Shape → Option Shape) → Key → Shape → Option Shape
   index_step f key never = Some never
+  index_step f key (list_of n s) = item_shape key n s
   index_step f key (record_of fs) = keyed_shape key fs
   index_step f key (either s t) = both (f s) (f t)
   index_step f key (named x) = option_and_then f (base.defs x)
   index_step f key s = None
 
-  abbrev pub index_shape_by : ℕ → Option (List ℕ) → Shape → Option Shape
+  abbrev pub index_shape_by : ℕ → Key → Shape → Option Shape
   index_shape_by zero key s = None
   index_shape_by (suc n) key s = index_step (index_shape_by n key) key s
 
-  abbrev pub index_shape : Option (List ℕ) → Shape → Option Shape
+  abbrev pub index_shape : Key → Shape → Option Shape
   index_shape key s = index_shape_by base.limit key s
+
+  -- what `slice` gives, if it gives something of each value
+  abbrev pub part_step : (Shape → Option Shape) → ℕ → Option ℕ → Shape → Option Shape
+  part_step f i to never = Some never
+  part_step f i to texts = text_part i to
+  part_step f i to (list_of n s) = list_part i to n s
+  part_step f i to (either s t) = both (f s) (f t)
+  part_step f i to (named x) = option_and_then f (base.defs x)
+  part_step f i to s = None
+
+  abbrev pub part_shape_by : ℕ → ℕ → Option ℕ → Shape → Option Shape
+  part_shape_by zero i to s = None
+  part_shape_by (suc n) i to s = part_step (part_shape_by n i to) i to s
+
+  abbrev pub part_shape : ℕ → Option ℕ → Shape → Option Shape
+  part_shape i to s = part_shape_by base.limit i to s
 
   -- ---- elements
 
   abbrev pub both_visits : Option Visit → Option Visit → Option Visit
-  both_visits (Some v) (Some w) = visit (joined v.key w.key) (joined v.element w.element)
+  both_visits (Some v) (Some w) = visit (join v.key w.key) (join v.element w.element)
   both_visits v w = None
 
   -- .. that a range visits, if it may range over each value of the shape
@@ -293,7 +335,7 @@ module _ (base : Base) where
   visit_step f c nothings = visit never never
   visit_step f c nulls = visit never never
   visit_step f c numbers = number_visit c
-  visit_step f c (list_of s) = visit numbers s
+  visit_step f c (list_of n s) = visit numbers s
   visit_step f c (record_of fs) = visit texts (any_field fs)
   visit_step f c (either s t) = both_visits (f s) (f t)
   visit_step f c (named x) = option_and_then f (base.defs x)

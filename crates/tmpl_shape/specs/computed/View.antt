@@ -5,7 +5,9 @@ use Rattle.std.specs.Borrow.{Bor}
 use Rattle.tmpl_shape.specs.Shape as spec
 use Rattle.tmpl_shape.specs.View.{defs_in, shape_of}
 use Rattle.tmpl_shape.specs.computed.Shapes as computed
-use Rattle.tmpl_shape.specs.computed.Shapes.{has_name, if_more, within_by}
+use Rattle.tmpl_shape.specs.computed.Shapes.{Key, of_name, of_text, of_place, has_name, if_more, within_by}
+use Rattle.tmpl_shape.specs.declared.field.Key as held_key
+use Rattle.tmpl_shape.specs.declared.field.Key.TheVariants as key
 use Rattle.tmpl_shape.specs.declared.shape.Base as held_base
 use Rattle.tmpl_shape.specs.declared.shape.Shape as held
 use Rattle.tmpl_shape.specs.declared.visit.Visit as held_visit
@@ -15,6 +17,11 @@ base_of base = record { defs = defs_in base.definitions.now; names = base.names;
 
 abbrev pub shape_seen : Option (Bor held.Shape) → Option spec.Shape
 shape_seen shape = option_map (λ s. shape_of s.now) shape
+
+abbrev pub key_seen : held_key.Key → Key
+key_seen (key.Name name) = of_name name.now
+key_seen key.Text = of_text
+key_seen (key.Place i) = of_place i
 
 abbrev pub visit_seen : held_visit.Visit → computed.Visit
 visit_seen v = record { key = shape_of v.key; element = shape_of v.element }

@@ -5,20 +5,20 @@ use Rattle.tmpl_syntax.specs.Tree.{control_node}
 use Rattle.tmpl_syntax.specs.View.{control_of, nodes_in}
 use Rattle.tmpl_syntax.specs.declared.tree.ControlNode.{out-ControlNode}
 use Rattle.tmpl_shape.specs.View.{shape_of}
-use Rattle.tmpl_schema.specs.computed.Check.{Known, State, after_nodes, holds_loop, pipeline_shape, settle_known, settled_soon}
+use Rattle.tmpl_schema.specs.computed.Check.{Known, State, after_nodes, holds_loop, pipeline_shape, settle_known, settle_soon}
 use Rattle.tmpl_shape.specs.computed.View.{base_of, visit_seen}
-use Rattle.tmpl_schema.specs.computed.View.{known_of, known_seen, state_of, table_of, turned_by}
+use Rattle.tmpl_schema.specs.computed.View.{known_of, known_seen, state_of, table_of, turn_by}
 use Rattle.tmpl_schema.proofs.ControlLemmas.{control_seen, range-control, range-is}
 use Rattle.tmpl_schema.proofs.StepLemmas.{soon-settle_known}
 use Rattle.tmpl_schema.proofs.node.+node.Goals as goal
 
-pub settled_soon-returns : goal.settled_soon-returns
-settled_soon-returns t c =
+pub settle_soon-returns : goal.settle_soon-returns
+settle_soon-returns t c =
     let base = base_of c.args.checker.now.base in
-    let turn = turned_by base c.args.checker.now.mode (table_of c.args.checker.now.table.now) (header_of c.args.header.now) (visit_seen c.args.visit.now) (nodes_in c.args.body.now) in
-    let same : settled_soon base turn (known_of c.args.known.now) ≡ settle_known base 12 turn (known_of c.in_ok-start.start) =
+    let turn = turn_by base c.args.checker.now.mode (table_of c.args.checker.now.table.now) (header_of c.args.header.now) (visit_seen c.args.visit.now) (nodes_in c.args.body.now) in
+    let same : settle_soon base turn (known_of c.args.known.now) ≡ settle_known base 12 turn (known_of c.in_ok-start.start) =
     soon-settle_known base turn (known_of c.args.known.now) ∙ ap (settle_known base 12 turn) (sym c.in_ok-start.ensures) in
-    subst (λ (o : Option Known). IfOk c.settled.result (λ ks. o ≡ Some (known_of ks))) (sym same) c.settled.ensures
+    subst (λ (o : Option Known). IfOk c.settle.result (λ ks. o ≡ Some (known_of ks))) (sym same) c.settle.ensures
 
 pub after_range-returns : goal.after_range-returns
 after_range-returns t c =
@@ -32,7 +32,7 @@ after_range-returns t c =
     let h = header_of c.args.parts.now.header.now in
     let two : after_nodes base m table loop k other ≡ Some (known_of c.in_ok-other.other) =
     subst (λ (i : State). after_nodes base m table loop i other ≡ Some (known_of c.in_ok-other.other)) c.in_ok-outside.ensures c.in_ok-other.ensures in
-    range-is base m table loop h k body other (visit_seen c.args.visit.now) (known_of c.in_ok-kept.kept) (known_of c.in_ok-other.other) c.in_ok-kept.ensures two
+    range-is base m table loop h k body other (visit_seen c.args.visit.now) (known_of c.in_ok-settled_head.settled_head) (known_of c.in_ok-other.other) c.in_ok-settled_head.ensures two
     ∙ c.in_ok-after_both.ensures
 
 pub after_control-returns : goal.after_control-returns

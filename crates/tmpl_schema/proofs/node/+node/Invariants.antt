@@ -21,17 +21,17 @@ decreases-after_choice l = 60 * (nodes_weight (nodes_in l.parts.now.body.now) + 
 abbrev pub decreases-after_range : goal.decreases-after_range
 decreases-after_range l = 60 * (nodes_weight (nodes_in l.parts.now.body.now) + nodes_weight (nodes_in l.parts.now.other.now)) + 30
 
-abbrev pub decreases-kept : goal.decreases-kept
-decreases-kept l = 60 * nodes_weight (nodes_in l.body.now) + 20
+abbrev pub decreases-settle_head : goal.decreases-settle_head
+decreases-settle_head l = 60 * nodes_weight (nodes_in l.body.now) + 20
 
-abbrev pub decreases-settled_soon : goal.decreases-settled_soon
-decreases-settled_soon l = 60 * nodes_weight (nodes_in l.body.now) + 19
+abbrev pub decreases-settle_soon : goal.decreases-settle_soon
+decreases-settle_soon l = 60 * nodes_weight (nodes_in l.body.now) + 19
 
-abbrev pub decreases-settled : goal.decreases-settled
-decreases-settled l = 60 * nodes_weight (nodes_in l.body.now) + (l.rounds + 5)
+abbrev pub decreases-settle : goal.decreases-settle
+decreases-settle l = 60 * nodes_weight (nodes_in l.body.now) + (l.rounds + 5)
 
-abbrev pub decreases-turned : goal.decreases-turned
-decreases-turned l = 60 * nodes_weight (nodes_in l.body.now) + 4
+abbrev pub decreases-turn : goal.decreases-turn
+decreases-turn l = 60 * nodes_weight (nodes_in l.body.now) + 4
 
 abbrev pub invariant-after_nodes-loop-node : goal.invariant-after_nodes-loop-node
 invariant-after_nodes-loop-node l =

@@ -38,3 +38,6 @@ decreases-entry_along l = 8 * weights (operands_in l.keys.now) + 1
 
 abbrev pub decreases-printed_shape : goal.decreases-printed_shape
 decreases-printed_shape l = 8 * weights (operands_in l.operands.now) + 2
+
+abbrev pub decreases-sliced_shape : goal.decreases-sliced_shape
+decreases-sliced_shape l = 8 * weights (operands_in l.operands.now) + 2

@@ -3,20 +3,20 @@
 
 ghost use Rattle.std.specs.Prelude.{◌≡◌, IfOk};
 ghost use Rattle.tmpl_shape.specs.View.{fields_of, shape_of};
-ghost use Rattle.tmpl_shape.specs.computed.Shapes.{fill, joined, null_gone, null_gone_by, refine, refined_by};
-ghost use Rattle.tmpl_shape.specs.computed.Shapes.{refined_record, with_field};
+ghost use Rattle.tmpl_shape.specs.computed.Shapes.{fill, join, null_gone, null_gone_by, refine, refine_by};
+ghost use Rattle.tmpl_shape.specs.computed.Shapes.{refine_record, with_field};
 ghost use Rattle.tmpl_shape.specs.computed.View.{base_of};
 
 use crate::inclusion::{find, shape_at, within};
 use crate::kind::{Kind, has_kind};
-use crate::shape::{Base, Fields, Shape, copy_fields, copy_shape, either, put_field};
+use crate::shape::{Base, Fields, Shape, copy_fields, copy_shape, either, list_of, put_field};
 use std::alloc::{AllocError, Global};
 use tmpl_values::Bytes;
 
 /// The values of both.
-#[tactic(auto, unfolding(crate::specs::computed::Shapes::joined))]
-pub fn joined(base: &Base<'_>, one: Shape, other: Shape) -> Result<Shape, AllocError>
-    ensures { IfOk result (λ s. shape_of s ≡ joined (base_of base.now) (shape_of one) (shape_of other)) }
+#[tactic(auto, unfolding(crate::specs::computed::Shapes::join))]
+pub fn join(base: &Base<'_>, one: Shape, other: Shape) -> Result<Shape, AllocError>
+    ensures { IfOk result (λ s. shape_of s ≡ join (base_of base.now) (shape_of one) (shape_of other)) }
 {
     if within(base, &one, &other) {
         return Ok(other);
@@ -38,7 +38,7 @@ fn null_gone_by(base: &Base<'_>, steps: usize, shape: &Shape) -> Result<Shape, A
     match shape {
         Shape::Nulls => Ok(Shape::Nothings),
         Shape::Either(one, other) => {
-            joined(
+            join(
                 base,
                 null_gone_by(base, fewer, one)?,
                 null_gone_by(base, fewer, other)?,
@@ -94,15 +94,17 @@ fn with_field(
     }
 }
 
-/// Of the values of which the field of the field of .. is there and not empty.
-#[cycle(refined)]
-fn refined_by(
+/// Of the values of which the field of the field of .. is neither nothing nor null, and has at least as many items if it
+/// is a list.
+#[cycle(refine)]
+fn refine_by(
     base: &Base<'_>,
+    least: u64,
     steps: usize,
     names: &[Bytes],
     shape: &Shape,
 ) -> Result<Shape, AllocError>
-    ensures { IfOk result (λ s. shape_of s ≡ refined_by (base_of base.now) steps names.now (shape_of shape.now)) }
+    ensures { IfOk result (λ s. shape_of s ≡ refine_by (base_of base.now) least steps names.now (shape_of shape.now)) }
 {
     if steps == 0 {
         return copy_shape(base.alloc, shape);
@@ -110,38 +112,46 @@ fn refined_by(
     let fewer = steps - 1;
     match shape {
         Shape::Nothings | Shape::Nulls => Ok(Shape::Never),
+        Shape::List {
+            least: known,
+            items,
+        } => {
+            let items = copy_shape(base.alloc, items)?;
+            list_of(base.alloc, (*known).max(least), items)
+        }
         Shape::Either(one, other) => {
-            joined(
+            join(
                 base,
-                refined_by(base, fewer, names, one)?,
-                refined_by(base, fewer, names, other)?,
+                refine_by(base, least, fewer, names, one)?,
+                refine_by(base, least, fewer, names, other)?,
             )
         }
         Shape::Named(name) => match find(base.definitions, name.as_slice()) {
-            Some(defined) => refined_by(base, fewer, names, defined),
+            Some(defined) => refine_by(base, least, fewer, names, defined),
             None => copy_shape(base.alloc, shape),
         },
-        Shape::Record(fields) => refined_record(base, fewer, names, fields),
+        Shape::Record(fields) => refine_record(base, least, fewer, names, fields),
         _ => copy_shape(base.alloc, shape),
     }
 }
 
 /// Of maps of these fields.
-#[cycle(refined)]
-fn refined_record(
+#[cycle(refine)]
+fn refine_record(
     base: &Base<'_>,
+    least: u64,
     steps: usize,
     names: &[Bytes],
     fields: &Fields,
 ) -> Result<Shape, AllocError>
     ensures { IfOk result (λ s. shape_of s
-        ≡ refined_record (base_of base.now) (refined_by (base_of base.now) steps) names.now (fields_of fields.now)) }
+        ≡ refine_record (base_of base.now) (refine_by (base_of base.now) least steps) names.now (fields_of fields.now)) }
 {
     match names {
         [] => Ok(Shape::Record(copy_fields(base.alloc, fields)?)),
         [first, rest @ ..] => match shape_at(first.as_slice(), fields) {
             Some(shape) => {
-                let shape = refined_by(base, steps, rest, shape)?;
+                let shape = refine_by(base, least, steps, rest, shape)?;
                 Ok(Shape::Record(with_field(base.alloc, first.as_slice(), shape, fields)?))
             }
             None => Ok(Shape::Record(copy_fields(base.alloc, fields)?)),
@@ -149,16 +159,22 @@ fn refined_record(
     }
 }
 
-/// Of the values of which the field of the field of .. is there and not empty, as far as is looked.
-pub fn refined(base: &Base<'_>, names: &[Bytes], shape: &Shape) -> Result<Shape, AllocError>
-    ensures { IfOk result (λ s. shape_of s ≡ refine (base_of base.now) names.now (shape_of shape.now)) }
+/// Of the values of which the field of the field of .. is neither nothing nor null, and has at least as many items if it
+/// is a list, as far as is looked.
+pub fn refine(
+    base: &Base<'_>,
+    least: u64,
+    names: &[Bytes],
+    shape: &Shape,
+) -> Result<Shape, AllocError>
+    ensures { IfOk result (λ s. shape_of s ≡ refine (base_of base.now) least names.now (shape_of shape.now)) }
 {
-    refined_by(base, base.limit, names, shape)
+    refine_by(base, least, base.limit, names, shape)
 }
 
 /// Of the values that are not empty.
-pub fn filled(base: &Base<'_>, shape: &Shape) -> Result<Shape, AllocError>
+pub fn fill(base: &Base<'_>, shape: &Shape) -> Result<Shape, AllocError>
     ensures { IfOk result (λ s. shape_of s ≡ fill (base_of base.now) (shape_of shape.now)) }
 {
-    refined(base, &[], shape)
+    refine(base, 1, &[], shape)
 }
