@@ -4,8 +4,8 @@ done on a copy of the repository, where they take the place of those of must-fai
     edits.py [NAME..]     tries the edits of these crates, or of all whose source, definitions or edits have changed since they were all
                           refused; RT_JOBS=N takes N crates side by side, else one
     edits.py --apply      only looks whether each edit of edits/ and of must-fail/ still applies to its file, and, where the crate has
-                          changed since, has the compiler's front end read each of edits/ over the libraries that `rt ci` left, so that
-                          one which no longer compiles is found
+                          changed since, has the compiler's front end read those of edits/ over the libraries that `rt ci` left, so that
+                          one which no longer compiles is found; those that change different functions are read together
 
 When all edits of a crate were refused, or read and found to compile, a checksum of its source and of its edits is written to
 tests/gate/edits.seen; when all were refused, one of its source, definitions and edits to tests/gate/edits.refused, with the day."""
@@ -118,25 +118,72 @@ def record(path, names, folders, *more):
         it.writelines(" ".join((name, *told[name])) + "\n" for name in sorted(told))
 
 
-def compiles(crate, edit):
-    """What the compiler's front end says against a crate with this edit; nothing where it takes it."""
-    with open(f"{crate}/must-fail/{edit}", encoding="utf-8") as it:
-        lines = it.read().splitlines()
-    path = f"{crate}/{lines[0].partition(': ')[2]}"
+def changes_of(crate, edit):
+    """What an edit changes: each time a file, a text there, and the other."""
+    file, old, changes = "", "", []
+    for line in read_file(f"{crate}/must-fail/{edit}").splitlines():
+        word, _, rest = line.partition(": ")
+        if word == "file":
+            file = rest
+        elif word == "old":
+            old = rest
+        elif word.startswith("new"):
+            changes.append((file, old, rest))
+    return changes
+
+
+def read_file(path):
     with open(path, encoding="utf-8") as it:
-        before = text = it.read()
-    olds = [line[len("old: ") :] for line in lines[1:] if line.startswith("old: ")]
-    news = [line[len("new: ") :] for line in lines[1:] if line.startswith("new: ")]
-    for old, new in zip(olds, news):
-        text = text.replace(old, new, 1)
+        return it.read()
+
+
+def write_file(path, text):
     with open(path, "w", encoding="utf-8") as it:
         it.write(text)
+
+
+def places_of(crate, edit):
+    """The functions that an edit changes, each by its file and by how many stand before it there."""
+    texts = [(file, read_file(f"{crate}/{file}").partition(old)[0] + old) for file, old, _ in changes_of(crate, edit)]
+    return {(file, len(re.findall(r"\bfn \w", text))) for file, text in texts}
+
+
+def parted(crate, edits):
+    """Edits in groups, of which each changes a function once at most: such edits can be read together."""
+    groups = []
+    for edit in edits:
+        places = places_of(crate, edit)
+        group = next((it for it in groups if not it[0] & places), None)
+        if group is None:
+            groups.append(group := (set(), []))
+        group[0].update(places)
+        group[1].append(edit)
+    return [it[1] for it in groups]
+
+
+def refusal_of(crate, edits):
+    """What the compiler's front end says against a crate with these edits; nothing where it takes them."""
+    before = {}
+    for file, old, new in (it for edit in edits for it in changes_of(crate, edit)):
+        text = read_file(f"{crate}/{file}")
+        before.setdefault(file, text)
+        write_file(f"{crate}/{file}", text.replace(old, new, 1))
     said = rt(crate, "check", "--only", "")
-    with open(path, "w", encoding="utf-8") as it:
-        it.write(before)
+    for file, text in before.items():
+        write_file(f"{crate}/{file}", text)
     told = re.findall(r"^src/\S+ error.*$", said, re.MULTILINE)[:3]
     # a check that was stopped, or that lacked a library, says nothing of the body
     return told if told or READ in said else ["it was not read: " + " ".join(said.splitlines()[-1:])]
+
+
+def refused_among(crate, edits):
+    """Those of these edits that the front end does not take, with what it says. They are read together, and where it says something each
+    half alone."""
+    said = refusal_of(crate, edits)
+    if not said or len(edits) == 1:
+        return [(edits[0], said)] if said else []
+    half = len(edits) // 2
+    return refused_among(crate, edits[:half]) + refused_among(crate, edits[half:])
 
 
 def copied(room):
@@ -166,13 +213,12 @@ def read_edits(name):
 
 
 def read_edits_in(crate, name):
-    passed = failed = 0
     take_edits(crate, "edits")
-    for edit in edits_in(f"{crate}/must-fail"):
-        said = compiles(crate, edit)
-        print(*[f"BAD EDIT crates/{name}/edits/{edit}: {it}" for it in said], sep="\n", end="\n" * bool(said), flush=True)
-        passed, failed = passed + (not said), failed + bool(said)
-    return passed, failed
+    edits = edits_in(f"{crate}/must-fail")
+    refused = [it for group in parted(crate, edits) for it in refused_among(crate, group)]
+    for edit, said in refused:
+        print(*[f"BAD EDIT crates/{name}/edits/{edit}: {it}" for it in said], sep="\n", flush=True)
+    return len(edits) - len(refused), len(refused)
 
 
 def read_changed(crates):
