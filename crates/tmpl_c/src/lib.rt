@@ -80,8 +80,10 @@ pub extern "C" fn keyed_render(
         out.bytes,
         err.bytes,
     );
-    out.tell(told.text);
-    err.tell(told.line);
+    out.taken = told.text.taken;
+    out.needed = told.text.needed;
+    err.taken = told.line.taken;
+    err.needed = told.line.needed;
     told.status
 }
 
@@ -110,7 +112,8 @@ pub extern "C" fn keyed_set_add(
     ensures lent { err.new.bytes.ghost_name ≡ err.old.bytes.ghost_name }
 {
     let said = keep::add(alloc, keys.hash(), set, file, err.bytes);
-    err.tell(said.line);
+    err.taken = said.line.taken;
+    err.needed = said.line.needed;
     said.status
 }
 
@@ -136,7 +139,8 @@ pub extern "C" fn tmpl_data_read(
     ensures lent { err.new.bytes.ghost_name ≡ err.old.bytes.ghost_name }
 {
     let said = keep::read(alloc, kept, input, err.bytes);
-    err.tell(said.line);
+    err.taken = said.line.taken;
+    err.needed = said.line.needed;
     said.status
 }
 
@@ -180,8 +184,10 @@ pub extern "C" fn tmpl_render_set(
     ensures kept { kept.new.held ≡ kept.old.held }
 {
     let came = held::render(alloc, settings, set, kept, name, out.bytes, err.bytes);
-    out.tell(came.text);
-    err.tell(came.line);
+    out.taken = came.text.taken;
+    out.needed = came.text.needed;
+    err.taken = came.line.taken;
+    err.needed = came.line.needed;
     came.status
 }
 
@@ -254,8 +260,10 @@ pub extern "C" fn tmpl_render_program(
     ensures kept { kept.new.held ≡ kept.old.held }
 {
     let done = held::render_program(alloc, settings, program, kept, name, out.bytes, err.bytes);
-    out.tell(done.text);
-    err.tell(done.line);
+    out.taken = done.text.taken;
+    out.needed = done.text.needed;
+    err.taken = done.line.taken;
+    err.needed = done.line.needed;
     done.status
 }
 
