@@ -145,7 +145,7 @@ kept-cells b v c = record { frame = grind (arith, c.frame); deep = grind (arith,
 inside-more : (home : Frame) (g : Option Ring) (lay : Layout) (fr : Frame) (p : Option (List ℕ)) (c : Option Cell) → Inside home g lay fr
     → Inside home g (p ∷ lay) (c ∷ fr)
 inside-more home None lay fr p c h = (suc h.0, over-more h.1 p c)
-inside-more home (Some g) lay fr p c h = record { n = suc h.n; over = over-more h.over p c; depth = h.depth }
+inside-more home (Some g) lay fr p c h = record { n = suc h.n; over = over-more h.over p c; depth = h.depth; least = let least = h.least in omega arith }
 
 inside-bound : (home : Frame) (g : Option Ring) (b : Binding) (lay : Layout) (fr : Frame) → Inside home g lay fr
     → Inside home g (bound_on b lay) (bound_in b fr)

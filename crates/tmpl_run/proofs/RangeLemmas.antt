@@ -1,6 +1,6 @@
 -- For the law `comes_to_meaning`: the code of ranges, breaks and continues.
-use Rattle.std.proofs.Common.{arith, ◌≡◌, ◌∙◌, ◌+◌, ◌-◌, ◌≤◌, nat_eq, ℕ, suc, Bool, true, false, List, [], ◌∷◌, length, drop, refl, add-one, ap, sym, subst}
-use Rattle.std.proofs.Common.{Option, Some, None, drop-drop}
+use Rattle.std.proofs.Common.{arith, ◌≡◌, ◌∙◌, ◌+◌, ◌-◌, ◌≤◌, ◌&&◌, nat_eq, ℕ, zero, suc, Bool, true, false, List, [], ◌∷◌, length, drop, refl}
+use Rattle.std.proofs.Common.{add-one, ap, sym, subst, Option, Some, None, drop-drop}
 use Rattle.std.specs.Prelude.{slice_set}
 use Rattle.tmpl_values.specs.Value.{Value, nothing}
 use Rattle.tmpl_values.specs.Elements.{Element, elements}
@@ -19,7 +19,8 @@ use Rattle.tmpl_code.specs.Layout.{Layout, bound_on, declared_in, declares_key, 
 use Rattle.tmpl_code.specs.Code.{Above, Code, Ended, NodesAt, SetDotAt, TurnAt}
 use Rattle.tmpl_run.specs.Cell.{Cell, cell, fresh}
 use Rattle.tmpl_run.specs.State.{State}
-use Rattle.tmpl_run.specs.Machine.{again, elements_for, elements_in, goes, left_in, onto, open_range, after_step_if, ring, start_element, variables_on}
+use Rattle.tmpl_run.specs.Machine.{again, elements_for, elements_in, goes, is_number, left_in, open_range, after_step_if, ring, start_element}
+use Rattle.tmpl_run.specs.Machine.{variables_on, visit}
 use Rattle.tmpl_run.specs.Ends.{Comes}
 use Rattle.tmpl_run.proofs.NodeLemmas.{run_at, set, value-leads, valued}
 use Rattle.tmpl_run.proofs.NodeLemmas as nodes
@@ -44,6 +45,11 @@ elements_visited-is b v = grind arith
 -- with an index or key a range visits no others
 elements-are : (key : Bool) (v : Value) (es : List Element) → elements_for key v ≡ Some es → elements_in (elements v) ≡ es
 elements-are key v es e = grind arith
+
+-- where no cell is forgotten after a turn it declared no variable
+none-declared : (n declared : ℕ) (numbers : Bool) → (nat_eq n 0 && numbers) ≡ true → declared ≤ n → declared ≡ 0
+none-declared zero declared numbers is least = omega arith
+none-declared (suc n) declared numbers is least = grind arith
 
 module _ (way : Way) (calls : Calls) (spare : ℕ) where
   abbrev NodesLead : Nodes → Type 0
@@ -103,6 +109,7 @@ module _ (way : Way) (calls : Calls) (spare : ℕ) where
       let cells = ring-first g s w.inside st.cells in
       k s (record {
         n = l.0;
+        least = let same = above l.0 l.2 w.inside in let least = w.inside.least in omega arith;
         skip = l.1;
         more = rest;
         cs = cells.0;
@@ -126,7 +133,16 @@ module _ (way : Way) (calls : Calls) (spare : ℕ) where
     saved = cell d place
 
     abbrev turning : ℕ → Ring
-    turning k = record { lay = lay; frame = fr; dot = d; place = place; value = v; index = k; around = record { out = rest; line = line; below = length lay } }
+    turning k = record {
+      lay = lay;
+      frame = fr;
+      dot = d;
+      place = place;
+      value = v;
+      index = k;
+      around = record { out = rest; line = line; below = length lay };
+      declared = declared_count b;
+    }
 
     abbrev inner : Layout
     inner = bound_on b (None ∷ None ∷ lay)
@@ -172,10 +188,12 @@ module _ (way : Way) (calls : Calls) (spare : ℕ) where
           n = declared_count b + declared_in body;
           over = over-bound b body (None ∷ None ∷ lay) (outer k);
           depth = refl;
+          least = omega arith;
         } in
         let cells = ring-first (turning k) t w st.cells in
         h t (record {
           n = declared_count b + declared_in body;
+          least = w.least;
           skip = to;
           more = second;
           cs = cells.0;
@@ -187,13 +205,21 @@ module _ (way : Way) (calls : Calls) (spare : ℕ) where
           run = cells.3 ∙ ap (cut_to (named lay)) run;
         })
 
+    -- where an element is visited: at its turn, or past it, where it declares no variable
+    abbrev visited : Bool → Element → State → State
+    visited false e s = s
+    visited true e s = record s { dot = e.1; place = s.place + 1 }
+
+    abbrev BindsNone : Bool → Binding → Type 0
+    BindsNone past b = past ≡ true → declared_count b ≡ 0
+
     -- what a turn binds
-    begins-turn : (e : Element) (es : List Element) (k : ℕ) (cs : List Cell) (s : State) → ways.who_of s ≡ way.who → drop k (elements_in (elements v)) ≡ e ∷ es
-        → drop s.place way.plan.code ≡ start → Cells lay fr cs
+    begins-turn : (past : Bool) → BindsNone past b → (e : Element) (es : List Element) (k : ℕ) (cs : List Cell) (s : State) → ways.who_of s ≡ way.who
+        → drop k (elements_in (elements v)) ≡ e ∷ es → drop s.place way.plan.code ≡ start → Cells lay fr cs
         → ((ds : List Cell) (there : ℕ) → drop there way.plan.code ≡ first → Cells inner (bound_in b (outer k)) ds
         → env_of inner ds ≡ bind b e (env_of lay cs) → ways.Leading way (record s { cells = ds; dot = e.1; place = there }))
-        → ways.Leading way (record s { cells = saved ∷ cell v k ∷ cs })
-    begins-turn e es k cs s same here at cells more = by b turn-at fits more
+        → ways.Leading way (visited past e (record s { cells = saved ∷ cell v k ∷ cs }))
+    begins-turn past none e es k cs s same here at cells more = by b none turn-at fits more
       where
         now : State
         now = record s { cells = saved ∷ cell v k ∷ cs }
@@ -201,26 +227,31 @@ module _ (way : Way) (calls : Calls) (spare : ℕ) where
         outside : Cells (None ∷ None ∷ lay) (outer k) now.cells
         outside = record { frame = ap (λ l. Some saved ∷ Some (cell v k) ∷ l) cells.frame; deep = (let deep = cells.deep in omega arith) }
 
-        turns-by : (n : ℕ) (is : Code) → start ≡ code.turn n ∷ is → suc (suc (length cs)) + n ≤ way.room
+        turns-by : (past : Bool) (n : ℕ) (is : Code) → (past ≡ true → n ≡ 0) → start ≡ code.turn n ∷ is → suc (suc (length cs)) + n ≤ way.room
             → (drop (s.place + 1) way.plan.code ≡ is → ways.Leading way (record s { cells = variables_on n e now.cells; dot = e.1; place = s.place + 1 }))
-            → ways.Leading way now
-        turns-by n is l fits h =
+            → ways.Leading way (visited past e now)
+        turns-by false n is none l fits h =
             ways.does way same (at ∙ l) fits
             (subst (λ l. Comes (ways.Leading way) (start_element n l now) way.end) (sym here) (h (ways.next way s.place (at ∙ l))))
+        turns-by true n is none l fits h =
+            subst (λ n. ways.Leading way (record s { cells = variables_on n e now.cells; dot = e.1; place = s.place + 1 })) (none refl)
+            (h (ways.next way s.place (at ∙ l)))
 
         long : length cs ≡ length fr
         long = length-cells cells
 
-        by : (b : Binding) → TurnAt b (None ∷ None ∷ lay) start first → length fr + (2 + declared_count b + need_of_nodes body) + spare ≤ way.room
+        by : (b : Binding) → BindsNone past b → TurnAt b (None ∷ None ∷ lay) start first
+            → length fr + (2 + declared_count b + need_of_nodes body) + spare ≤ way.room
             → ((ds : List Cell) (there : ℕ) → drop there way.plan.code ≡ first → Cells (bound_on b (None ∷ None ∷ lay)) (bound_in b (outer k)) ds
             → env_of (bound_on b (None ∷ None ∷ lay)) ds ≡ bind b e (env_of lay cs) → ways.Leading way (record s { cells = ds; dot = e.1; place = there }))
-            → ways.Leading way now
-        by unbound l fits more = turns-by 0 first l (omega (arith, long)) (λ at. more now.cells (s.place + 1) at outside refl)
-        by (declare x) l fits more = turns-by 1 first l (omega (arith, long)) (λ at. more (fresh e.1 ∷ now.cells) (s.place + 1) at
+            → ways.Leading way (visited past e now)
+        by unbound none l fits more = turns-by past 0 first none l (omega (arith, long)) (λ at. more now.cells (s.place + 1) at outside refl)
+        by (declare x) none l fits more = turns-by past 1 first none l (omega (arith, long)) (λ at. more (fresh e.1 ∷ now.cells) (s.place + 1) at
             (record { frame = ap (λ l. None ∷ l) outside.frame; deep = (let deep = outside.deep in omega arith) }) refl)
-        by (declare_pair i x) l fits more = turns-by 2 first l (omega (arith, long)) (λ at. more (fresh e.1 ∷ fresh e.0 ∷ now.cells) (s.place + 1) at
+        by (declare_pair i x) none l fits more =
+            turns-by past 2 first none l (omega (arith, long)) (λ at. more (fresh e.1 ∷ fresh e.0 ∷ now.cells) (s.place + 1) at
             (record { frame = ap (λ l. None ∷ None ∷ l) outside.frame; deep = (let deep = outside.deep in omega arith) }) refl)
-        by (assign x) l fits more = turns-by 0 l.0 l.1 (omega (arith, long)) (sets (slot_named x (None ∷ None ∷ lay)) refl l.2)
+        by (assign x) none l fits more = turns-by past 0 l.0 none l.1 (omega (arith, long)) (sets (slot_named x (None ∷ None ∷ lay)) refl l.2)
           where
             sets : (o : Option ℕ) → slot_named x (None ∷ None ∷ lay) ≡ o → SetDotAt o l.0 first → drop (s.place + 1) way.plan.code ≡ l.0
                 → ways.Leading way (record s { cells = saved ∷ cell v k ∷ cs; dot = e.1; place = s.place + 1 })
@@ -232,13 +263,13 @@ module _ (way : Way) (calls : Calls) (spare : ℕ) where
                 (cells-set x (None ∷ None ∷ lay) now.cells i e.1 is-slot outside) (stored x (None ∷ None ∷ lay) now.cells i e.1 is-slot outside.deep))
 
     -- a turn from its first instruction on
-    turn-leads : NodesLead body → (e : Element) (es : List Element) (k : ℕ) (cs : List Cell) (s : State) → ways.who_of s ≡ way.who
-        → drop k (elements_in (elements v)) ≡ e ∷ es → drop s.place way.plan.code ≡ start → Cells lay fr cs
+    turn-leads : NodesLead body → (past : Bool) → BindsNone past b → (e : Element) (es : List Element) (k : ℕ) (cs : List Cell) (s : State)
+        → ways.who_of s ≡ way.who → drop k (elements_in (elements v)) ≡ e ∷ es → drop s.place way.plan.code ≡ start → Cells lay fr cs
         → ways.After way B g (after_turn (scoped (length (env_of lay cs)) (part e (run_of lay (record s { cells = cs })))) (others es))
         → ((r : Run) → ways.After way B g (others es r) → (t : State) → beyond k r t → ways.Leading way t)
-        → ways.Leading way (record s { cells = saved ∷ cell v k ∷ cs })
-    turn-leads ih e es k cs s same here at cells h next =
-        begins-turn e es k cs s same here at cells
+        → ways.Leading way (visited past e (record s { cells = saved ∷ cell v k ∷ cs }))
+    turn-leads ih past none e es k cs s same here at cells h next =
+        begins-turn past none e es k cs s same here at cells
         (λ ds there at-first inside-cells is-env.
         ih (Some (turning k)) inner (bound_in b (outer k)) first (code.next (declared_count b + declared_in body) to line ∷ second)
         (record s { cells = ds; dot = e.1; place = there }) laid
@@ -259,15 +290,21 @@ module _ (way : Way) (calls : Calls) (spare : ℕ) where
         C r = (t : State) → beyond k (cut_to (named lay) r) t → ways.Leading way t
 
         inside : Within (turning k) inner (bound_in b (outer k))
-        inside = record { n = declared_count b; over = over-binding b (None ∷ None ∷ lay) (outer k); depth = refl }
+        inside = record { n = declared_count b; over = over-binding b (None ∷ None ∷ lay) (outer k); depth = refl; least = omega arith }
+
+    visits : (past : Bool) (e : Element) (cs : List Cell) (s : State) → ways.Leading way (visited past e (record s { cells = cs; place = place }))
+        → Comes (ways.Leading way) (visit past e cs place s) way.end
+    visits false e cs s h = h
+    visits true e cs s h = h
 
     -- the instruction after a turn, by the elements that are left
     nexts : (es : List Element) (k : ℕ) → drop (suc k) (elements_in (elements v)) ≡ es → (r : Run) (t : State) (tu : beyond k r t)
-        → Comes (ways.Leading way) (again way.plan way.me tu.skip line saved (cell v k) tu.cs es t) way.end → ways.Leading way t
+        → Comes (ways.Leading way) (again way.plan way.me tu.n tu.skip line saved (cell v k) tu.cs es t) way.end → ways.Leading way t
     nexts es k here r t tu h =
         ways.does way tu.runs tu.at tt
-        (subst (λ cs. Comes (ways.Leading way) (ring cs (λ d v cs. again way.plan way.me tu.skip line d v cs (drop 1 (left_in v)) t)) way.end) (sym tu.cells)
-        (subst (λ l. Comes (ways.Leading way) (again way.plan way.me tu.skip line saved (cell v k) tu.cs l t) way.end)
+        (subst (λ cs. Comes (ways.Leading way) (ring cs (λ d v cs. again way.plan way.me tu.n tu.skip line d v cs (drop 1 (left_in v)) t)) way.end)
+        (sym tu.cells)
+        (subst (λ l. Comes (ways.Leading way) (again way.plan way.me tu.n tu.skip line saved (cell v k) tu.cs l t) way.end)
         (sym (drop-one (elements_in (elements v)) k ∙ here)) h))
 
     -- after a turn
@@ -282,13 +319,18 @@ module _ (way : Way) (calls : Calls) (spare : ℕ) where
         nexts (e ∷ es) k here r t tu (on (λ r h t tu. next-leads ih es (suc k) (one-less (elements_in (elements v)) (suc k) e es here) r h t tu)
         (nat_eq t.left 0) (subst (λ r. ways.After way B g (others (e ∷ es) r)) (sym tu.run) h))
       where
+        past : Bool
+        past = nat_eq tu.n 0 && is_number v
+
         on : ((r : Run) → ways.After way B g (others es r) → (t : State) → beyond (suc k) r t → ways.Leading way t)
             → (c : Bool) → ways.After way B g (after_turn (spend_if c (set way calls) line (scope (λ r. part e r))
             (run_of lay (record t { cells = tu.cs }))) (others es))
-            → Comes (ways.Leading way) (after_step_if c way.plan way.me line t (λ s. onto (saved ∷ cell v (suc k) ∷ tu.cs) place s)) way.end
+            → Comes (ways.Leading way) (after_step_if c way.plan way.me line t (visit past e (saved ∷ cell v (suc k) ∷ tu.cs) place)) way.end
         on next true h = h
         on next false h =
-            turn-leads ih e es (suc k) tu.cs (record t { left = t.left - 1; line = line; place = place }) tu.runs here begin tu.under h next
+            visits past e (saved ∷ cell v (suc k) ∷ tu.cs) (record t { left = t.left - 1; line = line })
+            (turn-leads ih past (λ is. none-declared tu.n (declared_count b) (is_number v) is tu.least) e es (suc k) tu.cs
+            (record t { left = t.left - 1; line = line; place = place }) tu.runs here begin tu.under h next)
 
   -- ---- ranges
 
@@ -348,8 +390,9 @@ module _ (way : Way) (calls : Calls) (spare : ℕ) where
               (λ t. goes (record t { cells = cell t.dot (t.place + 1) ∷ fresh v ∷ s.cells; dot = nothing; place = t.place + 1 }))) way.end
           on true k = k
           on false k =
-              turn-leads h.binding s.line body g lay fr l.2.0 l.2.1 l.2.2 rest l.2.4 s.dot v (place + 1) l.2.10 more begin l.2.6 l.2.7 ih-body e es 0 s.cells
-              (record (valued v m place s) { dot = nothing; left = s.left - 1; place = place + 1 }) st.runs here-es begin st.cells k
+              turn-leads h.binding s.line body g lay fr l.2.0 l.2.1 l.2.2 rest l.2.4 s.dot v (place + 1) l.2.10 more begin l.2.6 l.2.7 ih-body
+              false (λ e. cc) e es 0 s.cells (record (valued v m place s) { dot = nothing; left = s.left - 1; place = place + 1 })
+              st.runs here-es begin st.cells k
               (λ r hr t tu. next-leads h.binding s.line body g lay fr l.2.0 l.2.1 l.2.2 rest l.2.4 s.dot v
               (place + 1) l.2.10 more begin l.2.6 l.2.7 ih-body es 0
               (one-less (elements_in (elements v)) 0 e es here-es) r hr t tu)

@@ -54,6 +54,8 @@ pub record Ring : Type 0 where
   pub value : Value
   pub index : ℕ
   pub around : Around
+  -- how many variables lie above its cells from its turn on
+  pub declared : ℕ
 
 abbrev pub exit_of : Option Ring → Exit
 exit_of None = None
@@ -64,6 +66,7 @@ pub record Within (g : Ring) (lay : Layout) (fr : Frame) : Type 0 where
   pub n : ℕ
   pub over : Over n lay (None ∷ None ∷ g.lay) fr (Some (cell g.dot g.place) ∷ Some (cell g.value g.index) ∷ g.frame)
   pub depth : g.around.below ≡ length g.lay
+  pub least : g.declared ≤ n
 
 -- .. or those of the template
 abbrev pub Inside : Frame → Option Ring → Layout → Frame → Type 0
@@ -157,6 +160,7 @@ module _ (way : Way) where
   -- the end of a turn: at an instruction that goes to the next
   pub record Turning (g : Ring) (r : Run) (t : State) : Type 0 where
     pub n : ℕ
+    pub least : g.declared ≤ n
     pub skip : ℕ
     pub more : Code
     pub cs : List Cell

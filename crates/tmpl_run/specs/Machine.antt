@@ -1,7 +1,8 @@
 -- What one instruction does.
-use Rattle.std.specs.Prelude.{ℕ, zero, suc, ◌+◌, ◌-◌, nat_eq, nat_lt, Bool, true, false, List, [], ◌∷◌, ◌++◌}
+use Rattle.std.specs.Prelude.{ℕ, zero, suc, ◌+◌, ◌-◌, ◌&&◌, nat_eq, nat_lt, Bool, true, false, List, [], ◌∷◌, ◌++◌}
 use Rattle.std.specs.Prelude.{drop}
 use Rattle.std.specs.Prelude.{Option, Some, None, Result, Ok, Err, slice_get, slice_set}
+use Rattle.tmpl_values.specs.Value as value
 use Rattle.tmpl_values.specs.Value.{Value, nothing}
 use Rattle.tmpl_values.specs.Elements.{Element, elements, pairs}
 use Rattle.tmpl_values.specs.Text.{text_of}
@@ -137,11 +138,21 @@ abbrev pub start_element : ℕ → List Element → State → Turn
 start_element n [] s = stuck
 start_element n (e ∷ es) s = goes (record s { cells = variables_on n e s.cells; dot = e.1; place = s.place + 1 })
 
--- after a turn, by the elements that are left
-abbrev pub again : Plan → Template → ℕ → ℕ → Cell → Cell → List Cell → List Element → State → Turn
-again plan t skip line d v cs [] s = goes (record s { cells = cs; dot = d.val; place = s.place + 1 + skip })
-again plan t skip line d v cs (e ∷ es) s =
-    after_step plan t line s (λ s. onto (d ∷ cell v.val (suc v.num) ∷ cs) d.num s)
+abbrev pub is_number : Value → Bool
+is_number (value.number n) = true
+is_number v = false
+
+-- to the turn of an element, at this place, or past it: then the element is dot already
+abbrev pub visit : Bool → Element → List Cell → ℕ → State → Turn
+visit false e cs turn s = onto cs turn s
+visit true e cs turn s = goes (record s { cells = cs; dot = e.1; place = turn + 1 })
+
+-- after a turn, by the elements that are left; where no cell was forgotten no variable was declared, and the turn of a
+-- number, which would only make it dot, is passed over
+abbrev pub again : Plan → Template → ℕ → ℕ → ℕ → Cell → Cell → List Cell → List Element → State → Turn
+again plan t n skip line d v cs [] s = goes (record s { cells = cs; dot = d.val; place = s.place + 1 + skip })
+again plan t n skip line d v cs (e ∷ es) s =
+    after_step plan t line s (visit (nat_eq n 0 && is_number v.val) e (d ∷ cell v.val (suc v.num) ∷ cs) d.num)
 
 -- ---- calls
 
@@ -209,7 +220,7 @@ carry_out plan t (code.forget n skip) s = onto (drop n s.cells) (s.place + 1 + s
 carry_out plan t (code.enter key skip) s = top s.cells (λ c cs. open_range plan t skip c cs (elements_for key c.val) s)
 carry_out plan t (code.turn n) s = ring s.cells (λ d v cs. start_element n (left_in v) s)
 carry_out plan t (code.next n skip line) s =
-    ring (drop n s.cells) (λ d v cs. again plan t skip line d v cs (drop 1 (left_in v)) s)
+    ring (drop n s.cells) (λ d v cs. again plan t n skip line d v cs (drop 1 (left_in v)) s)
 carry_out plan t (code.leave n skip) s =
     ring (drop n s.cells) (λ d v cs. goes (record s { cells = cs; dot = d.val; place = s.place + 1 + skip }))
 carry_out plan t (code.deepen line) s =

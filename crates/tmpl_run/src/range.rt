@@ -1,12 +1,13 @@
 //! Ranges.
-ghost use Rattle.std.specs.Prelude.{◌≡◌, ◌+◌, ◌-◌, ◌<◌, ◌≤◌, ◌^◌, [], drop, false, length, option_map, OnOk};
-ghost use Rattle.std.specs.Prelude.{Some, None, Ok};
+ghost use Rattle.std.specs.Prelude.{◌≡◌, ◌+◌, ◌-◌, ◌<◌, ◌≤◌, ◌^◌, [], drop, false, length, nat_eq, option_map, pos, true, OnOk};
+ghost use Rattle.std.specs.Prelude.{Some, None, Ok, slice_set};
 ghost use Rattle.tmpl_values.specs.Elements.{item_at};
+ghost use Rattle.tmpl_values.specs.Value as value;
 ghost use Rattle.tmpl_values.specs.View.{is_made, val_of};
 ghost use Rattle.tmpl_meaning.specs.View.{rules_of};
 ghost use Rattle.tmpl_code.specs.Instruction as code;
-ghost use Rattle.tmpl_run.specs.Cell.{slot, slot_cell};
-ghost use Rattle.tmpl_run.specs.Machine.{elements_for, variables_on};
+ghost use Rattle.tmpl_run.specs.Cell.{cell, slot, slot_cell};
+ghost use Rattle.tmpl_run.specs.Machine.{elements_for, is_number, variables_on};
 ghost use Rattle.tmpl_run.specs.computed.Machines.{state_of, without_bytes};
 ghost use Rattle.tmpl_run.specs.computed.Plain.{IsPlain, Spared, Steady, SteadyOr, StopsIn};
 ghost use Rattle.tmpl_run.specs.computed.Turned.{Executed, TurnedOr, TurnedUnder};
@@ -16,6 +17,7 @@ ghost use Rattle.tmpl_run.specs.computed.Held.{has_more};
 use crate::flow::Flow;
 use crate::halt::Halt;
 use crate::machine::Machine;
+use crate::stack::More;
 use std::alloc::AllocError;
 use std::mem;
 use tmpl_meaning::{Options, RunFaultKind};
@@ -114,7 +116,8 @@ impl<'m, 'a> Machine<'m, 'a> {
         Ok(())
     }
 
-    /// Goes to the next element, which takes a step at this line; where there is none ends the range.
+    /// Goes to the next element, which takes a step at this line; where there is none ends the range. Where no cell is
+    /// forgotten no variable was declared, and a number becomes dot here, since its turn would do no more.
     #[tactic(auto, using(crate::proofs::TurnLemmas::nexts))]
     pub(crate) fn next(
         &mut self,
@@ -126,27 +129,62 @@ impl<'m, 'a> Machine<'m, 'a> {
         requires found { count + 2 ≤ length (cells_of self.old.stack) }
         requires after { has_more (slot_cell 1 (drop count (cells_of self.old.stack))) ≡ false
             → self.old.place + 1 + skip < 2 ^ 64 }
+        requires beyond { let cells = drop count (cells_of self.old.stack) in nat_eq self.old.left 0 ≡ false → count ≡ 0
+            → has_more (slot_cell 1 cells) ≡ true → is_number (slot 1 cells) ≡ true → (slot_cell 0 cells).num + 1 < 2 ^ 64 }
         ensures step { TurnedUnder (rules_of options.now) (λ _. Unit {0}) (code.next count skip line)
             self.old self.new result }
         ensures steady { SteadyOr result self.old self.new }
     {
         self.stack.pop(count);
-        if !self.stack.has_more() {
-            let outer = self.stack.take().val;
-            self.stack.pop(1);
-            self.replace_dot(outer);
-            self.place += 1 + skip;
-            return Ok(Flow::On);
+        match self.stack.more() {
+            More::None => self.close_range(skip),
+            More::Number => {
+                self.take_step(options, line)?;
+                let number = self.go_to_turn();
+                if count == 0 {
+                    self.pass_turn(number);
+                }
+            }
+            More::Other => {
+                self.take_step(options, line)?;
+                self.go_to_turn();
+            }
         }
-        self.line = line;
-        if self.left == 0 {
-            return Err(Halt::Fault(RunFaultKind::StepsSpent(options.steps)));
-        }
-        self.left -= 1;
-        self.place = self.stack.counted(0) as usize;
-        let number = self.stack.counted(1);
-        self.stack.recount(1, number + 1);
         Ok(Flow::On)
+    }
+
+    /// Goes to the turn of the element after the one that the range visits, and gives the index of that.
+    #[inline(always)]
+    fn go_to_turn(&mut self) -> u64
+        requires found { 2 ≤ length (cells_of self.old.stack) }
+        requires fits { (slot_cell 1 (cells_of self.old.stack)).num + 1 < 2 ^ 64 }
+        ensures index { result ≡ (slot_cell 1 (cells_of self.old.stack)).num + 1 }
+        ensures step { state_of self.new ≡ record (state_of self.old) {
+          cells = slice_set (cells_of self.old.stack) 1 (cell (slot 1 (cells_of self.old.stack)) result);
+          place = (slot_cell 0 (cells_of self.old.stack)).num;
+        } }
+        ensures steady { Steady self.old self.new }
+    {
+        self.place = self.stack.counted(0) as usize;
+        let index = self.stack.counted(1) + 1;
+        self.stack.recount(1, index);
+        index
+    }
+
+    /// Makes a number dot, and goes past the instruction at this place. A dot that is a number gives way in place.
+    #[inline(always)]
+    fn pass_turn(&mut self, number: u64)
+        requires number { number < 2 ^ 63 }
+        requires place { self.old.place + 1 < 2 ^ 64 }
+        ensures step { state_of self.new
+            ≡ record (state_of self.old) { dot = value.number (pos number); place = self.old.place + 1 } }
+        ensures steady { Steady self.old self.new }
+    {
+        match &mut self.dot {
+            Val::Num(dot) => *dot = number as i64,
+            _ => self.replace_dot(Val::Num(number as i64)),
+        }
+        self.place += 1;
     }
 
     /// Ends the range: forgets this many cells and its own, and takes dot back.
@@ -157,10 +195,25 @@ impl<'m, 'a> Machine<'m, 'a> {
         ensures steady { Steady self.old self.new }
     {
         self.stack.pop(count);
+        self.close_range(skip);
+        Flow::On
+    }
+
+    /// Ends a range whose cells are the newest two: forgets them, and takes dot back.
+    #[inline(always)]
+    fn close_range(&mut self, skip: usize)
+        requires found { 2 ≤ length (cells_of self.old.stack) }
+        requires place { self.old.place + 1 + skip < 2 ^ 64 }
+        ensures step { state_of self.new ≡ record (state_of self.old) {
+          cells = drop 2 (cells_of self.old.stack);
+          dot = slot 0 (cells_of self.old.stack);
+          place = self.old.place + 1 + skip;
+        } }
+        ensures steady { Steady self.old self.new }
+    {
         let outer = self.stack.take().val;
         self.stack.pop(1);
         self.replace_dot(outer);
         self.place += 1 + skip;
-        Flow::On
     }
 }

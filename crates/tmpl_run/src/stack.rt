@@ -2,7 +2,8 @@
 #![tactic(auto, using(crate::proofs::StackLemmas::stacks, crate::proofs::PlainLemmas::plains), unfolding(crate::specs::computed::View::cells_of, crate::specs::computed::Plain::IsPlainStack))]
 
 ghost use Rattle.std.specs.List.{AllWithin};
-ghost use Rattle.std.specs.Prelude.{◌≡◌, ◌+◌, ◌-◌, ◌<◌, ◌≤◌, ◌∷◌, ◌++◌, [], drop, get_or, length, option_map, reverse};
+ghost use Rattle.std.specs.Prelude.{◌≡◌, ◌+◌, ◌-◌, ◌<◌, ◌≤◌, ◌∷◌, ◌++◌, [], drop, get_or, length, nat_lt, option_map};
+ghost use Rattle.std.specs.Prelude.{reverse};
 ghost use Rattle.std.specs.Prelude.{take, false, true, ◌^◌, slice_set, if◌then◌else◌, IfOk, IfSome, IsOkAnd, OnOk};
 ghost use Rattle.std.specs.Prelude.{MatchOption};
 ghost use Rattle.tmpl_values.specs.Elements.{item_at};
@@ -20,7 +21,7 @@ ghost use Rattle.tmpl_meaning.specs.View.{value_seen};
 ghost use Rattle.tmpl_meaning.specs.Sink.{IsPut};
 ghost use Rattle.tmpl_code.specs.Code.{piped_count};
 ghost use Rattle.tmpl_run.specs.Cell.{cell};
-ghost use Rattle.tmpl_run.specs.computed.Held.{cell_at, cell_of, cells_in, has_more, made_at};
+ghost use Rattle.tmpl_run.specs.computed.Held.{Tells, cell_at, cell_of, cells_in, made_at};
 ghost use Rattle.tmpl_run.specs.computed.Output.{Grows, given_of};
 
 use crate::piece::LentPiece;
@@ -28,7 +29,17 @@ use std::alloc::{AllocError, Global};
 use std::mem;
 use tmpl_funcs::{CallError, Func, call};
 use tmpl_meaning::{MissingKey, RunFaultKind, Sink, SinkFault};
-use tmpl_values::{Cell, Val};
+use tmpl_values::{Cell, Val, count_below};
+
+/// What a range has after the element that it visits.
+#[derive(Clone, Copy)]
+pub(crate) enum More {
+    None,
+    /// The elements of a number.
+    Number,
+    /// Those of any other value.
+    Other,
+}
 
 /// The cells below `top` are live, the newest last.
 #[derive(Drop)]
@@ -274,15 +285,14 @@ impl<'s, 'a> Stack<'s, 'a> {
         element_at(self.cells, self.top - 2)
     }
 
-    /// Whether a range, whose cells are the newest two, has an element after the one that it visits.
-    pub(crate) fn has_more(&mut self) -> bool
+    /// What a range, whose cells are the newest two, has after the element that it visits.
+    pub(crate) fn more(&mut self) -> More
         requires { 2 ≤ length (cells_of self.old) }
         ensures cells { cells_of self.new ≡ cells_of self.old }
         ensures steady { SteadyStack self.old self.new }
-        ensures more { result ≡ has_more (slot_cell 1 (cells_of self.old)) }
-        ensures fits { result ≡ true → (slot_cell 1 (cells_of self.old)).num + 1 < 2 ^ 64 }
+        ensures more { Tells result (slot_cell 1 (cells_of self.old)) }
     {
-        has_more_at(self.cells, self.top - 2)
+        more_at(self.cells, self.top - 2)
     }
 
     /// What a function gives for this many of the newest values, the oldest of them first, and for a piped one after them,
@@ -447,20 +457,49 @@ fn element_at<'a>(cells: &mut [Cell<'a>], at: usize) -> Option<(Val<'a>, Val<'a>
     cell.val.item(cell.num)
 }
 
-/// Whether there is an element after the place that a cell counts, of its value.
+/// What there is after the place that a cell counts, of the elements of its value.
 #[tactic(auto, using(crate::proofs::StackLemmas::cells))]
-fn has_more_at(cells: &mut [Cell<'_>], at: usize) -> bool
+fn more_at(cells: &mut [Cell<'_>], at: usize) -> More
     requires { at < length cells.old }
     ensures same { cells.new ≡ cells.old }
-    ensures more { result ≡ has_more (cell_at cells.old at) }
-    ensures fits { result ≡ true → (cell_at cells.old at).num + 1 < 2 ^ 64 }
+    ensures more { Tells result (cell_at cells.old at) }
 {
     let whole = &cells[..];
     let cell = &whole[at];
-    match cell.val.element_count() {
-        Some(count) => cell.num < count.saturating_sub(1),
-        None => false,
+    more_in(&cell.val, cell.num)
+}
+
+/// What there is after a place among the elements of a value.
+#[tactic(auto, using(crate::proofs::TurnLemmas::counts))]
+fn more_in(value: &Val<'_>, place: u64) -> More
+    ensures { Tells result (cell (val_of value.now) place) }
+{
+    match value {
+        Val::Num(number) => {
+            if is_before_last(place, count_below(*number)) {
+                More::Number
+            } else {
+                More::None
+            }
+        }
+        _ => match value.element_count() {
+            Some(count) => {
+                if is_before_last(place, count) {
+                    More::Other
+                } else {
+                    More::None
+                }
+            }
+            None => More::None,
+        },
     }
+}
+
+/// Whether a place comes before the last of this many.
+fn is_before_last(place: u64, count: u64) -> bool
+    ensures { result ≡ nat_lt place (count - 1) }
+{
+    count > 0 && place < count - 1
 }
 
 /// Exchanges the value of a cell with another, and has the cell count this.
