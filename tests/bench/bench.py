@@ -264,13 +264,17 @@ def renders(folder):
 def bench_renders(figures, folder):
     go = go_renderer(folder)
     figures.part("Whole processes" + (f", beside {go_name()}" if go else ""))
+    times = []
     for name, pieces, held, *most in renders(folder):
         file, floor = write(f"{folder}/template", pieces), held_by_all()
         ours, *theirs = medians(15, [harness.PROGRAM, "--data", held, file], *([[go, "render", file, held]] if go else []))
         time = ours[0] / theirs[0][0] if theirs else None
+        times += [time] if theirs else []
         memory = ours[1] / theirs[0][1] if theirs and min(ours[1], theirs[0][1]) > floor else None
         beside = with_memory(theirs[0], floor) if theirs else ""
         figures.row(name, with_memory(ours, floor), beside, time, memory, *most)
+    if times:
+        figures.row("the geometric mean of these", "", "", statistics.geometric_mean(times))
     file = write(f"{folder}/template", [b"{{range 10000000}}{{.}}\n{{end}}"])
     (ours,) = medians(5, [harness.PROGRAM, "--steps", "100000000", file])
     figures.row("a range over 10,000,000 whole numbers", f"{with_memory(ours)}, {ours[0] / 1e7 * 1e9:.0f} ns an element")

@@ -5,6 +5,7 @@ import gzip
 import json
 import os
 import shutil
+import statistics
 import subprocess
 import sys
 import tempfile
@@ -62,6 +63,16 @@ def bench_static(figures, folder):
         ours, linked, *theirs = bench.medians(101, *runs)
         beside = [f"the program of `make` {bench.shown(linked[0])}", *(f"Go {bench.with_memory(it)}" for it in theirs)]
         figures.row(what, bench.with_memory(ours), "; ".join(beside), ours[0] / theirs[0][0] if theirs else None, None, most)
+    if go:
+        times = [time_beside(go, static, folder, pieces, held) for _, pieces, held, *_ in bench.renders(folder)]
+        figures.row("the geometric mean over the whole processes of the table above", "", "", statistics.geometric_mean(times), None, 0.28)
+
+
+def time_beside(go, static, folder, pieces, held):
+    """The static program's time of a render over Go's."""
+    file = bench.write(f"{folder}/template", pieces)
+    ours, theirs = bench.medians(15, [static, "--data", held, file], [go, "render", file, held])
+    return ours[0] / theirs[0]
 
 
 def go_module(folder):
