@@ -149,6 +149,12 @@ def drawn_index(draw, scope):
     return draw.choice(["{{%s}}", "{{len (%s)}}", "{{with %s}}{{printf \"%%v\" .}}{{end}}", "{{range %s}}{{.}}{{end}}"]) % call
 
 
+def drawn_length(draw):
+    """A test of how many items there are at PATH."""
+    call, number = draw.choice(["eq", "ne", "lt", "le", "gt", "ge"]), draw.randrange(-1, 4)
+    return draw.choice([f"{call} (len PATH) {number}", f"{call} {number} (len PATH)", f"len PATH | {call} {number}", "len PATH"])
+
+
 def drawn_part(draw, scope):
     """An item or a part of a list, mostly after a test of it."""
     path = drawn_path(draw, scope)
@@ -158,7 +164,9 @@ def drawn_part(draw, scope):
     used = draw.choice(["{{print (%s)}}", '{{printf "%%v" (%s)}}', "{{len (%s)}}", "{{range %s}}{{end}}"])
     test = draw.choice(["%s", "{{if PATH}}%s{{end}}", "{{if PATH}}%s{{end}}", "{{if not PATH}}none{{else}}%s{{end}}", "{{if and PATH true}}%s{{end}}",
                         "{{with $l := PATH}}%s{{end}}", "{{with PATH}}%s{{end}}", "{{if or PATH true}}%s{{end}}", "{{if ne PATH nil}}%s{{end}}",
-                        "{{$l := PATH}}{{if $l}}%s{{end}}", "{{if (PATH)}}{{else}}%s{{end}}"])
+                        "{{$l := PATH}}{{if $l}}%s{{end}}", "{{if (PATH)}}{{else}}%s{{end}}", "{{if LENGTH}}%s{{end}}", "{{if LENGTH}}%s{{end}}",
+                        "{{if LENGTH}}none{{else}}%s{{end}}", "{{if not (LENGTH)}}%s{{end}}", "{{if and PATH (LENGTH)}}%s{{end}}",
+                        "{{if or (not PATH) (LENGTH)}}none{{else}}%s{{end}}"]).replace("LENGTH", drawn_length(draw))
     place = "$l" if "$l" in test else "." if test.startswith("{{with") else path
     return test.replace("PATH", path) % (used % (part % place))
 

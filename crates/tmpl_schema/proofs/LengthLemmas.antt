@@ -1,5 +1,5 @@
 -- For code that compares how many variables there are.
-use Rattle.std.proofs.Common.{arith, ◌≡◌, ◌⊎◌, inl, inr, ◌-◌, ◌≤◌, ◌<◌, suc, nat_le, Bool, true, false, not, List, [], ◌∷◌, length, drop, ap, refl, sym, ℕ, Option, Some, None, if◌then◌else◌}
+use Rattle.std.proofs.Common.{arith, ◌≡◌, ◌⊎◌, inl, inr, ◌-◌, ◌≤◌, ◌<◌, suc, nat_le, Bool, true, false, not, List, [], ◌∷◌, length, drop, ap, refl, sym, ℕ, Some, None, if◌then◌else◌}
 use Rattle.std.proofs.lemmas.Bool.{false≢true}
 use Rattle.std.proofs.lemmas.Bool.Decides.{leb_tells}
 use Rattle.std.specs.Str.{bytes_eq}

@@ -30,7 +30,7 @@ use Rattle.tmpl_schema.specs.computed.Safe.{IsCallee, IsChecked}
 use Rattle.tmpl_shape.proofs.ShapeLemmas.{within-has}
 use Rattle.tmpl_shape.proofs.FieldLemmas.{Gives, Each, IsVisit, Visits, fill-has, visit-gives}
 use Rattle.tmpl_schema.proofs.VariableLemmas.{HasKnown, Fits, place, known-length, last-known, last-last, within-known, if_within-some, both-known, bound-known}
-use Rattle.tmpl_schema.proofs.VariableLemmas.{pipeline-gives, narrow-fits, empty-fits}
+use Rattle.tmpl_schema.proofs.VariableLemmas.{pipeline-gives, narrow-fits}
 
 module _ (base : Base) (N : Names) (means : Means base.defs N) (stops : List (List ℕ)) where
   -- ---- ends
@@ -126,7 +126,7 @@ module _ (base : Base) (N : Names) (means : Means base.defs N) (stops : List (Li
           → Ends loop out (scoped (length r.env) (one_of t (body (dot_value c v d)) (other d) (with_bound h.binding (without_key v) (record r { made_text = made }))))
       by true t a isa b isb left right =
           let q : Run = with_bound h.binding (without_key v) (record r { made_text = made }) in
-          let n = (narrow-fits base N means) m h.pipeline k d r.env v fits value t in
+          let n = (narrow-fits base N means) true m h.pipeline k d r.env v fits value t in
           let full = (fill-has base N means) sh v has t in
           let x = body (dot_value c v d) q in
           scope-ends loop k.env a out r.env fits.1 holds left x.1 x.0.env
@@ -136,7 +136,7 @@ module _ (base : Base) (N : Names) (means : Means base.defs N) (stops : List (Li
           ))
       by false t a isa b isb left right =
           let q : Run = with_bound h.binding (without_key v) (record r { made_text = made }) in
-          let n = (empty-fits base N means) m h.pipeline k d r.env v fits value t in
+          let n = (narrow-fits base N means) false m h.pipeline k d r.env v fits value t in
           let x = other d q in
           scope-ends loop k.env b out r.env fits.1 holds right x.1 x.0.env
           (in_g (in_other base h k sh) b isb d q (n.0, (bound-known base N means) h.binding nothings sh (without_key v) tt has (narrow base false h.pipeline k).env r.env n.1))

@@ -1,17 +1,21 @@
 //! What is known of dot and the variables, and what a pipeline that is empty or not tells of them.
-#![tactic(auto)]
+#![tactic(auto, using(tmpl_grammar::proofs::ViewLemmas::group_seen))]
 
 ghost use Rattle.std.specs.Prelude.{◌≡◌, IfOk};
 ghost use Rattle.std.specs.Option.{option_map};
 ghost use Rattle.tmpl_grammar.specs.View.{commands_in, operand_of, operands_in};
 ghost use Rattle.tmpl_shape.specs.View.{shape_of};
 ghost use Rattle.tmpl_shape.specs.computed.View.{base_of};
-ghost use Rattle.tmpl_schema.specs.computed.Check.{at_start, narrow, narrow_by, narrow_by_all, narrow_to};
-ghost use Rattle.tmpl_schema.specs.computed.View.{place_seen, state_of};
+ghost use Rattle.tmpl_schema.specs.computed.Check.{at_start, narrow, narrow_all, narrow_as, narrow_by, narrow_command, narrow_operand, narrow_to};
+ghost use Rattle.tmpl_schema.specs.computed.View.{fact_seen, narrow_call, narrow_piped, place_seen, state_of};
 
-use crate::facts::{Facts, Place, facts_of, index_place, place_of};
+use crate::facts::{
+    Fact, Head, Place, call_fact, command_call, counts_in, head_of, index_place, piped_fact,
+    place_of,
+};
 use crate::known::{Known, copy_known, put_variable, refine_variable};
 use std::alloc::{AllocError, Global};
+use tmpl_funcs::Func;
 use tmpl_grammar::{Command, Operand};
 use tmpl_shape::{Base, Shape, copy_shape, refine};
 
@@ -84,26 +88,144 @@ pub(crate) fn narrow_by(
     narrow_to(base, least, place_of(operand), state)
 }
 
-/// Where each of the operands is so.
-fn narrow_by_all(
+/// Where this holds, if anything does.
+fn narrow_as(base: &Base<'_>, fact: Option<Fact<'_>>, state: &State) -> Result<State, AllocError>
+    ensures { IfOk result (λ k. state_of k
+        ≡ narrow_as (base_of base.now) (option_map fact_seen fact.entry) (state_of state.now)) }
+{
+    match fact {
+        Some(fact) => narrow_by(base, fact.least, fact.about, state),
+        None => copy_state(base.alloc, state),
+    }
+}
+
+/// Where the value of two commands is not empty, or else where it is.
+fn narrow_piped(
     base: &Base<'_>,
-    least: u64,
-    operands: &[Operand],
+    full: bool,
+    first: &[Operand],
+    last: &[Operand],
     state: &State,
 ) -> Result<State, AllocError>
     ensures { IfOk result (λ k. state_of k
-        ≡ narrow_by_all (base_of base.now) least (operands_in operands.now) (state_of state.now)) }
+        ≡ narrow_piped (base_of base.now) full (operands_in first.now) (operands_in last.now) (state_of state.now)) }
 {
-    match operands {
-        [] => copy_state(base.alloc, state),
-        [first, rest @ ..] => {
-            let state = narrow_by(base, least, first, state)?;
-            narrow_by_all(base, least, rest, &state)
+    let counted = counts_in(command_call(first));
+    narrow_as(base, piped_fact(full, counted, command_call(last)), state)
+}
+
+/// Where an operand is not empty, or else where it is.
+#[cycle(narrow)]
+pub(crate) fn narrow_operand(
+    base: &Base<'_>,
+    full: bool,
+    operand: &Operand,
+    state: &State,
+) -> Result<State, AllocError>
+    ensures { IfOk result (λ k. state_of k
+        ≡ narrow_operand (base_of base.now) full (operand_of operand.now) (state_of state.now)) }
+{
+    match operand {
+        Operand::Group { commands, fields } => match fields.as_slice() {
+            [] => narrow(base, full, commands.as_slice(), state),
+            [_, _more @ ..] => copy_state(base.alloc, state),
+        },
+        _ => {
+            if full {
+                return narrow_by(base, 1, operand, state);
+            }
+            copy_state(base.alloc, state)
         }
     }
 }
 
+/// Where each of the operands is so.
+#[cycle(narrow)]
+fn narrow_all(
+    base: &Base<'_>,
+    full: bool,
+    operands: &[Operand],
+    state: &State,
+) -> Result<State, AllocError>
+    ensures { IfOk result (λ k. state_of k
+        ≡ narrow_all (base_of base.now) full (operands_in operands.now) (state_of state.now)) }
+{
+    match operands {
+        [] => copy_state(base.alloc, state),
+        [first, rest @ ..] => {
+            let state = narrow_operand(base, full, first, state)?;
+            narrow_all(base, full, rest, &state)
+        }
+    }
+}
+
+/// Where a call gives what is not empty, or else what is.
+#[cycle(narrow)]
+fn narrow_call(
+    base: &Base<'_>,
+    full: bool,
+    func: Func,
+    operands: &[Operand],
+    state: &State,
+) -> Result<State, AllocError>
+    ensures { IfOk result (λ k. state_of k
+        ≡ narrow_call (base_of base.now) full func (operands_in operands.now) (state_of state.now)) }
+{
+    match func {
+        Func::And => {
+            if full {
+                return narrow_all(base, true, operands, state);
+            }
+            copy_state(base.alloc, state)
+        }
+        Func::Or => {
+            if full {
+                return copy_state(base.alloc, state);
+            }
+            narrow_all(base, false, operands, state)
+        }
+        Func::Not => match operands {
+            [] => copy_state(base.alloc, state),
+            [only, rest @ ..] => match rest {
+                [] => narrow_operand(base, !full, only, state),
+                [_, _more @ ..] => copy_state(base.alloc, state),
+            },
+        },
+        Func::Index => {
+            if full {
+                return narrow_to(base, 1, index_place(operands), state);
+            }
+            copy_state(base.alloc, state)
+        }
+        _ => narrow_as(base, call_fact(full, func, operands), state),
+    }
+}
+
+/// Where the value of a command is not empty, or else where it is.
+#[cycle(narrow)]
+fn narrow_command(
+    base: &Base<'_>,
+    full: bool,
+    operands: &[Operand],
+    state: &State,
+) -> Result<State, AllocError>
+    ensures { IfOk result (λ k. state_of k
+        ≡ narrow_command (base_of base.now) full (operands_in operands.now) (state_of state.now)) }
+{
+    match operands {
+        [] => copy_state(base.alloc, state),
+        [first, rest @ ..] => match head_of(first) {
+            Head::Function(func) => narrow_call(base, full, func, rest, state),
+            Head::Nil | Head::Value => match rest {
+                [] => narrow_operand(base, full, first, state),
+                [_, _more @ ..] => copy_state(base.alloc, state),
+            },
+        },
+    }
+}
+
 /// Where the value of a pipeline is not empty, or else where it is.
+#[cycle(narrow)]
 pub(crate) fn narrow(
     base: &Base<'_>,
     full: bool,
@@ -113,8 +235,17 @@ pub(crate) fn narrow(
     ensures { IfOk result (λ k. state_of k
         ≡ narrow (base_of base.now) full (commands_in commands.now) (state_of state.now)) }
 {
-    match facts_of(full, commands) {
-        Facts::Operands(least, operands) => narrow_by_all(base, least, operands, state),
-        Facts::Index(operands) => narrow_to(base, 1, index_place(operands), state),
+    match commands {
+        [] => copy_state(base.alloc, state),
+        [first, rest @ ..] => match rest {
+            [] => narrow_command(base, full, first.operands.as_slice(), state),
+            [last, more @ ..] => match more {
+                [] => {
+                    let first = first.operands.as_slice();
+                    narrow_piped(base, full, first, last.operands.as_slice(), state)
+                }
+                [_, _more @ ..] => copy_state(base.alloc, state),
+            },
+        },
     }
 }

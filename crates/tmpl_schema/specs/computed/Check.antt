@@ -1,5 +1,5 @@
 -- The check of a template against a shape, as a function that goes over the tree.
-use Rattle.std.specs.Prelude.{ℕ, zero, suc, pos, ◌+◌, ◌-◌, nat_le, Bool, true, false, not, ◌&&◌, List, [], ◌∷◌, ◌++◌, length, drop}
+use Rattle.std.specs.Prelude.{ℕ, zero, suc, pos, ◌+◌, ◌-◌, ◌==◌, nat_le, Bool, true, false, not, ◌&&◌, List, [], ◌∷◌, ◌++◌, length, drop}
 use Rattle.std.specs.Prelude.{Option, Some, None, option_to_list, unwrap_or, if◌then◌else◌}
 use Rattle.std.specs.Option.{option_map, option_map_or, option_and_then}
 use Rattle.std.specs.Str.{bytes_eq}
@@ -14,7 +14,7 @@ use Rattle.tmpl_meaning.specs.declared.missing_key.MissingKey.{MissingKey}
 use Rattle.tmpl_shape.specs.Shape.{Shape, nothings, truths, numbers, texts}
 use Rattle.tmpl_funcs.specs.Func.{takes}
 use Rattle.tmpl_funcs.specs.declared.func.Func.{Func}
-use Rattle.tmpl_funcs.specs.declared.func.Func.TheVariants.{And, Not, Index, Eq, Ne}
+use Rattle.tmpl_funcs.specs.declared.func.Func.TheVariants.{And, Or, Not, Len, Index, Eq, Ne, Lt, Le, Gt, Ge}
 use Rattle.tmpl_meaning.specs.Pipeline.{operand_count}
 use Rattle.tmpl_shape.specs.declared.kind.Kind.TheVariants.{Blank}
 use Rattle.tmpl_shape.specs.computed.Shapes.{Base, has_kind, within, join, both, fill, null_gone, refine, chain_shape}
@@ -66,6 +66,11 @@ key_of (text_constant bytes) = Some (of_name bytes)
 key_of (number_constant (pos n)) = Some (of_place n)
 key_of o = None
 
+-- the operand, where there is one
+abbrev pub one_of : Operands → Option Operand
+one_of (operand o no_operand) = Some o
+one_of os = None
+
 -- both operands, where there are two
 abbrev pub two_of : Operands → Option (Operand × Operand)
 two_of (operand o (operand p no_operand)) = Some (o, p)
@@ -98,6 +103,19 @@ head_of (function f) = calls f
 head_of nil = is_nil
 head_of o = is_value
 
+-- the function that a command calls, with its operands, and the one that is the whole pipeline
+abbrev pub head_call : Head → Operands → Option (Func × Operands)
+head_call (calls f) os = Some (f, os)
+head_call h os = None
+
+abbrev pub command_call : Operands → Option (Func × Operands)
+command_call (operand o os) = head_call (head_of o) os
+command_call no_operand = None
+
+abbrev pub pipeline_call : Pipeline → Option (Func × Operands)
+pipeline_call (command os no_command) = command_call os
+pipeline_call p = None
+
 -- a chain of fields from dot, or from the variable of a name
 pub record Place : Type 0 where
   pub root : Option (List ℕ)
@@ -117,20 +135,8 @@ abbrev pub call_place : Func → Operands → Option Place
 call_place Index os = index_place os
 call_place f os = None
 
-abbrev pub head_place : Head → Operands → Option Place
-head_place (calls f) os = call_place f os
-head_place h os = None
-
-abbrev pub command_place : Operands → Option Place
-command_place (operand o os) = head_place (head_of o) os
-command_place no_operand = None
-
-abbrev pub pipeline_place : Pipeline → Option Place
-pipeline_place (command os no_command) = command_place os
-pipeline_place p = None
-
 abbrev pub group_place : Pipeline → List (List ℕ) → Option Place
-group_place p [] = pipeline_place p
+group_place p [] = option_and_then (λ call. call_place call.0 call.1) (pipeline_call p)
 group_place p names = None
 
 -- the place whose value is that of an operand, but for nothing and null
@@ -141,45 +147,85 @@ place_of (variable name names) = Some (record { root = Some name; path = names }
 place_of (group p names) = group_place p names
 place_of o = None
 
--- what a value tells that is or is not empty: that each of these operands is neither nothing nor null, and has at least as
--- many items if it is a list; or that the `index` of these is not empty
-pub data Facts : Type 0 where
-  of_operands : ℕ → Operands → Facts
-  of_index : Operands → Facts
+-- the operand of which a call gives the length
+abbrev pub call_counts : Func → Operands → Option Operand
+call_counts Len os = one_of os
+call_counts f os = None
 
--- it tells nothing
-abbrev pub no_facts : Facts
-no_facts = of_operands 0 no_operand
+-- .. of which this gives it
+abbrev pub counts_in : Option (Func × Operands) → Option Operand
+counts_in c = option_and_then (λ call. call_counts call.0 call.1) c
 
--- the first of two, if the second is a constant, or else `nil`
-abbrev pub pair_facts : Bool → Operands → Facts
-pair_facts c os = option_map_or (λ p. if tells c p.1 then of_operands 0 (operand p.0 no_operand) else no_facts) (two_of os) no_facts
+abbrev pub group_counts : Pipeline → List (List ℕ) → Option Operand
+group_counts p [] = counts_in (pipeline_call p)
+group_counts p names = None
 
--- by an operand that is the whole command
-abbrev pub alone_facts : Bool → Operand → Operands → Facts
-alone_facts true o no_operand = of_operands 1 (operand o no_operand)
-alone_facts c o os = no_facts
+abbrev pub operand_counts : Operand → Option Operand
+operand_counts (group p names) = group_counts p names
+operand_counts o = None
+
+-- that an operand is neither nothing nor null, and has at least as many items if it is a list
+pub record Fact : Type 0 where
+  pub least : ℕ
+  pub about : Operand
+
+-- one, where that is more than the number
+abbrev pub more_than : ℕ → Option ℕ
+more_than n = if n == 0 then Some 1 else None
+
+-- how many items there are at least where their number compared with this one gives true, or else where it gives false
+abbrev pub least_by : Bool → Func → ℕ → Option ℕ
+least_by true Eq n = Some n
+least_by true Ne n = more_than n
+least_by true Ge n = Some n
+least_by true Gt n = Some (n + 1)
+least_by false Eq n = more_than n
+least_by false Ne n = Some n
+least_by false Lt n = Some n
+least_by false Le n = Some (n + 1)
+least_by c f n = None
+
+-- the comparison of the second with the first that a comparison of the first with the second is
+abbrev pub mirrored : Func → Func
+mirrored Lt = Gt
+mirrored Le = Ge
+mirrored Gt = Lt
+mirrored Ge = Le
+mirrored f = f
+
+-- by a comparison of the length of an operand with a number
+abbrev pub length_fact : Bool → Func → Option Operand → Option ℕ → Option Fact
+length_fact c f counted number =
+    option_and_then (λ o. option_and_then (λ n. option_map (λ l. record { least = l; about = o }) (least_by c f n)) number) counted
+
+-- by a comparison of an operand with a constant or `nil`
+abbrev pub tells_by : Bool → Func → Operand → Bool
+tells_by c Eq o = tells c o
+tells_by c Ne o = tells (not c) o
+tells_by c f o = false
+
+abbrev pub constant_fact : Bool → Func → Operand → Operand → Option Fact
+constant_fact c f o p = if tells_by c f p then Some (record { least = 0; about = o }) else None
+
+-- the first that there is
+abbrev pub first_fact : Option Fact → Option Fact → Option Fact
+first_fact (Some fact) more = Some fact
+first_fact None more = more
+
+-- by a comparison of two operands
+abbrev pub pair_fact : Bool → Func → Operand → Operand → Option Fact
+pair_fact c f o p = first_fact (length_fact c f (operand_counts o) (count_of p))
+    (first_fact (length_fact c (mirrored f) (operand_counts p) (count_of o)) (constant_fact c f o p))
 
 -- by a call that gives what is not empty, or else what is
-abbrev pub call_facts : Bool → Func → Operands → Facts
-call_facts true And os = of_operands 1 os
-call_facts true Index os = of_index os
-call_facts false Not (operand o os) = alone_facts true o os
-call_facts c Eq os = pair_facts c os
-call_facts c Ne os = pair_facts (not c) os
-call_facts c f os = no_facts
+abbrev pub call_fact : Bool → Func → Operands → Option Fact
+call_fact c Len os = if c then option_map (λ o. record { least = 1; about = o }) (one_of os) else None
+call_fact c f os = option_and_then (λ p. pair_fact c f p.0 p.1) (two_of os)
 
-abbrev pub head_facts : Bool → Head → Operand → Operands → Facts
-head_facts c (calls f) o os = call_facts c f os
-head_facts c h o os = alone_facts c o os
-
-abbrev pub command_facts : Bool → Operands → Facts
-command_facts c (operand o os) = head_facts c (head_of o) o os
-command_facts c no_operand = no_facts
-
-abbrev pub facts_of : Bool → Pipeline → Facts
-facts_of c (command os no_command) = command_facts c os
-facts_of c p = no_facts
+-- by a call to which a length is piped
+abbrev pub piped_fact : Bool → Option Operand → Option (Func × Operands) → Option Fact
+piped_fact c counted call = option_and_then (λ call. length_fact c (mirrored call.0) counted
+    (option_and_then count_of (one_of call.1))) call
 
 -- dot, and the variables
 pub record State : Type 0 where
@@ -247,13 +293,59 @@ module _ (base : Base) where
   narrow_to least (Some p) k = option_map_or (λ name. record k { env = refine_variable least name p.path k.env })
       p.root (record k { dot = refine base least p.path k.dot })
 
-  -- .. where an operand is so, and where all these are
+  -- .. where an operand is so
   abbrev pub narrow_by : ℕ → Operand → State → State
   narrow_by least o k = narrow_to least (place_of o) k
 
-  abbrev pub narrow_by_all : ℕ → Operands → State → State
-  narrow_by_all least no_operand k = k
-  narrow_by_all least (operand o os) k = narrow_by_all least os (narrow_by least o k)
+  abbrev pub narrow_as : Option Fact → State → State
+  narrow_as fact k = option_map_or (λ fact. narrow_by fact.least fact.about k) fact k
+
+  -- .. where a call of one operand tells that of the other kind, by what is known where the operand is so
+  abbrev pub turned_state : Operands → State → State → State
+  turned_state (operand o no_operand) k turned = turned
+  turned_state os k turned = k
+
+  -- .. where a call gives what is not empty, or else what is, by what is known where each operand is so, and where each
+  -- is not
+  abbrev pub call_state : Bool → Func → Operands → State → State → State → State
+  call_state c And os k same turned = if c then same else k
+  call_state c Or os k same turned = if c then k else same
+  call_state c Not os k same turned = turned_state os k turned
+  call_state c Index os k same turned = if c then narrow_to 1 (index_place os) k else k
+  call_state c f os k same turned = narrow_as (call_fact c f os) k
+
+  -- .. and a command that begins so, by what is known where its first operand is the whole
+  abbrev pub head_state : Bool → Head → Operands → State → State → State → State → State
+  head_state c (calls f) os k alone same turned = call_state c f os k same turned
+  head_state c h no_operand k alone same turned = alone
+  head_state c h os k alone same turned = k
+
+  -- .. where a pipeline in parentheses is so, of which nothing is known where fields of it are asked for
+  abbrev pub group_state : List (List ℕ) → State → State → State
+  group_state [] k inside = inside
+  group_state names k inside = k
+
+  abbrev mutual
+    -- .. where an operand is not empty, or else where it is, and where each of these is so
+    pub narrow_operand : Bool → Operand → State → State
+    narrow_operand c (group p names) k = group_state names k (narrow c p k)
+    narrow_operand c o k = if c then narrow_by 1 o k else k
+
+    pub narrow_all : Bool → Operands → State → State
+    narrow_all c no_operand k = k
+    narrow_all c (operand o os) k = narrow_all c os (narrow_operand c o k)
+
+    pub narrow_command : Bool → Operands → State → State
+    narrow_command c (operand o os) k =
+        head_state c (head_of o) os k (narrow_operand c o k) (narrow_all c os k) (narrow_all (not c) os k)
+    narrow_command c no_operand k = k
+
+    -- .. where the value of a pipeline is not empty, or else where it is
+    pub narrow : Bool → Pipeline → State → State
+    narrow c (command os no_command) k = narrow_command c os k
+    narrow c (command os (command us no_command)) k =
+        narrow_as (piped_fact c (counts_in (command_call os)) (command_call us)) k
+    narrow c p k = k
 
   -- the values that decide an `or`, or else an `and`, and those that do not
   abbrev pub deciding_shape : Bool → Shape → Shape
@@ -264,7 +356,7 @@ module _ (base : Base) where
 
   -- after an operand that does not decide
   abbrev pub passed : Bool → Operand → State → State
-  passed is_or o k = if is_or then k else narrow_by 1 o k
+  passed is_or o k = narrow_operand (not is_or) o k
 
   -- what `index` gives for a key of this shape, which has to be a text
   abbrev pub entry_by : Shape → Shape → Option Shape
@@ -343,14 +435,6 @@ module _ (base : Base) where
   -- the shape of a pipeline's value, if it never is a fault
   abbrev pub pipeline_shape : MissingKey → State → Pipeline → Option Shape
   pipeline_shape m k p = commands_shape m k p None
-
-  abbrev pub narrow_as : Facts → State → State
-  narrow_as (of_operands least os) k = narrow_by_all least os k
-  narrow_as (of_index os) k = narrow_to 1 (index_place os) k
-
-  -- what is known where the value of a pipeline is not empty, or else where it is
-  abbrev pub narrow : Bool → Pipeline → State → State
-  narrow c p k = narrow_as (facts_of c p) k
 
   -- ---- nodes
 

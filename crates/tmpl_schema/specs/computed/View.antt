@@ -1,21 +1,20 @@
 -- What the program's values that only the check has stand for.
-use Rattle.std.specs.Prelude.{ℕ, Bool, true, false, ◌||◌, List, [], ◌∷◌, ◌++◌, map, Option, Some, None, option_to_list, if◌then◌else◌}
-use Rattle.std.specs.Option.{option_and_then, option_map, option_map_or}
+use Rattle.std.specs.Prelude.{ℕ, Bool, true, false, not, List, [], ◌∷◌, ◌++◌, map, Option, Some, None, option_to_list, if◌then◌else◌}
+use Rattle.std.specs.Option.{option_and_then, option_map}
 use Rattle.std.specs.Borrow.{Bor}
 use Rattle.tmpl_shape.specs.Shape as spec
 use Rattle.tmpl_shape.specs.View.{shape_of}
 use Rattle.tmpl_shape.specs.computed.Calls.{call_shape}
-use Rattle.tmpl_shape.specs.computed.View.{base_of}
 use Rattle.tmpl_shape.specs.declared.kind.Kinds.{Kinds}
-use Rattle.tmpl_grammar.specs.View.{operands_in}
-use Rattle.tmpl_schema.specs.declared.facts.Facts as held_facts
-use Rattle.tmpl_schema.specs.declared.facts.Facts.TheVariants as fact
+use Rattle.tmpl_grammar.specs.View.{operand_of, operands_in}
+use Rattle.tmpl_grammar.specs.declared.tree.Operand as held_operand
+use Rattle.tmpl_schema.specs.declared.facts.Fact as held_fact
 use Rattle.tmpl_schema.specs.declared.facts.Head as held_head
 use Rattle.tmpl_schema.specs.declared.facts.Head.TheVariants as head
 use Rattle.tmpl_schema.specs.declared.facts.Place as held_place
-use Rattle.tmpl_schema.specs.computed.Check.{Facts, of_operands, of_index, Head, calls, is_nil, is_value, Place}
+use Rattle.tmpl_schema.specs.computed.Check.{Fact, Head, calls, is_nil, is_value, Place}
 use Rattle.tmpl_schema.specs.computed.Check.{Known, State, Callee, Table, handed, absent, operand_shapes, after_choice, after_nodes}
-use Rattle.tmpl_schema.specs.computed.Check.{after_range, bound_shapes, pipeline_shape, turn_known}
+use Rattle.tmpl_schema.specs.computed.Check.{after_range, bound_shapes, call_state, command_call, counts_in, narrow_all, narrow_as, piped_fact, pipeline_shape, turn_known}
 use Rattle.tmpl_grammar.specs.Tree.{Header}
 use Rattle.tmpl_syntax.specs.Tree.{Nodes}
 use Rattle.tmpl_grammar.specs.declared.tree.Control.{Control}
@@ -63,9 +62,12 @@ head_seen head.Value = is_value
 abbrev pub place_seen : held_place.Place → Place
 place_seen p = record { root = option_map (λ name. name.now) p.root; path = p.path.now }
 
-abbrev pub facts_seen : held_facts.Facts → Facts
-facts_seen (fact.Operands n os) = of_operands n (operands_in os.now)
-facts_seen (fact.Index os) = of_index (operands_in os.now)
+abbrev pub fact_seen : held_fact.Fact → Fact
+fact_seen f = record { least = f.least; about = operand_of f.about.now }
+
+-- the function and the operands of a call
+abbrev pub call_seen : Func × Bor (List held_operand.Operand) → Func × Operands
+call_seen c = (c.0, operands_in c.1.now)
 
 -- of a call's arguments, of which a piped one is the last, the kinds of which they may be
 abbrev pub argument_kinds : computed.Base → MissingKey → State → Operands → Option spec.Shape → Option (List Kinds)
@@ -74,6 +76,14 @@ argument_kinds base m k os piped = option_map (λ ss. map (kinds_of base) (ss ++
 abbrev pub called_shape : computed.Base → MissingKey → State → Func → Operands → Option spec.Shape → Option spec.Shape
 called_shape base m k f os piped =
     option_and_then (λ ss. call_shape base f (ss ++ option_to_list piped)) (operand_shapes base m k os)
+
+-- where a call of these gives what is not empty, or else what is
+abbrev pub narrow_call : computed.Base → Bool → Func → Operands → State → State
+narrow_call base c f os k = call_state base c f os k (narrow_all base c os k) (narrow_all base (not c) os k)
+
+-- where the value of two commands is so
+abbrev pub narrow_piped : computed.Base → Bool → Operands → Operands → State → State
+narrow_piped base c os us k = narrow_as base (piped_fact c (counts_in (command_call os)) (command_call us)) k
 
 abbrev pub callee_of : held_callee.Callee → Callee
 callee_of (callee_kind.Handed s) = handed (shape_of s)
