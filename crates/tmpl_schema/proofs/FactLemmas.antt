@@ -1,13 +1,13 @@
 -- For code that looks at operands and commands as slices: what more than one of them tell, and calls of most functions.
-use Rattle.std.proofs.Common.{arith, ◌≡◌, ◌≤◌, Bool, List, [], ◌∷◌, None, length, refl}
-use Rattle.tmpl_grammar.specs.Tree.{Operand, Operands, operand}
+use Rattle.std.proofs.Common.{arith, ◌≡◌, ◌≤◌, ◌⊎◌, inl, inr, Bool, List, [], ◌∷◌, None, length, refl}
+use Rattle.tmpl_grammar.specs.Tree.{Operand, Operands, no_operand, operand, Pipeline, no_command, command}
 use Rattle.tmpl_grammar.specs.View.{commands_in, operands_in}
 use Rattle.tmpl_grammar.specs.declared.tree.Operand as held
 use Rattle.tmpl_grammar.specs.declared.tree.Command as held_command
 use Rattle.std.specs.Option.{option_and_then}
 use Rattle.tmpl_funcs.specs.declared.func.Func.{Func}
 use Rattle.tmpl_funcs.specs.declared.func.Func.TheVariants as func
-use Rattle.tmpl_schema.specs.computed.Check.{bounds_of, call_fact, one_of, pair_fact, pipeline_call, two_of}
+use Rattle.tmpl_schema.specs.computed.Check.{bounds_of, call_fact, one_of, pair_fact, pipeline_call, pipeline_place, two_of}
 
 pub not-one : (o : Operand) (os : List held.Operand) → 1 ≤ length os → one_of (operand o (operands_in os)) ≡ None
 not-one o [] h = absurd (omega arith)
@@ -32,4 +32,14 @@ pub other-call : (c : Bool) (f : Func) (os : Operands) → (f ≡ func.Len → �
 other-call c func.Len os h = absurd (h refl)
 other-call c _ os h = refl
 
-pub ruleset rests = (not-one, not-two, not-one-call, not-bounds, other-call)
+no-place : (os : Operands) (p : Pipeline) → pipeline_place (command os p) ≡ None ⊎ (p ≡ no_command)
+no-place os no_command = inr refl
+no-place no_operand (command us p) = inl refl
+no-place (operand o os) (command us p) = inl refl
+
+pub not-one-place : (cs : List held_command.Command) → 2 ≤ length cs → pipeline_place (commands_in cs) ≡ None
+not-one-place [] h = absurd (omega arith)
+not-one-place (c ∷ []) h = absurd (omega arith)
+not-one-place (c ∷ d ∷ cs) h = elim (no-place (operands_in c.operands.items) (commands_in (d ∷ cs))) [ inl e ↦ e | inr e ↦ cc ]
+
+pub ruleset rests = (not-one, not-two, not-one-call, not-one-place, not-bounds, other-call)

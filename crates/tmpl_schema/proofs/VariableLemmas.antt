@@ -37,6 +37,9 @@ use Rattle.tmpl_shape.specs.computed.Calls.{call_shape, shape_by_function}
 use Rattle.tmpl_schema.specs.computed.Check.{Fact, call_counts, call_fact, command_call, constant_fact, count_of, counts_in, first_fact, least_by, length_fact, mirrored, more_than}
 use Rattle.tmpl_schema.specs.computed.Check.{operand_counts, pair_fact, piped_fact, tells, tells_by, narrow_all, narrow_as, narrow_by, narrow_command, narrow_operand, narrow_to}
 use Rattle.tmpl_schema.specs.computed.Check.{bounds_of, sliced_shape, call_place, index_place, deciding_shape, passing_shape, passed, operand_shapes, junction_shape, commands_shape}
+use Rattle.tmpl_schema.specs.computed.Check as check
+use Rattle.tmpl_schema.specs.computed.Check.{Origin, narrow_from, narrow_root, origin_within, pipeline_origin, pipeline_place, place_of, place_origin, refine_all, refine_along, refine_from, rest_of, root_origin, variable_origin}
+use Rattle.tmpl_schema.proofs.OriginLemmas.{HasOrigin, IsAt, at-chain, at-gone, at-joined, at-rest, origin_within-has, rest_of-is}
 use Rattle.tmpl_schema.specs.computed.Check.{Known, State, variable_shape, assigned_shape, bound_shapes, refine_variable, all_within, join_all, last_of, if_within}
 use Rattle.tmpl_schema.specs.computed.Check.{after_both, entry_along, entry_by, operand_shape, indexed_shape, printed_shape, command_shape, pipeline_shape, narrow}
 use Rattle.tmpl_shape.proofs.KindLemmas.{has_kind-has}
@@ -187,11 +190,11 @@ piped-least func.Or true i n l all both any v same e t is = cc
 piped-least func.Or false i n l all both any v same e t is = cc
 piped-least f c i n l all both any v same e t is = mirrored-least f c i n l v (sym same ∙ e) t is
 
-module _ (base : Base) (N : Names) (means : Means base.defs N) where
-  -- the variables have these names and shapes
+module _ (base : Base) (N : Names) (means : Means base.defs N) (top : Value) where
+  -- the variables have these names, shapes and origins
   abbrev pub HasKnown : Known → Environment → Type 0
   HasKnown [] [] = Unit {0}
-  HasKnown (k ∷ ks) (v ∷ env) = (v.0 ≡ k.0) × HasShape N k.1 v.1 × HasKnown ks env
+  HasKnown (k ∷ ks) (v ∷ env) = (v.0 ≡ k.0) × HasShape N k.1 v.1 × HasKnown ks env × HasOrigin top k.2 v.1
   HasKnown ks env = ⊥
 
   pub known-length : (ks : Known) (env : Environment) → HasKnown ks env → length ks ≡ length env
@@ -219,9 +222,14 @@ module _ (base : Base) (N : Names) (means : Means base.defs N) where
   pub within-known : (a b : Known) (env : Environment) → all_within base a b ≡ true → HasKnown a env → HasKnown b env
   within-known [] [] env e h = h
   within-known (a ∷ more) (b ∷ bs) (v ∷ env) e h =
-      let p = and_parts (bytes_eq a.0 b.0) (within base a.1 b.1 && all_within base more bs) e in
-      let q = and_parts (within base a.1 b.1) (all_within base more bs) p.1 in
-      (h.0 ∙ same_name a.0 b.0 p.0, (within-has base N means) a.1 b.1 v.1 q.0 h.1, within-known more bs env q.1 h.2)
+      let p = and_parts (bytes_eq a.0 b.0) (within base a.1 b.1 && (origin_within a.2 b.2 && all_within base more bs)) e in
+      let q = and_parts (within base a.1 b.1) (origin_within a.2 b.2 && all_within base more bs) p.1 in
+      let r = and_parts (origin_within a.2 b.2) (all_within base more bs) q.1 in (
+        h.0 ∙ same_name a.0 b.0 p.0,
+        (within-has base N means) a.1 b.1 v.1 q.0 h.1,
+        within-known more bs env r.1 h.2,
+        origin_within-has top a.2 b.2 v.1 r.0 h.3,
+      )
   within-known (a ∷ more) (b ∷ bs) [] e h = absurd h
   within-known _ _ env e h = absurd (false≢true e)
 
@@ -253,23 +261,34 @@ module _ (base : Base) (N : Names) (means : Means base.defs N) where
       by true more = h.1
       by false more = more
 
-  assigned-known : (name : List ℕ) (s : Shape) (x : Value) → HasShape N s x → (ks : Known) (env : Environment) → HasKnown ks env
-      → HasKnown (assigned_shape name s ks) (assign_variable name x env)
-  assigned-known name s x f [] [] h = tt
-  assigned-known name s x f (k ∷ ks) (v ∷ env) h = rw h.0 (by (bytes_eq k.0 name) (assigned-known name s x f ks env h.2))
+  assigned-known : (name : List ℕ) (s : Shape) (o : Origin) (x : Value) → HasShape N s x → HasOrigin top o x → (ks : Known) (env : Environment) → HasKnown ks env
+      → HasKnown (assigned_shape name s o ks) (assign_variable name x env)
+  assigned-known name s o x f i [] [] h = tt
+  assigned-known name s o x f i (k ∷ ks) (v ∷ env) h = rw h.0 (by (bytes_eq k.0 name) (assigned-known name s o x f i ks env h.2))
     where
-      by : (b : Bool) → HasKnown (assigned_shape name s ks) (assign_variable name x env)
-          → HasKnown (if b then (k.0, s) ∷ ks else k ∷ assigned_shape name s ks) (if b then (k.0, x) ∷ env else (k.0, v.1) ∷ assign_variable name x env)
-      by true more = (refl, f, h.2)
-      by false more = (refl, h.1, more)
-  assigned-known name s x f _ _ h = absurd h
+      by : (b : Bool) → HasKnown (assigned_shape name s o ks) (assign_variable name x env)
+          → HasKnown (if b then (k.0, s, o) ∷ ks else k ∷ assigned_shape name s o ks) (if b then (k.0, x) ∷ env else (k.0, v.1) ∷ assign_variable name x env)
+      by true more = (refl, f, h.2, i)
+      by false more = (refl, h.1, more, h.3)
+  assigned-known name s o x f i _ _ h = absurd h
 
-  pub bound-known : (b : Binding) (k s : Shape) (e : Element) → HasShape N k e.0 → HasShape N s e.1 → (ks : Known) (env : Environment) → HasKnown ks env
-      → HasKnown (bound_shapes b k s ks) (bind b e env)
-  bound-known unbound k s e f g ks env h = h
-  bound-known (declare name) k s e f g ks env h = (refl, g, h)
-  bound-known (assign name) k s e f g ks env h = assigned-known name s e.1 g ks env h
-  bound-known (declare_pair key name) k s e f g ks env h = (refl, g, (refl, f, h))
+  pub bound-known : (b : Binding) (k s : Shape) (o : Origin) (e : Element) → HasShape N k e.0 → HasShape N s e.1 → HasOrigin top o e.1 → (ks : Known) (env : Environment)
+      → HasKnown ks env → HasKnown (bound_shapes b k s o ks) (bind b e env)
+  bound-known unbound k s o e f g i ks env h = h
+  bound-known (declare name) k s o e f g i ks env h = (refl, g, h, i)
+  bound-known (assign name) k s o e f g i ks env h = assigned-known name s o e.1 g i ks env h
+  bound-known (declare_pair key name) k s o e f g i ks env h = (refl, g, (refl, f, h, tt), i)
+
+  origin-has : (name : List ℕ) (ks : Known) (env : Environment) → HasKnown ks env → HasOrigin top (variable_origin name ks) (lookup name env)
+  origin-has name [] [] h = tt
+  origin-has name [] (v ∷ env) h = absurd h
+  origin-has name (k ∷ ks) [] h = absurd h
+  origin-has name (k ∷ ks) (v ∷ env) h = rw h.0 (by (bytes_eq k.0 name) (origin-has name ks env h.2))
+    where
+      by : (b : Bool) → HasOrigin top (variable_origin name ks) (lookup name env)
+          → HasOrigin top (if b then k.2 else variable_origin name ks) (option_map_or (λ v. v.1) (if b then Some (k.0, v.1) else find (λ v. bytes_eq v.0 name) env) nothing)
+      by true more = h.3
+      by false more = more
 
   refine-known : (least : ℕ) (m : MissingKey) (name : List ℕ) (ns : List (List ℕ)) (x : Value) → IsThere least x → (ks : Known) (env : Environment) → HasKnown ks env
       → chain m ns (lookup name env) ≡ Ok x → HasKnown (refine_variable base least name ns ks) env
@@ -278,10 +297,28 @@ module _ (base : Base) (N : Names) (means : Means base.defs N) where
     where
       by : (b : Bool) → chain m ns (option_map_or (λ v. v.1) (if b then Some (k.0, v.1) else find (λ v. bytes_eq v.0 name) env) nothing) ≡ Ok x
           → (chain m ns (lookup name env) ≡ Ok x → HasKnown (refine_variable base least name ns ks) env)
-          → HasKnown (if b then (k.0, refine base least ns k.1) ∷ ks else k ∷ refine_variable base least name ns ks) (v ∷ env)
-      by true y more = (h.0, (refine-has base N means) least k.1 m ns v.1 x h.1 y t, h.2)
-      by false y more = (h.0, h.1, more y)
+          → HasKnown (if b then (k.0, refine base least ns k.1, k.2) ∷ ks else k ∷ refine_variable base least name ns ks) (v ∷ env)
+      by true y more = (h.0, (refine-has base N means) least k.1 m ns v.1 x h.1 y t, h.2, h.3)
+      by false y more = (h.0, h.1, more y, h.3)
   refine-known least m name ns x t _ _ h e = absurd h
+
+  -- where the end of a chain from the data of the template is there, so is what has its origin
+  along-has : (least : ℕ) (ns : List (List ℕ)) (x : Value) → IsThere least x → chain mode.Error ns top ≡ Ok x → (o : Origin) (s : Shape) (y : Value) → HasShape N s y → HasOrigin top o y
+      → HasShape N (refine_from base least ns o s) y
+  along-has least ns x t e None s y h i = h
+  along-has least ns x t e (Some ps) s y h i = by (rest_of ps ns) refl
+    where
+      by : (r : Option (List (List ℕ))) → rest_of ps ns ≡ r → HasShape N (refine_along base least ns s r) y
+      by None is = h
+      by (Some ms) is =
+          let whole : chain mode.Error (ps ++ ms) top ≡ Ok x = subst (λ (qs : List (List ℕ)). chain mode.Error qs top ≡ Ok x) (rest_of-is ps ns ms is) e in
+          (refine-has base N means) least s mode.Error ms y x h (at-rest mode.Error ps ms top y x i whole t.0) t
+
+  all-along : (least : ℕ) (ns : List (List ℕ)) (x : Value) → IsThere least x → chain mode.Error ns top ≡ Ok x → (ks : Known) (env : Environment) → HasKnown ks env
+      → HasKnown (refine_all base least ns ks) env
+  all-along least ns x t e [] [] h = tt
+  all-along least ns x t e (k ∷ ks) (v ∷ env) h = (h.0, along-has least ns x t e k.2 k.1 v.1 h.1 h.3, all-along least ns x t e ks env h.2, h.3)
+  all-along least ns x t e _ _ h = absurd h
 
   -- ---- pipelines
 
@@ -501,81 +538,150 @@ module _ (base : Base) (N : Names) (means : Means base.defs N) where
 
   -- dot and the variables are as known
   abbrev pub Fits : State → Value → Environment → Type 0
-  Fits k d env = HasShape N k.dot d × HasKnown k.env env
+  Fits k d env = HasShape N k.dot d × HasKnown k.env env × HasOrigin top k.from d
 
   abbrev pub place : MissingKey → Value → Environment → Place
   place m d env = record { missing_key = m; dot = d; env = env }
 
-  -- ---- narrowing by the entry of a key
+  -- ---- places
 
-  index-chain : (n : List ℕ) (d v : Value) → (apply_function func.Index (d ∷ string n ∷ [])).result ≡ Ok v → chain mode.Zero (n ∷ []) d ≡ Ok v
-  index-chain n (mapping es) v e = by (entry_at n es) e
+  -- the value from which a place goes on
+  abbrev root_value : Value → Environment → Option (List ℕ) → Value
+  root_value d env root = option_map_or (λ name. lookup name env) root d
+
+  -- a value is at a place, but for nothing and null
+  abbrev IsPlaced : Value → Environment → Option check.Place → Value → Type 0
+  IsPlaced d env None v = Unit {0}
+  IsPlaced d env (Some p) v = IsAt p.path (root_value d env p.root) v
+
+  index-at : (n : List ℕ) (d v : Value) → (apply_function func.Index (d ∷ string n ∷ [])).result ≡ Ok v → IsAt (n ∷ []) d v
+  index-at n (mapping es) v e = at-chain mode.Zero (n ∷ []) (mapping es) v (by (entry_at n es) e)
     where
       by : (o : Option Value) → ◌≡◌ {A = Result Value Cause} (Ok (unwrap_or o null)) (Ok v)
           → and_then (field_value mode.Zero n (option_map_or found o missing)) (chain mode.Zero []) ≡ Ok v
       by None e = e
       by (Some w) e = e
-  index-chain n _ v e = cc
+  index-at n _ v e = cc
 
   -- what an `index` of these operands gives
   abbrev index_value : MissingKey → Value → Environment → Operands → Result Value Cause
   index_value m d env os = (given_then (operand_values (place m d env) os) (λ vs. apply_function func.Index (vs ++ []))).result
 
-  index-fits : (least : ℕ) (m : MissingKey) (os : Operands) (k : State) (d : Value) (env : Environment) (v : Value) → Fits k d env
-      → index_value m d env os ≡ Ok v → IsThere least v → Fits (narrow_to base least (index_place os) k) d env
-  index-fits least m (operand dot (operand (text_constant n) no_operand)) k d env v h e t =
-      ((refine-has base N means) least k.dot mode.Zero (n ∷ []) d v h.0 (index-chain n d v e) t, h.1)
-  index-fits least m (operand (variable name []) (operand (text_constant n) no_operand)) k d env v h e t =
-      (h.0, refine-known least mode.Zero name (n ∷ []) v t k.env env h.1 (index-chain n (lookup name env) v e))
-  index-fits least m (operand (variable name (x ∷ xs)) (operand (text_constant n) no_operand)) k d env v h e t = h
-  index-fits least m (operand _ (operand (text_constant n) no_operand)) k d env v h e t = h
-  index-fits least m (operand _ (operand _ no_operand)) k d env v h e t = h
-  index-fits least m (operand _ (operand _ (operand _ _))) k d env v h e t = h
-  index-fits least m (operand _ no_operand) k d env v h e t = h
-  index-fits least m no_operand k d env v h e t = h
-
-  there-same : (least : ℕ) (v : Value) → IsThere least (without_null v) → IsThere least v
-  there-same least null h = absurd (false≢true (sym h.0))
-  there-same least nothing h = h
-  there-same least (boolean b) h = h
-  there-same least (number n) h = h
-  there-same least (string s) h = h
-  there-same least (sequence vs) h = h
-  there-same least (mapping es) h = h
-
-  group-ok : (least : ℕ) (r : Result Value Cause) (a b : Bool) (v : Value)
-      → (go_on (go_on r a (λ w. as_given (Ok (without_null w)))).result b (λ w. as_given (chain mode.Zero [] w))).result ≡ Ok v → IsThere least v
-      → (w : Value) × (r ≡ Ok w) × IsThere least w
-  group-ok least (Ok w) a b v e t = let same : v ≡ without_null w = cc in (w, refl, there-same least w (subst (IsThere least) same t))
-  group-ok least (Err cause) a b v e t = cc
+  index-placed : (m : MissingKey) (os : Operands) (d : Value) (env : Environment) (v : Value) → index_value m d env os ≡ Ok v → IsPlaced d env (index_place os) v
+  index-placed m (operand dot (operand (text_constant n) no_operand)) d env v e = index-at n d v e
+  index-placed m (operand (variable name []) (operand (text_constant n) no_operand)) d env v e = index-at n (lookup name env) v e
+  index-placed m (operand (variable name (x ∷ xs)) (operand (text_constant n) no_operand)) d env v e = tt
+  index-placed m (operand _ (operand (text_constant n) no_operand)) d env v e = tt
+  index-placed m (operand _ (operand _ no_operand)) d env v e = tt
+  index-placed m (operand _ (operand _ (operand _ _))) d env v e = tt
+  index-placed m (operand _ no_operand) d env v e = tt
+  index-placed m no_operand d env v e = tt
 
   by_count-ok : (f : Func) (t : Bool) (g : Given Value) (v : Value) → (by_count f t g).result ≡ Ok v → g.result ≡ Ok v
   by_count-ok f true g v e = e
   by_count-ok f false g v e = cc
 
-  group-fits : (least : ℕ) (m : MissingKey) (f : Func) (os : Operands) (k : State) (d : Value) (env : Environment) (v : Value) → Fits k d env
-      → (command_value (place m d env) (operand (function f) os) None).result ≡ Ok v → IsThere least v → Fits (narrow_to base least (call_place f os) k) d env
-  group-fits least m func.Index os k d env v h e t =
-      index-fits least m os k d env v h
-      (by_count-ok func.Index (takes func.Index (operand_count os + 0)) (given_then (operand_values (place m d env) os) (λ vs. apply_function func.Index (vs ++ []))) v e) t
-  group-fits least m _ os k d env v h e t = h
+  call-placed : (m : MissingKey) (f : Func) (os : Operands) (d : Value) (env : Environment) (v : Value)
+      → (command_value (place m d env) (operand (function f) os) None).result ≡ Ok v → IsPlaced d env (call_place f os) v
+  call-placed m func.Index os d env v e =
+      index-placed m os d env v
+      (by_count-ok func.Index (takes func.Index (operand_count os + 0)) (given_then (operand_values (place m d env) os) (λ vs. apply_function func.Index (vs ++ []))) v e)
+  call-placed m _ os d env v e = tt
+
+  gone-placed : (d : Value) (env : Environment) (o : Option check.Place) (v : Value) → IsPlaced d env o v → IsPlaced d env o (without_null v)
+  gone-placed d env None v h = tt
+  gone-placed d env (Some p) v h = at-gone p.path (root_value d env p.root) v h
+
+  -- a command whose null is nothing
+  without-ok : (r : Result Value Cause) (b : Bool) (v : Value) → (go_on r b (λ w. as_given (Ok (without_null w)))).result ≡ Ok v → (w : Value) × (r ≡ Ok w) × (without_null w ≡ v)
+  without-ok (Ok w) b v e = (w, refl, cc)
+  without-ok (Err cause) b v e = cc
+
+  -- .. of a pipeline in parentheses
+  inner-ok : (r : Result Value Cause) (b : Bool) (m : MissingKey) (v : Value) → (go_on r b (λ w. as_given (chain m [] w))).result ≡ Ok v → r ≡ Ok v
+  inner-ok (Ok w) b m v e = e
+  inner-ok (Err cause) b m v e = cc
+
+  operand-placed : (m : MissingKey) (o : Operand) (d : Value) (env : Environment) (v : Value) → (operand_value (place m d env) o).result ≡ Ok v → IsPlaced d env (place_of o) v
+  operand-placed m dot d env v e = at-chain mode.Error [] d v e
+  operand-placed m (fields names) d env v e = at-chain m names d v e
+  operand-placed m (variable name names) d env v e = at-chain m names (lookup name env) v e
+  operand-placed m (group (command (operand (function f) os) no_command) []) d env v e =
+      let c = command_value (place m d env) (operand (function f) os) None in
+      let p = commands_value (place m d env) (command (operand (function f) os) no_command) None in
+      let g = without-ok c.result c.made_text v (inner-ok p.result p.made_text m v e) in
+      subst (λ (x : Value). IsPlaced d env (call_place f os) x) g.2 (gone-placed d env (call_place f os) g.0 (call-placed m f os d env g.0 g.1))
+  operand-placed m (group p (n ∷ ns)) d env v e = tt
+  operand-placed m (group no_command []) d env v e = tt
+  operand-placed m (group (command no_operand no_command) []) d env v e = tt
+  operand-placed m (group (command (operand _ os) no_command) []) d env v e = tt
+  operand-placed m (group (command os (command us cs)) []) d env v e = tt
+  operand-placed m _ d env v e = tt
+
+  pipeline-placed : (m : MissingKey) (p : Pipeline) (d : Value) (env : Environment) (v : Value) → (commands_value (place m d env) p None).result ≡ Ok v
+      → IsPlaced d env (pipeline_place p) v
+  pipeline-placed m (command (operand (function f) os) no_command) d env v e =
+      let c = command_value (place m d env) (operand (function f) os) None in
+      let g = without-ok c.result c.made_text v e in
+      subst (λ (x : Value). IsPlaced d env (call_place f os) x) g.2 (gone-placed d env (call_place f os) g.0 (call-placed m f os d env g.0 g.1))
+  pipeline-placed m (command (operand nil no_operand) no_command) d env v e = tt
+  pipeline-placed m (command (operand o no_operand) no_command) d env v e =
+      let c = operand_value (place m d env) o in
+      let g = without-ok c.result c.made_text v e in
+      subst (λ (x : Value). IsPlaced d env (place_of o) x) g.2 (gone-placed d env (place_of o) g.0 (operand-placed m o d env g.0 g.1))
+  pipeline-placed m (command (operand _ (operand _ _)) no_command) d env v e = tt
+  pipeline-placed m (command no_operand no_command) d env v e = tt
+  pipeline-placed m (command no_operand (command _ _)) d env v e = tt
+  pipeline-placed m (command (operand _ _) (command _ _)) d env v e = tt
+  pipeline-placed m no_command d env v e = tt
+
+  root-has : (k : State) (d : Value) (env : Environment) (root : Option (List ℕ)) → Fits k d env → HasOrigin top (root_origin k root) (root_value d env root)
+  root-has k d env None h = h.2
+  root-has k d env (Some name) h = origin-has name k.env env h.1
+
+  place-has : (k : State) (d : Value) (env : Environment) (p : check.Place) (v : Value) → Fits k d env → IsAt p.path (root_value d env p.root) v → HasOrigin top (place_origin k p) v
+  place-has k d env p v h i = by (root_origin k p.root) (root-has k d env p.root h)
+    where
+      by : (o : Origin) → HasOrigin top o (root_value d env p.root) → HasOrigin top (option_map (λ ps. ps ++ p.path) o) v
+      by None g = tt
+      by (Some ps) g = at-joined ps p.path top (root_value d env p.root) v g i
+
+  pub pipeline-has : (m : MissingKey) (p : Pipeline) (k : State) (d : Value) (env : Environment) (v : Value) → Fits k d env → (commands_value (place m d env) p None).result ≡ Ok v
+      → HasOrigin top (pipeline_origin k p) v
+  pipeline-has m p k d env v h e = by (pipeline_place p) (pipeline-placed m p d env v e)
+    where
+      by : (o : Option check.Place) → IsPlaced d env o v → HasOrigin top (option_and_then (place_origin k) o) v
+      by None g = tt
+      by (Some q) g = place-has k d env q v h g
+
+  root-fits : (least : ℕ) (p : check.Place) (k : State) (d : Value) (env : Environment) (v : Value) → Fits k d env → chain mode.Error p.path (root_value d env p.root) ≡ Ok v
+      → IsThere least v → Fits (narrow_root base least p k) d env
+  root-fits least p k d env v h e t = by p.root e
+    where
+      by : (root : Option (List ℕ)) → chain mode.Error p.path (root_value d env root) ≡ Ok v
+          → Fits (option_map_or (λ name. record k { env = refine_variable base least name p.path k.env }) root (record k { dot = refine base least p.path k.dot })) d env
+      by None e = ((refine-has base N means) least k.dot mode.Error p.path d v h.0 e t, h.1, h.2)
+      by (Some name) e = (h.0, refine-known least mode.Error name p.path v t k.env env h.1 e, h.2)
+
+  -- where the value of a place is there, what is known then holds
+  placed-fits : (least : ℕ) (o : Option check.Place) (k : State) (d : Value) (env : Environment) (v : Value) → Fits k d env → IsPlaced d env o v → IsThere least v
+      → Fits (narrow_to base least o k) d env
+  placed-fits least None k d env v h i t = h
+  placed-fits least (Some p) k d env v h i t = by (place_origin k p) (place-has k d env p v h i)
+    where
+      by : (o : Origin) → HasOrigin top o v → Fits (option_map_or (λ ns. narrow_from base least ns k) o (narrow_root base least p k)) d env
+      by None g = root-fits least p k d env v h (i.1 t.0 mode.Error) t
+      by (Some ns) g =
+          let e = g.1 t.0 mode.Error in
+          (along-has least ns v t e k.from k.dot d h.0 h.2, all-along least ns v t e k.env env h.1, h.2)
+
+  index-fits : (least : ℕ) (m : MissingKey) (os : Operands) (k : State) (d : Value) (env : Environment) (v : Value) → Fits k d env
+      → index_value m d env os ≡ Ok v → IsThere least v → Fits (narrow_to base least (index_place os) k) d env
+  index-fits least m os k d env v h e t = placed-fits least (index_place os) k d env v h (index-placed m os d env v e) t
 
   narrow_by-fits : (least : ℕ) (m : MissingKey) (o : Operand) (k : State) (d : Value) (env : Environment) (v : Value) → Fits k d env
       → (operand_value (place m d env) o).result ≡ Ok v → IsThere least v → Fits (narrow_by base least o k) d env
-  narrow_by-fits least m dot k d env v h e t =
-      let same : v ≡ d = cc in ((refine-has base N means) least k.dot mode.Error [] d d h.0 refl (subst (IsThere least) same t), h.1)
-  narrow_by-fits least m (fields names) k d env v h e t = ((refine-has base N means) least k.dot m names d v h.0 e t, h.1)
-  narrow_by-fits least m (variable name names) k d env v h e t = (h.0, refine-known least m name names v t k.env env h.1 e)
-  narrow_by-fits least m (group (command (operand (function f) os) no_command) []) k d env v h e t =
-      let c = command_value (place m d env) (operand (function f) os) None in
-      let g = group-ok least c.result c.made_text (commands_value (place m d env) (command (operand (function f) os) no_command) None).made_text v e t in
-      group-fits least m f os k d env g.0 h g.1 g.2
-  narrow_by-fits least m (group p (n ∷ ns)) k d env v h e t = h
-  narrow_by-fits least m (group no_command []) k d env v h e t = h
-  narrow_by-fits least m (group (command no_operand no_command) []) k d env v h e t = h
-  narrow_by-fits least m (group (command (operand _ os) no_command) []) k d env v h e t = h
-  narrow_by-fits least m (group (command os (command us cs)) []) k d env v h e t = h
-  narrow_by-fits least m _ k d env v h e t = h
+  narrow_by-fits least m o k d env v h e t = placed-fits least (place_of o) k d env v h (operand-placed m o d env v e) t
 
   -- ---- narrowing by comparisons
 
@@ -612,11 +718,6 @@ module _ (base : Base) (N : Names) (means : Means base.defs N) where
       → (w : Value) × (r ≡ Ok w) × (truth w ≡ truth v)
   gone-ok (Ok w) b v e = let same : without_null w ≡ v = cc in (w, refl, sym (truth-same w) ∙ ap truth same)
   gone-ok (Err cause) b v e = cc
-
-  -- .. of a pipeline in parentheses
-  inner-ok : (r : Result Value Cause) (b : Bool) (m : MissingKey) (v : Value) → (go_on r b (λ w. as_given (chain m [] w))).result ≡ Ok v → r ≡ Ok v
-  inner-ok (Ok w) b m v e = e
-  inner-ok (Err cause) b m v e = cc
 
   -- two values that a function gets, and one
   two-ok : (f : Func) (x y : Result Value Cause) (a b c e : Bool) (v : Value)

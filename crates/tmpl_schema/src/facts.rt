@@ -5,7 +5,7 @@ ghost use Rattle.std.specs.Prelude.{◌≡◌, ◌^◌, ◌<◌, IfSome, false, 
 ghost use Rattle.std.specs.Option.{option_and_then, option_map};
 ghost use Rattle.tmpl_grammar.specs.View.{commands_in, operand_of, operands_in};
 ghost use Rattle.tmpl_schema.specs.computed.Check.{bounds_of, call_counts, call_fact, call_place, command_call, constant_fact, count_of, counts_in, first_fact, group_counts, group_place, head_of, index_place, key_of, key_place};
-ghost use Rattle.tmpl_schema.specs.computed.Check.{least_by, length_fact, mirrored, more_than, one_of, operand_counts, pair_fact, piped_fact, pipeline_call, place_of, tells, tells_by, text_of, two_of};
+ghost use Rattle.tmpl_schema.specs.computed.Check.{head_place, least_by, length_fact, mirrored, more_than, one_of, operand_counts, pair_fact, piped_fact, pipeline_call, pipeline_place, place_of, tells, tells_by, text_of, two_of};
 ghost use Rattle.tmpl_schema.specs.computed.View.{call_seen, fact_seen, head_seen, place_seen};
 ghost use Rattle.tmpl_shape.specs.computed.View.{key_seen, shape_seen};
 
@@ -470,4 +470,32 @@ pub(crate) fn piped_fact<'p>(
         None => None,
     };
     length_fact(full, mirrored(func), counted, number)
+}
+
+/// The place of what a command gives whose operand after the first are these.
+fn command_place<'p>(first: &'p Operand, rest: &'p [Operand]) -> Option<Place<'p>>
+    ensures { option_map place_seen result
+        ≡ head_place (head_of (operand_of first.now)) (operand_of first.now) (operands_in rest.now) }
+{
+    match head_of(first) {
+        Head::Function(func) => call_place(func, rest),
+        Head::Nil | Head::Value => match rest {
+            [] => place_of(first),
+            [_, _more @ ..] => None,
+        },
+    }
+}
+
+/// The place of what a pipeline gives, but for nothing and null.
+pub(crate) fn pipeline_place(commands: &[Command]) -> Option<Place<'_>>
+    ensures { option_map place_seen result ≡ pipeline_place (commands_in commands.now) }
+{
+    match commands {
+        [only] => match only.operands.as_slice() {
+            [] => None,
+            [first, rest @ ..] => command_place(first, rest),
+        },
+        [] => None,
+        [_, _, ..] => None,
+    }
 }

@@ -6,23 +6,29 @@ ghost use Rattle.std.specs.Option.{option_map};
 ghost use Rattle.tmpl_grammar.specs.View.{commands_in, operand_of, operands_in};
 ghost use Rattle.tmpl_shape.specs.View.{shape_of};
 ghost use Rattle.tmpl_shape.specs.computed.View.{base_of};
-ghost use Rattle.tmpl_schema.specs.computed.Check.{at_start, narrow, narrow_all, narrow_as, narrow_by, narrow_command, narrow_operand, narrow_to};
-ghost use Rattle.tmpl_schema.specs.computed.View.{fact_seen, narrow_call, narrow_piped, place_seen, state_of};
+ghost use Rattle.tmpl_schema.specs.computed.Check.{at_start, narrow, narrow_all, narrow_as, narrow_by, narrow_command, narrow_from, narrow_operand, narrow_root, narrow_to};
+ghost use Rattle.tmpl_schema.specs.computed.Check.{pipeline_origin, place_origin, root_origin};
+ghost use Rattle.tmpl_schema.specs.computed.View.{fact_seen, narrow_call, narrow_piped, origin_of, place_seen, state_of};
 
 use crate::facts::{
     Fact, Head, Place, call_fact, command_call, counts_in, head_of, index_place, piped_fact,
-    place_of,
+    pipeline_place, place_of,
 };
-use crate::known::{Known, copy_known, put_variable, refine_variable};
+use crate::known::{
+    Known, copy_known, put_variable, refine_all, refine_from, refine_variable, variable_origin,
+};
+use crate::origin::{copy_origin, join_paths};
 use std::alloc::{AllocError, Global};
 use tmpl_funcs::Func;
 use tmpl_grammar::{Command, Operand};
 use tmpl_shape::{Base, Shape, copy_shape, refine};
+use tmpl_values::Bytes;
 
 /// What is known of dot and of the variables.
 #[derive(Drop)]
 pub(crate) struct State {
     pub(crate) dot: Shape,
+    pub(crate) origin: Option<Vec<Bytes>>,
     pub(crate) known: Known,
 }
 
@@ -31,8 +37,10 @@ pub(crate) fn copy_state(alloc: Global, state: &State) -> Result<State, AllocErr
     ensures { IfOk result (λ k. state_of k ≡ state_of state.now) }
 {
     let dot = copy_shape(alloc, &state.dot)?;
+    let origin = copy_origin(alloc, &state.origin)?;
     Ok(State {
         dot,
+        origin,
         known: copy_known(alloc, &state.known)?,
     })
 }
@@ -42,11 +50,102 @@ pub(crate) fn at_start(alloc: Global, shape: &Shape) -> Result<State, AllocError
     ensures { IfOk result (λ k. state_of k ≡ at_start (shape_of shape.now)) }
 {
     let dot = copy_shape(alloc, shape)?;
-    let known = put_variable(alloc, &[], copy_shape(alloc, shape)?, Known::Empty)?;
-    Ok(State { dot, known })
+    let origin: Vec<Bytes> = Vec::new(alloc);
+    let of_variable: Vec<Bytes> = Vec::new(alloc);
+    let shape = copy_shape(alloc, shape)?;
+    let known = put_variable(alloc, &[], shape, Some(of_variable), Known::Empty)?;
+    Ok(State {
+        dot,
+        origin: Some(origin),
+        known,
+    })
 }
 
-/// Where the value of a place is neither nothing nor null, and has at least as many items if it is a list.
+/// The origin of the root of a place.
+fn root_origin<'s>(state: &'s State, root: Option<&[u8]>) -> Option<&'s [Bytes]>
+    ensures { option_map (λ p. p.now) result
+        ≡ root_origin (state_of state.now) (option_map (λ name. name.now) root.entry) }
+{
+    match root {
+        Some(name) => variable_origin(name, &state.known),
+        None => match &state.origin {
+            Some(path) => Some(path.as_slice()),
+            None => None,
+        },
+    }
+}
+
+/// Where the value of a place is from.
+fn place_origin(
+    alloc: Global,
+    place: &Place<'_>,
+    state: &State,
+) -> Result<Option<Vec<Bytes>>, AllocError>
+    ensures { IfOk result (λ o. origin_of o ≡ place_origin (state_of state.now) (place_seen place.now)) }
+{
+    match root_origin(state, place.root) {
+        Some(path) => Ok(Some(join_paths(alloc, path, place.path)?)),
+        None => Ok(None),
+    }
+}
+
+/// Where the value of a pipeline is from.
+pub(crate) fn pipeline_origin(
+    alloc: Global,
+    commands: &[Command],
+    state: &State,
+) -> Result<Option<Vec<Bytes>>, AllocError>
+    ensures { IfOk result (λ o. origin_of o ≡ pipeline_origin (state_of state.now) (commands_in commands.now)) }
+{
+    match pipeline_place(commands) {
+        Some(place) => place_origin(alloc, &place, state),
+        None => Ok(None),
+    }
+}
+
+/// Where the value of a place of no known origin is neither nothing nor null, and has at least as many items if it is a
+/// list.
+fn narrow_root(
+    base: &Base<'_>,
+    least: u64,
+    place: &Place<'_>,
+    state: &State,
+) -> Result<State, AllocError>
+    ensures { IfOk result (λ k. state_of k
+        ≡ narrow_root (base_of base.now) least (place_seen place.now) (state_of state.now)) }
+{
+    let origin = copy_origin(base.alloc, &state.origin)?;
+    match place.root {
+        None => {
+            let dot = refine(base, least, place.path, &state.dot)?;
+            let known = copy_known(base.alloc, &state.known)?;
+            Ok(State { dot, origin, known })
+        }
+        Some(name) => {
+            let dot = copy_shape(base.alloc, &state.dot)?;
+            let known = refine_variable(base, least, name, place.path, &state.known)?;
+            Ok(State { dot, origin, known })
+        }
+    }
+}
+
+/// Where what has this origin is so.
+fn narrow_from(
+    base: &Base<'_>,
+    least: u64,
+    names: &[Bytes],
+    state: &State,
+) -> Result<State, AllocError>
+    ensures { IfOk result (λ k. state_of k
+        ≡ narrow_from (base_of base.now) least names.now (state_of state.now)) }
+{
+    let dot = refine_from(base, least, names, &state.origin, &state.dot)?;
+    let origin = copy_origin(base.alloc, &state.origin)?;
+    let known = refine_all(base, least, names, &state.known)?;
+    Ok(State { dot, origin, known })
+}
+
+/// Where the value of a place is so, and with it all that has its origin.
 fn narrow_to(
     base: &Base<'_>,
     least: u64,
@@ -58,19 +157,9 @@ fn narrow_to(
 {
     match place {
         None => copy_state(base.alloc, state),
-        Some(place) => match place.root {
-            None => {
-                let dot = refine(base, least, place.path, &state.dot)?;
-                Ok(State {
-                    dot,
-                    known: copy_known(base.alloc, &state.known)?,
-                })
-            }
-            Some(name) => {
-                let dot = copy_shape(base.alloc, &state.dot)?;
-                let known = refine_variable(base, least, name, place.path, &state.known)?;
-                Ok(State { dot, known })
-            }
+        Some(place) => match place_origin(base.alloc, &place, state)? {
+            Some(names) => narrow_from(base, least, names.as_slice(), state),
+            None => narrow_root(base, least, &place, state),
         },
     }
 }

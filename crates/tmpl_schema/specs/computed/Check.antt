@@ -22,23 +22,31 @@ use Rattle.tmpl_shape.specs.computed.Shapes.{Key, of_name, of_text, of_place, in
 use Rattle.tmpl_shape.specs.computed.Calls.{call_shape, shape_by_function}
 use Rattle.tmpl_shape.specs.computed.Formats.{printf_shape}
 
--- the shapes of the variables in scope, the newest first
+-- the chain of fields from the data of the template at which a value is, but for nothing and null, where that is known
+abbrev pub Origin : Type 0
+Origin = Option (List (List ℕ))
+
+-- the variables in scope, each with its shape and its origin, the newest first
 abbrev pub Known : Type 0
-Known = List (List ℕ × Shape)
+Known = List (List ℕ × Shape × Origin)
 
 abbrev pub variable_shape : List ℕ → Known → Option Shape
 variable_shape name [] = None
 variable_shape name (k ∷ ks) = if bytes_eq k.0 name then Some k.1 else variable_shape name ks
 
-abbrev pub assigned_shape : List ℕ → Shape → Known → Known
-assigned_shape name s [] = []
-assigned_shape name s (k ∷ ks) = if bytes_eq k.0 name then (k.0, s) ∷ ks else k ∷ assigned_shape name s ks
+abbrev pub variable_origin : List ℕ → Known → Origin
+variable_origin name [] = None
+variable_origin name (k ∷ ks) = if bytes_eq k.0 name then k.2 else variable_origin name ks
 
-abbrev pub bound_shapes : Binding → Shape → Shape → Known → Known
-bound_shapes unbound k e ks = ks
-bound_shapes (declare name) k e ks = (name, e) ∷ ks
-bound_shapes (assign name) k e ks = assigned_shape name e ks
-bound_shapes (declare_pair key name) k e ks = (name, e) ∷ (key, k) ∷ ks
+abbrev pub assigned_shape : List ℕ → Shape → Origin → Known → Known
+assigned_shape name s o [] = []
+assigned_shape name s o (k ∷ ks) = if bytes_eq k.0 name then (k.0, s, o) ∷ ks else k ∷ assigned_shape name s o ks
+
+abbrev pub bound_shapes : Binding → Shape → Shape → Origin → Known → Known
+bound_shapes unbound k e o ks = ks
+bound_shapes (declare name) k e o ks = (name, e, o) ∷ ks
+bound_shapes (assign name) k e o ks = assigned_shape name e o ks
+bound_shapes (declare_pair key name) k e o ks = (name, e, o) ∷ (key, k, None) ∷ ks
 
 -- the oldest, as many as this
 abbrev pub last_of : {T : Type 0} → ℕ → List T → List T
@@ -227,10 +235,55 @@ abbrev pub piped_fact : Bool → Option Operand → Option (Func × Operands) �
 piped_fact c counted call = option_and_then (λ call. length_fact c (mirrored call.0) counted
     (option_and_then count_of (one_of call.1))) call
 
--- dot, and the variables
+-- what is left of a chain of fields after this one, with which it begins
+abbrev pub rest_of : List (List ℕ) → List (List ℕ) → Option (List (List ℕ))
+rest_of [] ns = Some ns
+rest_of (p ∷ ps) [] = None
+rest_of (p ∷ ps) (n ∷ ns) = if bytes_eq p n then rest_of ps ns else None
+
+abbrev pub is_path : List (List ℕ) → List (List ℕ) → Bool
+is_path [] [] = true
+is_path (p ∷ ps) (n ∷ ns) = bytes_eq p n && is_path ps ns
+is_path ps ns = false
+
+-- what is known of the second origin is known of the first
+abbrev pub origin_within : Origin → Origin → Bool
+origin_within o None = true
+origin_within None (Some ns) = false
+origin_within (Some ps) (Some ns) = is_path ps ns
+
+-- what is known of both
+abbrev pub join_origins : Origin → Origin → Origin
+join_origins o p = if origin_within o p then p else None
+
+-- dot and its origin, and the variables
 pub record State : Type 0 where
   pub dot : Shape
+  pub from : Origin
   pub env : Known
+
+-- where the value of a place is from
+abbrev pub root_origin : State → Option (List ℕ) → Origin
+root_origin k root = option_map_or (λ name. variable_origin name k.env) root k.from
+
+abbrev pub place_origin : State → Place → Origin
+place_origin k p = option_map (λ ps. ps ++ p.path) (root_origin k p.root)
+
+-- the place of what a command gives, and of what a pipeline does
+abbrev pub alone_place : Operand → Operands → Option Place
+alone_place o no_operand = place_of o
+alone_place o os = None
+
+abbrev pub head_place : Head → Operand → Operands → Option Place
+head_place (calls f) o os = call_place f os
+head_place h o os = alone_place o os
+
+abbrev pub pipeline_place : Pipeline → Option Place
+pipeline_place (command (operand o os) no_command) = head_place (head_of o) o os
+pipeline_place p = None
+
+abbrev pub pipeline_origin : State → Pipeline → Origin
+pipeline_origin k p = option_and_then (place_origin k) (pipeline_place p)
 
 -- what is known of a template that is called: the shape of what it is handed, or that it is not there
 pub data Callee : Type 0 where
@@ -246,7 +299,7 @@ abbrev pub holds_loop : Option Known → Known → Bool
 holds_loop None ks = true
 holds_loop (Some head) ks = nat_le (length head) (length ks)
 
-abbrev pub dot_in : Control → Shape → Shape → Shape
+abbrev pub dot_in : {T : Type 0} → Control → T → T → T
 dot_in control.With s d = s
 dot_in c s d = d
 
@@ -256,11 +309,11 @@ Checked = State → Option Known
 
 -- a template's start over a value of the shape
 abbrev pub at_start : Shape → State
-at_start s = record { dot = s; env = ([], s) ∷ [] }
+at_start s = record { dot = s; from = Some []; env = ([], s, Some []) ∷ [] }
 
 -- where a turn of a range begins
 abbrev pub in_turn : Header → Visit → Known → State
-in_turn h v ks = record { dot = v.element; env = bound_shapes h.binding v.key v.element ks }
+in_turn h v ks = record { dot = v.element; from = None; env = bound_shapes h.binding v.key v.element None ks }
 
 -- the variables after a turn
 abbrev pub turn_known : Header → Visit → (Option Known → Checked) → Known → Option Known
@@ -273,25 +326,45 @@ module _ (base : Base) where
   abbrev pub refine_variable : ℕ → List ℕ → List (List ℕ) → Known → Known
   refine_variable least name ns [] = []
   refine_variable least name ns (k ∷ ks) =
-      if bytes_eq k.0 name then (k.0, refine base least ns k.1) ∷ ks else k ∷ refine_variable least name ns ks
+      if bytes_eq k.0 name then (k.0, refine base least ns k.1, k.2) ∷ ks else k ∷ refine_variable least name ns ks
+
+  -- the values of an origin, where this chain from the data of the template is so
+  abbrev pub refine_along : ℕ → List (List ℕ) → Shape → Option (List (List ℕ)) → Shape
+  refine_along least ns s rest = option_map_or (λ ms. refine base least ms s) rest s
+
+  abbrev pub refine_from : ℕ → List (List ℕ) → Origin → Shape → Shape
+  refine_from least ns o s = refine_along least ns s (option_and_then (λ ps. rest_of ps ns) o)
+
+  abbrev pub refine_all : ℕ → List (List ℕ) → Known → Known
+  refine_all least ns [] = []
+  refine_all least ns (k ∷ ks) = (k.0, refine_from least ns k.2 k.1, k.2) ∷ refine_all least ns ks
 
   -- the same variables, each within the other's shape
   abbrev pub all_within : Known → Known → Bool
   all_within [] [] = true
-  all_within (k ∷ ks) (l ∷ ls) = bytes_eq k.0 l.0 && (within base k.1 l.1 && all_within ks ls)
+  all_within (k ∷ ks) (l ∷ ls) = bytes_eq k.0 l.0 && (within base k.1 l.1 && (origin_within k.2 l.2 && all_within ks ls))
   all_within ks ls = false
 
   abbrev pub join_all : Known → Known → Known
-  join_all (k ∷ ks) (l ∷ ls) = (k.0, join base k.1 l.1) ∷ join_all ks ls
+  join_all (k ∷ ks) (l ∷ ls) = (k.0, join base k.1 l.1, join_origins k.2 l.2) ∷ join_all ks ls
   join_all ks ls = []
 
   -- ---- pipelines
 
   -- what is known where the value of a place is neither nothing nor null, and has at least as many items if it is a list
-  abbrev pub narrow_to : ℕ → Option Place → State → State
-  narrow_to least None k = k
-  narrow_to least (Some p) k = option_map_or (λ name. record k { env = refine_variable least name p.path k.env })
+  -- .. of which no origin is known, or else of what has this one
+  abbrev pub narrow_root : ℕ → Place → State → State
+  narrow_root least p k = option_map_or (λ name. record k { env = refine_variable least name p.path k.env })
       p.root (record k { dot = refine base least p.path k.dot })
+
+  abbrev pub narrow_from : ℕ → List (List ℕ) → State → State
+  narrow_from least ns k = record k { dot = refine_from least ns k.from k.dot; env = refine_all least ns k.env }
+
+  abbrev pub narrow_at : ℕ → Place → State → State
+  narrow_at least p k = option_map_or (λ ns. narrow_from least ns k) (place_origin k p) (narrow_root least p k)
+
+  abbrev pub narrow_to : ℕ → Option Place → State → State
+  narrow_to least p k = option_map_or (λ p. narrow_at least p k) p k
 
   -- .. where an operand is so
   abbrev pub narrow_by : ℕ → Operand → State → State
@@ -474,10 +547,12 @@ module _ (base : Base) where
   abbrev pub in_body : Control → Header → State → Shape → State
   in_body c h k s =
       let u = narrow true h.pipeline k in
-      record { dot = dot_in c (fill base s) u.dot; env = bound_shapes h.binding nothings (fill base s) u.env }
+      let o = pipeline_origin k h.pipeline in
+      record { dot = dot_in c (fill base s) u.dot; from = dot_in c o u.from; env = bound_shapes h.binding nothings (fill base s) o u.env }
 
   abbrev pub in_other : Header → State → Shape → State
-  in_other h k s = let u = narrow false h.pipeline k in record u { env = bound_shapes h.binding nothings s u.env }
+  in_other h k s =
+      let u = narrow false h.pipeline k in record u { env = bound_shapes h.binding nothings s (pipeline_origin k h.pipeline) u.env }
 
   abbrev pub after_choice : Control → Header → State → Checked → Checked → Shape → Option Known
   after_choice c h k body other s =
@@ -503,7 +578,7 @@ module _ (base : Base) where
     pub after_node : MissingKey → Table → Option Known → State → NodeKind → Option Known
     after_node m table loop k (text bytes) = Some k.env
     after_node m table loop k (action h) =
-        option_map (λ s. bound_shapes h.binding nothings s k.env) (pipeline_shape m k h.pipeline)
+        option_map (λ s. bound_shapes h.binding nothings s (pipeline_origin k h.pipeline) k.env) (pipeline_shape m k h.pipeline)
     after_node m table loop k (control_node c h body other) =
         if holds_loop loop k.env then option_and_then
         (after_control c loop h k (λ l u. after_nodes m table l u body) (λ u. after_nodes m table loop u other))

@@ -1,7 +1,8 @@
 -- What the program's values that only the check has stand for.
-use Rattle.std.specs.Prelude.{ℕ, Bool, true, false, not, List, [], ◌∷◌, ◌++◌, map, Option, Some, None, option_to_list, if◌then◌else◌}
+use Rattle.std.specs.Prelude.{ℕ, Bool, true, false, not, List, [], ◌∷◌, ◌++◌, map, Option, Some, None, Vec, option_to_list, if◌then◌else◌}
 use Rattle.std.specs.Option.{option_and_then, option_map}
 use Rattle.std.specs.Borrow.{Bor}
+use Rattle.std.specs.Global.{Global}
 use Rattle.tmpl_shape.specs.Shape as spec
 use Rattle.tmpl_shape.specs.View.{shape_of}
 use Rattle.tmpl_shape.specs.computed.Calls.{call_shape}
@@ -13,8 +14,8 @@ use Rattle.tmpl_schema.specs.declared.facts.Head as held_head
 use Rattle.tmpl_schema.specs.declared.facts.Head.TheVariants as head
 use Rattle.tmpl_schema.specs.declared.facts.Place as held_place
 use Rattle.tmpl_schema.specs.computed.Check.{Fact, Head, calls, is_nil, is_value, Place}
-use Rattle.tmpl_schema.specs.computed.Check.{Known, State, Callee, Table, handed, absent, operand_shapes, after_choice, after_nodes}
-use Rattle.tmpl_schema.specs.computed.Check.{after_range, bound_shapes, call_state, command_call, counts_in, narrow_all, narrow_as, piped_fact, pipeline_shape, turn_known}
+use Rattle.tmpl_schema.specs.computed.Check.{Known, Origin, State, Callee, Table, handed, absent, operand_shapes, after_choice, after_nodes}
+use Rattle.tmpl_schema.specs.computed.Check.{after_range, bound_shapes, call_state, command_call, counts_in, narrow_all, narrow_as, piped_fact, pipeline_origin, pipeline_shape, turn_known}
 use Rattle.tmpl_grammar.specs.Tree.{Header}
 use Rattle.tmpl_syntax.specs.Tree.{Nodes}
 use Rattle.tmpl_grammar.specs.declared.tree.Control.{Control}
@@ -32,12 +33,15 @@ use Rattle.tmpl_schema.specs.declared.known.Known.{fold-Known}
 use Rattle.tmpl_schema.specs.declared.known.Known.TheOpen.{Known-F, Variable-F}
 use Rattle.tmpl_schema.specs.declared.state.State as held_state
 
+abbrev pub origin_of : Option (Vec (List ℕ) Global) → Origin
+origin_of o = option_map (λ path. path.items) o
+
 abbrev pub known_step : Known-F Known Known → Known
 known_step Known-F.Empty = []
 known_step (Known-F.More v) = v.value
 
 abbrev pub variable_step : Variable-F Known Known → Known
-variable_step v = (v.name, shape_of v.shape) ∷ v.older
+variable_step v = (v.name, shape_of v.shape, origin_of v.origin) ∷ v.older
 
 abbrev pub known_of : held_known.Known → Known
 known_of = fold-Known Known Known known_step variable_step
@@ -52,7 +56,7 @@ is_longer (x ∷ xs) [] = true
 is_longer (x ∷ xs) (y ∷ ys) = is_longer xs ys
 
 abbrev pub state_of : held_state.State → State
-state_of k = record { dot = shape_of k.dot; env = known_of k.known }
+state_of k = record { dot = shape_of k.dot; from = origin_of k.origin; env = known_of k.known }
 
 abbrev pub head_seen : held_head.Head → Head
 head_seen (head.Function f) = calls f
@@ -98,7 +102,7 @@ table_of (e ∷ es) x = if bytes_eq x e.name then Some (callee_of e.callee) else
 
 -- what is known after an action
 abbrev pub after_action : computed.Base → MissingKey → State → Header → Option Known
-after_action base m k h = option_map (λ s. bound_shapes h.binding spec.nothings s k.env) (pipeline_shape base m k h.pipeline)
+after_action base m k h = option_map (λ s. bound_shapes h.binding spec.nothings s (pipeline_origin k h.pipeline) k.env) (pipeline_shape base m k h.pipeline)
 
 -- after a turn of a range with this body
 abbrev pub turn_by : computed.Base → MissingKey → Table → Header → computed.Visit → Nodes → Known → Option Known
