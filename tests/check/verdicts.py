@@ -74,6 +74,8 @@ ACCEPTED = [
     ('{{if .items}}{{range .items}}{{html .name}}{{end}}{{else}}{{template "stop"}}{{end}}', ("each",)),
     ("{{with .user}}{{.name}}{{end}}{{if .user}}{{.user.name}}{{end}}", ("default",)),
     ("{{with .items}}{{(index . 0).name}}{{range slice . 1}}{{.name}}{{end}}{{end}}{{if .tree.items}}{{(index .tree.items 0).name}}{{end}}", ("each",)),
+    ("{{$x := .user}}{{if .user}}{{$x.name}}{{end}}{{if $x}}{{.user.name}}{{end}}", ("default",)),
+    ("{{if gt (len .items) 1}}{{(index .items 1).name}}{{end}}{{if lt (len .tree.items) 1}}{{else}}{{(index .tree.items 0).name}}{{end}}", ("each",)),
 ]
 # one that may fail, the mode, and data for which it does
 REFUSED = [
@@ -88,6 +90,9 @@ REFUSED = [
     ("{{range .items}}{{.name.x}}{{end}}", "default", {**DATA[0], "items": [{"name": "a"}]}),
     ("{{index .items 0}}", "default", DATA[0]),
     ("{{if .tree.items}}{{index .items 0}}{{end}}", "default", {**DATA[0], "tree": TREE}),
+    ("{{$x := .user}}{{$x = .tree}}{{if $x}}{{.user.name}}{{end}}", "error", DATA[0]),
+    ("{{if ge (len .items) 2}}{{index .items 2}}{{end}}", "each", {**DATA[0], "items": [{"name": "a"}, {"name": ""}]}),
+    ("{{if lt (len .items) 2}}{{index .items 0}}{{end}}", "each", DATA[0]),
     ("{{with .items}}{{index . 2}}{{end}}", "each", {**DATA[0], "items": [{"name": "a"}, {"name": ""}]}),
     ('{{define "w"}}{{.name}}{{range .items}}{{template "w" .name}}{{end}}{{end}}{{template "w" .tree}}', "default", {**DATA[0], "tree": TREE}),
 ]

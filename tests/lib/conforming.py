@@ -149,6 +149,12 @@ def drawn_index(draw, scope):
     return draw.choice(["{{%s}}", "{{len (%s)}}", "{{with %s}}{{printf \"%%v\" .}}{{end}}", "{{range %s}}{{.}}{{end}}"]) % call
 
 
+def drawn_length(draw):
+    """A test of how many items there are at PATH."""
+    call, number = draw.choice(["eq", "ne", "lt", "le", "gt", "ge"]), draw.randrange(-1, 4)
+    return draw.choice([f"{call} (len PATH) {number}", f"{call} {number} (len PATH)", f"len PATH | {call} {number}", "len PATH"])
+
+
 def drawn_part(draw, scope):
     """An item or a part of a list, mostly after a test of it."""
     path = drawn_path(draw, scope)
@@ -158,8 +164,11 @@ def drawn_part(draw, scope):
     used = draw.choice(["{{print (%s)}}", '{{printf "%%v" (%s)}}', "{{len (%s)}}", "{{range %s}}{{end}}"])
     test = draw.choice(["%s", "{{if PATH}}%s{{end}}", "{{if PATH}}%s{{end}}", "{{if not PATH}}none{{else}}%s{{end}}", "{{if and PATH true}}%s{{end}}",
                         "{{with $l := PATH}}%s{{end}}", "{{with PATH}}%s{{end}}", "{{if or PATH true}}%s{{end}}", "{{if ne PATH nil}}%s{{end}}",
-                        "{{$l := PATH}}{{if $l}}%s{{end}}", "{{if (PATH)}}{{else}}%s{{end}}"])
-    place = "$l" if "$l" in test else "." if test.startswith("{{with") else path
+                        "{{$l := PATH}}{{if $l}}%s{{end}}", "{{if (PATH)}}{{else}}%s{{end}}", "{{if LENGTH}}%s{{end}}", "{{if LENGTH}}%s{{end}}",
+                        "{{if LENGTH}}none{{else}}%s{{end}}", "{{if not (LENGTH)}}%s{{end}}", "{{if and PATH (LENGTH)}}%s{{end}}",
+                        "{{if or (not PATH) (LENGTH)}}none{{else}}%s{{end}}", "{{$l := PATH}}{{if PATH}}%s{{end}}",
+                        "{{$l := PATH}}{{$l = .a}}{{if $l}}%s{{end}}"]).replace("LENGTH", drawn_length(draw))
+    place = draw.choice(["$l", path]) if "$l" in test else "." if test.startswith("{{with") else path
     return test.replace("PATH", path) % (used % (part % place))
 
 
@@ -181,7 +190,7 @@ def drawn_line(draw, depth, scope):
     path = drawn_path(draw, scope)
     if draw.random() < 0.4:
         return draw.choice([drawn_printf, drawn_index, drawn_part, drawn_part, drawn_comparison])(draw, scope)
-    kind = draw.randrange(9) if depth else 0
+    kind = draw.randrange(10) if depth else 0
     inner = "".join(drawn_line(draw, depth - 1, scope) for _ in range(draw.randrange(1, 3))) if depth else ""
     if kind == 0:
         return draw.choice(["{{%s}}", "{{print %s}}", "{{%s | html}}", "{{not %s}}", "{{len %s}}", "{{lt %s 3}}", "{{eq %s 1}}", '{{index %s "a"}}',
@@ -196,6 +205,8 @@ def drawn_line(draw, depth, scope):
         return "{{range $i, $e := %s}}{{$i}}%s{{else}}none{{end}}" % (path, drawn_line(draw, depth - 1, ["$e", "."]))
     if kind == 7:
         return "{{range %s}}%s{{end}}" % (path, inner)
+    if kind == 9:
+        return "{{$x := %s}}{{if %s}}%s{{end}}" % (path, draw.choice([path, "$x", "$.a"]), drawn_line(draw, depth - 1, draw.choice([["$x", "."], ["$", "$x"], [".", "$x"]])))
     return '{{template "w" %s}}' % path
 
 

@@ -11,6 +11,7 @@ def of(properties, required=None, **more):
 TEXT, WHOLE, ITEMS = {"type": "string"}, {"type": "integer"}, {"type": "array", "items": {"type": "string"}}
 NODE = {"$defs": {"node": of({"name": TEXT, "kids": {"type": "array", "items": {"$ref": "#/$defs/node"}}})}}
 DEFAULT = ["--missingkey", "default"]
+MAYBE = {**of({"b": TEXT}), "type": ["object", "null"]}
 
 # a title, a schema, a template, more words, and what is said of the template t: a line without its beginning
 ACCEPTED = [
@@ -68,6 +69,33 @@ ACCEPTED = [
     ("the rest of a list that is not empty", of({"a": ITEMS}), "{{if .a}}{{range slice .a 1}}{{len .}}{{end}}{{end}}{{range slice .a 0}}{{end}}", []),
     ("a whole list or text as its part", of({"a": ITEMS, "b": TEXT, "c": {"type": ["array", "string"]}}), "{{len (slice .a)}}{{len (slice .b)}}{{len (slice .c 0)}}", []),
     ("no items at least", of({"a": {**ITEMS, "minItems": 0}}), "{{range .a}}{{len .}}{{end}}", []),
+    ("more items than a number", of({"a": ITEMS}), "{{if gt (len .a) 1}}{{index .a 1}}{{end}}{{if lt 1 (len .a)}}{{index .a 1}}{{end}}", []),
+    ("as many items as a number", of({"a": ITEMS}), "{{if ge (len .a) 2}}{{index .a 1}}{{end}}{{if le 2 (len .a)}}{{index .a 1}}{{end}}", []),
+    ("just as many items", of({"a": ITEMS}), "{{if eq (len .a) 2}}{{index .a 1}}{{end}}{{if eq 2 (len .a)}}{{index .a 1}}{{end}}{{if ne (len .a) 3}}{{else}}{{index .a 2}}{{end}}", []),
+    ("some items", of({"a": ITEMS}), "{{if ne (len .a) 0}}{{index .a 0}}{{end}}{{if ne 0 (len .a)}}{{index .a 0}}{{end}}{{if eq (len .a) 0}}{{else}}{{index .a 0}}{{end}}{{if len .a}}{{index .a 0}}{{end}}", []),
+    ("no fewer items", of({"a": ITEMS}), "{{if lt (len .a) 2}}{{else}}{{index .a 1}}{{end}}{{if not (lt (len .a) 2)}}{{index .a 1}}{{end}}{{if le (len .a) 2}}{{else}}{{index .a 2}}{{end}}", []),
+    ("no fewer items, turned round", of({"a": ITEMS}), "{{if gt 2 (len .a)}}{{else}}{{index .a 1}}{{end}}{{if not (ge 2 (len .a))}}{{index .a 2}}{{end}}", []),
+    ("a length that is piped", of({"a": ITEMS}), "{{if len .a | lt 1}}{{index .a 1}}{{end}}{{if len .a | gt 2}}{{else}}{{index .a 1}}{{end}}{{if len .a | eq 3}}{{index .a 2}}{{end}}", []),
+    ("the length of a list of a variable", of({"a": of({"b": ITEMS})}), "{{$x := .a}}{{if gt (len $x.b) 1}}{{index $x.b 1}}{{end}}{{with len $x.b}}{{index $x.b 0}}{{end}}", []),
+    ("the length of an entry", of({"a": ITEMS}), '{{if gt (len (index . "a")) 1}}{{index .a 1}}{{end}}', []),
+    ("lengths in and, or and not", of({"a": ITEMS, "b": ITEMS}), "{{if and (gt (len .a) 1) (ge (len .b) 3)}}{{index .a 1}}{{index .b 2}}{{end}}"
+     "{{if or (lt (len .a) 2) (eq (len .b) 0)}}{{else}}{{index .a 1}}{{index .b 0}}{{end}}{{if not (or (not .a) (not (len .b)))}}{{index .a 0}}{{index .b 0}}{{end}}", []),
+    ("a length before what it guards", of({"a": ITEMS}), '{{if and (gt (len .a) 1) (index .a 1)}}{{end}}{{or (lt (len .a) 2) (index .a 1)}}', []),
+    ("what is not empty in parentheses", of({"a": ITEMS, "b": {"type": ["string", "null"]}}), "{{if (.a)}}{{index .a 0}}{{end}}{{if and (not (eq .b nil)) (not (not .a))}}{{len .b}}{{index .a 0}}{{end}}", []),
+    ("a part of a list by its length", of({"a": ITEMS}), "{{if gt (len .a) 2}}{{range slice .a 1 3}}{{len .}}{{end}}{{end}}", []),
+    ("the length of a list or a text", of({"a": {"type": ["array", "string"], "items": TEXT}}), "{{if ge (len .a) 2}}{{len .a}}{{end}}", []),
+    ("the length of a list among definitions", of({"a": {"$ref": "#/$defs/l"}}, **{"$defs": {"l": ITEMS}}), "{{if ge (len .a) 2}}{{index .a 1}}{{end}}", []),
+    ("the larger of two numbers of items", of({"a": {**ITEMS, "minItems": 2}}), "{{if gt (len .a) 0}}{{index .a 1}}{{end}}{{if gt (len .a) 3}}{{index .a 3}}{{end}}", []),
+    ("what a variable tells of the path that it is", of({"a": MAYBE}), "{{$x := .a}}{{if $x}}{{.a.b}}{{$.a.b}}{{$x.b}}{{end}}", []),
+    ("what a path tells of a variable", of({"a": MAYBE}), "{{$x := .a}}{{if .a}}{{$x.b}}{{end}}{{if $.a}}{{$x.b}}{{.a.b}}{{end}}", []),
+    ("what dot tells of the data", of({"a": MAYBE}), "{{if .a}}{{$.a.b}}{{end}}{{with .a}}{{.b}}{{$.a.b}}{{end}}{{with $x := .a}}{{$x.b}}{{$.a.b}}{{end}}", []),
+    ("what a variable tells of another", of({"a": of({"b": MAYBE})}), "{{$x := .a}}{{$y := $x.b}}{{$z := .}}{{if $y}}{{$x.b.b}}{{.a.b.b}}{{$z.a.b.b}}{{end}}", []),
+    ("what is known of a variable of a list", of({"a": ITEMS}), "{{$x := .a}}{{if gt (len $x) 1}}{{index .a 1}}{{end}}{{if len .a}}{{index $x 0}}{{end}}{{if not $x}}{{else}}{{index $.a 0}}{{end}}", []),
+    ("a variable of an entry", of({"a": of({"b": TEXT})}, []), '{{$x := index . "a"}}{{if $x}}{{.a.b}}{{$.a.b}}{{end}}{{if index . "a"}}{{$x.b}}{{end}}', []),
+    ("a variable that is assigned a path", of({"a": MAYBE}), "{{$x := 0}}{{$x = .a}}{{if $x}}{{.a.b}}{{end}}", []),
+    ("in the body of a with", of({"a": of({"b": MAYBE})}), "{{with .a}}{{if .b}}{{$.a.b.b}}{{end}}{{$y := .b}}{{if $y}}{{.b.b}}{{$.a.b.b}}{{end}}{{end}}", []),
+    ("in the body of a range", of({"a": MAYBE, "l": ITEMS}), "{{$x := .a}}{{range .l}}{{if $x}}{{$.a.b}}{{end}}{{if $.a}}{{$x.b}}{{end}}{{end}}{{if $x}}{{.a.b}}{{end}}", []),
+    ("a path that is kept by both parts", of({"a": MAYBE, "c": {"type": "boolean"}}), "{{$x := .a}}{{if .c}}{{$y := 1}}{{else}}{{$x = $.a}}{{end}}{{if $x}}{{.a.b}}{{end}}", []),
     ("printf of texts", of({"a": TEXT}), r'{{printf "%s|%q|%x|%X|%v" .a .a .a .a .a}}', []),
     ("printf of numbers", of({"a": WHOLE}), r'{{printf "%d|%o|%b|%x|%X|%c|%v" .a .a .a .a .a .a .a}}', []),
     ("printf of truth values", of({"a": {"type": "boolean"}}), r'{{printf "%t|%v|%-6t|%6v" .a .a .a .a}}', []),
@@ -83,6 +111,7 @@ ACCEPTED = [
     ("printf of a recursive definition", {"$ref": "#/$defs/node", **NODE}, '{{printf "%v" .}}{{range .kids}}{{printf "%s%v" .name .}}{{end}}', []),
 ]
 
+NULL = "1:%d: error: may fail: .b of null, which may come here (s:1) and has no fields"
 FEW = '%s: error: may fail: "%s" may get a list of too few items: write "minItems": %d'
 FIRST = '1:1: error: may fail: "index" may get a list of too few items: guard it by "if" or "with", or write "minItems": 1'
 INDEX, PRINTF = (f'1:1: error: may fail: "{name}" may get what it refuses' for name in ("index", "printf"))
@@ -109,6 +138,37 @@ REFUSED = [
     ("the item after the last that has to be there", of({"a": {**ITEMS, "minItems": 2}}), "{{index .a 1}}\n{{index .a 2}}", [], FEW % ("2:1", "index", 3)),
     ("the second item of a list that is not empty", of({"a": ITEMS}), "{{if .a}}{{index .a 1}}{{end}}", [], FEW % ("1:10", "index", 2)),
     ("an item where the list is empty", of({"a": ITEMS}), "{{if .a}}{{else}}{{index .a 0}}{{end}}", [], FIRST.replace("1:1", "1:18")),
+    ("one item more than was asked for", of({"a": ITEMS}), "{{if ge (len .a) 1}}{{index .a 1}}{{end}}", [], FEW % ("1:21", "index", 2)),
+    ("one item more than a number", of({"a": ITEMS}), "{{if gt (len .a) 1}}{{index .a 2}}{{end}}", [], FEW % ("1:21", "index", 3)),
+    ("one item more than are just there", of({"a": ITEMS}), "{{if eq (len .a) 2}}{{index .a 2}}{{end}}", [], FEW % ("1:21", "index", 3)),
+    ("one item more than some", of({"a": ITEMS}), "{{if ne (len .a) 0}}{{index .a 1}}{{end}}", [], FEW % ("1:21", "index", 2)),
+    ("one item more than a length that is not zero", of({"a": ITEMS}), "{{if len .a}}{{index .a 1}}{{end}}", [], FEW % ("1:14", "index", 2)),
+    ("one item more, turned round", of({"a": ITEMS}), "{{if le 2 (len .a)}}{{index .a 2}}{{end}}", [], FEW % ("1:21", "index", 3)),
+    ("one item more than a length that is piped", of({"a": ITEMS}), "{{if len .a | lt 1}}{{index .a 2}}{{end}}", [], FEW % ("1:21", "index", 3)),
+    ("fewer items than a number", of({"a": ITEMS}), "{{if lt (len .a) 2}}{{index .a 0}}{{end}}", [], FIRST.replace("1:1", "1:21")),
+    ("fewer items than a number, turned round", of({"a": ITEMS}), "{{if gt 2 (len .a)}}{{index .a 0}}{{end}}", [], FIRST.replace("1:1", "1:21")),
+    ("fewer items than a length that is piped", of({"a": ITEMS}), "{{if len .a | gt 2}}{{index .a 0}}{{end}}", [], FIRST.replace("1:1", "1:21")),
+    ("not more items than a number", of({"a": ITEMS}), "{{if gt (len .a) 1}}{{else}}{{index .a 0}}{{end}}", [], FIRST.replace("1:1", "1:29")),
+    ("not just as many items", of({"a": ITEMS}), "{{if eq (len .a) 2}}{{else}}{{index .a 0}}{{end}}", [], FIRST.replace("1:1", "1:29")),
+    ("items at least 0", of({"a": ITEMS}), "{{if ge (len .a) 0}}{{index .a 0}}{{end}}", [], FIRST.replace("1:1", "1:21")),
+    ("a length that is 0", of({"a": ITEMS}), "{{if eq (len .a) 0}}{{index .a 0}}{{end}}", [], FIRST.replace("1:1", "1:21")),
+    ("a length that is 0, by not", of({"a": ITEMS}), "{{if not (len .a)}}{{index .a 0}}{{end}}", [], FIRST.replace("1:1", "1:20")),
+    ("a length below a number below zero", of({"a": ITEMS}), "{{if gt (len .a) -1}}{{index .a 0}}{{end}}", [], FIRST.replace("1:1", "1:22")),
+    ("a length that is compared with one of the data", of({"a": ITEMS, "b": WHOLE}), "{{if gt (len .a) .b}}{{index .a 0}}{{end}}", [], FIRST.replace("1:1", "1:22")),
+    ("the length of another list", of({"a": ITEMS, "b": ITEMS}), "{{if gt (len .a) 1}}{{index .b 1}}{{end}}", [], FEW % ("1:21", "index", 2)),
+    ("either of two lengths", of({"a": ITEMS, "b": ITEMS}), "{{if or (gt (len .a) 1) (gt (len .b) 1)}}{{index .a 1}}{{end}}", [], FEW % ("1:42", "index", 2)),
+    ("not both of two lengths", of({"a": ITEMS, "b": ITEMS}), "{{if and (lt (len .a) 2) (lt (len .b) 2)}}{{else}}{{index .a 1}}{{end}}", [], FEW % ("1:51", "index", 2)),
+    ("a length after what it would guard", of({"a": ITEMS}), "{{if and (index .a 1) (gt (len .a) 1)}}{{end}}", [], FEW % ("1:1", "index", 2)),
+    ("the length of a text that may be a list", of({"a": {"type": ["array", "string"], "items": TEXT}}), "{{if ge (len .a) 2}}{{index .a 1}}{{end}}", [], INDEX.replace("1:1", "1:21")),
+    ("a variable of another path", of({"a": MAYBE, "c": MAYBE}), "{{$x := .c}}{{if $x}}{{.a.b}}{{end}}", [], NULL % 22),
+    ("a variable that is assigned another path", of({"a": MAYBE, "c": MAYBE}), "{{$x := .a}}{{$x = .c}}{{if $x}}{{.a.b}}{{end}}", [], NULL % 33),
+    ("a variable that is assigned a value", of({"a": MAYBE}), '{{$x := .a}}{{$x = "c"}}{{if $x}}{{.a.b}}{{end}}', [], NULL % 34),
+    ("a variable that one part assigns", of({"a": MAYBE, "c": {"type": "boolean"}}), "{{$x := .a}}{{if .c}}{{$x = 1}}{{end}}{{if $x}}{{.a.b}}{{end}}", [], NULL % 48),
+    ("a variable that the body of a range assigns", of({"a": MAYBE, "l": ITEMS}), "{{$x := .a}}{{range .l}}{{if $x}}{{$.a.b}}{{end}}{{$x = .}}{{end}}", [], NULL % 34),
+    ("another variable of the name", of({"a": MAYBE, "c": MAYBE}), "{{$x := .a}}{{if true}}{{$x := .c}}{{if $x}}{{$.a.b}}{{end}}{{end}}", [], NULL % 45),
+    ("a path of another dot", of({"a": of({"b": MAYBE}), "b": MAYBE}), "{{with .a}}{{if .b}}\n{{$.b.b}}{{end}}{{end}}", [], NULL.replace("1:%d", "2:1")),
+    ("a value that is not the path's", of({"a": MAYBE}), "{{$x := or .a 1}}{{if $x}}{{.a.b}}{{end}}", [], NULL % 27),
+    ("an empty variable", of({"a": MAYBE}), "{{$x := .a}}{{if $x}}{{else}}{{.a.b}}{{end}}", [], NULL % 30),
     ("a list that is not nil", of({"a": ITEMS}), "{{if ne .a nil}}{{index .a 0}}{{end}}", [], FIRST.replace("1:1", "1:17")),
     ("another list that is not empty", of({"a": ITEMS, "b": ITEMS}), "{{if .a}}{{index .b 0}}{{end}}", [], FIRST.replace("1:1", "1:10")),
     ("either of two lists", of({"a": ITEMS, "b": ITEMS}), "{{if or .a .b}}{{index .a 0}}{{end}}", [], FIRST.replace("1:1", "1:16")),

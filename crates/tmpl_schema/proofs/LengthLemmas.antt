@@ -1,11 +1,8 @@
 -- For code that compares how many variables there are.
-use Rattle.std.proofs.Common.{arith, ◌≡◌, ◌⊎◌, inl, inr, ◌-◌, ◌≤◌, ◌<◌, suc, nat_le, Bool, true, false, not, List, [], ◌∷◌, length, drop, ap, refl, sym, ℕ, Option, Some, None, if◌then◌else◌}
+use Rattle.std.proofs.Common.{arith, ◌≡◌, ◌⊎◌, inl, inr, ◌-◌, ◌≤◌, ◌<◌, suc, nat_le, Bool, true, false, not, List, [], ◌∷◌, length, drop, ap, refl, sym}
 use Rattle.std.proofs.lemmas.Bool.{false≢true}
 use Rattle.std.proofs.lemmas.Bool.Decides.{leb_tells}
-use Rattle.std.specs.Str.{bytes_eq}
-use Rattle.tmpl_shape.specs.Shape.{Shape}
-use Rattle.tmpl_shape.specs.computed.Shapes.{Base, refine}
-use Rattle.tmpl_schema.specs.computed.Check.{Known, assigned_shape, last_of, refine_variable, variable_shape}
+use Rattle.tmpl_schema.specs.computed.Check.{last_of}
 use Rattle.tmpl_schema.specs.computed.View.{is_longer}
 
 no_longer : {T : Type 0} → (xs ys : List T) → is_longer xs ys ≡ false → length xs ≤ length ys
@@ -44,27 +41,3 @@ length-le xs ys = by (is_longer xs ys) refl (leb_tells (length xs) (length ys)) 
     by true e (inr x) f = x.0
 
 pub ruleset lengths = (length-le)
-
--- where a variable's chain of fields is not empty, the newest of its name is as if it were assigned what is left
-pub refine-assigned : (base : Base) (least : ℕ) (name : List ℕ) (ns : List (List ℕ)) (ks : Known) (s : Shape) → variable_shape name ks ≡ Some s
-    → refine_variable base least name ns ks ≡ assigned_shape name (refine base least ns s) ks
-refine-assigned base least name ns [] s e = cc
-refine-assigned base least name ns (k ∷ ks) s e = by (bytes_eq k.0 name) e (refine-assigned base least name ns ks s)
-  where
-    by : (c : Bool) → (if c then Some k.1 else variable_shape name ks) ≡ Some s
-        → (variable_shape name ks ≡ Some s → refine_variable base least name ns ks ≡ assigned_shape name (refine base least ns s) ks)
-        → (if c then (k.0, refine base least ns k.1) ∷ ks else k ∷ refine_variable base least name ns ks)
-        ≡ (if c then (k.0, refine base least ns s) ∷ ks else k ∷ assigned_shape name (refine base least ns s) ks)
-    by true x more = let same : k.1 ≡ s = cc in ap (λ (t : Shape). (k.0, refine base least ns t) ∷ ks) same
-    by false x more = ap (λ (l : Known). k ∷ l) (more x)
-
-pub refine-none : (base : Base) (least : ℕ) (name : List ℕ) (ns : List (List ℕ)) (ks : Known) → variable_shape name ks ≡ None → refine_variable base least name ns ks ≡ ks
-refine-none base least name ns [] e = refl
-refine-none base least name ns (k ∷ ks) e = by (bytes_eq k.0 name) e (refine-none base least name ns ks)
-  where
-    by : (c : Bool) → (if c then Some k.1 else variable_shape name ks) ≡ None → (variable_shape name ks ≡ None → refine_variable base least name ns ks ≡ ks)
-        → (if c then (k.0, refine base least ns k.1) ∷ ks else k ∷ refine_variable base least name ns ks) ≡ k ∷ ks
-    by true x more = cc
-    by false x more = ap (λ (l : Known). k ∷ l) (more x)
-
-pub ruleset refinements = (refine-assigned, refine-none)

@@ -1,3 +1,4 @@
+pub mod OriginLemmas
 pub mod VariableLemmas
 pub mod RunLemmas
 pub mod SafeLemmas

@@ -25,23 +25,46 @@ use Rattle.tmpl_shape.specs.computed.Means.{Means}
 use Rattle.tmpl_shape.specs.computed.Shapes.{Base, within, fill, Visit, visit_of}
 use Rattle.tmpl_schema.specs.computed.Check.{Known, State, Callee, handed, absent, Table, Checked, last_of, all_within, join_all, if_within, after_both, settle_known, settle_soon, settle_head, leave_with}
 use Rattle.tmpl_schema.specs.computed.Check.{holds_loop, dot_in, in_body, in_other, after_choice, in_turn, turn_known, after_range, after_call, after_control, after_node, after_nodes}
-use Rattle.tmpl_schema.specs.computed.Check.{pipeline_shape, narrow, bound_shapes, at_start, is_safe}
+use Rattle.tmpl_schema.specs.computed.Check.{Origin, pipeline_origin, pipeline_shape, narrow, bound_shapes, at_start, is_safe}
 use Rattle.tmpl_schema.specs.computed.Safe.{IsCallee, IsChecked}
 use Rattle.tmpl_shape.proofs.ShapeLemmas.{within-has}
 use Rattle.tmpl_shape.proofs.FieldLemmas.{Gives, Each, IsVisit, Visits, fill-has, visit-gives}
 use Rattle.tmpl_schema.proofs.VariableLemmas.{HasKnown, Fits, place, known-length, last-known, last-last, within-known, if_within-some, both-known, bound-known}
-use Rattle.tmpl_schema.proofs.VariableLemmas.{pipeline-gives, narrow-fits, empty-fits}
+use Rattle.tmpl_schema.proofs.VariableLemmas.{pipeline-gives, pipeline-has, narrow-fits}
+use Rattle.tmpl_schema.proofs.OriginLemmas.{HasOrigin, at-root}
 
 module _ (base : Base) (N : Names) (means : Means base.defs N) (stops : List (List ℕ)) where
+  -- ---- calls
+
+  abbrev IsQuiet : End → Type 0
+  IsQuiet done = Unit {0}
+  IsQuiet (faulted f) = MayEnd stops f.cause
+  IsQuiet end = ⊥
+
+  -- a call with a value of the shape leaves the variables, and has no other fault
+  abbrev CallHas : Shape → Result (Value → Next) Cause → Type 0
+  CallHas sh (Ok go) = (v : Value) → HasShape N sh v → (r : Run) → ((go v r).0.env ≡ r.env) × IsQuiet (go v r).1
+  CallHas sh (Err cause) = MayEnd stops cause
+
+  -- .. and so has that of a callee
+  abbrev CalleeHas : Callee → Result (Value → Next) Cause → Type 0
+  CalleeHas (handed sh) x = CallHas sh x
+  CalleeHas absent (Ok go) = ⊥
+  CalleeHas absent (Err cause) = MayEnd stops cause
+
+  abbrev CallsHave : Table → Calls → Type 0
+  CallsHave table calls = (name : List ℕ) (c : Callee) → table name ≡ Some c → CalleeHas c (calls name)
+
+module _ (base : Base) (N : Names) (means : Means base.defs N) (stops : List (List ℕ)) (top : Value) where
   -- ---- ends
 
   -- at a break or continue the variables that were there at the head of the range are known
   abbrev InLoop : Option Known → Environment → Type 0
   InLoop None env = ⊥
-  InLoop (Some head) env = (HasKnown base N means) head (last_of (length head) env)
+  InLoop (Some head) env = (HasKnown base N means top) head (last_of (length head) env)
 
   abbrev EndsSo : Option Known → Known → End → Environment → Type 0
-  EndsSo loop ks done env = (HasKnown base N means) ks env
+  EndsSo loop ks done env = (HasKnown base N means top) ks env
   EndsSo loop ks (faulted f) env = MayEnd stops f.cause
   EndsSo loop ks _ env = InLoop loop env
 
@@ -56,7 +79,7 @@ module _ (base : Base) (N : Names) (means : Means base.defs N) (stops : List (Li
       by true = tt
       by false = h (r.left - 1)
 
-  after-ends : (loop : Option Known) (middle ks : Known) (go : Next) → ((q : Run) → (HasKnown base N means) middle q.env → Ends loop ks (go q)) → (q : Run) (end : End)
+  after-ends : (loop : Option Known) (middle ks : Known) (go : Next) → ((q : Run) → (HasKnown base N means top) middle q.env → Ends loop ks (go q)) → (q : Run) (end : End)
       → EndsSo loop middle end q.env → Ends loop ks (on_end end q go)
   after-ends loop middle ks go h q done e = h q e
   after-ends loop middle ks go h q (faulted f) e = e
@@ -67,32 +90,32 @@ module _ (base : Base) (N : Names) (means : Means base.defs N) (stops : List (Li
   loop-length head ks h = search rules
 
   -- after a part whose variables last to its end
-  scope-ends : (loop : Option Known) (ks inner out : Known) (env0 : Environment) → (HasKnown base N means) ks env0 → holds_loop loop ks ≡ true
-      → ((env : Environment) → (HasKnown base N means) (last_of (length ks) inner) env → (HasKnown base N means) out env) → (end : End) (env : Environment)
+  scope-ends : (loop : Option Known) (ks inner out : Known) (env0 : Environment) → (HasKnown base N means top) ks env0 → holds_loop loop ks ≡ true
+      → ((env : Environment) → (HasKnown base N means top) (last_of (length ks) inner) env → (HasKnown base N means top) out env) → (end : End) (env : Environment)
       → EndsSo loop inner end env → EndsSo loop out end (last_of (length env0) env)
   scope-ends loop ks inner out env0 k holds f done env e =
-      f _ (subst (λ (n : ℕ). (HasKnown base N means) (last_of (length ks) inner) (last_of n env)) ((known-length base N means) ks env0 k) ((last-known base N means) (length ks) inner env e))
+      f _ (subst (λ (n : ℕ). (HasKnown base N means top) (last_of (length ks) inner) (last_of n env)) ((known-length base N means top) ks env0 k) ((last-known base N means top) (length ks) inner env e))
   scope-ends loop ks inner out env0 k holds f (faulted c) env e = e
   scope-ends None ks inner out env0 k holds f broke env e = absurd e
   scope-ends (Some head) ks inner out env0 k holds f broke env e =
-      rw ((last-last base N means) (length head) (length env0) env (subst (λ (n : ℕ). length head ≤ n) ((known-length base N means) ks env0 k) (loop-length head ks holds))) e
+      rw ((last-last base N means top) (length head) (length env0) env (subst (λ (n : ℕ). length head ≤ n) ((known-length base N means top) ks env0 k) (loop-length head ks holds))) e
   scope-ends None ks inner out env0 k holds f continued env e = absurd e
   scope-ends (Some head) ks inner out env0 k holds f continued env e =
-      rw ((last-last base N means) (length head) (length env0) env (subst (λ (n : ℕ). length head ≤ n) ((known-length base N means) ks env0 k) (loop-length head ks holds))) e
+      rw ((last-last base N means top) (length head) (length env0) env (subst (λ (n : ℕ). length head ≤ n) ((known-length base N means top) ks env0 k) (loop-length head ks holds))) e
 
   -- ---- pipelines
 
   -- what holds of going on with the pipeline's value holds of the pipeline
   pipeline-all : (P : Run × End → Type 0) (s : Setting) (line : ℕ) (p : Pipeline) (d : Value) (go : Value → Next) (k : State) (sh : Shape) (r : Run)
-      → (Fits base N means) k d r.env → pipeline_shape base s.rules.missing_key k p ≡ Some sh
-      → ((v : Value) (made : Bool) → (commands_value ((place base N means) s.rules.missing_key d r.env) p None).result ≡ Ok v → HasShape N sh v
+      → (Fits base N means top) k d r.env → pipeline_shape base s.rules.missing_key k p ≡ Some sh
+      → ((v : Value) (made : Bool) → (commands_value ((place base N means top) s.rules.missing_key d r.env) p None).result ≡ Ok v → HasShape N sh v
       → P (go v (record r { made_text = made }))) → P (with_pipeline s line p d go r)
   pipeline-all P s line p d go k sh r fits is h =
-      let g = commands_value ((place base N means) s.rules.missing_key d r.env) p None in
-      by g.result refl (subst (λ (o : Option Shape). (Gives base N means) o g.result) is ((pipeline-gives base N means) s.rules.missing_key k d r.env fits p))
+      let g = commands_value ((place base N means top) s.rules.missing_key d r.env) p None in
+      by g.result refl (subst (λ (o : Option Shape). (Gives base N means) o g.result) is ((pipeline-gives base N means top) s.rules.missing_key k d r.env fits p))
     where
-      by : (x : Result Value Cause) → (commands_value ((place base N means) s.rules.missing_key d r.env) p None).result ≡ x → (Gives base N means) (Some sh) x
-          → P (with_value s line x go (record r { made_text = r.made_text || (commands_value ((place base N means) s.rules.missing_key d r.env) p None).made_text }))
+      by : (x : Result Value Cause) → (commands_value ((place base N means top) s.rules.missing_key d r.env) p None).result ≡ x → (Gives base N means) (Some sh) x
+          → P (with_value s line x go (record r { made_text = r.made_text || (commands_value ((place base N means top) s.rules.missing_key d r.env) p None).made_text }))
       by (Ok v) e g = h v _ e g
       by (Err cause) e g = absurd g
 
@@ -100,7 +123,7 @@ module _ (base : Base) (N : Names) (means : Means base.defs N) (stops : List (Li
 
   -- what is computed of a part holds of it
   abbrev PartHas : Option Known → Checked → (Value → Next) → Type 0
-  PartHas loop f go = (k : State) (out : Known) → f k ≡ Some out → (d : Value) (r : Run) → (Fits base N means) k d r.env → Ends loop out (go d r)
+  PartHas loop f go = (k : State) (out : Known) → f k ≡ Some out → (d : Value) (r : Run) → (Fits base N means top) k d r.env → Ends loop out (go d r)
 
   abbrev dot_value : Control → Value → Value → Value
   dot_value control.With v d = v
@@ -110,36 +133,46 @@ module _ (base : Base) (N : Names) (means : Means base.defs N) (stops : List (Li
   dot-has control.With s t v d h g = h
   dot-has _ s t v d h g = g
 
+  dot-from : (c : Control) (o p : Origin) (v d : Value) → HasOrigin top o v → HasOrigin top p d → HasOrigin top (dot_in c o p) (dot_value c v d)
+  dot-from control.With o p v d h g = h
+  dot-from _ o p v d h g = g
+
   choice-ends : (c : Control) (h : Header) (k : State) (loop : Option Known) (f g : Checked) (body other : Value → Next) (sh : Shape) (out : Known)
       → after_choice base c h k f g sh ≡ Some out → holds_loop loop k.env ≡ true → PartHas loop f body → PartHas loop g other
-      → (m : MissingKey) (d : Value) (r : Run) → (Fits base N means) k d r.env → (v : Value) (made : Bool) → (commands_value ((place base N means) m d r.env) h.pipeline None).result ≡ Ok v
+      → (m : MissingKey) (d : Value) (r : Run) → (Fits base N means top) k d r.env → (v : Value) (made : Bool) → (commands_value ((place base N means top) m d r.env) h.pipeline None).result ≡ Ok v
       → HasShape N sh v
       → Ends loop out (scoped (length r.env) (one_of (truth v) (body (dot_value c v d)) (other d) (with_bound h.binding (without_key v) (record r { made_text = made }))))
   choice-ends c h k loop f g body other sh out is holds in_f in_g m d r fits v made value has =
       option_and_then_some _ (f (in_body base c h k sh)) out is (λ a isa rest.
       option_and_then_some (after_both base (length k.env) a) (g (in_other base h k sh)) out rest (λ b isb joint.
-      let joins = (both-known base N means) (length k.env) a b out joint in by (truth v) refl a isa b isb joins.0 joins.1))
+      let joins = (both-known base N means top) (length k.env) a b out joint in by (truth v) refl a isa b isb joins.0 joins.1))
     where
       by : (t : Bool) → truth v ≡ t → (a : Known) → f (in_body base c h k sh) ≡ Some a → (b : Known) → g (in_other base h k sh) ≡ Some b
-          → ((env : Environment) → (HasKnown base N means) (last_of (length k.env) a) env → (HasKnown base N means) out env)
-          → ((env : Environment) → (HasKnown base N means) (last_of (length k.env) b) env → (HasKnown base N means) out env)
+          → ((env : Environment) → (HasKnown base N means top) (last_of (length k.env) a) env → (HasKnown base N means top) out env)
+          → ((env : Environment) → (HasKnown base N means top) (last_of (length k.env) b) env → (HasKnown base N means top) out env)
           → Ends loop out (scoped (length r.env) (one_of t (body (dot_value c v d)) (other d) (with_bound h.binding (without_key v) (record r { made_text = made }))))
       by true t a isa b isb left right =
           let q : Run = with_bound h.binding (without_key v) (record r { made_text = made }) in
-          let n = (narrow-fits base N means) m h.pipeline k d r.env v fits value t in
+          let n = (narrow-fits base N means top) true m h.pipeline k d r.env v fits value t in
           let full = (fill-has base N means) sh v has t in
+          let o = pipeline_origin k h.pipeline in
+          let from = (pipeline-has base N means top) m h.pipeline k d r.env v fits value in
           let x = body (dot_value c v d) q in
           scope-ends loop k.env a out r.env fits.1 holds left x.1 x.0.env
           (in_f (in_body base c h k sh) a isa (dot_value c v d) q (
             dot-has c (fill base sh) (narrow base true h.pipeline k).dot v d full n.0,
-            (bound-known base N means) h.binding nothings (fill base sh) (without_key v) tt full (narrow base true h.pipeline k).env r.env n.1,
+            (bound-known base N means top) h.binding nothings (fill base sh) o (without_key v) tt full from (narrow base true h.pipeline k).env r.env n.1,
+            dot-from c o (narrow base true h.pipeline k).from v d from n.2,
           ))
       by false t a isa b isb left right =
           let q : Run = with_bound h.binding (without_key v) (record r { made_text = made }) in
-          let n = (empty-fits base N means) m h.pipeline k d r.env v fits value t in
+          let n = (narrow-fits base N means top) false m h.pipeline k d r.env v fits value t in
+          let o = pipeline_origin k h.pipeline in
+          let from = (pipeline-has base N means top) m h.pipeline k d r.env v fits value in
           let x = other d q in
           scope-ends loop k.env b out r.env fits.1 holds right x.1 x.0.env
-          (in_g (in_other base h k sh) b isb d q (n.0, (bound-known base N means) h.binding nothings sh (without_key v) tt has (narrow base false h.pipeline k).env r.env n.1))
+          (in_g (in_other base h k sh) b isb d q
+          (n.0, (bound-known base N means top) h.binding nothings sh o (without_key v) tt has from (narrow base false h.pipeline k).env r.env n.1, n.2))
 
   -- ---- ranges
 
@@ -164,21 +197,21 @@ module _ (base : Base) (N : Names) (means : Means base.defs N) (stops : List (Li
   -- how a turn ends: all but a fault leaves the variables of the range's head
   abbrev TurnEnds : Known → End → Environment → Type 0
   TurnEnds head (faulted f) env = MayEnd stops f.cause
-  TurnEnds head _ env = (HasKnown base N means) head env
+  TurnEnds head _ env = (HasKnown base N means top) head env
 
-  turn-end : (head inner : Known) (env0 : Environment) → (HasKnown base N means) head env0 → all_within base (last_of (length head) inner) head ≡ true → (end : End) (env : Environment)
+  turn-end : (head inner : Known) (env0 : Environment) → (HasKnown base N means top) head env0 → all_within base (last_of (length head) inner) head ≡ true → (end : End) (env : Environment)
       → EndsSo (Some head) inner end env → TurnEnds head end (last_of (length env0) env)
   turn-end head inner env0 k w done env e =
-      (within-known base N means) (last_of (length head) inner) head _ w
-      (subst (λ (n : ℕ). (HasKnown base N means) (last_of (length head) inner) (last_of n env)) ((known-length base N means) head env0 k) ((last-known base N means) (length head) inner env e))
+      (within-known base N means top) (last_of (length head) inner) head _ w
+      (subst (λ (n : ℕ). (HasKnown base N means top) (last_of (length head) inner) (last_of n env)) ((known-length base N means top) head env0 k) ((last-known base N means top) (length head) inner env e))
   turn-end head inner env0 k w (faulted f) env e = e
-  turn-end head inner env0 k w broke env e = subst (λ (n : ℕ). (HasKnown base N means) head (last_of n env)) ((known-length base N means) head env0 k) e
-  turn-end head inner env0 k w continued env e = subst (λ (n : ℕ). (HasKnown base N means) head (last_of n env)) ((known-length base N means) head env0 k) e
+  turn-end head inner env0 k w broke env e = subst (λ (n : ℕ). (HasKnown base N means top) head (last_of n env)) ((known-length base N means top) head env0 k) e
+  turn-end head inner env0 k w continued env e = subst (λ (n : ℕ). (HasKnown base N means top) head (last_of n env)) ((known-length base N means top) head env0 k) e
 
   module _ (s : Setting) (line : ℕ) (h : Header) (loop : Option Known) (v : Visit) (head inner : Known) (body : Value → Next)
       (w : all_within base (last_of (length head) inner) head ≡ true)
-      (in_body_so : (e : Element) (r : Run) → (IsVisit base N means) v e → (HasKnown base N means) head r.env → Ends (Some head) inner (body e.1 (with_bound h.binding e r))) where
-    turn-ends : (e : Element) (r : Run) → (IsVisit base N means) v e → (HasKnown base N means) head r.env → TurnEnds head (turn s line h.binding body e r).1 (turn s line h.binding body e r).0.env
+      (in_body_so : (e : Element) (r : Run) → (IsVisit base N means) v e → (HasKnown base N means top) head r.env → Ends (Some head) inner (body e.1 (with_bound h.binding e r))) where
+    turn-ends : (e : Element) (r : Run) → (IsVisit base N means) v e → (HasKnown base N means top) head r.env → TurnEnds head (turn s line h.binding body e r).1 (turn s line h.binding body e r).0.env
     turn-ends e r i k = by (nat_eq r.left 0)
       where
         by : (b : Bool) → TurnEnds head (spend_if b s line (scope (λ q. body e.1 (with_bound h.binding e q))) r).1
@@ -188,12 +221,12 @@ module _ (base : Base) (N : Names) (means : Means base.defs N) (stops : List (Li
             let q : Run = record r { left = r.left - 1 } in
             let x = body e.1 (with_bound h.binding e q) in turn-end head inner r.env k w x.1 x.0.env (in_body_so e q i k)
 
-    turns-end : (es : List Element) (r : Run) → (Each base N means) ((IsVisit base N means) v) es → (HasKnown base N means) head r.env → Ends loop head (turns s line h.binding body es r)
+    turns-end : (es : List Element) (r : Run) → (Each base N means) ((IsVisit base N means) v) es → (HasKnown base N means top) head r.env → Ends loop head (turns s line h.binding body es r)
     turns-end [] r i k = k
     turns-end (e ∷ es) r i k =
         let x = turn s line h.binding body e r in by x.1 x.0 (turn-ends e r i.0 k) (λ q. turns-end es q i.1)
       where
-        by : (end : End) (q : Run) → TurnEnds head end q.env → ((q : Run) → (HasKnown base N means) head q.env → Ends loop head (turns s line h.binding body es q))
+        by : (end : End) (q : Run) → TurnEnds head end q.env → ((q : Run) → (HasKnown base N means top) head q.env → Ends loop head (turns s line h.binding body es q))
             → Ends loop head (on_turn end q (turns s line h.binding body es))
         by done q t more = more q t
         by (faulted f) q t more = t
@@ -203,14 +236,14 @@ module _ (base : Base) (N : Names) (means : Means base.defs N) (stops : List (Li
   -- a range over elements, in its scope
   over-ends : (s : Setting) (line : ℕ) (h : Header) (k : State) (loop : Option Known) (f : Option Known → Checked) (g : Checked) (body other : Value → Next) (v : Visit)
       (out : Known) → after_range base h k f g v ≡ Some out → holds_loop loop k.env ≡ true → ((l : Option Known) → PartHas l (f l) body) → PartHas loop g other
-      → (d : Value) (r : Run) → (Fits base N means) k d r.env → (made : Bool) (o : Option (List Element)) → (Visits base N means) (Some v) o
+      → (d : Value) (r : Run) → (Fits base N means top) k d r.env → (made : Bool) (o : Option (List Element)) → (Visits base N means) (Some v) o
       → Ends loop out (scoped (length r.env) (over s line h.binding body (other d) o (record r { made_text = made })))
   over-ends s line h k loop f g body other v out is holds in_f in_g d r fits made o visits =
       option_and_then_some _ (settle_head base (turn_known h v f) k.env) out is (λ head ish rest.
       option_and_then_some (after_both base (length k.env) head) (g k) out rest (λ b isb joint.
-      let joins = (both-known base N means) (length k.env) head b out joint in
+      let joins = (both-known base N means top) (length k.env) head b out joint in
       option_and_then_some (if_within base k.env) (settle_soon base (turn_known h v f) k.env) head ish (λ x isx keeps.
-      let p = (if_within-some base N means) k.env x head keeps in
+      let p = (if_within-some base N means top) k.env x head keeps in
       let set = soon-so (turn_known h v f) k.env x isx in
       by o visits head b isb joins.0 joins.1 (subst (λ (i : Known). all_within base k.env i ≡ true) p.1 p.0)
       (subst (λ (i : Known). (end : Known) × (turn_known h v f i ≡ Some end) × (all_within base end i ≡ true)) p.1 set))))
@@ -219,15 +252,15 @@ module _ (base : Base) (N : Names) (means : Means base.defs N) (stops : List (Li
       r1 = record r { made_text = made }
 
       turning : (head : Known) (inner : Known) → f (Some head) (in_turn h v head) ≡ Some inner → all_within base (last_of (length head) inner) head ≡ true
-          → (es : List Element) → (Each base N means) ((IsVisit base N means) v) es → (HasKnown base N means) head r.env → Ends loop head (turns s line h.binding body es r1)
+          → (es : List Element) → (Each base N means) ((IsVisit base N means) v) es → (HasKnown base N means top) head r.env → Ends loop head (turns s line h.binding body es r1)
       turning head inner isi w es each k1 =
           turns-end s line h loop v head inner body w
-          (λ e q i kq. in_f (Some head) (in_turn h v head) inner isi e.1 (with_bound h.binding e q) (i.1, (bound-known base N means) h.binding v.key v.element e i.0 i.1 head q.env kq))
+          (λ e q i kq. in_f (Some head) (in_turn h v head) inner isi e.1 (with_bound h.binding e q) (i.1, (bound-known base N means top) h.binding v.key v.element None e i.0 i.1 tt head q.env kq, tt))
           es r1 each k1
 
       by : (o : Option (List Element)) → (Visits base N means) (Some v) o → (head b : Known) → g k ≡ Some b
-          → ((env : Environment) → (HasKnown base N means) (last_of (length k.env) head) env → (HasKnown base N means) out env)
-          → ((env : Environment) → (HasKnown base N means) (last_of (length k.env) b) env → (HasKnown base N means) out env) → all_within base k.env head ≡ true
+          → ((env : Environment) → (HasKnown base N means top) (last_of (length k.env) head) env → (HasKnown base N means top) out env)
+          → ((env : Environment) → (HasKnown base N means top) (last_of (length k.env) b) env → (HasKnown base N means top) out env) → all_within base k.env head ≡ true
           → ((end : Known) × (turn_known h v f head ≡ Some end) × (all_within base end head ≡ true))
           → Ends loop out (scoped (length r.env) (over s line h.binding body (other d) o r1))
       by None visits head b isb left right start set = absurd visits
@@ -238,7 +271,7 @@ module _ (base : Base) (N : Names) (means : Means base.defs N) (stops : List (Li
           let inner = mapped (f (Some head) (in_turn h v head)) (last_of (length head)) set.0 set.1 in
           scope-ends loop k.env head out r.env fits.1 holds left x.1 x.0.env
           (turning head inner.0 inner.1 (subst (λ (i : Known). all_within base i head ≡ true) (sym inner.2) set.2) (e ∷ es) visits
-          ((within-known base N means) k.env head r.env start fits.1))
+          ((within-known base N means top) k.env head r.env start fits.1))
         where
           mapped : (o : Option Known) (t : Known → Known) (y : Known) → option_map t o ≡ Some y → (x : Known) × (o ≡ Some x) × (t x ≡ y)
           mapped None t y e = cc
@@ -247,8 +280,8 @@ module _ (base : Base) (N : Names) (means : Means base.defs N) (stops : List (Li
   -- a control in its scope
   control-ends : (s : Setting) (line : ℕ) (c : Control) (h : Header) (k : State) (loop : Option Known) (f : Option Known → Checked) (g : Checked) (body other : Value → Next)
       (sh : Shape) (out : Known) → after_control base c loop h k f g sh ≡ Some out → holds_loop loop k.env ≡ true → ((l : Option Known) → PartHas l (f l) body)
-      → PartHas loop g other → (d : Value) (r : Run) → (Fits base N means) k d r.env → (v : Value) (made : Bool)
-      → (commands_value ((place base N means) s.rules.missing_key d r.env) h.pipeline None).result ≡ Ok v → HasShape N sh v
+      → PartHas loop g other → (d : Value) (r : Run) → (Fits base N means top) k d r.env → (v : Value) (made : Bool)
+      → (commands_value ((place base N means top) s.rules.missing_key d r.env) h.pipeline None).result ≡ Ok v → HasShape N sh v
       → Ends loop out (scoped (length r.env) (controlled s line c h.binding d body (other d) v (record r { made_text = made })))
   control-ends s line control.If h k loop f g body other sh out is holds in_f in_g d r fits v made value has =
       choice-ends control.If h k loop (f loop) g body other sh out is holds (in_f loop) in_g s.rules.missing_key d r fits v made value has
@@ -269,56 +302,37 @@ module _ (base : Base) (N : Names) (means : Means base.defs N) (stops : List (Li
 
   -- ---- calls
 
-  abbrev IsQuiet : End → Type 0
-  IsQuiet done = Unit {0}
-  IsQuiet (faulted f) = MayEnd stops f.cause
-  IsQuiet end = ⊥
-
-  -- a call with a value of the shape leaves the variables, and has no other fault
-  abbrev CallHas : Shape → Result (Value → Next) Cause → Type 0
-  CallHas sh (Ok go) = (v : Value) → HasShape N sh v → (r : Run) → ((go v r).0.env ≡ r.env) × IsQuiet (go v r).1
-  CallHas sh (Err cause) = MayEnd stops cause
-
-  -- .. and so has that of a callee
-  abbrev CalleeHas : Callee → Result (Value → Next) Cause → Type 0
-  CalleeHas (handed sh) x = CallHas sh x
-  CalleeHas absent (Ok go) = ⊥
-  CalleeHas absent (Err cause) = MayEnd stops cause
-
-  abbrev CallsHave : Table → Calls → Type 0
-  CallsHave table calls = (name : List ℕ) (c : Callee) → table name ≡ Some c → CalleeHas c (calls name)
-
-  quiet-ends : (loop : Option Known) (ks : Known) (env0 : Environment) → (HasKnown base N means) ks env0 → (end : End) (env : Environment) → env ≡ env0 → IsQuiet end → EndsSo loop ks end env
-  quiet-ends loop ks env0 k done env same q = subst (λ (e : Environment). (HasKnown base N means) ks e) (sym same) k
+  quiet-ends : (loop : Option Known) (ks : Known) (env0 : Environment) → (HasKnown base N means top) ks env0 → (end : End) (env : Environment) → env ≡ env0 → (IsQuiet base N means stops) end → EndsSo loop ks end env
+  quiet-ends loop ks env0 k done env same q = subst (λ (e : Environment). (HasKnown base N means top) ks e) (sym same) k
   quiet-ends loop ks env0 k (faulted f) env same q = q
   quiet-ends loop ks env0 k _ env same q = absurd q
 
   -- ---- nodes
 
-  module _ (s : Setting) (table : Table) (calls : CallsHave table s.calls) where
-    shown-ends : (h : Header) (k : State) (loop : Option Known) (sh : Shape) (v : Value) (r : Run) → (HasKnown base N means) k.env r.env → HasShape N sh v
-        → Ends loop (bound_shapes h.binding nothings sh k.env) (show h.binding v r)
-    shown-ends h k loop sh v r known has = by h.binding
+  module _ (s : Setting) (table : Table) (calls : (CallsHave base N means stops) table s.calls) where
+    shown-ends : (h : Header) (k : State) (loop : Option Known) (sh : Shape) (o : Origin) (v : Value) (r : Run) → (HasKnown base N means top) k.env r.env → HasShape N sh v
+        → HasOrigin top o v → Ends loop (bound_shapes h.binding nothings sh o k.env) (show h.binding v r)
+    shown-ends h k loop sh o v r known has from = by h.binding
       where
-        by : (b : Binding) → Ends loop (bound_shapes b nothings sh k.env) (show b v r)
+        by : (b : Binding) → Ends loop (bound_shapes b nothings sh o k.env) (show b v r)
         by unbound = known
-        by (declare name) = (bound-known base N means) (declare name) nothings sh (without_key v) tt has k.env r.env known
-        by (assign name) = (bound-known base N means) (assign name) nothings sh (without_key v) tt has k.env r.env known
-        by (declare_pair key name) = (bound-known base N means) (declare_pair key name) nothings sh (without_key v) tt has k.env r.env known
+        by (declare name) = (bound-known base N means top) (declare name) nothings sh o (without_key v) tt has from k.env r.env known
+        by (assign name) = (bound-known base N means top) (assign name) nothings sh o (without_key v) tt has from k.env r.env known
+        by (declare_pair key name) = (bound-known base N means top) (declare_pair key name) nothings sh o (without_key v) tt has from k.env r.env known
 
-    left-ends : (loop : Option Known) (ks out : Known) (env : Environment) → leave_with base ks loop ≡ Some out → (HasKnown base N means) ks env → InLoop loop env
+    left-ends : (loop : Option Known) (ks out : Known) (env : Environment) → leave_with base ks loop ≡ Some out → (HasKnown base N means top) ks env → InLoop loop env
     left-ends None ks out env e k = cc
     left-ends (Some head) ks out env e k = by (if_within base (last_of (length head) ks) head) refl e
       where
-        by : (o : Option Known) → if_within base (last_of (length head) ks) head ≡ o → option_map (λ u. ks) o ≡ Some out → (HasKnown base N means) head (last_of (length head) env)
+        by : (o : Option Known) → if_within base (last_of (length head) ks) head ≡ o → option_map (λ u. ks) o ≡ Some out → (HasKnown base N means top) head (last_of (length head) env)
         by None is e = cc
         by (Some x) is e =
-            (within-known base N means) (last_of (length head) ks) head (last_of (length head) env) ((if_within-some base N means) (last_of (length head) ks) head x is).0
-            ((last-known base N means) (length head) ks env k)
+            (within-known base N means top) (last_of (length head) ks) head (last_of (length head) env) ((if_within-some base N means top) (last_of (length head) ks) head x is).0
+            ((last-known base N means top) (length head) ks env k)
 
-    handing-ends : (line : ℕ) (given : Option Pipeline) (k : State) (loop : Option Known) (t sh : Shape) (d : Value) (go : Value → Next) (r : Run) → (Fits base N means) k d r.env
+    handing-ends : (line : ℕ) (given : Option Pipeline) (k : State) (loop : Option Known) (t sh : Shape) (d : Value) (go : Value → Next) (r : Run) → (Fits base N means top) k d r.env
         → option_map_or (pipeline_shape base s.rules.missing_key k) given (Some nothings) ≡ Some sh → within base sh t ≡ true
-        → ((v : Value) → HasShape N t v → (r : Run) → ((go v r).0.env ≡ r.env) × IsQuiet (go v r).1) → Ends loop k.env (handing s line given d go r)
+        → ((v : Value) → HasShape N t v → (r : Run) → ((go v r).0.env ≡ r.env) × (IsQuiet base N means stops) (go v r).1) → Ends loop k.env (handing s line given d go r)
     handing-ends line None k loop t sh d go r fits e w h =
         let same : nothings ≡ sh = cc in
         let x = h nothing ((within-has base N means) sh t nothing w (subst (λ (i : Shape). HasShape N i nothing) same tt)) r in
@@ -328,19 +342,19 @@ module _ (base : Base) (N : Names) (means : Means base.defs N) (stops : List (Li
         let q : Run = record r { made_text = made } in
         let x = h v ((within-has base N means) sh t v w has) q in quiet-ends loop k.env r.env fits.1 (go v q).1 (go v q).0.env x.0 x.1)
 
-    handed-ends : (line : ℕ) (given : Option Pipeline) (k : State) (loop : Option Known) (t sh : Shape) (d : Value) (r : Run) → (Fits base N means) k d r.env
+    handed-ends : (line : ℕ) (given : Option Pipeline) (k : State) (loop : Option Known) (t sh : Shape) (d : Value) (r : Run) → (Fits base N means top) k d r.env
         → option_map_or (pipeline_shape base s.rules.missing_key k) given (Some nothings) ≡ Some sh → within base sh t ≡ true
-        → (x : Result (Value → Next) Cause) → CallHas t x → Ends loop k.env (with_value s line x (handing s line given d) r)
+        → (x : Result (Value → Next) Cause) → (CallHas base N means stops) t x → Ends loop k.env (with_value s line x (handing s line given d) r)
     handed-ends line given k loop t sh d r fits issh w (Ok go) h = handing-ends line given k loop t sh d go r fits issh w h
     handed-ends line given k loop t sh d r fits issh w (Err cause) h = h
 
     absent-ends : (line : ℕ) (given : Option Pipeline) (k : State) (loop : Option Known) (d : Value) (r : Run)
-        → (x : Result (Value → Next) Cause) → CalleeHas absent x → Ends loop k.env (with_value s line x (handing s line given d) r)
+        → (x : Result (Value → Next) Cause) → (CalleeHas base N means stops) absent x → Ends loop k.env (with_value s line x (handing s line given d) r)
     absent-ends line given k loop d r (Ok go) h = absurd h
     absent-ends line given k loop d r (Err cause) h = h
 
     callee-ends : (line : ℕ) (name : List ℕ) (given : Option Pipeline) (k : State) (loop : Option Known) (out : Known) (d : Value) (r : Run)
-        → (Fits base N means) k d r.env → (c : Callee) → CalleeHas c (s.calls name)
+        → (Fits base N means top) k d r.env → (c : Callee) → (CalleeHas base N means stops) c (s.calls name)
         → after_call base c k.env (option_map_or (pipeline_shape base s.rules.missing_key k) given (Some nothings)) ≡ Some out
         → Ends loop out (with_value s line (s.calls name) (handing s line given d) r)
     callee-ends line name given k loop out d r fits absent h e =
@@ -359,12 +373,14 @@ module _ (base : Base) (N : Names) (means : Means base.defs N) (stops : List (Li
 
     mutual
       stepped-ends : (n : NodeKind) (line : ℕ) (loop : Option Known) → PartHas loop (λ k. after_node base s.rules.missing_key table loop k n) (stepped s line n)
-      stepped-ends (text bytes) line loop k out is d r fits = let same : k.env ≡ out = cc in subst (λ (x : Known). (HasKnown base N means) x r.env) same fits.1
+      stepped-ends (text bytes) line loop k out is d r fits = let same : k.env ≡ out = cc in subst (λ (x : Known). (HasKnown base N means top) x r.env) same fits.1
       stepped-ends (action h) line loop k out is d r fits =
-          let p = mapped_some (pipeline_shape base s.rules.missing_key k h.pipeline) (λ sh. bound_shapes h.binding nothings sh k.env) out is in
+          let o = pipeline_origin k h.pipeline in
+          let p = mapped_some (pipeline_shape base s.rules.missing_key k h.pipeline) (λ sh. bound_shapes h.binding nothings sh o k.env) out is in
           subst (λ (x : Known). Ends loop x (with_pipeline s line h.pipeline d (show h.binding) r)) p.2
-          (pipeline-all (Ends loop (bound_shapes h.binding nothings p.0 k.env)) s line h.pipeline d (show h.binding) k p.0 r fits p.1
-          (λ v made value has. shown-ends h k loop p.0 v (record r { made_text = made }) fits.1 has))
+          (pipeline-all (Ends loop (bound_shapes h.binding nothings p.0 o k.env)) s line h.pipeline d (show h.binding) k p.0 r fits p.1
+          (λ v made value has. shown-ends h k loop p.0 o v (record r { made_text = made }) fits.1 has
+          ((pipeline-has base N means top) s.rules.missing_key h.pipeline k d r.env v fits value)))
       stepped-ends (control_node c h body other) line loop k out is d r fits =
           let m = s.rules.missing_key in
           let f : Option Known → Checked = λ l u. after_nodes base m table l u body in
@@ -379,13 +395,23 @@ module _ (base : Base) (N : Names) (means : Means base.defs N) (stops : List (Li
       stepped-ends (template_node name given) line loop k out is d r fits = template-ends line name given loop k out is d r fits
 
       pub nodes-end : (ns : Nodes) (loop : Option Known) → PartHas loop (λ k. after_nodes base s.rules.missing_key table loop k ns) (meanings s ns)
-      nodes-end tree.none loop k out is d r fits = let same : k.env ≡ out = cc in subst (λ (x : Known). (HasKnown base N means) x r.env) same fits.1
+      nodes-end tree.none loop k out is d r fits = let same : k.env ≡ out = cc in subst (λ (x : Known). (HasKnown base N means top) x r.env) same fits.1
       nodes-end (tree.then line n ns) loop k out is d r fits =
           option_and_then_some _ (after_node base s.rules.missing_key table loop k n) out is (λ middle ism rest.
           let x = spend s line (stepped s line n d) r in
-          after-ends loop middle out (meanings s ns d) (λ q known. nodes-end ns loop (record k { env = middle }) out rest d q (fits.0, known)) x.0 x.1
+          after-ends loop middle out (meanings s ns d) (λ q known. nodes-end ns loop (record k { env = middle }) out rest d q (fits.0, known, fits.2)) x.0 x.1
           (spend-ends loop middle s line (stepped s line n d) r (λ left. stepped-ends n line loop k middle ism d (record r { left = left }) fits)))
 
+  left-quiet : (ks : Known) (end : End) (env : Environment) → EndsSo None ks end env → (IsQuiet base N means stops) (left_by end)
+  left-quiet ks done env e = tt
+  left-quiet ks (faulted f) env e = e
+  left-quiet ks _ env e = absurd e
+
+  pub quiet-fault : (ks : Known) (end : End) (env : Environment) → EndsSo None ks end env → IfSome (fault_of end) (λ f. MayEnd stops f.cause)
+  quiet-fault ks (faulted f) env e = e
+  quiet-fault ks _ env e = tt
+
+module _ (base : Base) (N : Names) (means : Means base.defs N) (stops : List (List ℕ)) where
   -- ---- calls of a set
 
   pub safe-some : (m : MissingKey) (table : Table) (sh : Shape) (ns : Nodes) → is_safe base m table sh ns ≡ true
@@ -397,33 +423,24 @@ module _ (base : Base) (N : Names) (means : Means base.defs N) (stops : List (Li
       by None is e = absurd (false≢true e)
       by (Some out) is e = (out, is)
 
-  left-quiet : (ks : Known) (end : End) (env : Environment) → EndsSo None ks end env → IsQuiet (left_by end)
-  left-quiet ks done env e = tt
-  left-quiet ks (faulted f) env e = e
-  left-quiet ks _ env e = absurd e
-
   module _ (rules : Rules) (set : List Template) (table : Table) (checked : IsChecked base rules.missing_key stops set table) where
-    pub calls-have : (depth : ℕ) → CallsHave table (calls_within rules set depth)
+    pub calls-have : (depth : ℕ) → (CallsHave base N means stops) table (calls_within rules set depth)
     calls-have zero name c is = by c (checked name c is)
       where
-        by : (c : Callee) → IsCallee base rules.missing_key stops set table name c → CalleeHas c (calls_within rules set zero name)
-        by (handed sh) x = subst (λ (o : Option Tree). CallHas sh (uncalled rules name o)) (sym x.1) tt
-        by absent x = subst (λ (o : Option Tree). CalleeHas absent (uncalled rules name o)) (sym x.0) x.1
+        by : (c : Callee) → IsCallee base rules.missing_key stops set table name c → (CalleeHas base N means stops) c (calls_within rules set zero name)
+        by (handed sh) x = subst (λ (o : Option Tree). (CallHas base N means stops) sh (uncalled rules name o)) (sym x.1) tt
+        by absent x = subst (λ (o : Option Tree). (CalleeHas base N means stops) absent (uncalled rules name o)) (sym x.0) x.1
     calls-have (suc depth) name c is = by c (checked name c is) (calls-have depth)
       where
-        by : (c : Callee) → IsCallee base rules.missing_key stops set table name c → CallsHave table (calls_within rules set depth)
-            → CalleeHas c (calls_within rules set (suc depth) name)
+        by : (c : Callee) → IsCallee base rules.missing_key stops set table name c → (CallsHave base N means stops) table (calls_within rules set depth)
+            → (CalleeHas base N means stops) c (calls_within rules set (suc depth) name)
         by (handed sh) x inner =
             let s : Setting = setting_of rules (calls_within rules set depth) name x.0 in
             let p = safe-some rules.missing_key table sh x.0.nodes x.2 in
-            subst (λ (o : Option Tree). CallHas sh (run_called rules (calls_within rules set depth) name o)) (sym x.1)
+            subst (λ (o : Option Tree). (CallHas base N means stops) sh (run_called rules (calls_within rules set depth) name o)) (sym x.1)
             (λ v has r.
             let q : Run = record r { env = ([], v) ∷ [] } in
             let y = meanings s x.0.nodes v q in
-            (refl, left-quiet p.0 y.1 y.0.env (nodes-end s table inner x.0.nodes None (at_start sh) p.0 p.1 v q (has, (refl, has, tt)))))
+            (refl, left-quiet base N means stops v p.0 y.1 y.0.env (nodes-end base N means stops v s table inner x.0.nodes None (at_start sh) p.0 p.1 v q (has, (refl, has, tt, at-root v), at-root v))))
         by absent x inner =
-            subst (λ (o : Option Tree). CalleeHas absent (run_called rules (calls_within rules set depth) name o)) (sym x.0) x.1
-
-  pub quiet-fault : (ks : Known) (end : End) (env : Environment) → EndsSo None ks end env → IfSome (fault_of end) (λ f. MayEnd stops f.cause)
-  quiet-fault ks (faulted f) env e = e
-  quiet-fault ks _ env e = tt
+            subst (λ (o : Option Tree). (CalleeHas base N means stops) absent (run_called rules (calls_within rules set depth) name o)) (sym x.0) x.1

@@ -9,6 +9,7 @@ use Rattle.tmpl_shape.specs.Shape.{stands_for}
 use Rattle.tmpl_schema.specs.computed.Check.{at_start}
 use Rattle.tmpl_schema.specs.computed.Safe.{RunsSafely}
 use Rattle.tmpl_shape.proofs.NameLemmas.{meant}
+use Rattle.tmpl_schema.proofs.OriginLemmas.{at-root}
 use Rattle.tmpl_schema.proofs.RunLemmas.{safe-some, quiet-fault, nodes-end, calls-have}
 
 pub runs-safely : RunsSafely
@@ -19,6 +20,6 @@ runs-safely base stops rules set table name t sh input checked safe has =
     let s : Setting = setting_of rules calls name t in
     let p = safe-some base N (meant base.defs) stops rules.missing_key table sh t.nodes safe in
     let x = meanings s t.nodes d (started rules.step_limit d) in
-    quiet-fault base N (meant base.defs) stops p.0 x.1 x.0.env
-    (nodes-end base N (meant base.defs) stops s table (calls-have base N (meant base.defs) stops rules set table checked (rules.depth_limit - 1)) t.nodes None (at_start sh) p.0 p.1 d
-    (started rules.step_limit d) (has, (refl, has, tt)))
+    quiet-fault base N (meant base.defs) stops d p.0 x.1 x.0.env
+    (nodes-end base N (meant base.defs) stops d s table (calls-have base N (meant base.defs) stops rules set table checked (rules.depth_limit - 1)) t.nodes None (at_start sh) p.0 p.1 d
+    (started rules.step_limit d) (has, (refl, has, tt, at-root d), at-root d))

@@ -1,7 +1,9 @@
 -- For the law `runs_safely`: the variables of a run have the shapes that are computed, and so have pipelines.
-use Rattle.std.proofs.Common.{arith, ◌≡◌, ◌∙◌, ◌+◌, ◌-◌, ◌≤◌, ◌<◌, ◌&&◌, pos, nat_lt, ◌++◌, inl, inr, not, option_to_list, unwrap_or, ℕ, zero, suc, Bool, true, false, List, [], ◌∷◌, Option, Some, None, Result, Ok, Err, length, drop, ap, refl, sym, subst, if◌then◌else◌}
+use Rattle.std.proofs.Common.{arith, ◌≡◌, ◌∙◌, ◌+◌, ◌-◌, ◌≤◌, ◌<◌, ◌&&◌, pos, nat_lt, ◌==◌, ◌++◌, inl, inr, not, option_to_list, unwrap_or, ℕ, zero, suc, Bool, true, false, List, [], ◌∷◌, Option, Some, None, Result, Ok, Err, length, drop, ap, refl, sym, subst, ok_or, if◌then◌else◌}
 use Rattle.std.proofs.lemmas.List.{drop-drop, length-drop}
-use Rattle.std.proofs.lemmas.Bool.{false≢true, and_parts, ltb-true}
+use Rattle.std.proofs.lemmas.Bool.{false≢true, and_parts, eqb-true, ltb-true, ltb-false}
+use Rattle.std.proofs.lemmas.Bool.Decides.{Decides-int_eq}
+use Rattle.std.specs.Ordering.{int_eq}
 use Rattle.std.proofs.lemmas.Option.{cond_some, option_and_then_some}
 use Rattle.std.specs.Option.{option_map, option_map_or, option_and_then}
 use Rattle.std.specs.List.{find}
@@ -11,11 +13,13 @@ use Rattle.tmpl_values.specs.Field.{found, missing, entry_at}
 use Rattle.tmpl_values.specs.Stage.{and_then}
 use Rattle.tmpl_funcs.specs.Index.{element_at, indexed_by}
 use Rattle.tmpl_funcs.specs.declared.fault.CallFault.{CallFault}
+use Rattle.tmpl_funcs.specs.declared.fault.CallFault.TheVariants.{WrongKind}
 use Rattle.std.specs.Result.{result_map_both}
-use Rattle.tmpl_values.specs.Elements.{Element}
-use Rattle.tmpl_values.specs.Compare.{equality, is_nothing}
+use Rattle.tmpl_values.specs.Elements.{Element, values_of_items}
+use Rattle.tmpl_values.specs.Item.{size_of}
+use Rattle.tmpl_values.specs.Compare.{equality, is_nothing, order}
 use Rattle.tmpl_values.specs.Truth.{truth}
-use Rattle.tmpl_funcs.specs.Compare.{comparison_answer, equal_to_one}
+use Rattle.tmpl_funcs.specs.Compare.{at_most, comparison_answer, equal_to_one}
 use Rattle.tmpl_grammar.specs.Tree.{Operand, dot, fields, variable, nil, bool_constant, number_constant, text_constant, function, group, Operands, no_operand, operand, Pipeline, no_command, command}
 use Rattle.tmpl_grammar.specs.Tree.{Binding, unbound, declare, assign, declare_pair}
 use Rattle.tmpl_meaning.specs.Fault.{Cause, call_failed}
@@ -30,7 +34,12 @@ use Rattle.tmpl_shape.specs.computed.Means.{Means}
 use Rattle.tmpl_shape.specs.computed.Shapes.{Base, within, both, any_field, fill, has_kind, join, keyed_shape, null_gone, refine, chain_shape, entry_shape, index_shape, index_shape_by}
 use Rattle.tmpl_shape.specs.computed.Shapes.{Key, of_name, of_text, of_place, item_shape, part_shape}
 use Rattle.tmpl_shape.specs.computed.Calls.{call_shape, shape_by_function}
-use Rattle.tmpl_schema.specs.computed.Check.{bounds_of, sliced_shape, call_place, index_place, pair_facts, narrow_as, narrow_by, narrow_by_all, narrow_to, deciding_shape, passing_shape, passed, operand_shapes, junction_shape, commands_shape}
+use Rattle.tmpl_schema.specs.computed.Check.{Fact, call_counts, call_fact, command_call, constant_fact, count_of, counts_in, first_fact, least_by, length_fact, mirrored, more_than}
+use Rattle.tmpl_schema.specs.computed.Check.{operand_counts, pair_fact, piped_fact, tells, tells_by, narrow_all, narrow_as, narrow_by, narrow_command, narrow_operand, narrow_to}
+use Rattle.tmpl_schema.specs.computed.Check.{bounds_of, sliced_shape, call_place, index_place, deciding_shape, passing_shape, passed, operand_shapes, junction_shape, commands_shape}
+use Rattle.tmpl_schema.specs.computed.Check as check
+use Rattle.tmpl_schema.specs.computed.Check.{Origin, narrow_from, narrow_root, origin_within, pipeline_origin, pipeline_place, place_of, place_origin, refine_all, refine_along, refine_from, rest_of, root_origin, variable_origin}
+use Rattle.tmpl_schema.proofs.OriginLemmas.{HasOrigin, IsAt, at-chain, at-gone, at-joined, at-rest, origin_within-has, rest_of-is}
 use Rattle.tmpl_schema.specs.computed.Check.{Known, State, variable_shape, assigned_shape, bound_shapes, refine_variable, all_within, join_all, last_of, if_within}
 use Rattle.tmpl_schema.specs.computed.Check.{after_both, entry_along, entry_by, operand_shape, indexed_shape, printed_shape, command_shape, pipeline_shape, narrow}
 use Rattle.tmpl_shape.proofs.KindLemmas.{has_kind-has}
@@ -45,11 +54,147 @@ use Rattle.tmpl_funcs.specs.declared.func.Func.TheVariants as func
 use Rattle.tmpl_meaning.specs.Pipeline.{apply_function, by_function, decides, junction, operand_count, operand_values}
 use Rattle.tmpl_meaning.proofs.PartLemmas.{by_count, decided}
 
-module _ (base : Base) (N : Names) (means : Means base.defs N) where
-  -- the variables have these names and shapes
+-- ---- numbers of items
+
+-- a value has as many items, and so it is there
+sized-there : (u : Value) (i l : ℕ) → size_of u ≡ Some i → l ≤ i → IsThere l u
+sized-there nothing i l e h = cc
+sized-there null i l e h = cc
+sized-there (boolean b) i l e h = cc
+sized-there (number n) i l e h = cc
+sized-there (string s) i l e h = (refl, tt)
+sized-there (mapping es) i l e h = (refl, tt)
+sized-there (sequence vs) i l e h = let same : length (values_of_items vs) ≡ i = cc in (refl, omega arith)
+
+full-number : (i : ℕ) → truth (number (pos i)) ≡ true → 1 ≤ i
+full-number zero t = absurd (false≢true t)
+full-number (suc i) t = omega arith
+
+abbrev compare_told : Func → Option Bool → Result Value Cause
+compare_told f o = result_map_both (λ v. v) (call_failed f) (comparison_answer o)
+
+told-truth : (f : Func) (o : Option Bool) (v : Value) (b : Bool) → compare_told f o ≡ Ok v → truth v ≡ b → o ≡ Some b
+told-truth f None v b e t = cc
+told-truth f (Some c) v b e t = let same : boolean c ≡ v = cc in ap Some (ap truth same ∙ t)
+
+one-equal : (o : Option Bool) (b : Bool) → option_and_then (λ equal. if equal then Some true else Some false) o ≡ Some b → o ≡ Some b
+one-equal None b e = cc
+one-equal (Some true) b e = e
+one-equal (Some false) b e = e
+
+opposite-of : (o : Option Bool) (b : Bool) → option_map not o ≡ Some b → o ≡ Some (not b)
+opposite-of None b e = cc
+opposite-of (Some true) b e = let same : false ≡ b = cc in ap (λ c. Some (not c)) same
+opposite-of (Some false) b e = let same : true ≡ b = cc in ap (λ c. Some (not c)) same
+
+abbrev whole : ℕ → Value
+whole n = number (pos n)
+
+-- what a comparison of two values gives
+abbrev compared : Func → Value → Value → Result Value Cause
+compared f v w = (apply_function f (v ∷ w ∷ [])).result
+
+eq-told : (u w v : Value) (c : Bool) → compared func.Eq u w ≡ Ok v → truth v ≡ c → equality u w ≡ Some c
+eq-told u w v c e t = one-equal (equality u w) c (told-truth func.Eq (equal_to_one u (w ∷ [])) v c e t)
+
+ne-told : (u w v : Value) (c : Bool) → compared func.Ne u w ≡ Ok v → truth v ≡ c → equality u w ≡ Some (not c)
+ne-told u w v c e t = opposite-of (equality u w) c (told-truth func.Ne (option_map not (equality u w)) v c e t)
+
+lt-told : (u w v : Value) (c : Bool) → compared func.Lt u w ≡ Ok v → truth v ≡ c → order u w ≡ Some c
+lt-told u w v c e t = told-truth func.Lt (order u w) v c e t
+
+ge-told : (u w v : Value) (c : Bool) → compared func.Ge u w ≡ Ok v → truth v ≡ c → order u w ≡ Some (not c)
+ge-told u w v c e t = opposite-of (order u w) c (told-truth func.Ge (option_map not (order u w)) v c e t)
+
+le-told : (u w v : Value) (c : Bool) → compared func.Le u w ≡ Ok v → truth v ≡ c → at_most u w ≡ Some c
+le-told u w v c e t = told-truth func.Le (at_most u w) v c e t
+
+gt-told : (u w v : Value) (c : Bool) → compared func.Gt u w ≡ Ok v → truth v ≡ c → at_most u w ≡ Some (not c)
+gt-told u w v c e t = opposite-of (at_most u w) c (told-truth func.Gt (option_map not (at_most u w)) v c e t)
+
+below-true : (i n : ℕ) → order (whole i) (whole n) ≡ Some true → i < n
+below-true i n e = let is : nat_lt i n ≡ true = cc in ltb-true i n is
+
+below-false : (i n : ℕ) → order (whole i) (whole n) ≡ Some false → n ≤ i
+below-false i n e = let is : nat_lt i n ≡ false = cc in ltb-false i n is
+
+same-true : (i n : ℕ) → equality (whole i) (whole n) ≡ Some true → i ≡ n
+same-true i n e =
+    let is : int_eq (pos i) (pos n) ≡ true = cc in
+    let same : pos i ≡ pos n = (Decides-int_eq (pos i) (pos n)).0 is in cc
+
+same-false : (i n : ℕ) → equality (whole i) (whole n) ≡ Some false → i ≡ n → ⊥
+same-false i n e same =
+    let is : int_eq (pos i) (pos n) ≡ false = cc in
+    false≢true (sym is ∙ (Decides-int_eq (pos i) (pos n)).1 (ap pos same))
+
+upto-true : (i n : ℕ) → at_most (whole i) (whole n) ≡ Some true → i ≤ n
+upto-true i n e = by (nat_lt i n) refl (int_eq (pos i) (pos n)) refl e
+  where
+    by : (b : Bool) → nat_lt i n ≡ b → (c : Bool) → int_eq (pos i) (pos n) ≡ c → (if b then Some true else Some c) ≡ Some true → i ≤ n
+    by true p c q e = let h = ltb-true i n p in omega arith
+    by false p true q e = let h = same-true i n (ap Some q) in omega arith
+    by false p false q e = cc
+
+upto-false : (i n : ℕ) → at_most (whole i) (whole n) ≡ Some false → n < i
+upto-false i n e = by (nat_lt i n) refl (int_eq (pos i) (pos n)) refl e
+  where
+    by : (b : Bool) → nat_lt i n ≡ b → (c : Bool) → int_eq (pos i) (pos n) ≡ c → (if b then Some true else Some c) ≡ Some false → n < i
+    by true p c q e = cc
+    by false p true q e = cc
+    by false p false q e =
+        let h = ltb-false i n p in
+        let apart : i ≡ n → ⊥ = same-false i n (ap Some q) in omega (arith, apart)
+
+more_than-least : (i n l : ℕ) → (i ≡ n → ⊥) → more_than n ≡ Some l → l ≤ i
+more_than-least i n l apart is = by (n == 0) refl is
+  where
+    by : (b : Bool) → (n == 0) ≡ b → (if b then Some 1 else None) ≡ Some l → l ≤ i
+    by true e told = let none : n ≡ 0 = eqb-true n 0 e in let one : 1 ≡ l = cc in omega (arith, apart)
+    by false e told = cc
+
+-- what a number of items, compared with a number, tells
+counted-least : (f : Func) (c : Bool) (i n l : ℕ) (v : Value) → compared f (whole i) (whole n) ≡ Ok v → truth v ≡ c → least_by c f n ≡ Some l → l ≤ i
+counted-least func.Eq true i n l v e t is = let same = same-true i n (eq-told (whole i) (whole n) v true e t) in let one : n ≡ l = cc in omega arith
+counted-least func.Eq false i n l v e t is = more_than-least i n l (same-false i n (eq-told (whole i) (whole n) v false e t)) is
+counted-least func.Ne true i n l v e t is = more_than-least i n l (same-false i n (ne-told (whole i) (whole n) v true e t)) is
+counted-least func.Ne false i n l v e t is = let same = same-true i n (ne-told (whole i) (whole n) v false e t) in let one : n ≡ l = cc in omega arith
+counted-least func.Lt false i n l v e t is = let h = below-false i n (lt-told (whole i) (whole n) v false e t) in let one : n ≡ l = cc in omega arith
+counted-least func.Le false i n l v e t is = let h = upto-false i n (le-told (whole i) (whole n) v false e t) in let one : n + 1 ≡ l = cc in omega arith
+counted-least func.Gt true i n l v e t is = let h = upto-false i n (gt-told (whole i) (whole n) v true e t) in let one : n + 1 ≡ l = cc in omega arith
+counted-least func.Ge true i n l v e t is = let h = below-false i n (ge-told (whole i) (whole n) v true e t) in let one : n ≡ l = cc in omega arith
+counted-least _ true i n l v e t is = cc
+counted-least _ false i n l v e t is = cc
+
+-- .. and a number, compared with it
+mirrored-least : (f : Func) (c : Bool) (i n l : ℕ) (v : Value) → compared f (whole n) (whole i) ≡ Ok v → truth v ≡ c → least_by c (mirrored f) n ≡ Some l → l ≤ i
+mirrored-least func.Eq true i n l v e t is = let same = same-true n i (eq-told (whole n) (whole i) v true e t) in let one : n ≡ l = cc in omega arith
+mirrored-least func.Eq false i n l v e t is =
+    let apart : n ≡ i → ⊥ = same-false n i (eq-told (whole n) (whole i) v false e t) in more_than-least i n l (λ same. apart (sym same)) is
+mirrored-least func.Ne true i n l v e t is =
+    let apart : n ≡ i → ⊥ = same-false n i (ne-told (whole n) (whole i) v true e t) in more_than-least i n l (λ same. apart (sym same)) is
+mirrored-least func.Ne false i n l v e t is = let same = same-true n i (ne-told (whole n) (whole i) v false e t) in let one : n ≡ l = cc in omega arith
+mirrored-least func.Lt true i n l v e t is = let h = below-true n i (lt-told (whole n) (whole i) v true e t) in let one : n + 1 ≡ l = cc in omega arith
+mirrored-least func.Le true i n l v e t is = let h = upto-true n i (le-told (whole n) (whole i) v true e t) in let one : n ≡ l = cc in omega arith
+mirrored-least func.Gt false i n l v e t is = let h = upto-true n i (gt-told (whole n) (whole i) v false e t) in let one : n ≡ l = cc in omega arith
+mirrored-least func.Ge false i n l v e t is = let h = below-true n i (ge-told (whole n) (whole i) v false e t) in let one : n + 1 ≡ l = cc in omega arith
+mirrored-least _ true i n l v e t is = cc
+mirrored-least _ false i n l v e t is = cc
+
+-- .. also where it is piped
+piped-least : (f : Func) (c : Bool) (i n l : ℕ) (all both any : Given Value) (v : Value) → all.result ≡ compared f (whole n) (whole i)
+    → (by_function f all both any).result ≡ Ok v → truth v ≡ c → least_by c (mirrored f) n ≡ Some l → l ≤ i
+piped-least func.And true i n l all both any v same e t is = cc
+piped-least func.And false i n l all both any v same e t is = cc
+piped-least func.Or true i n l all both any v same e t is = cc
+piped-least func.Or false i n l all both any v same e t is = cc
+piped-least f c i n l all both any v same e t is = mirrored-least f c i n l v (sym same ∙ e) t is
+
+module _ (base : Base) (N : Names) (means : Means base.defs N) (top : Value) where
+  -- the variables have these names, shapes and origins
   abbrev pub HasKnown : Known → Environment → Type 0
   HasKnown [] [] = Unit {0}
-  HasKnown (k ∷ ks) (v ∷ env) = (v.0 ≡ k.0) × HasShape N k.1 v.1 × HasKnown ks env
+  HasKnown (k ∷ ks) (v ∷ env) = (v.0 ≡ k.0) × HasShape N k.1 v.1 × HasKnown ks env × HasOrigin top k.2 v.1
   HasKnown ks env = ⊥
 
   pub known-length : (ks : Known) (env : Environment) → HasKnown ks env → length ks ≡ length env
@@ -77,9 +222,14 @@ module _ (base : Base) (N : Names) (means : Means base.defs N) where
   pub within-known : (a b : Known) (env : Environment) → all_within base a b ≡ true → HasKnown a env → HasKnown b env
   within-known [] [] env e h = h
   within-known (a ∷ more) (b ∷ bs) (v ∷ env) e h =
-      let p = and_parts (bytes_eq a.0 b.0) (within base a.1 b.1 && all_within base more bs) e in
-      let q = and_parts (within base a.1 b.1) (all_within base more bs) p.1 in
-      (h.0 ∙ same_name a.0 b.0 p.0, (within-has base N means) a.1 b.1 v.1 q.0 h.1, within-known more bs env q.1 h.2)
+      let p = and_parts (bytes_eq a.0 b.0) (within base a.1 b.1 && (origin_within a.2 b.2 && all_within base more bs)) e in
+      let q = and_parts (within base a.1 b.1) (origin_within a.2 b.2 && all_within base more bs) p.1 in
+      let r = and_parts (origin_within a.2 b.2) (all_within base more bs) q.1 in (
+        h.0 ∙ same_name a.0 b.0 p.0,
+        (within-has base N means) a.1 b.1 v.1 q.0 h.1,
+        within-known more bs env r.1 h.2,
+        origin_within-has top a.2 b.2 v.1 r.0 h.3,
+      )
   within-known (a ∷ more) (b ∷ bs) [] e h = absurd h
   within-known _ _ env e h = absurd (false≢true e)
 
@@ -111,23 +261,34 @@ module _ (base : Base) (N : Names) (means : Means base.defs N) where
       by true more = h.1
       by false more = more
 
-  assigned-known : (name : List ℕ) (s : Shape) (x : Value) → HasShape N s x → (ks : Known) (env : Environment) → HasKnown ks env
-      → HasKnown (assigned_shape name s ks) (assign_variable name x env)
-  assigned-known name s x f [] [] h = tt
-  assigned-known name s x f (k ∷ ks) (v ∷ env) h = rw h.0 (by (bytes_eq k.0 name) (assigned-known name s x f ks env h.2))
+  assigned-known : (name : List ℕ) (s : Shape) (o : Origin) (x : Value) → HasShape N s x → HasOrigin top o x → (ks : Known) (env : Environment) → HasKnown ks env
+      → HasKnown (assigned_shape name s o ks) (assign_variable name x env)
+  assigned-known name s o x f i [] [] h = tt
+  assigned-known name s o x f i (k ∷ ks) (v ∷ env) h = rw h.0 (by (bytes_eq k.0 name) (assigned-known name s o x f i ks env h.2))
     where
-      by : (b : Bool) → HasKnown (assigned_shape name s ks) (assign_variable name x env)
-          → HasKnown (if b then (k.0, s) ∷ ks else k ∷ assigned_shape name s ks) (if b then (k.0, x) ∷ env else (k.0, v.1) ∷ assign_variable name x env)
-      by true more = (refl, f, h.2)
-      by false more = (refl, h.1, more)
-  assigned-known name s x f _ _ h = absurd h
+      by : (b : Bool) → HasKnown (assigned_shape name s o ks) (assign_variable name x env)
+          → HasKnown (if b then (k.0, s, o) ∷ ks else k ∷ assigned_shape name s o ks) (if b then (k.0, x) ∷ env else (k.0, v.1) ∷ assign_variable name x env)
+      by true more = (refl, f, h.2, i)
+      by false more = (refl, h.1, more, h.3)
+  assigned-known name s o x f i _ _ h = absurd h
 
-  pub bound-known : (b : Binding) (k s : Shape) (e : Element) → HasShape N k e.0 → HasShape N s e.1 → (ks : Known) (env : Environment) → HasKnown ks env
-      → HasKnown (bound_shapes b k s ks) (bind b e env)
-  bound-known unbound k s e f g ks env h = h
-  bound-known (declare name) k s e f g ks env h = (refl, g, h)
-  bound-known (assign name) k s e f g ks env h = assigned-known name s e.1 g ks env h
-  bound-known (declare_pair key name) k s e f g ks env h = (refl, g, (refl, f, h))
+  pub bound-known : (b : Binding) (k s : Shape) (o : Origin) (e : Element) → HasShape N k e.0 → HasShape N s e.1 → HasOrigin top o e.1 → (ks : Known) (env : Environment)
+      → HasKnown ks env → HasKnown (bound_shapes b k s o ks) (bind b e env)
+  bound-known unbound k s o e f g i ks env h = h
+  bound-known (declare name) k s o e f g i ks env h = (refl, g, h, i)
+  bound-known (assign name) k s o e f g i ks env h = assigned-known name s o e.1 g i ks env h
+  bound-known (declare_pair key name) k s o e f g i ks env h = (refl, g, (refl, f, h, tt), i)
+
+  origin-has : (name : List ℕ) (ks : Known) (env : Environment) → HasKnown ks env → HasOrigin top (variable_origin name ks) (lookup name env)
+  origin-has name [] [] h = tt
+  origin-has name [] (v ∷ env) h = absurd h
+  origin-has name (k ∷ ks) [] h = absurd h
+  origin-has name (k ∷ ks) (v ∷ env) h = rw h.0 (by (bytes_eq k.0 name) (origin-has name ks env h.2))
+    where
+      by : (b : Bool) → HasOrigin top (variable_origin name ks) (lookup name env)
+          → HasOrigin top (if b then k.2 else variable_origin name ks) (option_map_or (λ v. v.1) (if b then Some (k.0, v.1) else find (λ v. bytes_eq v.0 name) env) nothing)
+      by true more = h.3
+      by false more = more
 
   refine-known : (least : ℕ) (m : MissingKey) (name : List ℕ) (ns : List (List ℕ)) (x : Value) → IsThere least x → (ks : Known) (env : Environment) → HasKnown ks env
       → chain m ns (lookup name env) ≡ Ok x → HasKnown (refine_variable base least name ns ks) env
@@ -136,10 +297,28 @@ module _ (base : Base) (N : Names) (means : Means base.defs N) where
     where
       by : (b : Bool) → chain m ns (option_map_or (λ v. v.1) (if b then Some (k.0, v.1) else find (λ v. bytes_eq v.0 name) env) nothing) ≡ Ok x
           → (chain m ns (lookup name env) ≡ Ok x → HasKnown (refine_variable base least name ns ks) env)
-          → HasKnown (if b then (k.0, refine base least ns k.1) ∷ ks else k ∷ refine_variable base least name ns ks) (v ∷ env)
-      by true y more = (h.0, (refine-has base N means) least k.1 m ns v.1 x h.1 y t, h.2)
-      by false y more = (h.0, h.1, more y)
+          → HasKnown (if b then (k.0, refine base least ns k.1, k.2) ∷ ks else k ∷ refine_variable base least name ns ks) (v ∷ env)
+      by true y more = (h.0, (refine-has base N means) least k.1 m ns v.1 x h.1 y t, h.2, h.3)
+      by false y more = (h.0, h.1, more y, h.3)
   refine-known least m name ns x t _ _ h e = absurd h
+
+  -- where the end of a chain from the data of the template is there, so is what has its origin
+  along-has : (least : ℕ) (ns : List (List ℕ)) (x : Value) → IsThere least x → chain mode.Error ns top ≡ Ok x → (o : Origin) (s : Shape) (y : Value) → HasShape N s y → HasOrigin top o y
+      → HasShape N (refine_from base least ns o s) y
+  along-has least ns x t e None s y h i = h
+  along-has least ns x t e (Some ps) s y h i = by (rest_of ps ns) refl
+    where
+      by : (r : Option (List (List ℕ))) → rest_of ps ns ≡ r → HasShape N (refine_along base least ns s r) y
+      by None is = h
+      by (Some ms) is =
+          let whole : chain mode.Error (ps ++ ms) top ≡ Ok x = subst (λ (qs : List (List ℕ)). chain mode.Error qs top ≡ Ok x) (rest_of-is ps ns ms is) e in
+          (refine-has base N means) least s mode.Error ms y x h (at-rest mode.Error ps ms top y x i whole t.0) t
+
+  all-along : (least : ℕ) (ns : List (List ℕ)) (x : Value) → IsThere least x → chain mode.Error ns top ≡ Ok x → (ks : Known) (env : Environment) → HasKnown ks env
+      → HasKnown (refine_all base least ns ks) env
+  all-along least ns x t e [] [] h = tt
+  all-along least ns x t e (k ∷ ks) (v ∷ env) h = (h.0, along-has least ns x t e k.2 k.1 v.1 h.1 h.3, all-along least ns x t e ks env h.2, h.3)
+  all-along least ns x t e _ _ h = absurd h
 
   -- ---- pipelines
 
@@ -359,81 +538,150 @@ module _ (base : Base) (N : Names) (means : Means base.defs N) where
 
   -- dot and the variables are as known
   abbrev pub Fits : State → Value → Environment → Type 0
-  Fits k d env = HasShape N k.dot d × HasKnown k.env env
+  Fits k d env = HasShape N k.dot d × HasKnown k.env env × HasOrigin top k.from d
 
   abbrev pub place : MissingKey → Value → Environment → Place
   place m d env = record { missing_key = m; dot = d; env = env }
 
-  -- ---- narrowing by the entry of a key
+  -- ---- places
 
-  index-chain : (n : List ℕ) (d v : Value) → (apply_function func.Index (d ∷ string n ∷ [])).result ≡ Ok v → chain mode.Zero (n ∷ []) d ≡ Ok v
-  index-chain n (mapping es) v e = by (entry_at n es) e
+  -- the value from which a place goes on
+  abbrev root_value : Value → Environment → Option (List ℕ) → Value
+  root_value d env root = option_map_or (λ name. lookup name env) root d
+
+  -- a value is at a place, but for nothing and null
+  abbrev IsPlaced : Value → Environment → Option check.Place → Value → Type 0
+  IsPlaced d env None v = Unit {0}
+  IsPlaced d env (Some p) v = IsAt p.path (root_value d env p.root) v
+
+  index-at : (n : List ℕ) (d v : Value) → (apply_function func.Index (d ∷ string n ∷ [])).result ≡ Ok v → IsAt (n ∷ []) d v
+  index-at n (mapping es) v e = at-chain mode.Zero (n ∷ []) (mapping es) v (by (entry_at n es) e)
     where
       by : (o : Option Value) → ◌≡◌ {A = Result Value Cause} (Ok (unwrap_or o null)) (Ok v)
           → and_then (field_value mode.Zero n (option_map_or found o missing)) (chain mode.Zero []) ≡ Ok v
       by None e = e
       by (Some w) e = e
-  index-chain n _ v e = cc
+  index-at n _ v e = cc
 
   -- what an `index` of these operands gives
   abbrev index_value : MissingKey → Value → Environment → Operands → Result Value Cause
   index_value m d env os = (given_then (operand_values (place m d env) os) (λ vs. apply_function func.Index (vs ++ []))).result
 
-  index-fits : (least : ℕ) (m : MissingKey) (os : Operands) (k : State) (d : Value) (env : Environment) (v : Value) → Fits k d env
-      → index_value m d env os ≡ Ok v → IsThere least v → Fits (narrow_to base least (index_place os) k) d env
-  index-fits least m (operand dot (operand (text_constant n) no_operand)) k d env v h e t =
-      ((refine-has base N means) least k.dot mode.Zero (n ∷ []) d v h.0 (index-chain n d v e) t, h.1)
-  index-fits least m (operand (variable name []) (operand (text_constant n) no_operand)) k d env v h e t =
-      (h.0, refine-known least mode.Zero name (n ∷ []) v t k.env env h.1 (index-chain n (lookup name env) v e))
-  index-fits least m (operand (variable name (x ∷ xs)) (operand (text_constant n) no_operand)) k d env v h e t = h
-  index-fits least m (operand _ (operand (text_constant n) no_operand)) k d env v h e t = h
-  index-fits least m (operand _ (operand _ no_operand)) k d env v h e t = h
-  index-fits least m (operand _ (operand _ (operand _ _))) k d env v h e t = h
-  index-fits least m (operand _ no_operand) k d env v h e t = h
-  index-fits least m no_operand k d env v h e t = h
-
-  there-same : (least : ℕ) (v : Value) → IsThere least (without_null v) → IsThere least v
-  there-same least null h = absurd (false≢true (sym h.0))
-  there-same least nothing h = h
-  there-same least (boolean b) h = h
-  there-same least (number n) h = h
-  there-same least (string s) h = h
-  there-same least (sequence vs) h = h
-  there-same least (mapping es) h = h
-
-  group-ok : (least : ℕ) (r : Result Value Cause) (a b : Bool) (v : Value)
-      → (go_on (go_on r a (λ w. as_given (Ok (without_null w)))).result b (λ w. as_given (chain mode.Zero [] w))).result ≡ Ok v → IsThere least v
-      → (w : Value) × (r ≡ Ok w) × IsThere least w
-  group-ok least (Ok w) a b v e t = let same : v ≡ without_null w = cc in (w, refl, there-same least w (subst (IsThere least) same t))
-  group-ok least (Err cause) a b v e t = cc
+  index-placed : (m : MissingKey) (os : Operands) (d : Value) (env : Environment) (v : Value) → index_value m d env os ≡ Ok v → IsPlaced d env (index_place os) v
+  index-placed m (operand dot (operand (text_constant n) no_operand)) d env v e = index-at n d v e
+  index-placed m (operand (variable name []) (operand (text_constant n) no_operand)) d env v e = index-at n (lookup name env) v e
+  index-placed m (operand (variable name (x ∷ xs)) (operand (text_constant n) no_operand)) d env v e = tt
+  index-placed m (operand _ (operand (text_constant n) no_operand)) d env v e = tt
+  index-placed m (operand _ (operand _ no_operand)) d env v e = tt
+  index-placed m (operand _ (operand _ (operand _ _))) d env v e = tt
+  index-placed m (operand _ no_operand) d env v e = tt
+  index-placed m no_operand d env v e = tt
 
   by_count-ok : (f : Func) (t : Bool) (g : Given Value) (v : Value) → (by_count f t g).result ≡ Ok v → g.result ≡ Ok v
   by_count-ok f true g v e = e
   by_count-ok f false g v e = cc
 
-  group-fits : (least : ℕ) (m : MissingKey) (f : Func) (os : Operands) (k : State) (d : Value) (env : Environment) (v : Value) → Fits k d env
-      → (command_value (place m d env) (operand (function f) os) None).result ≡ Ok v → IsThere least v → Fits (narrow_to base least (call_place f os) k) d env
-  group-fits least m func.Index os k d env v h e t =
-      index-fits least m os k d env v h
-      (by_count-ok func.Index (takes func.Index (operand_count os + 0)) (given_then (operand_values (place m d env) os) (λ vs. apply_function func.Index (vs ++ []))) v e) t
-  group-fits least m _ os k d env v h e t = h
+  call-placed : (m : MissingKey) (f : Func) (os : Operands) (d : Value) (env : Environment) (v : Value)
+      → (command_value (place m d env) (operand (function f) os) None).result ≡ Ok v → IsPlaced d env (call_place f os) v
+  call-placed m func.Index os d env v e =
+      index-placed m os d env v
+      (by_count-ok func.Index (takes func.Index (operand_count os + 0)) (given_then (operand_values (place m d env) os) (λ vs. apply_function func.Index (vs ++ []))) v e)
+  call-placed m _ os d env v e = tt
+
+  gone-placed : (d : Value) (env : Environment) (o : Option check.Place) (v : Value) → IsPlaced d env o v → IsPlaced d env o (without_null v)
+  gone-placed d env None v h = tt
+  gone-placed d env (Some p) v h = at-gone p.path (root_value d env p.root) v h
+
+  -- a command whose null is nothing
+  without-ok : (r : Result Value Cause) (b : Bool) (v : Value) → (go_on r b (λ w. as_given (Ok (without_null w)))).result ≡ Ok v → (w : Value) × (r ≡ Ok w) × (without_null w ≡ v)
+  without-ok (Ok w) b v e = (w, refl, cc)
+  without-ok (Err cause) b v e = cc
+
+  -- .. of a pipeline in parentheses
+  inner-ok : (r : Result Value Cause) (b : Bool) (m : MissingKey) (v : Value) → (go_on r b (λ w. as_given (chain m [] w))).result ≡ Ok v → r ≡ Ok v
+  inner-ok (Ok w) b m v e = e
+  inner-ok (Err cause) b m v e = cc
+
+  operand-placed : (m : MissingKey) (o : Operand) (d : Value) (env : Environment) (v : Value) → (operand_value (place m d env) o).result ≡ Ok v → IsPlaced d env (place_of o) v
+  operand-placed m dot d env v e = at-chain mode.Error [] d v e
+  operand-placed m (fields names) d env v e = at-chain m names d v e
+  operand-placed m (variable name names) d env v e = at-chain m names (lookup name env) v e
+  operand-placed m (group (command (operand (function f) os) no_command) []) d env v e =
+      let c = command_value (place m d env) (operand (function f) os) None in
+      let p = commands_value (place m d env) (command (operand (function f) os) no_command) None in
+      let g = without-ok c.result c.made_text v (inner-ok p.result p.made_text m v e) in
+      subst (λ (x : Value). IsPlaced d env (call_place f os) x) g.2 (gone-placed d env (call_place f os) g.0 (call-placed m f os d env g.0 g.1))
+  operand-placed m (group p (n ∷ ns)) d env v e = tt
+  operand-placed m (group no_command []) d env v e = tt
+  operand-placed m (group (command no_operand no_command) []) d env v e = tt
+  operand-placed m (group (command (operand _ os) no_command) []) d env v e = tt
+  operand-placed m (group (command os (command us cs)) []) d env v e = tt
+  operand-placed m _ d env v e = tt
+
+  pipeline-placed : (m : MissingKey) (p : Pipeline) (d : Value) (env : Environment) (v : Value) → (commands_value (place m d env) p None).result ≡ Ok v
+      → IsPlaced d env (pipeline_place p) v
+  pipeline-placed m (command (operand (function f) os) no_command) d env v e =
+      let c = command_value (place m d env) (operand (function f) os) None in
+      let g = without-ok c.result c.made_text v e in
+      subst (λ (x : Value). IsPlaced d env (call_place f os) x) g.2 (gone-placed d env (call_place f os) g.0 (call-placed m f os d env g.0 g.1))
+  pipeline-placed m (command (operand nil no_operand) no_command) d env v e = tt
+  pipeline-placed m (command (operand o no_operand) no_command) d env v e =
+      let c = operand_value (place m d env) o in
+      let g = without-ok c.result c.made_text v e in
+      subst (λ (x : Value). IsPlaced d env (place_of o) x) g.2 (gone-placed d env (place_of o) g.0 (operand-placed m o d env g.0 g.1))
+  pipeline-placed m (command (operand _ (operand _ _)) no_command) d env v e = tt
+  pipeline-placed m (command no_operand no_command) d env v e = tt
+  pipeline-placed m (command no_operand (command _ _)) d env v e = tt
+  pipeline-placed m (command (operand _ _) (command _ _)) d env v e = tt
+  pipeline-placed m no_command d env v e = tt
+
+  root-has : (k : State) (d : Value) (env : Environment) (root : Option (List ℕ)) → Fits k d env → HasOrigin top (root_origin k root) (root_value d env root)
+  root-has k d env None h = h.2
+  root-has k d env (Some name) h = origin-has name k.env env h.1
+
+  place-has : (k : State) (d : Value) (env : Environment) (p : check.Place) (v : Value) → Fits k d env → IsAt p.path (root_value d env p.root) v → HasOrigin top (place_origin k p) v
+  place-has k d env p v h i = by (root_origin k p.root) (root-has k d env p.root h)
+    where
+      by : (o : Origin) → HasOrigin top o (root_value d env p.root) → HasOrigin top (option_map (λ ps. ps ++ p.path) o) v
+      by None g = tt
+      by (Some ps) g = at-joined ps p.path top (root_value d env p.root) v g i
+
+  pub pipeline-has : (m : MissingKey) (p : Pipeline) (k : State) (d : Value) (env : Environment) (v : Value) → Fits k d env → (commands_value (place m d env) p None).result ≡ Ok v
+      → HasOrigin top (pipeline_origin k p) v
+  pipeline-has m p k d env v h e = by (pipeline_place p) (pipeline-placed m p d env v e)
+    where
+      by : (o : Option check.Place) → IsPlaced d env o v → HasOrigin top (option_and_then (place_origin k) o) v
+      by None g = tt
+      by (Some q) g = place-has k d env q v h g
+
+  root-fits : (least : ℕ) (p : check.Place) (k : State) (d : Value) (env : Environment) (v : Value) → Fits k d env → chain mode.Error p.path (root_value d env p.root) ≡ Ok v
+      → IsThere least v → Fits (narrow_root base least p k) d env
+  root-fits least p k d env v h e t = by p.root e
+    where
+      by : (root : Option (List ℕ)) → chain mode.Error p.path (root_value d env root) ≡ Ok v
+          → Fits (option_map_or (λ name. record k { env = refine_variable base least name p.path k.env }) root (record k { dot = refine base least p.path k.dot })) d env
+      by None e = ((refine-has base N means) least k.dot mode.Error p.path d v h.0 e t, h.1, h.2)
+      by (Some name) e = (h.0, refine-known least mode.Error name p.path v t k.env env h.1 e, h.2)
+
+  -- where the value of a place is there, what is known then holds
+  placed-fits : (least : ℕ) (o : Option check.Place) (k : State) (d : Value) (env : Environment) (v : Value) → Fits k d env → IsPlaced d env o v → IsThere least v
+      → Fits (narrow_to base least o k) d env
+  placed-fits least None k d env v h i t = h
+  placed-fits least (Some p) k d env v h i t = by (place_origin k p) (place-has k d env p v h i)
+    where
+      by : (o : Origin) → HasOrigin top o v → Fits (option_map_or (λ ns. narrow_from base least ns k) o (narrow_root base least p k)) d env
+      by None g = root-fits least p k d env v h (i.1 t.0 mode.Error) t
+      by (Some ns) g =
+          let e = g.1 t.0 mode.Error in
+          (along-has least ns v t e k.from k.dot d h.0 h.2, all-along least ns v t e k.env env h.1, h.2)
+
+  index-fits : (least : ℕ) (m : MissingKey) (os : Operands) (k : State) (d : Value) (env : Environment) (v : Value) → Fits k d env
+      → index_value m d env os ≡ Ok v → IsThere least v → Fits (narrow_to base least (index_place os) k) d env
+  index-fits least m os k d env v h e t = placed-fits least (index_place os) k d env v h (index-placed m os d env v e) t
 
   narrow_by-fits : (least : ℕ) (m : MissingKey) (o : Operand) (k : State) (d : Value) (env : Environment) (v : Value) → Fits k d env
       → (operand_value (place m d env) o).result ≡ Ok v → IsThere least v → Fits (narrow_by base least o k) d env
-  narrow_by-fits least m dot k d env v h e t =
-      let same : v ≡ d = cc in ((refine-has base N means) least k.dot mode.Error [] d d h.0 refl (subst (IsThere least) same t), h.1)
-  narrow_by-fits least m (fields names) k d env v h e t = ((refine-has base N means) least k.dot m names d v h.0 e t, h.1)
-  narrow_by-fits least m (variable name names) k d env v h e t = (h.0, refine-known least m name names v t k.env env h.1 e)
-  narrow_by-fits least m (group (command (operand (function f) os) no_command) []) k d env v h e t =
-      let c = command_value (place m d env) (operand (function f) os) None in
-      let g = group-ok least c.result c.made_text (commands_value (place m d env) (command (operand (function f) os) no_command) None).made_text v e t in
-      group-fits least m f os k d env g.0 h g.1 g.2
-  narrow_by-fits least m (group p (n ∷ ns)) k d env v h e t = h
-  narrow_by-fits least m (group no_command []) k d env v h e t = h
-  narrow_by-fits least m (group (command no_operand no_command) []) k d env v h e t = h
-  narrow_by-fits least m (group (command (operand _ os) no_command) []) k d env v h e t = h
-  narrow_by-fits least m (group (command os (command us cs)) []) k d env v h e t = h
-  narrow_by-fits least m _ k d env v h e t = h
+  narrow_by-fits least m o k d env v h e t = placed-fits least (place_of o) k d env v h (operand-placed m o d env v e) t
 
   -- ---- narrowing by comparisons
 
@@ -458,74 +706,293 @@ module _ (base : Base) (N : Names) (means : Means base.defs N) where
   unequal-thing null e = cc
   unequal-thing _ e = refl
 
-  abbrev compare_told : Func → Option Bool → Result Value Cause
-  compare_told f o = result_map_both (λ v. v) (call_failed f) (comparison_answer o)
+  not_same : (b c : Bool) → not b ≡ c → b ≡ not c
+  not_same true c e = ap not e
+  not_same false c e = ap not e
 
-  told-truth : (f : Func) (o : Option Bool) (v : Value) (b : Bool) → compare_told f o ≡ Ok v → truth v ≡ b → o ≡ Some b
-  told-truth f None v b e t = cc
-  told-truth f (Some c) v b e t = let same : boolean c ≡ v = cc in ap Some (ap truth same ∙ t)
+  truth-same : (v : Value) → truth (without_null v) ≡ truth v
+  truth-same null = refl
+  truth-same _ = refl
 
-  one-equal : (o : Option Bool) (b : Bool) → option_and_then (λ equal. if equal then Some true else Some false) o ≡ Some b → o ≡ Some b
-  one-equal None b e = cc
-  one-equal (Some true) b e = e
-  one-equal (Some false) b e = e
+  gone-ok : (r : Result Value Cause) (b : Bool) (v : Value) → (go_on r b (λ w. as_given (Ok (without_null w)))).result ≡ Ok v
+      → (w : Value) × (r ≡ Ok w) × (truth w ≡ truth v)
+  gone-ok (Ok w) b v e = let same : without_null w ≡ v = cc in (w, refl, sym (truth-same w) ∙ ap truth same)
+  gone-ok (Err cause) b v e = cc
 
-  opposite-of : (o : Option Bool) (b : Bool) → option_map not o ≡ Some b → o ≡ Some (not b)
-  opposite-of None b e = cc
-  opposite-of (Some true) b e = let same : false ≡ b = cc in ap (λ c. Some (not c)) same
-  opposite-of (Some false) b e = let same : true ≡ b = cc in ap (λ c. Some (not c)) same
+  -- two values that a function gets, and one
+  two-ok : (f : Func) (x y : Result Value Cause) (a b c e : Bool) (v : Value)
+      → (go_on (go_on x a (λ u. go_on (go_on y b (λ w. as_given (Ok (w ∷ [])))).result c (λ vs. as_given (Ok (u ∷ vs))))).result e (λ vs. apply_function f (vs ++ []))).result ≡ Ok v
+      → (u : Value) × (w : Value) × (x ≡ Ok u) × (y ≡ Ok w) × (compared f u w ≡ Ok v)
+  two-ok f (Ok u) (Ok w) a b c e v h = (u, w, refl, refl, h)
+  two-ok f (Ok u) (Err cause) a b c e v h = cc
+  two-ok f (Err cause) y a b c e v h = cc
 
-  -- what `eq` or `ne` of a value and these gives
-  abbrev pair_value : Func → Result Value Cause → Bool → Bool → Value → Result Value Cause
-  pair_value f x a b w = (go_on (go_on x a (λ v. as_given (Ok (v ∷ w ∷ [])))).result b (λ vs. apply_function f (vs ++ []))).result
+  length-ok : (x : Result Value Cause) (a b : Bool) (v : Value) → (go_on (go_on x a (λ w. as_given (Ok (w ∷ [])))).result b (λ vs. apply_function func.Len (vs ++ []))).result ≡ Ok v
+      → (i : ℕ) × (u : Value) × (x ≡ Ok u) × (size_of u ≡ Some i) × (whole i ≡ v)
+  length-ok (Err cause) a b v e = cc
+  length-ok (Ok u) a b v e = by (size_of u) refl e
+    where
+      by : (o : Option ℕ) → size_of u ≡ o → result_map_both (λ v. v) (call_failed func.Len) (ok_or (option_map (λ n. whole n) o) WrongKind) ≡ Ok v
+          → (i : ℕ) × (w : Value) × (◌≡◌ {A = Result Value Cause} (Ok u) (Ok w)) × (size_of w ≡ Some i) × (whole i ≡ v)
+      by None is e = cc
+      by (Some i) is e = (i, u, refl, is, cc)
 
-  eq-ok : (x : Result Value Cause) (a b : Bool) (w v : Value) (c : Bool) → pair_value func.Eq x a b w ≡ Ok v → truth v ≡ c
-      → (u : Value) × (x ≡ Ok u) × (equality u w ≡ Some c)
-  eq-ok (Ok u) a b w v c e t = (u, refl, one-equal (equality u w) c (told-truth func.Eq (equal_to_one u (w ∷ [])) v c e t))
-  eq-ok (Err cause) a b w v c e t = cc
+  -- what a constant or `nil` tells of what equals it or not
+  tell-thing : (c : Bool) (m : MissingKey) (d : Value) (env : Environment) (p : Operand) (u w : Value) → tells c p ≡ true → (operand_value (place m d env) p).result ≡ Ok w
+      → equality u w ≡ Some c → is_nothing u ≡ false
+  tell-thing true m d env (bool_constant q) u w is e h =
+      let same : w ≡ boolean q = cc in equal-thing u (boolean q) refl (subst (λ (x : Value). equality u x ≡ Some true) same h)
+  tell-thing true m d env (number_constant q) u w is e h =
+      let same : w ≡ number q = cc in equal-thing u (number q) refl (subst (λ (x : Value). equality u x ≡ Some true) same h)
+  tell-thing true m d env (text_constant q) u w is e h =
+      let same : w ≡ string q = cc in equal-thing u (string q) refl (subst (λ (x : Value). equality u x ≡ Some true) same h)
+  tell-thing true m d env _ u w is e h = absurd (false≢true is)
+  tell-thing false m d env nil u w is e h =
+      let same : w ≡ nothing = cc in unequal-thing u (subst (λ (x : Value). equality u x ≡ Some false) same h)
+  tell-thing false m d env _ u w is e h = absurd (false≢true is)
 
-  ne-ok : (x : Result Value Cause) (a b : Bool) (w v : Value) (c : Bool) → pair_value func.Ne x a b w ≡ Ok v → truth v ≡ c
-      → (u : Value) × (x ≡ Ok u) × (equality u w ≡ Some (not c))
-  ne-ok (Ok u) a b w v c e t = (u, refl, opposite-of (equality u w) c (told-truth func.Ne (option_map not (equality u w)) v c e t))
-  ne-ok (Err cause) a b w v c e t = cc
+  tells-thing : (f : Func) (c : Bool) (m : MissingKey) (d : Value) (env : Environment) (p : Operand) (u w v : Value) → tells_by c f p ≡ true
+      → (operand_value (place m d env) p).result ≡ Ok w → compared f u w ≡ Ok v → truth v ≡ c → is_nothing u ≡ false
+  tells-thing func.Eq c m d env p u w v is e h t = tell-thing c m d env p u w is e (eq-told u w v c h t)
+  tells-thing func.Ne c m d env p u w v is e h t = tell-thing (not c) m d env p u w is e (ne-told u w v c h t)
+  tells-thing _ c m d env p u w v is e h t = absurd (false≢true is)
 
-  -- what a call of these operands gives
-  abbrev pair_call : Func → MissingKey → Value → Environment → Operands → Result Value Cause
-  pair_call f m d env os = (given_then (operand_values (place m d env) os) (λ vs. apply_function f (vs ++ []))).result
+  not-ok : (x : Result Value Cause) (a b : Bool) (c : Bool) (v : Value)
+      → (go_on (go_on x a (λ w. as_given (Ok (w ∷ [])))).result b (λ vs. apply_function func.Not (vs ++ []))).result ≡ Ok v → truth v ≡ c
+      → (w : Value) × (x ≡ Ok w) × (truth w ≡ not c)
+  not-ok (Err cause) a b c v e t = cc
+  not-ok (Ok w) a b c v e t = let same : boolean (not (truth w)) ≡ v = cc in (w, refl, not_same (truth w) c (ap truth same ∙ t))
 
-  abbrev EqualSo : Func → Bool → Type 0
-  EqualSo f c = (x : Result Value Cause) (a b : Bool) (w v : Value) → pair_value f x a b w ≡ Ok v → truth v ≡ c
-      → (u : Value) × (x ≡ Ok u) × (equality u w ≡ Some true)
+  two_commands-ok : (x : Result Value Cause) (a : Bool) (g : Value → Given Value) (v : Value)
+      → (go_on x a (λ u. given_then (g u) (λ w. as_given (Ok (without_null w))))).result ≡ Ok v
+      → (u : Value) × (w : Value) × (x ≡ Ok u) × ((g u).result ≡ Ok w) × (truth w ≡ truth v)
+  two_commands-ok (Err cause) a g v e = cc
+  two_commands-ok (Ok u) a g v e = let r = gone-ok (g u).result (g u).made_text v e in (u, r.0, refl, r.1, r.2)
 
-  abbrev UnequalSo : Func → Bool → Type 0
-  UnequalSo f c = (x : Result Value Cause) (a b : Bool) (w v : Value) → pair_value f x a b w ≡ Ok v → truth v ≡ c
-      → (u : Value) × (x ≡ Ok u) × (equality u w ≡ Some false)
+  -- the value of an operand that counts is a number
+  count-ok : (m : MissingKey) (d : Value) (env : Environment) (p : Operand) (n : ℕ) (w : Value) → count_of p ≡ Some n → (operand_value (place m d env) p).result ≡ Ok w → whole n ≡ w
+  count-ok m d env (number_constant (pos i)) n w is e = let same : i ≡ n = cc in let it : whole i ≡ w = cc in ap whole (sym same) ∙ it
+  count-ok m d env _ n w is e = cc
 
-  constant-fits : (f : Func) (c : Bool) → EqualSo f c → (m : MissingKey) (os : Operands) (k : State) (d : Value) (env : Environment) (v : Value) → Fits k d env
-      → pair_call f m d env os ≡ Ok v → truth v ≡ c → Fits (narrow_as base (pair_facts true os) k) d env
-  constant-fits f c g m (operand o (operand (bool_constant q) no_operand)) k d env v h e t =
-      let x = operand_value (place m d env) o in let n = g x.result x.made_text _ (boolean q) v e t in
-      narrow_by-fits 0 m o k d env n.0 h n.1 (equal-thing n.0 (boolean q) refl n.2, any-least n.0)
-  constant-fits f c g m (operand o (operand (number_constant q) no_operand)) k d env v h e t =
-      let x = operand_value (place m d env) o in let n = g x.result x.made_text _ (number q) v e t in
-      narrow_by-fits 0 m o k d env n.0 h n.1 (equal-thing n.0 (number q) refl n.2, any-least n.0)
-  constant-fits f c g m (operand o (operand (text_constant q) no_operand)) k d env v h e t =
-      let x = operand_value (place m d env) o in let n = g x.result x.made_text _ (string q) v e t in
-      narrow_by-fits 0 m o k d env n.0 h n.1 (equal-thing n.0 (string q) refl n.2, any-least n.0)
-  constant-fits f c g m (operand _ (operand _ no_operand)) k d env v h e t = h
-  constant-fits f c g m (operand _ (operand _ (operand _ _))) k d env v h e t = h
-  constant-fits f c g m (operand _ no_operand) k d env v h e t = h
-  constant-fits f c g m no_operand k d env v h e t = h
+  module _ (m : MissingKey) (d : Value) (env : Environment) where
+    -- the value is the length of that of the operand
+    abbrev IsLength : Operand → Value → Type 0
+    IsLength o v = (i : ℕ) × (u : Value) × ((operand_value (place m d env) o).result ≡ Ok u) × (size_of u ≡ Some i) × (whole i ≡ v)
 
-  nil-fits : (f : Func) (c : Bool) → UnequalSo f c → (m : MissingKey) (os : Operands) (k : State) (d : Value) (env : Environment) (v : Value) → Fits k d env
-      → pair_call f m d env os ≡ Ok v → truth v ≡ c → Fits (narrow_as base (pair_facts false os) k) d env
-  nil-fits f c g m (operand o (operand nil no_operand)) k d env v h e t =
-      let x = operand_value (place m d env) o in let n = g x.result x.made_text _ nothing v e t in
-      narrow_by-fits 0 m o k d env n.0 h n.1 (unequal-thing n.0 n.2, any-least n.0)
-  nil-fits f c g m (operand _ (operand _ no_operand)) k d env v h e t = h
-  nil-fits f c g m (operand _ (operand _ (operand _ _))) k d env v h e t = h
-  nil-fits f c g m (operand _ no_operand) k d env v h e t = h
-  nil-fits f c g m no_operand k d env v h e t = h
+    call-counts : (f : Func) (os : Operands) (o : Operand) (v : Value) → call_counts f os ≡ Some o
+        → (command_value (place m d env) (operand (function f) os) None).result ≡ Ok v → IsLength o v
+    call-counts func.Len (operand q no_operand) o v is e =
+        let same : q ≡ o = cc in
+        let x = operand_value (place m d env) q in
+        subst (λ (p : Operand). IsLength p v) same (length-ok x.result x.made_text (operand_values (place m d env) (operand q no_operand)).made_text v
+        (by_count-ok func.Len (takes func.Len (operand_count (operand q no_operand) + 0))
+        (given_then (operand_values (place m d env) (operand q no_operand)) (λ vs. apply_function func.Len (vs ++ []))) v e))
+    call-counts func.Len no_operand o v is e = cc
+    call-counts func.Len (operand _ (operand _ _)) o v is e = cc
+    call-counts _ os o v is e = cc
+
+    command-counts : (os : Operands) (o : Operand) (v : Value) → counts_in (command_call os) ≡ Some o → (command_value (place m d env) os None).result ≡ Ok v → IsLength o v
+    command-counts (operand (function f) os) o v is e = call-counts f os o v is e
+    command-counts (operand _ os) o v is e = cc
+    command-counts no_operand o v is e = cc
+
+    operand-counts : (q o : Operand) (v : Value) → operand_counts q ≡ Some o → (operand_value (place m d env) q).result ≡ Ok v → IsLength o v
+    operand-counts (group (command os no_command) []) o v is e =
+        let c = command_value (place m d env) os None in
+        let p = commands_value (place m d env) (command os no_command) None in
+        let g = there-ok c.result c.made_text v (inner-ok p.result p.made_text m v e) in
+        let l = command-counts os o g.0 is g.1 in
+        (l.0, l.1, l.2, l.3, ap without_null l.4 ∙ g.2)
+      where
+        there-ok : (r : Result Value Cause) (b : Bool) (v : Value) → (go_on r b (λ w. as_given (Ok (without_null w)))).result ≡ Ok v → (w : Value) × (r ≡ Ok w) × (without_null w ≡ v)
+        there-ok (Ok w) b v e = (w, refl, cc)
+        there-ok (Err cause) b v e = cc
+    operand-counts (group no_command []) o v is e = cc
+    operand-counts (group (command _ (command _ _)) []) o v is e = cc
+    operand-counts (group _ (_ ∷ _)) o v is e = cc
+    operand-counts _ o v is e = cc
+
+    -- where a fact holds of the value of its operand
+    abbrev Holds : Operand → ℕ → Type 0
+    Holds o l = (u : Value) × ((operand_value (place m d env) o).result ≡ Ok u) × IsThere l u
+
+    held-fits : (o : Operand) (l : ℕ) (k : State) → Fits k d env → Holds o l → Fits (narrow_by base l o k) d env
+    held-fits o l k h x = narrow_by-fits l m o k d env x.0 h x.1 x.2
+
+    length_fact-fits : (c : Bool) (f : Func) (counted : Option Operand) (counting : Option ℕ) (k : State) → Fits k d env
+        → ((o : Operand) (n l : ℕ) → counted ≡ Some o → counting ≡ Some n → least_by c f n ≡ Some l → Holds o l)
+        → Fits (narrow_as base (length_fact c f counted counting) k) d env
+    length_fact-fits c f None counting k h g = h
+    length_fact-fits c f (Some o) None k h g = h
+    length_fact-fits c f (Some o) (Some n) k h g = by (least_by c f n) refl
+      where
+        by : (r : Option ℕ) → least_by c f n ≡ r → Fits (narrow_as base (option_map (λ l. record { least = l; about = o }) r) k) d env
+        by None is = h
+        by (Some l) is = held-fits o l k h (g o n l refl refl is)
+
+    first_fact-fits : (a b : Option Fact) (k : State) → Fits (narrow_as base a k) d env → Fits (narrow_as base b k) d env → Fits (narrow_as base (first_fact a b) k) d env
+    first_fact-fits None b k h g = g
+    first_fact-fits (Some a) b k h g = h
+
+    constant_fact-fits : (c : Bool) (f : Func) (o p : Operand) (k : State) → Fits k d env → (tells_by c f p ≡ true → Holds o 0) → Fits (narrow_as base (constant_fact c f o p) k) d env
+    constant_fact-fits c f o p k h g = by (tells_by c f p) refl
+      where
+        by : (b : Bool) → tells_by c f p ≡ b → Fits (narrow_as base (if b then Some (record { least = 0; about = o }) else None) k) d env
+        by true is = held-fits o 0 k h (g is)
+        by false is = h
+
+    -- what a call of these operands gives
+    abbrev call_value : Func → Operands → Result Value Cause
+    call_value f os = (given_then (operand_values (place m d env) os) (λ vs. apply_function f (vs ++ []))).result
+
+    first-counts : (c : Bool) (f : Func) (o p q : Operand) (n l : ℕ) (u w v : Value) → (operand_value (place m d env) o).result ≡ Ok u → (operand_value (place m d env) p).result ≡ Ok w
+        → compared f u w ≡ Ok v → truth v ≡ c → operand_counts o ≡ Some q → count_of p ≡ Some n → least_by c f n ≡ Some l → Holds q l
+    first-counts c f o p q n l u w v x y e t counts counting is =
+        let g = operand-counts o q u counts x in
+        let same = count-ok m d env p n w counting y in
+        let told : compared f (whole g.0) (whole n) ≡ Ok v = rw (g.4, same) e in
+        (g.1, g.2, sized-there g.1 g.0 l g.3 (counted-least f c g.0 n l v told t is))
+
+    second-counts : (c : Bool) (f : Func) (o p q : Operand) (n l : ℕ) (u w v : Value) → (operand_value (place m d env) o).result ≡ Ok u → (operand_value (place m d env) p).result ≡ Ok w
+        → compared f u w ≡ Ok v → truth v ≡ c → operand_counts p ≡ Some q → count_of o ≡ Some n → least_by c (mirrored f) n ≡ Some l → Holds q l
+    second-counts c f o p q n l u w v x y e t counts counting is =
+        let g = operand-counts p q w counts y in
+        let same = count-ok m d env o n u counting x in
+        let told : compared f (whole n) (whole g.0) ≡ Ok v = rw (same, g.4) e in
+        (g.1, g.2, sized-there g.1 g.0 l g.3 (mirrored-least f c g.0 n l v told t is))
+
+    pair_fact-fits : (c : Bool) (f : Func) (o p : Operand) (k : State) (v : Value) → Fits k d env → call_value f (operand o (operand p no_operand)) ≡ Ok v → truth v ≡ c
+        → Fits (narrow_as base (pair_fact c f o p) k) d env
+    pair_fact-fits c f o p k v h e t =
+        let x = operand_value (place m d env) o in
+        let y = operand_value (place m d env) p in
+        let g = two-ok f x.result y.result x.made_text y.made_text (operand_values (place m d env) (operand p no_operand)).made_text
+        (operand_values (place m d env) (operand o (operand p no_operand))).made_text v e in
+        first_fact-fits (length_fact c f (operand_counts o) (count_of p))
+        (first_fact (length_fact c (mirrored f) (operand_counts p) (count_of o)) (constant_fact c f o p)) k
+        (length_fact-fits c f (operand_counts o) (count_of p) k h (λ q n l counts counting is. first-counts c f o p q n l g.0 g.1 v g.2 g.3 g.4 t counts counting is))
+        (first_fact-fits (length_fact c (mirrored f) (operand_counts p) (count_of o)) (constant_fact c f o p) k
+        (length_fact-fits c (mirrored f) (operand_counts p) (count_of o) k h (λ q n l counts counting is. second-counts c f o p q n l g.0 g.1 v g.2 g.3 g.4 t counts counting is))
+        (constant_fact-fits c f o p k h (λ is. (g.0, g.2, (tells-thing f c m d env p g.0 g.1 v is g.3 g.4 t, any-least g.0)))))
+
+    full_length-fits : (o : Operand) (k : State) (v : Value) → Fits k d env → call_value func.Len (operand o no_operand) ≡ Ok v → truth v ≡ true → Fits (narrow_by base 1 o k) d env
+    full_length-fits o k v h e t =
+        let x = operand_value (place m d env) o in
+        let g = length-ok x.result x.made_text (operand_values (place m d env) (operand o no_operand)).made_text v e in
+        held-fits o 1 k h (g.1, g.2, sized-there g.1 g.0 1 g.3 (full-number g.0 (ap truth g.4 ∙ t)))
+
+    call_fact-fits : (f : Func) (c : Bool) (os : Operands) (k : State) (v : Value) → Fits k d env → call_value f os ≡ Ok v → truth v ≡ c
+        → Fits (narrow_as base (call_fact c f os) k) d env
+    call_fact-fits func.Len true (operand o no_operand) k v h e t = full_length-fits o k v h e t
+    call_fact-fits func.Len true (operand _ (operand _ _)) k v h e t = h
+    call_fact-fits func.Len true no_operand k v h e t = h
+    call_fact-fits func.Len false os k v h e t = h
+    call_fact-fits f c (operand o (operand p no_operand)) k v h e t = pair_fact-fits c f o p k v h e t
+    call_fact-fits f c (operand _ (operand _ (operand _ _))) k v h e t = h
+    call_fact-fits f c (operand _ no_operand) k v h e t = h
+    call_fact-fits f c no_operand k v h e t = h
+
+    -- a call to which the value of a command is piped
+    abbrev piped_value : Operands → Value → Given Value
+    piped_value us u = command_value (place m d env) us (Some (without_null u))
+
+    piped-counts : (c : Bool) (os : Operands) (f : Func) (p o : Operand) (n l : ℕ) (u v : Value) → (command_value (place m d env) os None).result ≡ Ok u
+        → (piped_value (operand (function f) (operand p no_operand)) u).result ≡ Ok v → truth v ≡ c
+        → counts_in (command_call os) ≡ Some o → count_of p ≡ Some n → least_by c (mirrored f) n ≡ Some l → Holds o l
+    piped-counts c os f (number_constant (pos j)) o n l u v x e t counts counting is =
+        let g = command-counts os o u counts x in
+        let same : j ≡ n = cc in
+        let p : Operand = number_constant (pos j) in
+        let all = given_then (operand_values (place m d env) (operand p no_operand)) (λ vs. apply_function f (vs ++ (without_null u ∷ []))) in
+        let both = junction false (place m d env) nothing (operand p no_operand) (Some (without_null u)) in
+        let any = junction true (place m d env) nothing (operand p no_operand) (Some (without_null u)) in
+        let told = by_count-ok f (takes f (operand_count (operand p no_operand) + 1)) (by_function f all both any) v e in
+        let it : without_null u ≡ whole g.0 = sym (ap without_null g.4) in
+        let gives : all.result ≡ compared f (whole j) (whole g.0) = ap (λ (w : Value). compared f (whole j) w) it in
+        (g.1, g.2, sized-there g.1 g.0 l g.3 (piped-least f c g.0 j l all both any v gives told t (ap (least_by c (mirrored f)) same ∙ is)))
+    piped-counts c os f _ o n l u v x e t counts counting is = cc
+
+    piped_fact-fits : (c : Bool) (os us : Operands) (k : State) (u v : Value) → Fits k d env → (command_value (place m d env) os None).result ≡ Ok u
+        → (piped_value us u).result ≡ Ok v → truth v ≡ c → Fits (narrow_as base (piped_fact c (counts_in (command_call os)) (command_call us)) k) d env
+    piped_fact-fits c os (operand (function f) (operand p no_operand)) k u v h x e t =
+        length_fact-fits c (mirrored f) (counts_in (command_call os)) (count_of p) k h
+        (λ o n l counts counting is. piped-counts c os f p o n l u v x e t counts counting is)
+    piped_fact-fits c os (operand (function f) no_operand) k u v h x e t = length_fact-fits c (mirrored f) (counts_in (command_call os)) None k h (λ o n l counts counting is. cc)
+    piped_fact-fits c os (operand (function f) (operand _ (operand _ _))) k u v h x e t = length_fact-fits c (mirrored f) (counts_in (command_call os)) None k h (λ o n l counts counting is. cc)
+    piped_fact-fits c os (operand _ us) k u v h x e t = h
+    piped_fact-fits c os no_operand k u v h x e t = h
+
+    -- an operand of an `and` that is not empty is not empty, and one of an `or` that is empty is
+    each-step : (c : Bool) (r : Result Value Cause) (b : Bool) (more : Value → Given Value) (v : Value)
+        → (go_on r b (λ w. decided (decides (not c) w) w (more w))).result ≡ Ok v → truth v ≡ c → (w : Value) × (r ≡ Ok w) × (truth w ≡ c) × ((more w).result ≡ Ok v)
+    each-step c (Err cause) b more v e t = cc
+    each-step true (Ok w) b more v e t = by (truth w) refl e
+      where
+        by : (c : Bool) → truth w ≡ c → (decided (not c) w (more w)).result ≡ Ok v → (u : Value) × (◌≡◌ {A = Result Value Cause} (Ok w) (Ok u)) × (truth u ≡ true) × ((more u).result ≡ Ok v)
+        by true is e = (w, refl, is, e)
+        by false is e = let same : w ≡ v = cc in absurd (false≢true (sym is ∙ (ap truth same ∙ t)))
+    each-step false (Ok w) b more v e t = by (truth w) refl e
+      where
+        by : (c : Bool) → truth w ≡ c → (decided c w (more w)).result ≡ Ok v → (u : Value) × (◌≡◌ {A = Result Value Cause} (Ok w) (Ok u)) × (truth u ≡ false) × ((more u).result ≡ Ok v)
+        by false is e = (w, refl, is, e)
+        by true is e = let same : w ≡ v = cc in absurd (false≢true (sym t ∙ (ap truth (sym same) ∙ is)))
+
+    mutual
+      -- where a value is not empty, or else is, what is known then holds
+      operand-narrows : (o : Operand) (c : Bool) (k : State) (v : Value) → Fits k d env → (operand_value (place m d env) o).result ≡ Ok v → truth v ≡ c
+          → Fits (narrow_operand base c o k) d env
+      operand-narrows (group p []) c k v h e t =
+          let r = commands_value (place m d env) p None in pipeline-narrows p c k v h (inner-ok r.result r.made_text m v e) t
+      operand-narrows (group p (n ∷ ns)) c k v h e t = h
+      operand-narrows o true k v h e t = narrow_by-fits 1 m o k d env v h e (full-thing v t)
+      operand-narrows o false k v h e t = h
+
+      all-narrow : (os : Operands) (c : Bool) (k : State) (last v : Value) → Fits k d env → (junction (not c) (place m d env) last os None).result ≡ Ok v → truth v ≡ c
+          → Fits (narrow_all base c os k) d env
+      all-narrow no_operand c k last v h e t = h
+      all-narrow (operand o os) c k last v h e t =
+          let x = operand_value (place m d env) o in
+          let g = each-step c x.result x.made_text (λ w. junction (not c) (place m d env) w os None) v e t in
+          all-narrow os c (narrow_operand base c o k) g.0 v (operand-narrows o c k g.0 h g.1 g.2) g.3 t
+
+      command-narrows : (os : Operands) (c : Bool) (k : State) (v : Value) → Fits k d env → (command_value (place m d env) os None).result ≡ Ok v → truth v ≡ c
+          → Fits (narrow_command base c os k) d env
+      command-narrows (operand (function func.And) os) true k v h e t =
+          all-narrow os true k nothing v h (by_count-ok func.And (takes func.And (operand_count os + 0)) (junction false (place m d env) nothing os None) v e) t
+      command-narrows (operand (function func.And) os) false k v h e t = h
+      command-narrows (operand (function func.Or) os) true k v h e t = h
+      command-narrows (operand (function func.Or) os) false k v h e t =
+          all-narrow os false k nothing v h (by_count-ok func.Or (takes func.Or (operand_count os + 0)) (junction true (place m d env) nothing os None) v e) t
+      command-narrows (operand (function func.Not) (operand o no_operand)) c k v h e t =
+          let x = operand_value (place m d env) o in
+          let vs = operand_values (place m d env) (operand o no_operand) in
+          let g = not-ok x.result x.made_text vs.made_text c v
+          (by_count-ok func.Not (takes func.Not (operand_count (operand o no_operand) + 0)) (given_then vs (λ ws. apply_function func.Not (ws ++ []))) v e) t in
+          operand-narrows o (not c) k g.0 h g.1 g.2
+      command-narrows (operand (function func.Not) no_operand) c k v h e t = h
+      command-narrows (operand (function func.Not) (operand _ (operand _ _))) c k v h e t = h
+      command-narrows (operand (function func.Index) os) true k v h e t =
+          index-fits 1 m os k d env v h (by_count-ok func.Index (takes func.Index (operand_count os + 0))
+          (given_then (operand_values (place m d env) os) (λ vs. apply_function func.Index (vs ++ []))) v e) (full-thing v t)
+      command-narrows (operand (function func.Index) os) false k v h e t = h
+      command-narrows (operand (function f) os) c k v h e t =
+          call_fact-fits f c os k v h (by_count-ok f (takes f (operand_count os + 0)) (given_then (operand_values (place m d env) os) (λ vs. apply_function f (vs ++ []))) v e) t
+      command-narrows (operand nil no_operand) c k v h e t = cc
+      command-narrows (operand o no_operand) c k v h e t = operand-narrows o c k v h e t
+      command-narrows (operand _ (operand _ _)) c k v h e t = h
+      command-narrows no_operand c k v h e t = h
+
+      pipeline-narrows : (p : Pipeline) (c : Bool) (k : State) (v : Value) → Fits k d env → (commands_value (place m d env) p None).result ≡ Ok v → truth v ≡ c
+          → Fits (narrow base c p k) d env
+      pipeline-narrows (command os no_command) c k v h e t =
+          let r = command_value (place m d env) os None in
+          let g = gone-ok r.result r.made_text v e in command-narrows os c k g.0 h g.1 (g.2 ∙ t)
+      pipeline-narrows (command os (command us no_command)) c k v h e t =
+          let r = command_value (place m d env) os None in
+          let g = two_commands-ok r.result r.made_text (piped_value us) v e in
+          piped_fact-fits c os us k g.0 g.1 h g.2 g.3 (g.4 ∙ t)
+      pipeline-narrows (command _ (command _ (command _ _))) c k v h e t = h
+      pipeline-narrows no_command c k v h e t = h
 
   -- ---- `slice`
 
@@ -564,10 +1031,6 @@ module _ (base : Base) (N : Names) (means : Means base.defs N) where
           subst (λ (q : Result Value Cause). (Gives base N means) (part_shape base b.0 b.1 s) q) (sym (bound-values m d env os b e v c))
           ((part-gives base N means) b.0 b.1 s v h)
 
-  not_false : (b : Bool) → not b ≡ false → b ≡ true
-  not_false true e = refl
-  not_false false e = sym e
-
   module _ (m : MissingKey) (d : Value) (env : Environment) where
     junction-step : (is_or : Bool) (o : Operand) (os : Operands) (k : State) (ps : Option Shape) (pv : Option Value) → Fits k d env
         → ((u : State) (s : Shape) (v : Value) → Fits u d env → HasShape N s v → (Gives base N means) (junction_shape base is_or m u s os ps) (junction is_or (place m d env) v os pv).result)
@@ -576,17 +1039,19 @@ module _ (base : Base) (N : Names) (means : Means base.defs N) where
         (decided (decides is_or v) v (junction is_or (place m d env) v os pv)).result
     junction-step true o os k ps pv fits more s v e h = by (truth v) refl
       where
-        by : (b : Bool) → truth v ≡ b → (Gives base N means) (both base (Some (fill base s)) (junction_shape base true m k s os ps)) (decided b v (junction true (place m d env) v os pv)).result
-        by true t = (both-left base N means) (Some (fill base s)) (junction_shape base true m k s os ps) (Ok v) ((fill-has base N means) s v h t)
-        by false t = (both-right base N means) (Some (fill base s)) (junction_shape base true m k s os ps) (junction true (place m d env) v os pv).result (more k s v fits h)
+        by : (b : Bool) → truth v ≡ b → (Gives base N means) (both base (Some (fill base s)) (junction_shape base true m (narrow_operand base false o k) s os ps)) (decided b v (junction true (place m d env) v os pv)).result
+        by true t = (both-left base N means) (Some (fill base s)) (junction_shape base true m (narrow_operand base false o k) s os ps) (Ok v) ((fill-has base N means) s v h t)
+        by false t =
+            (both-right base N means) (Some (fill base s)) (junction_shape base true m (narrow_operand base false o k) s os ps) (junction true (place m d env) v os pv).result
+            (more (narrow_operand base false o k) s v (operand-narrows m d env o false k v fits e t) h)
     junction-step false o os k ps pv fits more s v e h = by (truth v) refl
       where
-        by : (b : Bool) → truth v ≡ b → (Gives base N means) (both base (Some s) (junction_shape base false m (narrow_by base 1 o k) (fill base s) os ps))
+        by : (b : Bool) → truth v ≡ b → (Gives base N means) (both base (Some s) (junction_shape base false m (narrow_operand base true o k) (fill base s) os ps))
             (decided (not b) v (junction false (place m d env) v os pv)).result
-        by false t = (both-left base N means) (Some s) (junction_shape base false m (narrow_by base 1 o k) (fill base s) os ps) (Ok v) h
+        by false t = (both-left base N means) (Some s) (junction_shape base false m (narrow_operand base true o k) (fill base s) os ps) (Ok v) h
         by true t =
-            (both-right base N means) (Some s) (junction_shape base false m (narrow_by base 1 o k) (fill base s) os ps) (junction false (place m d env) v os pv).result
-            (more (narrow_by base 1 o k) (fill base s) v (narrow_by-fits 1 m o k d env v fits e (full-thing v t)) ((fill-has base N means) s v h t))
+            (both-right base N means) (Some s) (junction_shape base false m (narrow_operand base true o k) (fill base s) os ps) (junction false (place m d env) v os pv).result
+            (more (narrow_operand base true o k) (fill base s) v (operand-narrows m d env o true k v fits e t) ((fill-has base N means) s v h t))
 
     mutual
       operand-gives : (o : Operand) (k : State) → Fits k d env → (Gives base N means) (operand_shape base m k o) (operand_value (place m d env) o).result
@@ -685,103 +1150,7 @@ module _ (base : Base) (N : Names) (means : Means base.defs N) where
 
   -- ---- narrowing
 
-  truth-same : (v : Value) → truth (without_null v) ≡ truth v
-  truth-same null = refl
-  truth-same _ = refl
-
-  gone-ok : (r : Result Value Cause) (b : Bool) (v : Value) → (go_on r b (λ w. as_given (Ok (without_null w)))).result ≡ Ok v
-      → (w : Value) × (r ≡ Ok w) × (truth w ≡ truth v)
-  gone-ok (Ok w) b v e = let same : without_null w ≡ v = cc in (w, refl, sym (truth-same w) ∙ ap truth same)
-  gone-ok (Err cause) b v e = cc
-
-  -- an operand of an `and` that is not empty is not empty
-  and-step : (r : Result Value Cause) (b : Bool) (more : Value → Given Value) (v : Value) → (go_on r b (λ w. decided (not (truth w)) w (more w))).result ≡ Ok v
-      → truth v ≡ true → (w : Value) × (r ≡ Ok w) × (truth w ≡ true) × ((more w).result ≡ Ok v)
-  and-step (Err cause) b more v e t = cc
-  and-step (Ok w) b more v e t = by (truth w) refl e
-    where
-      by : (c : Bool) → truth w ≡ c → (decided (not c) w (more w)).result ≡ Ok v → (u : Value) × (◌≡◌ {A = Result Value Cause} (Ok w) (Ok u)) × (truth u ≡ true) × ((more u).result ≡ Ok v)
-      by true is e = (w, refl, is, e)
-      by false is e = let same : w ≡ v = cc in absurd (false≢true (sym is ∙ (ap truth same ∙ t)))
-
-  narrow_all-fits : (m : MissingKey) (os : Operands) (k : State) (d : Value) (env : Environment) (last v : Value) → Fits k d env
-      → (junction false (place m d env) last os None).result ≡ Ok v → truth v ≡ true → Fits (narrow_by_all base 1 os k) d env
-  narrow_all-fits m no_operand k d env last v h e t = h
-  narrow_all-fits m (operand o os) k d env last v h e t =
-      let p = and-step (operand_value (place m d env) o).result (operand_value (place m d env) o).made_text (λ w. junction false (place m d env) w os None) v e t in
-      narrow_all-fits m os (narrow_by base 1 o k) d env p.0 v (narrow_by-fits 1 m o k d env p.0 h p.1 (full-thing p.0 p.2)) p.3 t
-
-  -- what a call gives that is the whole pipeline
-  called-ok : (m : MissingKey) (f : Func) (os : Operands) (d : Value) (env : Environment) (v : Value)
-      → (go_on (by_count f (takes f (operand_count os + 0)) (given_then (operand_values (place m d env) os) (λ vs. apply_function f (vs ++ [])))).result
-      (by_count f (takes f (operand_count os + 0)) (given_then (operand_values (place m d env) os) (λ vs. apply_function f (vs ++ [])))).made_text
-      (λ w. as_given (Ok (without_null w)))).result ≡ Ok v
-      → (w : Value) × (pair_call f m d env os ≡ Ok w) × (truth w ≡ truth v)
-  called-ok m f os d env v e =
-      let c = by_count f (takes f (operand_count os + 0)) (given_then (operand_values (place m d env) os) (λ vs. apply_function f (vs ++ []))) in
-      let g = gone-ok c.result c.made_text v e in
-      (g.0, by_count-ok f (takes f (operand_count os + 0)) (given_then (operand_values (place m d env) os) (λ vs. apply_function f (vs ++ []))) g.0 g.1, g.2)
-
-  -- where the value of a pipeline is not empty, what is known then holds
-  pub narrow-fits : (m : MissingKey) (p : Pipeline) (k : State) (d : Value) (env : Environment) (v : Value) → Fits k d env
-      → (commands_value (place m d env) p None).result ≡ Ok v → truth v ≡ true → Fits (narrow base true p k) d env
-  narrow-fits m (command (operand (function func.And) os) no_command) k d env v h e t =
-      let c = command_value (place m d env) (operand (function func.And) os) None in
-      let g = gone-ok c.result c.made_text v e in
-      narrow_all-fits m os k d env nothing g.0 h (by_count-ok func.And _ (junction false (place m d env) nothing os None) g.0 g.1) (g.2 ∙ t)
-  narrow-fits m (command (operand (function func.Index) os) no_command) k d env v h e t =
-      let g = called-ok m func.Index os d env v e in index-fits 1 m os k d env g.0 h g.1 (full-thing g.0 (g.2 ∙ t))
-  narrow-fits m (command (operand (function func.Eq) os) no_command) k d env v h e t =
-      let g = called-ok m func.Eq os d env v e in
-      constant-fits func.Eq true (λ x a b w u. eq-ok x a b w u true) m os k d env g.0 h g.1 (g.2 ∙ t)
-  narrow-fits m (command (operand (function func.Ne) os) no_command) k d env v h e t =
-      let g = called-ok m func.Ne os d env v e in
-      nil-fits func.Ne true (λ x a b w u. ne-ok x a b w u true) m os k d env g.0 h g.1 (g.2 ∙ t)
-  narrow-fits m (command (operand (function _) no_operand) no_command) k d env v h e t = h
-  narrow-fits m (command (operand (function _) (operand _ _)) no_command) k d env v h e t = h
-  narrow-fits m (command (operand dot no_operand) no_command) k d env v h e t =
-      let g = gone-ok (Ok d) false v e in narrow_by-fits 1 m dot k d env g.0 h g.1 (full-thing g.0 (g.2 ∙ t))
-  narrow-fits m (command (operand (fields names) no_operand) no_command) k d env v h e t =
-      let g = gone-ok (chain m names d) false v e in narrow_by-fits 1 m (fields names) k d env g.0 h g.1 (full-thing g.0 (g.2 ∙ t))
-  narrow-fits m (command (operand (variable name names) no_operand) no_command) k d env v h e t =
-      let g = gone-ok (chain m names (lookup name env)) false v e in
-      narrow_by-fits 1 m (variable name names) k d env g.0 h g.1 (full-thing g.0 (g.2 ∙ t))
-  narrow-fits m (command (operand (group p names) no_operand) no_command) k d env v h e t =
-      let o = operand_value (place m d env) (group p names) in
-      let g = gone-ok o.result o.made_text v e in narrow_by-fits 1 m (group p names) k d env g.0 h g.1 (full-thing g.0 (g.2 ∙ t))
-  narrow-fits m (command (operand _ no_operand) no_command) k d env v h e t = h
-  narrow-fits m (command (operand _ (operand _ _)) no_command) k d env v h e t = h
-  narrow-fits m (command no_operand no_command) k d env v h e t = h
-  narrow-fits m (command _ (command _ _)) k d env v h e t = h
-  narrow-fits m no_command k d env v h e t = h
-
-  not-ok : (x : Result Value Cause) (a b : Bool) (v : Value)
-      → (go_on (go_on x a (λ w. as_given (Ok (w ∷ [])))).result b (λ vs. apply_function func.Not (vs ++ []))).result ≡ Ok v → truth v ≡ false
-      → (w : Value) × (x ≡ Ok w) × (truth w ≡ true)
-  not-ok (Err cause) a b v e t = cc
-  not-ok (Ok w) a b v e t = let same : boolean (not (truth w)) ≡ v = cc in (w, refl, not_false (truth w) (ap truth same ∙ t))
-
-  -- .. and where it is empty
-  pub empty-fits : (m : MissingKey) (p : Pipeline) (k : State) (d : Value) (env : Environment) (v : Value) → Fits k d env
-      → (commands_value (place m d env) p None).result ≡ Ok v → truth v ≡ false → Fits (narrow base false p k) d env
-  empty-fits m (command (operand (function func.Not) (operand o no_operand)) no_command) k d env v h e t =
-      let c = command_value (place m d env) (operand (function func.Not) (operand o no_operand)) None in
-      let g = gone-ok c.result c.made_text v e in
-      let x = operand_value (place m d env) o in
-      let vs = operand_values (place m d env) (operand o no_operand) in
-      let n = not-ok x.result x.made_text vs.made_text g.0
-      (by_count-ok func.Not (takes func.Not (operand_count (operand o no_operand) + 0)) (given_then vs (λ ws. apply_function func.Not (ws ++ []))) g.0 g.1) (g.2 ∙ t) in
-      narrow_by-fits 1 m o k d env n.0 h n.1 (full-thing n.0 n.2)
-  empty-fits m (command (operand (function func.Eq) os) no_command) k d env v h e t =
-      let g = called-ok m func.Eq os d env v e in
-      nil-fits func.Eq false (λ x a b w u. eq-ok x a b w u false) m os k d env g.0 h g.1 (g.2 ∙ t)
-  empty-fits m (command (operand (function func.Ne) os) no_command) k d env v h e t =
-      let g = called-ok m func.Ne os d env v e in
-      constant-fits func.Ne false (λ x a b w u. ne-ok x a b w u false) m os k d env g.0 h g.1 (g.2 ∙ t)
-  empty-fits m (command (operand (function _) no_operand) no_command) k d env v h e t = h
-  empty-fits m (command (operand (function _) (operand _ no_operand)) no_command) k d env v h e t = h
-  empty-fits m (command (operand (function _) (operand _ (operand _ _))) no_command) k d env v h e t = h
-  empty-fits m (command (operand _ _) no_command) k d env v h e t = h
-  empty-fits m (command no_operand no_command) k d env v h e t = h
-  empty-fits m (command _ (command _ _)) k d env v h e t = h
-  empty-fits m no_command k d env v h e t = h
+  -- where the value of a pipeline is not empty, or else is, what is known then holds
+  pub narrow-fits : (c : Bool) (m : MissingKey) (p : Pipeline) (k : State) (d : Value) (env : Environment) (v : Value) → Fits k d env
+      → (commands_value (place m d env) p None).result ≡ Ok v → truth v ≡ c → Fits (narrow base c p k) d env
+  narrow-fits c m p k d env v h e t = pipeline-narrows m d env p c k v h e t

@@ -1,7 +1,7 @@
 -- For code on what is known of variables: they are seen by their parts.
 use Rattle.std.proofs.Common.{rules, ◌≡◌, [], ◌∷◌, Box, Global}
 use Rattle.tmpl_shape.specs.View.{shape_of}
-use Rattle.tmpl_schema.specs.computed.View.{known_of}
+use Rattle.tmpl_schema.specs.computed.View.{known_of, origin_of}
 use Rattle.tmpl_schema.specs.declared.known.Known as held_known
 use Rattle.tmpl_schema.specs.declared.known.Known.{the_lemmas as known_lemmas}
 use Rattle.tmpl_schema.specs.declared.known.Variable as held_variable
@@ -11,7 +11,7 @@ pub none_seen : known_of held_known.Empty ≡ []
 none_seen = search (rules, known_lemmas)
 
 pub newest_seen : (v : Box held_variable.Variable Global)
-    → known_of (held_known.More v) ≡ ((out-Variable v.value).name, shape_of (out-Variable v.value).shape) ∷ known_of (out-Variable v.value).older
+    → known_of (held_known.More v) ≡ ((out-Variable v.value).name, shape_of (out-Variable v.value).shape, origin_of (out-Variable v.value).origin) ∷ known_of (out-Variable v.value).older
 newest_seen v = search (rules, known_lemmas)
 
 pub ruleset variables = (none_seen, newest_seen)

@@ -1,12 +1,12 @@
-//! What a pipeline that is empty or not tells of operands, and which places these are.
+//! What a call that gives what is empty or not tells of operands, and which places these are.
 #![tactic(auto, using(tmpl_grammar::proofs::ViewLemmas::group_seen, crate::proofs::FactLemmas::rests))]
 
-ghost use Rattle.std.specs.Prelude.{◌≡◌, false, true};
-ghost use Rattle.std.specs.Option.{option_map};
+ghost use Rattle.std.specs.Prelude.{◌≡◌, ◌^◌, ◌<◌, IfSome, false, true};
+ghost use Rattle.std.specs.Option.{option_and_then, option_map};
 ghost use Rattle.tmpl_grammar.specs.View.{commands_in, operand_of, operands_in};
-ghost use Rattle.tmpl_schema.specs.computed.Check.{alone_facts, bounds_of, call_facts, call_place, command_facts, count_of, facts_of, group_place, head_of, index_place, key_of, key_place};
-ghost use Rattle.tmpl_schema.specs.computed.Check.{pair_facts, place_of, tells, text_of, two_of};
-ghost use Rattle.tmpl_schema.specs.computed.View.{facts_seen, head_seen, place_seen};
+ghost use Rattle.tmpl_schema.specs.computed.Check.{bounds_of, call_counts, call_fact, call_place, command_call, constant_fact, count_of, counts_in, first_fact, group_counts, group_place, head_of, index_place, key_of, key_place};
+ghost use Rattle.tmpl_schema.specs.computed.Check.{head_place, least_by, length_fact, mirrored, more_than, one_of, operand_counts, pair_fact, piped_fact, pipeline_call, pipeline_place, place_of, tells, tells_by, text_of, two_of};
+ghost use Rattle.tmpl_schema.specs.computed.View.{call_seen, fact_seen, head_seen, place_seen};
 ghost use Rattle.tmpl_shape.specs.computed.View.{key_seen, shape_seen};
 
 use std::slice::from_ref;
@@ -32,13 +32,11 @@ pub(crate) struct Place<'p> {
     pub(crate) path: &'p [Bytes],
 }
 
-/// What a value tells that is or is not empty.
+/// That an operand is neither nothing nor null, and has at least as many items if it is a list.
 #[derive(Clone, Copy)]
-pub(crate) enum Facts<'p> {
-    /// That each of these operands is neither nothing nor null, and has at least as many items if it is a list.
-    Operands(u64, &'p [Operand]),
-    /// That the `index` of these is not empty.
-    Index(&'p [Operand]),
+pub(crate) struct Fact<'p> {
+    pub(crate) least: u64,
+    pub(crate) about: &'p Operand,
 }
 
 /// What the first operand of a command is.
@@ -68,7 +66,8 @@ pub(crate) fn text_of(operand: &Operand) -> Option<&Bytes>
 
 /// The number of a constant that counts from 0 on.
 pub(crate) fn count_of(operand: &Operand) -> Option<u64>
-    ensures { result ≡ count_of (operand_of operand.now) }
+    ensures value { result ≡ count_of (operand_of operand.now) }
+    ensures small { IfSome result (λ n. n < 2 ^ 63) }
 {
     match operand {
         Operand::Number(number) => {
@@ -110,6 +109,19 @@ pub(crate) fn bounds_of(operands: &[Operand], piped: Option<&Shape>) -> Option<(
             [from] => Some((count_of(from)?, None)),
             [from, to] => Some((count_of(from)?, Some(count_of(to)?))),
             [_, _, _, ..] => None,
+        },
+    }
+}
+
+/// The operand, where there is one.
+fn one_of(operands: &[Operand]) -> Option<&Operand>
+    ensures { option_map (λ o. operand_of o.now) result ≡ one_of (operands_in operands.now) }
+{
+    match operands {
+        [] => None,
+        [only, rest @ ..] => match rest {
+            [] => Some(only),
+            [_, _more @ ..] => None,
         },
     }
 }
@@ -186,21 +198,38 @@ fn call_place(func: Func, operands: &[Operand]) -> Option<Place<'_>>
     }
 }
 
+/// The function that a command calls, with its operands.
+pub(crate) fn command_call(operands: &[Operand]) -> Option<(Func, &[Operand])>
+    ensures { option_map call_seen result ≡ command_call (operands_in operands.now) }
+{
+    match operands {
+        [] => None,
+        [first, rest @ ..] => match head_of(first) {
+            Head::Function(func) => Some((func, rest)),
+            Head::Nil | Head::Value => None,
+        },
+    }
+}
+
+/// The function that a pipeline calls whose only command is the call.
+fn pipeline_call(commands: &[Command]) -> Option<(Func, &[Operand])>
+    ensures { option_map call_seen result ≡ pipeline_call (commands_in commands.now) }
+{
+    match commands {
+        [only] => command_call(only.operands.as_slice()),
+        [] => None,
+        [_, _, ..] => None,
+    }
+}
+
 /// The place of a pipeline in parentheses with the chain of fields after it.
 fn group_place<'p>(commands: &'p [Command], fields: &[Bytes]) -> Option<Place<'p>>
     ensures { option_map place_seen result ≡ group_place (commands_in commands.now) fields.now }
 {
     match fields {
-        [] => match commands {
-            [only] => match only.operands.as_slice() {
-                [] => None,
-                [first, rest @ ..] => match head_of(first) {
-                    Head::Function(func) => call_place(func, rest),
-                    Head::Nil | Head::Value => None,
-                },
-            },
-            [] => None,
-            [_, _, ..] => None,
+        [] => match pipeline_call(commands) {
+            Some((func, operands)) => call_place(func, operands),
+            None => None,
         },
         [_, _more @ ..] => None,
     }
@@ -229,88 +258,244 @@ pub(crate) fn place_of(operand: &Operand) -> Option<Place<'_>>
     }
 }
 
-/// Of two operands the first, if the second is a constant, or else if it is `nil`.
-fn pair_facts(constant: bool, operands: &[Operand]) -> Facts<'_>
-    ensures { facts_seen result ≡ pair_facts constant (operands_in operands.now) }
+/// The operand of which a call gives the length.
+pub(crate) fn counts_in<'p>(call: Option<(Func, &'p [Operand])>) -> Option<&'p Operand>
+    ensures { option_map (λ o. operand_of o.now) result ≡ counts_in (option_map call_seen call.entry) }
+{
+    match call {
+        Some((Func::Len, operands)) => one_of(operands),
+        Some(_) => None,
+        None => None,
+    }
+}
+
+/// The operand of which a pipeline in parentheses gives the length.
+fn group_counts<'p>(commands: &'p [Command], fields: &[Bytes]) -> Option<&'p Operand>
+    ensures { option_map (λ o. operand_of o.now) result ≡ group_counts (commands_in commands.now) fields.now }
+{
+    match fields {
+        [] => counts_in(pipeline_call(commands)),
+        [_, _more @ ..] => None,
+    }
+}
+
+/// The operand of which an operand is the length.
+fn operand_counts(operand: &Operand) -> Option<&Operand>
+    ensures { option_map (λ o. operand_of o.now) result ≡ operand_counts (operand_of operand.now) }
+{
+    match operand {
+        Operand::Group { commands, fields } => group_counts(commands.as_slice(), fields.as_slice()),
+        Operand::Dot | Operand::Fields(_) | Operand::Variable { .. } => None,
+        Operand::Bool(_) | Operand::Number(_) | Operand::Text(_) => None,
+        Operand::Nil | Operand::Function(_) => None,
+    }
+}
+
+/// One, where that is more than the number.
+fn more_than(number: u64) -> Option<u64>
+    ensures { result ≡ more_than number }
+{
+    if number == 0 { Some(1) } else { None }
+}
+
+/// How many items there are at least where their number compared with this one gives true.
+fn least_where_true(func: Func, number: u64) -> Option<u64>
+    requires { number < 2 ^ 63 }
+    ensures { result ≡ least_by true func number }
+{
+    match func {
+        Func::Eq | Func::Ge => Some(number),
+        Func::Ne => more_than(number),
+        Func::Gt => Some(number + 1),
+        _ => None,
+    }
+}
+
+/// .. where it gives false.
+fn least_where_false(func: Func, number: u64) -> Option<u64>
+    requires { number < 2 ^ 63 }
+    ensures { result ≡ least_by false func number }
+{
+    match func {
+        Func::Ne | Func::Lt => Some(number),
+        Func::Eq => more_than(number),
+        Func::Le => Some(number + 1),
+        _ => None,
+    }
+}
+
+/// .. where it gives true, or else where it gives false.
+fn least_by(truth: bool, func: Func, number: u64) -> Option<u64>
+    requires { number < 2 ^ 63 }
+    ensures { result ≡ least_by truth func number }
+{
+    if truth {
+        least_where_true(func, number)
+    } else {
+        least_where_false(func, number)
+    }
+}
+
+/// The comparison of the second with the first that a comparison of the first with the second is.
+fn mirrored(func: Func) -> Func
+    ensures { result ≡ mirrored func }
+{
+    match func {
+        Func::Lt => Func::Gt,
+        Func::Le => Func::Ge,
+        Func::Gt => Func::Lt,
+        Func::Ge => Func::Le,
+        _ => func,
+    }
+}
+
+/// By a comparison of the length of an operand with a number.
+fn length_fact<'p>(
+    truth: bool,
+    func: Func,
+    counted: Option<&'p Operand>,
+    number: Option<u64>,
+) -> Option<Fact<'p>>
+    requires { IfSome number (λ n. n < 2 ^ 63) }
+    ensures { option_map fact_seen result
+        ≡ length_fact truth func (option_map (λ o. operand_of o.now) counted.entry) number }
+{
+    let about = counted?;
+    let least = least_by(truth, func, number?)?;
+    Some(Fact { least, about })
+}
+
+/// Whether what equals this operand is not null, by a comparison that gives true, or else false.
+fn tells_by(truth: bool, func: Func, operand: &Operand) -> bool
+    ensures { result ≡ tells_by truth func (operand_of operand.now) }
+{
+    match func {
+        Func::Eq => tells(truth, operand),
+        Func::Ne => tells(!truth, operand),
+        _ => false,
+    }
+}
+
+/// By a comparison of an operand with a constant or `nil`.
+fn constant_fact<'p>(
+    truth: bool,
+    func: Func,
+    first: &'p Operand,
+    second: &Operand,
+) -> Option<Fact<'p>>
+    ensures { option_map fact_seen result
+        ≡ constant_fact truth func (operand_of first.now) (operand_of second.now) }
+{
+    if !tells_by(truth, func, second) {
+        return None;
+    }
+    Some(Fact {
+        least: 0,
+        about: first,
+    })
+}
+
+/// The first that there is.
+fn first_fact<'p>(first: Option<Fact<'p>>, more: Option<Fact<'p>>) -> Option<Fact<'p>>
+    ensures { option_map fact_seen result
+        ≡ first_fact (option_map fact_seen first.entry) (option_map fact_seen more.entry) }
+{
+    match first {
+        Some(fact) => Some(fact),
+        None => more,
+    }
+}
+
+/// By a comparison of two operands.
+fn pair_fact<'p>(
+    truth: bool,
+    func: Func,
+    first: &'p Operand,
+    second: &'p Operand,
+) -> Option<Fact<'p>>
+    ensures { option_map fact_seen result
+        ≡ pair_fact truth func (operand_of first.now) (operand_of second.now) }
+{
+    let by_first = length_fact(truth, func, operand_counts(first), count_of(second));
+    let by_second = length_fact(
+        truth,
+        mirrored(func),
+        operand_counts(second),
+        count_of(first),
+    );
+    let by_constant = constant_fact(truth, func, first, second);
+    first_fact(by_first, first_fact(by_second, by_constant))
+}
+
+/// By a comparison of two operands that are all.
+fn operands_fact(truth: bool, func: Func, operands: &[Operand]) -> Option<Fact<'_>>
+    ensures { option_map fact_seen result
+        ≡ option_and_then (λ p. pair_fact truth func p.0 p.1) (two_of (operands_in operands.now)) }
 {
     match two_of(operands) {
-        Some((first, second)) => {
-            if tells(constant, second) {
-                return Facts::Operands(0, from_ref(first));
+        Some((first, second)) => pair_fact(truth, func, first, second),
+        None => None,
+    }
+}
+
+/// By a call that gives what is not empty, or else what is.
+pub(crate) fn call_fact(full: bool, func: Func, operands: &[Operand]) -> Option<Fact<'_>>
+    ensures { option_map fact_seen result ≡ call_fact full func (operands_in operands.now) }
+{
+    match func {
+        Func::Len => {
+            if !full {
+                return None;
             }
-            Facts::Operands(0, &[])
+            let about = one_of(operands)?;
+            Some(Fact { least: 1, about })
         }
-        None => Facts::Operands(0, &[]),
+        _ => operands_fact(full, func, operands),
     }
 }
 
-/// By an operand that is the whole command.
-fn alone_facts<'p>(full: bool, first: &'p Operand, rest: &[Operand]) -> Facts<'p>
-    ensures { facts_seen result ≡ alone_facts full (operand_of first.now) (operands_in rest.now) }
+/// By a call to which a length is piped.
+pub(crate) fn piped_fact<'p>(
+    full: bool,
+    counted: Option<&'p Operand>,
+    call: Option<(Func, &[Operand])>,
+) -> Option<Fact<'p>>
+    ensures { option_map fact_seen result
+        ≡ piped_fact full (option_map (λ o. operand_of o.now) counted.entry)
+        (option_map call_seen call.entry) }
 {
-    if !full {
-        return Facts::Operands(0, &[]);
-    }
-    match rest {
-        [] => Facts::Operands(1, from_ref(first)),
-        [_, _more @ ..] => Facts::Operands(0, &[]),
-    }
+    let (func, operands) = call?;
+    let number = match one_of(operands) {
+        Some(operand) => count_of(operand),
+        None => None,
+    };
+    length_fact(full, mirrored(func), counted, number)
 }
 
-/// By a call that gives what is empty.
-fn empty_facts(func: Func, operands: &[Operand]) -> Facts<'_>
-    ensures { facts_seen result ≡ call_facts false func (operands_in operands.now) }
+/// The place of what a command gives whose operand after the first are these.
+fn command_place<'p>(first: &'p Operand, rest: &'p [Operand]) -> Option<Place<'p>>
+    ensures { option_map place_seen result
+        ≡ head_place (head_of (operand_of first.now)) (operand_of first.now) (operands_in rest.now) }
 {
-    match func {
-        Func::Not => match operands {
-            [] => Facts::Operands(0, &[]),
-            [first, rest @ ..] => alone_facts(true, first, rest),
-        },
-        Func::Eq => pair_facts(false, operands),
-        Func::Ne => pair_facts(true, operands),
-        _ => Facts::Operands(0, &[]),
-    }
-}
-
-/// By a call that gives what is not empty.
-fn full_facts(func: Func, operands: &[Operand]) -> Facts<'_>
-    ensures { facts_seen result ≡ call_facts true func (operands_in operands.now) }
-{
-    match func {
-        Func::And => Facts::Operands(1, operands),
-        Func::Index => Facts::Index(operands),
-        Func::Eq => pair_facts(true, operands),
-        Func::Ne => pair_facts(false, operands),
-        _ => Facts::Operands(0, &[]),
-    }
-}
-
-/// By a command whose value is not empty, or else is.
-fn command_facts(full: bool, operands: &[Operand]) -> Facts<'_>
-    ensures { facts_seen result ≡ command_facts full (operands_in operands.now) }
-{
-    match operands {
-        [] => Facts::Operands(0, &[]),
-        [first, rest @ ..] => match head_of(first) {
-            Head::Function(func) => {
-                if full {
-                    full_facts(func, rest)
-                } else {
-                    empty_facts(func, rest)
-                }
-            }
-            Head::Nil | Head::Value => alone_facts(full, first, rest),
+    match head_of(first) {
+        Head::Function(func) => call_place(func, rest),
+        Head::Nil | Head::Value => match rest {
+            [] => place_of(first),
+            [_, _more @ ..] => None,
         },
     }
 }
 
-/// By a pipeline whose value is not empty, or else is.
-pub(crate) fn facts_of(full: bool, commands: &[Command]) -> Facts<'_>
-    ensures { facts_seen result ≡ facts_of full (commands_in commands.now) }
+/// The place of what a pipeline gives, but for nothing and null.
+pub(crate) fn pipeline_place(commands: &[Command]) -> Option<Place<'_>>
+    ensures { option_map place_seen result ≡ pipeline_place (commands_in commands.now) }
 {
     match commands {
-        [only] => command_facts(full, only.operands.as_slice()),
-        [] => Facts::Operands(0, &[]),
-        [_, _, ..] => Facts::Operands(0, &[]),
+        [only] => match only.operands.as_slice() {
+            [] => None,
+            [first, rest @ ..] => command_place(first, rest),
+        },
+        [] => None,
+        [_, _, ..] => None,
     }
 }

@@ -2,19 +2,21 @@
 #![tactic(auto, using(crate::proofs::ViewLemmas::variables))]
 
 ghost use Rattle.std.specs.Prelude.{◌≡◌, IfOk, OnOk, Some, length, ◌∷◌};
+ghost use Rattle.std.specs.Option.{option_map};
 ghost use Rattle.tmpl_grammar.specs.View.{binding_of};
 ghost use Rattle.tmpl_shape.specs.View.{shape_of};
 ghost use Rattle.tmpl_schema.specs.computed.Check.{after_both, all_within, assigned_shape, bound_shapes, holds_loop, join_all};
-ghost use Rattle.tmpl_schema.specs.computed.Check.{last_of, leave_with, refine_variable, variable_shape};
+ghost use Rattle.tmpl_schema.specs.computed.Check.{last_of, leave_with, refine_all, refine_from, refine_variable, variable_origin, variable_shape};
 ghost use Rattle.tmpl_shape.specs.computed.View.{base_of, shape_seen};
-ghost use Rattle.tmpl_schema.specs.computed.View.{is_longer, known_of, known_seen};
+ghost use Rattle.tmpl_schema.specs.computed.View.{is_longer, known_of, known_seen, origin_of};
 
+use crate::origin::{copy_origin, join_origins, origin_within, rest_of};
 use std::alloc::{AllocError, Global};
 use tmpl_grammar::Binding;
 use tmpl_shape::{Base, Cause, Shape, Trouble, copy_name, copy_shape, join, refine, within};
 use tmpl_values::Bytes;
 
-/// The shapes of the variables in scope, the newest first.
+/// The variables in scope, the newest first.
 #[cycle(known)]
 #[derive(Drop)]
 pub(crate) enum Known {
@@ -28,6 +30,7 @@ pub(crate) enum Known {
 pub(crate) struct Variable {
     pub(crate) name: Bytes,
     pub(crate) shape: Shape,
+    pub(crate) origin: Option<Vec<Bytes>>,
     pub(crate) older: Known,
 }
 
@@ -36,12 +39,21 @@ pub(crate) fn put_variable(
     alloc: Global,
     name: &[u8],
     shape: Shape,
+    origin: Option<Vec<Bytes>>,
     older: Known,
 ) -> Result<Known, AllocError>
-    ensures { IfOk result (λ ks. known_of ks ≡ (name.now, shape_of shape) ∷ known_of older) }
+    ensures { IfOk result (λ ks. known_of ks ≡ (name.now, shape_of shape, origin_of origin) ∷ known_of older) }
 {
     let name = copy_name(alloc, name)?;
-    Ok(Known::More(Box::new(alloc, Variable { name, shape, older })?))
+    Ok(Known::More(Box::new(
+        alloc,
+        Variable {
+            name,
+            shape,
+            origin,
+            older,
+        },
+    )?))
 }
 
 /// A copy of what is known.
@@ -52,8 +64,9 @@ pub(crate) fn copy_known(alloc: Global, known: &Known) -> Result<Known, AllocErr
         Known::Empty => Ok(Known::Empty),
         Known::More(newest) => {
             let shape = copy_shape(alloc, &newest.shape)?;
+            let origin = copy_origin(alloc, &newest.origin)?;
             let older = copy_known(alloc, &newest.older)?;
-            put_variable(alloc, newest.name.as_slice(), shape, older)
+            put_variable(alloc, newest.name.as_slice(), shape, origin, older)
         }
     }
 }
@@ -74,48 +87,89 @@ pub(crate) fn variable_shape<'k>(name: &[u8], known: &'k Known) -> Option<&'k Sh
     }
 }
 
-/// Where the newest variable of a name is assigned a value of this shape.
-fn assign(alloc: Global, name: &[u8], shape: Shape, known: &Known) -> Result<Known, AllocError>
-    ensures { IfOk result (λ ks. known_of ks ≡ assigned_shape name.now (shape_of shape) (known_of known.now)) }
+/// The origin of the newest variable of a name.
+pub(crate) fn variable_origin<'k>(name: &[u8], known: &'k Known) -> Option<&'k [Bytes]>
+    ensures { option_map (λ p. p.now) result ≡ variable_origin name.now (known_of known.now) }
+{
+    match known {
+        Known::Empty => None,
+        Known::More(newest) => {
+            if newest.name.as_slice() == name {
+                match &newest.origin {
+                    Some(path) => Some(path.as_slice()),
+                    None => None,
+                }
+            } else {
+                variable_origin(name, &newest.older)
+            }
+        }
+    }
+}
+
+/// Where the newest variable of a name is assigned a value of this shape and origin.
+fn assign(
+    alloc: Global,
+    name: &[u8],
+    shape: Shape,
+    origin: Option<Vec<Bytes>>,
+    known: &Known,
+) -> Result<Known, AllocError>
+    ensures { IfOk result (λ ks. known_of ks
+        ≡ assigned_shape name.now (shape_of shape) (origin_of origin) (known_of known.now)) }
 {
     match known {
         Known::Empty => Ok(Known::Empty),
         Known::More(newest) => {
             if newest.name.as_slice() == name {
                 let older = copy_known(alloc, &newest.older)?;
-                put_variable(alloc, name, shape, older)
+                put_variable(alloc, name, shape, origin, older)
             } else {
                 let kept = copy_shape(alloc, &newest.shape)?;
-                let older = assign(alloc, name, shape, &newest.older)?;
-                put_variable(alloc, newest.name.as_slice(), kept, older)
+                let kept_origin = copy_origin(alloc, &newest.origin)?;
+                let older = assign(alloc, name, shape, origin, &newest.older)?;
+                put_variable(alloc, newest.name.as_slice(), kept, kept_origin, older)
             }
         }
     }
 }
 
-/// Where variables take an element of this shape, and its index or key.
+/// Where variables take an element of this shape and origin, and its index or key.
 pub(crate) fn bind(
     alloc: Global,
     binding: &Binding,
     key: &Shape,
     element: &Shape,
+    origin: &Option<Vec<Bytes>>,
     known: &Known,
 ) -> Result<Known, AllocError>
-    ensures { IfOk result (λ ks. known_of ks
-        ≡ bound_shapes (binding_of binding.now) (shape_of key.now) (shape_of element.now) (known_of known.now)) }
+    ensures { IfOk result (λ ks. known_of ks ≡ bound_shapes (binding_of binding.now) (shape_of key.now)
+        (shape_of element.now) (origin_of origin.now) (known_of known.now)) }
 {
     match binding {
         Binding::Unbound => copy_known(alloc, known),
         Binding::Declare(name) => {
             let shape = copy_shape(alloc, element)?;
-            put_variable(alloc, name.as_slice(), shape, copy_known(alloc, known)?)
+            let origin = copy_origin(alloc, origin)?;
+            put_variable(
+                alloc,
+                name.as_slice(),
+                shape,
+                origin,
+                copy_known(alloc, known)?,
+            )
         }
-        Binding::Assign(name) => assign(alloc, name.as_slice(), copy_shape(alloc, element)?, known),
+        Binding::Assign(name) => {
+            let shape = copy_shape(alloc, element)?;
+            let origin = copy_origin(alloc, origin)?;
+            assign(alloc, name.as_slice(), shape, origin, known)
+        }
         Binding::DeclarePair(pair) => {
             let shape = copy_shape(alloc, key)?;
-            let older = put_variable(alloc, pair.key.as_slice(), shape, copy_known(alloc, known)?)?;
+            let older = copy_known(alloc, known)?;
+            let older = put_variable(alloc, pair.key.as_slice(), shape, None, older)?;
             let shape = copy_shape(alloc, element)?;
-            put_variable(alloc, pair.element.as_slice(), shape, older)
+            let origin = copy_origin(alloc, origin)?;
+            put_variable(alloc, pair.element.as_slice(), shape, origin, older)
         }
     }
 }
@@ -159,7 +213,6 @@ pub(crate) fn holds_loop(head: Option<&Known>, known: &Known) -> bool
 }
 
 /// Where a chain of fields from a variable is neither nothing nor null, and has at least as many items if it is a list.
-#[tactic(auto, using(crate::proofs::ViewLemmas::variables, crate::proofs::LengthLemmas::refinements))]
 pub(crate) fn refine_variable(
     base: &Base<'_>,
     least: u64,
@@ -170,12 +223,60 @@ pub(crate) fn refine_variable(
     ensures { IfOk result (λ ks. known_of ks
         ≡ refine_variable (base_of base.now) least name.now names.now (known_of known.now)) }
 {
-    match variable_shape(name, known) {
-        Some(shape) => {
-            let part = refine(base, least, names, shape)?;
-            assign(base.alloc, name, part, known)
+    match known {
+        Known::Empty => Ok(Known::Empty),
+        Known::More(newest) => {
+            let origin = copy_origin(base.alloc, &newest.origin)?;
+            if newest.name.as_slice() == name {
+                let shape = refine(base, least, names, &newest.shape)?;
+                let older = copy_known(base.alloc, &newest.older)?;
+                return put_variable(base.alloc, newest.name.as_slice(), shape, origin, older);
+            }
+            let shape = copy_shape(base.alloc, &newest.shape)?;
+            let older = refine_variable(base, least, name, names, &newest.older)?;
+            put_variable(base.alloc, newest.name.as_slice(), shape, origin, older)
         }
-        None => copy_known(base.alloc, known),
+    }
+}
+
+/// The values of an origin, where a chain from the data of the template is so.
+pub(crate) fn refine_from(
+    base: &Base<'_>,
+    least: u64,
+    names: &[Bytes],
+    origin: &Option<Vec<Bytes>>,
+    shape: &Shape,
+) -> Result<Shape, AllocError>
+    ensures { IfOk result (λ s. shape_of s
+        ≡ refine_from (base_of base.now) least names.now (origin_of origin.now) (shape_of shape.now)) }
+{
+    match origin {
+        Some(path) => match rest_of(path.as_slice(), names) {
+            Some(rest) => refine(base, least, rest, shape),
+            None => copy_shape(base.alloc, shape),
+        },
+        None => copy_shape(base.alloc, shape),
+    }
+}
+
+/// The variables, where a chain from the data of the template is so.
+pub(crate) fn refine_all(
+    base: &Base<'_>,
+    least: u64,
+    names: &[Bytes],
+    known: &Known,
+) -> Result<Known, AllocError>
+    ensures { IfOk result (λ ks. known_of ks
+        ≡ refine_all (base_of base.now) least names.now (known_of known.now)) }
+{
+    match known {
+        Known::Empty => Ok(Known::Empty),
+        Known::More(newest) => {
+            let shape = refine_from(base, least, names, &newest.origin, &newest.shape)?;
+            let origin = copy_origin(base.alloc, &newest.origin)?;
+            let older = refine_all(base, least, names, &newest.older)?;
+            put_variable(base.alloc, newest.name.as_slice(), shape, origin, older)
+        }
     }
 }
 
@@ -188,6 +289,7 @@ pub(crate) fn all_within(base: &Base<'_>, known: &Known, others: &Known) -> bool
         (Known::More(newest), Known::More(other)) => {
             newest.name.as_slice() == other.name.as_slice()
                 && within(base, &newest.shape, &other.shape)
+                && origin_within(&newest.origin, &other.origin)
                 && all_within(base, &newest.older, &other.older)
         }
         (Known::Empty, Known::More(_)) | (Known::More(_), Known::Empty) => false,
@@ -206,8 +308,9 @@ pub(crate) fn join_all(base: &Base<'_>, known: &Known, others: &Known) -> Result
             Known::More(other) => {
                 let one = copy_shape(base.alloc, &newest.shape)?;
                 let shape = join(base, one, copy_shape(base.alloc, &other.shape)?)?;
+                let origin = join_origins(base.alloc, &newest.origin, &other.origin)?;
                 let older = join_all(base, &newest.older, &other.older)?;
-                put_variable(base.alloc, newest.name.as_slice(), shape, older)
+                put_variable(base.alloc, newest.name.as_slice(), shape, origin, older)
             }
         },
     }

@@ -7,6 +7,7 @@ mod failure;
 mod known;
 mod laws;
 mod node;
+mod origin;
 mod pipeline;
 mod state;
 mod survey;

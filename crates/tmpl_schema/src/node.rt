@@ -18,7 +18,7 @@ use crate::known::{
     Known, after_both, all_within, bind, copy_known, holds_loop, join_all, leave_with, oldest,
 };
 use crate::pipeline::pipeline_shape;
-use crate::state::{State, copy_state, narrow};
+use crate::state::{State, copy_state, narrow, pipeline_origin};
 use crate::table::{Call, Callee, Entry, find_callee};
 use std::alloc::{AllocError, Global};
 use tmpl_grammar::{Control, Header, Pipeline};
@@ -47,20 +47,26 @@ pub(crate) fn in_body(
         ≡ in_body (base_of base.now) control (header_of header.now) (state_of state.now) (shape_of shape.now)) }
 {
     let full = fill(base, shape)?;
+    let from = pipeline_origin(base.alloc, header.pipeline.commands.as_slice(), state)?;
     let before = narrow(base, true, header.pipeline.commands.as_slice(), state)?;
     let known = bind(
         base.alloc,
         &header.binding,
         &Shape::Nothings,
         &full,
+        &from,
         &before.known,
     )?;
-    let dot = match control {
-        Control::With => copy_shape(base.alloc, &full)?,
-        Control::If => copy_shape(base.alloc, &before.dot)?,
-        Control::Range => copy_shape(base.alloc, &before.dot)?,
-    };
-    Ok(State { dot, known })
+    let State { dot, origin, .. } = before;
+    match control {
+        Control::With => Ok(State {
+            dot: full,
+            origin: from,
+            known,
+        }),
+        Control::If => Ok(State { dot, origin, known }),
+        Control::Range => Ok(State { dot, origin, known }),
+    }
 }
 
 /// Where its other part begins.
@@ -73,18 +79,18 @@ pub(crate) fn in_other(
     ensures { IfOk result (λ k. state_of k
         ≡ in_other (base_of base.now) (header_of header.now) (state_of state.now) (shape_of shape.now)) }
 {
+    let from = pipeline_origin(base.alloc, header.pipeline.commands.as_slice(), state)?;
     let before = narrow(base, false, header.pipeline.commands.as_slice(), state)?;
     let known = bind(
         base.alloc,
         &header.binding,
         &Shape::Nothings,
         shape,
+        &from,
         &before.known,
     )?;
-    Ok(State {
-        dot: copy_shape(base.alloc, &before.dot)?,
-        known,
-    })
+    let State { dot, origin, .. } = before;
+    Ok(State { dot, origin, known })
 }
 
 /// Where a turn of a range begins.
@@ -98,8 +104,19 @@ pub(crate) fn in_turn(
         ≡ in_turn (header_of header.now) (visit_seen visit.now) (known_of known.now)) }
 {
     let dot = copy_shape(alloc, &visit.element)?;
-    let known = bind(alloc, &header.binding, &visit.key, &visit.element, known)?;
-    Ok(State { dot, known })
+    let known = bind(
+        alloc,
+        &header.binding,
+        &visit.key,
+        &visit.element,
+        &None,
+        known,
+    )?;
+    Ok(State {
+        dot,
+        origin: None,
+        known,
+    })
 }
 
 /// After an action.
@@ -113,11 +130,17 @@ fn after_action(checker: &Checker<'_>, state: &State, header: &Header) -> Result
         state,
         header.pipeline.commands.as_slice(),
     )?;
+    let from = pipeline_origin(
+        checker.base.alloc,
+        header.pipeline.commands.as_slice(),
+        state,
+    )?;
     Ok(bind(
         checker.base.alloc,
         &header.binding,
         &Shape::Nothings,
         &shape,
+        &from,
         &state.known,
     )?)
 }
@@ -410,8 +433,8 @@ pub(crate) fn after_nodes(
         (table_of checker.now.table.now) (known_seen head.entry) (state_of state) (nodes_in nodes.now)
         ≡ Some (known_of ks)) }
 {
-    let State { dot, known } = state;
-    let mut state = State { dot, known };
+    let State { dot, origin, known } = state;
+    let mut state = State { dot, origin, known };
     for node in nodes {
         match after_node(checker, head, &state, node) {
             Ok(known) => state.known = known,

@@ -15,7 +15,7 @@ ghost use Rattle.tmpl_schema.specs.computed.View.{argument_kinds, called_shape, 
 
 use crate::facts::{Head, bounds_of, head_of, key_of, text_of};
 use crate::known::variable_shape;
-use crate::state::{State, narrow_by};
+use crate::state::{State, narrow_operand};
 use tmpl_funcs::Func;
 use tmpl_grammar::{Command, Operand};
 use tmpl_meaning::MissingKey;
@@ -162,11 +162,11 @@ fn junction_shape(
         [first, rest @ ..] => {
             let shape = operand_shape(base, mode, state, first)?;
             let full = fill(base, &shape)?;
+            let passed = narrow_operand(base, !is_or, first, state)?;
             if is_or {
-                let more = junction_shape(base, true, mode, state, &shape, rest, piped)?;
+                let more = junction_shape(base, true, mode, &passed, &shape, rest, piped)?;
                 return Ok(join(base, full, more)?);
             }
-            let passed = narrow_by(base, 1, first, state)?;
             let more = junction_shape(base, false, mode, &passed, &full, rest, piped)?;
             Ok(join(base, shape, more)?)
         }

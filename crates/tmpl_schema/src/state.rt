@@ -1,24 +1,34 @@
 //! What is known of dot and the variables, and what a pipeline that is empty or not tells of them.
-#![tactic(auto)]
+#![tactic(auto, using(tmpl_grammar::proofs::ViewLemmas::group_seen))]
 
 ghost use Rattle.std.specs.Prelude.{◌≡◌, IfOk};
 ghost use Rattle.std.specs.Option.{option_map};
 ghost use Rattle.tmpl_grammar.specs.View.{commands_in, operand_of, operands_in};
 ghost use Rattle.tmpl_shape.specs.View.{shape_of};
 ghost use Rattle.tmpl_shape.specs.computed.View.{base_of};
-ghost use Rattle.tmpl_schema.specs.computed.Check.{at_start, narrow, narrow_by, narrow_by_all, narrow_to};
-ghost use Rattle.tmpl_schema.specs.computed.View.{place_seen, state_of};
+ghost use Rattle.tmpl_schema.specs.computed.Check.{at_start, narrow, narrow_all, narrow_as, narrow_by, narrow_command, narrow_from, narrow_operand, narrow_root, narrow_to};
+ghost use Rattle.tmpl_schema.specs.computed.Check.{pipeline_origin, place_origin, root_origin};
+ghost use Rattle.tmpl_schema.specs.computed.View.{fact_seen, narrow_call, narrow_piped, origin_of, place_seen, state_of};
 
-use crate::facts::{Facts, Place, facts_of, index_place, place_of};
-use crate::known::{Known, copy_known, put_variable, refine_variable};
+use crate::facts::{
+    Fact, Head, Place, call_fact, command_call, counts_in, head_of, index_place, piped_fact,
+    pipeline_place, place_of,
+};
+use crate::known::{
+    Known, copy_known, put_variable, refine_all, refine_from, refine_variable, variable_origin,
+};
+use crate::origin::{copy_origin, join_paths};
 use std::alloc::{AllocError, Global};
+use tmpl_funcs::Func;
 use tmpl_grammar::{Command, Operand};
 use tmpl_shape::{Base, Shape, copy_shape, refine};
+use tmpl_values::Bytes;
 
 /// What is known of dot and of the variables.
 #[derive(Drop)]
 pub(crate) struct State {
     pub(crate) dot: Shape,
+    pub(crate) origin: Option<Vec<Bytes>>,
     pub(crate) known: Known,
 }
 
@@ -27,8 +37,10 @@ pub(crate) fn copy_state(alloc: Global, state: &State) -> Result<State, AllocErr
     ensures { IfOk result (λ k. state_of k ≡ state_of state.now) }
 {
     let dot = copy_shape(alloc, &state.dot)?;
+    let origin = copy_origin(alloc, &state.origin)?;
     Ok(State {
         dot,
+        origin,
         known: copy_known(alloc, &state.known)?,
     })
 }
@@ -38,11 +50,102 @@ pub(crate) fn at_start(alloc: Global, shape: &Shape) -> Result<State, AllocError
     ensures { IfOk result (λ k. state_of k ≡ at_start (shape_of shape.now)) }
 {
     let dot = copy_shape(alloc, shape)?;
-    let known = put_variable(alloc, &[], copy_shape(alloc, shape)?, Known::Empty)?;
-    Ok(State { dot, known })
+    let origin: Vec<Bytes> = Vec::new(alloc);
+    let of_variable: Vec<Bytes> = Vec::new(alloc);
+    let shape = copy_shape(alloc, shape)?;
+    let known = put_variable(alloc, &[], shape, Some(of_variable), Known::Empty)?;
+    Ok(State {
+        dot,
+        origin: Some(origin),
+        known,
+    })
 }
 
-/// Where the value of a place is neither nothing nor null, and has at least as many items if it is a list.
+/// The origin of the root of a place.
+fn root_origin<'s>(state: &'s State, root: Option<&[u8]>) -> Option<&'s [Bytes]>
+    ensures { option_map (λ p. p.now) result
+        ≡ root_origin (state_of state.now) (option_map (λ name. name.now) root.entry) }
+{
+    match root {
+        Some(name) => variable_origin(name, &state.known),
+        None => match &state.origin {
+            Some(path) => Some(path.as_slice()),
+            None => None,
+        },
+    }
+}
+
+/// Where the value of a place is from.
+fn place_origin(
+    alloc: Global,
+    place: &Place<'_>,
+    state: &State,
+) -> Result<Option<Vec<Bytes>>, AllocError>
+    ensures { IfOk result (λ o. origin_of o ≡ place_origin (state_of state.now) (place_seen place.now)) }
+{
+    match root_origin(state, place.root) {
+        Some(path) => Ok(Some(join_paths(alloc, path, place.path)?)),
+        None => Ok(None),
+    }
+}
+
+/// Where the value of a pipeline is from.
+pub(crate) fn pipeline_origin(
+    alloc: Global,
+    commands: &[Command],
+    state: &State,
+) -> Result<Option<Vec<Bytes>>, AllocError>
+    ensures { IfOk result (λ o. origin_of o ≡ pipeline_origin (state_of state.now) (commands_in commands.now)) }
+{
+    match pipeline_place(commands) {
+        Some(place) => place_origin(alloc, &place, state),
+        None => Ok(None),
+    }
+}
+
+/// Where the value of a place of no known origin is neither nothing nor null, and has at least as many items if it is a
+/// list.
+fn narrow_root(
+    base: &Base<'_>,
+    least: u64,
+    place: &Place<'_>,
+    state: &State,
+) -> Result<State, AllocError>
+    ensures { IfOk result (λ k. state_of k
+        ≡ narrow_root (base_of base.now) least (place_seen place.now) (state_of state.now)) }
+{
+    let origin = copy_origin(base.alloc, &state.origin)?;
+    match place.root {
+        None => {
+            let dot = refine(base, least, place.path, &state.dot)?;
+            let known = copy_known(base.alloc, &state.known)?;
+            Ok(State { dot, origin, known })
+        }
+        Some(name) => {
+            let dot = copy_shape(base.alloc, &state.dot)?;
+            let known = refine_variable(base, least, name, place.path, &state.known)?;
+            Ok(State { dot, origin, known })
+        }
+    }
+}
+
+/// Where what has this origin is so.
+fn narrow_from(
+    base: &Base<'_>,
+    least: u64,
+    names: &[Bytes],
+    state: &State,
+) -> Result<State, AllocError>
+    ensures { IfOk result (λ k. state_of k
+        ≡ narrow_from (base_of base.now) least names.now (state_of state.now)) }
+{
+    let dot = refine_from(base, least, names, &state.origin, &state.dot)?;
+    let origin = copy_origin(base.alloc, &state.origin)?;
+    let known = refine_all(base, least, names, &state.known)?;
+    Ok(State { dot, origin, known })
+}
+
+/// Where the value of a place is so, and with it all that has its origin.
 fn narrow_to(
     base: &Base<'_>,
     least: u64,
@@ -54,19 +157,9 @@ fn narrow_to(
 {
     match place {
         None => copy_state(base.alloc, state),
-        Some(place) => match place.root {
-            None => {
-                let dot = refine(base, least, place.path, &state.dot)?;
-                Ok(State {
-                    dot,
-                    known: copy_known(base.alloc, &state.known)?,
-                })
-            }
-            Some(name) => {
-                let dot = copy_shape(base.alloc, &state.dot)?;
-                let known = refine_variable(base, least, name, place.path, &state.known)?;
-                Ok(State { dot, known })
-            }
+        Some(place) => match place_origin(base.alloc, &place, state)? {
+            Some(names) => narrow_from(base, least, names.as_slice(), state),
+            None => narrow_root(base, least, &place, state),
         },
     }
 }
@@ -84,26 +177,144 @@ pub(crate) fn narrow_by(
     narrow_to(base, least, place_of(operand), state)
 }
 
-/// Where each of the operands is so.
-fn narrow_by_all(
+/// Where this holds, if anything does.
+fn narrow_as(base: &Base<'_>, fact: Option<Fact<'_>>, state: &State) -> Result<State, AllocError>
+    ensures { IfOk result (λ k. state_of k
+        ≡ narrow_as (base_of base.now) (option_map fact_seen fact.entry) (state_of state.now)) }
+{
+    match fact {
+        Some(fact) => narrow_by(base, fact.least, fact.about, state),
+        None => copy_state(base.alloc, state),
+    }
+}
+
+/// Where the value of two commands is not empty, or else where it is.
+fn narrow_piped(
     base: &Base<'_>,
-    least: u64,
-    operands: &[Operand],
+    full: bool,
+    first: &[Operand],
+    last: &[Operand],
     state: &State,
 ) -> Result<State, AllocError>
     ensures { IfOk result (λ k. state_of k
-        ≡ narrow_by_all (base_of base.now) least (operands_in operands.now) (state_of state.now)) }
+        ≡ narrow_piped (base_of base.now) full (operands_in first.now) (operands_in last.now) (state_of state.now)) }
 {
-    match operands {
-        [] => copy_state(base.alloc, state),
-        [first, rest @ ..] => {
-            let state = narrow_by(base, least, first, state)?;
-            narrow_by_all(base, least, rest, &state)
+    let counted = counts_in(command_call(first));
+    narrow_as(base, piped_fact(full, counted, command_call(last)), state)
+}
+
+/// Where an operand is not empty, or else where it is.
+#[cycle(narrow)]
+pub(crate) fn narrow_operand(
+    base: &Base<'_>,
+    full: bool,
+    operand: &Operand,
+    state: &State,
+) -> Result<State, AllocError>
+    ensures { IfOk result (λ k. state_of k
+        ≡ narrow_operand (base_of base.now) full (operand_of operand.now) (state_of state.now)) }
+{
+    match operand {
+        Operand::Group { commands, fields } => match fields.as_slice() {
+            [] => narrow(base, full, commands.as_slice(), state),
+            [_, _more @ ..] => copy_state(base.alloc, state),
+        },
+        _ => {
+            if full {
+                return narrow_by(base, 1, operand, state);
+            }
+            copy_state(base.alloc, state)
         }
     }
 }
 
+/// Where each of the operands is so.
+#[cycle(narrow)]
+fn narrow_all(
+    base: &Base<'_>,
+    full: bool,
+    operands: &[Operand],
+    state: &State,
+) -> Result<State, AllocError>
+    ensures { IfOk result (λ k. state_of k
+        ≡ narrow_all (base_of base.now) full (operands_in operands.now) (state_of state.now)) }
+{
+    match operands {
+        [] => copy_state(base.alloc, state),
+        [first, rest @ ..] => {
+            let state = narrow_operand(base, full, first, state)?;
+            narrow_all(base, full, rest, &state)
+        }
+    }
+}
+
+/// Where a call gives what is not empty, or else what is.
+#[cycle(narrow)]
+fn narrow_call(
+    base: &Base<'_>,
+    full: bool,
+    func: Func,
+    operands: &[Operand],
+    state: &State,
+) -> Result<State, AllocError>
+    ensures { IfOk result (λ k. state_of k
+        ≡ narrow_call (base_of base.now) full func (operands_in operands.now) (state_of state.now)) }
+{
+    match func {
+        Func::And => {
+            if full {
+                return narrow_all(base, true, operands, state);
+            }
+            copy_state(base.alloc, state)
+        }
+        Func::Or => {
+            if full {
+                return copy_state(base.alloc, state);
+            }
+            narrow_all(base, false, operands, state)
+        }
+        Func::Not => match operands {
+            [] => copy_state(base.alloc, state),
+            [only, rest @ ..] => match rest {
+                [] => narrow_operand(base, !full, only, state),
+                [_, _more @ ..] => copy_state(base.alloc, state),
+            },
+        },
+        Func::Index => {
+            if full {
+                return narrow_to(base, 1, index_place(operands), state);
+            }
+            copy_state(base.alloc, state)
+        }
+        _ => narrow_as(base, call_fact(full, func, operands), state),
+    }
+}
+
+/// Where the value of a command is not empty, or else where it is.
+#[cycle(narrow)]
+fn narrow_command(
+    base: &Base<'_>,
+    full: bool,
+    operands: &[Operand],
+    state: &State,
+) -> Result<State, AllocError>
+    ensures { IfOk result (λ k. state_of k
+        ≡ narrow_command (base_of base.now) full (operands_in operands.now) (state_of state.now)) }
+{
+    match operands {
+        [] => copy_state(base.alloc, state),
+        [first, rest @ ..] => match head_of(first) {
+            Head::Function(func) => narrow_call(base, full, func, rest, state),
+            Head::Nil | Head::Value => match rest {
+                [] => narrow_operand(base, full, first, state),
+                [_, _more @ ..] => copy_state(base.alloc, state),
+            },
+        },
+    }
+}
+
 /// Where the value of a pipeline is not empty, or else where it is.
+#[cycle(narrow)]
 pub(crate) fn narrow(
     base: &Base<'_>,
     full: bool,
@@ -113,8 +324,17 @@ pub(crate) fn narrow(
     ensures { IfOk result (λ k. state_of k
         ≡ narrow (base_of base.now) full (commands_in commands.now) (state_of state.now)) }
 {
-    match facts_of(full, commands) {
-        Facts::Operands(least, operands) => narrow_by_all(base, least, operands, state),
-        Facts::Index(operands) => narrow_to(base, 1, index_place(operands), state),
+    match commands {
+        [] => copy_state(base.alloc, state),
+        [first, rest @ ..] => match rest {
+            [] => narrow_command(base, full, first.operands.as_slice(), state),
+            [last, more @ ..] => match more {
+                [] => {
+                    let first = first.operands.as_slice();
+                    narrow_piped(base, full, first, last.operands.as_slice(), state)
+                }
+                [_, _more @ ..] => copy_state(base.alloc, state),
+            },
+        },
     }
 }

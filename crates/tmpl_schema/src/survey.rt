@@ -105,8 +105,8 @@ fn survey_nodes(
     nodes: &[Node],
     found: &mut Found,
 ) -> Result<Known, AllocError> {
-    let State { dot, known } = state;
-    let mut state = State { dot, known };
+    let State { dot, origin, known } = state;
+    let mut state = State { dot, origin, known };
     for node in nodes {
         match after_node(walk.checker, head, &state, node) {
             Ok(known) => state.known = known,
@@ -139,6 +139,7 @@ fn survey_node(
                 &header.binding,
                 &Shape::Never,
                 &Shape::Never,
+                &None,
                 &state.known,
             )
         }

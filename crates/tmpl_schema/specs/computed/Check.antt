@@ -1,5 +1,5 @@
 -- The check of a template against a shape, as a function that goes over the tree.
-use Rattle.std.specs.Prelude.{ℕ, zero, suc, pos, ◌+◌, ◌-◌, nat_le, Bool, true, false, not, ◌&&◌, List, [], ◌∷◌, ◌++◌, length, drop}
+use Rattle.std.specs.Prelude.{ℕ, zero, suc, pos, ◌+◌, ◌-◌, ◌==◌, nat_le, Bool, true, false, not, ◌&&◌, List, [], ◌∷◌, ◌++◌, length, drop}
 use Rattle.std.specs.Prelude.{Option, Some, None, option_to_list, unwrap_or, if◌then◌else◌}
 use Rattle.std.specs.Option.{option_map, option_map_or, option_and_then}
 use Rattle.std.specs.Str.{bytes_eq}
@@ -14,7 +14,7 @@ use Rattle.tmpl_meaning.specs.declared.missing_key.MissingKey.{MissingKey}
 use Rattle.tmpl_shape.specs.Shape.{Shape, nothings, truths, numbers, texts}
 use Rattle.tmpl_funcs.specs.Func.{takes}
 use Rattle.tmpl_funcs.specs.declared.func.Func.{Func}
-use Rattle.tmpl_funcs.specs.declared.func.Func.TheVariants.{And, Not, Index, Eq, Ne}
+use Rattle.tmpl_funcs.specs.declared.func.Func.TheVariants.{And, Or, Not, Len, Index, Eq, Ne, Lt, Le, Gt, Ge}
 use Rattle.tmpl_meaning.specs.Pipeline.{operand_count}
 use Rattle.tmpl_shape.specs.declared.kind.Kind.TheVariants.{Blank}
 use Rattle.tmpl_shape.specs.computed.Shapes.{Base, has_kind, within, join, both, fill, null_gone, refine, chain_shape}
@@ -22,23 +22,31 @@ use Rattle.tmpl_shape.specs.computed.Shapes.{Key, of_name, of_text, of_place, in
 use Rattle.tmpl_shape.specs.computed.Calls.{call_shape, shape_by_function}
 use Rattle.tmpl_shape.specs.computed.Formats.{printf_shape}
 
--- the shapes of the variables in scope, the newest first
+-- the chain of fields from the data of the template at which a value is, but for nothing and null, where that is known
+abbrev pub Origin : Type 0
+Origin = Option (List (List ℕ))
+
+-- the variables in scope, each with its shape and its origin, the newest first
 abbrev pub Known : Type 0
-Known = List (List ℕ × Shape)
+Known = List (List ℕ × Shape × Origin)
 
 abbrev pub variable_shape : List ℕ → Known → Option Shape
 variable_shape name [] = None
 variable_shape name (k ∷ ks) = if bytes_eq k.0 name then Some k.1 else variable_shape name ks
 
-abbrev pub assigned_shape : List ℕ → Shape → Known → Known
-assigned_shape name s [] = []
-assigned_shape name s (k ∷ ks) = if bytes_eq k.0 name then (k.0, s) ∷ ks else k ∷ assigned_shape name s ks
+abbrev pub variable_origin : List ℕ → Known → Origin
+variable_origin name [] = None
+variable_origin name (k ∷ ks) = if bytes_eq k.0 name then k.2 else variable_origin name ks
 
-abbrev pub bound_shapes : Binding → Shape → Shape → Known → Known
-bound_shapes unbound k e ks = ks
-bound_shapes (declare name) k e ks = (name, e) ∷ ks
-bound_shapes (assign name) k e ks = assigned_shape name e ks
-bound_shapes (declare_pair key name) k e ks = (name, e) ∷ (key, k) ∷ ks
+abbrev pub assigned_shape : List ℕ → Shape → Origin → Known → Known
+assigned_shape name s o [] = []
+assigned_shape name s o (k ∷ ks) = if bytes_eq k.0 name then (k.0, s, o) ∷ ks else k ∷ assigned_shape name s o ks
+
+abbrev pub bound_shapes : Binding → Shape → Shape → Origin → Known → Known
+bound_shapes unbound k e o ks = ks
+bound_shapes (declare name) k e o ks = (name, e, o) ∷ ks
+bound_shapes (assign name) k e o ks = assigned_shape name e o ks
+bound_shapes (declare_pair key name) k e o ks = (name, e, o) ∷ (key, k, None) ∷ ks
 
 -- the oldest, as many as this
 abbrev pub last_of : {T : Type 0} → ℕ → List T → List T
@@ -65,6 +73,11 @@ abbrev pub key_of : Operand → Option Key
 key_of (text_constant bytes) = Some (of_name bytes)
 key_of (number_constant (pos n)) = Some (of_place n)
 key_of o = None
+
+-- the operand, where there is one
+abbrev pub one_of : Operands → Option Operand
+one_of (operand o no_operand) = Some o
+one_of os = None
 
 -- both operands, where there are two
 abbrev pub two_of : Operands → Option (Operand × Operand)
@@ -98,6 +111,19 @@ head_of (function f) = calls f
 head_of nil = is_nil
 head_of o = is_value
 
+-- the function that a command calls, with its operands, and the one that is the whole pipeline
+abbrev pub head_call : Head → Operands → Option (Func × Operands)
+head_call (calls f) os = Some (f, os)
+head_call h os = None
+
+abbrev pub command_call : Operands → Option (Func × Operands)
+command_call (operand o os) = head_call (head_of o) os
+command_call no_operand = None
+
+abbrev pub pipeline_call : Pipeline → Option (Func × Operands)
+pipeline_call (command os no_command) = command_call os
+pipeline_call p = None
+
 -- a chain of fields from dot, or from the variable of a name
 pub record Place : Type 0 where
   pub root : Option (List ℕ)
@@ -117,20 +143,8 @@ abbrev pub call_place : Func → Operands → Option Place
 call_place Index os = index_place os
 call_place f os = None
 
-abbrev pub head_place : Head → Operands → Option Place
-head_place (calls f) os = call_place f os
-head_place h os = None
-
-abbrev pub command_place : Operands → Option Place
-command_place (operand o os) = head_place (head_of o) os
-command_place no_operand = None
-
-abbrev pub pipeline_place : Pipeline → Option Place
-pipeline_place (command os no_command) = command_place os
-pipeline_place p = None
-
 abbrev pub group_place : Pipeline → List (List ℕ) → Option Place
-group_place p [] = pipeline_place p
+group_place p [] = option_and_then (λ call. call_place call.0 call.1) (pipeline_call p)
 group_place p names = None
 
 -- the place whose value is that of an operand, but for nothing and null
@@ -141,50 +155,135 @@ place_of (variable name names) = Some (record { root = Some name; path = names }
 place_of (group p names) = group_place p names
 place_of o = None
 
--- what a value tells that is or is not empty: that each of these operands is neither nothing nor null, and has at least as
--- many items if it is a list; or that the `index` of these is not empty
-pub data Facts : Type 0 where
-  of_operands : ℕ → Operands → Facts
-  of_index : Operands → Facts
+-- the operand of which a call gives the length
+abbrev pub call_counts : Func → Operands → Option Operand
+call_counts Len os = one_of os
+call_counts f os = None
 
--- it tells nothing
-abbrev pub no_facts : Facts
-no_facts = of_operands 0 no_operand
+-- .. of which this gives it
+abbrev pub counts_in : Option (Func × Operands) → Option Operand
+counts_in c = option_and_then (λ call. call_counts call.0 call.1) c
 
--- the first of two, if the second is a constant, or else `nil`
-abbrev pub pair_facts : Bool → Operands → Facts
-pair_facts c os = option_map_or (λ p. if tells c p.1 then of_operands 0 (operand p.0 no_operand) else no_facts) (two_of os) no_facts
+abbrev pub group_counts : Pipeline → List (List ℕ) → Option Operand
+group_counts p [] = counts_in (pipeline_call p)
+group_counts p names = None
 
--- by an operand that is the whole command
-abbrev pub alone_facts : Bool → Operand → Operands → Facts
-alone_facts true o no_operand = of_operands 1 (operand o no_operand)
-alone_facts c o os = no_facts
+abbrev pub operand_counts : Operand → Option Operand
+operand_counts (group p names) = group_counts p names
+operand_counts o = None
+
+-- that an operand is neither nothing nor null, and has at least as many items if it is a list
+pub record Fact : Type 0 where
+  pub least : ℕ
+  pub about : Operand
+
+-- one, where that is more than the number
+abbrev pub more_than : ℕ → Option ℕ
+more_than n = if n == 0 then Some 1 else None
+
+-- how many items there are at least where their number compared with this one gives true, or else where it gives false
+abbrev pub least_by : Bool → Func → ℕ → Option ℕ
+least_by true Eq n = Some n
+least_by true Ne n = more_than n
+least_by true Ge n = Some n
+least_by true Gt n = Some (n + 1)
+least_by false Eq n = more_than n
+least_by false Ne n = Some n
+least_by false Lt n = Some n
+least_by false Le n = Some (n + 1)
+least_by c f n = None
+
+-- the comparison of the second with the first that a comparison of the first with the second is
+abbrev pub mirrored : Func → Func
+mirrored Lt = Gt
+mirrored Le = Ge
+mirrored Gt = Lt
+mirrored Ge = Le
+mirrored f = f
+
+-- by a comparison of the length of an operand with a number
+abbrev pub length_fact : Bool → Func → Option Operand → Option ℕ → Option Fact
+length_fact c f counted number =
+    option_and_then (λ o. option_and_then (λ n. option_map (λ l. record { least = l; about = o }) (least_by c f n)) number) counted
+
+-- by a comparison of an operand with a constant or `nil`
+abbrev pub tells_by : Bool → Func → Operand → Bool
+tells_by c Eq o = tells c o
+tells_by c Ne o = tells (not c) o
+tells_by c f o = false
+
+abbrev pub constant_fact : Bool → Func → Operand → Operand → Option Fact
+constant_fact c f o p = if tells_by c f p then Some (record { least = 0; about = o }) else None
+
+-- the first that there is
+abbrev pub first_fact : Option Fact → Option Fact → Option Fact
+first_fact (Some fact) more = Some fact
+first_fact None more = more
+
+-- by a comparison of two operands
+abbrev pub pair_fact : Bool → Func → Operand → Operand → Option Fact
+pair_fact c f o p = first_fact (length_fact c f (operand_counts o) (count_of p))
+    (first_fact (length_fact c (mirrored f) (operand_counts p) (count_of o)) (constant_fact c f o p))
 
 -- by a call that gives what is not empty, or else what is
-abbrev pub call_facts : Bool → Func → Operands → Facts
-call_facts true And os = of_operands 1 os
-call_facts true Index os = of_index os
-call_facts false Not (operand o os) = alone_facts true o os
-call_facts c Eq os = pair_facts c os
-call_facts c Ne os = pair_facts (not c) os
-call_facts c f os = no_facts
+abbrev pub call_fact : Bool → Func → Operands → Option Fact
+call_fact c Len os = if c then option_map (λ o. record { least = 1; about = o }) (one_of os) else None
+call_fact c f os = option_and_then (λ p. pair_fact c f p.0 p.1) (two_of os)
 
-abbrev pub head_facts : Bool → Head → Operand → Operands → Facts
-head_facts c (calls f) o os = call_facts c f os
-head_facts c h o os = alone_facts c o os
+-- by a call to which a length is piped
+abbrev pub piped_fact : Bool → Option Operand → Option (Func × Operands) → Option Fact
+piped_fact c counted call = option_and_then (λ call. length_fact c (mirrored call.0) counted
+    (option_and_then count_of (one_of call.1))) call
 
-abbrev pub command_facts : Bool → Operands → Facts
-command_facts c (operand o os) = head_facts c (head_of o) o os
-command_facts c no_operand = no_facts
+-- what is left of a chain of fields after this one, with which it begins
+abbrev pub rest_of : List (List ℕ) → List (List ℕ) → Option (List (List ℕ))
+rest_of [] ns = Some ns
+rest_of (p ∷ ps) [] = None
+rest_of (p ∷ ps) (n ∷ ns) = if bytes_eq p n then rest_of ps ns else None
 
-abbrev pub facts_of : Bool → Pipeline → Facts
-facts_of c (command os no_command) = command_facts c os
-facts_of c p = no_facts
+abbrev pub is_path : List (List ℕ) → List (List ℕ) → Bool
+is_path [] [] = true
+is_path (p ∷ ps) (n ∷ ns) = bytes_eq p n && is_path ps ns
+is_path ps ns = false
 
--- dot, and the variables
+-- what is known of the second origin is known of the first
+abbrev pub origin_within : Origin → Origin → Bool
+origin_within o None = true
+origin_within None (Some ns) = false
+origin_within (Some ps) (Some ns) = is_path ps ns
+
+-- what is known of both
+abbrev pub join_origins : Origin → Origin → Origin
+join_origins o p = if origin_within o p then p else None
+
+-- dot and its origin, and the variables
 pub record State : Type 0 where
   pub dot : Shape
+  pub from : Origin
   pub env : Known
+
+-- where the value of a place is from
+abbrev pub root_origin : State → Option (List ℕ) → Origin
+root_origin k root = option_map_or (λ name. variable_origin name k.env) root k.from
+
+abbrev pub place_origin : State → Place → Origin
+place_origin k p = option_map (λ ps. ps ++ p.path) (root_origin k p.root)
+
+-- the place of what a command gives, and of what a pipeline does
+abbrev pub alone_place : Operand → Operands → Option Place
+alone_place o no_operand = place_of o
+alone_place o os = None
+
+abbrev pub head_place : Head → Operand → Operands → Option Place
+head_place (calls f) o os = call_place f os
+head_place h o os = alone_place o os
+
+abbrev pub pipeline_place : Pipeline → Option Place
+pipeline_place (command (operand o os) no_command) = head_place (head_of o) o os
+pipeline_place p = None
+
+abbrev pub pipeline_origin : State → Pipeline → Origin
+pipeline_origin k p = option_and_then (place_origin k) (pipeline_place p)
 
 -- what is known of a template that is called: the shape of what it is handed, or that it is not there
 pub data Callee : Type 0 where
@@ -200,7 +299,7 @@ abbrev pub holds_loop : Option Known → Known → Bool
 holds_loop None ks = true
 holds_loop (Some head) ks = nat_le (length head) (length ks)
 
-abbrev pub dot_in : Control → Shape → Shape → Shape
+abbrev pub dot_in : {T : Type 0} → Control → T → T → T
 dot_in control.With s d = s
 dot_in c s d = d
 
@@ -210,11 +309,11 @@ Checked = State → Option Known
 
 -- a template's start over a value of the shape
 abbrev pub at_start : Shape → State
-at_start s = record { dot = s; env = ([], s) ∷ [] }
+at_start s = record { dot = s; from = Some []; env = ([], s, Some []) ∷ [] }
 
 -- where a turn of a range begins
 abbrev pub in_turn : Header → Visit → Known → State
-in_turn h v ks = record { dot = v.element; env = bound_shapes h.binding v.key v.element ks }
+in_turn h v ks = record { dot = v.element; from = None; env = bound_shapes h.binding v.key v.element None ks }
 
 -- the variables after a turn
 abbrev pub turn_known : Header → Visit → (Option Known → Checked) → Known → Option Known
@@ -227,33 +326,99 @@ module _ (base : Base) where
   abbrev pub refine_variable : ℕ → List ℕ → List (List ℕ) → Known → Known
   refine_variable least name ns [] = []
   refine_variable least name ns (k ∷ ks) =
-      if bytes_eq k.0 name then (k.0, refine base least ns k.1) ∷ ks else k ∷ refine_variable least name ns ks
+      if bytes_eq k.0 name then (k.0, refine base least ns k.1, k.2) ∷ ks else k ∷ refine_variable least name ns ks
+
+  -- the values of an origin, where this chain from the data of the template is so
+  abbrev pub refine_along : ℕ → List (List ℕ) → Shape → Option (List (List ℕ)) → Shape
+  refine_along least ns s rest = option_map_or (λ ms. refine base least ms s) rest s
+
+  abbrev pub refine_from : ℕ → List (List ℕ) → Origin → Shape → Shape
+  refine_from least ns o s = refine_along least ns s (option_and_then (λ ps. rest_of ps ns) o)
+
+  abbrev pub refine_all : ℕ → List (List ℕ) → Known → Known
+  refine_all least ns [] = []
+  refine_all least ns (k ∷ ks) = (k.0, refine_from least ns k.2 k.1, k.2) ∷ refine_all least ns ks
 
   -- the same variables, each within the other's shape
   abbrev pub all_within : Known → Known → Bool
   all_within [] [] = true
-  all_within (k ∷ ks) (l ∷ ls) = bytes_eq k.0 l.0 && (within base k.1 l.1 && all_within ks ls)
+  all_within (k ∷ ks) (l ∷ ls) = bytes_eq k.0 l.0 && (within base k.1 l.1 && (origin_within k.2 l.2 && all_within ks ls))
   all_within ks ls = false
 
   abbrev pub join_all : Known → Known → Known
-  join_all (k ∷ ks) (l ∷ ls) = (k.0, join base k.1 l.1) ∷ join_all ks ls
+  join_all (k ∷ ks) (l ∷ ls) = (k.0, join base k.1 l.1, join_origins k.2 l.2) ∷ join_all ks ls
   join_all ks ls = []
 
   -- ---- pipelines
 
   -- what is known where the value of a place is neither nothing nor null, and has at least as many items if it is a list
-  abbrev pub narrow_to : ℕ → Option Place → State → State
-  narrow_to least None k = k
-  narrow_to least (Some p) k = option_map_or (λ name. record k { env = refine_variable least name p.path k.env })
+  -- .. of which no origin is known, or else of what has this one
+  abbrev pub narrow_root : ℕ → Place → State → State
+  narrow_root least p k = option_map_or (λ name. record k { env = refine_variable least name p.path k.env })
       p.root (record k { dot = refine base least p.path k.dot })
 
-  -- .. where an operand is so, and where all these are
+  abbrev pub narrow_from : ℕ → List (List ℕ) → State → State
+  narrow_from least ns k = record k { dot = refine_from least ns k.from k.dot; env = refine_all least ns k.env }
+
+  abbrev pub narrow_at : ℕ → Place → State → State
+  narrow_at least p k = option_map_or (λ ns. narrow_from least ns k) (place_origin k p) (narrow_root least p k)
+
+  abbrev pub narrow_to : ℕ → Option Place → State → State
+  narrow_to least p k = option_map_or (λ p. narrow_at least p k) p k
+
+  -- .. where an operand is so
   abbrev pub narrow_by : ℕ → Operand → State → State
   narrow_by least o k = narrow_to least (place_of o) k
 
-  abbrev pub narrow_by_all : ℕ → Operands → State → State
-  narrow_by_all least no_operand k = k
-  narrow_by_all least (operand o os) k = narrow_by_all least os (narrow_by least o k)
+  abbrev pub narrow_as : Option Fact → State → State
+  narrow_as fact k = option_map_or (λ fact. narrow_by fact.least fact.about k) fact k
+
+  -- .. where a call of one operand tells that of the other kind, by what is known where the operand is so
+  abbrev pub turned_state : Operands → State → State → State
+  turned_state (operand o no_operand) k turned = turned
+  turned_state os k turned = k
+
+  -- .. where a call gives what is not empty, or else what is, by what is known where each operand is so, and where each
+  -- is not
+  abbrev pub call_state : Bool → Func → Operands → State → State → State → State
+  call_state c And os k same turned = if c then same else k
+  call_state c Or os k same turned = if c then k else same
+  call_state c Not os k same turned = turned_state os k turned
+  call_state c Index os k same turned = if c then narrow_to 1 (index_place os) k else k
+  call_state c f os k same turned = narrow_as (call_fact c f os) k
+
+  -- .. and a command that begins so, by what is known where its first operand is the whole
+  abbrev pub head_state : Bool → Head → Operands → State → State → State → State → State
+  head_state c (calls f) os k alone same turned = call_state c f os k same turned
+  head_state c h no_operand k alone same turned = alone
+  head_state c h os k alone same turned = k
+
+  -- .. where a pipeline in parentheses is so, of which nothing is known where fields of it are asked for
+  abbrev pub group_state : List (List ℕ) → State → State → State
+  group_state [] k inside = inside
+  group_state names k inside = k
+
+  abbrev mutual
+    -- .. where an operand is not empty, or else where it is, and where each of these is so
+    pub narrow_operand : Bool → Operand → State → State
+    narrow_operand c (group p names) k = group_state names k (narrow c p k)
+    narrow_operand c o k = if c then narrow_by 1 o k else k
+
+    pub narrow_all : Bool → Operands → State → State
+    narrow_all c no_operand k = k
+    narrow_all c (operand o os) k = narrow_all c os (narrow_operand c o k)
+
+    pub narrow_command : Bool → Operands → State → State
+    narrow_command c (operand o os) k =
+        head_state c (head_of o) os k (narrow_operand c o k) (narrow_all c os k) (narrow_all (not c) os k)
+    narrow_command c no_operand k = k
+
+    -- .. where the value of a pipeline is not empty, or else where it is
+    pub narrow : Bool → Pipeline → State → State
+    narrow c (command os no_command) k = narrow_command c os k
+    narrow c (command os (command us no_command)) k =
+        narrow_as (piped_fact c (counts_in (command_call os)) (command_call us)) k
+    narrow c p k = k
 
   -- the values that decide an `or`, or else an `and`, and those that do not
   abbrev pub deciding_shape : Bool → Shape → Shape
@@ -264,7 +429,7 @@ module _ (base : Base) where
 
   -- after an operand that does not decide
   abbrev pub passed : Bool → Operand → State → State
-  passed is_or o k = if is_or then k else narrow_by 1 o k
+  passed is_or o k = narrow_operand (not is_or) o k
 
   -- what `index` gives for a key of this shape, which has to be a text
   abbrev pub entry_by : Shape → Shape → Option Shape
@@ -344,14 +509,6 @@ module _ (base : Base) where
   abbrev pub pipeline_shape : MissingKey → State → Pipeline → Option Shape
   pipeline_shape m k p = commands_shape m k p None
 
-  abbrev pub narrow_as : Facts → State → State
-  narrow_as (of_operands least os) k = narrow_by_all least os k
-  narrow_as (of_index os) k = narrow_to 1 (index_place os) k
-
-  -- what is known where the value of a pipeline is not empty, or else where it is
-  abbrev pub narrow : Bool → Pipeline → State → State
-  narrow c p k = narrow_as (facts_of c p) k
-
   -- ---- nodes
 
   -- a set of variables, where it is within another
@@ -390,10 +547,12 @@ module _ (base : Base) where
   abbrev pub in_body : Control → Header → State → Shape → State
   in_body c h k s =
       let u = narrow true h.pipeline k in
-      record { dot = dot_in c (fill base s) u.dot; env = bound_shapes h.binding nothings (fill base s) u.env }
+      let o = pipeline_origin k h.pipeline in
+      record { dot = dot_in c (fill base s) u.dot; from = dot_in c o u.from; env = bound_shapes h.binding nothings (fill base s) o u.env }
 
   abbrev pub in_other : Header → State → Shape → State
-  in_other h k s = let u = narrow false h.pipeline k in record u { env = bound_shapes h.binding nothings s u.env }
+  in_other h k s =
+      let u = narrow false h.pipeline k in record u { env = bound_shapes h.binding nothings s (pipeline_origin k h.pipeline) u.env }
 
   abbrev pub after_choice : Control → Header → State → Checked → Checked → Shape → Option Known
   after_choice c h k body other s =
@@ -419,7 +578,7 @@ module _ (base : Base) where
     pub after_node : MissingKey → Table → Option Known → State → NodeKind → Option Known
     after_node m table loop k (text bytes) = Some k.env
     after_node m table loop k (action h) =
-        option_map (λ s. bound_shapes h.binding nothings s k.env) (pipeline_shape m k h.pipeline)
+        option_map (λ s. bound_shapes h.binding nothings s (pipeline_origin k h.pipeline) k.env) (pipeline_shape m k h.pipeline)
     after_node m table loop k (control_node c h body other) =
         if holds_loop loop k.env then option_and_then
         (after_control c loop h k (λ l u. after_nodes m table l u body) (λ u. after_nodes m table loop u other))

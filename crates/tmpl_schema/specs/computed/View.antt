@@ -1,21 +1,21 @@
 -- What the program's values that only the check has stand for.
-use Rattle.std.specs.Prelude.{ℕ, Bool, true, false, ◌||◌, List, [], ◌∷◌, ◌++◌, map, Option, Some, None, option_to_list, if◌then◌else◌}
-use Rattle.std.specs.Option.{option_and_then, option_map, option_map_or}
+use Rattle.std.specs.Prelude.{ℕ, Bool, true, false, not, List, [], ◌∷◌, ◌++◌, map, Option, Some, None, Vec, option_to_list, if◌then◌else◌}
+use Rattle.std.specs.Option.{option_and_then, option_map}
 use Rattle.std.specs.Borrow.{Bor}
+use Rattle.std.specs.Global.{Global}
 use Rattle.tmpl_shape.specs.Shape as spec
 use Rattle.tmpl_shape.specs.View.{shape_of}
 use Rattle.tmpl_shape.specs.computed.Calls.{call_shape}
-use Rattle.tmpl_shape.specs.computed.View.{base_of}
 use Rattle.tmpl_shape.specs.declared.kind.Kinds.{Kinds}
-use Rattle.tmpl_grammar.specs.View.{operands_in}
-use Rattle.tmpl_schema.specs.declared.facts.Facts as held_facts
-use Rattle.tmpl_schema.specs.declared.facts.Facts.TheVariants as fact
+use Rattle.tmpl_grammar.specs.View.{operand_of, operands_in}
+use Rattle.tmpl_grammar.specs.declared.tree.Operand as held_operand
+use Rattle.tmpl_schema.specs.declared.facts.Fact as held_fact
 use Rattle.tmpl_schema.specs.declared.facts.Head as held_head
 use Rattle.tmpl_schema.specs.declared.facts.Head.TheVariants as head
 use Rattle.tmpl_schema.specs.declared.facts.Place as held_place
-use Rattle.tmpl_schema.specs.computed.Check.{Facts, of_operands, of_index, Head, calls, is_nil, is_value, Place}
-use Rattle.tmpl_schema.specs.computed.Check.{Known, State, Callee, Table, handed, absent, operand_shapes, after_choice, after_nodes}
-use Rattle.tmpl_schema.specs.computed.Check.{after_range, bound_shapes, pipeline_shape, turn_known}
+use Rattle.tmpl_schema.specs.computed.Check.{Fact, Head, calls, is_nil, is_value, Place}
+use Rattle.tmpl_schema.specs.computed.Check.{Known, Origin, State, Callee, Table, handed, absent, operand_shapes, after_choice, after_nodes}
+use Rattle.tmpl_schema.specs.computed.Check.{after_range, bound_shapes, call_state, command_call, counts_in, narrow_all, narrow_as, piped_fact, pipeline_origin, pipeline_shape, turn_known}
 use Rattle.tmpl_grammar.specs.Tree.{Header}
 use Rattle.tmpl_syntax.specs.Tree.{Nodes}
 use Rattle.tmpl_grammar.specs.declared.tree.Control.{Control}
@@ -33,12 +33,15 @@ use Rattle.tmpl_schema.specs.declared.known.Known.{fold-Known}
 use Rattle.tmpl_schema.specs.declared.known.Known.TheOpen.{Known-F, Variable-F}
 use Rattle.tmpl_schema.specs.declared.state.State as held_state
 
+abbrev pub origin_of : Option (Vec (List ℕ) Global) → Origin
+origin_of o = option_map (λ path. path.items) o
+
 abbrev pub known_step : Known-F Known Known → Known
 known_step Known-F.Empty = []
 known_step (Known-F.More v) = v.value
 
 abbrev pub variable_step : Variable-F Known Known → Known
-variable_step v = (v.name, shape_of v.shape) ∷ v.older
+variable_step v = (v.name, shape_of v.shape, origin_of v.origin) ∷ v.older
 
 abbrev pub known_of : held_known.Known → Known
 known_of = fold-Known Known Known known_step variable_step
@@ -53,7 +56,7 @@ is_longer (x ∷ xs) [] = true
 is_longer (x ∷ xs) (y ∷ ys) = is_longer xs ys
 
 abbrev pub state_of : held_state.State → State
-state_of k = record { dot = shape_of k.dot; env = known_of k.known }
+state_of k = record { dot = shape_of k.dot; from = origin_of k.origin; env = known_of k.known }
 
 abbrev pub head_seen : held_head.Head → Head
 head_seen (head.Function f) = calls f
@@ -63,9 +66,12 @@ head_seen head.Value = is_value
 abbrev pub place_seen : held_place.Place → Place
 place_seen p = record { root = option_map (λ name. name.now) p.root; path = p.path.now }
 
-abbrev pub facts_seen : held_facts.Facts → Facts
-facts_seen (fact.Operands n os) = of_operands n (operands_in os.now)
-facts_seen (fact.Index os) = of_index (operands_in os.now)
+abbrev pub fact_seen : held_fact.Fact → Fact
+fact_seen f = record { least = f.least; about = operand_of f.about.now }
+
+-- the function and the operands of a call
+abbrev pub call_seen : Func × Bor (List held_operand.Operand) → Func × Operands
+call_seen c = (c.0, operands_in c.1.now)
 
 -- of a call's arguments, of which a piped one is the last, the kinds of which they may be
 abbrev pub argument_kinds : computed.Base → MissingKey → State → Operands → Option spec.Shape → Option (List Kinds)
@@ -74,6 +80,14 @@ argument_kinds base m k os piped = option_map (λ ss. map (kinds_of base) (ss ++
 abbrev pub called_shape : computed.Base → MissingKey → State → Func → Operands → Option spec.Shape → Option spec.Shape
 called_shape base m k f os piped =
     option_and_then (λ ss. call_shape base f (ss ++ option_to_list piped)) (operand_shapes base m k os)
+
+-- where a call of these gives what is not empty, or else what is
+abbrev pub narrow_call : computed.Base → Bool → Func → Operands → State → State
+narrow_call base c f os k = call_state base c f os k (narrow_all base c os k) (narrow_all base (not c) os k)
+
+-- where the value of two commands is so
+abbrev pub narrow_piped : computed.Base → Bool → Operands → Operands → State → State
+narrow_piped base c os us k = narrow_as base (piped_fact c (counts_in (command_call os)) (command_call us)) k
 
 abbrev pub callee_of : held_callee.Callee → Callee
 callee_of (callee_kind.Handed s) = handed (shape_of s)
@@ -88,7 +102,7 @@ table_of (e ∷ es) x = if bytes_eq x e.name then Some (callee_of e.callee) else
 
 -- what is known after an action
 abbrev pub after_action : computed.Base → MissingKey → State → Header → Option Known
-after_action base m k h = option_map (λ s. bound_shapes h.binding spec.nothings s k.env) (pipeline_shape base m k h.pipeline)
+after_action base m k h = option_map (λ s. bound_shapes h.binding spec.nothings s (pipeline_origin k h.pipeline) k.env) (pipeline_shape base m k h.pipeline)
 
 -- after a turn of a range with this body
 abbrev pub turn_by : computed.Base → MissingKey → Table → Header → computed.Visit → Nodes → Known → Option Known
