@@ -8,6 +8,12 @@ def of(properties, required=None, **more):
     return {**OBJECT, "properties": properties, "required": list(properties) if required is None else required, **more}
 
 
+def few(place, func, count):
+    """What is said of a list of fewer items than a function wants of it."""
+    guard = f'guard it by "if ge (len LIST) {count}", or write "minItems": {count}'
+    return f'{place}: error: may fail: "{func}" may get a list of too few items: {guard}'
+
+
 TEXT, WHOLE, ITEMS = {"type": "string"}, {"type": "integer"}, {"type": "array", "items": {"type": "string"}}
 NODE = {"$defs": {"node": of({"name": TEXT, "kids": {"type": "array", "items": {"$ref": "#/$defs/node"}}})}}
 DEFAULT = ["--missingkey", "default"]
@@ -112,7 +118,6 @@ ACCEPTED = [
 ]
 
 NULL = "1:%d: error: may fail: .b of null, which may come here (s:1) and has no fields"
-FEW = '%s: error: may fail: "%s" may get a list of too few items: write "minItems": %d'
 FIRST = '1:1: error: may fail: "index" may get a list of too few items: guard it by "if" or "with", or write "minItems": 1'
 INDEX, PRINTF = (f'1:1: error: may fail: "{name}" may get what it refuses' for name in ("index", "printf"))
 REFUSED = [
@@ -135,16 +140,16 @@ REFUSED = [
     ("index of another key", of({"a": TEXT, "b": TEXT}, []), '{{if index . "a"}}{{.b}}{{end}}', [], "1:19: error: may fail: .b may be absent: not in \"required\" of s:1"),
     ("index of a field is not followed", of({"c": of({"a": TEXT}, [])}), '{{if index .c "a"}}{{.c.a}}{{end}}', [], "1:20: error: may fail: .a may be absent: not in \"required\" of s:1"),
     ("index by a number", of({"a": ITEMS}), "{{index .a 0}}", [], FIRST),
-    ("the item after the last that has to be there", of({"a": {**ITEMS, "minItems": 2}}), "{{index .a 1}}\n{{index .a 2}}", [], FEW % ("2:1", "index", 3)),
-    ("the second item of a list that is not empty", of({"a": ITEMS}), "{{if .a}}{{index .a 1}}{{end}}", [], FEW % ("1:10", "index", 2)),
+    ("the item after the last that has to be there", of({"a": {**ITEMS, "minItems": 2}}), "{{index .a 1}}\n{{index .a 2}}", [], few("2:1", "index", 3)),
+    ("the second item of a list that is not empty", of({"a": ITEMS}), "{{if .a}}{{index .a 1}}{{end}}", [], few("1:10", "index", 2)),
     ("an item where the list is empty", of({"a": ITEMS}), "{{if .a}}{{else}}{{index .a 0}}{{end}}", [], FIRST.replace("1:1", "1:18")),
-    ("one item more than was asked for", of({"a": ITEMS}), "{{if ge (len .a) 1}}{{index .a 1}}{{end}}", [], FEW % ("1:21", "index", 2)),
-    ("one item more than a number", of({"a": ITEMS}), "{{if gt (len .a) 1}}{{index .a 2}}{{end}}", [], FEW % ("1:21", "index", 3)),
-    ("one item more than are just there", of({"a": ITEMS}), "{{if eq (len .a) 2}}{{index .a 2}}{{end}}", [], FEW % ("1:21", "index", 3)),
-    ("one item more than some", of({"a": ITEMS}), "{{if ne (len .a) 0}}{{index .a 1}}{{end}}", [], FEW % ("1:21", "index", 2)),
-    ("one item more than a length that is not zero", of({"a": ITEMS}), "{{if len .a}}{{index .a 1}}{{end}}", [], FEW % ("1:14", "index", 2)),
-    ("one item more, turned round", of({"a": ITEMS}), "{{if le 2 (len .a)}}{{index .a 2}}{{end}}", [], FEW % ("1:21", "index", 3)),
-    ("one item more than a length that is piped", of({"a": ITEMS}), "{{if len .a | lt 1}}{{index .a 2}}{{end}}", [], FEW % ("1:21", "index", 3)),
+    ("one item more than was asked for", of({"a": ITEMS}), "{{if ge (len .a) 1}}{{index .a 1}}{{end}}", [], few("1:21", "index", 2)),
+    ("one item more than a number", of({"a": ITEMS}), "{{if gt (len .a) 1}}{{index .a 2}}{{end}}", [], few("1:21", "index", 3)),
+    ("one item more than are just there", of({"a": ITEMS}), "{{if eq (len .a) 2}}{{index .a 2}}{{end}}", [], few("1:21", "index", 3)),
+    ("one item more than some", of({"a": ITEMS}), "{{if ne (len .a) 0}}{{index .a 1}}{{end}}", [], few("1:21", "index", 2)),
+    ("one item more than a length that is not zero", of({"a": ITEMS}), "{{if len .a}}{{index .a 1}}{{end}}", [], few("1:14", "index", 2)),
+    ("one item more, turned round", of({"a": ITEMS}), "{{if le 2 (len .a)}}{{index .a 2}}{{end}}", [], few("1:21", "index", 3)),
+    ("one item more than a length that is piped", of({"a": ITEMS}), "{{if len .a | lt 1}}{{index .a 2}}{{end}}", [], few("1:21", "index", 3)),
     ("fewer items than a number", of({"a": ITEMS}), "{{if lt (len .a) 2}}{{index .a 0}}{{end}}", [], FIRST.replace("1:1", "1:21")),
     ("fewer items than a number, turned round", of({"a": ITEMS}), "{{if gt 2 (len .a)}}{{index .a 0}}{{end}}", [], FIRST.replace("1:1", "1:21")),
     ("fewer items than a length that is piped", of({"a": ITEMS}), "{{if len .a | gt 2}}{{index .a 0}}{{end}}", [], FIRST.replace("1:1", "1:21")),
@@ -155,10 +160,10 @@ REFUSED = [
     ("a length that is 0, by not", of({"a": ITEMS}), "{{if not (len .a)}}{{index .a 0}}{{end}}", [], FIRST.replace("1:1", "1:20")),
     ("a length below a number below zero", of({"a": ITEMS}), "{{if gt (len .a) -1}}{{index .a 0}}{{end}}", [], FIRST.replace("1:1", "1:22")),
     ("a length that is compared with one of the data", of({"a": ITEMS, "b": WHOLE}), "{{if gt (len .a) .b}}{{index .a 0}}{{end}}", [], FIRST.replace("1:1", "1:22")),
-    ("the length of another list", of({"a": ITEMS, "b": ITEMS}), "{{if gt (len .a) 1}}{{index .b 1}}{{end}}", [], FEW % ("1:21", "index", 2)),
-    ("either of two lengths", of({"a": ITEMS, "b": ITEMS}), "{{if or (gt (len .a) 1) (gt (len .b) 1)}}{{index .a 1}}{{end}}", [], FEW % ("1:42", "index", 2)),
-    ("not both of two lengths", of({"a": ITEMS, "b": ITEMS}), "{{if and (lt (len .a) 2) (lt (len .b) 2)}}{{else}}{{index .a 1}}{{end}}", [], FEW % ("1:51", "index", 2)),
-    ("a length after what it would guard", of({"a": ITEMS}), "{{if and (index .a 1) (gt (len .a) 1)}}{{end}}", [], FEW % ("1:1", "index", 2)),
+    ("the length of another list", of({"a": ITEMS, "b": ITEMS}), "{{if gt (len .a) 1}}{{index .b 1}}{{end}}", [], few("1:21", "index", 2)),
+    ("either of two lengths", of({"a": ITEMS, "b": ITEMS}), "{{if or (gt (len .a) 1) (gt (len .b) 1)}}{{index .a 1}}{{end}}", [], few("1:42", "index", 2)),
+    ("not both of two lengths", of({"a": ITEMS, "b": ITEMS}), "{{if and (lt (len .a) 2) (lt (len .b) 2)}}{{else}}{{index .a 1}}{{end}}", [], few("1:51", "index", 2)),
+    ("a length after what it would guard", of({"a": ITEMS}), "{{if and (index .a 1) (gt (len .a) 1)}}{{end}}", [], few("1:1", "index", 2)),
     ("the length of a text that may be a list", of({"a": {"type": ["array", "string"], "items": TEXT}}), "{{if ge (len .a) 2}}{{index .a 1}}{{end}}", [], INDEX.replace("1:1", "1:21")),
     ("a variable of another path", of({"a": MAYBE, "c": MAYBE}), "{{$x := .c}}{{if $x}}{{.a.b}}{{end}}", [], NULL % 22),
     ("a variable that is assigned another path", of({"a": MAYBE, "c": MAYBE}), "{{$x := .a}}{{$x = .c}}{{if $x}}{{.a.b}}{{end}}", [], NULL % 33),
@@ -172,20 +177,20 @@ REFUSED = [
     ("a list that is not nil", of({"a": ITEMS}), "{{if ne .a nil}}{{index .a 0}}{{end}}", [], FIRST.replace("1:1", "1:17")),
     ("another list that is not empty", of({"a": ITEMS, "b": ITEMS}), "{{if .a}}{{index .b 0}}{{end}}", [], FIRST.replace("1:1", "1:10")),
     ("either of two lists", of({"a": ITEMS, "b": ITEMS}), "{{if or .a .b}}{{index .a 0}}{{end}}", [], FIRST.replace("1:1", "1:16")),
-    ("the shorter of two lists", of({"a": {"anyOf": [{**ITEMS, "minItems": 3}, {**ITEMS, "minItems": 1}]}}), "{{index .a 1}}", [], FEW % ("1:1", "index", 2)),
-    ("a list that a template may be handed", of({"a": {**ITEMS, "minItems": 2}, "b": {**ITEMS, "minItems": 1}}), '{{define "w"}}{{index . 1}}{{end}}{{template "w" .a}}{{template "w" .b}}', [], FEW % ("1:15", "index", 2)),
+    ("the shorter of two lists", of({"a": {"anyOf": [{**ITEMS, "minItems": 3}, {**ITEMS, "minItems": 1}]}}), "{{index .a 1}}", [], few("1:1", "index", 2)),
+    ("a list that a template may be handed", of({"a": {**ITEMS, "minItems": 2}, "b": {**ITEMS, "minItems": 1}}), '{{define "w"}}{{index . 1}}{{end}}{{template "w" .a}}{{template "w" .b}}', [], few("1:15", "index", 2)),
     ("the most that a list has says nothing", of({"a": {**ITEMS, "maxItems": 2}}), "{{index .a 0}}", [], FIRST),
     ("a list that an item may be", of({"a": {"type": "array", "minItems": 1, "items": ITEMS}}), "{{index .a 0 0}}", [], FIRST),
     ("an item of a list that may be null", of({"a": {**ITEMS, "type": ["array", "null"], "minItems": 1}}), "{{index .a 0}}", [], INDEX),
     ("a number below zero", of({"a": {**ITEMS, "minItems": 1}}), "{{index .a -1}}", [], INDEX),
     ("a number of the data", of({"a": {**ITEMS, "minItems": 1}, "b": WHOLE}), "{{index .a .b}}", [], INDEX),
     ("a byte of a text", of({"a": {**TEXT, "minLength": 3}}), "{{index .a 0}}", [], INDEX),
-    ("a part past the end", of({"a": {**ITEMS, "minItems": 2}}), "{{slice .a 2}}\n{{slice .a 1 3}}", [], FEW % ("2:1", "slice", 3)),
+    ("a part past the end", of({"a": {**ITEMS, "minItems": 2}}), "{{slice .a 2}}\n{{slice .a 1 3}}", [], few("2:1", "slice", 3)),
     ("a part from past the end", of({"a": ITEMS}), "{{slice .a 1}}", [], FIRST.replace("index", "slice")),
     ("a part that is turned round", of({"a": {**ITEMS, "minItems": 3}}), "{{slice .a 2 1}}", [], '1:1: error: may fail: "slice" may get what it refuses'),
     ("a part by a bound of the data", of({"a": {**ITEMS, "minItems": 3}, "b": WHOLE}), "{{slice .a .b}}", [], '1:1: error: may fail: "slice" is not followed by this check'),
     ("a part of a map", of({"a": of({})}), "{{slice .a}}", [], '1:1: error: may fail: "slice" may get what it refuses'),
-    ("what is left of a part", of({"a": {**ITEMS, "minItems": 3}}), "{{index (slice .a 2) 1}}", [], FEW % ("1:1", "index", 2)),
+    ("what is left of a part", of({"a": {**ITEMS, "minItems": 3}}), "{{index (slice .a 2) 1}}", [], few("1:1", "index", 2)),
     ("index of a list by a text", of({"a": ITEMS}), '{{index .a "0"}}', [], INDEX),
     ("index of a map by a number", of({"a": of({"b": TEXT})}), "{{index .a 0}}", [], INDEX),
     ("index of null", of({"a": {"type": ["object", "null"]}}), '{{index .a "b"}}', [], INDEX),
@@ -300,7 +305,7 @@ SHOWN = [
     ("an alternative", of({"a": {"anyOf": [{"type": "null"}, TEXT]}}), "{{range .a}}{{end}}", [],
      ["1:1: error: may fail: a range over a text, which may come here (s:1)", '1:1: note: fails for {"a":"a"}: can\'t range over this value']),
     ("an empty list", of({"a": ITEMS}), "{{index .a 0}}", [], [FIRST, '1:1: note: fails for {"a":[]}: index: out of range']),
-    ("a list that is not empty", of({"a": {**ITEMS, "minItems": 2}}), "{{index .a 2}}", [], [FEW % ("1:1", "index", 3), '1:1: note: fails for {"a":["a","a"]}: index: out of range']),
+    ("a list that is not empty", of({"a": {**ITEMS, "minItems": 2}}), "{{index .a 2}}", [], [few("1:1", "index", 3), '1:1: note: fails for {"a":["a","a"]}: index: out of range']),
     ("an empty text", of({"a": TEXT}), "{{slice .a 1}}", [],
      ['1:1: error: may fail: "slice" is not followed by this check', '1:1: note: fails for {"a":""}: slice: out of range']),
     ("a length", of({"a": {"type": "string", "minLength": 3}}), "{{slice .a 4}}", [],

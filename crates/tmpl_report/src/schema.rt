@@ -222,7 +222,10 @@ fn push_guard(text: &mut String, count: u64) -> Result<(), AllocError> {
     if count == 1 {
         return text.push_str("guard it by \"if\" or \"with\", or write \"minItems\": 1");
     }
-    write!(text, "write \"minItems\": {count}")
+    write!(
+        text,
+        "guard it by \"if ge (len LIST) {count}\", or write \"minItems\": {count}"
+    )
 }
 
 /// Adds a kind of values, and what lets them through.
