@@ -357,8 +357,9 @@ def bench_reading(figures, folder):
             file = repeated(f"{folder}/printed", piece, size) if piece else write(f"{folder}/printed", definitions(size // 42))
             whole, bare, parsed = parts(21, [harness.PROGRAM, "--print", tiny, file], [harness.PROGRAM, "--print", tiny], ("parse", file))
             points.append((size, whole[0]))
-        spent = whole[0] - bare[0] - parsed[0]
-        figures.row(f"the printing of 1 MB of {name}", shown(max(spent, 0)), f"parsing it {shown(parsed[0])}", spent / parsed[0], None, 0.25)
+        spent = max(whole[0] - bare[0] - parsed[0], 0)
+        told = shown(spent) if spent > parsed[0] / 50 else "less than the noise"
+        figures.row(f"the printing of 1 MB of {name}", told, f"parsing it {shown(parsed[0])}", spent / parsed[0], None, 0.25)
         figures.rise(f"the printing of {name}", points)
 
 
