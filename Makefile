@@ -64,6 +64,7 @@ edits:
 # times the program, the C library and what is built for other places beside others
 bench: $(PROGRAM) $(PROBE) lib
 	python3 -m tests.bench.bench
+	python3 -m tests.bench.bench_servers
 	python3 -m tests.bench.bench_ports
 
 # fuzzes the C library by coverage, 10,000,000 inputs, and holds what was kept against meaning.py; it needs clang with libFuzzer

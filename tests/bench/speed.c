@@ -1,7 +1,8 @@
 /* speed TEMPLATE DATA COUNT: renders as often by the library, and tells the least and the middle time of one render in nanoseconds, with
    the parse of the template and the read of the data each time. `speed TEMPLATE DATA COUNT kept` parses and reads once, and
-   `.. kept DEPTH` lets this many calls be inside one another. `.. kept DEPTH THREADS` renders as often in each of so many threads at the
-   same time, by handles of their own, and tells the time until all are done over the renders of one. */
+   `.. kept DEPTH` lets this many calls be inside one another. `.. kept DEPTH THREADS` renders as often in each of as many threads at the
+   same time, by handles of one program and of the same data, and tells the time until all are done over the renders of one. With `own`
+   after it each thread has a program and data that it shares with no other. */
 #include "tmpl.h"
 #include <pthread.h>
 #include <stdio.h>
@@ -63,8 +64,8 @@ enum { MOST_THREADS = 64 };
 static struct worker workers[MOST_THREADS];
 
 int main(int argc, char **argv) {
-    if (argc < 4 || argc > 7) return 2;
-    int threads = argc == 7 ? atoi(argv[6]) : 0;
+    if (argc < 4 || argc > 8) return 2;
+    int threads = argc >= 7 ? atoi(argv[6]) : 0, owns = argc == 8;
     if (threads < 0 || threads > MOST_THREADS) return 2;
     enum { ROOM = 1 << 24, TIMES = 31 };
     size_t size, data_size;
@@ -76,11 +77,12 @@ int main(int argc, char **argv) {
     tmpl_buffer out = {memory, ROOM, 0, 0}, err = {line, sizeof line, 0, 0};
     tmpl_set set = {0};
     tmpl_data kept = {0};
-    if (argc > 4 && (tmpl_set_add(&set, &file, &err) || tmpl_data_read(&kept, data, data_size, &err))) return 1;
+    tmpl_program program = {0};
+    if (argc > 4 && (tmpl_set_add(&set, &file, &err) || tmpl_data_read(&kept, data, data_size, &err) || tmpl_program_make(&set, &program))) return 1;
     for (int i = 0; i < threads; i++) {
-        tmpl_program first = {0};
-        if (tmpl_program_make(&set, &first) || tmpl_program_share(&first, &workers[i].program) || tmpl_data_share(&kept, &workers[i].data)) return 1;
-        tmpl_program_free(&first);
+        struct worker *own = workers + i;
+        if (owns ? tmpl_program_make(&set, &own->program) || tmpl_data_read(&own->data, data, data_size, &err)
+                 : tmpl_program_share(&program, &own->program) || tmpl_data_share(&kept, &own->data)) return 1;
     }
     for (int i = 0; i < TIMES; i++) {
         double start = now();
@@ -92,7 +94,7 @@ int main(int argc, char **argv) {
         times[i] = (now() - start) / count;
     }
     qsort(times, TIMES, sizeof *times, less);
-    tmpl_set_free(&set), tmpl_data_free(&kept);
+    tmpl_set_free(&set), tmpl_data_free(&kept), tmpl_program_free(&program);
     printf("%.0f %.0f %zu\n", times[0], times[TIMES / 2], out.taken);
     return 0;
 }
