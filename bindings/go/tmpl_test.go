@@ -4,6 +4,7 @@ import (
 	"errors"
 	"fmt"
 	"io"
+	"os"
 	"strings"
 	"sync"
 	"testing"
@@ -117,6 +118,36 @@ func TestGoroutines(t *testing.T) {
 		}(n)
 	}
 	all.Wait()
+}
+
+// resident gives the kilobytes that the process has.
+func resident(t *testing.T) int {
+	told, err := os.ReadFile("/proc/self/statm")
+	var size, pages int
+	if _, e := fmt.Sscan(string(told), &size, &pages); err != nil || e != nil {
+		t.Fatal(err, e)
+	}
+	return pages * 4
+}
+
+func TestMemory(t *testing.T) {
+	var pages Templates
+	defer pages.Close()
+	if err := pages.Add(File{Name: "m", Bytes: []byte("{{.n}} and {{.k}}")}); err != nil {
+		t.Fatal(err)
+	}
+	before := 0
+	for k := -10000; k < 100000; k++ {
+		if k == 0 {
+			before = resident(t)
+		}
+		if err := pages.Execute(io.Discard, "m", []byte(fmt.Sprintf(`{"n": 1, "k": %d}`, k)), Options{}); err != nil {
+			t.Fatal(err)
+		}
+	}
+	if more := resident(t) - before; more > 4096 {
+		t.Errorf("100,000 renders: %d kB more", more)
+	}
 }
 
 // Files are added while others render: each render is of what was there before or after.

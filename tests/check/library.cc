@@ -3,6 +3,7 @@
 
 #include <atomic>
 #include <cstdio>
+#include <fstream>
 #include <string>
 #include <thread>
 #include <vector>
@@ -18,19 +19,39 @@ template <class Call> static void tell(const char *name, Call call) {
     }
 }
 
-// how many renders of eight threads over one object were right
-static int serve(tmpl::templates &pages) {
-    std::atomic<int> right{0};
+// how many renders of eight threads over one object were wrong
+static int serve(tmpl::templates &pages, int count) {
+    std::atomic<int> wrong{0};
     std::vector<std::thread> threads;
     for (int number = 0; number < 8; number++) threads.emplace_back([&, number] {
         tmpl::data own("{\"name\": " + std::to_string(number) + "}");
-        for (int i = 0; i < 5000; i++) right += pages.render("n", own) == std::to_string(number) + " again";
+        for (int i = 0; i < count; i++) wrong += pages.render("n", own) != std::to_string(number) + " again";
     });
     for (auto &it : threads) it.join();
-    return right;
+    return wrong;
 }
 
-int main() {
+// kilobytes that the process has
+static long resident() {
+    long pages = 0;
+    std::ifstream("/proc/self/statm") >> pages >> pages;
+    return pages * 4;
+}
+
+// by how many kilobytes the process grows by as many renders
+static long growth(tmpl::templates &pages, int count) {
+    long before = 0;
+    for (int i = -count / 10; i < count; i++) {
+        if (i == 0) before = resident();
+        tmpl::data own("{\"name\": " + std::to_string(i) + "}");
+        pages.render("n", own);
+    }
+    return resident() - before;
+}
+
+// with a word it renders less often, as under valgrind
+int main(int argc, char **) {
+    const int few = argc > 1 ? 100 : 1;
     tmpl::templates pages;
     tmpl::data none, ada(R"({"name": "Ada"})");
     pages.add("m", "Hello, {{.name}}!");
@@ -68,7 +89,8 @@ int main() {
     tmpl::data shared = kept.share();
     kept = tmpl::data();
     tell("shared", [&] { return again.render("n", shared); });
-    tell("threads", [&] { return std::to_string(serve(again)); });
+    tell("threads", [&] { return std::to_string(serve(again, 12500 / few)) + " wrong"; });
+    tell("memory", [&] { return growth(again, 100000 / few) < 1024 ? "flat" : "grows"; });
     again.add("n", "{{.name}} once more");
     tell("after one more file", [&] { return again.render("n", shared); });
     again.add("n", "{{.name}} again");

@@ -339,12 +339,18 @@ def judge_sizes(call):
 
 
 THREADS = 8
-RENDERS = 1000  # of each thread
+RENDERS = 12_500  # of each thread
 
 
 def render_often(templates, number):
     """How many renders of a thread gave another text than that of its own data."""
     return sum(templates.render(data={"n": number, "k": turn}) != f"{number} {turn}" for turn in range(RENDERS))
+
+
+def resident():
+    """The kilobytes that the process has."""
+    with open("/proc/self/statm", encoding="ascii") as it:
+        return int(it.read().split()[1]) * 4
 
 
 def grown_by(count):
@@ -437,6 +443,12 @@ def judge_wrapper():
     grown_by(2)
     more = grown_by(20)
     yield "the memory of large texts", 1, [f"    it grew by {more} kB"] if more > 4096 else []
+    render_often(templates, 0)
+    before = resident()
+    for number in range(THREADS):
+        render_often(templates, number)
+    more = resident() - before
+    yield "the memory of 100,000 renders", 1, [f"    it grew by {more} kB"] if more > 1024 else []
 
 
 def judge_names():
@@ -505,7 +517,8 @@ CALLS_IN_CPP = [
     'no JSON: 5 "tmpl: data: number not whole or out of range" after ""',
     "moved: 9 Ada again",
     "shared: 9 Ada again",
-    "threads: 5 40000",
+    "threads: 7 0 wrong",
+    "memory: 4 flat",
     "after one more file: 13 Ada once more",
     'printed: 37 {{define "n"}}{{.name}} again{{end}}',
 ]
@@ -540,7 +553,7 @@ def judge_cpp(folder):
     wrong += [f"    got {got[:200]}" for got, wanted in zip(lines, CALLS_IN_CPP) if got != wanted]
     yield "tests/check/library.cc", len(CALLS_IN_CPP), wrong + [f"    {status}: {len(lines)} lines"] * ((status, len(lines)) != (0, len(CALLS_IN_CPP) + 2))
     if shutil.which("valgrind") and not wrong:
-        status, said = ran("valgrind", "-q", "--error-exitcode=9", "--leak-check=full", program)
+        status, said = ran("valgrind", "-q", "--error-exitcode=9", "--leak-check=full", program, "few")
         yield "tests/check/library.cc under valgrind", 1, [f"    {said}"] if status else []
 
 

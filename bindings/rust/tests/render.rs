@@ -83,6 +83,32 @@ fn threads() {
     });
 }
 
+// kilobytes that the process has
+fn resident() -> usize {
+    let told = std::fs::read_to_string("/proc/self/statm").unwrap();
+    told.split(' ').nth(1).unwrap().parse::<usize>().unwrap() * 4
+}
+
+// kilobytes by which the process grows by as many renders
+fn growth(pages: &tmpl::Templates, renders: usize) -> usize {
+    let before = resident();
+    for k in 0..renders {
+        let data = format!("{{\"n\": 1, \"k\": {k}}}");
+        pages.render("m", data.as_bytes(), &tmpl::Settings::default()).unwrap();
+    }
+    resident().saturating_sub(before)
+}
+
+#[test]
+fn memory() {
+    let pages = tmpl::Templates::new();
+    pages.add("m", b"{{.n}} and {{.k}}").unwrap();
+    growth(&pages, 10_000);
+    // other tests run at the same time: what stays of each render would show three times
+    let least = (0..3).map(|_| growth(&pages, 100_000)).min().unwrap();
+    assert!(least < 1024, "{least} kB more");
+}
+
 // files are added while others render: each render is of what was there before or after
 #[test]
 fn files_added_meanwhile() {
