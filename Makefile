@@ -62,7 +62,7 @@ edits:
 	python3 -m tests.gate.edits $${CRATE:+"$$CRATE"}
 
 # times the program, the C library and what is built for other places beside others
-bench: $(PROGRAM) $(PROBE) lib
+bench: $(PROGRAM) $(CHECKER) $(PROBE) lib
 	python3 -m tests.bench.bench
 	python3 -m tests.bench.bench_servers
 	python3 -m tests.bench.bench_ports

@@ -301,6 +301,18 @@ def bench_program(figures, folder):
     file = repeated(f"{folder}/template", b"{{.}}", 16 * MIB)
     (ours,) = medians(3, [harness.PROGRAM, file])
     figures.row("16 MiB of `{{.}}`", with_memory(ours), "1,100 MB", None, ours[1] * 1024 / 1e6 / 1100, None, 1)
+    bench_check(figures, folder)
+
+
+def bench_check(figures, folder):
+    """The check of a long template against a long schema."""
+    names = [f"name{it}" for it in range(150)]
+    lists = {"type": "array", "items": {"type": "string"}}
+    schema = json.dumps({"type": "object", "required": names, "properties": {name: lists for name in names}}, indent=1)
+    lines = ["{{range .%s}}{{len .}}{{end}}{{if .%s}}{{len .%s}}{{end}}\n" % (names[it % 150], names[it % 149], names[it % 149]) for it in range(5000)]
+    words = ["--schema", write(f"{folder}/schema", [schema.encode()]), write(f"{folder}/lines", ["".join(lines).encode()])]
+    (ours,) = medians(11, [harness.CHECKER, *words])
+    figures.row(f"`tmpl-check --schema`: 5,000 lines, and {len(schema.splitlines()):,} of the schema", with_memory(ours), "1 s", ours[0], None, 1)
 
 
 def bench_growth(figures, folder):
