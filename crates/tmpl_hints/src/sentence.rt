@@ -1,6 +1,10 @@
 //! What is said of a problem.
+ghost use Rattle.std.specs.Prelude.{◌≡◌, ◌++◌, [], ◌∷◌, Some, None, IfOk, OnErr, codes, map, string_bytes};
+ghost use Rattle.std.specs.Fmt.{decimal};
+ghost use Rattle.tmpl_hints.specs.Sentence.{Adds, ascii_of, readable, shown};
 
 use std::alloc::{AllocError, Global};
+use std::marker::Model;
 use std::str::from_utf8;
 
 /// The most bytes of a piece of a file that are shown.
@@ -13,9 +17,19 @@ pub struct Sentence {
     is_refused: bool,
 }
 
+impl Model for Sentence {
+    ghost use Rattle.std.specs.Prelude.{ℕ, List, Option, Some, None, string_bytes, if◌then◌else◌};
+
+    ghost Value = { Option (List ℕ) };
+
+    ghost view = { λ s. if s.is_refused then None else Some (string_bytes s.text) };
+}
+
 impl Sentence {
     /// An empty one.
-    pub fn new(alloc: Global) -> Sentence {
+    pub fn new(alloc: Global) -> Sentence
+        ensures { result ≡ Some [] }
+    {
         Sentence {
             text: String::new(alloc),
             is_refused: false,
@@ -23,7 +37,9 @@ impl Sentence {
     }
 
     /// Adds words.
-    pub fn say(mut self, words: &str) -> Sentence {
+    pub fn say(mut self, words: &str) -> Sentence
+        ensures { Adds self result words.now }
+    {
         if self.text.push_str(words).is_err() {
             self.is_refused = true;
         }
@@ -31,7 +47,9 @@ impl Sentence {
     }
 
     /// Adds a piece of the file, of which two dots follow the beginning where it is long.
-    pub fn show(self, bytes: &[u8]) -> Sentence {
+    pub fn show(self, bytes: &[u8]) -> Sentence
+        ensures { Adds self result (shown bytes.now) }
+    {
         match bytes.get(..MOST_SHOWN) {
             Some(front) if bytes.len() > MOST_SHOWN => self.show_all(front).say(".."),
             _ => self.show_all(bytes),
@@ -39,28 +57,48 @@ impl Sentence {
     }
 
     /// Adds bytes. Where they are no UTF-8, a byte from 80h is shown as `?`.
-    fn show_all(mut self, bytes: &[u8]) -> Sentence {
+    fn show_all(self, bytes: &[u8]) -> Sentence
+        ensures { Adds self result (readable bytes.now) }
+    {
         match from_utf8(bytes) {
             Ok(text) => self.say(text),
-            Err(_) => {
-                for byte in bytes {
-                    let shown = if byte.is_ascii() { *byte as char } else { '?' };
-                    if self.text.push(shown).is_err() {
-                        self.is_refused = true;
-                    }
-                }
-                self
-            }
+            Err(_) => self.show_ascii(bytes),
         }
     }
 
+    /// Adds bytes, each from 80h as `?`.
+    fn show_ascii(self, bytes: &[u8]) -> Sentence
+        ensures { Adds self result (map ascii_of bytes.now) }
+    {
+        let mut said = self;
+        for byte in bytes {
+            said = said.put(*byte);
+        }
+        said
+    }
+
+    /// Adds a byte, or `?` for one from 80h.
+    fn put(mut self, byte: u8) -> Sentence
+        ensures { Adds self result (ascii_of byte ∷ []) }
+    {
+        let shown = if byte.is_ascii() { byte as char } else { '?' };
+        if self.text.push(shown).is_err() {
+            self.is_refused = true;
+        }
+        self
+    }
+
     /// Adds a piece of the file in quotes.
-    pub fn quote(self, bytes: &[u8]) -> Sentence {
+    pub fn quote(self, bytes: &[u8]) -> Sentence
+        ensures { Adds self result (codes "\"" ++ shown bytes.now ++ codes "\"") }
+    {
         self.say("\"").show(bytes).say("\"")
     }
 
     /// Adds a number.
-    pub fn count(mut self, number: u64) -> Sentence {
+    pub fn count(mut self, number: u64) -> Sentence
+        ensures { Adds self result (decimal number) }
+    {
         if write!(self.text, "{number}").is_err() {
             self.is_refused = true;
         }
@@ -72,7 +110,10 @@ impl Sentence {
     /// # Errors
     ///
     /// Where memory was refused for some part of it.
-    pub fn finish(self) -> Result<String, AllocError> {
+    pub fn finish(self) -> Result<String, AllocError>
+        ensures text { IfOk result (λ t. self ≡ Some (string_bytes t)) }
+        ensures refused { OnErr result (self ≡ None) }
+    {
         if self.is_refused {
             Err(AllocError)
         } else {

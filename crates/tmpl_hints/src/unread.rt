@@ -1,5 +1,6 @@
 //! What is wrong with an action that is not closed, or that has a place where no token begins.
-ghost use Rattle.std.specs.Prelude.{◌≤◌, length};
+ghost use Rattle.std.specs.Prelude.{◌≡◌, ◌≤◌, length};
+ghost use Rattle.tmpl_hints.specs.Unread as spec;
 
 use crate::operators::{first_word, operator_in, show_left};
 use crate::sentence::Sentence;
@@ -8,7 +9,8 @@ use tmpl_lex::{Token, TokenKind, is_space};
 
 /// How many bytes the left trim marker after a `{{` has.
 pub fn marker_len(after: &[u8]) -> usize
-    ensures { result ≤ length after.now }
+    ensures value { result ≡ spec.marker_len after.now }
+    ensures within { result ≤ length after.now }
 {
     match after {
         [b'-', space, ..] if is_space(*space) => 2,
@@ -17,7 +19,9 @@ pub fn marker_len(after: &[u8]) -> usize
 }
 
 /// Whether a comment begins with these bytes after a `{{`.
-pub fn opens_comment(inside: &[u8]) -> bool {
+pub fn opens_comment(inside: &[u8]) -> bool
+    ensures { result ≡ spec.opens_comment inside.now }
+{
     match inside {
         [b'/', b'*', ..] => true,
         [b'-', space, b'/', b'*', ..] => is_space(*space),

@@ -1,0 +1,3 @@
+pub mod Action
+pub mod Sentence
+pub mod Unread
