@@ -1,5 +1,5 @@
 use Rattle.std.proofs.Common.{◌+◌, ◌*◌}
-use Rattle.tmpl_json_schema.proofs.walk.Walk.+nodes.Given as goal
+use Rattle.tmpl_reasons.proofs.walk.Walk.+nodes.Given as goal
 
 abbrev pub decreases-nodes : goal.decreases-nodes
 decreases-nodes l = 10 * l.levels + 0

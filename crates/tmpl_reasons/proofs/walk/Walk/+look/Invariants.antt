@@ -1,5 +1,5 @@
 use Rattle.std.proofs.Common.{◌+◌, ◌*◌}
-use Rattle.tmpl_json_schema.proofs.walk.Walk.+look.Given as goal
+use Rattle.tmpl_reasons.proofs.walk.Walk.+look.Given as goal
 
 abbrev pub decreases-look_into : goal.decreases-look_into
 decreases-look_into l = 10 * l.levels + 0

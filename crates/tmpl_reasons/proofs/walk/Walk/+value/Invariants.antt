@@ -1,5 +1,5 @@
 use Rattle.std.proofs.Common.{◌+◌, ◌*◌}
-use Rattle.tmpl_json_schema.proofs.walk.Walk.+value.Given as goal
+use Rattle.tmpl_reasons.proofs.walk.Walk.+value.Given as goal
 
 abbrev pub decreases-pipeline : goal.decreases-pipeline
 decreases-pipeline l = 10 * l.levels + 0

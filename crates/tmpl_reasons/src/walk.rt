@@ -79,12 +79,16 @@ fn widen(
     };
     let before = origin.places.len();
     let was_there = origin.is_there;
+    let was_whole = origin.is_whole;
     let is_told = match more {
-        Some(more) => origin.add_all(document.alloc, more),
+        Some(more) => origin.add_all(more),
         None => Err(Lost::Untold),
     };
     match is_told {
-        Ok(()) => Ok(origin.places.len() > before || origin.is_there != was_there),
+        Ok(()) => {
+            let is_other = origin.is_there != was_there || origin.is_whole != was_whole;
+            Ok(is_other || origin.places.len() > before)
+        }
         Err(Lost::OutOfMemory) => Err(AllocError),
         Err(Lost::Untold) => {
             *known = None;
@@ -93,11 +97,40 @@ fn widen(
     }
 }
 
-/// The name of the field that a cause speaks of.
-fn field_in(cause: &Cause) -> Option<&[u8]> {
-    match cause {
-        Cause::Absent(name) | Cause::NoFields(name, _) => Some(name.as_slice()),
-        _ => None,
+/// What is looked for among the commands of an action.
+#[derive(Clone, Copy)]
+enum Wanted<'w> {
+    /// The values that are asked for the field of this name.
+    Field(&'w [u8]),
+    /// The lists of which the function needs this many items.
+    Items(Func, u64),
+}
+
+impl<'w> Wanted<'w> {
+    /// What a cause speaks of.
+    fn of(cause: &'w Cause) -> Option<Wanted<'w>> {
+        match cause {
+            Cause::Absent(name) | Cause::NoFields(name, _) => Some(Wanted::Field(name.as_slice())),
+            Cause::FewItems(func, count) => Some(Wanted::Items(*func, *count)),
+            _ => None,
+        }
+    }
+}
+
+/// Whether an operand is this number.
+fn is_number(operand: &Operand, number: u64) -> bool {
+    match operand {
+        Operand::Number(value) => u64::try_from(*value) == Ok(number),
+        _ => false,
+    }
+}
+
+/// Where lists come from, if they are no parts of others.
+fn if_whole(found: Result<Origin, Lost>) -> Result<Origin, Lost> {
+    match found {
+        Ok(origin) if origin.is_whole => Ok(origin),
+        Ok(_) => Err(Lost::Untold),
+        Err(lost) => Err(lost),
     }
 }
 
@@ -134,6 +167,15 @@ impl<'w> Walk<'w> {
         }
     }
 
+    /// Where what `index` gives for a key comes from.
+    fn entry(&self, origin: &Origin, key: &Operand) -> Result<Origin, Lost> {
+        match key {
+            Operand::Text(key) => self.field(origin, key.as_slice()),
+            Operand::Number(_) => self.document.elements(origin),
+            _ => Err(Lost::Untold),
+        }
+    }
+
     /// Where the value of a pipeline comes from.
     #[cycle(value)]
     fn pipeline(&self, levels: usize, commands: &[Command]) -> Result<Origin, Lost> {
@@ -155,15 +197,15 @@ impl<'w> Walk<'w> {
             [Operand::Function(Func::Index), value, keys @ ..] => {
                 let mut origin = self.operand(levels, value)?;
                 for key in keys {
-                    origin = match key {
-                        Operand::Text(key) => self.field(&origin, key.as_slice())?,
-                        Operand::Number(_) => self.document.elements(&origin)?,
-                        _ => return Err(Lost::Untold),
-                    };
+                    origin = self.entry(&origin, key)?;
                 }
                 Ok(origin)
             }
-            [Operand::Function(Func::Slice), value, ..] => self.operand(levels, value),
+            [Operand::Function(Func::Slice), value, ..] => {
+                let mut origin = self.operand(levels, value)?;
+                origin.is_whole = false;
+                Ok(origin)
+            }
             _ => Err(Lost::Untold),
         }
     }
@@ -194,14 +236,17 @@ impl<'w> Walk<'w> {
         Ok(())
     }
 
-    /// Looks for the field that a doubt speaks of among these fields of a value.
+    /// Looks for what a doubt speaks of among the fields of a value.
     fn look_at(
         &mut self,
         index: usize,
-        wanted: &[u8],
+        wanted: Wanted<'_>,
         start: Result<Origin, Lost>,
         names: &[Bytes],
     ) -> Result<(), AllocError> {
+        let Wanted::Field(wanted) = wanted else {
+            return Ok(());
+        };
         let mut origin = start;
         for name in names {
             let before = origin;
@@ -216,13 +261,59 @@ impl<'w> Walk<'w> {
         Ok(())
     }
 
-    /// Looks into operands for the field that a doubt speaks of.
+    /// Looks for the list of which a key of `index` needs this many items.
+    fn look_along(
+        &mut self,
+        index: usize,
+        count: u64,
+        start: Result<Origin, Lost>,
+        keys: &[Operand],
+    ) -> Result<(), AllocError> {
+        let mut origin = start;
+        for key in keys {
+            let list = origin;
+            origin = match &list {
+                Ok(origin) => self.entry(origin, key),
+                Err(lost) => Err(*lost),
+            };
+            if is_number(key, count.saturating_sub(1)) {
+                self.ask(index, if_whole(list))?;
+            }
+        }
+        Ok(())
+    }
+
+    /// Looks whether a command calls the function that needs this many items of a list.
+    fn look_call(
+        &mut self,
+        levels: usize,
+        index: usize,
+        wanted: Wanted<'_>,
+        operands: &[Operand],
+    ) -> Result<(), AllocError> {
+        let Wanted::Items(func, count) = wanted else {
+            return Ok(());
+        };
+        match operands {
+            [Operand::Function(called), list, rest @ ..] if *called == func => {
+                let start = self.operand(levels, list);
+                match rest {
+                    keys if func == Func::Index => self.look_along(index, count, start, keys),
+                    [.., last] if is_number(last, count) => self.ask(index, if_whole(start)),
+                    _ => Ok(()),
+                }
+            }
+            _ => Ok(()),
+        }
+    }
+
+    /// Looks for what a doubt speaks of in commands.
     #[cycle(look)]
     fn look_into(
         &mut self,
         levels: usize,
         index: usize,
-        wanted: &[u8],
+        wanted: Wanted<'_>,
         commands: &[Command],
     ) -> Result<(), AllocError> {
         if levels == 0 {
@@ -230,38 +321,34 @@ impl<'w> Walk<'w> {
         }
         let fewer = levels - 1;
         for command in commands {
-            for operand in command.operands.as_slice() {
+            let operands = command.operands.as_slice();
+            self.look_call(fewer, index, wanted, operands)?;
+            for operand in operands {
                 self.look_operand(fewer, index, wanted, operand)?;
             }
         }
         Ok(())
     }
 
-    /// Looks into an operand for the field that a doubt speaks of.
+    /// Looks for what a doubt speaks of in an operand.
     #[cycle(look)]
     fn look_operand(
         &mut self,
         levels: usize,
         index: usize,
-        wanted: &[u8],
+        wanted: Wanted<'_>,
         operand: &Operand,
     ) -> Result<(), AllocError> {
-        match operand {
-            Operand::Fields(fields) => {
-                let start = self.value(DOT);
-                self.look_at(index, wanted, start, fields.as_slice())
-            }
-            Operand::Variable { name, fields } => {
-                let start = self.value(name.as_slice());
-                self.look_at(index, wanted, start, fields.as_slice())
-            }
+        let (start, fields) = match operand {
+            Operand::Fields(fields) => (self.value(DOT), fields),
+            Operand::Variable { name, fields } => (self.value(name.as_slice()), fields),
             Operand::Group { commands, fields } => {
                 self.look_into(levels, index, wanted, commands.as_slice())?;
-                let start = self.pipeline(levels, commands.as_slice());
-                self.look_at(index, wanted, start, fields.as_slice())
+                (self.pipeline(levels, commands.as_slice()), fields)
             }
-            _ => Ok(()),
-        }
+            _ => return Ok(()),
+        };
+        self.look_at(index, wanted, start, fields.as_slice())
     }
 
     /// Looks for what the doubts speak of in the pipeline of an action of this line, which may be that of a range.
@@ -275,7 +362,7 @@ impl<'w> Walk<'w> {
                         self.ask(index, found)?;
                     }
                     cause => {
-                        if let Some(wanted) = field_in(cause) {
+                        if let Some(wanted) = Wanted::of(cause) {
                             self.look_into(LEVELS, index, wanted, commands)?;
                         }
                     }
@@ -498,7 +585,7 @@ pub(crate) fn asked_of<'w>(
     let mut dots: Vec<Source<'w>> = Vec::new(alloc);
     dots.push(Source {
         name,
-        origin: if_told(Origin::at(alloc, ""))?,
+        origin: if_told(Origin::whole(alloc))?,
     })?;
     let mut asked: Vec<Asked> = Vec::new(alloc);
     for rounds in 0..MOST_ROUNDS {

@@ -1,13 +1,10 @@
 //! Where in a document values come from: at which places a schema stands that they conform to.
 
-use crate::fault::SchemaFault;
-use crate::fields::{has_content, is_required};
-use crate::kinds::{Kinds, every_kind, is_every_kind, kinds_in, no_kind};
-use crate::read::{choices_in, chosen_by};
-use crate::reference::fragment_of;
+use crate::keywords::{alternatives_in, has_content, requires_key};
+use crate::kind::{Kind, lets_each_kind, lets_no_map};
+use percent_encoding::{DecodeError, percent_decode};
 use serde_json::Value;
 use std::alloc::{AllocError, AllocFailed, Global};
-use std::str::from_utf8;
 
 /// The most places that are followed at once.
 const MOST_PLACES: usize = 64;
@@ -50,6 +47,8 @@ pub(crate) struct Origin {
     pub(crate) places: Vec<String>,
     /// Whether it is no field that may be absent, nor a field of such a one.
     pub(crate) is_there: bool,
+    /// Whether it is no part of a list.
+    pub(crate) is_whole: bool,
 }
 
 impl Origin {
@@ -58,13 +57,14 @@ impl Origin {
         Origin {
             places: Vec::new(alloc),
             is_there: true,
+            is_whole: true,
         }
     }
 
-    /// That of what conforms to the schema at this place.
-    pub(crate) fn at(alloc: Global, place: &str) -> Result<Origin, Lost> {
+    /// That of the whole document.
+    pub(crate) fn whole(alloc: Global) -> Result<Origin, Lost> {
         let mut origin = Origin::new(alloc);
-        origin.add(alloc, place)?;
+        origin.add(String::new(alloc))?;
         Ok(origin)
     }
 
@@ -73,6 +73,7 @@ impl Origin {
         Ok(Origin {
             places: self.places.clone()?,
             is_there: self.is_there,
+            is_whole: self.is_whole,
         })
     }
 
@@ -82,22 +83,27 @@ impl Origin {
     }
 
     /// Adds a place.
-    pub(crate) fn add(&mut self, alloc: Global, place: &str) -> Result<(), Lost> {
-        if self.has(place) {
+    fn add(&mut self, place: String) -> Result<(), Lost> {
+        if self.has(place.as_str()) {
             return Ok(());
         }
         if self.places.len() >= MOST_PLACES {
             return Err(Lost::Untold);
         }
-        self.places.push(String::from_str(alloc, place)?)?;
-        Ok(())
+        Ok(self.places.push(place)?)
+    }
+
+    /// Adds the place of a part of what is at a place.
+    fn add_below(&mut self, alloc: Global, place: &str, part: &str) -> Result<(), Lost> {
+        self.add(below(alloc, place, part)?)
     }
 
     /// Adds those of another.
-    pub(crate) fn add_all(&mut self, alloc: Global, other: &Origin) -> Result<(), Lost> {
+    pub(crate) fn add_all(&mut self, other: &Origin) -> Result<(), Lost> {
         self.is_there = self.is_there && other.is_there;
+        self.is_whole = self.is_whole && other.is_whole;
         for place in other.places.as_slice() {
-            self.add(alloc, place.as_str())?;
+            self.add(place.clone()?)?;
         }
         Ok(())
     }
@@ -109,10 +115,10 @@ pub(crate) fn below(alloc: Global, place: &str, part: &str) -> Result<String, Al
     pointer.push('/')?;
     for letter in part.chars() {
         match letter {
-            '~' => pointer.push_str("~0")?,
-            '/' => pointer.push_str("~1")?,
-            _ => pointer.push(letter)?,
-        }
+            '~' => pointer.push_str("~0"),
+            '/' => pointer.push_str("~1"),
+            _ => pointer.push(letter),
+        }?;
     }
     Ok(pointer)
 }
@@ -126,29 +132,14 @@ impl<'d> Document<'d> {
         }
     }
 
-    /// The kinds that the schema at a place lets through by itself.
-    pub(crate) fn kinds_at(&self, place: &str) -> Result<Kinds, Lost> {
-        match self.schema_at(place)? {
-            Value::Bool(true) => Ok(every_kind()),
-            Value::Bool(false) => Ok(no_kind()),
-            schema => match kinds_in(self.alloc, schema) {
-                Ok(kinds) => Ok(kinds),
-                Err(SchemaFault::OutOfMemory) => Err(Lost::OutOfMemory),
-                Err(_) => Err(Lost::Untold),
-            },
-        }
-    }
-
     /// The place that a `$ref` points to.
     fn referred(&self, reference: &Value) -> Result<String, Lost> {
-        let Value::String(text) = reference else {
+        let Some(fragment) = reference.as_str().and_then(|text| text.strip_prefix('#')) else {
             return Err(Lost::Untold);
         };
-        let Some(pointer) = fragment_of(self.alloc, text.as_str())? else {
-            return Err(Lost::Untold);
-        };
-        match from_utf8(pointer.as_slice()) {
-            Ok(place) => Ok(String::from_str(self.alloc, place)?),
+        match percent_decode(fragment.as_bytes()).decode_utf8(self.alloc) {
+            Ok(place) => Ok(place.into_owned(self.alloc)?),
+            Err(DecodeError::OutOfMemory) => Err(Lost::OutOfMemory),
             Err(_) => Err(Lost::Untold),
         }
     }
@@ -164,17 +155,16 @@ impl<'d> Document<'d> {
             let referred = self.referred(reference)?;
             return self.add_plain(fewer, referred.as_str(), plain);
         }
-        let Some(choices) = choices_in(schema) else {
-            return plain.add(self.alloc, place);
+        let Some(keyword) = alternatives_in(schema) else {
+            return plain.add(String::from_str(self.alloc, place)?);
         };
-        if !is_every_kind(self.kinds_at(place)?) {
+        if !lets_each_kind(schema) {
             return Err(Lost::Untold);
         }
-        let list = below(self.alloc, place, chosen_by(schema))?;
-        let count = choices.as_array().map_or(0, |choices| choices.len());
-        for index in 0..count {
-            let choice = format!(in self.alloc; "{list}/{index}")?;
-            self.add_plain(fewer, choice.as_str(), plain)?;
+        let alternatives = schema.get(keyword).and_then(Value::as_array);
+        for index in 0..alternatives.map_or(0, |alternatives| alternatives.len()) {
+            let alternative = format!(in self.alloc; "{place}/{keyword}/{index}")?;
+            self.add_plain(fewer, alternative.as_str(), plain)?;
         }
         Ok(())
     }
@@ -183,42 +173,64 @@ impl<'d> Document<'d> {
     pub(crate) fn plain(&self, origin: &Origin) -> Result<Origin, Lost> {
         let mut plain = Origin::new(self.alloc);
         plain.is_there = origin.is_there;
+        plain.is_whole = origin.is_whole;
         for place in origin.places.as_slice() {
             self.add_plain(LEVELS, place.as_str(), &mut plain)?;
         }
         Ok(plain)
     }
 
-    /// Whether a map of the schema at a place always has this key.
-    pub(crate) fn has_always(&self, schema: &Value, key: &str) -> bool {
-        is_required(key.as_bytes(), schema.get("required"))
+    /// Adds the place of what stands under a keyword of the schema at a place.
+    fn add_under(&self, place: &str, keyword: &str, origin: &mut Origin) -> Result<(), Lost> {
+        match self.schema_at(place)?.get(keyword) {
+            Some(Value::Bool(false)) => Ok(()),
+            Some(_) => origin.add_below(self.alloc, place, keyword),
+            None => Err(Lost::Untold),
+        }
+    }
+
+    /// Adds the place of the property of this name of the schema at a place.
+    fn add_property(&self, place: &str, name: &str, origin: &mut Origin) -> Result<(), Lost> {
+        let properties = below(self.alloc, place, "properties")?;
+        origin.add_below(self.alloc, properties.as_str(), name)
     }
 
     /// Adds where the field of this name of a map comes from that conforms to the schema at a plain place.
     fn add_field(&self, place: &str, name: &str, field: &mut Origin) -> Result<(), Lost> {
         let schema = self.schema_at(place)?;
-        let properties = schema.get("properties");
-        if !self.has_always(schema, name) {
+        if !requires_key(schema, name) {
             field.is_there = false;
         }
-        if properties.is_some_and(|properties| properties.get(name).is_some()) {
-            let list = below(self.alloc, place, "properties")?;
-            let property = below(self.alloc, list.as_str(), name)?;
-            return field.add(self.alloc, property.as_str());
+        match schema
+            .get("properties")
+            .and_then(|properties| properties.get(name))
+        {
+            Some(_) => self.add_property(place, name, field),
+            None => self.add_under(place, "additionalProperties", field),
         }
-        self.add_rest(schema, place, field)
     }
 
-    /// Adds where fields come from that are no properties.
-    fn add_rest(&self, schema: &Value, place: &str, rest: &mut Origin) -> Result<(), Lost> {
-        match schema.get("additionalProperties") {
-            Some(Value::Bool(false)) => Ok(()),
-            Some(_) => {
-                let others = below(self.alloc, place, "additionalProperties")?;
-                rest.add(self.alloc, others.as_str())
+    /// Adds where the entries of a map come from that conforms to the schema at a plain place.
+    fn add_entries(&self, place: &str, entries: &mut Origin) -> Result<(), Lost> {
+        self.add_under(place, "additionalProperties", entries)?;
+        if let Some(Value::Object(properties)) = self.schema_at(place)?.get("properties") {
+            for name in properties.keys() {
+                self.add_property(place, name.as_str(), entries)?;
             }
-            None => Err(Lost::Untold),
         }
+        Ok(())
+    }
+
+    /// Adds where the elements of lists and maps come from that conform to the schema at a plain place.
+    fn add_elements(&self, place: &str, elements: &mut Origin) -> Result<(), Lost> {
+        let schema = self.schema_at(place)?;
+        if Kind::List.is_let_by(schema) {
+            self.add_under(place, "items", elements)?;
+        }
+        if Kind::Map.is_let_by(schema) {
+            self.add_entries(place, elements)?;
+        }
+        Ok(())
     }
 
     /// Where the field of this name of such values comes from.
@@ -227,11 +239,11 @@ impl<'d> Document<'d> {
         let mut field = Origin::new(self.alloc);
         field.is_there = plain.is_there;
         for place in plain.places.as_slice() {
-            let kinds = self.kinds_at(place.as_str())?;
-            if kinds.map {
+            let schema = self.schema_at(place.as_str())?;
+            if Kind::Map.is_let_by(schema) {
                 self.add_field(place.as_str(), name, &mut field)?;
             }
-            if kinds.null || (kinds.truth || (kinds.number || (kinds.text || kinds.list))) {
+            if lets_no_map(schema) {
                 field.is_there = false;
             }
         }
@@ -243,37 +255,13 @@ impl<'d> Document<'d> {
         let plain = self.plain(origin)?;
         let mut elements = Origin::new(self.alloc);
         for place in plain.places.as_slice() {
-            let kinds = self.kinds_at(place.as_str())?;
-            if kinds.list {
-                let items = below(self.alloc, place.as_str(), "items")?;
-                self.schema_at(items.as_str())?;
-                elements.add(self.alloc, items.as_str())?;
-            }
-            if kinds.map {
-                self.add_entries(place.as_str(), &mut elements)?;
-            }
+            self.add_elements(place.as_str(), &mut elements)?;
         }
         Ok(elements)
     }
+}
 
-    /// Adds where the entries of maps come from that conform to the schema at a plain place.
-    fn add_entries(&self, place: &str, entries: &mut Origin) -> Result<(), Lost> {
-        let schema = self.schema_at(place)?;
-        self.add_rest(schema, place, entries)?;
-        let Some(Value::Object(properties)) = schema.get("properties") else {
-            return Ok(());
-        };
-        let list = below(self.alloc, place, "properties")?;
-        for name in properties.keys() {
-            let property = below(self.alloc, list.as_str(), name.as_str())?;
-            entries.add(self.alloc, property.as_str())?;
-        }
-        Ok(())
-    }
-
-    /// Whether each value conforms to the schema at a plain place, as far as kinds, fields and items go.
-    pub(crate) fn lets_all(&self, place: &str) -> Result<bool, Lost> {
-        let schema = self.schema_at(place)?;
-        Ok(!has_content(schema) && is_every_kind(self.kinds_at(place)?))
-    }
+/// Whether each value conforms to a schema without alternatives, as far as kinds, fields and items go.
+pub(crate) fn lets_all(schema: &Value) -> bool {
+    !has_content(schema) && lets_each_kind(schema)
 }

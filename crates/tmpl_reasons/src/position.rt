@@ -64,11 +64,13 @@ fn without_escapes(alloc: Global, part: &str) -> Result<String, AllocError> {
     let mut text = String::new(alloc);
     let mut is_escaped = false;
     for letter in part.chars() {
-        match letter {
-            '0' if is_escaped => text.push('~')?,
-            '1' if is_escaped => text.push('/')?,
-            '~' => {}
-            _ => text.push(letter)?,
+        let meant = match letter {
+            '0' if is_escaped => '~',
+            '1' if is_escaped => '/',
+            _ => letter,
+        };
+        if letter != '~' {
+            text.push(meant)?;
         }
         is_escaped = letter == '~';
     }

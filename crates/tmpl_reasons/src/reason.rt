@@ -1,6 +1,8 @@
 //! Where a document lets through what may be a fault of a template.
 
-use crate::origin::{Document, Lost, Origin, below};
+use crate::keywords::{least_items, requires_key};
+use crate::kind::Kind;
+use crate::origin::{Document, Lost, Origin, below, lets_all};
 use crate::position::line_of;
 use crate::walk::asked_of;
 use serde_json::Value;
@@ -21,6 +23,10 @@ pub enum Why {
     NoneListed,
     /// This lets values of that kind through.
     Kind,
+    /// This `minItems` is too small.
+    LowMinItems,
+    /// This schema of lists has no `minItems`.
+    NoMinItems,
 }
 
 /// What in a document lets a value through for which a template may fail.
@@ -98,28 +104,41 @@ fn reason_at(
             Err(_) => Err(Lost::Untold),
         },
         Cause::NoFields(_, kind) | Cause::Range(kind) => why_kind(document, place, is_there, *kind),
+        Cause::FewItems(_, count) => why_few(document, place, *count),
         _ => Err(Lost::Untold),
     }
 }
 
 /// Why a map of the schema at a plain place may have no such field.
 fn why_absent(document: Document<'_>, place: &str, name: &str) -> Result<Option<Reason>, Lost> {
-    let alloc = document.alloc;
     let schema = document.schema_at(place)?;
-    if !document.kinds_at(place)?.map || document.has_always(schema, name) {
+    if !Kind::Map.is_let_by(schema) || requires_key(schema, name) {
         return Ok(None);
     }
-    let (why, place) = match schema.get("properties") {
+    match schema.get("properties") {
         Some(properties) if properties.get(name).is_none() => {
-            (Why::NotListed, below(alloc, place, "properties")?)
+            reason_under(document, Why::NotListed, place, "properties")
         }
         Some(_) if schema.get("required").is_some() => {
-            (Why::NotRequired, below(alloc, place, "required")?)
+            reason_under(document, Why::NotRequired, place, "required")
         }
-        Some(_) => (Why::NoneRequired, String::from_str(alloc, place)?),
-        None => (Why::NoneListed, String::from_str(alloc, place)?),
+        Some(_) => reason_by(document, Why::NoneRequired, place),
+        None => reason_by(document, Why::NoneListed, place),
+    }
+}
+
+/// Whether a schema without alternatives lets values of the kind of this word through; none where that is not told.
+fn lets_kind(schema: &Value, word: &str) -> Option<bool> {
+    let kind = match word {
+        "any value" => return Some(lets_all(schema)),
+        "null" => Kind::Null,
+        "a truth value" => Kind::Truth,
+        "a number" => Kind::Number,
+        "a text" => Kind::Text,
+        "a list" => Kind::List,
+        _ => return None,
     };
-    reason_by(document, why, place.as_str())
+    Some(kind.is_let_by(schema))
 }
 
 /// Why a value of the schema at a plain place may be of the kind of this word.
@@ -127,29 +146,53 @@ fn why_kind(
     document: Document<'_>,
     place: &str,
     is_there: bool,
-    kind: &str,
+    word: &str,
 ) -> Result<Option<Reason>, Lost> {
-    let kinds = document.kinds_at(place)?;
-    let lets = match kind {
-        "null" if is_there => kinds.null,
-        "a truth value" => kinds.truth,
-        "a number" => kinds.number,
-        "a text" => kinds.text,
-        "a list" => kinds.list,
-        "any value" => document.lets_all(place)?,
-        _ => return Err(Lost::Untold),
-    };
-    if !lets {
-        return Ok(None);
-    }
     let schema = document.schema_at(place)?;
+    match lets_kind(schema, word) {
+        Some(_) if word == "null" && !is_there => Err(Lost::Untold),
+        Some(true) => reason_of_kind(document, schema, place),
+        Some(false) => Ok(None),
+        None => Err(Lost::Untold),
+    }
+}
+
+/// What lets a kind of values through at the place of this schema.
+fn reason_of_kind(
+    document: Document<'_>,
+    schema: &Value,
+    place: &str,
+) -> Result<Option<Reason>, Lost> {
     for keyword in ["type", "enum", "const"] {
         if schema.get(keyword).is_some() {
-            let place = below(document.alloc, place, keyword)?;
-            return reason_by(document, Why::Kind, place.as_str());
+            return reason_under(document, Why::Kind, place, keyword);
         }
     }
     reason_by(document, Why::Kind, place)
+}
+
+/// Why a list of the schema at a plain place may have fewer items than this.
+fn why_few(document: Document<'_>, place: &str, count: u64) -> Result<Option<Reason>, Lost> {
+    let schema = document.schema_at(place)?;
+    if !Kind::List.is_let_by(schema) {
+        return Ok(None);
+    }
+    match least_items(schema) {
+        Some(least) if least >= count => Ok(None),
+        Some(_) => reason_under(document, Why::LowMinItems, place, "minItems"),
+        None => reason_by(document, Why::NoMinItems, place),
+    }
+}
+
+/// The reason at a keyword of the schema at a place.
+fn reason_under(
+    document: Document<'_>,
+    why: Why,
+    place: &str,
+    keyword: &str,
+) -> Result<Option<Reason>, Lost> {
+    let place = below(document.alloc, place, keyword)?;
+    reason_by(document, why, place.as_str())
 }
 
 /// The reason at a place, where its line is seen.

@@ -1,0 +1,12 @@
+//! Where in a JSON Schema the reason for a doubt about a template stands, and where the parts of a JSON text stand.
+#![tactic(auto)]
+
+mod keywords;
+mod kind;
+mod origin;
+mod position;
+mod reason;
+mod walk;
+
+pub use position::position_of;
+pub use reason::{Reason, Why, reasons_of};
