@@ -59,8 +59,9 @@ DATA = [
     )
 ]
 NOTE = re.compile(r"(t:[0-9]+:[0-9]+): note: fails (?:with --missingkey ([a-z]+) )?for (.*)")
-ABSENT = re.compile(r'(t:[0-9]+:[0-9]+: error: may fail: \.)([a-z]+) (may be absent: )(?:not in|no) "(required|properties)" (?:of|at) s:([0-9]+)\n')
-KIND = re.compile(r"(t:[0-9]+:[0-9]+: error: may fail: .* (?:of|over) )(null|a truth value|a number|a text|a list)(, which may come here) \(s:([0-9]+)\).*\n")
+ABSENT = re.compile(r'(t:[0-9]+:[0-9]+: error: may fail: \.)([a-z]+) (may be absent: )(?:not in|no) "(required|properties)" (?:of|at) s:(?P<line>[0-9]+)\n')
+KIND = re.compile(r"(t:[0-9]+:[0-9]+: error: may fail: .* (?:of|over) )(null|a truth value|a number|a text|a list)(, which may come here) \(s:(?P<line>[0-9]+)\).*\n")
+FEW = re.compile(r'(t:[0-9]+:[0-9]+: error: may fail: "([a-z]+)" may get a list of too few items: )(?:no )?"minItems" at s:(?P<line>[0-9]+)[; ].*("minItems": ([0-9]+)\n)')
 TYPES = {"null": ["null"], "a truth value": ["boolean"], "a number": ["integer", "number"], "a text": ["string"], "a list": ["array"]}
 STOPPED = b': no template "stop"\n'
 # a template that never fails, and the modes by which it is accepted
@@ -220,6 +221,10 @@ def cookbook_results(folder):
         yield f"cookbook: {template}", 1, [] if good else [f"    {came}, and not {said}"]
 
 
+def read_schema(schema):
+    return json.loads(schema) if isinstance(schema, str) else schema
+
+
 def row_results():
     """The rows over a JSON Schema."""
     with tempfile.TemporaryDirectory(dir=harness.MEMORY) as folder:
@@ -230,13 +235,12 @@ def row_results():
             status, lines = said_of(folder, schema, template, words)
             came = status, "".join(line for line in lines if not NOTE.match(line))
             yield f"refused: {title}", 1, [] if came == (1, f"t:{line}\n") else [f"    {came}, and not {line}"]
-            yield f"value for: {title}", 1, list(note_faults(folder, schema, words, lines))
+            yield f"value for: {title}", 1, list(note_faults(folder, read_schema(schema), words, lines))
         for title, schema, template, words, wanted in schema_rows.SHOWN:
             status, lines = said_of(folder, schema, template, words)
             good = (status, lines) == (1, [f"t:{line}\n" for line in wanted])
             yield f"shown: {title}", 1, [] if good else [f"    {status} {lines}, and not {wanted}"]
-            read = json.loads(schema) if isinstance(schema, str) else schema
-            yield f"value for: {title}", 1, list(note_faults(folder, read, words, lines))
+            yield f"value for: {title}", 1, list(note_faults(folder, read_schema(schema), words, lines))
         yield from inferred_rows(folder)
         for title, schema, template, words, lines in schema_rows.SEVERAL:
             came = checked(folder, schema, template, words)
@@ -340,12 +344,22 @@ def mended(schema, line, found):
         it.setdefault("properties", {}).setdefault(name, True)
         it["required"] = [*it.get("required", []), name]
         return mended
+    if found.re is FEW:
+        at(mended, path[:-1] if path and path[-1] == "minItems" else path)["minItems"] = int(found[5])
+        return mended
     it = at(mended, path[:-1]) if path and path[-1] in ("type", "enum", "const") else at(mended, path)
     if it is True:
         return None
     types = it.get("type", ["null", "boolean", "integer", "string", "array", "object"])
     it["type"] = [name for name in ([types] if isinstance(types, str) else types) if name not in TYPES[found[2]]]
     return mended
+
+
+def is_again(line, found):
+    """Whether a line says what another does, of which this was found, whatever it says of the schema."""
+    if found.re is FEW:
+        return line.startswith(found[1]) and line.endswith(found[4])
+    return line.startswith(found[0][: found.end(2)] + " " if found.re is ABSENT else found[0][: found.end(3)])
 
 
 def drawn_reasons(seed, count):
@@ -360,14 +374,15 @@ def drawn_reasons(seed, count):
             template = "\n".join(['{{define "w"}}{{print .}}{{end}}', *conforming.drawn_template(draw)])
             _, lines = said_of(folder, json.dumps(schema, indent=1), template, words)
             for line in lines:
-                found = ABSENT.fullmatch(line) or KIND.fullmatch(line)
-                other = mended(schema, int(found[found.lastindex]), found) if found else None
-                # an action that may fail is told by its first column, so of two in a line that ask for one name nothing is known
-                if other is None or found.re is ABSENT and template.split("\n")[int(line.split(":")[1]) - 1].count(f".{found[2]}") > 1:
+                found = ABSENT.fullmatch(line) or KIND.fullmatch(line) or FEW.fullmatch(line)
+                other = mended(schema, int(found["line"]), found) if found else None
+                # an action that may fail is told by its first column, so of two in a line that ask for one name, or call one function, nothing is known
+                name = found and {ABSENT: f".{found[2]}", FEW: found[2]}.get(found.re)
+                if other is None or name and template.split("\n")[int(line.split(":")[1]) - 1].count(name) > 1:
                     continue
                 tried += 1
                 _, after = said_of(folder, json.dumps(other, indent=1), template, words)
-                good = not any(it.startswith(line[: found.end(2)] + " " if found.re is ABSENT else line[: found.end(3)]) for it in after)
+                good = not any(is_again(it, found) for it in after)
                 yield f"reason of {number}", 1, [] if good else [f"    {line}    {json.dumps(schema)}\n    {template!r}\n    {json.dumps(other)}: {after}"]
     yield "reasons that were mended", 1, [] if tried > count / 4 else [f"    {tried} alone"]
 

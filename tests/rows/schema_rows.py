@@ -8,12 +8,19 @@ def of(properties, required=None, **more):
     return {**OBJECT, "properties": properties, "required": list(properties) if required is None else required, **more}
 
 
-def few(place, func, count):
-    """What is said of a list of fewer items than a function wants of it."""
-    guard = f'guard it by "if ge (len LIST) {count}", or write "minItems": {count}'
-    return f'{place}: error: may fail: "{func}" may get a list of too few items: {guard}'
+def few(place, func, count, where=None):
+    """What is said of a list of fewer items than a function wants of it, and where in the schema that is let through, if that is said."""
+    guard = '"if" or "with"' if count == 1 else f'"if ge (len LIST) {count}"'
+    why = f"{where}; " if where else ""
+    return f'{place}: error: may fail: "{func}" may get a list of too few items: {why}guard it by {guard}, or write "minItems": {count}'
 
 
+def low(count, line=1):
+    """That a schema tells of fewer items than this."""
+    return f'"minItems" at s:{line} is below {count}'
+
+
+NO_LEAST = 'no "minItems" at s:%d'
 TEXT, WHOLE, ITEMS = {"type": "string"}, {"type": "integer"}, {"type": "array", "items": {"type": "string"}}
 NODE = {"$defs": {"node": of({"name": TEXT, "kids": {"type": "array", "items": {"$ref": "#/$defs/node"}}})}}
 DEFAULT = ["--missingkey", "default"]
@@ -117,8 +124,35 @@ ACCEPTED = [
     ("printf of a recursive definition", {"$ref": "#/$defs/node", **NODE}, '{{printf "%v" .}}{{range .kids}}{{printf "%s%v" .name .}}{{end}}', []),
 ]
 
+LISTS = """{
+  "type": "object",
+  "required": ["rows", "names"],
+  "properties": {
+    "rows": {
+      "type": "array",
+      "minItems": 1,
+      "items": {
+        "type": "array",
+        "items": {"type": "string"}
+      }
+    },
+    "names": {
+      "type": "array",
+      "items": {"type": "string"}
+    },
+    "maybe": {"anyOf": [
+      {"type": "null"},
+      {"type": "array", "items": {"type": "string"}}
+    ]},
+    "more": {"$ref": "#/$defs/a%20list"}
+  },
+  "$defs": {
+    "a list": {"type": "array", "items": {"type": "string"},
+      "minItems": 3}
+  }
+}"""
 NULL = "1:%d: error: may fail: .b of null, which may come here (s:1) and has no fields"
-FIRST = '1:1: error: may fail: "index" may get a list of too few items: guard it by "if" or "with", or write "minItems": 1'
+FIRST = few("1:1", "index", 1, NO_LEAST % 1)
 INDEX, PRINTF = (f'1:1: error: may fail: "{name}" may get what it refuses' for name in ("index", "printf"))
 REFUSED = [
     ("optional field", of({"a": TEXT}, []), "x\n {{.a}}", [], "2:2: error: may fail: .a may be absent: not in \"required\" of s:1"),
@@ -140,16 +174,16 @@ REFUSED = [
     ("index of another key", of({"a": TEXT, "b": TEXT}, []), '{{if index . "a"}}{{.b}}{{end}}', [], "1:19: error: may fail: .b may be absent: not in \"required\" of s:1"),
     ("index of a field is not followed", of({"c": of({"a": TEXT}, [])}), '{{if index .c "a"}}{{.c.a}}{{end}}', [], "1:20: error: may fail: .a may be absent: not in \"required\" of s:1"),
     ("index by a number", of({"a": ITEMS}), "{{index .a 0}}", [], FIRST),
-    ("the item after the last that has to be there", of({"a": {**ITEMS, "minItems": 2}}), "{{index .a 1}}\n{{index .a 2}}", [], few("2:1", "index", 3)),
-    ("the second item of a list that is not empty", of({"a": ITEMS}), "{{if .a}}{{index .a 1}}{{end}}", [], few("1:10", "index", 2)),
+    ("the item after the last that has to be there", of({"a": {**ITEMS, "minItems": 2}}), "{{index .a 1}}\n{{index .a 2}}", [], few("2:1", "index", 3, low(3))),
+    ("the second item of a list that is not empty", of({"a": ITEMS}), "{{if .a}}{{index .a 1}}{{end}}", [], few("1:10", "index", 2, NO_LEAST % 1)),
     ("an item where the list is empty", of({"a": ITEMS}), "{{if .a}}{{else}}{{index .a 0}}{{end}}", [], FIRST.replace("1:1", "1:18")),
-    ("one item more than was asked for", of({"a": ITEMS}), "{{if ge (len .a) 1}}{{index .a 1}}{{end}}", [], few("1:21", "index", 2)),
-    ("one item more than a number", of({"a": ITEMS}), "{{if gt (len .a) 1}}{{index .a 2}}{{end}}", [], few("1:21", "index", 3)),
-    ("one item more than are just there", of({"a": ITEMS}), "{{if eq (len .a) 2}}{{index .a 2}}{{end}}", [], few("1:21", "index", 3)),
-    ("one item more than some", of({"a": ITEMS}), "{{if ne (len .a) 0}}{{index .a 1}}{{end}}", [], few("1:21", "index", 2)),
-    ("one item more than a length that is not zero", of({"a": ITEMS}), "{{if len .a}}{{index .a 1}}{{end}}", [], few("1:14", "index", 2)),
-    ("one item more, turned round", of({"a": ITEMS}), "{{if le 2 (len .a)}}{{index .a 2}}{{end}}", [], few("1:21", "index", 3)),
-    ("one item more than a length that is piped", of({"a": ITEMS}), "{{if len .a | lt 1}}{{index .a 2}}{{end}}", [], few("1:21", "index", 3)),
+    ("one item more than was asked for", of({"a": ITEMS}), "{{if ge (len .a) 1}}{{index .a 1}}{{end}}", [], few("1:21", "index", 2, NO_LEAST % 1)),
+    ("one item more than a number", of({"a": ITEMS}), "{{if gt (len .a) 1}}{{index .a 2}}{{end}}", [], few("1:21", "index", 3, NO_LEAST % 1)),
+    ("one item more than are just there", of({"a": ITEMS}), "{{if eq (len .a) 2}}{{index .a 2}}{{end}}", [], few("1:21", "index", 3, NO_LEAST % 1)),
+    ("one item more than some", of({"a": ITEMS}), "{{if ne (len .a) 0}}{{index .a 1}}{{end}}", [], few("1:21", "index", 2, NO_LEAST % 1)),
+    ("one item more than a length that is not zero", of({"a": ITEMS}), "{{if len .a}}{{index .a 1}}{{end}}", [], few("1:14", "index", 2, NO_LEAST % 1)),
+    ("one item more, turned round", of({"a": ITEMS}), "{{if le 2 (len .a)}}{{index .a 2}}{{end}}", [], few("1:21", "index", 3, NO_LEAST % 1)),
+    ("one item more than a length that is piped", of({"a": ITEMS}), "{{if len .a | lt 1}}{{index .a 2}}{{end}}", [], few("1:21", "index", 3, NO_LEAST % 1)),
     ("fewer items than a number", of({"a": ITEMS}), "{{if lt (len .a) 2}}{{index .a 0}}{{end}}", [], FIRST.replace("1:1", "1:21")),
     ("fewer items than a number, turned round", of({"a": ITEMS}), "{{if gt 2 (len .a)}}{{index .a 0}}{{end}}", [], FIRST.replace("1:1", "1:21")),
     ("fewer items than a length that is piped", of({"a": ITEMS}), "{{if len .a | gt 2}}{{index .a 0}}{{end}}", [], FIRST.replace("1:1", "1:21")),
@@ -160,10 +194,10 @@ REFUSED = [
     ("a length that is 0, by not", of({"a": ITEMS}), "{{if not (len .a)}}{{index .a 0}}{{end}}", [], FIRST.replace("1:1", "1:20")),
     ("a length below a number below zero", of({"a": ITEMS}), "{{if gt (len .a) -1}}{{index .a 0}}{{end}}", [], FIRST.replace("1:1", "1:22")),
     ("a length that is compared with one of the data", of({"a": ITEMS, "b": WHOLE}), "{{if gt (len .a) .b}}{{index .a 0}}{{end}}", [], FIRST.replace("1:1", "1:22")),
-    ("the length of another list", of({"a": ITEMS, "b": ITEMS}), "{{if gt (len .a) 1}}{{index .b 1}}{{end}}", [], few("1:21", "index", 2)),
-    ("either of two lengths", of({"a": ITEMS, "b": ITEMS}), "{{if or (gt (len .a) 1) (gt (len .b) 1)}}{{index .a 1}}{{end}}", [], few("1:42", "index", 2)),
-    ("not both of two lengths", of({"a": ITEMS, "b": ITEMS}), "{{if and (lt (len .a) 2) (lt (len .b) 2)}}{{else}}{{index .a 1}}{{end}}", [], few("1:51", "index", 2)),
-    ("a length after what it would guard", of({"a": ITEMS}), "{{if and (index .a 1) (gt (len .a) 1)}}{{end}}", [], few("1:1", "index", 2)),
+    ("the length of another list", of({"a": ITEMS, "b": ITEMS}), "{{if gt (len .a) 1}}{{index .b 1}}{{end}}", [], few("1:21", "index", 2, NO_LEAST % 1)),
+    ("either of two lengths", of({"a": ITEMS, "b": ITEMS}), "{{if or (gt (len .a) 1) (gt (len .b) 1)}}{{index .a 1}}{{end}}", [], few("1:42", "index", 2, NO_LEAST % 1)),
+    ("not both of two lengths", of({"a": ITEMS, "b": ITEMS}), "{{if and (lt (len .a) 2) (lt (len .b) 2)}}{{else}}{{index .a 1}}{{end}}", [], few("1:51", "index", 2, NO_LEAST % 1)),
+    ("a length after what it would guard", of({"a": ITEMS}), "{{if and (index .a 1) (gt (len .a) 1)}}{{end}}", [], few("1:1", "index", 2, NO_LEAST % 1)),
     ("the length of a text that may be a list", of({"a": {"type": ["array", "string"], "items": TEXT}}), "{{if ge (len .a) 2}}{{index .a 1}}{{end}}", [], INDEX.replace("1:1", "1:21")),
     ("a variable of another path", of({"a": MAYBE, "c": MAYBE}), "{{$x := .c}}{{if $x}}{{.a.b}}{{end}}", [], NULL % 22),
     ("a variable that is assigned another path", of({"a": MAYBE, "c": MAYBE}), "{{$x := .a}}{{$x = .c}}{{if $x}}{{.a.b}}{{end}}", [], NULL % 33),
@@ -177,20 +211,31 @@ REFUSED = [
     ("a list that is not nil", of({"a": ITEMS}), "{{if ne .a nil}}{{index .a 0}}{{end}}", [], FIRST.replace("1:1", "1:17")),
     ("another list that is not empty", of({"a": ITEMS, "b": ITEMS}), "{{if .a}}{{index .b 0}}{{end}}", [], FIRST.replace("1:1", "1:10")),
     ("either of two lists", of({"a": ITEMS, "b": ITEMS}), "{{if or .a .b}}{{index .a 0}}{{end}}", [], FIRST.replace("1:1", "1:16")),
-    ("the shorter of two lists", of({"a": {"anyOf": [{**ITEMS, "minItems": 3}, {**ITEMS, "minItems": 1}]}}), "{{index .a 1}}", [], few("1:1", "index", 2)),
-    ("a list that a template may be handed", of({"a": {**ITEMS, "minItems": 2}, "b": {**ITEMS, "minItems": 1}}), '{{define "w"}}{{index . 1}}{{end}}{{template "w" .a}}{{template "w" .b}}', [], few("1:15", "index", 2)),
+    ("the shorter of two lists", of({"a": {"anyOf": [{**ITEMS, "minItems": 3}, {**ITEMS, "minItems": 1}]}}), "{{index .a 1}}", [], few("1:1", "index", 2, low(2))),
+    ("a list that a template may be handed", of({"a": {**ITEMS, "minItems": 2}, "b": {**ITEMS, "minItems": 1}}), '{{define "w"}}{{index . 1}}{{end}}{{template "w" .a}}{{template "w" .b}}', [], few("1:15", "index", 2, low(2))),
     ("the most that a list has says nothing", of({"a": {**ITEMS, "maxItems": 2}}), "{{index .a 0}}", [], FIRST),
     ("a list that an item may be", of({"a": {"type": "array", "minItems": 1, "items": ITEMS}}), "{{index .a 0 0}}", [], FIRST),
     ("an item of a list that may be null", of({"a": {**ITEMS, "type": ["array", "null"], "minItems": 1}}), "{{index .a 0}}", [], INDEX),
     ("a number below zero", of({"a": {**ITEMS, "minItems": 1}}), "{{index .a -1}}", [], INDEX),
     ("a number of the data", of({"a": {**ITEMS, "minItems": 1}, "b": WHOLE}), "{{index .a .b}}", [], INDEX),
     ("a byte of a text", of({"a": {**TEXT, "minLength": 3}}), "{{index .a 0}}", [], INDEX),
-    ("a part past the end", of({"a": {**ITEMS, "minItems": 2}}), "{{slice .a 2}}\n{{slice .a 1 3}}", [], few("2:1", "slice", 3)),
+    ("a part past the end", of({"a": {**ITEMS, "minItems": 2}}), "{{slice .a 2}}\n{{slice .a 1 3}}", [], few("2:1", "slice", 3, low(3))),
     ("a part from past the end", of({"a": ITEMS}), "{{slice .a 1}}", [], FIRST.replace("index", "slice")),
     ("a part that is turned round", of({"a": {**ITEMS, "minItems": 3}}), "{{slice .a 2 1}}", [], '1:1: error: may fail: "slice" may get what it refuses'),
     ("a part by a bound of the data", of({"a": {**ITEMS, "minItems": 3}, "b": WHOLE}), "{{slice .a .b}}", [], '1:1: error: may fail: "slice" is not followed by this check'),
     ("a part of a map", of({"a": of({})}), "{{slice .a}}", [], '1:1: error: may fail: "slice" may get what it refuses'),
     ("what is left of a part", of({"a": {**ITEMS, "minItems": 3}}), "{{index (slice .a 2) 1}}", [], few("1:1", "index", 2)),
+    ("a part of a variable", LISTS, "{{$x := slice .rows 1}}{{index $x 0}}", [], few("1:24", "index", 1)),
+    ("items of a list that says how many", LISTS, "x\n{{index .rows 1 0}}", [], few("2:1", "index", 2, low(2, 7))),
+    ("items of a list in a list", LISTS, "{{index .rows 0 1}}", [], few("1:1", "index", 2, NO_LEAST % 8)),
+    ("items of a list in a range", LISTS, "{{range .rows}}{{index . 0}}{{end}}", [], few("1:16", "index", 1, NO_LEAST % 8)),
+    ("items of a list that a variable holds", LISTS, "{{$x := .names}}{{slice $x 2}}", [], few("1:17", "slice", 2, NO_LEAST % 13)),
+    ("items of a list of a key", LISTS, '{{index . "names" 0}}', [], few("1:1", "index", 1, NO_LEAST % 13)),
+    ("items of a list in parentheses", LISTS, "{{len (index (index .rows 0) 2)}}", [], few("1:1", "index", 3, NO_LEAST % 8)),
+    ("items of a list by a reference", LISTS, "{{with .more}}{{index . 3}}{{end}}", DEFAULT, few("1:15", "index", 4, low(4, 25))),
+    ("items of a list or null", LISTS, "{{with .maybe}}{{slice . 0 2}}{{end}}", DEFAULT, few("1:16", "slice", 2, NO_LEAST % 19)),
+    ("items of lists of two places", LISTS, '{{define "w"}}{{index . 0}}{{end}}{{template "w" .names}}{{range .rows}}{{template "w" .}}{{end}}', [], few("1:15", "index", 1)),
+    ("items of two lists in a line", LISTS, "{{index .names 0}}{{index .rows 0 0}}", [], few("1:1", "index", 1)),
     ("index of a list by a text", of({"a": ITEMS}), '{{index .a "0"}}', [], INDEX),
     ("index of a map by a number", of({"a": of({"b": TEXT})}), "{{index .a 0}}", [], INDEX),
     ("index of null", of({"a": {"type": ["object", "null"]}}), '{{index .a "b"}}', [], INDEX),
@@ -305,7 +350,7 @@ SHOWN = [
     ("an alternative", of({"a": {"anyOf": [{"type": "null"}, TEXT]}}), "{{range .a}}{{end}}", [],
      ["1:1: error: may fail: a range over a text, which may come here (s:1)", '1:1: note: fails for {"a":"a"}: can\'t range over this value']),
     ("an empty list", of({"a": ITEMS}), "{{index .a 0}}", [], [FIRST, '1:1: note: fails for {"a":[]}: index: out of range']),
-    ("a list that is not empty", of({"a": {**ITEMS, "minItems": 2}}), "{{index .a 2}}", [], [few("1:1", "index", 3), '1:1: note: fails for {"a":["a","a"]}: index: out of range']),
+    ("a list that is not empty", of({"a": {**ITEMS, "minItems": 2}}), "{{index .a 2}}", [], [few("1:1", "index", 3, low(3)), '1:1: note: fails for {"a":["a","a"]}: index: out of range']),
     ("an empty text", of({"a": TEXT}), "{{slice .a 1}}", [],
      ['1:1: error: may fail: "slice" is not followed by this check', '1:1: note: fails for {"a":""}: slice: out of range']),
     ("a length", of({"a": {"type": "string", "minLength": 3}}), "{{slice .a 4}}", [],

@@ -7,9 +7,8 @@ use crate::source::{Question, Source, Sources};
 use std::alloc::{AllocError, Global};
 use std::str::from_utf8;
 use tmpl_funcs::Func;
-use tmpl_json_schema::{
-    CheckFault, Reason, Refused, SchemaFault, Why, check_document, position_of, reasons_of,
-};
+use tmpl_json_schema::{CheckFault, Refused, SchemaFault, check_document};
+use tmpl_reasons::{Reason, Why, position_of, reasons_of};
 use tmpl_samples::{Failure, failures_of};
 use tmpl_schema::{Cause, Doubt, Refusal};
 use tmpl_syntax::{Set, base_name};
@@ -181,6 +180,7 @@ fn cause_text(
         Cause::Arguments(func) => push_func(&mut text, *func, " may get what it refuses")?,
         Cause::FewItems(func, count) => {
             push_func(&mut text, *func, " may get a list of too few items: ")?;
+            push_shortness(&mut text, *count, schema, reason)?;
             push_guard(&mut text, *count)?;
         }
         Cause::NotFollowed(func) => push_func(&mut text, *func, " is not followed by this check")?,
@@ -213,7 +213,31 @@ fn push_absence(
         Why::NotListed => write!(text, "not in \"properties\" of {schema}:{line}"),
         Why::NoneRequired => write!(text, "no \"required\" at {schema}:{line}"),
         Why::NoneListed => write!(text, "no \"properties\" at {schema}:{line}"),
-        Why::Kind => Ok(()),
+        Why::Kind | Why::LowMinItems | Why::NoMinItems => Ok(()),
+    }
+}
+
+/// Adds why a list may have fewer items than this, where that is told.
+fn push_shortness(
+    text: &mut String,
+    count: u64,
+    schema: &str,
+    reason: Option<&Reason>,
+) -> Result<(), AllocError> {
+    match reason {
+        Some(
+            Reason {
+                why: Why::LowMinItems,
+                line,
+            },
+        ) => { write!(text, "\"minItems\" at {schema}:{line} is below {count}; ") }
+        Some(
+            Reason {
+                why: Why::NoMinItems,
+                line,
+            },
+        ) => { write!(text, "no \"minItems\" at {schema}:{line}; ") }
+        _ => Ok(()),
     }
 }
 
