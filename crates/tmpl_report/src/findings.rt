@@ -4,12 +4,13 @@ use crate::entry::{Entry, Level};
 use crate::rule::{
     KEY_GIVEN_TWICE, NEVER_CALLED, NO_SUCH_TEMPLATE, Rule, SUSPICIOUS, data_rule_of, rule_of,
 };
-use crate::schema::add_schema;
+use crate::schema::{add_schema, say_name};
 use crate::source::{Question, Source, Sources};
 use crate::{json, sarif, text};
 use indexmap::IndexSet;
 use std::alloc::{AllocError, Global};
 use tmpl_data_problems::{DataProblem, DataReason, DataReport, check_data};
+use tmpl_hints::Sentence;
 use tmpl_problems::{
     Named, Problem, Problems, Survey, check_file, problem_text, reason_text, survey_file,
 };
@@ -252,15 +253,8 @@ fn problem_entry<'a>(
 
 /// What is said of a template of this name.
 fn about(alloc: Global, before: &str, name: &[u8], after: &str) -> Result<String, AllocError> {
-    let mut text = String::from_str(alloc, before)?;
-    text.push('"')?;
-    match std::str::from_utf8(name) {
-        Ok(name) => text.push_str(name)?,
-        Err(_) => text.push_str("?")?,
-    }
-    text.push('"')?;
-    text.push_str(after)?;
-    Ok(text)
+    let said = Sentence::new(alloc).say(before).say("\"");
+    say_name(said, name).say("\"").say(after).finish()
 }
 
 /// What is found in template files, in the order of the files, and then in data: errors, and what is suspicious. Where all

@@ -4,40 +4,48 @@ use crate::entry::Entry;
 use crate::findings::Findings;
 use serde_json::Value;
 use std::alloc::{AllocError, Global};
+use tmpl_hints::Sentence;
 
 /// An object with a list of what is found.
 pub(crate) fn document(alloc: Global, findings: &Findings<'_>) -> Result<String, AllocError> {
-    let mut out = String::from_str(alloc, "{\"problems\":[")?;
+    let mut said = Sentence::new(alloc).say("{\"problems\":[");
     for (index, entry) in findings.entries.as_slice().iter().enumerate() {
-        out.push_str(if index == 0 { "\n" } else { ",\n" })?;
-        push_entry(alloc, &mut out, entry)?;
+        said = say_entry(alloc, said.say(line_before(index)), entry)?;
     }
-    out.push_str("\n]}\n")?;
-    Ok(out)
+    said.say("\n]}\n").finish()
 }
 
-/// Adds what is found as an object.
-fn push_entry(alloc: Global, out: &mut String, entry: &Entry<'_>) -> Result<(), AllocError> {
-    out.push_str("{\"file\":")?;
-    push_quoted(alloc, out, entry.file)?;
-    let line = entry.line;
-    let column = entry.column;
-    let level = entry.level.word();
-    let rule = entry.rule.id;
-    write!(
-        out,
-        ",\"line\":{line},\"column\":{column},\"level\":\"{level}\",\"rule\":\"{rule}\",\"text\":"
-    )?;
-    push_quoted(alloc, out, entry.text.as_str())?;
-    if let Some(note) = &entry.note {
-        out.push_str(",\"note\":")?;
-        push_quoted(alloc, out, note.as_str())?;
-    }
-    out.push_str("}")
+/// What stands before the item of a list with this number, on a line of its own.
+pub(crate) fn line_before(index: usize) -> &'static str {
+    if index == 0 { "\n" } else { ",\n" }
 }
 
-/// Adds a text as JSON.
-pub(crate) fn push_quoted(alloc: Global, out: &mut String, text: &str) -> Result<(), AllocError> {
+/// Says what is found as an object.
+fn say_entry(alloc: Global, said: Sentence, entry: &Entry<'_>) -> Result<Sentence, AllocError> {
+    let said = say_quoted(alloc, said.say("{\"file\":"), entry.file)?
+        .say(",\"line\":")
+        .count(entry.line)
+        .say(",\"column\":")
+        .count(entry.column)
+        .say(",\"level\":\"")
+        .say(entry.level.word())
+        .say("\",\"rule\":\"")
+        .say(entry.rule.id)
+        .say("\",\"text\":");
+    let said = say_quoted(alloc, said, entry.text.as_str())?;
+    let said = match &entry.note {
+        Some(note) => say_quoted(alloc, said.say(",\"note\":"), note.as_str())?,
+        None => said,
+    };
+    Ok(said.say("}"))
+}
+
+/// Says a text as JSON.
+pub(crate) fn say_quoted(
+    alloc: Global,
+    said: Sentence,
+    text: &str,
+) -> Result<Sentence, AllocError> {
     let value = Value::String(String::from_str(alloc, text)?);
-    out.push_str(value.to_string(alloc)?.as_str())
+    Ok(said.say(value.to_string(alloc)?.as_str()))
 }

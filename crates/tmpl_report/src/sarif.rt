@@ -2,10 +2,11 @@
 
 use crate::entry::Entry;
 use crate::findings::Findings;
-use crate::json::push_quoted;
+use crate::json::{line_before, say_quoted};
 use crate::rule::RULES;
 use percent_encoding::{AsciiSet, NON_ALPHANUMERIC, utf8_percent_encode};
 use std::alloc::{AllocError, Global};
+use tmpl_hints::Sentence;
 
 /// What stands before the rules of the one tool.
 const BEGINNING: &str =
@@ -26,68 +27,77 @@ fn escaped_in_paths() -> AsciiSet {
 
 /// A log of one run.
 pub(crate) fn document(alloc: Global, findings: &Findings<'_>) -> Result<String, AllocError> {
-    let mut out = String::from_str(alloc, BEGINNING)?;
-    push_rules(alloc, &mut out)?;
-    out.push_str(MIDDLE)?;
+    let mut said = say_rules(alloc, Sentence::new(alloc).say(BEGINNING))?.say(MIDDLE);
     for (index, entry) in findings.entries.as_slice().iter().enumerate() {
-        out.push_str(if index == 0 { "\n" } else { ",\n" })?;
-        push_result(alloc, &mut out, entry)?;
+        said = say_result(alloc, said.say(line_before(index)), entry)?;
     }
-    out.push_str("\n]}]}\n")?;
-    Ok(out)
+    said.say("\n]}]}\n").finish()
 }
 
-/// Adds the rules.
-fn push_rules(alloc: Global, out: &mut String) -> Result<(), AllocError> {
+/// Says the rules.
+fn say_rules(alloc: Global, said: Sentence) -> Result<Sentence, AllocError> {
+    let mut said = said;
     for (index, rule) in RULES.iter().enumerate() {
-        out.push_str(if index == 0 { "\n" } else { ",\n" })?;
-        let id = rule.id;
-        write!(out, "{{\"id\":\"{id}\",\"shortDescription\":{{\"text\":")?;
-        push_quoted(alloc, out, rule.text)?;
-        out.push_str("}}")?;
+        let begun = said
+            .say(line_before(index))
+            .say("{\"id\":\"")
+            .say(rule.id)
+            .say("\",\"shortDescription\":{\"text\":");
+        said = say_quoted(alloc, begun, rule.text)?.say("}}");
     }
-    Ok(())
+    Ok(said)
 }
 
-/// Adds what is found as a result.
-fn push_result(alloc: Global, out: &mut String, entry: &Entry<'_>) -> Result<(), AllocError> {
-    let level = entry.level.word();
-    let rule = entry.rule.id;
-    write!(
-        out,
-        "{{\"ruleId\":\"{rule}\",\"level\":\"{level}\",\"message\":{{\"text\":"
-    )?;
-    push_quoted(alloc, out, entry.text.as_str())?;
-    out.push_str("},\"locations\":[")?;
-    out.push_str("{")?;
-    push_location(out, entry)?;
-    out.push_str("}]")?;
-    if let Some(note) = &entry.note {
-        out.push_str(",\"relatedLocations\":[{\"message\":{\"text\":")?;
-        push_quoted(alloc, out, note.as_str())?;
-        out.push_str("},")?;
-        push_location(out, entry)?;
-        out.push_str("}]")?;
-    }
-    out.push_str("}")
+/// Says what is found as a result.
+fn say_result(alloc: Global, said: Sentence, entry: &Entry<'_>) -> Result<Sentence, AllocError> {
+    let said = said
+        .say("{\"ruleId\":\"")
+        .say(entry.rule.id)
+        .say("\",\"level\":\"")
+        .say(entry.level.word())
+        .say("\",\"message\":{\"text\":");
+    let said = say_quoted(alloc, said, entry.text.as_str())?.say("},\"locations\":[{");
+    let said = say_location(alloc, said, entry)?.say("}]");
+    let said = match &entry.note {
+        Some(note) => say_note(alloc, said, entry, note.as_str())?,
+        None => said,
+    };
+    Ok(said.say("}"))
 }
 
-/// Adds where it is, as the property of a location.
-fn push_location(out: &mut String, entry: &Entry<'_>) -> Result<(), AllocError> {
-    let line = entry.line;
-    let column = entry.column;
-    out.push_str("\"physicalLocation\":{\"artifactLocation\":{\"uri\":\"")?;
-    push_uri(out, entry.file)?;
-    write!(
-        out,
-        "\"}},\"region\":{{\"startLine\":{line},\"startColumn\":{column}}}}}"
-    )
+/// Says the note of what is found, at the same place.
+fn say_note(
+    alloc: Global,
+    said: Sentence,
+    entry: &Entry<'_>,
+    note: &str,
+) -> Result<Sentence, AllocError> {
+    let said = said.say(",\"relatedLocations\":[{\"message\":{\"text\":");
+    let said = say_quoted(alloc, said, note)?.say("},");
+    Ok(say_location(alloc, said, entry)?.say("}]"))
 }
 
-/// Adds the URI of a file: a relative one, of a path from the root on one of the scheme `file`.
-fn push_uri(out: &mut String, file: &str) -> Result<(), AllocError> {
-    if file.as_bytes().starts_with(b"/") {
-        out.push_str("file://")?;
-    }
-    utf8_percent_encode(file, escaped_in_paths()).append_to(out)
+/// Says where it is, as the property of a location.
+fn say_location(alloc: Global, said: Sentence, entry: &Entry<'_>) -> Result<Sentence, AllocError> {
+    let said = said
+        .say("\"physicalLocation\":{\"artifactLocation\":{\"uri\":\"")
+        .say(uri_of(alloc, entry.file)?.as_str())
+        .say("\"},\"region\":{\"startLine\":")
+        .count(entry.line)
+        .say(",\"startColumn\":")
+        .count(entry.column)
+        .say("}}");
+    Ok(said)
+}
+
+/// The URI of a file: a relative one, of a path from the root on one of the scheme `file`.
+fn uri_of(alloc: Global, file: &str) -> Result<String, AllocError> {
+    let scheme = if file.as_bytes().starts_with(b"/") {
+        "file://"
+    } else {
+        ""
+    };
+    let mut uri = String::from_str(alloc, scheme)?;
+    utf8_percent_encode(file, escaped_in_paths()).append_to(&mut uri)?;
+    Ok(uri)
 }

@@ -7,6 +7,7 @@ use crate::source::{Question, Source, Sources};
 use std::alloc::{AllocError, Global};
 use std::str::from_utf8;
 use tmpl_funcs::Func;
+use tmpl_hints::Sentence;
 use tmpl_json_schema::{CheckFault, Refused, SchemaFault, check_document};
 use tmpl_reasons::{Reason, Why, position_of, reasons_of};
 use tmpl_samples::{Failure, failures_of};
@@ -66,15 +67,19 @@ pub(crate) fn add_schema<'a>(
 
 /// What is said of a value for which a template fails, by the mode that was asked for or by each.
 fn failure_text(alloc: Global, failure: &Failure, is_by_mode: bool) -> Result<String, AllocError> {
-    let mut text = String::from_str(alloc, "fails ")?;
-    if failure.is_strict && !is_by_mode {
-        text.push_str("with --missingkey error ")?;
-    }
-    text.push_str("for ")?;
-    text.push_str(failure.data.as_str())?;
-    text.push_str(": ")?;
-    text.push_str(failure.said.as_str())?;
-    Ok(text)
+    let mode = if failure.is_strict && !is_by_mode {
+        "with --missingkey error "
+    } else {
+        ""
+    };
+    Sentence::new(alloc)
+        .say("fails ")
+        .say(mode)
+        .say("for ")
+        .say(failure.data.as_str())
+        .say(": ")
+        .say(failure.said.as_str())
+        .finish()
 }
 
 /// The names of templates that need not be there.
@@ -93,36 +98,40 @@ fn schema_entry<'a>(
     refused: &Refused,
 ) -> Result<Entry<'a>, AllocError> {
     let (line, column) = position_of(schema.bytes.as_slice(), refused.path.as_slice());
-    let mut text = String::from_str(alloc, "schema not understood: ")?;
-    for part in refused.path.as_slice().iter().rev() {
-        text.push('/')?;
-        push_part(&mut text, part.as_str())?;
-    }
-    if !refused.path.is_empty() {
-        text.push_str(": ")?;
-    }
-    text.push_str(refused.text.as_str())?;
     Ok(Entry {
         file: schema.name,
         level: Level::Error,
         line,
         column,
         rule: SCHEMA_NOT_UNDERSTOOD,
-        text,
+        text: refused_text(alloc, refused)?,
         note: None,
     })
 }
 
-/// Adds a part of a JSON Pointer.
-fn push_part(text: &mut String, part: &str) -> Result<(), AllocError> {
-    for letter in part.chars() {
-        match letter {
-            '~' => text.push_str("~0")?,
-            '/' => text.push_str("~1")?,
-            _ => text.push(letter)?,
-        }
+/// What is said of it: the way to it as a JSON Pointer, if it is not the whole document, and what is wrong there.
+fn refused_text(alloc: Global, refused: &Refused) -> Result<String, AllocError> {
+    let mut said = Sentence::new(alloc).say("schema not understood: ");
+    for part in refused.path.as_slice().iter().rev() {
+        said = say_part(said.say("/"), part.as_str());
     }
-    Ok(())
+    if !refused.path.is_empty() {
+        said = said.say(": ");
+    }
+    said.say(refused.text.as_str()).finish()
+}
+
+/// Says a part of a JSON Pointer.
+fn say_part(said: Sentence, part: &str) -> Sentence {
+    let mut said = said;
+    for letter in part.chars() {
+        said = match letter {
+            '~' => said.say("~0"),
+            '/' => said.say("~1"),
+            _ => said.say(letter.encode_utf8(&mut [0; 4])),
+        };
+    }
+    said
 }
 
 /// Where a template may fail.
@@ -162,123 +171,96 @@ fn cause_text(
     schema: &str,
     reason: Option<&Reason>,
 ) -> Result<String, AllocError> {
-    let mut text = String::from_str(alloc, "may fail: ")?;
-    match cause {
+    let said = Sentence::new(alloc).say("may fail: ");
+    let said = match cause {
         Cause::Absent(name) => {
-            text.push('.')?;
-            push_bytes(&mut text, name.as_slice())?;
-            text.push_str(" may be absent: ")?;
-            push_absence(&mut text, schema, reason)?;
+            let said = say_name(said.say("."), name.as_slice()).say(" may be absent: ");
+            say_absence(said, schema, reason)
         }
         Cause::NoFields(name, kind) => {
-            text.push('.')?;
-            push_bytes(&mut text, name.as_slice())?;
-            text.push_str(" of ")?;
-            push_kind(&mut text, *kind, schema, reason)?;
-            text.push_str(" and has no fields")?;
+            let said = say_name(said.say("."), name.as_slice()).say(" of ");
+            say_kind(said, kind, schema, reason).say(" and has no fields")
         }
-        Cause::Arguments(func) => push_func(&mut text, *func, " may get what it refuses")?,
+        Cause::Arguments(func) => say_func(said, *func).say(" may get what it refuses"),
         Cause::FewItems(func, count) => {
-            push_func(&mut text, *func, " may get a list of too few items: ")?;
-            push_shortness(&mut text, *count, schema, reason)?;
-            push_guard(&mut text, *count)?;
+            let said = say_func(said, *func).say(" may get a list of too few items: ");
+            say_guard(say_shortness(said, *count, schema, reason), *count)
         }
-        Cause::NotFollowed(func) => push_func(&mut text, *func, " is not followed by this check")?,
-        Cause::Range(kind) => {
-            text.push_str("a range over ")?;
-            push_kind(&mut text, *kind, schema, reason)?;
-        }
+        Cause::NotFollowed(func) => say_func(said, *func).say(" is not followed by this check"),
+        Cause::Range(kind) => say_kind(said.say("a range over "), kind, schema, reason),
         Cause::NoTemplate(name) => {
-            text.push_str("there is no template \"")?;
-            push_bytes(&mut text, name.as_slice())?;
-            text.push('"')?;
+            say_name(said.say("there is no template \""), name.as_slice()).say("\"")
         }
-        Cause::Variables => text.push_str("what the variables hold after it is not followed")?,
-        Cause::Command => text.push_str("what it gives is not followed by this check")?,
-    }
-    Ok(text)
+        Cause::Variables => said.say("what the variables hold after it is not followed"),
+        Cause::Command => said.say("what it gives is not followed by this check"),
+    };
+    said.finish()
 }
 
-/// Adds why a field may be absent.
-fn push_absence(
-    text: &mut String,
-    schema: &str,
-    reason: Option<&Reason>,
-) -> Result<(), AllocError> {
+/// Says why a field may be absent.
+fn say_absence(said: Sentence, schema: &str, reason: Option<&Reason>) -> Sentence {
     let Some(Reason { why, line }) = reason else {
-        return text.push_str("the schema does not require it");
+        return said.say("the schema does not require it");
+    };
+    let words = match why {
+        Why::NotRequired => "not in \"required\" of ",
+        Why::NotListed => "not in \"properties\" of ",
+        Why::NoneRequired => "no \"required\" at ",
+        Why::NoneListed => "no \"properties\" at ",
+        Why::Kind | Why::LowMinItems | Why::NoMinItems => return said,
+    };
+    say_place(said.say(words), schema, *line)
+}
+
+/// Says why a list may have fewer items than this, where that is told.
+fn say_shortness(said: Sentence, count: u64, schema: &str, reason: Option<&Reason>) -> Sentence {
+    let Some(Reason { why, line }) = reason else {
+        return said;
     };
     match why {
-        Why::NotRequired => write!(text, "not in \"required\" of {schema}:{line}"),
-        Why::NotListed => write!(text, "not in \"properties\" of {schema}:{line}"),
-        Why::NoneRequired => write!(text, "no \"required\" at {schema}:{line}"),
-        Why::NoneListed => write!(text, "no \"properties\" at {schema}:{line}"),
-        Why::Kind | Why::LowMinItems | Why::NoMinItems => Ok(()),
+        Why::LowMinItems => say_place(said.say("\"minItems\" at "), schema, *line)
+            .say(" is below ")
+            .count(count)
+            .say("; "),
+        Why::NoMinItems => say_place(said.say("no \"minItems\" at "), schema, *line).say("; "),
+        _ => said,
     }
 }
 
-/// Adds why a list may have fewer items than this, where that is told.
-fn push_shortness(
-    text: &mut String,
-    count: u64,
-    schema: &str,
-    reason: Option<&Reason>,
-) -> Result<(), AllocError> {
+/// Says how a template or a schema tells that a list has as many items.
+fn say_guard(said: Sentence, count: u64) -> Sentence {
+    let said = if count == 1 {
+        said.say("guard it by \"if\" or \"with\"")
+    } else {
+        said.say("guard it by \"if ge (len LIST) ")
+            .count(count)
+            .say("\"")
+    };
+    said.say(", or write \"minItems\": ").count(count)
+}
+
+/// Says a kind of values, and what lets them through.
+fn say_kind(said: Sentence, kind: &str, schema: &str, reason: Option<&Reason>) -> Sentence {
+    let said = said.say(kind).say(", which may come here");
     match reason {
-        Some(
-            Reason {
-                why: Why::LowMinItems,
-                line,
-            },
-        ) => { write!(text, "\"minItems\" at {schema}:{line} is below {count}; ") }
-        Some(
-            Reason {
-                why: Why::NoMinItems,
-                line,
-            },
-        ) => { write!(text, "no \"minItems\" at {schema}:{line}; ") }
-        _ => Ok(()),
+        Some(Reason { line, .. }) => say_place(said.say(" ("), schema, *line).say(")"),
+        None => said,
     }
 }
 
-/// Adds how a template or a schema tells that a list has as many items.
-fn push_guard(text: &mut String, count: u64) -> Result<(), AllocError> {
-    if count == 1 {
-        return text.push_str("guard it by \"if\" or \"with\", or write \"minItems\": 1");
-    }
-    write!(
-        text,
-        "guard it by \"if ge (len LIST) {count}\", or write \"minItems\": {count}"
-    )
+/// Says a line of a file.
+fn say_place(said: Sentence, file: &str, line: u64) -> Sentence {
+    said.say(file).say(":").count(line)
 }
 
-/// Adds a kind of values, and what lets them through.
-fn push_kind(
-    text: &mut String,
-    kind: &str,
-    schema: &str,
-    reason: Option<&Reason>,
-) -> Result<(), AllocError> {
-    match reason {
-        Some(Reason { line, .. }) => write!(text, "{kind}, which may come here ({schema}:{line})"),
-        None => write!(text, "{kind}, which may come here"),
-    }
+/// Says the name of a function.
+fn say_func(said: Sentence, func: Func) -> Sentence {
+    said.say("\"").say(func.name()).say("\"")
 }
 
-/// Adds the name of a function and what is said of it.
-fn push_func(text: &mut String, func: Func, said: &str) -> Result<(), AllocError> {
-    text.push('"')?;
-    text.push_str(func.name())?;
-    text.push('"')?;
-    text.push_str(said)
-}
-
-/// Adds bytes, or a question mark where they are no text.
-fn push_bytes(text: &mut String, bytes: &[u8]) -> Result<(), AllocError> {
-    match from_utf8(bytes) {
-        Ok(name) => text.push_str(name),
-        Err(_) => text.push('?'),
-    }
+/// Says a name, or a question mark where it is no text.
+pub(crate) fn say_name(said: Sentence, name: &[u8]) -> Sentence {
+    said.say(from_utf8(name).unwrap_or("?"))
 }
 
 /// The column, on this line of a file, of the action with what the cause names, or of the first action, or else 1.
