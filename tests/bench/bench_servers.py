@@ -121,7 +121,8 @@ def held():
         return next(int(line.split()[1]) for line in it if line.startswith("VmRSS"))
 pages = tmpl.Templates({"m": "{{range 1500000}}0123456789{{end}}"})
 def rise(render):
-    len(render())
+    for _ in range(10):
+        render()
     before = held()
     for _ in range(60):
         assert len(render()) == 15_000_000
@@ -146,7 +147,7 @@ def bench_python(rows, folder, speed):
     rows.row("the same `Templates` in 8 threads of Python", f"{wrong:,.0f} of 160,000 texts wrong", "0", wrong == 0)
     rises = of_python(FLAT)
     came = " and ".join(f"{it / 1024:.1f} MiB" for it in rises)
-    rows.row("how much more is held after 60 texts of 15 MB in Python, without the cyclic collector, kept and not kept", came, "flat", max(rises) < 2 * 1024)
+    rows.row("how much more is held after 60 more texts of 15 MB in Python, without the cyclic collector, kept and not kept", came, "flat", max(rises) < 2 * 1024)
     text = b"{{range 1000000}}0123456789{{end}}"
     by_python = of_python(ONCE, bench.write(f"{folder}/once", [text]))[0]
     by_c = int(said_by([speed, f"{folder}/once", bench.write(f"{folder}/none", [b"null"]), "1", "kept"])[0])
