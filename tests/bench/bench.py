@@ -534,23 +534,10 @@ def bench_kept(figures, speed, folder):
         least, middle = told[name]
         factor = middle / told["alone"][1]
         figures.row(f"a kept `Hello`, {name}", f"{shown(least / 1e9)}, {shown(middle / 1e9)}", "alone", factor, None, 1.2)
-    bench_threads(figures, speed, files, held)
     bench_python(figures, files, held)
 
 
 THREADS = (1, 2, 3, 4)
-MOST_SHARED = 1.1  # what the noise of a virtual machine may add where threads share
-
-
-def bench_threads(figures, speed, files, held):
-    """Renders in threads at the same time, by handles of one program and of the same data, beside as many threads of which each has its own."""
-    for name in ("alone", "beside 10,000 definitions"):
-        for threads in THREADS:
-            words = ([speed, files[name], held], ["kept", "0", str(threads)])
-            told = turns({"shared": words, "own": (words[0], [*words[1], "own"])}, 50_000)
-            cells = {who: f"{shown(least / 1e9)}, {shown(middle / 1e9)}" for who, (least, middle) in told.items()}
-            what = f"a kept `Hello` {name}, a render of each of {threads} threads" if threads > 1 else f"a kept `Hello` {name}, in a thread"
-            figures.row(what, cells["shared"], f"a program and data of each thread {cells['own']}", told["shared"][1] / told["own"][1], None, MOST_SHARED)
 
 
 PYTHON = """

@@ -16,6 +16,7 @@ BINDINGS = f"{harness.TOP}/bindings"
 LIBRARY = {**os.environ, "PYTHONPATH": f"{BINDINGS}/python", "LIBTMPL": f"{BINDINGS}/out/libtmpl.so"}
 GIB = 1 << 30
 LONG = (220_000_000, 430_000_000)  # times ten bytes: above 2^31, above 2^32
+MOST_SHARED = 1.2  # how much longer threads may take that share a program: none, and what the noise adds
 LENT = b"{{range 100000000}}0123456789{{end}}"
 
 
@@ -72,6 +73,17 @@ def bench_names(rows, folder, speed):
     others, _ = time_once(speed, folder, hostile.defining([b"%08d and the other tail." % it for it in range(count)]))
     came = f"{bench.shown(alike)}, other names {bench.shown(others)}"
     rows.row("2.56 MB of definitions whose names a hash without a key does not tell apart", came, "at most 3 times other names", alike <= 3 * others)
+
+
+def bench_shared(rows, folder, speed):
+    """Threads that share a program and data, by handles of their own, beside threads of which each has a program and data of its own."""
+    words = [speed, bench.write(f"{folder}/hello", [b"Hello, {{.user.name}}!\n"]), bench.write(f"{folder}/user", [b'{"user": {"name": "Ada"}}'])]
+    for threads in bench.THREADS:
+        kept = ["kept", "0", str(threads)]
+        told = bench.turns({"shared": (words, kept), "own": (words, [*kept, "own"])}, 50_000)
+        shared, own = (f"{bench.shown(told[who][0] / 1e9)}, {bench.shown(told[who][1] / 1e9)}" for who in ("shared", "own"))
+        what = "a kept `Hello` in a thread, the least and the median" if threads == 1 else f"the same in each of {threads} threads that share a program"
+        rows.row(what, f"{shared}; with a program of each thread {own}", f"at most {MOST_SHARED} times", told["shared"][1] <= MOST_SHARED * told["own"][1])
 
 
 def bench_threads(rows, folder):
@@ -194,11 +206,13 @@ def main(words):
         speed = compiled(folder, "speed")
         bench_operands(rows, folder, speed)
         bench_names(rows, folder, speed)
+        bench_shared(rows, folder, speed)
         bench_threads(rows, folder)
         bench_python(rows, folder, speed)
         bench_room(rows, folder)
         bench_long(rows, folder)
-    lines = [*HEADINGS, *rows.rows]
+    beside = bench.go_name() if shutil.which("go") else "nothing"
+    lines = [bench.head(beside), "", *HEADINGS, *rows.rows]
     if "--dry" in words:
         print(*lines, sep="\n")
     else:
