@@ -145,7 +145,7 @@ fn survey_node(
         }
         NodeKind::Text(_) | NodeKind::Break | NodeKind::Continue | NodeKind::Template(_, _) => {
             found.add(walk, failure, node.line)?;
-            copy_known(alloc, &state.known)
+            copy_known(&state.known)
         }
     }
 }
@@ -208,7 +208,7 @@ fn survey_end(
         Ok(known) => Ok(known),
         Err(failure) => {
             found.add(walk, failure.into(), line)?;
-            copy_known(walk.checker.base.alloc, &state.known)
+            copy_known(&state.known)
         }
     }
 }
@@ -258,7 +258,7 @@ fn survey_range(
             if found.doubts.len().saturating_add(found.wanted.len()) == before {
                 found.add(walk, failure.into(), line)?;
             }
-            copy_known(alloc, &state.known)?
+            copy_known(&state.known)?
         }
     };
     let outside = copy_state(alloc, state)?;
@@ -344,44 +344,83 @@ fn with_alternatives(alloc: Global, all: Shape, more: Shape) -> Result<Shape, Al
     }
 }
 
-/// Puts a call into the table. Gives the values for which the template is yet to be gone over.
-fn grow(
+/// What the table says first of a template that is called with values of this shape.
+fn callee_of(base: &Base<'_>, set: &Set, name: &[u8], shape: &Shape) -> Result<Callee, AllocError> {
+    if set.get(name).is_none() {
+        return Ok(Callee::Absent);
+    }
+    Ok(Callee::Handed(copy_shape(base.alloc, shape)?))
+}
+
+/// Puts a template that is not in the table there. Gives the values for which it is yet to be gone over.
+fn add_entry(
     base: &Base<'_>,
     set: &Set,
     table: &mut Vec<Entry>,
     name: &[u8],
     shape: &Shape,
 ) -> Result<Shape, AllocError> {
-    let Some(place) = place(table.as_slice(), name) else {
-        let is_there = set.get(name).is_some();
-        let name = copy_name(base.alloc, name)?;
-        if !is_there {
-            table.push(Entry {
-                name,
-                callee: Callee::Absent,
-            })?;
-            return Ok(Shape::Never);
-        }
-        table.push(Entry {
-            name,
-            callee: Callee::Handed(copy_shape(base.alloc, shape)?),
-        })?;
-        return copy_shape(base.alloc, shape);
-    };
-    let Some(
-        Entry {
-            callee: Callee::Handed(held),
-            ..
-        },
-    ) = table.get_mut(place)
-    else {
+    let callee = callee_of(base, set, name, shape)?;
+    let is_absent = matches!(callee, Callee::Absent);
+    table.push(Entry {
+        name: copy_name(base.alloc, name)?,
+        callee,
+    })?;
+    if is_absent {
         return Ok(Shape::Never);
-    };
+    }
+    copy_shape(base.alloc, shape)
+}
+
+/// Adds values to those of an entry. Gives those of them that are new to it.
+fn widen(base: &Base<'_>, held: &mut Shape, shape: &Shape) -> Result<Shape, AllocError> {
     let more = part_beyond(base, shape, held)?;
-    let added = copy_shape(base.alloc, &more)?;
-    let all = mem::replace(held, Shape::Never);
-    *held = with_alternatives(base.alloc, all, added)?;
+    add_values(base.alloc, held, &more)?;
     Ok(more)
+}
+
+/// Adds values to those of an entry.
+fn add_values(alloc: Global, held: &mut Shape, more: &Shape) -> Result<(), AllocError> {
+    let added = copy_shape(alloc, more)?;
+    let all = mem::replace(held, Shape::Never);
+    *held = with_alternatives(alloc, all, added)?;
+    Ok(())
+}
+
+/// Puts a call into the table. Gives the values for which the template is yet to be gone over.
+fn grow(
+    base: &Base<'_>,
+    set: &Set,
+    table: &mut Vec<Entry>,
+    call: &Call,
+) -> Result<Shape, AllocError> {
+    let Some(place) = place(table.as_slice(), call.name.as_slice()) else {
+        return add_entry(base, set, table, call.name.as_slice(), &call.shape);
+    };
+    match table.get_mut(place) {
+        Some(
+            Entry {
+                callee: Callee::Handed(held),
+                ..
+            },
+        ) => widen(base, held, &call.shape),
+        _ => Ok(Shape::Never),
+    }
+}
+
+/// Has a template wait for values for which it is yet to be gone over, if there are any.
+fn put_waiting(
+    alloc: Global,
+    waiting: &mut Vec<Call>,
+    name: &[u8],
+    more: Shape,
+) -> Result<(), AllocError> {
+    if matches!(more, Shape::Never) {
+        return Ok(());
+    }
+    let name = copy_name(alloc, name)?;
+    waiting.push(Call { name, shape: more })?;
+    Ok(())
 }
 
 /// Puts calls into the table, and those templates that are yet to be gone over with them to those that wait.
@@ -389,17 +428,39 @@ fn grow_all(
     base: &Base<'_>,
     question: &Question<'_>,
     table: &mut Vec<Entry>,
-    wanted: Vec<Call>,
+    wanted: &[Call],
     waiting: &mut Vec<Call>,
 ) -> Result<(), AllocError> {
-    for call in wanted.into_iter() {
-        let Call { name, shape } = call;
-        let more = grow(base, question.set, table, name.as_slice(), &shape)?;
-        if !matches!(more, Shape::Never) {
-            waiting.push(Call { name, shape: more })?;
-        }
+    for call in wanted {
+        let more = grow(base, question.set, table, call)?;
+        put_waiting(base.alloc, waiting, call.name.as_slice(), more)?;
     }
     Ok(())
+}
+
+/// Goes over the template of a call, and puts what it calls into the table.
+fn visit(
+    checker: &Checker<'_>,
+    question: &Question<'_>,
+    table: &mut Vec<Entry>,
+    call: &Call,
+    waiting: &mut Vec<Call>,
+) -> Result<(), AllocError> {
+    let mut found = Found::new(checker.base.alloc);
+    survey_template(
+        checker,
+        question,
+        call.name.as_slice(),
+        &call.shape,
+        &mut found,
+    )?;
+    grow_all(
+        &checker.base,
+        question,
+        table,
+        found.wanted.as_slice(),
+        waiting,
+    )
 }
 
 /// Goes over templates that wait, each for the values alone that are new to it, and over those that they call. Gives
@@ -423,16 +484,7 @@ fn spread(
         if visits / MOST_ROUNDS > table.len().saturating_add(base.definitions.len()) {
             return Ok(false);
         }
-        let mut found = Found::new(base.alloc);
-        survey_template(
-            &checker,
-            question,
-            call.name.as_slice(),
-            &call.shape,
-            &mut found,
-        )?;
-        let Found { wanted, .. } = found;
-        grow_all(base, question, table, wanted, waiting)?;
+        visit(&checker, question, table, &call, waiting)?;
     }
     Ok(false)
 }
@@ -493,7 +545,7 @@ pub(crate) fn fill_table(
         if wanted.is_empty() {
             return Ok(doubts);
         }
-        grow_all(base, question, table, wanted, &mut waiting)?;
+        grow_all(base, question, table, wanted.as_slice(), &mut waiting)?;
     }
     unknown_doubt(base.alloc, question.name)
 }
