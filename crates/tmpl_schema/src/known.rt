@@ -305,22 +305,26 @@ fn join_shared(base: &Base<'_>, one: &Rc<Shape>, other: &Rc<Shape>) -> Result<Rc
     Ok(Rc::new(base.alloc, both)?)
 }
 
-/// The variables of both, with the values of both.
-pub(crate) fn join_all(base: &Base<'_>, known: &Known, others: &Known) -> Result<Known, AllocError>
-    ensures { IfOk result (λ ks. known_of ks
-        ≡ join_all (base_of base.now) (known_of known.now) (known_of others.now)) }
+/// The same variables, each with the values of both.
+pub(crate) fn join_all(base: &Base<'_>, known: &Known, others: &Known) -> Result<Known, Trouble>
+    ensures { IfOk result (λ ks. join_all (base_of base.now) (known_of known.now) (known_of others.now)
+        ≡ Some (known_of ks)) }
 {
-    match known {
-        Known::Empty => Ok(Known::Empty),
-        Known::More(newest) => match others {
-            Known::Empty => Ok(Known::Empty),
-            Known::More(other) => {
-                let shape = join_shared(base, &newest.shape, &other.shape)?;
-                let origin = join_origins(base.alloc, &newest.origin, &other.origin)?;
-                let older = join_all(base, &newest.older, &other.older)?;
-                put_variable(base.alloc, newest.name.as_slice(), shape, origin, older)
+    match (known, others) {
+        (Known::Empty, Known::Empty) => Ok(Known::Empty),
+        (Known::More(newest), Known::More(other)) => {
+            if newest.name.as_slice() != other.name.as_slice() {
+                return Err(Trouble::MayFail(Cause::Variables));
             }
-        },
+            let shape = join_shared(base, &newest.shape, &other.shape)?;
+            let origin = join_origins(base.alloc, &newest.origin, &other.origin)?;
+            let older = join_all(base, &newest.older, &other.older)?;
+            let name = newest.name.as_slice();
+            Ok(put_variable(base.alloc, name, shape, origin, older)?)
+        }
+        (Known::Empty, Known::More(_)) | (Known::More(_), Known::Empty) => {
+            Err(Trouble::MayFail(Cause::Variables))
+        }
     }
 }
 
@@ -334,16 +338,7 @@ pub(crate) fn after_both(
     ensures { IfOk result (λ ks. after_both (base_of base.now) (length (known_of before.now)) (known_of one.now)
         (known_of other.now) ≡ Some (known_of ks)) }
 {
-    let one = oldest(one, before);
-    let other = oldest(other, before);
-    let both = join_all(base, one, other)?;
-    if !all_within(base, one, &both) {
-        return Err(Trouble::MayFail(Cause::Variables));
-    }
-    if !all_within(base, other, &both) {
-        return Err(Trouble::MayFail(Cause::Variables));
-    }
-    Ok(both)
+    join_all(base, oldest(one, before), oldest(other, before))
 }
 
 /// Whether a break or a continue leaves the variables of the range around within those at its head.

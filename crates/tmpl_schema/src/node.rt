@@ -8,7 +8,7 @@ ghost use Rattle.tmpl_shape.specs.Shape.{nothings};
 ghost use Rattle.tmpl_shape.specs.View.{shape_of};
 ghost use Rattle.tmpl_shape.specs.computed.View.{base_of, visit_seen};
 ghost use Rattle.tmpl_schema.specs.computed.Check.{after_node, after_nodes, in_body, in_other, in_turn, leave_with};
-ghost use Rattle.tmpl_schema.specs.computed.Check.{pipeline_shape, settle_head, settle_known, settle_soon};
+ghost use Rattle.tmpl_schema.specs.computed.Check.{pipeline_shape, settle_known, settle_soon};
 ghost use Rattle.tmpl_schema.specs.computed.View.{after_action, after_choice_by, after_range_by, known_of, known_seen, ranged_by, state_of, table_of, turn_by};
 ghost use Rattle.tmpl_syntax.specs.Tree.{template_node};
 ghost use Rattle.tmpl_syntax.specs.View.{control_of, node_of, nodes_in};
@@ -289,9 +289,9 @@ fn settle(
     settle(checker, rounds - 1, more, header, visit, body)
 }
 
-/// The variables at the head of a range.
+/// The variables at the head of a range, from those before it.
 #[cycle(node)]
-fn settle_soon(
+pub(crate) fn settle_soon(
     checker: &Checker<'_>,
     known: &Known,
     header: &Header,
@@ -304,26 +304,6 @@ fn settle_soon(
 {
     let start = copy_known(known)?;
     settle(checker, 12, start, header, visit, body)
-}
-
-/// .. from these before it.
-#[cycle(node)]
-pub(crate) fn settle_head(
-    checker: &Checker<'_>,
-    known: &Known,
-    header: &Header,
-    visit: &Visit,
-    body: &[Node],
-) -> Result<Known, Failure>
-    ensures { IfOk result (λ ks. settle_head (base_of checker.now.base) (turn_by
-        (base_of checker.now.base) checker.now.mode (table_of checker.now.table.now) (header_of header.now)
-        (visit_seen visit.now) (nodes_in body.now)) (known_of known.now) ≡ Some (known_of ks)) }
-{
-    let head = settle_soon(checker, known, header, visit, body)?;
-    if !all_within(&checker.base, known, &head) {
-        return Err(Failure::MayFail(Cause::Variables, 0));
-    }
-    Ok(head)
 }
 
 /// After a range that visits these.
@@ -341,7 +321,7 @@ fn after_range(
         (state_of state.now) (nodes_in parts.now.body.now) (nodes_in parts.now.other.now) (visit_seen visit.now)
         ≡ Some (known_of ks)) }
 {
-    let settled_head = settle_head(checker, &state.known, parts.header, visit, parts.body)?;
+    let settled_head = settle_soon(checker, &state.known, parts.header, visit, parts.body)?;
     let outside = copy_state(checker.base.alloc, state)?;
     let other = after_nodes(checker, head, outside, parts.other)?;
     Ok(after_both(&checker.base, &state.known, &settled_head, &other)?)

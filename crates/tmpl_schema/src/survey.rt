@@ -6,7 +6,7 @@
 use crate::check::is_stop;
 use crate::failure::{Doubt, Failure};
 use crate::known::{Known, after_both, bind, copy_known};
-use crate::node::{Checker, after_node, in_body, in_other, in_turn, settle_head};
+use crate::node::{Checker, after_node, in_body, in_other, in_turn, settle_soon};
 use crate::pipeline::pipeline_shape;
 use crate::state::{State, at_start, copy_state};
 use crate::table::{Call, Callee, Entry};
@@ -237,7 +237,7 @@ fn survey_range(
             }
         }
     };
-    let known = match settle_head(
+    let known = match settle_soon(
         checker,
         &state.known,
         header,
