@@ -1,12 +1,12 @@
 //! Whether a template never fails over the values of a schema.
 #![tactic(auto)]
 
-ghost use Rattle.std.specs.Prelude.{◌≡◌, Contains, OnOk, Some, true};
+ghost use Rattle.std.specs.Prelude.{◌≡◌, Contains, OnOk, true};
 ghost use Rattle.tmpl_syntax.specs.View.{set_view, tree_of};
 ghost use Rattle.tmpl_schema.specs.Safe.{NeverFails};
 ghost use Rattle.tmpl_shape.specs.View.{schema_of, shape_of};
 ghost use Rattle.tmpl_schema.specs.computed.Check.{is_safe};
-ghost use Rattle.tmpl_schema.specs.computed.Safe.{EachCallee, IsCallee, NeverFailsIn};
+ghost use Rattle.tmpl_schema.specs.computed.Safe.{EachCallee, IsCallee, NeverFailsIn, mode_for};
 ghost use Rattle.tmpl_shape.specs.computed.View.{base_of};
 ghost use Rattle.tmpl_schema.specs.computed.View.{callee_of, entries_of, table_of};
 
@@ -100,21 +100,36 @@ fn check_callees(
     }
 }
 
+/// The mode in which a template is checked: the one that is asked for, or where each is, `Error`. There a field that
+/// may be absent has no shape, so what is accepted in it is accepted in each.
+fn mode_for(asked: Option<MissingKey>) -> MissingKey
+    ensures { result ≡ mode_for asked }
+{
+    asked.unwrap_or(MissingKey::Error)
+}
+
 /// Whether a template is accepted, and each that is called, as the table says.
 fn check_all(
-    checker: &Checker<'_>,
+    base: &Base<'_>,
+    table: &[Entry],
     set: &Set,
     stops: &[Bytes],
     name: &[u8],
     shape: &Shape,
+    asked: Option<MissingKey>,
 ) -> Result<(), Failure>
-    ensures { OnOk result (NeverFailsIn (base_of checker.now.base) checker.now.mode stops.now
-        (set_view set.now) name.now (shape_of shape.now)) }
+    ensures { OnOk result (NeverFailsIn (base_of base.now) asked stops.now (set_view set.now) name.now
+        (shape_of shape.now)) }
 {
+    let checker = Checker {
+        base: *base,
+        mode: mode_for(asked),
+        table,
+    };
     match set.get(name) {
-        Some(tree) => match check_tree(checker, shape, tree) {
+        Some(tree) => match check_tree(&checker, shape, tree) {
             Ok(()) => {
-                check_callees(checker, set, stops, checker.table)?;
+                check_callees(&checker, set, stops, table)?;
                 Ok(())
             }
             Err(failure) => Err(failure),
@@ -137,17 +152,17 @@ fn check_shape(
     set: &Set,
     name: &[u8],
     shape: &Shape,
-    mode: MissingKey,
+    asked: Option<MissingKey>,
     stops: &[Bytes],
 ) -> Result<(), Refusal>
-    ensures { OnOk result (NeverFailsIn (base_of base.now) mode stops.now (set_view set.now) name.now
+    ensures { OnOk result (NeverFailsIn (base_of base.now) asked stops.now (set_view set.now) name.now
         (shape_of shape.now)) }
 {
     let question = Question {
         set,
         name,
         shape,
-        mode,
+        mode: mode_for(asked),
         stops,
     };
     let mut table: Vec<Entry> = Vec::new(base.alloc);
@@ -159,38 +174,10 @@ fn check_shape(
         }
         Err(_) => return Err(Refusal::OutOfMemory),
     }
-    let checker = Checker {
-        base: *base,
-        mode,
-        table: table.as_slice(),
-    };
-    match check_all(&checker, set, stops, name, shape) {
+    match check_all(base, table.as_slice(), set, stops, name, shape, asked) {
         Ok(()) => Ok(()),
         Err(Failure::OutOfMemory) => Err(Refusal::OutOfMemory),
         Err(_) => Err(refusal_unseen(base.alloc, name)),
-    }
-}
-
-/// Whether a template never fails in a mode.
-fn check_mode(
-    alloc: Global,
-    set: &Set,
-    name: &[u8],
-    schema: &Schema,
-    mode: MissingKey,
-    stops: &[Bytes],
-) -> Result<(), Refusal>
-    ensures { OnOk result (NeverFails (schema_of schema.now) (Some mode) stops.now (set_view set.now) name.now) }
-{
-    let base = Base {
-        definitions: schema.definitions.as_slice(),
-        names: 6,
-        limit: 400,
-        alloc,
-    };
-    match null_gone(&base, &schema.shape) {
-        Ok(shape) => check_shape(&base, set, name, &shape, mode, stops),
-        Err(_) => Err(Refusal::OutOfMemory),
     }
 }
 
@@ -213,14 +200,14 @@ pub fn check_schema(
 ) -> Result<(), Refusal>
     ensures { OnOk result (NeverFails (schema_of schema.now) mode stops.now (set_view set.now) name.now) }
 {
-    match mode {
-        Some(mode) => check_mode(alloc, set, name, schema, mode, stops),
-        None => {
-            check_mode(alloc, set, name, schema, MissingKey::Error, stops)?;
-            check_mode(alloc, set, name, schema, MissingKey::Zero, stops)?;
-            check_mode(alloc, set, name, schema, MissingKey::Default, stops)?;
-            check_mode(alloc, set, name, schema, MissingKey::Invalid, stops)?;
-            Ok(())
-        }
+    let base = Base {
+        definitions: schema.definitions.as_slice(),
+        names: 6,
+        limit: 400,
+        alloc,
+    };
+    match null_gone(&base, &schema.shape) {
+        Ok(shape) => check_shape(&base, set, name, &shape, mode, stops),
+        Err(_) => Err(Refusal::OutOfMemory),
     }
 }
