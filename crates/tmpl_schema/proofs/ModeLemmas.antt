@@ -31,7 +31,7 @@ use Rattle.tmpl_schema.specs.computed.Check.{alone, key_of, text_of, deciding_sh
 use Rattle.tmpl_schema.specs.computed.Check.{entry_by, entry_for}
 use Rattle.tmpl_schema.specs.computed.Check.{operand_shape, operand_shapes, junction_shape, entry_along, indexed_shape}
 use Rattle.tmpl_schema.specs.computed.Check.{sliced_shape, printed_shape, command_shape, commands_shape, pipeline_shape}
-use Rattle.tmpl_schema.specs.computed.Check.{all_within, join_all, if_within, after_both, settle_known, settle_soon}
+use Rattle.tmpl_schema.specs.computed.Check.{all_within, join_all, after_both, settle_known, settle_soon}
 use Rattle.tmpl_schema.specs.computed.Check.{leave_with, holds_loop, turn_known, in_body, in_other, at_start, is_safe}
 use Rattle.tmpl_schema.specs.computed.Check.{after_choice, after_range, after_control, after_call}
 use Rattle.tmpl_schema.specs.computed.Check.{after_node, after_nodes}
@@ -190,7 +190,7 @@ module _ (base : Base) where
   settle-keeps zero f g h ks = tt
   settle-keeps (suc n) f g h ks =
       then-keeps _ _ _ _ (λ end. if-keeps (all_within base end ks) (Some ks) (Some ks) _ _ refl
-      (settle-keeps n f g h (join_all base ks end))) (h ks)
+      (same-keeps _ _ (join_all base ks end) (settle-keeps n f g h))) (h ks)
 
   soon-keeps : (f g : Known → Option Known) → ((ks : Known) → Keeps (f ks) (g ks)) → (ks : Known)
       → Keeps (settle_soon base f ks) (settle_soon base g ks)
@@ -208,8 +208,7 @@ module _ (base : Base) where
         → KeepsEach other rest → (v : Visit) → Keeps (after_range base h k f other v) (after_range base h k g rest v)
     range-keeps f g other rest in_f in_rest v =
         then-keeps _ _ _ _ (λ a. then-keeps _ _ _ _ (λ b. keeps-same (after_both base (length k.env) a b)) (in_rest k))
-        (then-keeps _ _ _ _ (λ head. keeps-same (if_within base k.env head))
-        (soon-keeps (turn_known h v f) (turn_known h v g) (λ ks. map-keeps _ _ _ (in_f (Some ks) _)) k.env))
+        (soon-keeps (turn_known h v f) (turn_known h v g) (λ ks. map-keeps _ _ _ (in_f (Some ks) _)) k.env)
 
     control-keeps : (c : Control) (loop : Option Known) (f g : Option Known → Checked) (other rest : Checked)
         → ((l : Option Known) → KeepsEach (f l) (g l)) → KeepsEach other rest → (s : Shape)

@@ -184,14 +184,15 @@ module _ (base : Base) (N : Names) (means : Means base.defs N) (stops : List (Li
   settled-so : (n : ℕ) (turn : Known → Option Known) (ks head : Known) → settle_known base n turn ks ≡ Some head → IsHead turn ks head
   settled-so zero turn ks head e = cc
   settled-so (suc n) turn ks head e =
-      option_and_then_some _ (turn ks) head e (λ end is rest. by end is (all_within base end ks) refl rest)
+      option_and_then_some _ (turn ks) head e (λ end is rest. by end is (all_within base end ks) refl rest (settled-so n turn))
     where
       by : (end : Known) → turn ks ≡ Some end → (b : Bool) → all_within base end ks ≡ b
-          → (if b then Some ks else option_and_then (settle_known base n turn) (join_all base ks end)) ≡ Some head → IsHead turn ks head
-      by end is true w rest = let same : ks ≡ head = cc in subst (λ (i : Known). IsHead turn ks i) same (λ env h. h, end, is, w)
-      by end is false w rest =
-          option_and_then_some (settle_known base n turn) (join_all base ks end) head rest (λ more joint found.
-          let p = settled-so n turn more head found in
+          → (if b then Some ks else option_and_then (settle_known base n turn) (join_all base ks end)) ≡ Some head
+          → ((more head : Known) → settle_known base n turn more ≡ Some head → IsHead turn more head) → IsHead turn ks head
+      by end is true w rest found = let same : ks ≡ head = cc in subst (λ (i : Known). IsHead turn ks i) same (λ env h. h, end, is, w)
+      by end is false w rest found =
+          option_and_then_some (settle_known base n turn) (join_all base ks end) head rest (λ more joint is_found.
+          let p = found more head is_found in
           (λ env h. p.0 env ((joined-left base N means top) ks end more env joint h), p.1, p.2, p.3))
 
   soon-so : (turn : Known → Option Known) (ks head : Known) → settle_soon base turn ks ≡ Some head → IsHead turn ks head

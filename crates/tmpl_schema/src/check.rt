@@ -13,9 +13,9 @@ ghost use Rattle.tmpl_schema.specs.computed.View.{callee_of, entries_of, table_o
 use crate::failure::{Doubt, Failure};
 use crate::node::{Checker, after_nodes};
 use crate::state::at_start;
-use crate::survey::{Question, fill_table, unknown_doubt};
+use crate::survey::{MOST_ROUNDS, Question, Search, unknown_doubt};
 use crate::table::{Callee, Entry};
-use std::alloc::Global;
+use std::alloc::{AllocError, Global};
 use tmpl_meaning::MissingKey;
 use tmpl_shape::{Base, Cause, Schema, Shape, null_gone};
 use tmpl_syntax::{Set, Tree};
@@ -29,6 +29,12 @@ pub enum Refusal {
     /// It may fail for a value of the schema, or it is not seen that it never does: at these places, of which at most 100
     /// are told.
     MayFail(Vec<Doubt>),
+}
+
+impl From<AllocError> for Refusal {
+    fn from(_: AllocError) -> Refusal {
+        Refusal::OutOfMemory
+    }
 }
 
 /// Whether a template is accepted for values of this shape.
@@ -102,34 +108,26 @@ fn check_callees(
 
 /// The mode in which a template is checked: the one that is asked for, or where each is, `Error`. There a field that
 /// may be absent has no shape, so what is accepted in it is accepted in each.
-fn mode_for(asked: Option<MissingKey>) -> MissingKey
+pub(crate) fn mode_for(asked: Option<MissingKey>) -> MissingKey
     ensures { result ≡ mode_for asked }
 {
     asked.unwrap_or(MissingKey::Error)
 }
 
 /// Whether a template is accepted, and each that is called, as the table says.
-fn check_all(
-    base: &Base<'_>,
-    table: &[Entry],
-    set: &Set,
-    stops: &[Bytes],
-    name: &[u8],
-    shape: &Shape,
-    asked: Option<MissingKey>,
-) -> Result<(), Failure>
-    ensures { OnOk result (NeverFailsIn (base_of base.now) asked stops.now (set_view set.now) name.now
-        (shape_of shape.now)) }
+fn check_all(base: &Base<'_>, question: &Question<'_>, table: &[Entry]) -> Result<(), Failure>
+    ensures { OnOk result (NeverFailsIn (base_of base.now) question.now.asked question.now.stops.now
+        (set_view question.now.set.now) question.now.name.now (shape_of question.now.shape.now)) }
 {
     let checker = Checker {
         base: *base,
-        mode: mode_for(asked),
+        mode: mode_for(question.asked),
         table,
     };
-    match set.get(name) {
-        Some(tree) => match check_tree(&checker, shape, tree) {
+    match question.set.get(question.name) {
+        Some(tree) => match check_tree(&checker, question.shape, tree) {
             Ok(()) => {
-                check_callees(&checker, set, stops, table)?;
+                check_callees(&checker, question.set, question.stops, table)?;
                 Ok(())
             }
             Err(failure) => Err(failure),
@@ -146,39 +144,27 @@ fn refusal_unseen(alloc: Global, name: &[u8]) -> Refusal {
     }
 }
 
-/// Whether a template never fails for values of this shape, by a table that is looked for.
-fn check_shape(
-    base: &Base<'_>,
-    set: &Set,
-    name: &[u8],
-    shape: &Shape,
-    asked: Option<MissingKey>,
-    stops: &[Bytes],
-) -> Result<(), Refusal>
-    ensures { OnOk result (NeverFailsIn (base_of base.now) asked stops.now (set_view set.now) name.now
-        (shape_of shape.now)) }
+/// Whether a template never fails for values of this shape, by a table that is looked for: each round ends with one that
+/// may do, and only where it does not is it asked why.
+fn check_shape(base: &Base<'_>, question: &Question<'_>) -> Result<(), Refusal>
+    ensures { OnOk result (NeverFailsIn (base_of base.now) question.now.asked question.now.stops.now
+        (set_view question.now.set.now) question.now.name.now (shape_of question.now.shape.now)) }
 {
-    let question = Question {
-        set,
-        name,
-        shape,
-        mode: mode_for(asked),
-        stops,
-    };
-    let mut table: Vec<Entry> = Vec::new(base.alloc);
-    match fill_table(base, &question, &mut table) {
-        Ok(doubts) => {
-            if doubts.len() > 0 {
-                return Err(Refusal::MayFail(doubts));
-            }
+    let mut search = Search::new(base, question)?;
+    for _ in 0..MOST_ROUNDS {
+        if !search.spread(base, question)? {
+            break;
         }
-        Err(_) => return Err(Refusal::OutOfMemory),
+        match check_all(base, question, search.table.as_slice()) {
+            Ok(()) => return Ok(()),
+            Err(Failure::OutOfMemory) => return Err(Refusal::OutOfMemory),
+            Err(_) => {}
+        }
+        if let Some(doubts) = search.doubts(base, question)? {
+            return Err(Refusal::MayFail(doubts));
+        }
     }
-    match check_all(base, table.as_slice(), set, stops, name, shape, asked) {
-        Ok(()) => Ok(()),
-        Err(Failure::OutOfMemory) => Err(Refusal::OutOfMemory),
-        Err(_) => Err(refusal_unseen(base.alloc, name)),
-    }
+    Err(refusal_unseen(base.alloc, question.name))
 }
 
 /// Whether a template of the set never fails over the values of a schema: in this mode for missing keys, or, where none
@@ -207,7 +193,16 @@ pub fn check_schema(
         alloc,
     };
     match null_gone(&base, &schema.shape) {
-        Ok(shape) => check_shape(&base, set, name, &shape, mode, stops),
+        Ok(shape) => {
+            let question = Question {
+                set,
+                name,
+                shape: &shape,
+                asked: mode,
+                stops,
+            };
+            check_shape(&base, &question)
+        }
         Err(_) => Err(Refusal::OutOfMemory),
     }
 }

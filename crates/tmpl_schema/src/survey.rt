@@ -3,7 +3,7 @@
 //! action gave no value at all, so that nothing more is said of it.
 #![tactic(auto)]
 
-use crate::check::is_stop;
+use crate::check::{is_stop, mode_for};
 use crate::failure::{Doubt, Failure};
 use crate::known::{Known, after_both, bind, copy_known};
 use crate::node::{Checker, after_node, in_body, in_other, in_turn, settle_soon};
@@ -26,16 +26,16 @@ const MOST_DOUBTS: usize = 100;
 /// rounds, or is not followed.
 const MOST_VISITS: usize = 100_000;
 
-const MOST_ROUNDS: usize = 16;
+pub(crate) const MOST_ROUNDS: usize = 16;
 
-/// What a template is asked for: the set and the name in it, the shape of its data, the mode for missing keys, and the
-/// templates that need not be there.
+/// What a template is asked for: the set and the name in it, the shape of its data, the mode for missing keys or else each,
+/// and the templates that need not be there.
 #[derive(Clone, Copy)]
 pub(crate) struct Question<'q> {
     pub(crate) set: &'q Set,
     pub(crate) name: &'q [u8],
     pub(crate) shape: &'q Shape,
-    pub(crate) mode: MissingKey,
+    pub(crate) asked: Option<MissingKey>,
     pub(crate) stops: &'q [Bytes],
 }
 
@@ -438,57 +438,6 @@ fn grow_all(
     Ok(())
 }
 
-/// Goes over the template of a call, and puts what it calls into the table.
-fn visit(
-    checker: &Checker<'_>,
-    question: &Question<'_>,
-    table: &mut Vec<Entry>,
-    call: &Call,
-    waiting: &mut Vec<Call>,
-) -> Result<(), AllocError> {
-    let mut found = Found::new(checker.base.alloc);
-    survey_template(
-        checker,
-        question,
-        call.name.as_slice(),
-        &call.shape,
-        &mut found,
-    )?;
-    grow_all(
-        &checker.base,
-        question,
-        table,
-        found.wanted.as_slice(),
-        waiting,
-    )
-}
-
-/// Goes over templates that wait, each for the values alone that are new to it, and over those that they call. Gives
-/// whether none is left: what a template is handed settles in a few rounds for each definition, or is not followed.
-fn spread(
-    base: &Base<'_>,
-    question: &Question<'_>,
-    table: &mut Vec<Entry>,
-    waiting: &mut Vec<Call>,
-) -> Result<bool, AllocError> {
-    // by no table each call is one for which the table has less than it hands over
-    let checker = Checker {
-        base: *base,
-        mode: question.mode,
-        table: &[],
-    };
-    for visits in 0..MOST_VISITS {
-        let Some(call) = waiting.pop() else {
-            return Ok(true);
-        };
-        if visits / MOST_ROUNDS > table.len().saturating_add(base.definitions.len()) {
-            return Ok(false);
-        }
-        visit(&checker, question, table, &call, waiting)?;
-    }
-    Ok(false)
-}
-
 /// Goes over the template that is asked for, and over each of the table.
 fn survey_all(
     base: &Base<'_>,
@@ -497,7 +446,7 @@ fn survey_all(
 ) -> Result<Found, AllocError> {
     let checker = Checker {
         base: *base,
-        mode: question.mode,
+        mode: mode_for(question.asked),
         table,
     };
     let mut found = Found::new(base.alloc);
@@ -527,25 +476,90 @@ pub(crate) fn unknown_doubt(alloc: Global, name: &[u8]) -> Result<Vec<Doubt>, Al
     Ok(doubts)
 }
 
-/// Puts each call that is reached into the table. Gives each place that may fail.
-pub(crate) fn fill_table(
-    base: &Base<'_>,
-    question: &Question<'_>,
-    table: &mut Vec<Entry>,
-) -> Result<Vec<Doubt>, AllocError> {
-    let mut waiting: Vec<Call> = Vec::new(base.alloc);
-    let name = copy_name(base.alloc, question.name)?;
-    let shape = copy_shape(base.alloc, question.shape)?;
-    waiting.push(Call { name, shape })?;
-    for _ in 0..MOST_ROUNDS {
-        if !spread(base, question, table, &mut waiting)? {
-            break;
-        }
-        let Found { doubts, wanted } = survey_all(base, question, table.as_slice())?;
-        if wanted.is_empty() {
-            return Ok(doubts);
-        }
-        grow_all(base, question, table, wanted.as_slice(), &mut waiting)?;
+/// The search for what is handed to templates that are called: the table of them, and calls of those that are yet to be
+/// gone over.
+#[derive(Drop)]
+pub(crate) struct Search {
+    pub(crate) table: Vec<Entry>,
+    waiting: Vec<Call>,
+}
+
+impl Search {
+    /// Where the template that is asked for is yet to be gone over.
+    pub(crate) fn new(base: &Base<'_>, question: &Question<'_>) -> Result<Search, AllocError> {
+        let name = copy_name(base.alloc, question.name)?;
+        let shape = copy_shape(base.alloc, question.shape)?;
+        let mut waiting: Vec<Call> = Vec::new(base.alloc);
+        waiting.push(Call { name, shape })?;
+        Ok(Search {
+            table: Vec::new(base.alloc),
+            waiting,
+        })
     }
-    unknown_doubt(base.alloc, question.name)
+
+    /// Goes over the template of a call, and puts what it calls into the table.
+    fn visit(
+        &mut self,
+        checker: &Checker<'_>,
+        question: &Question<'_>,
+        call: &Call,
+    ) -> Result<(), AllocError> {
+        let mut found = Found::new(checker.base.alloc);
+        let name = call.name.as_slice();
+        survey_template(checker, question, name, &call.shape, &mut found)?;
+        self.grow(&checker.base, question, found.wanted.as_slice())
+    }
+
+    /// Puts calls into the table.
+    fn grow(
+        &mut self,
+        base: &Base<'_>,
+        question: &Question<'_>,
+        wanted: &[Call],
+    ) -> Result<(), AllocError> {
+        grow_all(base, question, &mut self.table, wanted, &mut self.waiting)
+    }
+
+    /// Goes over templates that wait, each for the values alone that are new to it, and over those that they call. Gives
+    /// whether none is left: what a template is handed settles in a few rounds for each definition, or is not followed.
+    pub(crate) fn spread(
+        &mut self,
+        base: &Base<'_>,
+        question: &Question<'_>,
+    ) -> Result<bool, AllocError> {
+        // by no table each call is one for which the table has less than it hands over
+        let checker = Checker {
+            base: *base,
+            mode: mode_for(question.asked),
+            table: &[],
+        };
+        for visits in 0..MOST_VISITS {
+            let Some(call) = self.waiting.pop() else {
+                return Ok(true);
+            };
+            let count = self.table.len().saturating_add(base.definitions.len());
+            if visits / MOST_ROUNDS > count {
+                return Ok(false);
+            }
+            self.visit(&checker, question, &call)?;
+        }
+        Ok(false)
+    }
+
+    /// Each place that may fail by the table, or nothing where the table lacks a call, which is put there.
+    pub(crate) fn doubts(
+        &mut self,
+        base: &Base<'_>,
+        question: &Question<'_>,
+    ) -> Result<Option<Vec<Doubt>>, AllocError> {
+        let Found { doubts, wanted } = survey_all(base, question, self.table.as_slice())?;
+        if !wanted.is_empty() {
+            self.grow(base, question, wanted.as_slice())?;
+            return Ok(None);
+        }
+        if doubts.is_empty() {
+            return Ok(Some(unknown_doubt(base.alloc, question.name)?));
+        }
+        Ok(Some(doubts))
+    }
 }

@@ -13,12 +13,13 @@ use Rattle.tmpl_schema.proofs.check.check_all.Goals as goal
 pub returns-in_ok-check_callees-in-Ok : goal.returns-in_ok-check_callees-in-Ok
 returns-in_ok-check_callees-in-Ok c =
     let base = base_of c.args.base.now in
-    let asked = c.args.asked in
-    let set = set_view c.args.set.now in
+    let q = c.args.question.now in
+    let asked = q.asked in
+    let set = set_view q.set.now in
     let es = c.args.table.now in
     let t = tree_of c.in-Some.tree.now in
-    let s = shape_of c.args.shape.now in
-    let named : ◌≡◌ {A = Option Tree} (Some t) (tree_named c.args.name.now set) = search rules in
+    let s = shape_of q.shape.now in
+    let named : ◌≡◌ {A = Option Tree} (Some t) (tree_named q.name.now set) = search rules in
     let safe : is_safe base (mode_for asked) (table_of es) s t.nodes ≡ true = search rules in
-    let each : EachCallee base (mode_for asked) c.args.stops.now set (table_of es) (entries_of es) = search rules in
-    all-accepted base asked c.args.stops.now set es c.args.name.now s t named safe each
+    let each : EachCallee base (mode_for asked) q.stops.now set (table_of es) (entries_of es) = search rules in
+    all-accepted base asked q.stops.now set es q.name.now s t named safe each
