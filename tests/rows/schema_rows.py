@@ -509,4 +509,6 @@ HOSTILE = [
     ("300 definitions in a circle of lists", LISTS_ROUND, WALKS[0], [], None),
     ("100 definitions in a circle of what may be null", NULLS_ROUND, WALKS[1], [], None),
     ("5,000 lines", of({"x": ITEMS, "y": ITEMS, "z": ITEMS}), "{{range .x}}{{len .}}{{end}}{{if .y}}{{len .z}}{{end}}\n" * 5_000, [], None),
+    ("5,000 lines over 150 fields", of({name: ITEMS for name in MANY[:150]}),
+     "".join("{{range .name%d}}{{len .}}{{end}}{{if .name%d}}{{len .name%d}}{{end}}\n" % (line % 150, line % 149, line % 149) for line in range(5_000)), [], None),
 ]

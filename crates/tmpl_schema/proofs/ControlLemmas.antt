@@ -11,7 +11,7 @@ use Rattle.tmpl_syntax.specs.declared.tree.ControlNode.{ControlNode, out-Control
 use Rattle.tmpl_meaning.specs.declared.missing_key.MissingKey.{MissingKey}
 use Rattle.tmpl_shape.specs.Shape.{Shape}
 use Rattle.tmpl_shape.specs.computed.Shapes.{Base, Visit, visit_of}
-use Rattle.tmpl_schema.specs.computed.Check.{Known, State, Table, after_both, after_node, after_nodes, holds_loop, in_body, in_other, settle_head, pipeline_shape}
+use Rattle.tmpl_schema.specs.computed.Check.{Known, State, Table, after_both, after_node, after_nodes, holds_loop, in_body, in_other, settle_soon, pipeline_shape}
 use Rattle.tmpl_schema.specs.computed.View.{after_choice_by, after_range_by, ranged_by, turn_by}
 
 module _ (base : Base) (m : MissingKey) (table : Table) (loop : Option Known) (h : Header) (k : State) (body other : Nodes) where
@@ -20,7 +20,7 @@ module _ (base : Base) (m : MissingKey) (table : Table) (loop : Option Known) (h
       → after_choice_by base m table loop c h k body other s ≡ Some ks
   choice-after c s one two ks a b e = rw (a, b) e
 
-  pub range-is : (v : Visit) (head two : Known) → settle_head base (turn_by base m table h v body) k.env ≡ Some head
+  pub range-is : (v : Visit) (head two : Known) → settle_soon base (turn_by base m table h v body) k.env ≡ Some head
       → after_nodes base m table loop k other ≡ Some two
       → after_range_by base m table loop h k body other v ≡ after_both base (length k.env) head two
   range-is v head two a b = rw (a, b) refl
@@ -29,7 +29,7 @@ module _ (base : Base) (m : MissingKey) (table : Table) (loop : Option Known) (h
       → after_range_by base m table loop h k body other v ≡ Some ks → ranged_by base m table loop h k body other s ≡ Some ks
   visit-after s v ks a e = rw a e
 
-  pub range-after : (v : Visit) (head two ks : Known) → settle_head base (turn_by base m table h v body) k.env ≡ Some head
+  pub range-after : (v : Visit) (head two ks : Known) → settle_soon base (turn_by base m table h v body) k.env ≡ Some head
       → after_nodes base m table loop k other ≡ Some two → after_both base (length k.env) head two ≡ Some ks
       → after_range_by base m table loop h k body other v ≡ Some ks
   range-after v head two ks a b e = rw (a, b) e

@@ -9,5 +9,6 @@ pub mod FactLemmas
 pub mod PipelineLemmas
 pub mod NodeLemmas
 pub mod ControlLemmas
+pub mod ModeLemmas
 pub mod AcceptLemmas
 pub mod Examples

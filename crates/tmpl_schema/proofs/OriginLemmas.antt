@@ -11,7 +11,7 @@ use Rattle.tmpl_meaning.specs.Pipeline.{chain, field_value, without_null}
 use Rattle.tmpl_meaning.specs.declared.missing_key.MissingKey.{MissingKey}
 use Rattle.tmpl_meaning.specs.declared.missing_key.MissingKey.TheVariants as mode
 use Rattle.tmpl_shape.proofs.ShapeLemmas.{same_name}
-use Rattle.tmpl_schema.specs.computed.Check.{Origin, is_path, origin_within, rest_of}
+use Rattle.tmpl_schema.specs.computed.Check.{Origin, is_path, join_origins, origin_within, rest_of}
 
 -- fields of nothing and of null are nothing or null, and so are those that are missing
 nothing-ends : (m : MissingKey) (ns : List (List ℕ)) (x : Value) → chain m ns nothing ≡ Ok x → is_nothing x ≡ true
@@ -142,3 +142,18 @@ pub origin_within-has : (top : Value) (o p : Origin) (x : Value) → origin_with
 origin_within-has top o None x e h = tt
 origin_within-has top None (Some ns) x e h = absurd (false≢true e)
 origin_within-has top (Some ps) (Some ns) x e h = subst (λ (qs : List (List ℕ)). IsAt qs top x) (is_path-same ps ns e) h
+
+-- what is known of one of two is known of both
+pub origins-left : (top : Value) (o p : Origin) (x : Value) → HasOrigin top o x → HasOrigin top (join_origins o p) x
+origins-left top o p x h = by (origin_within o p) refl
+  where
+    by : (b : Bool) → origin_within o p ≡ b → HasOrigin top (if b then p else None) x
+    by true e = origin_within-has top o p x e h
+    by false e = tt
+
+pub origins-right : (top : Value) (o p : Origin) (x : Value) → HasOrigin top p x → HasOrigin top (join_origins o p) x
+origins-right top o p x h = by (origin_within o p)
+  where
+    by : (b : Bool) → HasOrigin top (if b then p else None) x
+    by true = h
+    by false = tt

@@ -3,7 +3,7 @@
 use Rattle.std.proofs.Common.{rules, ◌≡◌, ◌-◌, ◌≤◌, ◌||◌, ℕ, zero, suc, nat_eq, Bool, true, false, List, [], ◌∷◌, Option, Some, None, Result, Ok, Err, IfSome, length, refl, sym, subst, if◌then◌else◌}
 use Rattle.std.proofs.lemmas.Bool.{false≢true}
 use Rattle.std.proofs.lemmas.Option.{cond_some, option_and_then_some}
-use Rattle.std.specs.Option.{option_map, option_map_or}
+use Rattle.std.specs.Option.{option_and_then, option_map, option_map_or}
 use Rattle.tmpl_values.specs.Value.{Value, nothing}
 use Rattle.tmpl_values.specs.Elements.{Element}
 use Rattle.tmpl_values.specs.Truth.{truth}
@@ -23,13 +23,13 @@ use Rattle.tmpl_shape.specs.Shape.{Shape, nothings, HasShape, Names}
 use Rattle.tmpl_schema.specs.Safe.{MayEnd}
 use Rattle.tmpl_shape.specs.computed.Means.{Means}
 use Rattle.tmpl_shape.specs.computed.Shapes.{Base, within, fill, Visit, visit_of}
-use Rattle.tmpl_schema.specs.computed.Check.{Known, State, Callee, handed, absent, Table, Checked, last_of, all_within, join_all, if_within, after_both, settle_known, settle_soon, settle_head, leave_with}
+use Rattle.tmpl_schema.specs.computed.Check.{Known, State, Callee, handed, absent, Table, Checked, last_of, all_within, join_all, if_within, after_both, settle_known, settle_soon, leave_with}
 use Rattle.tmpl_schema.specs.computed.Check.{holds_loop, dot_in, in_body, in_other, after_choice, in_turn, turn_known, after_range, after_call, after_control, after_node, after_nodes}
 use Rattle.tmpl_schema.specs.computed.Check.{Origin, pipeline_origin, pipeline_shape, narrow, bound_shapes, at_start, is_safe}
 use Rattle.tmpl_schema.specs.computed.Safe.{IsCallee, IsChecked}
 use Rattle.tmpl_shape.proofs.ShapeLemmas.{within-has}
 use Rattle.tmpl_shape.proofs.FieldLemmas.{Gives, Each, IsVisit, Visits, fill-has, visit-gives}
-use Rattle.tmpl_schema.proofs.VariableLemmas.{HasKnown, Fits, place, known-length, last-known, last-last, within-known, if_within-some, both-known, bound-known}
+use Rattle.tmpl_schema.proofs.VariableLemmas.{HasKnown, Fits, place, known-length, last-known, last-last, within-known, if_within-some, joined-left, both-known, bound-known}
 use Rattle.tmpl_schema.proofs.VariableLemmas.{pipeline-gives, pipeline-has, narrow-fits}
 use Rattle.tmpl_schema.proofs.OriginLemmas.{HasOrigin, at-root}
 
@@ -176,21 +176,26 @@ module _ (base : Base) (N : Names) (means : Means base.defs N) (stops : List (Li
 
   -- ---- ranges
 
-  settled-so : (n : ℕ) (turn : Known → Option Known) (ks head : Known) → settle_known base n turn ks ≡ Some head
-      → (end : Known) × (turn head ≡ Some end) × (all_within base end head ≡ true)
+  -- the variables before a range are those at its head, and a turn leaves them so
+  abbrev IsHead : (Known → Option Known) → Known → Known → Type 0
+  IsHead turn ks head = ((env : Environment) → (HasKnown base N means top) ks env → (HasKnown base N means top) head env)
+      × (end : Known) × (turn head ≡ Some end) × (all_within base end head ≡ true)
+
+  settled-so : (n : ℕ) (turn : Known → Option Known) (ks head : Known) → settle_known base n turn ks ≡ Some head → IsHead turn ks head
   settled-so zero turn ks head e = cc
   settled-so (suc n) turn ks head e =
-      option_and_then_some _ (turn ks) head e (λ end is rest. by end is (all_within base end ks) refl rest (settled-so n turn (join_all base ks end) head))
+      option_and_then_some _ (turn ks) head e (λ end is rest. by end is (all_within base end ks) refl rest (settled-so n turn))
     where
-      by : (end : Known) → turn ks ≡ Some end → (b : Bool) → all_within base end ks ≡ b → (if b then Some ks else settle_known base n turn (join_all base ks end)) ≡ Some head
-          → (settle_known base n turn (join_all base ks end) ≡ Some head → (end : Known) × (turn head ≡ Some end) × (all_within base end head ≡ true))
-          → (end : Known) × (turn head ≡ Some end) × (all_within base end head ≡ true)
-      by end is true w rest more =
-          let same : ks ≡ head = cc in subst (λ (i : Known). (end : Known) × (turn i ≡ Some end) × (all_within base end i ≡ true)) same (end, is, w)
-      by end is false w rest more = more rest
+      by : (end : Known) → turn ks ≡ Some end → (b : Bool) → all_within base end ks ≡ b
+          → (if b then Some ks else option_and_then (settle_known base n turn) (join_all base ks end)) ≡ Some head
+          → ((more head : Known) → settle_known base n turn more ≡ Some head → IsHead turn more head) → IsHead turn ks head
+      by end is true w rest found = let same : ks ≡ head = cc in subst (λ (i : Known). IsHead turn ks i) same (λ env h. h, end, is, w)
+      by end is false w rest found =
+          option_and_then_some (settle_known base n turn) (join_all base ks end) head rest (λ more joint is_found.
+          let p = found more head is_found in
+          (λ env h. p.0 env ((joined-left base N means top) ks end more env joint h), p.1, p.2, p.3))
 
-  soon-so : (turn : Known → Option Known) (ks head : Known) → settle_soon base turn ks ≡ Some head
-      → (end : Known) × (turn head ≡ Some end) × (all_within base end head ≡ true)
+  soon-so : (turn : Known → Option Known) (ks head : Known) → settle_soon base turn ks ≡ Some head → IsHead turn ks head
   unfolding settle_soon
   soon-so turn ks head e = settled-so 12 turn ks head e
 
@@ -239,14 +244,10 @@ module _ (base : Base) (N : Names) (means : Means base.defs N) (stops : List (Li
       → (d : Value) (r : Run) → (Fits base N means top) k d r.env → (made : Bool) (o : Option (List Element)) → (Visits base N means) (Some v) o
       → Ends loop out (scoped (length r.env) (over s line h.binding body (other d) o (record r { made_text = made })))
   over-ends s line h k loop f g body other v out is holds in_f in_g d r fits made o visits =
-      option_and_then_some _ (settle_head base (turn_known h v f) k.env) out is (λ head ish rest.
+      option_and_then_some _ (settle_soon base (turn_known h v f) k.env) out is (λ head ish rest.
       option_and_then_some (after_both base (length k.env) head) (g k) out rest (λ b isb joint.
       let joins = (both-known base N means top) (length k.env) head b out joint in
-      option_and_then_some (if_within base k.env) (settle_soon base (turn_known h v f) k.env) head ish (λ x isx keeps.
-      let p = (if_within-some base N means top) k.env x head keeps in
-      let set = soon-so (turn_known h v f) k.env x isx in
-      by o visits head b isb joins.0 joins.1 (subst (λ (i : Known). all_within base k.env i ≡ true) p.1 p.0)
-      (subst (λ (i : Known). (end : Known) × (turn_known h v f i ≡ Some end) × (all_within base end i ≡ true)) p.1 set))))
+      by o visits head b isb joins.0 joins.1 (soon-so (turn_known h v f) k.env head ish)))
     where
       r1 : Run
       r1 = record r { made_text = made }
@@ -260,18 +261,18 @@ module _ (base : Base) (N : Names) (means : Means base.defs N) (stops : List (Li
 
       by : (o : Option (List Element)) → (Visits base N means) (Some v) o → (head b : Known) → g k ≡ Some b
           → ((env : Environment) → (HasKnown base N means top) (last_of (length k.env) head) env → (HasKnown base N means top) out env)
-          → ((env : Environment) → (HasKnown base N means top) (last_of (length k.env) b) env → (HasKnown base N means top) out env) → all_within base k.env head ≡ true
-          → ((end : Known) × (turn_known h v f head ≡ Some end) × (all_within base end head ≡ true))
+          → ((env : Environment) → (HasKnown base N means top) (last_of (length k.env) b) env → (HasKnown base N means top) out env)
+          → IsHead (turn_known h v f) k.env head
           → Ends loop out (scoped (length r.env) (over s line h.binding body (other d) o r1))
-      by None visits head b isb left right start set = absurd visits
-      by (Some []) visits head b isb left right start set =
+      by None visits head b isb left right set = absurd visits
+      by (Some []) visits head b isb left right set =
           let x = other d r1 in scope-ends loop k.env b out r.env fits.1 holds right x.1 x.0.env (in_g k b isb d r1 fits)
-      by (Some (e ∷ es)) visits head b isb left right start set =
+      by (Some (e ∷ es)) visits head b isb left right set =
           let x = turns s line h.binding body (e ∷ es) r1 in
-          let inner = mapped (f (Some head) (in_turn h v head)) (last_of (length head)) set.0 set.1 in
+          let inner = mapped (f (Some head) (in_turn h v head)) (last_of (length head)) set.1 set.2 in
           scope-ends loop k.env head out r.env fits.1 holds left x.1 x.0.env
-          (turning head inner.0 inner.1 (subst (λ (i : Known). all_within base i head ≡ true) (sym inner.2) set.2) (e ∷ es) visits
-          ((within-known base N means top) k.env head r.env start fits.1))
+          (turning head inner.0 inner.1 (subst (λ (i : Known). all_within base i head ≡ true) (sym inner.2) set.3) (e ∷ es) visits
+          (set.0 r.env fits.1))
         where
           mapped : (o : Option Known) (t : Known → Known) (y : Known) → option_map t o ≡ Some y → (x : Known) × (o ≡ Some x) × (t x ≡ y)
           mapped None t y e = cc

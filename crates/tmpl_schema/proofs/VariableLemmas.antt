@@ -4,7 +4,7 @@ use Rattle.std.proofs.lemmas.List.{drop-drop, length-drop}
 use Rattle.std.proofs.lemmas.Bool.{false≢true, and_parts, eqb-true, ltb-true, ltb-false}
 use Rattle.std.proofs.lemmas.Bool.Decides.{Decides-int_eq}
 use Rattle.std.specs.Ordering.{int_eq}
-use Rattle.std.proofs.lemmas.Option.{cond_some, option_and_then_some}
+use Rattle.std.proofs.lemmas.Option.{cond_some}
 use Rattle.std.specs.Option.{option_map, option_map_or, option_and_then}
 use Rattle.std.specs.List.{find}
 use Rattle.std.specs.Str.{bytes_eq}
@@ -39,8 +39,8 @@ use Rattle.tmpl_schema.specs.computed.Check.{operand_counts, pair_fact, piped_fa
 use Rattle.tmpl_schema.specs.computed.Check.{bounds_of, sliced_shape, call_place, index_place, deciding_shape, passing_shape, passed, operand_shapes, junction_shape, commands_shape}
 use Rattle.tmpl_schema.specs.computed.Check as check
 use Rattle.tmpl_schema.specs.computed.Check.{Origin, narrow_from, narrow_root, origin_within, pipeline_origin, pipeline_place, place_of, place_origin, refine_all, refine_along, refine_from, rest_of, root_origin, variable_origin}
-use Rattle.tmpl_schema.proofs.OriginLemmas.{HasOrigin, IsAt, at-chain, at-gone, at-joined, at-rest, origin_within-has, rest_of-is}
-use Rattle.tmpl_schema.specs.computed.Check.{Known, State, variable_shape, assigned_shape, bound_shapes, refine_variable, all_within, join_all, last_of, if_within}
+use Rattle.tmpl_schema.proofs.OriginLemmas.{HasOrigin, IsAt, at-chain, at-gone, at-joined, at-rest, origin_within-has, origins-left, origins-right, rest_of-is}
+use Rattle.tmpl_schema.specs.computed.Check.{Known, State, variable_shape, assigned_shape, bound_shapes, refine_variable, all_within, join_all, join_origins, last_of, if_within}
 use Rattle.tmpl_schema.specs.computed.Check.{after_both, entry_along, entry_by, operand_shape, indexed_shape, printed_shape, command_shape, pipeline_shape, narrow}
 use Rattle.tmpl_shape.proofs.KindLemmas.{has_kind-has}
 use Rattle.tmpl_shape.proofs.ShapeLemmas.{same_name, within-has, join-left, join-right, null_gone-has}
@@ -233,21 +233,51 @@ module _ (base : Base) (N : Names) (means : Means base.defs N) (top : Value) whe
   within-known (a ∷ more) (b ∷ bs) [] e h = absurd h
   within-known _ _ env e h = absurd (false≢true e)
 
+  -- what the joined variables begin with
+  abbrev joined : List ℕ × Shape × Origin → List ℕ × Shape × Origin → List ℕ × Shape × Origin
+  joined k l = (k.0, join base k.1 l.1, join_origins k.2 l.2)
+
+  was_joined : (k l : List ℕ × Shape × Origin) (c : Known) (b : Bool) (o : Option Known) → bytes_eq k.0 l.0 ≡ b
+      → (if b then option_map (λ js. joined k l ∷ js) o else None) ≡ Some c
+      → (js : Known) × (bytes_eq k.0 l.0 ≡ true) × (o ≡ Some js) × ((joined k l ∷ js) ≡ c)
+  was_joined k l c true (Some js) is e = let same : (joined k l ∷ js) ≡ c = cc in (js, is, refl, same)
+  was_joined k l c true None is e = cc
+  was_joined k l c false o is e = cc
+
   pub if_within-some : (a b c : Known) → if_within base a b ≡ Some c → (all_within base a b ≡ true) × (b ≡ c)
   if_within-some a b c e = cond_some (all_within base a b) b c e
+
+  -- what is known of one of two is known of both
+  pub joined-left : (a b c : Known) (env : Environment) → join_all base a b ≡ Some c → HasKnown a env → HasKnown c env
+  joined-left [] [] c env e h = let same : [] ≡ c = cc in subst (λ (y : Known). HasKnown y env) same h
+  joined-left (k ∷ ks) (l ∷ ls) c [] e h = absurd h
+  joined-left (k ∷ ks) (l ∷ ls) c (v ∷ env) e h =
+      let p = was_joined k l c (bytes_eq k.0 l.0) (join_all base ks ls) refl e in
+      subst (λ (y : Known). HasKnown y (v ∷ env)) p.3 (
+        h.0,
+        (join-left base N means) k.1 l.1 v.1 h.1,
+        joined-left ks ls p.0 env p.2 h.2,
+        origins-left top k.2 l.2 v.1 h.3,
+      )
+  joined-left _ _ c env e h = cc
+
+  joined-right : (a b c : Known) (env : Environment) → join_all base a b ≡ Some c → HasKnown b env → HasKnown c env
+  joined-right [] [] c env e h = let same : [] ≡ c = cc in subst (λ (y : Known). HasKnown y env) same h
+  joined-right (k ∷ ks) (l ∷ ls) c [] e h = absurd h
+  joined-right (k ∷ ks) (l ∷ ls) c (v ∷ env) e h =
+      let p = was_joined k l c (bytes_eq k.0 l.0) (join_all base ks ls) refl e in
+      subst (λ (y : Known). HasKnown y (v ∷ env)) p.3 (
+        h.0 ∙ sym (same_name k.0 l.0 p.1),
+        (join-right base N means) k.1 l.1 v.1 h.1,
+        joined-right ks ls p.0 env p.2 h.2,
+        origins-right top k.2 l.2 v.1 h.3,
+      )
+  joined-right _ _ c env e h = cc
 
   -- after two parts the variables that were there before are known
   pub both-known : (n : ℕ) (a b c : Known) → after_both base n a b ≡ Some c
       → ((env : Environment) → HasKnown (last_of n a) env → HasKnown c env) × ((env : Environment) → HasKnown (last_of n b) env → HasKnown c env)
-  both-known n a b c e =
-      let u = last_of n a in let w = last_of n b in let j = join_all base u w in
-      option_and_then_some (λ x. if_within base w x) (if_within base u j) c e (λ x is more.
-      let p = if_within-some u j x is in
-      let q = if_within-some w x c more in
-      let same : j ≡ c = p.1 ∙ q.1 in (
-        λ env h. subst (λ (y : Known). HasKnown y env) same (within-known u j env p.0 h),
-        λ env h. subst (λ (y : Known). HasKnown y env) q.1 (within-known w x env q.0 h),
-      ))
+  both-known n a b c e = (λ env h. joined-left (last_of n a) (last_of n b) c env e h, λ env h. joined-right (last_of n a) (last_of n b) c env e h)
 
   -- ---- variables
 

@@ -1,17 +1,16 @@
 -- For code on what is known of variables: they are seen by their parts.
-use Rattle.std.proofs.Common.{rules, ◌≡◌, [], ◌∷◌, Box, Global}
+use Rattle.std.proofs.Common.{rules, ◌≡◌, [], ◌∷◌}
 use Rattle.tmpl_shape.specs.View.{shape_of}
 use Rattle.tmpl_schema.specs.computed.View.{known_of, origin_of}
 use Rattle.tmpl_schema.specs.declared.known.Known as held_known
 use Rattle.tmpl_schema.specs.declared.known.Known.{the_lemmas as known_lemmas}
-use Rattle.tmpl_schema.specs.declared.known.Variable as held_variable
 use Rattle.tmpl_schema.specs.declared.known.Variable.{out-Variable}
 
 pub none_seen : known_of held_known.Empty ≡ []
 none_seen = search (rules, known_lemmas)
 
-pub newest_seen : (v : Box held_variable.Variable Global)
-    → known_of (held_known.More v) ≡ ((out-Variable v.value).name, shape_of (out-Variable v.value).shape, origin_of (out-Variable v.value).origin) ∷ known_of (out-Variable v.value).older
+pub newest_seen : (v : _)
+    → known_of (held_known.More v) ≡ ((out-Variable v.value).name, shape_of (out-Variable v.value).shape.value, origin_of (out-Variable v.value).origin) ∷ known_of (out-Variable v.value).older
 newest_seen v = search (rules, known_lemmas)
 
 pub ruleset variables = (none_seen, newest_seen)

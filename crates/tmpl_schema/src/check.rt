@@ -1,21 +1,21 @@
 //! Whether a template never fails over the values of a schema.
 #![tactic(auto)]
 
-ghost use Rattle.std.specs.Prelude.{◌≡◌, Contains, OnOk, Some, true};
+ghost use Rattle.std.specs.Prelude.{◌≡◌, Contains, OnOk, true};
 ghost use Rattle.tmpl_syntax.specs.View.{set_view, tree_of};
 ghost use Rattle.tmpl_schema.specs.Safe.{NeverFails};
 ghost use Rattle.tmpl_shape.specs.View.{schema_of, shape_of};
 ghost use Rattle.tmpl_schema.specs.computed.Check.{is_safe};
-ghost use Rattle.tmpl_schema.specs.computed.Safe.{EachCallee, IsCallee, NeverFailsIn};
+ghost use Rattle.tmpl_schema.specs.computed.Safe.{EachCallee, IsCallee, NeverFailsIn, mode_for};
 ghost use Rattle.tmpl_shape.specs.computed.View.{base_of};
 ghost use Rattle.tmpl_schema.specs.computed.View.{callee_of, entries_of, table_of};
 
 use crate::failure::{Doubt, Failure};
 use crate::node::{Checker, after_nodes};
 use crate::state::at_start;
-use crate::survey::{Question, fill_table, unknown_doubt};
+use crate::survey::{MOST_ROUNDS, Question, Search, unknown_doubt};
 use crate::table::{Callee, Entry};
-use std::alloc::Global;
+use std::alloc::{AllocError, Global};
 use tmpl_meaning::MissingKey;
 use tmpl_shape::{Base, Cause, Schema, Shape, null_gone};
 use tmpl_syntax::{Set, Tree};
@@ -29,6 +29,12 @@ pub enum Refusal {
     /// It may fail for a value of the schema, or it is not seen that it never does: at these places, of which at most 100
     /// are told.
     MayFail(Vec<Doubt>),
+}
+
+impl From<AllocError> for Refusal {
+    fn from(_: AllocError) -> Refusal {
+        Refusal::OutOfMemory
+    }
 }
 
 /// Whether a template is accepted for values of this shape.
@@ -100,21 +106,28 @@ fn check_callees(
     }
 }
 
-/// Whether a template is accepted, and each that is called, as the table says.
-fn check_all(
-    checker: &Checker<'_>,
-    set: &Set,
-    stops: &[Bytes],
-    name: &[u8],
-    shape: &Shape,
-) -> Result<(), Failure>
-    ensures { OnOk result (NeverFailsIn (base_of checker.now.base) checker.now.mode stops.now
-        (set_view set.now) name.now (shape_of shape.now)) }
+/// The mode in which a template is checked: the one that is asked for, or where each is, `Error`. There a field that
+/// may be absent has no shape, so what is accepted in it is accepted in each.
+pub(crate) fn mode_for(asked: Option<MissingKey>) -> MissingKey
+    ensures { result ≡ mode_for asked }
 {
-    match set.get(name) {
-        Some(tree) => match check_tree(checker, shape, tree) {
+    asked.unwrap_or(MissingKey::Error)
+}
+
+/// Whether a template is accepted, and each that is called, as the table says.
+fn check_all(base: &Base<'_>, question: &Question<'_>, table: &[Entry]) -> Result<(), Failure>
+    ensures { OnOk result (NeverFailsIn (base_of base.now) question.now.asked question.now.stops.now
+        (set_view question.now.set.now) question.now.name.now (shape_of question.now.shape.now)) }
+{
+    let checker = Checker {
+        base: *base,
+        mode: mode_for(question.asked),
+        table,
+    };
+    match question.set.get(question.name) {
+        Some(tree) => match check_tree(&checker, question.shape, tree) {
             Ok(()) => {
-                check_callees(checker, set, stops, checker.table)?;
+                check_callees(&checker, question.set, question.stops, table)?;
                 Ok(())
             }
             Err(failure) => Err(failure),
@@ -131,67 +144,27 @@ fn refusal_unseen(alloc: Global, name: &[u8]) -> Refusal {
     }
 }
 
-/// Whether a template never fails for values of this shape, by a table that is looked for.
-fn check_shape(
-    base: &Base<'_>,
-    set: &Set,
-    name: &[u8],
-    shape: &Shape,
-    mode: MissingKey,
-    stops: &[Bytes],
-) -> Result<(), Refusal>
-    ensures { OnOk result (NeverFailsIn (base_of base.now) mode stops.now (set_view set.now) name.now
-        (shape_of shape.now)) }
+/// Whether a template never fails for values of this shape, by a table that is looked for: each round ends with one that
+/// may do, and only where it does not is it asked why.
+fn check_shape(base: &Base<'_>, question: &Question<'_>) -> Result<(), Refusal>
+    ensures { OnOk result (NeverFailsIn (base_of base.now) question.now.asked question.now.stops.now
+        (set_view question.now.set.now) question.now.name.now (shape_of question.now.shape.now)) }
 {
-    let question = Question {
-        set,
-        name,
-        shape,
-        mode,
-        stops,
-    };
-    let mut table: Vec<Entry> = Vec::new(base.alloc);
-    match fill_table(base, &question, &mut table) {
-        Ok(doubts) => {
-            if doubts.len() > 0 {
-                return Err(Refusal::MayFail(doubts));
-            }
+    let mut search = Search::new(base, question)?;
+    for _ in 0..MOST_ROUNDS {
+        if !search.spread(base, question)? {
+            break;
         }
-        Err(_) => return Err(Refusal::OutOfMemory),
+        match check_all(base, question, search.table.as_slice()) {
+            Ok(()) => return Ok(()),
+            Err(Failure::OutOfMemory) => return Err(Refusal::OutOfMemory),
+            Err(_) => {}
+        }
+        if let Some(doubts) = search.doubts(base, question)? {
+            return Err(Refusal::MayFail(doubts));
+        }
     }
-    let checker = Checker {
-        base: *base,
-        mode,
-        table: table.as_slice(),
-    };
-    match check_all(&checker, set, stops, name, shape) {
-        Ok(()) => Ok(()),
-        Err(Failure::OutOfMemory) => Err(Refusal::OutOfMemory),
-        Err(_) => Err(refusal_unseen(base.alloc, name)),
-    }
-}
-
-/// Whether a template never fails in a mode.
-fn check_mode(
-    alloc: Global,
-    set: &Set,
-    name: &[u8],
-    schema: &Schema,
-    mode: MissingKey,
-    stops: &[Bytes],
-) -> Result<(), Refusal>
-    ensures { OnOk result (NeverFails (schema_of schema.now) (Some mode) stops.now (set_view set.now) name.now) }
-{
-    let base = Base {
-        definitions: schema.definitions.as_slice(),
-        names: 6,
-        limit: 400,
-        alloc,
-    };
-    match null_gone(&base, &schema.shape) {
-        Ok(shape) => check_shape(&base, set, name, &shape, mode, stops),
-        Err(_) => Err(Refusal::OutOfMemory),
-    }
+    Err(refusal_unseen(base.alloc, question.name))
 }
 
 /// Whether a template of the set never fails over the values of a schema: in this mode for missing keys, or, where none
@@ -213,14 +186,23 @@ pub fn check_schema(
 ) -> Result<(), Refusal>
     ensures { OnOk result (NeverFails (schema_of schema.now) mode stops.now (set_view set.now) name.now) }
 {
-    match mode {
-        Some(mode) => check_mode(alloc, set, name, schema, mode, stops),
-        None => {
-            check_mode(alloc, set, name, schema, MissingKey::Error, stops)?;
-            check_mode(alloc, set, name, schema, MissingKey::Zero, stops)?;
-            check_mode(alloc, set, name, schema, MissingKey::Default, stops)?;
-            check_mode(alloc, set, name, schema, MissingKey::Invalid, stops)?;
-            Ok(())
+    let base = Base {
+        definitions: schema.definitions.as_slice(),
+        names: 6,
+        limit: 400,
+        alloc,
+    };
+    match null_gone(&base, &schema.shape) {
+        Ok(shape) => {
+            let question = Question {
+                set,
+                name,
+                shape: &shape,
+                asked: mode,
+                stops,
+            };
+            check_shape(&base, &question)
         }
+        Err(_) => Err(Refusal::OutOfMemory),
     }
 }

@@ -7,21 +7,24 @@ ghost use Rattle.tmpl_grammar.specs.View.{binding_of};
 ghost use Rattle.tmpl_shape.specs.View.{shape_of};
 ghost use Rattle.tmpl_schema.specs.computed.Check.{after_both, all_within, assigned_shape, bound_shapes, holds_loop, join_all};
 ghost use Rattle.tmpl_schema.specs.computed.Check.{last_of, leave_with, refine_all, refine_from, refine_variable, variable_origin, variable_shape};
+ghost use Rattle.tmpl_shape.specs.computed.Shapes.{join};
 ghost use Rattle.tmpl_shape.specs.computed.View.{base_of, shape_seen};
 ghost use Rattle.tmpl_schema.specs.computed.View.{is_longer, known_of, known_seen, origin_of};
 
 use crate::origin::{copy_origin, join_origins, origin_within, rest_of};
 use std::alloc::{AllocError, Global};
+use std::rc::Rc;
 use tmpl_grammar::Binding;
-use tmpl_shape::{Base, Cause, Shape, Trouble, copy_name, copy_shape, join, refine, within};
+use tmpl_shape::{Base, Cause, Shape, Trouble, copy_name, copy_shape, either, refine, within};
 use tmpl_values::Bytes;
 
-/// The variables in scope, the newest first.
+/// The variables in scope, the newest first. A copy shares them, since each part of a template begins with all that is known
+/// before it, and mostly adds nothing.
 #[cycle(known)]
 #[derive(Drop)]
 pub(crate) enum Known {
     Empty,
-    More(Box<Variable>),
+    More(Rc<Variable>),
 }
 
 /// A variable, and the older ones.
@@ -29,7 +32,7 @@ pub(crate) enum Known {
 #[derive(Drop)]
 pub(crate) struct Variable {
     pub(crate) name: Bytes,
-    pub(crate) shape: Shape,
+    pub(crate) shape: Rc<Shape>,
     pub(crate) origin: Option<Vec<Bytes>>,
     pub(crate) older: Known,
 }
@@ -38,14 +41,14 @@ pub(crate) struct Variable {
 pub(crate) fn put_variable(
     alloc: Global,
     name: &[u8],
-    shape: Shape,
+    shape: Rc<Shape>,
     origin: Option<Vec<Bytes>>,
     older: Known,
 ) -> Result<Known, AllocError>
-    ensures { IfOk result (λ ks. known_of ks ≡ (name.now, shape_of shape, origin_of origin) ∷ known_of older) }
+    ensures { IfOk result (λ ks. known_of ks ≡ (name.now, shape_of shape.value, origin_of origin) ∷ known_of older) }
 {
     let name = copy_name(alloc, name)?;
-    Ok(Known::More(Box::new(
+    Ok(Known::More(Rc::new(
         alloc,
         Variable {
             name,
@@ -57,17 +60,12 @@ pub(crate) fn put_variable(
 }
 
 /// A copy of what is known.
-pub(crate) fn copy_known(alloc: Global, known: &Known) -> Result<Known, AllocError>
+pub(crate) fn copy_known(known: &Known) -> Result<Known, AllocError>
     ensures { IfOk result (λ ks. known_of ks ≡ known_of known.now) }
 {
     match known {
         Known::Empty => Ok(Known::Empty),
-        Known::More(newest) => {
-            let shape = copy_shape(alloc, &newest.shape)?;
-            let origin = copy_origin(alloc, &newest.origin)?;
-            let older = copy_known(alloc, &newest.older)?;
-            put_variable(alloc, newest.name.as_slice(), shape, origin, older)
-        }
+        Known::More(newest) => Ok(Known::More(Rc::clone(newest)?)),
     }
 }
 
@@ -110,21 +108,21 @@ pub(crate) fn variable_origin<'k>(name: &[u8], known: &'k Known) -> Option<&'k [
 fn assign(
     alloc: Global,
     name: &[u8],
-    shape: Shape,
+    shape: Rc<Shape>,
     origin: Option<Vec<Bytes>>,
     known: &Known,
 ) -> Result<Known, AllocError>
     ensures { IfOk result (λ ks. known_of ks
-        ≡ assigned_shape name.now (shape_of shape) (origin_of origin) (known_of known.now)) }
+        ≡ assigned_shape name.now (shape_of shape.value) (origin_of origin) (known_of known.now)) }
 {
     match known {
         Known::Empty => Ok(Known::Empty),
         Known::More(newest) => {
             if newest.name.as_slice() == name {
-                let older = copy_known(alloc, &newest.older)?;
+                let older = copy_known(&newest.older)?;
                 put_variable(alloc, name, shape, origin, older)
             } else {
-                let kept = copy_shape(alloc, &newest.shape)?;
+                let kept = Rc::clone(&newest.shape)?;
                 let kept_origin = copy_origin(alloc, &newest.origin)?;
                 let older = assign(alloc, name, shape, origin, &newest.older)?;
                 put_variable(alloc, newest.name.as_slice(), kept, kept_origin, older)
@@ -146,28 +144,22 @@ pub(crate) fn bind(
         (shape_of element.now) (origin_of origin.now) (known_of known.now)) }
 {
     match binding {
-        Binding::Unbound => copy_known(alloc, known),
+        Binding::Unbound => copy_known(known),
         Binding::Declare(name) => {
-            let shape = copy_shape(alloc, element)?;
+            let shape = Rc::new(alloc, copy_shape(alloc, element)?)?;
             let origin = copy_origin(alloc, origin)?;
-            put_variable(
-                alloc,
-                name.as_slice(),
-                shape,
-                origin,
-                copy_known(alloc, known)?,
-            )
+            put_variable(alloc, name.as_slice(), shape, origin, copy_known(known)?)
         }
         Binding::Assign(name) => {
-            let shape = copy_shape(alloc, element)?;
+            let shape = Rc::new(alloc, copy_shape(alloc, element)?)?;
             let origin = copy_origin(alloc, origin)?;
             assign(alloc, name.as_slice(), shape, origin, known)
         }
         Binding::DeclarePair(pair) => {
-            let shape = copy_shape(alloc, key)?;
-            let older = copy_known(alloc, known)?;
+            let shape = Rc::new(alloc, copy_shape(alloc, key)?)?;
+            let older = copy_known(known)?;
             let older = put_variable(alloc, pair.key.as_slice(), shape, None, older)?;
-            let shape = copy_shape(alloc, element)?;
+            let shape = Rc::new(alloc, copy_shape(alloc, element)?)?;
             let origin = copy_origin(alloc, origin)?;
             put_variable(alloc, pair.element.as_slice(), shape, origin, older)
         }
@@ -228,11 +220,11 @@ pub(crate) fn refine_variable(
         Known::More(newest) => {
             let origin = copy_origin(base.alloc, &newest.origin)?;
             if newest.name.as_slice() == name {
-                let shape = refine(base, least, names, &newest.shape)?;
-                let older = copy_known(base.alloc, &newest.older)?;
+                let shape = Rc::new(base.alloc, refine(base, least, names, &newest.shape)?)?;
+                let older = copy_known(&newest.older)?;
                 return put_variable(base.alloc, newest.name.as_slice(), shape, origin, older);
             }
-            let shape = copy_shape(base.alloc, &newest.shape)?;
+            let shape = Rc::clone(&newest.shape)?;
             let older = refine_variable(base, least, name, names, &newest.older)?;
             put_variable(base.alloc, newest.name.as_slice(), shape, origin, older)
         }
@@ -245,17 +237,17 @@ pub(crate) fn refine_from(
     least: u64,
     names: &[Bytes],
     origin: &Option<Vec<Bytes>>,
-    shape: &Shape,
-) -> Result<Shape, AllocError>
-    ensures { IfOk result (λ s. shape_of s
-        ≡ refine_from (base_of base.now) least names.now (origin_of origin.now) (shape_of shape.now)) }
+    shape: &Rc<Shape>,
+) -> Result<Rc<Shape>, AllocError>
+    ensures { IfOk result (λ s. shape_of s.value
+        ≡ refine_from (base_of base.now) least names.now (origin_of origin.now) (shape_of shape.now.value)) }
 {
     match origin {
         Some(path) => match rest_of(path.as_slice(), names) {
-            Some(rest) => refine(base, least, rest, shape),
-            None => copy_shape(base.alloc, shape),
+            Some(rest) => Ok(Rc::new(base.alloc, refine(base, least, rest, shape)?)?),
+            None => Ok(Rc::clone(shape)?),
         },
-        None => copy_shape(base.alloc, shape),
+        None => Ok(Rc::clone(shape)?),
     }
 }
 
@@ -296,23 +288,43 @@ pub(crate) fn all_within(base: &Base<'_>, known: &Known, others: &Known) -> bool
     }
 }
 
-/// The variables of both, with the values of both.
-pub(crate) fn join_all(base: &Base<'_>, known: &Known, others: &Known) -> Result<Known, AllocError>
-    ensures { IfOk result (λ ks. known_of ks
-        ≡ join_all (base_of base.now) (known_of known.now) (known_of others.now)) }
+/// The values of both, without a new shape where the one are among the other.
+#[tactic(auto, unfolding(tmpl_shape::specs::computed::Shapes::join))]
+fn join_shared(base: &Base<'_>, one: &Rc<Shape>, other: &Rc<Shape>) -> Result<Rc<Shape>, AllocError>
+    ensures { IfOk result (λ s. shape_of s.value
+        ≡ join (base_of base.now) (shape_of one.now.value) (shape_of other.now.value)) }
 {
-    match known {
-        Known::Empty => Ok(Known::Empty),
-        Known::More(newest) => match others {
-            Known::Empty => Ok(Known::Empty),
-            Known::More(other) => {
-                let one = copy_shape(base.alloc, &newest.shape)?;
-                let shape = join(base, one, copy_shape(base.alloc, &other.shape)?)?;
-                let origin = join_origins(base.alloc, &newest.origin, &other.origin)?;
-                let older = join_all(base, &newest.older, &other.older)?;
-                put_variable(base.alloc, newest.name.as_slice(), shape, origin, older)
+    if within(base, one, other) {
+        return Ok(Rc::clone(other)?);
+    }
+    if within(base, other, one) {
+        return Ok(Rc::clone(one)?);
+    }
+    let one = copy_shape(base.alloc, one)?;
+    let both = either(base.alloc, one, copy_shape(base.alloc, other)?)?;
+    Ok(Rc::new(base.alloc, both)?)
+}
+
+/// The same variables, each with the values of both.
+pub(crate) fn join_all(base: &Base<'_>, known: &Known, others: &Known) -> Result<Known, Trouble>
+    ensures { IfOk result (λ ks. join_all (base_of base.now) (known_of known.now) (known_of others.now)
+        ≡ Some (known_of ks)) }
+{
+    match (known, others) {
+        (Known::Empty, Known::Empty) => Ok(Known::Empty),
+        (Known::More(newest), Known::More(other)) => {
+            if newest.name.as_slice() != other.name.as_slice() {
+                return Err(Trouble::MayFail(Cause::Variables));
             }
-        },
+            let shape = join_shared(base, &newest.shape, &other.shape)?;
+            let origin = join_origins(base.alloc, &newest.origin, &other.origin)?;
+            let older = join_all(base, &newest.older, &other.older)?;
+            let name = newest.name.as_slice();
+            Ok(put_variable(base.alloc, name, shape, origin, older)?)
+        }
+        (Known::Empty, Known::More(_)) | (Known::More(_), Known::Empty) => {
+            Err(Trouble::MayFail(Cause::Variables))
+        }
     }
 }
 
@@ -326,16 +338,7 @@ pub(crate) fn after_both(
     ensures { IfOk result (λ ks. after_both (base_of base.now) (length (known_of before.now)) (known_of one.now)
         (known_of other.now) ≡ Some (known_of ks)) }
 {
-    let one = oldest(one, before);
-    let other = oldest(other, before);
-    let both = join_all(base, one, other)?;
-    if !all_within(base, one, &both) {
-        return Err(Trouble::MayFail(Cause::Variables));
-    }
-    if !all_within(base, other, &both) {
-        return Err(Trouble::MayFail(Cause::Variables));
-    }
-    Ok(both)
+    join_all(base, oldest(one, before), oldest(other, before))
 }
 
 /// Whether a break or a continue leaves the variables of the range around within those at its head.

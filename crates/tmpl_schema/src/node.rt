@@ -8,7 +8,7 @@ ghost use Rattle.tmpl_shape.specs.Shape.{nothings};
 ghost use Rattle.tmpl_shape.specs.View.{shape_of};
 ghost use Rattle.tmpl_shape.specs.computed.View.{base_of, visit_seen};
 ghost use Rattle.tmpl_schema.specs.computed.Check.{after_node, after_nodes, in_body, in_other, in_turn, leave_with};
-ghost use Rattle.tmpl_schema.specs.computed.Check.{pipeline_shape, settle_head, settle_known, settle_soon};
+ghost use Rattle.tmpl_schema.specs.computed.Check.{pipeline_shape, settle_known, settle_soon};
 ghost use Rattle.tmpl_schema.specs.computed.View.{after_action, after_choice_by, after_range_by, known_of, known_seen, ranged_by, state_of, table_of, turn_by};
 ghost use Rattle.tmpl_syntax.specs.Tree.{template_node};
 ghost use Rattle.tmpl_syntax.specs.View.{control_of, node_of, nodes_in};
@@ -21,6 +21,7 @@ use crate::pipeline::pipeline_shape;
 use crate::state::{State, copy_state, narrow, pipeline_origin};
 use crate::table::{Call, Callee, Entry, find_callee};
 use std::alloc::{AllocError, Global};
+use std::rc::Rc;
 use tmpl_grammar::{Control, Header, Pipeline};
 use tmpl_meaning::MissingKey;
 use tmpl_shape::{Base, Cause, Shape, Visit, copy_name, copy_shape, fill, visit_of, within};
@@ -60,7 +61,7 @@ pub(crate) fn in_body(
     let State { dot, origin, .. } = before;
     match control {
         Control::With => Ok(State {
-            dot: full,
+            dot: Rc::new(base.alloc, full)?,
             origin: from,
             known,
         }),
@@ -103,7 +104,7 @@ pub(crate) fn in_turn(
     ensures { IfOk result (λ k. state_of k
         ≡ in_turn (header_of header.now) (visit_seen visit.now) (known_of known.now)) }
 {
-    let dot = copy_shape(alloc, &visit.element)?;
+    let dot = Rc::new(alloc, copy_shape(alloc, &visit.element)?)?;
     let known = bind(
         alloc,
         &header.binding,
@@ -185,13 +186,13 @@ fn after_call(
         (option_map pipeline_of given.now)) ≡ Some (known_of ks)) }
 {
     match find_callee(checker.table, name.as_slice()) {
-        Some(Callee::Absent) => Ok(copy_known(checker.base.alloc, &state.known)?),
+        Some(Callee::Absent) => Ok(copy_known(&state.known)?),
         Some(Callee::Handed(shape)) => {
             let given = handed_shape(checker, state, given)?;
             if !within(&checker.base, &given, shape) {
                 return Err(want_call(checker.base.alloc, name, given));
             }
-            Ok(copy_known(checker.base.alloc, &state.known)?)
+            Ok(copy_known(&state.known)?)
         }
         None => {
             let given = handed_shape(checker, state, given)?;
@@ -210,7 +211,7 @@ fn after_leaving(
         (known_seen head.entry) ≡ Some (known_of ks)) }
 {
     leave_with(&checker.base, &state.known, head)?;
-    Ok(copy_known(checker.base.alloc, &state.known)?)
+    Ok(copy_known(&state.known)?)
 }
 
 /// The parts of a control.
@@ -259,7 +260,7 @@ fn turn(
 {
     let inside = in_turn(checker.base.alloc, header, visit, known)?;
     let end = after_nodes(checker, Some(known), inside, body)?;
-    Ok(copy_known(checker.base.alloc, oldest(&end, known))?)
+    Ok(copy_known(oldest(&end, known))?)
 }
 
 /// The variables at the head of a range, looked for in as many rounds as these.
@@ -288,9 +289,9 @@ fn settle(
     settle(checker, rounds - 1, more, header, visit, body)
 }
 
-/// The variables at the head of a range.
+/// The variables at the head of a range, from those before it.
 #[cycle(node)]
-fn settle_soon(
+pub(crate) fn settle_soon(
     checker: &Checker<'_>,
     known: &Known,
     header: &Header,
@@ -301,28 +302,8 @@ fn settle_soon(
         (base_of checker.now.base) checker.now.mode (table_of checker.now.table.now) (header_of header.now)
         (visit_seen visit.now) (nodes_in body.now)) (known_of known.now) ≡ Some (known_of ks)) }
 {
-    let start = copy_known(checker.base.alloc, known)?;
+    let start = copy_known(known)?;
     settle(checker, 12, start, header, visit, body)
-}
-
-/// .. from these before it.
-#[cycle(node)]
-pub(crate) fn settle_head(
-    checker: &Checker<'_>,
-    known: &Known,
-    header: &Header,
-    visit: &Visit,
-    body: &[Node],
-) -> Result<Known, Failure>
-    ensures { IfOk result (λ ks. settle_head (base_of checker.now.base) (turn_by
-        (base_of checker.now.base) checker.now.mode (table_of checker.now.table.now) (header_of header.now)
-        (visit_seen visit.now) (nodes_in body.now)) (known_of known.now) ≡ Some (known_of ks)) }
-{
-    let head = settle_soon(checker, known, header, visit, body)?;
-    if !all_within(&checker.base, known, &head) {
-        return Err(Failure::MayFail(Cause::Variables, 0));
-    }
-    Ok(head)
 }
 
 /// After a range that visits these.
@@ -340,7 +321,7 @@ fn after_range(
         (state_of state.now) (nodes_in parts.now.body.now) (nodes_in parts.now.other.now) (visit_seen visit.now)
         ≡ Some (known_of ks)) }
 {
-    let settled_head = settle_head(checker, &state.known, parts.header, visit, parts.body)?;
+    let settled_head = settle_soon(checker, &state.known, parts.header, visit, parts.body)?;
     let outside = copy_state(checker.base.alloc, state)?;
     let other = after_nodes(checker, head, outside, parts.other)?;
     Ok(after_both(&checker.base, &state.known, &settled_head, &other)?)
@@ -411,7 +392,7 @@ pub(crate) fn after_node(
         ≡ Some (known_of ks)) }
 {
     match &node.what {
-        NodeKind::Text(_) => Ok(copy_known(checker.base.alloc, &state.known)?),
+        NodeKind::Text(_) => Ok(copy_known(&state.known)?),
         NodeKind::Action(header) => after_action(checker, state, header),
         NodeKind::Control(control) => after_control(checker, head, state, control),
         NodeKind::Break => after_leaving(checker, head, state),

@@ -19,6 +19,7 @@ use crate::known::{
 };
 use crate::origin::{copy_origin, join_paths};
 use std::alloc::{AllocError, Global};
+use std::rc::Rc;
 use tmpl_funcs::Func;
 use tmpl_grammar::{Command, Operand};
 use tmpl_shape::{Base, Shape, copy_shape, refine};
@@ -27,7 +28,7 @@ use tmpl_values::Bytes;
 /// What is known of dot and of the variables.
 #[derive(Drop)]
 pub(crate) struct State {
-    pub(crate) dot: Shape,
+    pub(crate) dot: Rc<Shape>,
     pub(crate) origin: Option<Vec<Bytes>>,
     pub(crate) known: Known,
 }
@@ -36,12 +37,12 @@ pub(crate) struct State {
 pub(crate) fn copy_state(alloc: Global, state: &State) -> Result<State, AllocError>
     ensures { IfOk result (λ k. state_of k ≡ state_of state.now) }
 {
-    let dot = copy_shape(alloc, &state.dot)?;
+    let dot = Rc::clone(&state.dot)?;
     let origin = copy_origin(alloc, &state.origin)?;
     Ok(State {
         dot,
         origin,
-        known: copy_known(alloc, &state.known)?,
+        known: copy_known(&state.known)?,
     })
 }
 
@@ -49,10 +50,10 @@ pub(crate) fn copy_state(alloc: Global, state: &State) -> Result<State, AllocErr
 pub(crate) fn at_start(alloc: Global, shape: &Shape) -> Result<State, AllocError>
     ensures { IfOk result (λ k. state_of k ≡ at_start (shape_of shape.now)) }
 {
-    let dot = copy_shape(alloc, shape)?;
+    let dot = Rc::new(alloc, copy_shape(alloc, shape)?)?;
     let origin: Vec<Bytes> = Vec::new(alloc);
     let of_variable: Vec<Bytes> = Vec::new(alloc);
-    let shape = copy_shape(alloc, shape)?;
+    let shape = Rc::clone(&dot)?;
     let known = put_variable(alloc, &[], shape, Some(of_variable), Known::Empty)?;
     Ok(State {
         dot,
@@ -117,12 +118,12 @@ fn narrow_root(
     let origin = copy_origin(base.alloc, &state.origin)?;
     match place.root {
         None => {
-            let dot = refine(base, least, place.path, &state.dot)?;
-            let known = copy_known(base.alloc, &state.known)?;
+            let dot = Rc::new(base.alloc, refine(base, least, place.path, &state.dot)?)?;
+            let known = copy_known(&state.known)?;
             Ok(State { dot, origin, known })
         }
         Some(name) => {
-            let dot = copy_shape(base.alloc, &state.dot)?;
+            let dot = Rc::clone(&state.dot)?;
             let known = refine_variable(base, least, name, place.path, &state.known)?;
             Ok(State { dot, origin, known })
         }

@@ -3,10 +3,10 @@
 //! action gave no value at all, so that nothing more is said of it.
 #![tactic(auto)]
 
-use crate::check::is_stop;
+use crate::check::{is_stop, mode_for};
 use crate::failure::{Doubt, Failure};
 use crate::known::{Known, after_both, bind, copy_known};
-use crate::node::{Checker, after_node, in_body, in_other, in_turn, settle_head};
+use crate::node::{Checker, after_node, in_body, in_other, in_turn, settle_soon};
 use crate::pipeline::pipeline_shape;
 use crate::state::{State, at_start, copy_state};
 use crate::table::{Call, Callee, Entry};
@@ -26,16 +26,16 @@ const MOST_DOUBTS: usize = 100;
 /// rounds, or is not followed.
 const MOST_VISITS: usize = 100_000;
 
-const MOST_ROUNDS: usize = 16;
+pub(crate) const MOST_ROUNDS: usize = 16;
 
-/// What a template is asked for: the set and the name in it, the shape of its data, the mode for missing keys, and the
-/// templates that need not be there.
+/// What a template is asked for: the set and the name in it, the shape of its data, the mode for missing keys or else each,
+/// and the templates that need not be there.
 #[derive(Clone, Copy)]
 pub(crate) struct Question<'q> {
     pub(crate) set: &'q Set,
     pub(crate) name: &'q [u8],
     pub(crate) shape: &'q Shape,
-    pub(crate) mode: MissingKey,
+    pub(crate) asked: Option<MissingKey>,
     pub(crate) stops: &'q [Bytes],
 }
 
@@ -145,7 +145,7 @@ fn survey_node(
         }
         NodeKind::Text(_) | NodeKind::Break | NodeKind::Continue | NodeKind::Template(_, _) => {
             found.add(walk, failure, node.line)?;
-            copy_known(alloc, &state.known)
+            copy_known(&state.known)
         }
     }
 }
@@ -208,7 +208,7 @@ fn survey_end(
         Ok(known) => Ok(known),
         Err(failure) => {
             found.add(walk, failure.into(), line)?;
-            copy_known(walk.checker.base.alloc, &state.known)
+            copy_known(&state.known)
         }
     }
 }
@@ -237,7 +237,7 @@ fn survey_range(
             }
         }
     };
-    let known = match settle_head(
+    let known = match settle_soon(
         checker,
         &state.known,
         header,
@@ -258,7 +258,7 @@ fn survey_range(
             if found.doubts.len().saturating_add(found.wanted.len()) == before {
                 found.add(walk, failure.into(), line)?;
             }
-            copy_known(alloc, &state.known)?
+            copy_known(&state.known)?
         }
     };
     let outside = copy_state(alloc, state)?;
@@ -344,44 +344,83 @@ fn with_alternatives(alloc: Global, all: Shape, more: Shape) -> Result<Shape, Al
     }
 }
 
-/// Puts a call into the table. Gives the values for which the template is yet to be gone over.
-fn grow(
+/// What the table says first of a template that is called with values of this shape.
+fn callee_of(base: &Base<'_>, set: &Set, name: &[u8], shape: &Shape) -> Result<Callee, AllocError> {
+    if set.get(name).is_none() {
+        return Ok(Callee::Absent);
+    }
+    Ok(Callee::Handed(copy_shape(base.alloc, shape)?))
+}
+
+/// Puts a template that is not in the table there. Gives the values for which it is yet to be gone over.
+fn add_entry(
     base: &Base<'_>,
     set: &Set,
     table: &mut Vec<Entry>,
     name: &[u8],
     shape: &Shape,
 ) -> Result<Shape, AllocError> {
-    let Some(place) = place(table.as_slice(), name) else {
-        let is_there = set.get(name).is_some();
-        let name = copy_name(base.alloc, name)?;
-        if !is_there {
-            table.push(Entry {
-                name,
-                callee: Callee::Absent,
-            })?;
-            return Ok(Shape::Never);
-        }
-        table.push(Entry {
-            name,
-            callee: Callee::Handed(copy_shape(base.alloc, shape)?),
-        })?;
-        return copy_shape(base.alloc, shape);
-    };
-    let Some(
-        Entry {
-            callee: Callee::Handed(held),
-            ..
-        },
-    ) = table.get_mut(place)
-    else {
+    let callee = callee_of(base, set, name, shape)?;
+    let is_absent = matches!(callee, Callee::Absent);
+    table.push(Entry {
+        name: copy_name(base.alloc, name)?,
+        callee,
+    })?;
+    if is_absent {
         return Ok(Shape::Never);
-    };
+    }
+    copy_shape(base.alloc, shape)
+}
+
+/// Adds values to those of an entry. Gives those of them that are new to it.
+fn widen(base: &Base<'_>, held: &mut Shape, shape: &Shape) -> Result<Shape, AllocError> {
     let more = part_beyond(base, shape, held)?;
-    let added = copy_shape(base.alloc, &more)?;
-    let all = mem::replace(held, Shape::Never);
-    *held = with_alternatives(base.alloc, all, added)?;
+    add_values(base.alloc, held, &more)?;
     Ok(more)
+}
+
+/// Adds values to those of an entry.
+fn add_values(alloc: Global, held: &mut Shape, more: &Shape) -> Result<(), AllocError> {
+    let added = copy_shape(alloc, more)?;
+    let all = mem::replace(held, Shape::Never);
+    *held = with_alternatives(alloc, all, added)?;
+    Ok(())
+}
+
+/// Puts a call into the table. Gives the values for which the template is yet to be gone over.
+fn grow(
+    base: &Base<'_>,
+    set: &Set,
+    table: &mut Vec<Entry>,
+    call: &Call,
+) -> Result<Shape, AllocError> {
+    let Some(place) = place(table.as_slice(), call.name.as_slice()) else {
+        return add_entry(base, set, table, call.name.as_slice(), &call.shape);
+    };
+    match table.get_mut(place) {
+        Some(
+            Entry {
+                callee: Callee::Handed(held),
+                ..
+            },
+        ) => widen(base, held, &call.shape),
+        _ => Ok(Shape::Never),
+    }
+}
+
+/// Has a template wait for values for which it is yet to be gone over, if there are any.
+fn put_waiting(
+    alloc: Global,
+    waiting: &mut Vec<Call>,
+    name: &[u8],
+    more: Shape,
+) -> Result<(), AllocError> {
+    if matches!(more, Shape::Never) {
+        return Ok(());
+    }
+    let name = copy_name(alloc, name)?;
+    waiting.push(Call { name, shape: more })?;
+    Ok(())
 }
 
 /// Puts calls into the table, and those templates that are yet to be gone over with them to those that wait.
@@ -389,52 +428,14 @@ fn grow_all(
     base: &Base<'_>,
     question: &Question<'_>,
     table: &mut Vec<Entry>,
-    wanted: Vec<Call>,
+    wanted: &[Call],
     waiting: &mut Vec<Call>,
 ) -> Result<(), AllocError> {
-    for call in wanted.into_iter() {
-        let Call { name, shape } = call;
-        let more = grow(base, question.set, table, name.as_slice(), &shape)?;
-        if !matches!(more, Shape::Never) {
-            waiting.push(Call { name, shape: more })?;
-        }
+    for call in wanted {
+        let more = grow(base, question.set, table, call)?;
+        put_waiting(base.alloc, waiting, call.name.as_slice(), more)?;
     }
     Ok(())
-}
-
-/// Goes over templates that wait, each for the values alone that are new to it, and over those that they call. Gives
-/// whether none is left: what a template is handed settles in a few rounds for each definition, or is not followed.
-fn spread(
-    base: &Base<'_>,
-    question: &Question<'_>,
-    table: &mut Vec<Entry>,
-    waiting: &mut Vec<Call>,
-) -> Result<bool, AllocError> {
-    // by no table each call is one for which the table has less than it hands over
-    let checker = Checker {
-        base: *base,
-        mode: question.mode,
-        table: &[],
-    };
-    for visits in 0..MOST_VISITS {
-        let Some(call) = waiting.pop() else {
-            return Ok(true);
-        };
-        if visits / MOST_ROUNDS > table.len().saturating_add(base.definitions.len()) {
-            return Ok(false);
-        }
-        let mut found = Found::new(base.alloc);
-        survey_template(
-            &checker,
-            question,
-            call.name.as_slice(),
-            &call.shape,
-            &mut found,
-        )?;
-        let Found { wanted, .. } = found;
-        grow_all(base, question, table, wanted, waiting)?;
-    }
-    Ok(false)
 }
 
 /// Goes over the template that is asked for, and over each of the table.
@@ -445,7 +446,7 @@ fn survey_all(
 ) -> Result<Found, AllocError> {
     let checker = Checker {
         base: *base,
-        mode: question.mode,
+        mode: mode_for(question.asked),
         table,
     };
     let mut found = Found::new(base.alloc);
@@ -475,25 +476,90 @@ pub(crate) fn unknown_doubt(alloc: Global, name: &[u8]) -> Result<Vec<Doubt>, Al
     Ok(doubts)
 }
 
-/// Puts each call that is reached into the table. Gives each place that may fail.
-pub(crate) fn fill_table(
-    base: &Base<'_>,
-    question: &Question<'_>,
-    table: &mut Vec<Entry>,
-) -> Result<Vec<Doubt>, AllocError> {
-    let mut waiting: Vec<Call> = Vec::new(base.alloc);
-    let name = copy_name(base.alloc, question.name)?;
-    let shape = copy_shape(base.alloc, question.shape)?;
-    waiting.push(Call { name, shape })?;
-    for _ in 0..MOST_ROUNDS {
-        if !spread(base, question, table, &mut waiting)? {
-            break;
-        }
-        let Found { doubts, wanted } = survey_all(base, question, table.as_slice())?;
-        if wanted.is_empty() {
-            return Ok(doubts);
-        }
-        grow_all(base, question, table, wanted, &mut waiting)?;
+/// The search for what is handed to templates that are called: the table of them, and calls of those that are yet to be
+/// gone over.
+#[derive(Drop)]
+pub(crate) struct Search {
+    pub(crate) table: Vec<Entry>,
+    waiting: Vec<Call>,
+}
+
+impl Search {
+    /// Where the template that is asked for is yet to be gone over.
+    pub(crate) fn new(base: &Base<'_>, question: &Question<'_>) -> Result<Search, AllocError> {
+        let name = copy_name(base.alloc, question.name)?;
+        let shape = copy_shape(base.alloc, question.shape)?;
+        let mut waiting: Vec<Call> = Vec::new(base.alloc);
+        waiting.push(Call { name, shape })?;
+        Ok(Search {
+            table: Vec::new(base.alloc),
+            waiting,
+        })
     }
-    unknown_doubt(base.alloc, question.name)
+
+    /// Goes over the template of a call, and puts what it calls into the table.
+    fn visit(
+        &mut self,
+        checker: &Checker<'_>,
+        question: &Question<'_>,
+        call: &Call,
+    ) -> Result<(), AllocError> {
+        let mut found = Found::new(checker.base.alloc);
+        let name = call.name.as_slice();
+        survey_template(checker, question, name, &call.shape, &mut found)?;
+        self.grow(&checker.base, question, found.wanted.as_slice())
+    }
+
+    /// Puts calls into the table.
+    fn grow(
+        &mut self,
+        base: &Base<'_>,
+        question: &Question<'_>,
+        wanted: &[Call],
+    ) -> Result<(), AllocError> {
+        grow_all(base, question, &mut self.table, wanted, &mut self.waiting)
+    }
+
+    /// Goes over templates that wait, each for the values alone that are new to it, and over those that they call. Gives
+    /// whether none is left: what a template is handed settles in a few rounds for each definition, or is not followed.
+    pub(crate) fn spread(
+        &mut self,
+        base: &Base<'_>,
+        question: &Question<'_>,
+    ) -> Result<bool, AllocError> {
+        // by no table each call is one for which the table has less than it hands over
+        let checker = Checker {
+            base: *base,
+            mode: mode_for(question.asked),
+            table: &[],
+        };
+        for visits in 0..MOST_VISITS {
+            let Some(call) = self.waiting.pop() else {
+                return Ok(true);
+            };
+            let count = self.table.len().saturating_add(base.definitions.len());
+            if visits / MOST_ROUNDS > count {
+                return Ok(false);
+            }
+            self.visit(&checker, question, &call)?;
+        }
+        Ok(false)
+    }
+
+    /// Each place that may fail by the table, or nothing where the table lacks a call, which is put there.
+    pub(crate) fn doubts(
+        &mut self,
+        base: &Base<'_>,
+        question: &Question<'_>,
+    ) -> Result<Option<Vec<Doubt>>, AllocError> {
+        let Found { doubts, wanted } = survey_all(base, question, self.table.as_slice())?;
+        if !wanted.is_empty() {
+            self.grow(base, question, wanted.as_slice())?;
+            return Ok(None);
+        }
+        if doubts.is_empty() {
+            return Ok(Some(unknown_doubt(base.alloc, question.name)?));
+        }
+        Ok(Some(doubts))
+    }
 }

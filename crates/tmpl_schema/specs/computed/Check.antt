@@ -345,9 +345,12 @@ module _ (base : Base) where
   all_within (k ∷ ks) (l ∷ ls) = bytes_eq k.0 l.0 && (within base k.1 l.1 && (origin_within k.2 l.2 && all_within ks ls))
   all_within ks ls = false
 
-  abbrev pub join_all : Known → Known → Known
-  join_all (k ∷ ks) (l ∷ ls) = (k.0, join base k.1 l.1, join_origins k.2 l.2) ∷ join_all ks ls
-  join_all ks ls = []
+  -- the same variables, each with the values of both
+  abbrev pub join_all : Known → Known → Option Known
+  join_all [] [] = Some []
+  join_all (k ∷ ks) (l ∷ ls) = if bytes_eq k.0 l.0 then
+      option_map (λ js. (k.0, join base k.1 l.1, join_origins k.2 l.2) ∷ js) (join_all ks ls) else None
+  join_all ks ls = None
 
   -- ---- pipelines
 
@@ -517,14 +520,12 @@ module _ (base : Base) where
 
   -- the variables that were there before, after two parts
   abbrev pub after_both : ℕ → Known → Known → Option Known
-  after_both n ks ls =
-      let u = last_of n ks in let w = last_of n ls in let j = join_all u w in
-      option_and_then (λ j. if_within w j) (if_within u j)
+  after_both n ks ls = join_all (last_of n ks) (last_of n ls)
 
   -- the variables at the head of a range, if a turn keeps these; else those that are found from what a turn adds
   abbrev pub settle_step : (Known → Option Known) → (Known → Option Known) → Known → Option Known
   settle_step more turn ks =
-      option_and_then (λ end. if all_within end ks then Some ks else more (join_all ks end)) (turn ks)
+      option_and_then (λ end. if all_within end ks then Some ks else option_and_then more (join_all ks end)) (turn ks)
 
   -- .. looked for in as many rounds as this
   abbrev pub settle_known : ℕ → (Known → Option Known) → Known → Option Known
@@ -533,10 +534,6 @@ module _ (base : Base) where
 
   unfoldable pub settle_soon : (Known → Option Known) → Known → Option Known
   settle_soon turn ks = settle_known 12 turn ks
-
-  -- .. from these before it
-  abbrev pub settle_head : (Known → Option Known) → Known → Option Known
-  settle_head turn ks = option_and_then (if_within ks) (settle_soon turn ks)
 
   -- at a break or continue the variables are within those at the head of the range
   abbrev pub leave_with : Known → Option Known → Option Known
@@ -560,7 +557,7 @@ module _ (base : Base) where
 
   abbrev pub after_range : Header → State → (Option Known → Checked) → Checked → Visit → Option Known
   after_range h k body other v =
-      option_and_then (λ head. option_and_then (after_both (length k.env) head) (other k)) (settle_head (turn_known h v body) k.env)
+      option_and_then (λ head. option_and_then (after_both (length k.env) head) (other k)) (settle_soon (turn_known h v body) k.env)
 
   abbrev pub after_control :
       Control → Option Known → Header → State → (Option Known → Checked) → Checked → Shape → Option Known

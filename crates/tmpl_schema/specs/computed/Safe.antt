@@ -1,5 +1,5 @@
 -- The law that an accepted template has no fault but those that it may have.
-use Rattle.std.specs.Prelude.{◌≡◌, ℕ, true, List, [], ◌∷◌, Option, Some, None, IfSome, Contains}
+use Rattle.std.specs.Prelude.{◌≡◌, ℕ, true, List, [], ◌∷◌, Option, Some, None, IfSome, Contains, unwrap_or}
 use Rattle.std.specs.Option.{option_map_or}
 use Rattle.tmpl_values.specs.Value.{Value, nothing}
 use Rattle.tmpl_syntax.specs.Set.{Template, tree_named}
@@ -7,10 +7,15 @@ use Rattle.tmpl_syntax.specs.Tree.{Tree}
 use Rattle.tmpl_meaning.specs.Meaning.{Rules, ran}
 use Rattle.tmpl_meaning.specs.Pipeline.{without_null}
 use Rattle.tmpl_meaning.specs.declared.missing_key.MissingKey.{MissingKey}
+use Rattle.tmpl_meaning.specs.declared.missing_key.MissingKey.TheVariants.{Error}
 use Rattle.tmpl_shape.specs.Shape.{Shape, HasShape, stands_for}
-use Rattle.tmpl_schema.specs.Safe.{MayEnd}
+use Rattle.tmpl_schema.specs.Safe.{Covers, MayEnd}
 use Rattle.tmpl_shape.specs.computed.Shapes.{Base}
 use Rattle.tmpl_schema.specs.computed.Check.{Callee, handed, absent, Table, is_safe}
+
+-- the mode in which a template is checked: the one that was asked for, or where each is, that in which least is given
+abbrev pub mode_for : Option MissingKey → MissingKey
+mode_for asked = unwrap_or asked Error
 
 -- a template that is called is in the set, and is accepted for values of its shape; or it is not, and its call is a stop
 abbrev pub IsCallee : Base → MissingKey → List (List ℕ) → List Template → Table → List ℕ → Callee → Type 0
@@ -28,11 +33,11 @@ abbrev pub EachCallee : Base → MissingKey → List (List ℕ) → List Templat
 EachCallee b m stops set table [] = Unit {0}
 EachCallee b m stops set table (e ∷ es) = IsCallee b m stops set table e.0 e.1 × EachCallee b m stops set table es
 
--- the template of this name is there, and its run over a value of the shape in this mode has no fault but those that it
--- may have
-abbrev pub NeverFailsIn : Base → MissingKey → List (List ℕ) → List Template → List ℕ → Shape → Type 0
-NeverFailsIn b m stops set name s = (t : Tree) × (tree_named name set ≡ Some t)
-    × ((rules : Rules) (input : Option Value) → m ≡ rules.missing_key
+-- the template of this name is there, and its run over a value of the shape in a mode that was asked for has no fault
+-- but those that it may have
+abbrev pub NeverFailsIn : Base → Option MissingKey → List (List ℕ) → List Template → List ℕ → Shape → Type 0
+NeverFailsIn b asked stops set name s = (t : Tree) × (tree_named name set ≡ Some t)
+    × ((rules : Rules) (input : Option Value) → Covers asked rules.missing_key
     → HasShape (stands_for b.defs) s (option_map_or without_null input nothing)
     → IfSome (ran rules set name t input).fault (λ f. MayEnd stops f.cause))
 

@@ -41,7 +41,7 @@ known_step Known-F.Empty = []
 known_step (Known-F.More v) = v.value
 
 abbrev pub variable_step : Variable-F Known Known → Known
-variable_step v = (v.name, shape_of v.shape, origin_of v.origin) ∷ v.older
+variable_step v = (v.name, shape_of v.shape.value, origin_of v.origin) ∷ v.older
 
 abbrev pub known_of : held_known.Known → Known
 known_of = fold-Known Known Known known_step variable_step
@@ -56,7 +56,7 @@ is_longer (x ∷ xs) [] = true
 is_longer (x ∷ xs) (y ∷ ys) = is_longer xs ys
 
 abbrev pub state_of : held_state.State → State
-state_of k = record { dot = shape_of k.dot; from = origin_of k.origin; env = known_of k.known }
+state_of k = record { dot = shape_of k.dot.value; from = origin_of k.origin; env = known_of k.known }
 
 abbrev pub head_seen : held_head.Head → Head
 head_seen (head.Function f) = calls f

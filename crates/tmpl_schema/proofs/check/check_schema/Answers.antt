@@ -1,19 +1,20 @@
-use Rattle.std.proofs.Common.{Option, OnOk, sym, subst}
+use Rattle.std.proofs.Common.{ap, subst}
+use Rattle.std.proofs.lemmas.Result.{on_ok_weaker}
 use Rattle.tmpl_syntax.specs.View.{set_view}
-use Rattle.tmpl_meaning.specs.declared.missing_key.MissingKey.{MissingKey}
-use Rattle.tmpl_schema.specs.Safe.{NeverFails}
-use Rattle.tmpl_shape.specs.View.{schema_of}
-use Rattle.tmpl_schema.proofs.AcceptLemmas.{each-mode}
+use Rattle.tmpl_shape.specs.Shape.{Shape}
+use Rattle.tmpl_shape.specs.View.{defs_in, schema_of}
+use Rattle.tmpl_schema.specs.computed.Safe.{NeverFailsIn}
+use Rattle.tmpl_shape.specs.computed.Shapes.{Base}
+use Rattle.tmpl_schema.proofs.AcceptLemmas.{schema-accepted}
 use Rattle.tmpl_schema.proofs.check.check_schema.Goals as goal
 
-pub returns-in-Some : goal.returns-in-Some
-returns-in-Some c =
-    subst (λ (o : Option MissingKey). OnOk c.check_mode.result (NeverFails (schema_of c.args.schema.now) o c.args.stops.now (set_view c.args.set.now) c.args.name.now))
-    (sym c.in-Some.is) c.check_mode.ensures
-
-pub returns-in_ok-check_mode-in-None-4 : goal.returns-in_ok-check_mode-in-None-4
-returns-in_ok-check_mode-in-None-4 c =
-    subst (λ (o : Option MissingKey). NeverFails (schema_of c.args.schema.now) o c.args.stops.now (set_view c.args.set.now) c.args.name.now)
-    (sym c.in-None.is)
-    (each-mode (schema_of c.args.schema.now) c.args.stops.now (set_view c.args.set.now) c.args.name.now c.in_ok-check_mode-in-None.ensures
-    c.in_ok-check_mode-in-None-2.ensures c.in_ok-check_mode-in-None-3.ensures c.in_ok-check_mode-in-None-4.ensures)
+pub returns-in-Ok : goal.returns-in-Ok
+returns-in-Ok c =
+    let base : Base = record { defs = defs_in c.as_slice.result.now; names = 6; limit = 400 } in
+    let asked = c.args.mode in
+    let stops = c.args.stops.now in
+    let set = set_view c.args.set.now in
+    let name = c.args.name.now in
+    on_ok_weaker c.check_shape.result
+    (λ h. schema-accepted base asked stops set name (schema_of c.args.schema.now) (ap defs_in c.as_slice.ensures.value)
+    (subst (λ (s : Shape). NeverFailsIn base asked stops set name s) c.in-Ok.ensures h)) c.check_shape.ensures

@@ -21,9 +21,6 @@ decreases-after_choice l = 60 * (nodes_weight (nodes_in l.parts.now.body.now) + 
 abbrev pub decreases-after_range : goal.decreases-after_range
 decreases-after_range l = 60 * (nodes_weight (nodes_in l.parts.now.body.now) + nodes_weight (nodes_in l.parts.now.other.now)) + 30
 
-abbrev pub decreases-settle_head : goal.decreases-settle_head
-decreases-settle_head l = 60 * nodes_weight (nodes_in l.body.now) + 20
-
 abbrev pub decreases-settle_soon : goal.decreases-settle_soon
 decreases-settle_soon l = 60 * nodes_weight (nodes_in l.body.now) + 19
 
