@@ -311,7 +311,7 @@ def bench_check(figures, folder):
     schema = json.dumps({"type": "object", "required": names, "properties": {name: lists for name in names}}, indent=1)
     lines = ["{{range .%s}}{{len .}}{{end}}{{if .%s}}{{len .%s}}{{end}}\n" % (names[it % 150], names[it % 149], names[it % 149]) for it in range(5000)]
     words = ["--schema", write(f"{folder}/schema", [schema.encode()]), write(f"{folder}/lines", ["".join(lines).encode()])]
-    (ours,) = medians(1, [harness.CHECKER, *words])
+    (ours,) = medians(11, [harness.CHECKER, *words])
     figures.row(f"`tmpl-check --schema`: 5,000 lines, and {len(schema.splitlines()):,} of the schema", with_memory(ours), "1 s", ours[0], None, 1)
 
 
