@@ -3,6 +3,13 @@
 OBJECT = {"type": "object", "additionalProperties": False}
 
 
+def hands_on(count):
+    """This many variables, of which each takes the value of the one before it in each turn, and the first the item."""
+    before = "".join("{{$v%d := 1}}" % at for at in range(count))
+    turn = "".join("{{$v%d = $v%d}}" % (at, at - 1) for at in reversed(range(1, count)))
+    return before + "{{range .x}}" + turn + "{{$v0 = .}}{{end}}{{print $v%d}}" % (count - 1)
+
+
 def of(properties, required=None, **more):
     """A schema of maps with these properties, of which all are required where it is not said which."""
     return {**OBJECT, "properties": properties, "required": list(properties) if required is None else required, **more}
@@ -30,6 +37,7 @@ MAYBE = {**of({"b": TEXT}), "type": ["object", "null"]}
 ACCEPTED = [
     ("required text", of({"a": TEXT}), "{{.a}}", []),
     ("number is whole", of({"a": {"type": "number"}}), "{{lt .a 3}}", []),
+    ("variables that settle in 12 rounds", of({"x": ITEMS}), hands_on(11), []),
     ("list", of({"a": ITEMS}), "{{range .a}}{{len .}}{{end}}", []),
     ("optional by default", of({"a": of({"b": TEXT})}, []), "{{with .a}}{{.b}}{{end}}", DEFAULT),
     ("null is empty", of({"a": {"type": ["object", "null"], "required": ["b"]}}), "{{with .a}}{{.b}}{{end}}", []),
@@ -222,6 +230,9 @@ REFUSED = [
     ("a part past the end", of({"a": {**ITEMS, "minItems": 2}}), "{{slice .a 2}}\n{{slice .a 1 3}}", [], few("2:1", "slice", 3, low(3))),
     ("a part from past the end", of({"a": ITEMS}), "{{slice .a 1}}", [], FIRST.replace("index", "slice")),
     ("a part that is turned round", of({"a": {**ITEMS, "minItems": 3}}), "{{slice .a 2 1}}", [], '1:1: error: may fail: "slice" may get what it refuses'),
+    ("a variable that is assigned before a break", of({"x": ITEMS}), "{{$x := 1}}{{range .x}}{{$x = .}}{{break}}{{end}}{{print $x}}", [],
+     "1:1: error: may fail: what the variables hold after it is not followed"),
+    ("variables that settle in 13 rounds", of({"x": ITEMS}), hands_on(12), [], "1:1: error: may fail: what the variables hold after it is not followed"),
     ("a part by a bound of the data", of({"a": {**ITEMS, "minItems": 3}, "b": WHOLE}), "{{slice .a .b}}", [], '1:1: error: may fail: "slice" is not followed by this check'),
     ("a part of a map", of({"a": of({})}), "{{slice .a}}", [], '1:1: error: may fail: "slice" may get what it refuses'),
     ("what is left of a part", of({"a": {**ITEMS, "minItems": 3}}), "{{index (slice .a 2) 1}}", [], few("1:1", "index", 2)),
