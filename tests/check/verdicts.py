@@ -359,7 +359,7 @@ def is_again(line, found):
     """Whether a line says what another does, of which this was found, whatever it says of the schema."""
     if found.re is FEW:
         return line.startswith(found[1]) and line.endswith(found[4])
-    return line.startswith(found[0][: found.end(2)] + " " if found.re is ABSENT else found[0][: found.end(3)])
+    return line.startswith(found[0][: found.end(2)] + " may be absent" if found.re is ABSENT else found[0][: found.end(3)])
 
 
 def drawn_reasons(seed, count):
