@@ -32,13 +32,13 @@ ROOTS = (
 )
 # the lines of each crate that are believed, at most
 MOST = {
-    "tmpl_values": 170,
-    "tmpl_funcs": 231,
+    "tmpl_values": 160,
+    "tmpl_funcs": 225,
     "tmpl_lex": 101,
-    "tmpl_grammar": 302,
-    "tmpl_syntax": 352,
-    "tmpl_meaning": 223,
-    "tmpl_tool": 249,
+    "tmpl_grammar": 292,
+    "tmpl_syntax": 337,
+    "tmpl_meaning": 213,
+    "tmpl_tool": 236,
     "tmpl_engine": 2,
     "tmpl_c": 96,
 }
@@ -123,8 +123,8 @@ def names_of(block):
     words = block[0].split()
     kinds = [word for word in words if word not in ("abbrev", "unfoldable", "pub")]
     if kinds[0] in ("data", "record"):
-        fields = (re.match(r"\s+(?:pub )?(\S+) :", line) for line in block[1:])
-        return [kinds[1]] + [field[1] for field in fields if field and kinds[0] == "data"]
+        rows = (re.match(r"\s+((?:[^\s(){}→:]+ )+):", line) for line in block[1:] if kinds[0] == "data")
+        return [kinds[1]] + [name for row in rows if row for name in row[1].split()]
     if kinds[0] == "mutual":
         return [found[1] for line in block[1:] if (found := re.match(r"\s+pub (?:data |record )?(\S+)", line))]
     return [kinds[0]]

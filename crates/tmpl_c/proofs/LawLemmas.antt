@@ -3,7 +3,7 @@ use Rattle.std.proofs.Common.{◌≡◌, ◌++◌, ℕ, suc, Bool, true, false, 
 use Rattle.std.proofs.Common.{inl, inr}
 use Rattle.std.specs.Result.{result_map_both}
 use Rattle.std.specs.Str.{is_utf8}
-use Rattle.tmpl_values.specs.Json.{Flaw, data_of}
+use Rattle.tmpl_values.specs.Json.{Flaw, not_json, not_whole, data_of}
 use Rattle.tmpl_values.specs.Value.{Value}
 use Rattle.tmpl_syntax.specs.Set.{Template}
 use Rattle.tmpl_tool.specs.Outcome.{Answer}
@@ -80,7 +80,8 @@ answers_but_for_name one other parse rules print files name input = go input (ea
         (λ v. named_run rules name set v)))
         (answer_of (and_then (result_map_both Some (tool.flawed other) d) (λ v. named_run rules name set v)))
     with_flaw set (Ok v) = (refl, refl, inl refl)
-    with_flaw set (Err flaw) = (refl, refl, inr (flaw, refl, refl))
+    with_flaw set (Err not_json) = (refl, refl, inr (not_json, refl, refl))
+    with_flaw set (Err not_whole) = (refl, refl, inr (not_whole, refl, refl))
 
     go : (input : Bytes) (r : Result (List Template) Early) (p : Bool) → Same (after one input r p) (after other input r p)
     go input (Err s) p = (refl, refl, inl refl)

@@ -7,9 +7,8 @@ use Rattle.percent_encoding.specs.Percent.{percent_encode_byte}
 
 -- the bytes that do not stand for themselves in HTML, and what does, as `HTMLEscapeString` has it: U+FFFD for NUL
 abbrev pub html_escapes : List (ℕ × List ℕ)
-html_escapes =
-    (byte "\"", codes "&#34;") ∷ (byte "'", codes "&#39;") ∷ (byte "&", codes "&amp;") ∷ (byte "<", codes "&lt;")
-    ∷ (byte ">", codes "&gt;") ∷ (0, 239 ∷ 191 ∷ 189 ∷ []) ∷ []
+html_escapes = (byte "\"", codes "&#34;") ∷ (byte "'", codes "&#39;") ∷ (byte "&", codes "&amp;")
+    ∷ (byte "<", codes "&lt;") ∷ (byte ">", codes "&gt;") ∷ (0, 239 ∷ 191 ∷ 189 ∷ []) ∷ []
 
 -- a byte in HTML
 abbrev pub html_byte : ℕ → List ℕ

@@ -15,11 +15,8 @@ use Rattle.tmpl_grammar.specs.declared.action.Branch.TheVariants as branch
 pub data Action : Type 0 where
   pipeline_action : Header → Action
   opening : Control → Header → Action
-  plain_else : Action
+  plain_else end_action break_action continue_action : Action
   else_branch : Branch → Header → Action
-  end_action : Action
-  break_action : Action
-  continue_action : Action
   -- a template of this name begins
   define_action : List ℕ → Action
   -- the template of this name is run, with the value of a pipeline or with nothing
@@ -51,8 +48,7 @@ SpellsAction end_action ts = Then (IsWord (codes "end")) IsBlank ts
 SpellsAction break_action ts = Then (IsWord (codes "break")) IsBlank ts
 SpellsAction continue_action ts = Then (IsWord (codes "continue")) IsBlank ts
 SpellsAction (define_action name) ts = Then (IsWord (codes "define")) (Then (IsQuoted name) IsBlank) ts
-SpellsAction (template_action name given) ts =
-    Then (IsWord (codes "template")) (Then (IsQuoted name) (SpellsGiven given)) ts
+SpellsAction (template_action name p) ts = Then (IsWord (codes "template")) (Then (IsQuoted name) (SpellsGiven p)) ts
 SpellsAction (block_action name p) ts = Then (IsWord (codes "block")) (Then (IsQuoted name) (SpellsPipeline p)) ts
 
 -- the control of an else branch

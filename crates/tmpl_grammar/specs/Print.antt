@@ -44,8 +44,7 @@ abbrev mutual
   operand_tokens (tree.text_constant bytes) = token kind.String (quote bytes) ∷ []
   operand_tokens tree.nil = word (codes "nil") ∷ []
   operand_tokens (tree.function f) = word (name_of f) ∷ []
-  operand_tokens (tree.group commands names) =
-      token kind.LeftParenthesis (codes "(")
+  operand_tokens (tree.group commands names) = token kind.LeftParenthesis (codes "(")
       ∷ (pipeline_tokens commands ++ token kind.RightParenthesis (codes ")") ∷ chain_tokens names)
 
   pub more_tokens : Operands → List Token
@@ -58,8 +57,7 @@ abbrev mutual
 
   pub later_tokens : Pipeline → List Token
   later_tokens tree.no_command = []
-  later_tokens (tree.command os cs) =
-      space ∷ token kind.Pipe (codes "|") ∷ space ∷ (command_tokens os ++ later_tokens cs)
+  later_tokens (tree.command c cs) = space ∷ token kind.Pipe (codes "|") ∷ space ∷ (command_tokens c ++ later_tokens cs)
 
   pub pipeline_tokens : Pipeline → List Token
   pipeline_tokens tree.no_command = []
@@ -72,9 +70,8 @@ abbrev pub binding_tokens : Binding → List Token
 binding_tokens unbound = []
 binding_tokens (declare name) = variable_token name ∷ space ∷ token kind.Declare (codes ":=") ∷ space ∷ []
 binding_tokens (assign name) = variable_token name ∷ space ∷ token kind.Assign (codes "=") ∷ space ∷ []
-binding_tokens (declare_pair key name) =
-    variable_token key ∷ token kind.Comma (codes ",") ∷ space ∷ variable_token name ∷ space
-    ∷ token kind.Declare (codes ":=") ∷ space ∷ []
+binding_tokens (declare_pair key name) = variable_token key ∷ token kind.Comma (codes ",") ∷ space
+    ∷ variable_token name ∷ space ∷ token kind.Declare (codes ":=") ∷ space ∷ []
 
 abbrev pub header_tokens : Header → List Token
 header_tokens h = binding_tokens h.binding ++ pipeline_tokens h.pipeline

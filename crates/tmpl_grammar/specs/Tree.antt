@@ -3,16 +3,15 @@ use Rattle.std.specs.Prelude.{ℕ, ℤ, Bool, List, [], ◌∷◌}
 use Rattle.tmpl_funcs.specs.declared.func.Func.{Func}
 
 mutual
-  -- what a value comes from: dot, a chain of field names from dot, a variable and a chain from it, a constant, `nil`, a
+  -- what a value comes from: dot, `nil`, a chain of field names from dot, a variable and a chain from it, a constant, a
   -- function, or a pipeline in parentheses and a chain from it
   pub data Operand : Type 0 where
-    dot : Operand
+    dot nil : Operand
     fields : List (List ℕ) → Operand
     variable : List ℕ → List (List ℕ) → Operand
     bool_constant : Bool → Operand
     number_constant : ℤ → Operand
     text_constant : List ℕ → Operand
-    nil : Operand
     function : Func → Operand
     group : Pipeline → List (List ℕ) → Operand
 
@@ -30,8 +29,7 @@ mutual
 -- key and one for the element
 pub data Binding : Type 0 where
   unbound : Binding
-  declare : List ℕ → Binding
-  assign : List ℕ → Binding
+  declare assign : List ℕ → Binding
   declare_pair : List ℕ → List ℕ → Binding
 
 pub record Header : Type 0 where

@@ -3,8 +3,8 @@ use Rattle.std.specs.Prelude.{ℕ, zero, suc, ◌-◌, nat_eq, Bool, false, ◌|
 use Rattle.std.specs.Prelude.{Option, Some, None, Result, Ok, Err, if◌then◌else◌}
 use Rattle.std.specs.Option.{option_map_or}
 use Rattle.std.specs.Str.{bytes_eq}
-use Rattle.tmpl_values.specs.Value.{Value, nothing}
-use Rattle.tmpl_values.specs.Elements.{Element, elements, pairs}
+use Rattle.tmpl_values.specs.Value.{Value, nothing, number}
+use Rattle.tmpl_values.specs.Elements.{Element, elements}
 use Rattle.tmpl_values.specs.Text.{text_of}
 use Rattle.tmpl_values.specs.Truth.{truth}
 use Rattle.tmpl_grammar.specs.Tree.{Pipeline, Binding, unbound, declare, assign, declare_pair}
@@ -45,9 +45,7 @@ pub record Run : Type 0 where
 
 -- how a part of a template ends: at a break or continue it is left for the range around it to go on
 pub data End : Type 0 where
-  done : End
-  broke : End
-  continued : End
+  done broke continued : End
   faulted : Fault → End
 
 abbrev pub Next : Type 0
@@ -121,7 +119,7 @@ turns s line b body (e ∷ es) r =
 
 -- the elements that a range visits, if it may range over the value: with two variables it may not over a number
 abbrev pub elements_visited : Binding → Value → Option (List Element)
-elements_visited (declare_pair key name) v = pairs v
+elements_visited (declare_pair key name) (number n) = None
 elements_visited b v = elements v
 
 -- what stands in a control: the variables in its header, its body with a dot, and its other part
@@ -202,8 +200,7 @@ pub record Ran : Type 0 where
 -- what a template of this name and set puts out over the data: the dot at its start is the data, of which null is
 -- nothing, and nothing where there is no data
 abbrev pub ran : Rules → List Template → List ℕ → Tree → Option Value → Ran
-ran rules set name t input =
-    let d = option_map_or without_null input nothing in
+ran rules set name t input = let d = option_map_or without_null input nothing in
     let r = meanings (setting_of rules (calls_within rules set (rules.depth_limit - 1)) name t) t.nodes d
     (record { env = ([], d) ∷ []; text = []; left = rules.step_limit; made_text = false }) in
     record { text = r.0.text; fault = fault_of r.1; made_text = r.0.made_text }

@@ -109,8 +109,7 @@ abbrev mutual
   operand_value s (text_constant bytes) = as_given (Ok (string bytes))
   operand_value s nil = as_given (Ok nothing)
   operand_value s (function f) = if takes f 0 then apply_function f [] else as_given (Err (call_failed f WrongCount))
-  operand_value s (group commands names) =
-      given_then (commands_value s commands None) (λ v. as_given (chain s.missing_key names v))
+  operand_value s (group cs names) = given_then (commands_value s cs None) (λ v. as_given (chain s.missing_key names v))
 
   -- the operands from left to right, up to the first that has no value
   pub operand_values : Place → Operands → Given (List Value)
@@ -127,8 +126,7 @@ abbrev mutual
   -- a command, to which a value may be piped: a call, of which the number of arguments is looked at first, or one
   -- operand alone, which `nil` may not be
   pub command_value : Place → Operands → Option Value → Given Value
-  command_value s (operand (function f) os) piped =
-      if takes f (operand_count os + length (option_to_list piped)) then
+  command_value s (operand (function f) os) piped = if takes f (operand_count os + length (option_to_list piped)) then
       by_function f (given_then (operand_values s os) (λ vs. apply_function f (vs ++ option_to_list piped)))
       (junction false s nothing os piped) (junction true s nothing os piped)
       else as_given (Err (call_failed f WrongCount))

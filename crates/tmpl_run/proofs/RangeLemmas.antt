@@ -2,7 +2,7 @@
 use Rattle.std.proofs.Common.{arith, ◌≡◌, ◌∙◌, ◌+◌, ◌-◌, ◌≤◌, ◌&&◌, nat_eq, ℕ, zero, suc, Bool, true, false, List, [], ◌∷◌, length, drop, refl}
 use Rattle.std.proofs.Common.{add-one, ap, sym, subst, Option, Some, None, drop-drop}
 use Rattle.std.specs.Prelude.{slice_set}
-use Rattle.tmpl_values.specs.Value.{Value, nothing}
+use Rattle.tmpl_values.specs.Value.{Value, nothing, number}
 use Rattle.tmpl_values.specs.Elements.{Element, elements}
 use Rattle.tmpl_grammar.specs.Tree.{Binding, unbound, declare, assign, declare_pair, Header}
 use Rattle.tmpl_grammar.specs.Need.{declared_count}
@@ -40,7 +40,8 @@ one-less : (es : List Element) (k : ℕ) (e : Element) (more : List Element) →
 one-less es k e more h = sym (drop-one es k) ∙ ap (drop 1) h
 
 elements_visited-is : (b : Binding) (v : Value) → elements_visited b v ≡ elements_for (declares_key b) v
-elements_visited-is b v = grind arith
+elements_visited-is (declare_pair key name) (number n) = refl
+elements_visited-is b v = refl
 
 -- with an index or key a range visits no others
 elements-are : (key : Bool) (v : Value) (es : List Element) → elements_for key v ≡ Some es → elements_in (elements v) ≡ es

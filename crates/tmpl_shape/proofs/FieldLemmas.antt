@@ -375,7 +375,7 @@ module _ (base : Base) (N : Names) (means : Means base.defs N) where
 
   -- by what a range visits, which is the same with two variables but for numbers
   no-number : (c : Binding) (v : Value) → pairs v ≡ elements v → elements_visited c v ≡ elements v
-  no-number (declare_pair key name) v e = e
+  no-number (declare_pair key name) (number n) e = cc
   no-number _ v e = refl
 
   visit_by-gives : (i : ℕ) (c : Binding) (s : Shape) (v : Value) → HasShape N s v → Visits (visit_by base i c s) (elements_visited c v)

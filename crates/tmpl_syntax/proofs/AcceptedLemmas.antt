@@ -214,7 +214,7 @@ mutual
   node-passes (text bytes) fs known scope ss a e more = alone-passes fs known scope (roles_said ss) a 0 (a_text {bytes = bytes}) ∙ both_true e more
   node-passes (action h) fs known scope ss a e more = alone-passes fs known scope (roles_said ss) a 0 (an_action {h = h}) ∙ both_true e more
   node-passes (template_node name given) fs known scope ss a e more =
-      alone-passes fs known scope (roles_said ss) a 0 (a_template {name = name} {given = given}) ∙ both_true e more
+      alone-passes fs known scope (roles_said ss) a 0 (a_template {n = name} {p = given}) ∙ both_true e more
   node-passes break_node fs known scope ss a e more = alone-passes fs known scope (roles_said ss) a 0 a_break ∙ both_true e more
   node-passes continue_node fs known scope ss a e more = alone-passes fs known scope (roles_said ss) a 0 a_continue ∙ both_true e more
 

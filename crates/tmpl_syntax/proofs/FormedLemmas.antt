@@ -165,7 +165,7 @@ module _ (fs : List Frame) (known : Known) (scope : List Name) (rs : List Role) 
       (first-none false (knows known.inner (names_of h).uses) ∙ alike-uses known.inner scope (names_of h).uses a)
   alone-passes line a_break = ap (λ b. b && passes fs known rs) (jump-test (in_loop (top fs)))
   alone-passes line a_continue = ap (λ b. b && passes fs known rs) (jump-test (in_loop (top fs)))
-  alone-passes line (a_template {given = given}) = ap (λ b. b && passes fs known rs)
+  alone-passes line (a_template {p = given}) = ap (λ b. b && passes fs known rs)
       (first-none false (knows known.inner (names_given given).uses) ∙ alike-uses known.inner scope (names_given given).uses a)
 
   -- one that opens a level

@@ -6,14 +6,8 @@ use Rattle.tmpl_syntax.specs.declared.fault.ParseKind.TheVariants as kind
 -- it is too long, or its first refused action is so, or it ends inside a control or a template, or it defines a
 -- template twice
 pub data Reason : Type 0 where
-  too_long : Reason
-  unreadable : Reason
-  not_an_action : Reason
-  out_of_place : Reason
-  nested_too_deeply : Reason
-  undeclared_variable : Reason
-  open_at_end : Reason
-  second_definition : Reason
+  too_long unreadable not_an_action out_of_place nested_too_deeply undeclared_variable : Reason
+  open_at_end second_definition : Reason
 
 -- the reasons of an action that is read, in the order in which they are asked for
 abbrev pub in_turn : List Reason

@@ -39,18 +39,16 @@ NoneSecond ds = AllPairs (λ (c d : Definition). c.name ≡ d.name → (is_blank
 
 -- the first definition with which that is no longer so stands at this line
 abbrev pub HasSecond : List Definition → ℕ → Type 0
-HasSecond ds line =
-    (before : List Definition) × (d : Definition) × (after : List Definition) × (ds ≡ before ++ d ∷ after)
+HasSecond ds line = (before : List Definition) × (d : Definition) × (rest : List Definition) × (ds ≡ before ++ d ∷ rest)
     × NoneSecond before × (NoneSecond (before ++ d ∷ []) → ⊥) × (line ≡ d.line)
 
 -- a file is cut into pieces, and these are read as items by the grammar; it is accepted if no item of it is refused,
 -- nothing is open at its end, and none of the templates that the items spell is a second one, and these are then
 -- added to the set, one by one
-pub record IsAccepted (language : Language) (old : List Template) (file bytes : List ℕ) (new : List Template)
-    : Type 0 where
+pub record IsAccepted (by : Language) (old : List Template) (file bytes : List ℕ) (new : List Template) : Type 0 where
   pub short : length bytes ≤ most_bytes
   pub items : List Item
-  pub has : HasItems language bytes items
+  pub has : HasItems by bytes items
   pub judged : IsFine (map role_of items)
   pub definitions : List Definition
   pub own : Nodes
@@ -72,9 +70,8 @@ AreRefused file bytes items line why =
 
 -- a file of this path and these bytes is refused at this line, for this reason
 abbrev pub IsRefusedBy : Language → List ℕ → List ℕ → ℕ → Reason → Type 0
-IsRefusedBy language file bytes line too_long = (most_bytes < length bytes) × (line ≡ 1)
-IsRefusedBy language file bytes line why =
-    (length bytes ≤ most_bytes) × (items : List Item) × HasItems language bytes items
+IsRefusedBy by file bytes line too_long = (most_bytes < length bytes) × (line ≡ 1)
+IsRefusedBy by file bytes line why = (length bytes ≤ most_bytes) × (items : List Item) × HasItems by bytes items
     × AreRefused file bytes items line why
 
 -- the line and the reason of a refusal

@@ -21,8 +21,7 @@ pub data IsNode : ItemKind → NodeKind → Type 0 where
   an_action : {h : Header} → IsNode (action_item (pipeline_action h)) (action h)
   a_break : IsNode (action_item break_action) break_node
   a_continue : IsNode (action_item continue_action) continue_node
-  a_template : {name : List ℕ} {given : Option Pipeline}
-      → IsNode (action_item (template_action name given)) (template_node name given)
+  a_template : {n : List ℕ} {p : Option Pipeline} → IsNode (action_item (template_action n p)) (template_node n p)
 
 mutual
   -- these items spell these definitions, in the order of their headers, and these nodes

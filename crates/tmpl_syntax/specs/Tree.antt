@@ -9,8 +9,7 @@ mutual
     text : List ℕ → NodeKind
     action : Header → NodeKind
     control_node : Control → Header → Nodes → Nodes → NodeKind
-    break_node : NodeKind
-    continue_node : NodeKind
+    break_node continue_node : NodeKind
     -- a call of the template of this name, with a pipeline or with nothing
     template_node : List ℕ → Option Pipeline → NodeKind
 

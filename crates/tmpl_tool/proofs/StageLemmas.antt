@@ -2,6 +2,7 @@
 use Rattle.std.proofs.Common.{◌≡◌, ◌≢◌, ◌∙◌, ◌++◌, ◌+◌, add-zero, arith, ℕ, suc, List, [], ◌∷◌, length, Option, Some}
 use Rattle.std.proofs.Common.{None, Result, Ok, Err, ap, refl, sym, inl, inr}
 use Rattle.std.specs.Option.{option_map_or}
+use Rattle.tmpl_values.specs.Json.{not_json}
 use Rattle.tmpl_syntax.specs.Set.{Template}
 use Rattle.tmpl_meaning.specs.Meaning.{Fault, Ran}
 use Rattle.tmpl_tool.specs.Source.{Bytes, Files}
@@ -73,6 +74,7 @@ fault-other (Some f) e = omega (arith, e)
 
 stop-other : (s : Early) → (tool.stop_answer s).status ≢ 7
 stop-other tool.help e = omega (arith, e)
+stop-other (tool.flawed file not_json) e = omega (arith, e)
 stop-other _ e = omega (arith, e)
 
 answer-other : (r : Result Ran Early) → (answer_of r).status ≢ 7

@@ -37,20 +37,15 @@ IsParse parse = (old : List Template) (file bytes : Bytes) → Parses old file b
 -- ---- why nothing is run
 
 pub data Early : Type 0 where
-  -- help is asked for
-  help : Early
-  -- the words are refused
-  bad_words : Early
-  -- there is no file of this name, or the read of it failed
-  not_found : Bytes → Early
-  unread : Bytes → Early
+  -- help is asked for, or the words are refused
+  help bad_words : Early
+  -- there is no file of this name, the read of it failed, or there is no template of this name
+  not_found unread unnamed : Bytes → Early
   -- a template file is refused at this line, or the data are
   refused : Bytes → Refusal → Early
   flawed : Bytes → Flaw → Early
   -- the set is to be printed
   printed : List Template → Early
-  -- there is no template of this name
-  unnamed : Bytes → Early
 
 abbrev pub reason_text : Reason → Bytes
 reason_text reason.unreadable = codes "unclosed or unreadable action"
@@ -61,10 +56,6 @@ reason_text reason.open_at_end = codes "file ends inside a control"
 reason_text reason.nested_too_deeply = codes "nested too deeply"
 reason_text reason.too_long = codes "file longer than 16777216 bytes"
 reason_text reason.second_definition = codes "second definition"
-
-abbrev pub flaw_text : Flaw → Bytes
-flaw_text not_json = codes ": not JSON"
-flaw_text not_whole = codes ": number not whole or out of range"
 
 abbrev pub usage : Bytes
 usage = codes "usage: tmpl [--data FILE] [--missingkey default|invalid|zero|error] [--name NAME] "
@@ -84,10 +75,10 @@ stop_answer (printed set) = only_text (printed_set set)
 stop_answer bad_words = only_line 2 (codes "arguments refused; see tmpl --help")
 stop_answer (not_found file) = only_line 3 (file ++ codes ": no such file")
 stop_answer (unread file) = record (only_line 3 (file ++ codes ": read failed")) { unread = true }
-stop_answer (refused file r) =
-    only_line 4 (file ++ (codes ":" ++ (decimal r.0 ++ (codes ": " ++ reason_text r.1))))
+stop_answer (refused file r) = only_line 4 (file ++ (codes ":" ++ (decimal r.0 ++ (codes ": " ++ reason_text r.1))))
 stop_answer (unnamed name) = only_line 4 (codes "no template " ++ quote name)
-stop_answer (flawed file flaw) = only_line 5 (file ++ flaw_text flaw)
+stop_answer (flawed file not_json) = only_line 5 (file ++ codes ": not JSON")
+stop_answer (flawed file not_whole) = only_line 5 (file ++ codes ": number not whole or out of range")
 
 -- ---- a run
 
@@ -116,11 +107,9 @@ fault_line f = line (f.file ++ (codes ":" ++ (decimal f.line ++ (codes ": in " +
 
 -- the whole text, or that before the fault
 abbrev pub run_answer : Ran → Answer
-run_answer r = record {
-  text = r.text;
+run_answer r = record (only_text r.text) {
   line = option_map_or fault_line r.fault [];
   status = option_map_or (λ f. 1) r.fault 0;
-  unread = false;
   made_text = r.made_text;
 }
 
@@ -182,15 +171,13 @@ asked_name w = unwrap_or w.name (option_map_or base_name (slice_get w.files 0) [
 
 -- the name looked up, and the run
 abbrev pub named_run : Rules → Bytes → List Template → Option Value → Result Ran Early
-named_run rules name set input =
-    ok_or (option_map (λ tree. ran rules set name tree input) (tree_named name set)) (unnamed name)
+named_run rules name set d = ok_or (option_map (λ t. ran rules set name t d) (tree_named name set)) (unnamed name)
 
 -- ---- the command
 
 -- its answer: the words, each FILE, the printed set or else the data, the name, and the run
 abbrev pub tool_answer : Parse → List Bytes → Files → Failing → Answer
-tool_answer parse words files fails = answer_of
-    (and_then (asked_by words) (λ w.
+tool_answer parse words files fails = answer_of (and_then (asked_by words) (λ w.
     and_then (load_each parse files fails 0 [] w.files) (λ set.
     and_then (stop_if w.print (printed set)) (λ u.
     and_then (data_found files (fails (length w.files)) w.data_file) (λ input.
@@ -245,8 +232,7 @@ Follows reads answers o = NoneFailed (reads no_read) (answers no_read) o
 
 -- the answer to words that are refused, or that ask for help, depends on them alone, and this holds
 abbrev pub EndsAtWords : List Bytes → Type 0 → Sunk → Sunk → ℕ → Type 0
-EndsAtWords words Unread out err code =
-    IfSome (result_err (asked_by words)) (λ stop. Unread × Outcome (stop_answer stop) out err code)
+EndsAtWords ws Kept out err code = IfSome (result_err (asked_by ws)) (λ s. Kept × Outcome (stop_answer s) out err code)
 
 -- where what the files hold is told, the words and the files are
 abbrev pub FollowsFiles : List Bytes → Option Files → Observed → Type 0

@@ -62,15 +62,13 @@ tool_app modes = fold with_rule (on_top (λ s. record s { disable_help_flag = tr
 -- ---- the options that the words name
 
 abbrev pub mode_named : Text → MissingKey
-mode_named word = if bytes_eq word (codes "invalid") then Invalid
-    else (if bytes_eq word (codes "zero") then Zero
+mode_named word = if bytes_eq word (codes "invalid") then Invalid else (if bytes_eq word (codes "zero") then Zero
     else (if bytes_eq word (codes "error") then Error else Default))
 
--- the number that a text spells, where it is in the range
+-- the number that a text spells, where it is in the range, and another where it spells none or there is no text
 abbrev pub number_in : ℕ → ℕ → ℕ → Option Text → ℕ
-number_in default low high None = default
-number_in default low high (Some text) =
-    if is_unsigned_in low high text then digits_value 10 (without_leading_plus text) else default
+number_in none low high None = none
+number_in none low high (Some t) = if is_unsigned_in low high t then digits_value 10 (without_leading_plus t) else none
 
 -- what words that are accepted ask for
 pub record Wanted : Type 0 where

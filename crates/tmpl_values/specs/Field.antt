@@ -7,9 +7,7 @@ use Rattle.tmpl_values.specs.Value.{Value, nothing, mapping, Entries, no_entry, 
 -- nothing itself; or no field, as its kind has none
 pub data FieldValue : Type 0 where
   found : Value → FieldValue
-  missing : FieldValue
-  of_nothing : FieldValue
-  no_field : FieldValue
+  missing of_nothing no_field : FieldValue
 
 -- the entry of this key, if there is one
 abbrev pub entry_at : List ℕ → Entries → Option Value

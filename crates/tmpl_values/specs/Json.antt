@@ -33,14 +33,12 @@ abbrev mutual
 
 -- why bytes have no value
 pub data Flaw : Type 0 where
-  not_json : Flaw
-  not_whole : Flaw
+  not_json not_whole : Flaw
 
 -- the value of JSON bytes, or why they have none: they are UTF-8 that `serde_json`'s definition reads, nested no deeper
 -- than 127, and each number of the tree is whole
 abbrev pub data_of : List ℕ → Result Value Flaw
-data_of bytes =
-    and_then (ok_or (if is_utf8 bytes then read bytes else None) not_json) (λ d. ok_or (tree_value d) not_whole)
+data_of bs = and_then (ok_or (if is_utf8 bs then read bs else None) not_json) (λ d. ok_or (tree_value d) not_whole)
 
 -- the result stands for what was asked for, value or flaw, or memory was refused
 abbrev pub IsConverted : {A B : Type 0} → (A → B) → Result A DataFault → Result B Flaw → Type 0

@@ -14,8 +14,7 @@ use Rattle.tmpl_values.specs.Printable.{printable}
 -- the codes with a letter of their own after a backslash: the code, and the letter; 7, 8, 11 and 12 are the control
 -- codes bell, backspace, vertical tab and form feed
 abbrev pub letters : List (ℕ × ℕ)
-letters =
-    (byte "\"", byte "\"") ∷ (byte "\\", byte "\\") ∷ (7, byte "a") ∷ (8, byte "b") ∷ (byte "\t", byte "t")
+letters = (byte "\"", byte "\"") ∷ (byte "\\", byte "\\") ∷ (7, byte "a") ∷ (8, byte "b") ∷ (byte "\t", byte "t")
     ∷ (byte "\n", byte "n") ∷ (11, byte "v") ∷ (12, byte "f") ∷ (byte "\r", byte "r") ∷ []
 
 -- the letter of a code

@@ -6,8 +6,7 @@ use lib.Utf8.{scalar}
 
 -- a character, or a byte that begins no well-formed encoding
 pub data Rune : Type 0 where
-  char : ℕ → Rune
-  byte : ℕ → Rune
+  char byte : ℕ → Rune
 
 -- the bytes of a rune
 abbrev pub bytes_in : Rune → List ℕ

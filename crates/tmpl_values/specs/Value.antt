@@ -7,10 +7,8 @@ use Rattle.std.specs.declared.cmp.Ordering.TheVariants.{Less}
 
 mutual
   pub data Value : Type 0 where
-    -- no value at all
-    nothing : Value
-    -- a null that the data holds
-    null : Value
+    -- no value at all, and a null that the data holds
+    nothing null : Value
     boolean : Bool → Value
     number : ℤ → Value
     string : List ℕ → Value

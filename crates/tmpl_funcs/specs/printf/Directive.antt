@@ -63,8 +63,7 @@ print_truth f v = None
 
 -- the verbs: the letter of each, and what it prints
 abbrev pub verbs : List (ℕ × Prints)
-verbs =
-    (byte "v", print_any) ∷ (byte "d", print_number 10) ∷ (byte "o", print_number 8) ∷ (byte "b", print_number 2)
+verbs = (byte "v", print_any) ∷ (byte "d", print_number 10) ∷ (byte "o", print_number 8) ∷ (byte "b", print_number 2)
     ∷ (byte "x", print_hex false) ∷ (byte "X", print_hex true)
     ∷ (byte "s", λ f v. text_form f (option_map (truncated_to f.precision) (bytes_of v)))
     ∷ (byte "q", λ f v. text_form f (option_map quote (bytes_of v)))

@@ -18,8 +18,7 @@ abbrev pub texts : List Segment → List Value → Option (List ℕ)
 texts [] [] = Some []
 texts (literal run ∷ ps) vs = option_map (λ t. run ++ t) (texts ps vs)
 texts (percent ∷ ps) vs = option_map (λ t. byte "%" ∷ t) (texts ps vs)
-texts (form f ∷ ps) (v ∷ vs) =
-    option_and_then (λ s. option_map (λ t. s ++ t) (texts ps vs)) (printed_by (form_of f) v)
+texts (form f ∷ ps) (v ∷ vs) = option_and_then (λ s. option_map (λ t. s ++ t) (texts ps vs)) (printed_by (form_of f) v)
 texts _ _ = None
 
 -- the text of a format and arguments
@@ -28,5 +27,4 @@ formatted format vs = option_and_then (λ ps. texts ps vs) (reading format)
 
 -- the first argument as a format of the others; it has to be a string
 abbrev pub printf_of : Value → List Value → Result Value CallFault
-printf_of v vs =
-    and_then (ok_or (bytes_of v) WrongKind) (λ format. ok_or (option_map string (formatted format vs)) FormatRefused)
+printf_of v vs = and_then (ok_or (bytes_of v) WrongKind) (λ s. ok_or (option_map string (formatted s vs)) FormatRefused)

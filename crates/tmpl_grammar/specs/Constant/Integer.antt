@@ -14,8 +14,7 @@ pub data AreParted (base : ℕ) : List ℕ → List ℕ → Type 0 where
 
 -- the base that a letter after a leading zero names
 abbrev pub base_named : ℕ → Option ℕ
-base_named b =
-    if b == byte "x" || b == byte "X" then Some 16
+base_named b = if b == byte "x" || b == byte "X" then Some 16
     else (if b == byte "o" || b == byte "O" then Some 8
     else (if b == byte "b" || b == byte "B" then Some 2 else None))
 

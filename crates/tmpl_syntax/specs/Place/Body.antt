@@ -26,8 +26,7 @@ TakesElse xs b i = (j : ℕ) × (l : IsLast xs j i) × (joins b l.is_open.opened
 
 -- a range of the template of i that is open at i with no else of its own before i
 abbrev pub IsLoop : List Role → ℕ → ℕ → Type 0
-IsLoop xs j i =
-    (o : IsOpen xs j i) × (o.opened ≡ opened.control Range) × OfOneTemplate xs j i × (HasElse xs j i → ⊥)
+IsLoop xs j i = (o : IsOpen xs j i) × (o.opened ≡ opened.control Range) × OfOneTemplate xs j i × (HasElse xs j i → ⊥)
 
 -- out of place is a define at which something is open; an else that may not stand there; an end at which nothing is
 -- open; a break or continue in no range's body
@@ -82,8 +81,7 @@ pub data Applies (xs : List Role) (i : ℕ) : Reason → Type 0 where
 
 -- a reason is asked for before another
 abbrev pub IsBefore : Reason → Reason → Type 0
-IsBefore r why = (front : List Reason) × (between : List Reason) × (rest : List Reason)
-    × (in_turn ≡ front ++ r ∷ (between ++ why ∷ rest))
+IsBefore r why = (xs : List Reason) × (ys : List Reason) × (zs : List Reason) × (in_turn ≡ xs ++ r ∷ (ys ++ why ∷ zs))
 
 abbrev pub NoneRefused : List Role → ℕ → Type 0
 NoneRefused xs i = (k : ℕ) (r : Reason) → k < i → Applies xs k r → ⊥

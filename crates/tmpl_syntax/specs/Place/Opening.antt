@@ -3,5 +3,4 @@ use Rattle.tmpl_grammar.specs.declared.tree.Control.{Control}
 
 pub data Opening : Type 0 where
   control : Control → Opening
-  define : Opening
-  block : Opening
+  define block : Opening

@@ -31,8 +31,7 @@ pub data Role : Type 0 where
   plain : Names → Role
   opener : Opening → Names → Role
   else_part : Option (Branch × Names) → Role
-  closer : Role
-  jump : Role
+  closer jump : Role
   nested : Option Branch → Role
   flawed : Reason → Role
 
