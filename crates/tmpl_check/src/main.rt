@@ -1,6 +1,10 @@
 //! The command `tmpl-check`: says all that is wrong in template files and data, where, and what to write instead.
 #![tactic(auto)]
 
+ghost use Rattle.std.specs.Prelude.{◌≡◌, if◌then◌else◌};
+ghost use Rattle.std.specs.List.{list_any};
+ghost use Rattle.tmpl_report.specs.Level.{is_error};
+
 mod build;
 mod files;
 mod stop;
@@ -14,7 +18,7 @@ use clap::error::ErrorKind;
 use std::env;
 use std::io::{ErrorKind as IoErrorKind, Write};
 use std::process::ExitCode;
-use tmpl_report::{Findings, Format, Inferred, findings_of, infer_from};
+use tmpl_report::{Findings, Format, Inferred, Sources, findings_of, infer_from};
 
 /// Runs the command over the file system and the standard streams.
 fn main(rt: HostRuntime) -> ExitCode {
@@ -69,12 +73,20 @@ fn check(rt: &HostRuntime, request: &Request<'_>) -> Result<u8, Stop> {
     let sources = load_all(rt, request)?;
     let findings = findings_of(rt.alloc(), name_hash(rt), &request.question, &sources)?;
     put_out(rt, request.format, &findings)?;
+    Ok(status_of(&sources, &findings))
+}
+
+/// The status: 3 where a file could not be read, else 1 where errors are found, else 0.
+fn status_of(sources: &Sources<'_>, findings: &Findings<'_>) -> u8
+    ensures { result
+        ≡ (if sources.now.is_short then 3 else (if list_any is_error findings.now then 1 else 0)) }
+{
     if sources.is_short {
-        Ok(3)
+        3
     } else if findings.has_errors() {
-        Ok(1)
+        1
     } else {
-        Ok(0)
+        0
     }
 }
 

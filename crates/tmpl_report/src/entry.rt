@@ -1,15 +1,24 @@
 //! Something that is found.
+ghost use Rattle.std.specs.Prelude.{◌≡◌};
+ghost use Rattle.tmpl_report.specs.Level.{is_error};
 
 use crate::rule::Rule;
 
 /// How grave it is.
-#[derive(Clone, Copy, PartialEq)]
-pub(crate) enum Level {
+#[derive(Clone, Copy)]
+pub enum Level {
     Error,
     Warning,
 }
 
 impl Level {
+    /// Whether it is an error.
+    fn is_error(self) -> bool
+        ensures { result ≡ is_error self }
+    {
+        matches!(self, Level::Error)
+    }
+
     /// Its word.
     pub(crate) fn word(self) -> &'static str {
         match self {
@@ -33,6 +42,13 @@ pub(crate) struct Entry<'a> {
 }
 
 impl Entry<'_> {
+    /// Whether it is an error.
+    pub(crate) fn is_error(&self) -> bool
+        ensures { result ≡ is_error self.now.level }
+    {
+        self.level.is_error()
+    }
+
     /// Whether the other says the same of the same place.
     pub(crate) fn is_same(&self, other: &Entry<'_>) -> bool {
         self.file == other.file

@@ -1,14 +1,24 @@
 //! What is found.
+ghost use Rattle.std.specs.Prelude.{◌≡◌, [], false, true, IfOk, Ok, OnOk};
+ghost use Rattle.std.specs.List.{list_any};
+ghost use Rattle.tmpl_values.specs.Json.{data_of};
+ghost use Rattle.tmpl_values.specs.Value.{Value};
+ghost use Rattle.tmpl_syntax.specs.Parse.{Parses};
+ghost use Rattle.tmpl_syntax.specs.View.{set_view};
+ghost use Rattle.tmpl_report.specs.Level.{is_error};
+ghost use Rattle.tmpl_report.specs.Safe.{AreAccepted, HasValue, IsSafe};
 
 use crate::entry::{Entry, Level};
 use crate::rule::{
-    KEY_GIVEN_TWICE, NEVER_CALLED, NO_SUCH_TEMPLATE, Rule, SUSPICIOUS, data_rule_of, rule_of,
+    KEY_GIVEN_TWICE, MAY_FAIL, NEVER_CALLED, NO_SUCH_TEMPLATE, Rule, SUSPICIOUS, data_rule_of,
+    rule_of,
 };
 use crate::schema::{add_schema, say_name};
 use crate::source::{Question, Source, Sources};
 use crate::{json, sarif, text};
 use indexmap::IndexSet;
 use std::alloc::{AllocError, Global};
+use std::marker::Model;
 use tmpl_data_problems::{DataProblem, DataReason, DataReport, check_data};
 use tmpl_hints::Sentence;
 use tmpl_problems::{
@@ -27,10 +37,20 @@ pub enum Format {
     Sarif,
 }
 
-/// What is found, file by file.
+/// What is found, file by file. Contracts see how grave each finding is, in the order in which they are told.
 #[derive(Drop)]
 pub struct Findings<'a> {
     pub(crate) entries: Vec<Entry<'a>>,
+}
+
+impl<'a> Model for Findings<'a> {
+    ghost use Rattle.std.specs.Prelude.{List, map};
+    ghost use Rattle.tmpl_report.specs.declared.entry.Entry.{Entry};
+    ghost use Rattle.tmpl_report.specs.declared.entry.Level.{Level};
+
+    ghost Value = { List Level };
+
+    ghost view = { λ f. map (λ (e : Entry). e.level) f.entries.items };
 }
 
 /// The templates of all files, by their names.
@@ -42,15 +62,19 @@ struct Templates<'f> {
 
 impl<'a> Findings<'a> {
     /// None yet.
-    pub fn new(alloc: Global) -> Findings<'a> {
+    pub fn new(alloc: Global) -> Findings<'a>
+        ensures { result ≡ [] }
+    {
         Findings {
             entries: Vec::new(alloc),
         }
     }
 
     /// Whether there are errors among them.
-    pub fn has_errors(&self) -> bool {
-        self.entries.iter().any(|entry| entry.level == Level::Error)
+    pub fn has_errors(&self) -> bool
+        ensures { result ≡ list_any is_error self.now }
+    {
+        has_error(self.entries.as_slice())
     }
 
     /// The text that tells them, as it is put out.
@@ -179,13 +203,127 @@ impl<'a> Findings<'a> {
         self.warn(file, (1, 1), NO_SUCH_TEMPLATE, text)
     }
 
-    /// Adds what is wrong in data.
-    pub(crate) fn add_data(&mut self, alloc: Global, data: &Source<'a>) -> Result<(), AllocError> {
+    /// Adds what is found in template files, and their templates to the set. Whether all are accepted.
+    fn add_files(
+        &mut self,
+        alloc: Global,
+        hash: NameHash,
+        question: &Question<'a>,
+        files: &[Source<'a>],
+        set: &mut Set,
+    ) -> Result<bool, AllocError>
+        ensures { IfOk result (λ accepted. accepted ≡ true
+            → AreAccepted (set_view set.old) files.now (set_view set.new)) }
+    {
+        let surveys = survey_all(alloc, hash, files)?;
+        let templates = templates_in(alloc, hash, files, surveys.as_slice())?;
+        let accepted = self.add_each(alloc, hash, question.name, files, surveys, &templates, set)?;
+        if let (Some(name), Some(first)) = (question.name, question.first) {
+            self.add_asked(alloc, first, name, &templates)?;
+        }
+        Ok(accepted)
+    }
+
+    /// The same of each file and its survey.
+    fn add_each(
+        &mut self,
+        alloc: Global,
+        hash: NameHash,
+        asked: Option<&str>,
+        files: &[Source<'a>],
+        surveys: Vec<Survey<'_>>,
+        templates: &Templates<'_>,
+        set: &mut Set,
+    ) -> Result<bool, AllocError>
+        ensures { IfOk result (λ accepted. accepted ≡ true
+            → AreAccepted (set_view set.old) files.now (set_view set.new)) }
+    {
+        let mut surveys = surveys.into_iter();
+        let mut accepted = true;
+        for file in files {
+            let here = self.add_checked(alloc, hash, file, &mut *set)?;
+            accepted = accepted && here;
+            if let Some(survey) = surveys.next() {
+                self.add_surveyed(alloc, file.name, asked, survey, templates)?;
+            }
+        }
+        Ok(accepted)
+    }
+
+    /// Adds what is wrong in a file, and its templates to the set. Whether it is accepted.
+    fn add_checked(
+        &mut self,
+        alloc: Global,
+        hash: NameHash,
+        file: &Source<'a>,
+        set: &mut Set,
+    ) -> Result<bool, AllocError>
+        ensures { IfOk result (λ accepted. accepted ≡ true
+            → Parses (set_view set.old) file.now.name.now file.now.bytes.items (Ok (set_view set.new))) }
+    {
+        let problems = check_file(alloc, set, hash, file.name, file.bytes.as_slice())?;
+        let accepted = problems.refused.is_empty();
+        self.add_problems(alloc, file.name, problems)?;
+        Ok(accepted)
+    }
+
+    /// Adds what a survey of a file has.
+    fn add_surveyed(
+        &mut self,
+        alloc: Global,
+        file: &'a str,
+        asked: Option<&str>,
+        survey: Survey<'_>,
+        templates: &Templates<'_>,
+    ) -> Result<(), AllocError> {
+        if let Some(asked) = asked {
+            self.add_uncalled(alloc, file, asked, survey.defined.as_slice(), templates)?;
+        }
+        self.add_survey(alloc, file, survey, templates)
+    }
+
+    /// Adds that it is not seen that nothing is wrong, if no error tells what is. Each check tells one, so this is a second
+    /// look by which nothing is lost.
+    fn add_unseen(&mut self, alloc: Global, question: &Question<'a>) -> Result<(), AllocError>
+        ensures { OnOk result (list_any is_error self.new ≡ true) }
+    {
+        if self.has_errors() {
+            return Ok(());
+        }
+        let entry = unseen_entry(alloc, question.first.unwrap_or(""))?;
+        self.add_error(entry)
+    }
+
+    /// Adds an error.
+    fn add_error(&mut self, entry: Entry<'a>) -> Result<(), AllocError>
+        requires { is_error entry.level ≡ true }
+        ensures { OnOk result (list_any is_error self.new ≡ true) }
+    {
+        self.entries.push(entry)?;
+        Ok(())
+    }
+
+    /// Adds what is wrong in the data, if there is some. Whether it has a value then.
+    fn add_given(&mut self, alloc: Global, sources: &Sources<'a>) -> Result<bool, AllocError>
+        ensures { IfOk result (λ accepted. accepted ≡ true → HasValue sources.now) }
+    {
+        match &sources.data {
+            Some(data) => self.add_data(alloc, data),
+            None => Ok(true),
+        }
+    }
+
+    /// Adds what is wrong in data. Whether it has a value.
+    pub(crate) fn add_data(&mut self, alloc: Global, data: &Source<'a>) -> Result<bool, AllocError>
+        ensures { IfOk result (λ accepted. accepted ≡ true
+            → (value : Value) × (data_of data.now.bytes.items ≡ Ok value)) }
+    {
         let DataReport {
             refused,
             problems,
             warnings,
         } = check_data(alloc, data.bytes.as_slice())?;
+        let accepted = refused.is_none();
         if let Some(reason) = refused {
             self.add_data_problems(alloc, data.name, reason, problems)?;
         }
@@ -197,7 +335,7 @@ impl<'a> Findings<'a> {
                 warning.text,
             )?;
         }
-        Ok(())
+        Ok(accepted)
     }
 
     /// Adds the places at which data is wrong that is refused for this reason.
@@ -257,42 +395,72 @@ fn about(alloc: Global, before: &str, name: &[u8], after: &str) -> Result<String
     say_name(said, name).say("\"").say(after).finish()
 }
 
+/// Whether one of these is an error.
+fn has_error(entries: &[Entry<'_>]) -> bool
+    ensures { result ≡ list_any (λ entry. is_error entry.level) entries.now }
+{
+    entries.iter().any(|entry| entry.is_error())
+}
+
+/// That it is not seen that nothing is wrong.
+fn unseen_entry<'a>(alloc: Global, file: &'a str) -> Result<Entry<'a>, AllocError>
+    ensures { IfOk result (λ entry. is_error entry.level ≡ true) }
+{
+    Ok(Entry {
+        file,
+        level: Level::Error,
+        line: 1,
+        column: 1,
+        rule: MAY_FAIL,
+        text: String::from_str(alloc, "may fail: it is not seen why")?,
+        note: None,
+    })
+}
+
 /// What is found in template files, in the order of the files, and then in data: errors, and what is suspicious. Where all
 /// files are accepted, the template that is asked for is checked against the schema. Names are hashed as is said.
+///
+/// Where no error is found all files are accepted, the data has a value, and, where no file is missing, no data of the
+/// schema makes the template fail, as `check_document` says it.
+///
+/// # Errors
+///
+/// Where memory was refused.
 pub fn findings_of<'a>(
     alloc: Global,
     hash: NameHash,
     question: &Question<'a>,
     sources: &Sources<'a>,
-) -> Result<Findings<'a>, AllocError> {
+) -> Result<Findings<'a>, AllocError>
+    ensures { IfOk result (λ found. list_any is_error found ≡ false → IsSafe question.now sources.now) }
+{
     let mut findings = Findings::new(alloc);
-    let surveys = survey_all(alloc, hash, sources.templates.as_slice())?;
-    let templates = templates_in(
-        alloc,
-        hash,
-        sources.templates.as_slice(),
-        surveys.as_slice(),
-    )?;
-    let mut set = Set::with_hash(alloc, hash);
-    for (file, survey) in sources.templates.as_slice().iter().zip(surveys.into_iter()) {
-        let problems = check_file(alloc, &mut set, hash, file.name, file.bytes.as_slice())?;
-        findings.add_problems(alloc, file.name, problems)?;
-        if let Some(asked) = question.name {
-            let defined = survey.defined.as_slice();
-            findings.add_uncalled(alloc, file.name, asked, defined, &templates)?;
-        }
-        findings.add_survey(alloc, file.name, survey, &templates)?;
-    }
-    if let (Some(name), Some(first)) = (question.name, question.first) {
-        findings.add_asked(alloc, first, name, &templates)?;
-    }
-    if !sources.is_short {
-        add_schema(alloc, &mut findings, &set, question, sources)?;
-    }
-    if let Some(data) = &sources.data {
-        findings.add_data(alloc, data)?;
+    if !add_all(alloc, hash, &mut findings, question, sources)? {
+        findings.add_unseen(alloc, question)?;
     }
     Ok(findings)
+}
+
+/// Adds all that is found. Whether it is seen that nothing is wrong.
+fn add_all<'a>(
+    alloc: Global,
+    hash: NameHash,
+    findings: &mut Findings<'a>,
+    question: &Question<'a>,
+    sources: &Sources<'a>,
+) -> Result<bool, AllocError>
+    ensures { IfOk result (λ safe. safe ≡ true → IsSafe question.now sources.now) }
+{
+    let mut set = Set::with_hash(alloc, hash);
+    let files = sources.templates.as_slice();
+    let accepted = findings.add_files(alloc, hash, question, files, &mut set)?;
+    let safe = add_schema(alloc, &mut *findings, &set, question, sources)?;
+    let judged = findings.add_given(alloc, sources)?;
+    if accepted && safe {
+        Ok(judged)
+    } else {
+        Ok(false)
+    }
 }
 
 /// The surveys of files.

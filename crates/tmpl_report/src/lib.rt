@@ -11,6 +11,7 @@ mod schema;
 mod source;
 mod text;
 
+pub use entry::Level;
 pub use findings::{Findings, Format, findings_of};
 pub use infer::{Inferred, infer_from};
 pub use source::{Question, Source, Sources};

@@ -1,4 +1,7 @@
 //! Whether a template never fails over the data of a schema, and where it may.
+ghost use Rattle.std.specs.Prelude.{◌≡◌, false, IfOk, map, true};
+ghost use Rattle.tmpl_syntax.specs.View.{set_view};
+ghost use Rattle.tmpl_report.specs.Safe.{IsSafeOver, asked_name};
 
 use crate::entry::{Entry, Level};
 use crate::findings::Findings;
@@ -9,60 +12,155 @@ use std::str::from_utf8;
 use tmpl_funcs::Func;
 use tmpl_hints::Sentence;
 use tmpl_json_schema::{CheckFault, Refused, SchemaFault, check_document};
+use tmpl_meaning::MissingKey;
 use tmpl_reasons::{Reason, Why, position_of, reasons_of};
 use tmpl_samples::{Failure, failures_of};
 use tmpl_schema::{Cause, Doubt, Refusal};
 use tmpl_syntax::{Set, base_name};
 use tmpl_values::Bytes;
 
-/// Adds what is said of the template that is asked for over data of the schema, once the files are accepted.
+/// Adds what is said of the template that is asked for over data of the schema, once the files are accepted. Whether it
+/// is seen that it never fails, or is not asked.
 pub(crate) fn add_schema<'a>(
     alloc: Global,
     findings: &mut Findings<'a>,
     set: &Set,
     question: &Question<'a>,
     sources: &Sources<'a>,
-) -> Result<(), AllocError> {
+) -> Result<bool, AllocError>
+    ensures { IfOk result (λ safe. safe ≡ true → sources.now.is_short ≡ false
+        → IsSafeOver question.now sources.now (set_view set.now)) }
+{
     let Some(schema) = &sources.schema else {
-        return Ok(());
+        return Ok(true);
     };
-    let (Some(first), false) = (question.first, findings.has_errors()) else {
-        return Ok(());
+    let Some(first) = question.first else {
+        return Ok(true);
     };
-    let name = match question.name {
+    if sources.is_short {
+        return Ok(true);
+    }
+    if findings.has_errors() {
+        return Ok(false);
+    }
+    let render = Render {
+        set,
+        first,
+        name: asked_name(question, first),
+        mode: question.mode,
+    };
+    let stops = names_of(alloc, question.stops.as_slice())?;
+    let document = schema.bytes.as_slice();
+    match check_document(
+        alloc,
+        set,
+        render.name,
+        document,
+        render.mode,
+        stops.as_slice(),
+    ) {
+        Ok(()) => Ok(true),
+        Err(fault) => {
+            add_fault(
+                alloc,
+                findings,
+                &render,
+                sources,
+                schema,
+                stops.as_slice(),
+                fault,
+            )?;
+            Ok(false)
+        }
+    }
+}
+
+/// The template that is rendered, and how.
+#[derive(Clone, Copy)]
+struct Render<'a, 's> {
+    set: &'s Set,
+    /// The path of the first file.
+    first: &'a str,
+    name: &'a [u8],
+    mode: Option<MissingKey>,
+}
+
+/// The name of the template that is rendered, where this is the first file.
+fn asked_name<'a>(question: &Question<'a>, first: &'a str) -> &'a [u8]
+    ensures { result.now ≡ asked_name question.now first.now }
+{
+    match question.name {
         Some(name) => name.as_bytes(),
         None => base_name(first),
-    };
-    let stops = stops_of(alloc, question)?;
-    let document = schema.bytes.as_slice();
-    match check_document(alloc, set, name, document, question.mode, stops.as_slice()) {
-        Ok(()) => Ok(()),
-        Err(CheckFault::Schema(SchemaFault::NotJson)) => findings.add_data(alloc, schema),
-        Err(CheckFault::Schema(SchemaFault::Refused(refused))) => {
+    }
+}
+
+/// Adds why it is not seen that the template never fails.
+fn add_fault<'a>(
+    alloc: Global,
+    findings: &mut Findings<'a>,
+    render: &Render<'a, '_>,
+    sources: &Sources<'a>,
+    schema: &Source<'a>,
+    stops: &[Bytes],
+    fault: CheckFault,
+) -> Result<(), AllocError> {
+    match fault {
+        CheckFault::Schema(SchemaFault::NotJson) => {
+            findings.add_data(alloc, schema)?;
+        }
+        CheckFault::Schema(SchemaFault::Refused(refused)) => {
             findings
                 .entries
                 .push(schema_entry(alloc, schema, &refused)?)?;
-            Ok(())
         }
-        Err(CheckFault::Template(Refusal::MayFail(doubts))) => {
-            let doubts = doubts.as_slice();
-            let reasons = reasons_of(alloc, set, name, document, doubts)?;
-            let mode = question.mode;
-            let failures = failures_of(alloc, set, name, document, mode, stops.as_slice(), doubts)?;
-            for (index, doubt) in doubts.iter().enumerate() {
-                let mut entry = doubt_entry(alloc, set, first, sources, doubt)?;
-                let reason = reasons.get(index).and_then(Option::as_ref);
-                entry.text = cause_text(alloc, &doubt.cause, schema.name, reason)?;
-                if let Some(Some(failure)) = failures.get(index) {
-                    entry.note = Some(failure_text(alloc, failure, mode.is_some())?);
-                }
-                findings.add_once(entry)?;
-            }
-            Ok(())
+        CheckFault::Template(Refusal::MayFail(doubts)) => {
+            add_doubts(
+                alloc,
+                findings,
+                render,
+                sources,
+                schema,
+                stops,
+                doubts.as_slice(),
+            )?;
         }
-        Err(CheckFault::Schema(SchemaFault::OutOfMemory)) => Err(AllocError),
-        Err(CheckFault::Template(Refusal::OutOfMemory)) => Err(AllocError),
+        CheckFault::Schema(SchemaFault::OutOfMemory) => return Err(AllocError),
+        CheckFault::Template(Refusal::OutOfMemory) => return Err(AllocError),
     }
+    Ok(())
+}
+
+/// Adds each place at which the template may fail, with the reason in the schema and a value for which it does, where
+/// these are found.
+fn add_doubts<'a>(
+    alloc: Global,
+    findings: &mut Findings<'a>,
+    render: &Render<'a, '_>,
+    sources: &Sources<'a>,
+    schema: &Source<'a>,
+    stops: &[Bytes],
+    doubts: &[Doubt],
+) -> Result<(), AllocError> {
+    let Render {
+        set,
+        first,
+        name,
+        mode,
+    } = *render;
+    let document = schema.bytes.as_slice();
+    let reasons = reasons_of(alloc, set, name, document, doubts)?;
+    let failures = failures_of(alloc, set, name, document, mode, stops, doubts)?;
+    for (index, doubt) in doubts.iter().enumerate() {
+        let mut entry = doubt_entry(alloc, set, first, sources, doubt)?;
+        let reason = reasons.get(index).and_then(Option::as_ref);
+        entry.text = cause_text(alloc, &doubt.cause, schema.name, reason)?;
+        if let Some(Some(failure)) = failures.get(index) {
+            entry.note = Some(failure_text(alloc, failure, mode.is_some())?);
+        }
+        findings.add_once(entry)?;
+    }
+    Ok(())
 }
 
 /// What is said of a value for which a template fails, by the mode that was asked for or by each.
@@ -82,13 +180,15 @@ fn failure_text(alloc: Global, failure: &Failure, is_by_mode: bool) -> Result<St
         .finish()
 }
 
-/// The names of templates that need not be there.
-fn stops_of(alloc: Global, question: &Question<'_>) -> Result<Vec<Bytes>, AllocError> {
-    let mut stops = Vec::new(alloc);
-    for stop in question.stops.as_slice() {
-        stops.push(Bytes::new(stop.as_bytes().to_vec(alloc)?))?;
+/// Names, each as bytes of its own.
+fn names_of(alloc: Global, given: &[&str]) -> Result<Vec<Bytes>, AllocError>
+    ensures { IfOk result (λ names. names.items ≡ map (λ name. name.now) given.now) }
+{
+    let mut names = Vec::new(alloc);
+    for name in given {
+        names.push(Bytes::new(name.as_bytes().to_vec(alloc)?))?;
     }
-    Ok(stops)
+    Ok(names)
 }
 
 /// What of a schema is not understood.

@@ -1,0 +1,3 @@
+pub mod AcceptedLemmas
+pub mod LevelLemmas
+pub mod SafeLemmas

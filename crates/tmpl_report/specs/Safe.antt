@@ -1,0 +1,36 @@
+-- What is so where no error is found.
+use Rattle.std.specs.Prelude.{◌≡◌, ℕ, false, List, [], ◌∷◌, map, Ok, IfSome}
+use Rattle.std.specs.Option.{option_map_or}
+use Rattle.tmpl_values.specs.Json.{data_of}
+use Rattle.tmpl_values.specs.Value.{Value}
+use Rattle.tmpl_syntax.specs.Set.{Template}
+use Rattle.tmpl_syntax.specs.Parse.{Parses, base_name}
+use Rattle.tmpl_json_schema.specs.Safe.{NeverFailsOver}
+use Rattle.tmpl_report.specs.declared.source.Question.{Question}
+use Rattle.tmpl_report.specs.declared.source.Source.{Source}
+use Rattle.tmpl_report.specs.declared.source.Sources.{Sources}
+
+-- these files are accepted one after the other, and make the new set of the old one
+abbrev pub AreAccepted : List Template → List Source → List Template → Type 0
+AreAccepted old [] new = new ≡ old
+AreAccepted old (file ∷ files) new = (next : List Template)
+    × Parses old file.name.now file.bytes.items (Ok next) × AreAccepted next files new
+
+-- the name of the template that is rendered, where this is the first file
+abbrev pub asked_name : Question → List ℕ → List ℕ
+asked_name question first = option_map_or (λ name. name.now) question.name (base_name first)
+
+-- the template that is rendered never fails over the schema, if there is one
+abbrev pub IsSafeOver : Question → Sources → List Template → Type 0
+IsSafeOver question sources set = IfSome sources.schema (λ schema. IfSome question.first (λ first.
+    NeverFailsOver schema.bytes.items question.mode (map (λ stop. stop.now) question.stops.items) set
+    (asked_name question first.now)))
+
+-- the data has a value, if there is some
+abbrev pub HasValue : Sources → Type 0
+HasValue sources = IfSome sources.data (λ d. (value : Value) × (data_of d.bytes.items ≡ Ok value))
+
+-- all files are accepted, the data has a value, and, where no file is missing, the template never fails over the schema
+abbrev pub IsSafe : Question → Sources → Type 0
+IsSafe question sources = (set : List Template) × AreAccepted [] sources.templates.items set
+    × HasValue sources × (sources.is_short ≡ false → IsSafeOver question sources set)
