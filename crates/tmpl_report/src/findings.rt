@@ -282,8 +282,7 @@ impl<'a> Findings<'a> {
         self.add_survey(alloc, file, survey, templates)
     }
 
-    /// Adds that it is not seen that nothing is wrong, if no error tells what is. Each check tells one, so this is a second
-    /// look by which nothing is lost.
+    /// Adds an error where none tells what is wrong. Each check tells one, but no clause of theirs says so.
     fn add_unseen(&mut self, alloc: Global, question: &Question<'a>) -> Result<(), AllocError>
         ensures { OnOk result (list_any is_error self.new ≡ true) }
     {
@@ -316,7 +315,7 @@ impl<'a> Findings<'a> {
     /// Adds what is wrong in data. Whether it has a value.
     pub(crate) fn add_data(&mut self, alloc: Global, data: &Source<'a>) -> Result<bool, AllocError>
         ensures { IfOk result (λ accepted. accepted ≡ true
-            → (value : Value) × (data_of data.now.bytes.items ≡ Ok value)) }
+            → (value : Value) × (data_of «data».now.bytes.items ≡ Ok value)) }
     {
         let DataReport {
             refused,
