@@ -1,4 +1,7 @@
 //! Why a schema is not read.
+ghost use Rattle.std.specs.Prelude.{◌≡◌};
+ghost use Rattle.tmpl_json_schema.specs.declared.fault.SchemaFault.TheVariants as fault;
+
 use std::alloc::{AllocError, AllocFailed, Global};
 use tmpl_schema::Shape;
 
@@ -23,12 +26,16 @@ pub enum SchemaFault {
 }
 
 impl From<AllocError> for SchemaFault {
+    ghost from_gives = { λ _ e. e ≡ fault.OutOfMemory };
+
     fn from(_: AllocError) -> SchemaFault {
         SchemaFault::OutOfMemory
     }
 }
 
 impl<T: Drop> From<AllocFailed<T>> for SchemaFault {
+    ghost from_gives = { λ _ e. e ≡ fault.OutOfMemory };
+
     fn from(_: AllocFailed<T>) -> SchemaFault {
         SchemaFault::OutOfMemory
     }

@@ -2,11 +2,13 @@
 #![tactic(auto, using(tmpl_shape::proofs::ViewLemmas::parts))]
 
 ghost use Rattle.std.specs.Prelude.{◌≡◌, ℕ, All, IfOk, is_some};
+ghost use Rattle.serde_json.specs.Errors.{IsMemory};
 ghost use Rattle.serde_json.specs.View.{view};
 ghost use Rattle.tmpl_values.specs.Value.{Value as DataValue};
 ghost use Rattle.tmpl_shape.specs.Shape.{Fits};
 ghost use Rattle.tmpl_shape.specs.View.{defs_in, schema_of};
 ghost use Rattle.tmpl_json_schema.specs.Document.{ConformsTo, conforms_in};
+ghost use Rattle.tmpl_json_schema.specs.declared.fault.SchemaFault.TheVariants as fault;
 ghost use Rattle.tmpl_json_schema.specs.computed.Defined.{IsDefinition, are_defined};
 
 use crate::fault::{SchemaFault, refusal, refusal_of, under};
@@ -28,6 +30,9 @@ const MOST_VALUES: usize = 10_000;
 const MOST_ALTERNATIVES: usize = 1_000;
 
 impl From<Error> for SchemaFault {
+    ghost from_gives = { λ error e. (IsMemory error → e ≡ fault.OutOfMemory)
+        × (¬ IsMemory error → e ≡ fault.NotJson) };
+
     fn from(error: Error) -> SchemaFault {
         if error.is_memory() {
             SchemaFault::OutOfMemory

@@ -48,6 +48,8 @@ pub(crate) fn add_schema<'a>(
         first,
         name: asked_name(question, first),
         mode: question.mode,
+        sources,
+        schema,
     };
     let stops = names_of(alloc, question.stops.as_slice())?;
     let document = schema.bytes.as_slice();
@@ -61,28 +63,10 @@ pub(crate) fn add_schema<'a>(
     ) {
         Ok(()) => Ok(true),
         Err(fault) => {
-            add_fault(
-                alloc,
-                findings,
-                &render,
-                sources,
-                schema,
-                stops.as_slice(),
-                fault,
-            )?;
+            render.add_fault(alloc, findings, stops.as_slice(), fault)?;
             Ok(false)
         }
     }
-}
-
-/// The template that is rendered, and how.
-#[derive(Clone, Copy)]
-struct Render<'a, 's> {
-    set: &'s Set,
-    /// The path of the first file.
-    first: &'a str,
-    name: &'a [u8],
-    mode: Option<MissingKey>,
 }
 
 /// The name of the template that is rendered, where this is the first file.
@@ -95,72 +79,76 @@ fn asked_name<'a>(question: &Question<'a>, first: &'a str) -> &'a [u8]
     }
 }
 
-/// Adds why it is not seen that the template never fails.
-fn add_fault<'a>(
-    alloc: Global,
-    findings: &mut Findings<'a>,
-    render: &Render<'a, '_>,
-    sources: &Sources<'a>,
-    schema: &Source<'a>,
-    stops: &[Bytes],
-    fault: CheckFault,
-) -> Result<(), AllocError> {
-    match fault {
-        CheckFault::Schema(SchemaFault::NotJson) => {
-            findings.add_data(alloc, schema)?;
-        }
-        CheckFault::Schema(SchemaFault::Refused(refused)) => {
-            findings
-                .entries
-                .push(schema_entry(alloc, schema, &refused)?)?;
-        }
-        CheckFault::Template(Refusal::MayFail(doubts)) => {
-            add_doubts(
-                alloc,
-                findings,
-                render,
-                sources,
-                schema,
-                stops,
-                doubts.as_slice(),
-            )?;
-        }
-        CheckFault::Schema(SchemaFault::OutOfMemory) => return Err(AllocError),
-        CheckFault::Template(Refusal::OutOfMemory) => return Err(AllocError),
-    }
-    Ok(())
+/// The template that is rendered, how, and over data of which schema.
+#[derive(Clone, Copy)]
+struct Render<'a, 's> {
+    set: &'s Set,
+    /// The path of the first file.
+    first: &'a str,
+    name: &'a [u8],
+    mode: Option<MissingKey>,
+    sources: &'s Sources<'a>,
+    schema: &'s Source<'a>,
 }
 
-/// Adds each place at which the template may fail, with the reason in the schema and a value for which it does, where
-/// these are found.
-fn add_doubts<'a>(
-    alloc: Global,
-    findings: &mut Findings<'a>,
-    render: &Render<'a, '_>,
-    sources: &Sources<'a>,
-    schema: &Source<'a>,
-    stops: &[Bytes],
-    doubts: &[Doubt],
-) -> Result<(), AllocError> {
-    let Render {
-        set,
-        first,
-        name,
-        mode,
-    } = *render;
-    let document = schema.bytes.as_slice();
-    let reasons = reasons_of(alloc, set, name, document, doubts)?;
-    let failures = failures_of(alloc, set, name, document, mode, stops, doubts)?;
-    for (index, doubt) in doubts.iter().enumerate() {
-        let mut entry = doubt_entry(alloc, set, first, sources, doubt)?;
-        let reason = reasons.get(index).and_then(Option::as_ref);
-        entry.text = cause_text(alloc, &doubt.cause, schema.name, reason)?;
-        if let Some(Some(failure)) = failures.get(index) {
-            entry.note = Some(failure_text(alloc, failure, mode.is_some())?);
+impl<'a> Render<'a, '_> {
+    /// Adds why it is not seen that the template never fails.
+    fn add_fault(
+        &self,
+        alloc: Global,
+        findings: &mut Findings<'a>,
+        stops: &[Bytes],
+        fault: CheckFault,
+    ) -> Result<(), AllocError> {
+        match fault {
+            CheckFault::Schema(SchemaFault::NotJson) => {
+                findings.add_data(alloc, self.schema)?;
+            }
+            CheckFault::Schema(SchemaFault::Refused(refused)) => {
+                findings
+                    .entries
+                    .push(schema_entry(alloc, self.schema, &refused)?)?;
+            }
+            CheckFault::Template(Refusal::MayFail(doubts)) => {
+                self.add_doubts(alloc, findings, stops, doubts.as_slice())?;
+            }
+            CheckFault::Schema(SchemaFault::OutOfMemory) => return Err(AllocError),
+            CheckFault::Template(Refusal::OutOfMemory) => return Err(AllocError),
         }
-        findings.add_once(entry)?;
+        Ok(())
     }
-    Ok(())
+
+    /// Adds each place at which the template may fail, with the reason in the schema and a value for which it does, where
+    /// these are found.
+    fn add_doubts(
+        &self,
+        alloc: Global,
+        findings: &mut Findings<'a>,
+        stops: &[Bytes],
+        doubts: &[Doubt],
+    ) -> Result<(), AllocError> {
+        let Render {
+            set,
+            first,
+            name,
+            mode,
+            sources,
+            schema,
+        } = *self;
+        let document = schema.bytes.as_slice();
+        let reasons = reasons_of(alloc, set, name, document, doubts)?;
+        let failures = failures_of(alloc, set, name, document, mode, stops, doubts)?;
+        for (index, doubt) in doubts.iter().enumerate() {
+            let mut entry = doubt_entry(alloc, set, first, sources, doubt)?;
+            let reason = reasons.get(index).and_then(Option::as_ref);
+            entry.text = cause_text(alloc, &doubt.cause, schema.name, reason)?;
+            if let Some(Some(failure)) = failures.get(index) {
+                entry.note = Some(failure_text(alloc, failure, mode.is_some())?);
+            }
+            findings.add_once(entry)?;
+        }
+        Ok(())
+    }
 }
 
 /// What is said of a value for which a template fails, by the mode that was asked for or by each.

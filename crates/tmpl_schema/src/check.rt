@@ -4,6 +4,7 @@
 ghost use Rattle.std.specs.Prelude.{◌≡◌, Contains, OnOk, true};
 ghost use Rattle.tmpl_syntax.specs.View.{set_view, tree_of};
 ghost use Rattle.tmpl_schema.specs.Safe.{NeverFails};
+ghost use Rattle.tmpl_schema.specs.declared.check.Refusal.TheVariants as refusal;
 ghost use Rattle.tmpl_shape.specs.View.{schema_of, shape_of};
 ghost use Rattle.tmpl_schema.specs.computed.Check.{is_safe};
 ghost use Rattle.tmpl_schema.specs.computed.Safe.{EachCallee, IsCallee, NeverFailsIn, mode_for};
@@ -32,6 +33,8 @@ pub enum Refusal {
 }
 
 impl From<AllocError> for Refusal {
+    ghost from_gives = { λ _ e. e ≡ refusal.OutOfMemory };
+
     fn from(_: AllocError) -> Refusal {
         Refusal::OutOfMemory
     }

@@ -1,4 +1,9 @@
 //! Why a check does not accept.
+ghost use Rattle.std.specs.Prelude.{◌≡◌};
+ghost use Rattle.tmpl_schema.specs.declared.failure.Failure.TheVariants as failure;
+ghost use Rattle.tmpl_shape.specs.declared.cause.Cause.{Cause};
+ghost use Rattle.tmpl_shape.specs.declared.cause.Trouble.TheVariants as trouble;
+
 use crate::table::Call;
 use std::alloc::{AllocError, AllocFailed};
 use tmpl_shape::{Cause, Trouble};
@@ -26,18 +31,25 @@ pub(crate) enum Failure {
 }
 
 impl From<AllocError> for Failure {
+    ghost from_gives = { λ _ e. e ≡ failure.OutOfMemory };
+
     fn from(_: AllocError) -> Failure {
         Failure::OutOfMemory
     }
 }
 
 impl<T: Drop> From<AllocFailed<T>> for Failure {
+    ghost from_gives = { λ _ e. e ≡ failure.OutOfMemory };
+
     fn from(_: AllocFailed<T>) -> Failure {
         Failure::OutOfMemory
     }
 }
 
 impl From<Trouble> for Failure {
+    ghost from_gives = { λ t e. (t ≡ trouble.OutOfMemory → e ≡ failure.OutOfMemory)
+        × ((cause : Cause) → t ≡ trouble.MayFail cause → e ≡ failure.MayFail cause 0) };
+
     fn from(trouble: Trouble) -> Failure {
         match trouble {
             Trouble::OutOfMemory => Failure::OutOfMemory,

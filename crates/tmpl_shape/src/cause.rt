@@ -1,4 +1,7 @@
 //! Why what is asked of values of a shape may fail.
+ghost use Rattle.std.specs.Prelude.{◌≡◌};
+ghost use Rattle.tmpl_shape.specs.declared.cause.Trouble.TheVariants as trouble;
+
 use crate::shape::Shape;
 use std::alloc::{AllocError, AllocFailed};
 use tmpl_funcs::Func;
@@ -37,12 +40,16 @@ pub enum Trouble {
 }
 
 impl From<AllocError> for Trouble {
+    ghost from_gives = { λ _ e. e ≡ trouble.OutOfMemory };
+
     fn from(_: AllocError) -> Trouble {
         Trouble::OutOfMemory
     }
 }
 
 impl<T: Drop> From<AllocFailed<T>> for Trouble {
+    ghost from_gives = { λ _ e. e ≡ trouble.OutOfMemory };
+
     fn from(_: AllocFailed<T>) -> Trouble {
         Trouble::OutOfMemory
     }
