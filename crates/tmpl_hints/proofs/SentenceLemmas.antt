@@ -1,8 +1,9 @@
--- What is shown of bytes that are UTF-8, and of others.
-use Rattle.std.proofs.Common.{◌≡◌, Bool, true, false, ℕ, List, ap, map, refl, sym, if◌then◌else◌}
+-- What is shown of bytes that are UTF-8, and of others; and words that follow one another.
+use Rattle.std.proofs.Common.{◌≡◌, ◌∙◌, ◌++◌, Bool, true, false, ℕ, List, Some, None, arith, ap, append_assoc, map, refl, sym, if◌then◌else◌}
+use Rattle.std.specs.Option.{option_map}
 use Rattle.std.proofs.lemmas.Str.{IsUtf8-from_is_utf8, is_utf8-from_IsUtf8}
 use Rattle.std.specs.Str.{IsUtf8, is_utf8}
-use Rattle.tmpl_hints.specs.Sentence.{ascii_of, readable}
+use Rattle.tmpl_hints.specs.Sentence.{Adds, Said, ascii_of, readable}
 
 chosen : (bytes : List ℕ) (b : Bool) → is_utf8 bytes ≡ b → (if b then bytes else map ascii_of bytes) ≡ readable bytes
 chosen bytes b e = sym (ap (λ t. if t then bytes else map ascii_of bytes) e)
@@ -16,3 +17,13 @@ readable_other bytes not = by (is_utf8 bytes) refl
     by : (b : Bool) → is_utf8 bytes ≡ b → map ascii_of bytes ≡ readable bytes
     by true e = absurd (not (IsUtf8-from_is_utf8 bytes e))
     by false e = chosen bytes false e
+
+-- words after words
+behind : (a : Said) (xs ys : List ℕ) → option_map (λ front. front ++ (xs ++ ys)) a ≡ option_map (λ front. front ++ ys) (option_map (λ front. front ++ xs) a)
+behind None xs ys = refl
+behind (Some front) xs ys = ap Some (sym (append_assoc front xs ys))
+
+pub adds_then : (a b c : Said) (xs ys : List ℕ) → Adds a b xs → Adds b c ys → Adds a c (xs ++ ys)
+adds_then a b None xs ys p q = tt
+adds_then a None (Some text) xs ys p q = grind arith
+adds_then a (Some before) (Some text) xs ys p q = behind a xs ys ∙ ap (option_map (λ front. front ++ ys)) p ∙ q

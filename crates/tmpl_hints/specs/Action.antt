@@ -1,6 +1,6 @@
 -- What an action is by its first words.
 use Rattle.std.specs.Prelude.{ℕ, nat_eq, Bool, true, false, not, List, [], ◌∷◌, filter, find, slice_get, codes}
-use Rattle.std.specs.Prelude.{Option, option_map, if◌then◌else◌}
+use Rattle.std.specs.Prelude.{Option, option_map, unwrap_or, if◌then◌else◌}
 use Rattle.std.specs.List.{list_any, starts_with}
 use Rattle.std.specs.Option.{option_map_or}
 use Rattle.std.specs.Str.{bytes_eq}
@@ -21,6 +21,10 @@ words_of With = codes "with" ∷ []
 words_of Range = codes "range" ∷ codes "for" ∷ codes "foreach" ∷ codes "each" ∷ []
 words_of Define = codes "define" ∷ []
 words_of Block = codes "block" ∷ []
+
+-- the word of templates: the first of these
+abbrev pub own_word : Opening → List ℕ
+own_word opening = unwrap_or (slice_get (words_of opening) 0) []
 
 -- what begins a part, and of these what begins a template of its own
 abbrev pub openings : List Opening

@@ -1,3 +1,4 @@
 pub mod Action
 pub mod Sentence
+pub mod Told
 pub mod Unread

@@ -1,8 +1,8 @@
 //! What an action is by its first words, whether it can be read or not.
-ghost use Rattle.std.specs.Prelude.{◌≡◌, ◌↔◌, IsTrue, Contains, Some, find, option_map, slice_get};
+ghost use Rattle.std.specs.Prelude.{◌≡◌, ◌↔◌, IsTrue, Contains, find, option_map, slice_get};
 ghost use Rattle.std.specs.Str.{bytes_eq};
 ghost use Rattle.tmpl_hints.specs.Action as spec;
-ghost use Rattle.tmpl_hints.specs.Action.{is_among, jumps, template_openings, words_of};
+ghost use Rattle.tmpl_hints.specs.Action.{is_among, jumps, own_word, template_openings};
 
 use tmpl_grammar::Branch;
 use tmpl_lex::{Token, TokenKind};
@@ -37,7 +37,7 @@ pub enum Role {
 impl Opening {
     /// Its word.
     pub fn word(self) -> &'static str
-        ensures { slice_get (words_of self) 0 ≡ Some result.now }
+        ensures { result.now ≡ own_word self }
     {
         match self {
             Opening::If => "if",

@@ -1,4 +1,8 @@
 //! What is wrong with an action that is refused.
+ghost use Rattle.std.specs.Prelude.{◌≡◌, [], IfOk, string_bytes};
+ghost use Rattle.tmpl_hints.specs.Action as action;
+ghost use Rattle.tmpl_hints.specs.Sentence.{Adds};
+ghost use Rattle.tmpl_hints.specs.Told as spec;
 
 use crate::action::{Open, Opening, Role, significant};
 use crate::instead::instead_of;
@@ -11,7 +15,9 @@ use tmpl_grammar::{Reading, read_action};
 use tmpl_lex::{Token, TokenKind};
 
 /// What is wrong with an action whose tokens have no reading.
-pub fn detail_of(alloc: Global, tokens: &[Token<'_>]) -> Result<String, AllocError> {
+pub fn detail_of(alloc: Global, tokens: &[Token<'_>]) -> Result<String, AllocError>
+    ensures empty { action.significant tokens.now ≡ [] → IfOk result (λ t. string_bytes t ≡ spec.empty_words) }
+{
     let said = Sentence::new(alloc);
     let Some(first) = significant(tokens, 0) else {
         return said.say("the action is empty").finish();
@@ -387,7 +393,9 @@ pub fn misplaced_text(
     alloc: Global,
     role: Role,
     outside: Option<Open>,
-) -> Result<String, AllocError> {
+) -> Result<String, AllocError>
+    ensures { IfOk result (λ t. string_bytes t ≡ spec.misplaced role outside) }
+{
     let said = Sentence::new(alloc);
     let said = match role {
         Role::End => said.say(
@@ -398,46 +406,55 @@ pub fn misplaced_text(
             said.say("a define stands in no other part"),
             outside,
         ),
-        Role::Else(_) => else_text(said, outside),
+        Role::Else(_) => inside_text(else_text(said, outside), outside),
         _ => said,
     };
     said.finish()
 }
 
 /// Says what is open.
-fn inside_text(said: Sentence, outside: Option<Open>) -> Sentence {
+fn inside_text(said: Sentence, outside: Option<Open>) -> Sentence
+    ensures { Adds said result (spec.inside outside) }
+{
     match outside {
-        Some(open) => said
-            .say(": \"")
-            .say(open.opening.word())
-            .say("\" of line ")
-            .count(open.line)
-            .say(" is open"),
+        Some(part) => open_text(said.say(": "), part),
         None => said,
     }
 }
 
-/// What is said of an else that is out of place.
-fn else_text(said: Sentence, outside: Option<Open>) -> Sentence {
+/// Says that this is open.
+fn open_text(said: Sentence, part: Open) -> Sentence
+    ensures { Adds said result (spec.open_at part) }
+{
+    said.say("\"")
+        .say(part.opening.word())
+        .say("\" of line ")
+        .count(part.line)
+        .say(" is open")
+}
+
+/// What is said of an else that is out of place, without what is open there.
+fn else_text(said: Sentence, outside: Option<Open>) -> Sentence
+    ensures { Adds said result (spec.misplaced_else outside) }
+{
     match outside {
-        None => said.say("\"else\" belongs to no if, with or range"),
-        Some(open) => match open.opening {
-            Opening::Define | Opening::Block => {
-                inside_text(
-                    said.say("\"else\" belongs to no if, with or range"),
-                    outside,
-                )
-            }
-            _ => inside_text(
-                said.say("a second \"else\", or one with another control than that which is open"),
-                outside,
-            ),
-        },
+        None
+        | Some(
+            Open {
+                opening: Opening::Define | Opening::Block,
+                ..
+            },
+        ) => said.say("\"else\" belongs to no if, with or range"),
+        Some(_) => said.say(
+            "a second \"else\", or one with another control than that which is open",
+        ),
     }
 }
 
 /// What is said of a name that is not in scope.
-pub fn undeclared_text(alloc: Global, name: &[u8]) -> Result<String, AllocError> {
+pub fn undeclared_text(alloc: Global, name: &[u8]) -> Result<String, AllocError>
+    ensures { IfOk result (λ t. string_bytes t ≡ spec.undeclared name.now) }
+{
     Sentence::new(alloc)
         .say("variable \"$")
         .show(name)
@@ -445,20 +462,23 @@ pub fn undeclared_text(alloc: Global, name: &[u8]) -> Result<String, AllocError>
         .finish()
 }
 
-/// What is said of what is open at the end of a file.
-pub fn left_open(alloc: Global, open: Open, depth: usize) -> Result<String, AllocError> {
-    let said = Sentence::new(alloc)
-        .say("\"")
-        .say(open.opening.word())
-        .say("\" of line ")
-        .count(open.line)
-        .say(" is open at the end of the file");
-    let said = if depth > 1 {
+/// What is said of what is open at the end of a file, in which so many parts are open.
+pub fn left_open(alloc: Global, part: Open, depth: usize) -> Result<String, AllocError>
+    ensures { IfOk result (λ t. string_bytes t ≡ spec.left_open part depth) }
+{
+    let said = open_text(Sentence::new(alloc), part).say(" at the end of the file");
+    more_text(said, depth).finish()
+}
+
+/// Says how many parts are open beside one of so many.
+fn more_text(said: Sentence, depth: usize) -> Sentence
+    ensures { Adds said result (spec.more_open depth) }
+{
+    if depth > 1 {
         said.say(", inside ")
             .count(depth.saturating_sub(1) as u64)
             .say(" more")
     } else {
         said
-    };
-    said.finish()
+    }
 }

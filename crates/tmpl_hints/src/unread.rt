@@ -1,5 +1,6 @@
 //! What is wrong with an action that is not closed, or that has a place where no token begins.
-ghost use Rattle.std.specs.Prelude.{◌≡◌, ◌≤◌, length};
+ghost use Rattle.std.specs.Prelude.{◌≡◌, ◌≤◌, IfOk, IsTrue, length, string_bytes};
+ghost use Rattle.tmpl_hints.specs.Told.{comment_words};
 ghost use Rattle.tmpl_hints.specs.Unread as spec;
 
 use crate::operators::{first_word, operator_in, show_left};
@@ -30,7 +31,9 @@ pub fn opens_comment(inside: &[u8]) -> bool
 }
 
 /// What is wrong there, in words. The tokens are those before the place where none begins.
-pub fn unreadable(alloc: Global, tokens: &[Token<'_>], after: &[u8]) -> Result<String, AllocError> {
+pub fn unreadable(alloc: Global, tokens: &[Token<'_>], after: &[u8]) -> Result<String, AllocError>
+    ensures comment { IsTrue (spec.opens_comment after.now) → IfOk result (λ t. string_bytes t ≡ comment_words) }
+{
     let said = Sentence::new(alloc);
     if opens_comment(after) {
         return said

@@ -1,2 +1,3 @@
 pub mod Checked
+pub mod Line
 pub mod Words

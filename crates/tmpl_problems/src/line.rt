@@ -1,4 +1,6 @@
 //! What is found as lines, as compilers write them.
+ghost use Rattle.std.specs.Prelude.{◌≡◌, ◌++◌, IfOk, OnOk, string_bytes};
+ghost use Rattle.tmpl_problems.specs.Line.{all_lines, line_of, lines_for, reason_with, text_of};
 
 use crate::problem::{Problem, Problems};
 use crate::reason::reason_words;
@@ -17,7 +19,14 @@ pub struct Finding<'a> {
 
 impl<'a> Finding<'a> {
     /// Adds its line, with a newline.
-    pub fn push_to(&self, out: &mut String) -> Result<(), AllocError> {
+    ///
+    /// # Errors
+    ///
+    /// Where memory was refused; a part of the line may then have been added.
+    pub fn push_to(&self, out: &mut String) -> Result<(), AllocError>
+        ensures { OnOk result (string_bytes out.new
+            ≡ string_bytes out.old ++ line_of self.now.file.now self.now.place self.now.level.now self.now.text.now) }
+    {
         let file = self.file;
         let (line, column) = self.place;
         let level = self.level;
@@ -27,7 +36,9 @@ impl<'a> Finding<'a> {
 }
 
 /// A reason, and what more is said of it.
-pub fn reason_text(alloc: Global, reason: &str, detail: &str) -> Result<String, AllocError> {
+pub fn reason_text(alloc: Global, reason: &str, detail: &str) -> Result<String, AllocError>
+    ensures { IfOk result (λ t. string_bytes t ≡ reason_with reason.now detail.now) }
+{
     let mut text = String::from_str(alloc, reason)?;
     if !detail.is_empty() {
         text.push_str(": ")?;
@@ -37,7 +48,9 @@ pub fn reason_text(alloc: Global, reason: &str, detail: &str) -> Result<String, 
 }
 
 /// What is wrong, as a text.
-pub fn problem_text(alloc: Global, problem: &Problem) -> Result<String, AllocError> {
+pub fn problem_text(alloc: Global, problem: &Problem) -> Result<String, AllocError>
+    ensures { IfOk result (λ t. string_bytes t ≡ text_of problem.now) }
+{
     reason_text(
         alloc,
         reason_words(problem.refusal.refused.kind),
@@ -45,31 +58,34 @@ pub fn problem_text(alloc: Global, problem: &Problem) -> Result<String, AllocErr
     )
 }
 
-/// All that is wrong in a file, in a line each.
-pub fn problem_lines(alloc: Global, file: &str, all: &Problems) -> Result<String, AllocError> {
+/// All that is wrong in a file, in a line each: what is refused, and then what is found beyond.
+pub fn problem_lines(alloc: Global, file: &str, all: &Problems) -> Result<String, AllocError>
+    ensures { IfOk result (λ t. string_bytes t ≡ all_lines file.now all.now) }
+{
     let mut out = String::new(alloc);
-    for problem in all.refused.as_slice() {
-        push_problem(alloc, &mut out, file, problem)?;
-    }
-    for problem in all.beyond.as_slice() {
-        push_problem(alloc, &mut out, file, problem)?;
-    }
+    push_problems(alloc, &mut out, file, all.refused.as_slice())?;
+    push_problems(alloc, &mut out, file, all.beyond.as_slice())?;
     Ok(out)
 }
 
-/// Adds the line of what is wrong in a file.
-fn push_problem(
+/// Adds the lines of what is wrong in a file.
+fn push_problems(
     alloc: Global,
     out: &mut String,
     file: &str,
-    problem: &Problem,
-) -> Result<(), AllocError> {
-    let text = problem_text(alloc, problem)?;
-    Finding {
-        file,
-        place: (problem.refusal.refused.line, problem.refusal.column),
-        level: "error",
-        text: text.as_str(),
+    problems: &[Problem],
+) -> Result<(), AllocError>
+    ensures { OnOk result (string_bytes out.new ≡ string_bytes out.old ++ lines_for file.now problems.now) }
+{
+    for problem in problems {
+        let text = problem_text(alloc, problem)?;
+        Finding {
+            file,
+            place: (problem.refusal.refused.line, problem.refusal.column),
+            level: "error",
+            text: text.as_str(),
+        }
+        .push_to(out)?;
     }
-    .push_to(out)
+    Ok(())
 }
