@@ -19,11 +19,11 @@ readable_other bytes not = by (is_utf8 bytes) refl
     by false e = chosen bytes false e
 
 -- words after words
-behind : (a : Said) (xs ys : List ℕ) → option_map (λ front. front ++ (xs ++ ys)) a ≡ option_map (λ front. front ++ ys) (option_map (λ front. front ++ xs) a)
-behind None xs ys = refl
-behind (Some front) xs ys = ap Some (sym (append_assoc front xs ys))
+after_words : (a : Said) (xs ys : List ℕ) → option_map (λ front. front ++ (xs ++ ys)) a ≡ option_map (λ front. front ++ ys) (option_map (λ front. front ++ xs) a)
+after_words None xs ys = refl
+after_words (Some front) xs ys = ap Some (sym (append_assoc front xs ys))
 
 pub adds_then : (a b c : Said) (xs ys : List ℕ) → Adds a b xs → Adds b c ys → Adds a c (xs ++ ys)
 adds_then a b None xs ys p q = tt
 adds_then a None (Some text) xs ys p q = grind arith
-adds_then a (Some before) (Some text) xs ys p q = behind a xs ys ∙ ap (option_map (λ front. front ++ ys)) p ∙ q
+adds_then a (Some before) (Some text) xs ys p q = after_words a xs ys ∙ ap (option_map (λ front. front ++ ys)) p ∙ q

@@ -24,7 +24,7 @@ abbrev pub open_at : Open → List ℕ
 open_at part =
     codes "\"" ++ own_word part.opening ++ codes "\" of line " ++ decimal part.line ++ codes " is open"
 
--- and at the end of a file, in which so many parts are open
+-- and at the end of a file, in which this many parts are open
 abbrev pub more_open : ℕ → List ℕ
 more_open depth = if nat_lt 1 depth then codes ", inside " ++ decimal (depth - 1) ++ codes " more" else []
 

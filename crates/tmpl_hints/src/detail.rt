@@ -462,7 +462,7 @@ pub fn undeclared_text(alloc: Global, name: &[u8]) -> Result<String, AllocError>
         .finish()
 }
 
-/// What is said of what is open at the end of a file, in which so many parts are open.
+/// What is said of what is open at the end of a file, in which this many parts are open.
 pub fn left_open(alloc: Global, part: Open, depth: usize) -> Result<String, AllocError>
     ensures { IfOk result (λ t. string_bytes t ≡ spec.left_open part depth) }
 {
@@ -470,7 +470,7 @@ pub fn left_open(alloc: Global, part: Open, depth: usize) -> Result<String, Allo
     more_text(said, depth).finish()
 }
 
-/// Says how many parts are open beside one of so many.
+/// Says how many parts are open beside one of this many.
 fn more_text(said: Sentence, depth: usize) -> Sentence
     ensures { Adds said result (spec.more_open depth) }
 {
