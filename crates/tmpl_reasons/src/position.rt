@@ -1,20 +1,39 @@
 //! Where in the bytes of a document its parts stand.
+ghost use Rattle.std.specs.Prelude.{◌≡◌, ◌≤◌, ◌+◌, true, IfOk, IfSome, length, drop, map, slice_get, Some};
+ghost use Rattle.std.specs.Str.{byte};
+ghost use Rattle.std.specs.List.{prefix_len};
+ghost use Rattle.std.specs.String.{string_bytes};
+ghost use Rattle.std.specs.Str.Parse.{IsNumeral, without_leading_plus};
+ghost use Rattle.tmpl_reasons.specs.Position as spec;
+ghost use Rattle.tmpl_reasons.specs.Position.{Begins, IsLine, IsNamed, IsPosition, IsKey, IsStart, column_at, line_at};
 
 use std::alloc::{AllocError, Global};
 
-/// The line and the column of a byte.
-fn place_of(bytes: &[u8], start: usize) -> (u64, u64) {
-    let mut line: u64 = 1;
-    let mut column: u64 = 1;
-    for byte in bytes.get(..start).unwrap_or(&[]) {
+/// The line and the column of a byte, or of the end.
+fn place_of(bytes: &[u8], start: usize) -> (u64, u64)
+    requires { start ≤ length bytes.now }
+    ensures line { result.0 ≡ line_at bytes.now start }
+    ensures column { result.1 ≡ column_at bytes.now start }
+{
+    let mut line = 1;
+    let mut column = 1;
+    let before = &bytes[..start];
+    for byte in before {
         if *byte == b'\n' {
-            line = line.saturating_add(1);
+            line += 1;
             column = 1;
-        } else if !(0x80..=0xBF).contains(byte) {
-            column = column.saturating_add(1);
+        } else if !continues(*byte) {
+            column += 1;
         }
     }
     (line, column)
+}
+
+/// Whether a byte begins no character of UTF-8.
+fn continues(byte: u8) -> bool
+    ensures { result ≡ spec.continues byte }
+{
+    128 <= byte && byte < 192
 }
 
 /// A member or an item: where its key or itself begins, and its value.
@@ -25,10 +44,13 @@ struct Part {
 }
 
 /// Where what is at a path stands in a JSON text: the last part of the path stands first.
-fn start_of(bytes: &[u8], path: &[String]) -> usize {
+fn start_of(bytes: &[u8], path: &[String]) -> usize
+    ensures start { IsStart bytes.now result }
+    ensures begins { Begins bytes.now (map (λ name. string_bytes name) path.now) result }
+{
     let mut part = whole(bytes);
-    for name in path.iter().rev() {
-        match inner_part(bytes, part.value, name.as_str()) {
+    for index in (0..path.len()).rev() {
+        match inner_part(bytes, part.value, path[index].as_str()) {
             Some(inner) => part = inner,
             None => return part.start,
         }
@@ -37,16 +59,16 @@ fn start_of(bytes: &[u8], path: &[String]) -> usize {
 }
 
 /// The line and the column of what is at a path in a JSON text, or around it: the last part of the path stands first.
-pub fn position_of(bytes: &[u8], path: &[String]) -> (u64, u64) {
+pub fn position_of(bytes: &[u8], path: &[String]) -> (u64, u64)
+    ensures { IsPosition bytes.now (map (λ name. string_bytes name) path.now) result }
+{
     place_of(bytes, start_of(bytes, path))
 }
 
 /// The line of what a JSON Pointer points to, or of its key; none where that is not seen, as a key with escapes is not.
-pub(crate) fn line_of(
-    alloc: Global,
-    bytes: &[u8],
-    pointer: &str,
-) -> Result<Option<u64>, AllocError> {
+pub(crate) fn line_of(alloc: Global, bytes: &[u8], pointer: &str) -> Result<Option<u64>, AllocError>
+    ensures { IfOk result (λ line. IfSome line (IsLine bytes.now)) }
+{
     let mut part = whole(bytes);
     for name in pointer.split('/').skip(1) {
         let name = without_escapes(alloc, name)?;
@@ -78,7 +100,10 @@ fn without_escapes(alloc: Global, part: &str) -> Result<String, AllocError> {
 }
 
 /// The value that a JSON text is.
-fn whole(bytes: &[u8]) -> Part {
+fn whole(bytes: &[u8]) -> Part
+    ensures start { IsStart bytes.now result.start }
+    ensures first { result.start ≡ prefix_len spec.is_space bytes.now }
+{
     let value = after_space(bytes, 0);
     Part {
         start: value,
@@ -87,18 +112,15 @@ fn whole(bytes: &[u8]) -> Part {
 }
 
 /// The member of this key, or the item of this index, of the value that begins here: of several the last.
-fn inner_part(bytes: &[u8], start: usize, name: &str) -> Option<Part> {
+fn inner_part(bytes: &[u8], start: usize, name: &str) -> Option<Part>
+    ensures { IfSome result (λ part. IsStart bytes.now part.start × IsNamed bytes.now part.start name.now) }
+{
     let is_object = bytes.get(start).copied() == Some(b'{');
     let mut at = after_space(bytes, start.saturating_add(1));
     let mut found = None;
     for index in 0..bytes.len() {
         let part = part_at(bytes, at, is_object);
-        let is_wanted = if is_object {
-            is_key(bytes, part.start, after_value(bytes, at), name)
-        } else {
-            is_index(index, name)
-        };
-        if is_wanted {
+        if is_named(bytes, part.start, is_object, index, name) {
             found = Some(part);
         }
         let next = after_space(bytes, after_value(bytes, part.value));
@@ -111,7 +133,9 @@ fn inner_part(bytes: &[u8], start: usize, name: &str) -> Option<Part> {
 }
 
 /// The member or the item that begins here.
-fn part_at(bytes: &[u8], start: usize, is_member: bool) -> Part {
+fn part_at(bytes: &[u8], start: usize, is_member: bool) -> Part
+    ensures { result.start ≡ start }
+{
     if !is_member {
         return Part {
             start,
@@ -125,27 +149,76 @@ fn part_at(bytes: &[u8], start: usize, is_member: bool) -> Part {
     }
 }
 
-/// Whether the text in quotes between these places is the key.
-fn is_key(bytes: &[u8], start: usize, end: usize, key: &str) -> bool {
-    bytes.get(start.saturating_add(1)..end.saturating_sub(1)) == Some(key.as_bytes())
+/// Whether the member that begins here has this key, or the item of this index this name.
+fn is_named(bytes: &[u8], start: usize, is_member: bool, index: usize, name: &str) -> bool
+    requires { start ≤ length bytes.now }
+    ensures { result ≡ true → IsNamed bytes.now start name.now }
+{
+    if is_member {
+        is_key(bytes, start, after_value(bytes, start), name)
+    } else {
+        is_index(index, name)
+    }
+}
+
+/// Whether the key stands in quotes between these places.
+#[tactic(auto, using(crate::proofs::PositionLemmas::stands_between))]
+fn is_key(bytes: &[u8], start: usize, end: usize, key: &str) -> bool
+    requires { start ≤ length bytes.now }
+    ensures { result ≡ true → IsKey bytes.now start key.now }
+{
+    let last = end.saturating_sub(1);
+    match bytes.get(start + 1..last) {
+        Some(inside) => {
+            inside == key.as_bytes() && is_quote(bytes, start) && is_quote(bytes, last)
+        }
+        None => false,
+    }
+}
+
+/// Whether a quotation mark stands here.
+fn is_quote(bytes: &[u8], at: usize) -> bool
+    ensures { result ≡ true → slice_get bytes.now at ≡ Some (byte "\"") }
+{
+    bytes.get(at).copied() == Some(b'"')
 }
 
 /// Whether the digits are those of the index.
-fn is_index(index: usize, digits: &str) -> bool {
+fn is_index(index: usize, digits: &str) -> bool
+    ensures { result ≡ true → IsNumeral 10 (without_leading_plus digits.now) }
+{
     match digits.parse::<u64>() {
         Ok(wanted) => wanted == index as u64,
         Err(_) => false,
     }
 }
 
-/// The place after white space.
-fn after_space(bytes: &[u8], start: usize) -> usize {
-    let rest = bytes.get(start..).unwrap_or(&[]);
-    let count = rest
-        .iter()
-        .take_while(|b| matches!(**b, b' ' | b'\t' | b'\n' | b'\r'))
-        .count();
-    start.saturating_add(count)
+/// The place after white space, or the end where there is nothing here.
+#[tactic(auto, using(crate::proofs::PositionLemmas::at_end))]
+fn after_space(bytes: &[u8], start: usize) -> usize
+    ensures start { IsStart bytes.now result }
+    ensures value { start ≤ length bytes.now → result ≡ start + prefix_len spec.is_space (drop start bytes.now) }
+{
+    if start <= bytes.len() {
+        start + space_len(&bytes[start..])
+    } else {
+        bytes.len()
+    }
+}
+
+/// How many bytes of white space there are at the front.
+fn space_len(bytes: &[u8]) -> usize
+    ensures value { result ≡ prefix_len spec.is_space bytes.now }
+    ensures within { result ≤ length bytes.now }
+{
+    bytes.iter().take_while(|b| is_space(**b)).count()
+}
+
+/// Whether this is white space of JSON.
+fn is_space(byte: u8) -> bool
+    ensures { result ≡ spec.is_space byte }
+{
+    matches!(byte, b' ' | b'\t' | b'\n' | b'\r')
 }
 
 /// The place after the value, or the key, that begins here.

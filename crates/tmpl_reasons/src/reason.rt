@@ -1,10 +1,13 @@
 //! Where a document lets through what may be a fault of a template.
+ghost use Rattle.std.specs.Prelude.{◌≡◌, Some, IfOk, IfSome};
+ghost use Rattle.std.specs.List.{AllZip};
+ghost use Rattle.tmpl_reasons.specs.Reason.{AreReasons, IsReason, IsTold, absence, few, gap_by, gap_of, kind};
 
 use crate::keywords::{least_items, requires_key};
 use crate::kind::Kind;
 use crate::origin::{Document, Lost, Origin, below, lets_all};
 use crate::position::line_of;
-use crate::walk::asked_of;
+use crate::walk::{Asked, asked_of};
 use serde_json::Value;
 use std::alloc::{AllocError, Global};
 use tmpl_schema::{Cause, Doubt};
@@ -39,13 +42,16 @@ pub struct Reason {
 
 /// For each doubt why what it speaks of may come, in a run of the template of this name over data of the document,
 /// where one place of that alone lets it through; else none. The doubts are those that `check_document` gives.
+#[tactic(auto, using(crate::proofs::ReasonLemmas::are_reasons, crate::proofs::ReasonLemmas::no_reasons))]
 pub fn reasons_of(
     alloc: Global,
     set: &Set,
     name: &[u8],
     document: &[u8],
     doubts: &[Doubt],
-) -> Result<Vec<Option<Reason>>, AllocError> {
+) -> Result<Vec<Option<Reason>>, AllocError>
+    ensures { IfOk result (λ reasons. AreReasons document.now doubts.now reasons.items) }
+{
     let root = match Value::from_slice(alloc, document) {
         Ok(root) => root,
         Err(error) if error.is_memory() => return Err(AllocError),
@@ -56,20 +62,48 @@ pub fn reasons_of(
         bytes: document,
         alloc,
     };
+    Ok(reasons_in(document, set, name, doubts)?)
+}
+
+/// The reasons in a document for the doubts.
+fn reasons_in(
+    document: Document<'_>,
+    set: &Set,
+    name: &[u8],
+    doubts: &[Doubt],
+) -> Result<Vec<Option<Reason>>, AllocError>
+    ensures { IfOk result (λ reasons. AllZip (IsTold document.entry.bytes.now) doubts.now reasons.items) }
+{
     let asked = asked_of(document, set, name, doubts)?;
-    let mut reasons = Vec::new(alloc);
-    for (doubt, asked) in doubts.iter().zip(asked.iter()) {
-        let reason = match &asked.origin {
-            Some(origin) => reason_among(document, origin, &doubt.cause),
-            None => Ok(None),
-        };
-        match reason {
-            Ok(reason) => reasons.push(reason)?,
-            Err(Lost::Untold) => reasons.push(None)?,
-            Err(Lost::OutOfMemory) => return Err(AllocError),
-        }
+    let mut reasons = Vec::new(document.alloc);
+    for doubt in doubts {
+        let asked = asked.get(reasons.len());
+        reasons.push(reason_for(document, asked, doubt)?)?;
     }
     Ok(reasons)
+}
+
+/// Why what the doubt speaks of may come, where it is told where that comes from.
+fn reason_for(
+    document: Document<'_>,
+    asked: Option<&Asked>,
+    doubt: &Doubt,
+) -> Result<Option<Reason>, AllocError>
+    ensures { IfOk result (IsTold document.entry.bytes.now doubt.now) }
+{
+    let Some(
+        Asked {
+            origin: Some(origin),
+        },
+    ) = asked
+    else {
+        return Ok(None);
+    };
+    match reason_among(document, origin, &doubt.cause) {
+        Ok(reason) => Ok(reason),
+        Err(Lost::Untold) => Ok(None),
+        Err(Lost::OutOfMemory) => Err(AllocError),
+    }
 }
 
 /// Why what the cause speaks of may come from there, where one place alone lets it through.
@@ -77,7 +111,9 @@ fn reason_among(
     document: Document<'_>,
     asked: &Origin,
     cause: &Cause,
-) -> Result<Option<Reason>, Lost> {
+) -> Result<Option<Reason>, Lost>
+    ensures { IfOk result (λ reason. IfSome reason (IsReason document.entry.bytes.now (gap_of cause.now))) }
+{
     let plain = document.plain(asked)?;
     let mut only: Option<Reason> = None;
     for place in plain.places.as_slice() {
@@ -97,7 +133,9 @@ fn reason_at(
     place: &str,
     is_there: bool,
     cause: &Cause,
-) -> Result<Option<Reason>, Lost> {
+) -> Result<Option<Reason>, Lost>
+    ensures { IfOk result (λ reason. IfSome reason (IsReason document.entry.bytes.now (gap_of cause.now))) }
+{
     match cause {
         Cause::Absent(name) => match std::str::from_utf8(name.as_slice()) {
             Ok(name) => why_absent(document, place, name),
@@ -110,7 +148,9 @@ fn reason_at(
 }
 
 /// Why a map of the schema at a plain place may have no such field.
-fn why_absent(document: Document<'_>, place: &str, name: &str) -> Result<Option<Reason>, Lost> {
+fn why_absent(document: Document<'_>, place: &str, name: &str) -> Result<Option<Reason>, Lost>
+    ensures { IfOk result (λ reason. IfSome reason (IsReason document.entry.bytes.now (Some absence))) }
+{
     let schema = document.schema_at(place)?;
     if !Kind::Map.is_let_by(schema) || requires_key(schema, name) {
         return Ok(None);
@@ -147,7 +187,9 @@ fn why_kind(
     place: &str,
     is_there: bool,
     word: &str,
-) -> Result<Option<Reason>, Lost> {
+) -> Result<Option<Reason>, Lost>
+    ensures { IfOk result (λ reason. IfSome reason (IsReason document.entry.bytes.now (Some kind))) }
+{
     let schema = document.schema_at(place)?;
     match lets_kind(schema, word) {
         Some(_) if word == "null" && !is_there => Err(Lost::Untold),
@@ -162,7 +204,9 @@ fn reason_of_kind(
     document: Document<'_>,
     schema: &Value,
     place: &str,
-) -> Result<Option<Reason>, Lost> {
+) -> Result<Option<Reason>, Lost>
+    ensures { IfOk result (λ reason. IfSome reason (IsReason document.entry.bytes.now (Some kind))) }
+{
     for keyword in ["type", "enum", "const"] {
         if schema.get(keyword).is_some() {
             return reason_under(document, Why::Kind, place, keyword);
@@ -172,7 +216,9 @@ fn reason_of_kind(
 }
 
 /// Why a list of the schema at a plain place may have fewer items than this.
-fn why_few(document: Document<'_>, place: &str, count: u64) -> Result<Option<Reason>, Lost> {
+fn why_few(document: Document<'_>, place: &str, count: u64) -> Result<Option<Reason>, Lost>
+    ensures { IfOk result (λ reason. IfSome reason (IsReason document.entry.bytes.now (Some few))) }
+{
     let schema = document.schema_at(place)?;
     if !Kind::List.is_let_by(schema) {
         return Ok(None);
@@ -190,13 +236,17 @@ fn reason_under(
     why: Why,
     place: &str,
     keyword: &str,
-) -> Result<Option<Reason>, Lost> {
+) -> Result<Option<Reason>, Lost>
+    ensures { IfOk result (λ reason. IfSome reason (IsReason document.entry.bytes.now (Some (gap_by why)))) }
+{
     let place = below(document.alloc, place, keyword)?;
     reason_by(document, why, place.as_str())
 }
 
 /// The reason at a place, where its line is seen.
-fn reason_by(document: Document<'_>, why: Why, place: &str) -> Result<Option<Reason>, Lost> {
+fn reason_by(document: Document<'_>, why: Why, place: &str) -> Result<Option<Reason>, Lost>
+    ensures { IfOk result (λ reason. IfSome reason (IsReason document.entry.bytes.now (Some (gap_by why)))) }
+{
     match line_of(document.alloc, document.bytes, place)? {
         Some(line) => Ok(Some(Reason { why, line })),
         None => Err(Lost::Untold),

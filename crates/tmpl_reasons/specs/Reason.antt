@@ -1,0 +1,49 @@
+-- Which reasons are told of which doubts.
+use Rattle.std.specs.Prelude.{◌≡◌, ℕ, List, [], Option, Some, None, IfSome, MatchOption}
+use Rattle.std.specs.Prelude.{if◌then◌else◌}
+use Rattle.std.specs.List.{AllZip}
+use Rattle.std.specs.Str.{is_utf8}
+use Rattle.serde_json.specs.Read.{read}
+use Rattle.tmpl_shape.specs.declared.cause.Cause.{Cause}
+use Rattle.tmpl_shape.specs.declared.cause.Cause.TheVariants as cause
+use Rattle.tmpl_schema.specs.declared.failure.Doubt.{Doubt}
+use Rattle.tmpl_reasons.specs.declared.reason.Why.{Why}
+use Rattle.tmpl_reasons.specs.declared.reason.Why.TheVariants as why
+use Rattle.tmpl_reasons.specs.declared.reason.Reason.{Reason}
+use Rattle.tmpl_reasons.specs.Position.{IsLine}
+
+-- what a document lets through: that a field is absent, a value of some kind, a list of few items
+pub data Gap : Type 0 where
+  absence kind few : Gap
+
+-- what a cause speaks of; none of which no reason is told
+abbrev pub gap_of : Cause → Option Gap
+gap_of (cause.Absent name) = Some absence
+gap_of (cause.NoFields name word) = Some kind
+gap_of (cause.Range word) = Some kind
+gap_of (cause.FewItems func count) = Some few
+gap_of _ = None
+
+-- what a reason is one for
+abbrev pub gap_by : Why → Gap
+gap_by why.NotRequired = absence
+gap_by why.NoneRequired = absence
+gap_by why.NotListed = absence
+gap_by why.NoneListed = absence
+gap_by why.Kind = kind
+gap_by why.LowMinItems = few
+gap_by why.NoMinItems = few
+
+-- it is a reason for that, at a line of the document
+pub record IsReason (bytes : List ℕ) (gap : Option Gap) (reason : Reason) : Type 0 where
+  pub why : Some (gap_by reason.why) ≡ gap
+  pub line : IsLine bytes reason.line
+
+-- what is told of a doubt, a reason or none
+abbrev pub IsTold : List ℕ → Doubt → Option Reason → Type 0
+IsTold bytes doubt told = IfSome told (IsReason bytes (gap_of doubt.cause))
+
+-- where the document is JSON that is told of each doubt in turn, else of none
+abbrev pub AreReasons : List ℕ → List Doubt → List (Option Reason) → Type 0
+AreReasons bytes doubts told =
+    MatchOption (if is_utf8 bytes then read bytes else None) (told ≡ []) (λ value. AllZip (IsTold bytes) doubts told)
