@@ -1,5 +1,8 @@
 //! Where in a document values come from: at which places a schema stands that they conform to.
 
+ghost use Rattle.std.specs.Prelude.{◌≡◌};
+ghost use Rattle.tmpl_reasons.specs.declared.origin.Lost.TheVariants as lost;
+
 use crate::keywords::{alternatives_in, has_content, requires_key};
 use crate::kind::{Kind, lets_each_kind, lets_no_map};
 use percent_encoding::{DecodeError, percent_decode};
@@ -21,12 +24,16 @@ pub(crate) enum Lost {
 }
 
 impl From<AllocError> for Lost {
+    ghost from_gives = { λ _ e. e ≡ lost.OutOfMemory };
+
     fn from(_: AllocError) -> Lost {
         Lost::OutOfMemory
     }
 }
 
 impl<T: Drop> From<AllocFailed<T>> for Lost {
+    ghost from_gives = { λ _ e. e ≡ lost.OutOfMemory };
+
     fn from(_: AllocFailed<T>) -> Lost {
         Lost::OutOfMemory
     }
