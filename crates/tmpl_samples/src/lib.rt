@@ -3,9 +3,11 @@
 
 mod conform;
 mod draw;
+mod failing;
 mod infer;
 mod search;
 mod smaller;
 
+pub use failing::Failure;
 pub use infer::infer_schema;
-pub use search::{Failure, failures_of};
+pub use search::failures_of;

@@ -1,17 +1,17 @@
 //! The search for values of a schema for which a template fails.
+ghost use Rattle.std.specs.Prelude.{◌≡◌, [], IfOk, unwrap_or};
+ghost use Rattle.tmpl_meaning.specs.declared.missing_key.MissingKey.{MissingKey};
+ghost use Rattle.tmpl_syntax.specs.View.{set_view};
+ghost use Rattle.tmpl_samples.specs.Failing.{AreRight, IsJson, rules_by};
 
 use crate::conform::conforms;
 use crate::draw::{Draw, Flip, LEVELS};
+use crate::failing::{Failure, MOST_TEXT, Nowhere, Question, is_doubted};
 use crate::smaller::without;
 use serde_json::Value;
 use std::alloc::{AllocError, Global};
-use std::str::from_utf8;
-use tmpl_engine::{
-    Data, DataFault, MissingKey, Options, RenderError, Renderer, RunFault, RunFaultKind, Set, Sink,
-    SinkFault, WriterSink,
-};
+use tmpl_engine::{Data, DataFault, MissingKey, RenderError, Renderer, RunFault, Set};
 use tmpl_schema::{Cause, Doubt};
-use tmpl_tool::tell_end;
 use tmpl_values::Bytes;
 
 /// The most renders from one beginning, the most of making a value smaller, and the most bytes of all values for that.
@@ -32,54 +32,29 @@ const END: u64 = u64::MAX;
 
 const LINE: u64 = 10_000_000;
 
-/// The most bytes of a value that is rendered, and of one that is shown.
+/// The most bytes of a value that is rendered.
 const MOST_BYTES: usize = 100_000;
-
-const MOST_SHOWN: usize = 500;
-
-/// The limits of a render.
-const STEPS: u64 = 20_000;
-
-const DEPTH: u32 = 50;
-
-/// The most bytes that a render puts out.
-const MOST_TEXT: usize = 1_000_000;
-
-/// A value of a schema, and the fault of a template over it.
-#[derive(Drop)]
-pub struct Failure {
-    /// The value as JSON.
-    pub data: String,
-    /// What `tmpl` says of the fault, after its place.
-    pub said: String,
-    /// Whether it comes with `--missingkey error` alone.
-    pub is_strict: bool,
-}
 
 /// A value for which a doubt is right, before it is made smaller.
 #[derive(Drop)]
 struct Case {
     value: Value,
-    failure: Failure,
+    /// How many bytes its text has.
+    size: usize,
 }
 
-/// A doubt that a run shows to be right, and how.
-#[derive(Drop)]
-struct Shown {
-    doubt: usize,
-    failure: Failure,
-}
-
-/// How far a run comes, and what it shows.
-#[derive(Drop)]
+/// How far a run comes, over how many bytes, and the number of the doubt that it shows to be right, if it shows one.
+#[derive(Clone, Copy)]
 struct Outcome {
     progress: u64,
-    shown: Option<Shown>,
+    size: usize,
+    shown: Option<usize>,
 }
 
 /// That of a value that is not rendered.
 const NO_RUN: Outcome = Outcome {
     progress: 0,
+    size: 0,
     shown: None,
 };
 
@@ -90,18 +65,6 @@ struct Trial {
     progress: u64,
 }
 
-/// What is asked: a template of a set, the document that its data conform to, and what may be a fault.
-#[derive(Clone, Copy)]
-struct Question<'q> {
-    alloc: Global,
-    renderer: &'q Renderer,
-    name: &'q [u8],
-    root: &'q Value,
-    mode: MissingKey,
-    stops: &'q [Bytes],
-    doubts: &'q [Doubt],
-}
-
 /// What was found for each doubt, and how much may still be done.
 #[derive(Drop)]
 struct Hunt {
@@ -109,95 +72,6 @@ struct Hunt {
     missing: usize,
     tries: usize,
     work: usize,
-}
-
-/// Takes text, up to a number of bytes, and forgets it.
-#[derive(Drop)]
-struct Nowhere {
-    room: usize,
-    failures: u64,
-}
-
-impl Sink for Nowhere {
-    ghost use Rattle.std.specs.Prelude.{None};
-
-    ghost so_far = { λ s. record { bytes = None; failures = s.failures } };
-
-    fn put(&mut self, bytes: &[u8]) -> Result<usize, SinkFault> {
-        if bytes.len() > self.room {
-            self.failures += 1;
-            return Err(SinkFault);
-        }
-        self.room -= bytes.len();
-        Ok(bytes.len())
-    }
-}
-
-/// Whether a fault is what a cause speaks of, and none that is allowed.
-fn is_caused(cause: &Cause, kind: &RunFaultKind<'_>, stops: &[Bytes]) -> bool {
-    match (cause, kind) {
-        (Cause::Absent(name), RunFaultKind::NoEntry(field) | RunFaultKind::NoField(field)) => {
-            name.as_slice() == *field
-        }
-        (Cause::NoFields(name, _), RunFaultKind::NoEntry(field) | RunFaultKind::NoField(field)) => {
-            name.as_slice() == *field
-        }
-        (
-            Cause::Arguments(func) | Cause::FewItems(func, _) | Cause::NotFollowed(func),
-            RunFaultKind::Call(other, _),
-        ) => func.name() == other.name(),
-        (Cause::Range(_), RunFaultKind::NotARange) => true,
-        (Cause::NoTemplate(name), RunFaultKind::NoTemplate(other)) => {
-            name.as_slice() == *other && !stops.iter().any(|stop| stop.as_slice() == *other)
-        }
-        (Cause::Command, RunFaultKind::NotAFunction | RunFaultKind::NilCommand) => true,
-        _ => false,
-    }
-}
-
-/// Whether a fault is at the place of a doubt, and what it speaks of.
-fn is_doubted(doubt: &Doubt, fault: &RunFault<'_>, stops: &[Bytes]) -> bool {
-    doubt.line == fault.line
-        && doubt.template.as_slice() == fault.template
-        && is_caused(&doubt.cause, &fault.kind, stops)
-}
-
-/// What `tmpl` says of a fault of the template of this name, after the file, the line and the template.
-fn said_of(alloc: Global, fault: RunFault<'_>, name: &[u8]) -> Result<String, AllocError> {
-    let mut sink = WriterSink::new(Vec::new(alloc));
-    let _ = tell_end(Err(RenderError::Fault(fault)), name, &mut sink);
-    if sink.failures > 0 {
-        return Err(AllocError);
-    }
-    let line = sink.writer.as_slice();
-    let start = b"tmpl: ".len().saturating_add(fault.file.len());
-    let rest = line.get(start..).unwrap_or(&[]);
-    match from_utf8(reason_in(rest)) {
-        Ok(reason) => String::from_str(alloc, reason),
-        Err(_) => String::from_str(alloc, "it fails there"),
-    }
-}
-
-/// The reason in what stands after the file in a line: after the first text in quotes, and without the end of the line.
-fn reason_in(line: &[u8]) -> &[u8] {
-    let mut is_quoted = false;
-    let mut is_escaped = false;
-    let mut start: usize = 0;
-    for byte in line {
-        start = start.saturating_add(1);
-        if is_escaped {
-            is_escaped = false;
-        } else if *byte == b'\\' {
-            is_escaped = is_quoted;
-        } else if *byte == b'"' {
-            if is_quoted {
-                break;
-            }
-            is_quoted = true;
-        }
-    }
-    let end = line.len().saturating_sub(1);
-    line.get(start.saturating_add(2)..end).unwrap_or(&[])
 }
 
 impl Question<'_> {
@@ -212,7 +86,7 @@ impl Question<'_> {
             return Ok(NO_RUN);
         }
         match Data::from_json(self.alloc, data.as_bytes()) {
-            Ok(tree) => self.outcome_over(&tree, data, only),
+            Ok(tree) => self.outcome_over(&tree, data.len(), only),
             Err(DataFault::OutOfMemory) => Err(AllocError),
             Err(_) => Ok(NO_RUN),
         }
@@ -221,22 +95,11 @@ impl Question<'_> {
     fn outcome_over(
         &self,
         tree: &Data,
-        data: String,
+        size: usize,
         only: Option<usize>,
     ) -> Result<Outcome, AllocError> {
-        let options = Options {
-            missing_key: self.mode,
-            depth: DEPTH,
-            steps: STEPS,
-        };
-        let mut out = Nowhere {
-            room: MOST_TEXT,
-            failures: 0,
-        };
-        match self
-            .renderer
-            .render(self.alloc, self.name, Some(tree), &options, &mut out)
-        {
+        let mut out = Nowhere::new();
+        match self.render(tree, &mut out) {
             Err(RenderError::Fault(fault)) => {
                 let text = MOST_TEXT.saturating_sub(out.room) as u64;
                 let line = if fault.template == self.name {
@@ -246,34 +109,18 @@ impl Question<'_> {
                 };
                 Ok(Outcome {
                     progress: line.saturating_mul(LINE).saturating_add(text),
-                    shown: self.shown(fault, data, only)?,
+                    size,
+                    shown: self.right_doubt(&fault, only),
                 })
             }
             Err(RenderError::OutOfMemory) => Err(AllocError),
             Ok(()) => Ok(Outcome {
                 progress: END,
+                size,
                 shown: None,
             }),
             Err(RenderError::NoTemplate | RenderError::WriteFailed) => Ok(NO_RUN),
         }
-    }
-
-    /// Which doubt a fault over these data shows to be right, and how.
-    fn shown(
-        &self,
-        fault: RunFault<'_>,
-        data: String,
-        only: Option<usize>,
-    ) -> Result<Option<Shown>, AllocError> {
-        let Some(doubt) = self.right_doubt(&fault, only) else {
-            return Ok(None);
-        };
-        let failure = Failure {
-            data,
-            said: said_of(self.alloc, fault, self.name)?,
-            is_strict: matches!(&fault.kind, RunFaultKind::NoEntry(_)),
-        };
-        Ok(Some(Shown { doubt, failure }))
     }
 
     /// The number of the first doubt that a fault shows to be right, or of one of them alone.
@@ -305,9 +152,13 @@ impl Question<'_> {
                 progress: 0,
             });
         };
-        let Outcome { progress, shown } = self.outcome(&value, None)?;
-        if let Some(shown) = shown {
-            hunt.keep(shown, value);
+        let Outcome {
+            progress,
+            size,
+            shown,
+        } = self.outcome(&value, None)?;
+        if let Some(doubt) = shown {
+            hunt.keep(doubt, Case { value, size });
         }
         Ok(Trial { counts, progress })
     }
@@ -369,12 +220,12 @@ impl Question<'_> {
         Ok(())
     }
 
-    /// Makes the value of a doubt smaller, as long as the template fails in the same way.
-    fn smaller(&self, index: usize, case: Case, room: &mut usize) -> Result<Case, AllocError> {
+    /// The value of a doubt, made smaller as long as the template fails in the same way.
+    fn smaller(&self, index: usize, case: Case, room: &mut usize) -> Result<Value, AllocError> {
         let mut case = case;
         let mut part: usize = 1;
         for _ in 0..MOST_SMALLER {
-            *room = room.saturating_sub(case.failure.data.len());
+            *room = room.saturating_sub(case.size);
             if *room == 0 {
                 break;
             }
@@ -383,13 +234,14 @@ impl Question<'_> {
             if left > 0 {
                 break;
             }
-            let Outcome { shown, .. } = self.outcome(&value, Some(index))?;
+            let Outcome { size, shown, .. } = self.outcome(&value, Some(index))?;
             match shown {
-                Some(Shown { failure, .. }) => case = Case { value, failure },
+                Some(_) => case = Case { value, size },
                 None => part = part.saturating_add(1),
             }
         }
-        Ok(case)
+        let Case { value, .. } = case;
+        Ok(value)
     }
 }
 
@@ -399,12 +251,11 @@ impl Hunt {
         self.missing == 0 || self.tries == 0 || self.work == 0
     }
 
-    /// Keeps a value for the doubt that it shows to be right, unless there is one.
-    fn keep(&mut self, shown: Shown, value: Value) {
-        let Shown { doubt, failure } = shown;
+    /// Keeps a value for the doubt of this number, unless there is one.
+    fn keep(&mut self, doubt: usize, case: Case) {
         if let Some(place) = self.cases.get_mut(doubt) {
             if place.is_none() {
-                *place = Some(Case { value, failure });
+                *place = Some(case);
                 self.missing = self.missing.saturating_sub(1);
             }
         }
@@ -429,32 +280,36 @@ fn new_hunt(question: &Question<'_>) -> Result<Hunt, AllocError> {
     })
 }
 
-/// Searches: first from little data, then from much.
-fn searched(question: &Question<'_>) -> Result<Vec<Option<Failure>>, AllocError> {
+/// Searches for a value for each doubt, first from little data, then from much, and makes it smaller.
+fn values_found(question: &Question<'_>) -> Result<Vec<Option<Value>>, AllocError> {
     let mut hunt = new_hunt(question)?;
     question.climb(&mut hunt, true)?;
     hunt.tries = MOST_TRIES;
     question.climb(&mut hunt, false)?;
     let Hunt { cases, .. } = hunt;
-    let mut failures = Vec::new(question.alloc);
+    let mut values = Vec::new(question.alloc);
     let mut room = MOST_SMALLER_BYTES;
     for (index, case) in cases.into_iter().enumerate() {
-        let failure = match case {
-            Some(case) => {
-                let Case { failure, .. } = question.smaller(index, case, &mut room)?;
-                Some(failure)
-            }
+        values.push(match case {
+            Some(case) => Some(question.smaller(index, case, &mut room)?),
             None => None,
-        };
-        failures.push(failure.filter(|failure| failure.data.len() <= MOST_SHOWN))?;
+        })?;
     }
-    Ok(failures)
+    Ok(values)
 }
 
 /// For each doubt of a template over data of the document a value for which it is right, as small as was found, if one
 /// was: it conforms to the document by all its keywords, and the template fails over it at the place of the doubt.
+/// There is nothing where the document is not JSON.
 ///
 /// The doubts are those that `check_document` gives for the set, the name, the document, the mode and the stops.
+///
+/// Each failure that is given is right of the doubt at its place: the run over its data has a fault at the line and in the
+/// template of the doubt, by the mode that is asked for, or else `MissingKey::Error`, 20,000 steps and a depth of 50.
+///
+/// # Errors
+///
+/// Where memory was refused.
 pub fn failures_of(
     alloc: Global,
     set: &Set,
@@ -463,14 +318,18 @@ pub fn failures_of(
     mode: Option<MissingKey>,
     stops: &[Bytes],
     doubts: &[Doubt],
-) -> Result<Vec<Option<Failure>>, AllocError> {
+) -> Result<Vec<Option<Failure>>, AllocError>
+    ensures right { IfOk result (λ failures. IsJson document.now
+        → AreRight (rules_by (unwrap_or mode MissingKey.Error)) (set_view set.now) name.now doubts.now failures.items) }
+    ensures empty { IfOk result (λ failures. ¬ IsJson document.now → failures.items ≡ []) }
+{
     let root = match Value::from_slice(alloc, document) {
         Ok(root) => root,
         Err(error) if error.is_memory() => return Err(AllocError),
         Err(_) => return Ok(Vec::new(alloc)),
     };
     let renderer = Renderer::new(alloc, set)?;
-    searched(&Question {
+    let question = Question {
         alloc,
         renderer: &renderer,
         name,
@@ -478,5 +337,7 @@ pub fn failures_of(
         mode: mode.unwrap_or(MissingKey::Error),
         stops,
         doubts,
-    })
+    };
+    let values = values_found(&question)?;
+    question.failures(values)
 }

@@ -1,0 +1,48 @@
+-- What it is that a failure is right: a run of the template over its data has a fault at the place of the doubt.
+use Rattle.std.specs.Prelude.{◌≡◌, ℕ, Bool, true, false, List, [], ◌∷◌, Option, Some, Ok, IfSome, IsSome, IsUtf8}
+use Rattle.std.specs.Prelude.{option_and_then, string_bytes}
+use Rattle.serde_json.specs.Read.{read}
+use Rattle.tmpl_values.specs.Json.{data_of}
+use Rattle.tmpl_values.specs.Value.{Value}
+use Rattle.tmpl_syntax.specs.Set.{Template, tree_named}
+use Rattle.tmpl_meaning.specs.Fault.{Cause, Fault, lacks_entry}
+use Rattle.tmpl_meaning.specs.Meaning.{Rules, ran}
+use Rattle.tmpl_meaning.specs.declared.missing_key.MissingKey.{MissingKey}
+use Rattle.tmpl_schema.specs.declared.failure.Doubt.{Doubt}
+use Rattle.tmpl_samples.specs.declared.failing.Failure.{Failure}
+
+-- the rules of these runs: by this mode, 20,000 steps, and 50 templates inside one another
+abbrev pub rules_by : MissingKey → Rules
+rules_by mode = record { missing_key = mode; step_limit = 20000; depth_limit = 50 }
+
+-- the fault of the run of the template of this name over a value, if there is the template and its run has one
+abbrev pub fault_over : Rules → List Template → List ℕ → Value → Option Fault
+fault_over rules set name value =
+    option_and_then (λ tree. (ran rules set name tree (Some value)).fault) (tree_named name set)
+
+-- the fault is at the line and in the template of the doubt
+abbrev pub IsAt : Doubt → Fault → Type 0
+IsAt doubt fault = (fault.line ≡ doubt.line) × (fault.template ≡ doubt.template)
+
+-- a map has no entry of a name, which is a fault by one mode alone
+abbrev pub is_no_entry : Cause → Bool
+is_no_entry (lacks_entry name) = true
+is_no_entry cause = false
+
+-- the data of the failure have a value, the run over that has a fault at the place of the doubt, and the failure says
+-- whether that comes by one mode alone
+abbrev pub IsRight : Rules → List Template → List ℕ → Doubt → Failure → Type 0
+IsRight rules set name doubt failure = (value : Value) × (fault : Fault)
+    × (data_of (string_bytes failure.data) ≡ Ok value) × (fault_over rules set name value ≡ Some fault)
+    × IsAt doubt fault × (failure.is_strict ≡ is_no_entry fault.cause)
+
+-- there is one entry for each of these doubts, and a failure that is given is right of the doubt at its place
+abbrev pub AreRight : Rules → List Template → List ℕ → List Doubt → List (Option Failure) → Type 0
+AreRight rules set name [] [] = Unit {0}
+AreRight rules set name (doubt ∷ doubts) (found ∷ rest) =
+    IfSome found (IsRight rules set name doubt) × AreRight rules set name doubts rest
+AreRight rules set name doubts found = ⊥
+
+-- these bytes are a JSON value
+abbrev pub IsJson : List ℕ → Type 0
+IsJson bytes = IsUtf8 bytes × IsSome (read bytes)

@@ -1,0 +1,267 @@
+//! Failures: over which data the template fails at the place of a doubt. Whatever a search finds, a failure is told by a
+//! render of the data that it shows.
+ghost use Rattle.std.specs.Prelude.{◌≡◌, Err, IfOk, IfSome, Ok, Some, string_bytes, true};
+ghost use Rattle.tmpl_values.specs.Json.{data_of};
+ghost use Rattle.tmpl_values.specs.View.{value_of};
+ghost use Rattle.tmpl_meaning.specs.View.{fault_seen};
+ghost use Rattle.tmpl_meaning.specs.declared.fault.RunFault.{RunFault};
+ghost use Rattle.tmpl_engine.specs.View.{templates_in};
+ghost use Rattle.tmpl_engine.specs.declared.error.RenderError.{RenderError};
+ghost use Rattle.tmpl_samples.specs.Failing.{AreRight, IsAt, IsRight, fault_over, is_no_entry, rules_by};
+
+use serde_json::Value;
+use std::alloc::{AllocError, Global};
+use std::str::from_utf8;
+use tmpl_engine::{
+    Data, DataFault, MissingKey, Options, RenderError, Renderer, RunFault, RunFaultKind, Sink,
+    SinkFault, WriterSink,
+};
+use tmpl_schema::{Cause, Doubt};
+use tmpl_tool::tell_end;
+use tmpl_values::Bytes;
+
+/// The limits of a render.
+const STEPS: u64 = 20_000;
+
+const DEPTH: u32 = 50;
+
+/// The most bytes that a render puts out.
+pub(crate) const MOST_TEXT: usize = 1_000_000;
+
+/// The most bytes of a value that is shown.
+const MOST_SHOWN: usize = 500;
+
+/// What is asked: a template of a set, the document that its data conform to, and what may be a fault.
+#[derive(Clone, Copy)]
+pub(crate) struct Question<'q> {
+    pub(crate) alloc: Global,
+    pub(crate) renderer: &'q Renderer,
+    pub(crate) name: &'q [u8],
+    pub(crate) root: &'q Value,
+    pub(crate) mode: MissingKey,
+    pub(crate) stops: &'q [Bytes],
+    pub(crate) doubts: &'q [Doubt],
+}
+
+/// A value of a schema, and the fault of a template over it.
+#[derive(Drop)]
+pub struct Failure {
+    /// The value as JSON.
+    pub data: String,
+    /// What `tmpl` says of the fault, after its place.
+    pub said: String,
+    /// Whether it comes with `--missingkey error` alone.
+    pub is_strict: bool,
+}
+
+/// Takes text, up to a number of bytes, and forgets it.
+#[derive(Drop)]
+pub(crate) struct Nowhere {
+    pub(crate) room: usize,
+    failures: u64,
+}
+
+impl Nowhere {
+    /// One that takes as much as a render puts out.
+    pub(crate) fn new() -> Nowhere
+        ensures { result.failures ≡ 0 }
+    {
+        Nowhere {
+            room: MOST_TEXT,
+            failures: 0,
+        }
+    }
+}
+
+impl Sink for Nowhere {
+    ghost use Rattle.std.specs.Prelude.{None};
+
+    ghost so_far = { λ s. record { bytes = None; failures = s.failures } };
+
+    fn put(&mut self, bytes: &[u8]) -> Result<usize, SinkFault> {
+        if bytes.len() > self.room {
+            self.failures += 1;
+            return Err(SinkFault);
+        }
+        self.room -= bytes.len();
+        Ok(bytes.len())
+    }
+}
+
+/// Whether a fault is what a cause speaks of, and none that is allowed.
+fn is_caused(cause: &Cause, kind: &RunFaultKind<'_>, stops: &[Bytes]) -> bool {
+    match (cause, kind) {
+        (Cause::Absent(name), RunFaultKind::NoEntry(field) | RunFaultKind::NoField(field)) => {
+            name.as_slice() == *field
+        }
+        (Cause::NoFields(name, _), RunFaultKind::NoEntry(field) | RunFaultKind::NoField(field)) => {
+            name.as_slice() == *field
+        }
+        (
+            Cause::Arguments(func) | Cause::FewItems(func, _) | Cause::NotFollowed(func),
+            RunFaultKind::Call(other, _),
+        ) => func.name() == other.name(),
+        (Cause::Range(_), RunFaultKind::NotARange) => true,
+        (Cause::NoTemplate(name), RunFaultKind::NoTemplate(other)) => {
+            name.as_slice() == *other && !stops.iter().any(|stop| stop.as_slice() == *other)
+        }
+        (Cause::Command, RunFaultKind::NotAFunction | RunFaultKind::NilCommand) => true,
+        _ => false,
+    }
+}
+
+/// Whether a fault is at the place of a doubt, and what it speaks of.
+pub(crate) fn is_doubted(doubt: &Doubt, fault: &RunFault<'_>, stops: &[Bytes]) -> bool
+    ensures { result ≡ true → IsAt doubt.now (fault_seen fault.now) }
+{
+    doubt.line == fault.line
+        && doubt.template.as_slice() == fault.template
+        && is_caused(&doubt.cause, &fault.kind, stops)
+}
+
+/// What `tmpl` says of a fault of the template of this name, after the file, the line and the template.
+fn said_of(alloc: Global, fault: RunFault<'_>, name: &[u8]) -> Result<String, AllocError> {
+    let mut sink = WriterSink::new(Vec::new(alloc));
+    let _ = tell_end(Err(RenderError::Fault(fault)), name, &mut sink);
+    if sink.failures > 0 {
+        return Err(AllocError);
+    }
+    let line = sink.writer.as_slice();
+    let start = b"tmpl: ".len().saturating_add(fault.file.len());
+    let rest = line.get(start..).unwrap_or(&[]);
+    match from_utf8(reason_in(rest)) {
+        Ok(reason) => String::from_str(alloc, reason),
+        Err(_) => String::from_str(alloc, "it fails there"),
+    }
+}
+
+/// The reason in what stands after the file in a line: after the first text in quotes, and without the end of the line.
+fn reason_in(line: &[u8]) -> &[u8] {
+    let mut is_quoted = false;
+    let mut is_escaped = false;
+    let mut start: usize = 0;
+    for byte in line {
+        start = start.saturating_add(1);
+        if is_escaped {
+            is_escaped = false;
+        } else if *byte == b'\\' {
+            is_escaped = is_quoted;
+        } else if *byte == b'"' {
+            if is_quoted {
+                break;
+            }
+            is_quoted = true;
+        }
+    }
+    let end = line.len().saturating_sub(1);
+    line.get(start.saturating_add(2)..end).unwrap_or(&[])
+}
+
+impl Question<'_> {
+    /// Renders the template over data.
+    pub(crate) fn render<'a>(
+        &'a self,
+        tree: &'a Data,
+        out: &mut Nowhere,
+    ) -> Result<(), RenderError<'a>>
+        requires { out.old.failures ≡ 0 }
+        ensures { (fault : RunFault) → result ≡ Err (RenderError.Fault fault)
+            → fault_over (rules_by self.now.mode) (templates_in self.now.renderer.now) self.now.name.now
+            (value_of tree.now) ≡ Some (fault_seen fault) }
+    {
+        let options = Options {
+            missing_key: self.mode,
+            depth: DEPTH,
+            steps: STEPS,
+        };
+        self.renderer
+            .render(self.alloc, self.name, Some(tree), &options, out)
+    }
+
+    /// The fault of the run over data, if it has one.
+    fn fault<'a>(&'a self, tree: &'a Data) -> Result<Option<RunFault<'a>>, AllocError>
+        ensures { IfOk result (λ found. IfSome found (λ fault.
+            fault_over (rules_by self.now.mode) (templates_in self.now.renderer.now) self.now.name.now
+            (value_of tree.now) ≡ Some (fault_seen fault))) }
+    {
+        match self.render(tree, &mut Nowhere::new()) {
+            Err(RenderError::Fault(fault)) => Ok(Some(fault)),
+            Err(RenderError::OutOfMemory) => Err(AllocError),
+            _ => Ok(None),
+        }
+    }
+
+    /// The failure of each doubt for the value that was found for it, where that makes the template fail there.
+    pub(crate) fn failures(
+        &self,
+        values: Vec<Option<Value>>,
+    ) -> Result<Vec<Option<Failure>>, AllocError>
+        ensures { IfOk result (λ failures. AreRight (rules_by self.now.mode)
+            (templates_in self.now.renderer.now) self.now.name.now self.now.doubts.now failures.items) }
+    {
+        let mut values = values.into_iter();
+        let mut failures = Vec::new(self.alloc);
+        for doubt in self.doubts {
+            let failure = self.failure(doubt, values.next().flatten())?;
+            failures.push(failure)?;
+        }
+        Ok(failures)
+    }
+
+    /// The failure of a doubt for a value, if there is one, its text is short, and it makes the template fail there.
+    fn failure(&self, doubt: &Doubt, value: Option<Value>) -> Result<Option<Failure>, AllocError>
+        ensures { IfOk result (λ found. IfSome found (IsRight (rules_by self.now.mode)
+            (templates_in self.now.renderer.now) self.now.name.now doubt.now)) }
+    {
+        let Some(value) = value else {
+            return Ok(None);
+        };
+        let data = value.to_string(self.alloc)?;
+        if data.len() > MOST_SHOWN {
+            return Ok(None);
+        }
+        match Data::from_json(self.alloc, data.as_bytes()) {
+            Ok(tree) => self.failure_over(doubt, &tree, data),
+            Err(DataFault::OutOfMemory) => Err(AllocError),
+            Err(_) => Ok(None),
+        }
+    }
+
+    /// The failure of a doubt for the data that this text is, if they make the template fail there.
+    fn failure_over(
+        &self,
+        doubt: &Doubt,
+        tree: &Data,
+        text: String,
+    ) -> Result<Option<Failure>, AllocError>
+        requires { data_of (string_bytes text) ≡ Ok (value_of tree.now) }
+        ensures { IfOk result (λ found. IfSome found (IsRight (rules_by self.now.mode)
+            (templates_in self.now.renderer.now) self.now.name.now doubt.now)) }
+    {
+        match self.fault(tree)? {
+            Some(fault) => self.failure_by(doubt, &fault, text),
+            None => Ok(None),
+        }
+    }
+
+    /// The failure of a doubt for the data of this text, if it speaks of the fault over them.
+    fn failure_by(
+        &self,
+        doubt: &Doubt,
+        fault: &RunFault<'_>,
+        text: String,
+    ) -> Result<Option<Failure>, AllocError>
+        ensures { IfOk result (λ found. IfSome found (λ failure. (failure.data ≡ text)
+            × IsAt doubt.now (fault_seen fault.now)
+            × (failure.is_strict ≡ is_no_entry (fault_seen fault.now).cause))) }
+    {
+        if !is_doubted(doubt, fault, self.stops) {
+            return Ok(None);
+        }
+        Ok(Some(Failure {
+            data: text,
+            said: said_of(self.alloc, *fault, self.name)?,
+            is_strict: matches!(&fault.kind, RunFaultKind::NoEntry(_)),
+        }))
+    }
+}
