@@ -161,16 +161,22 @@ def parted(crate, edits):
     return [it[1] for it in groups]
 
 
-def refusal_of(crate, edits):
-    """What the compiler's front end says against a crate with these edits; nothing where it takes them."""
+def said_with(crate, edits, function=""):
+    """What a check of a function says, or of none, in a crate with these edits."""
     before = {}
     for file, old, new in (it for edit in edits for it in changes_of(crate, edit)):
         text = read_file(f"{crate}/{file}")
         before.setdefault(file, text)
         write_file(f"{crate}/{file}", text.replace(old, new, 1))
-    said = rt(crate, "check", "--only", "")
+    said = rt(crate, "check", "--jobs", "1", "--only", function)
     for file, text in before.items():
         write_file(f"{crate}/{file}", text)
+    return said
+
+
+def refusal_of(crate, edits):
+    """What the compiler's front end says against a crate with these edits; nothing where it takes them."""
+    said = said_with(crate, edits)
     told = re.findall(r"^src/\S+ error.*$", said, re.MULTILINE)[:3]
     # a check that was stopped, or that lacked a library, says nothing of the body
     return told if told or READ in said else ["it was not read: " + " ".join(said.splitlines()[-1:])]

@@ -28,6 +28,7 @@ BY_RATTLE = f"env TMPL={harness.TOP}/crates/tmpl/out/tmpl.by-rattle"  # the prog
 TESTS = {
     PROOFS: "rt ci",
     "edits": "gate.edits --apply",
+    "tried": "gate.tried",
     "believed": "gate.believed",
     "rendered": "check.rendered",
     "rendered-by-rattle": f"{BY_RATTLE} {sys.executable} -m tests.check.rendered",
