@@ -1,5 +1,7 @@
-"""Tries the edits crates/NAME/edits/*.edit as the gate tries those of must-fail/: the prover must refuse each. This is
-done on a copy of the repository, where they take the place of those of must-fail/, over what earlier runs kept in out/.
+"""Tries the edits crates/NAME/edits/*.edit: the prover must refuse each. This is done on a copy of the repository, where they take the
+place of those of must-fail/, over what earlier runs kept in out/. Those that change different functions are tried in one check, where
+each must be refused at its own function; those of which such checks do not settle this are tried alone, as the gate tries those of
+must-fail/.
 
     edits.py [NAME..]     tries the edits of these crates, or of all whose source, definitions or edits have changed since they were all
                           refused; RT_JOBS=N takes N crates side by side, else one
@@ -23,6 +25,8 @@ from tests.lib import harness
 
 FOLDERS = ("edits", "must-fail")
 REFUSED = ": refused, as it must be"
+UNPROVED = "not proved$|no proof: expected"  # what a check says of a function that is refused for what stands in it
+FRONT_END = re.compile(r"^src/\S+ error.*$", re.MULTILINE)  # what it says where it does not take a file
 SEEN = f"{harness.TESTS}/gate/edits.seen"
 READ_OF = ("src", "edits")  # what the front end reads
 REFUSED_AT = f"{harness.TESTS}/gate/edits.refused"
@@ -75,15 +79,54 @@ def apply(room, crates, kind):
 
 def attempt(room, name):
     """Tries a crate's edits, and counts those that were refused and those that were not."""
-    wanted = edits_in(f"{room}/crates/{name}/must-fail")
+    crate = f"{room}/crates/{name}"
+    wanted = edits_in(f"{crate}/must-fail")
     if not wanted:
         return 0, 0
+    left = unsettled(crate, name, wanted)
+    for edit in set(wanted) - set(left):
+        os.remove(f"{crate}/must-fail/{edit}")
+    refused = len(wanted) - len(left)
+    print(f"{name}: {refused} refused in checks of several, {len(left)} to be tried alone", flush=True)
+    if not left:
+        return refused, 0
     said = rt(room, "must-fail", name).splitlines()
     told = [it.partition(" ")[2] for it in said if it.startswith("rt: must-fail ")]
-    refused = sum(REFUSED in it for it in told)
+    refused += sum(REFUSED in it for it in told)
     # where a library is not proved, no edit is tried
     print(*([it.partition(" ")[2] for it in told] or said[-20:]), sep="\n", flush=True)
     return refused, len(wanted) - refused
+
+
+def unsettled(crate, name, edits):
+    """Those of a crate's edits that no check of several shows to be refused. Such a check judges no function that calls another which
+    is refused in it, so those that it leaves are tried once more together."""
+    if len(edits) < 2 or not re.search("^logic=proved", rt(crate, "check", "--jobs", "1"), re.MULTILINE):
+        return edits
+    left = [it for it in edits if is_inside(crate, it)]
+    outside, refused = [it for it in edits if it not in left], edits
+    while refused:
+        groups = [it for it in parted(crate, left) if len(it) > 1]
+        refused = {edit for group in groups for edit in refused_at_once(crate, name, group)}
+        left = [it for it in left if it not in refused]
+    return outside + left
+
+
+def refused_at_once(crate, name, edits):
+    """Those of these edits at whose functions the prover refuses the crate with all of them."""
+    said = said_with(crate, edits)
+    if FRONT_END.search(said) and len(edits) > 1:
+        half = len(edits) // 2
+        return refused_at_once(crate, name, edits[:half]) + refused_at_once(crate, name, edits[half:])
+    return [it for it in edits if any(is_refused_at(said, name, *place) for place in places_of(crate, it))]
+
+
+def is_refused_at(said, name, file, function, _):
+    """Whether a check says that this function of a file is not proved, by itself and not for one that it calls, and of no other of its name
+    there that it is."""
+    path = "".join(f"{it}::" for it in re.sub(r"\.rt$", "", file).split("/")[1:] if it not in ("lib", "main", "mod"))
+    told = re.findall(rf"^fn {name}::{path}(?:[^\s:a-z][^\s:]*::)?{function}: (.*)", said, re.MULTILINE)
+    return bool(told) and all(re.match(UNPROVED, it) for it in told)
 
 
 def checksum(name, folders):
@@ -142,10 +185,31 @@ def write_file(path, text):
         it.write(text)
 
 
+FUNCTION = re.compile(r"^( *)(?:pub(?:\([a-z]+\))? )?(?:extern \"C\" )?fn (\w+)", re.MULTILINE)
+
+
+def fronts_of(crate, edit):
+    """Of each place that an edit changes its file and what stands before it there, with what is changed."""
+    return [(file, read_file(f"{crate}/{file}").partition(old)[0] + old) for file, old, _ in changes_of(crate, edit)]
+
+
 def places_of(crate, edit):
-    """The functions that an edit changes, each by its file and by how many stand before it there."""
-    texts = [(file, read_file(f"{crate}/{file}").partition(old)[0] + old) for file, old, _ in changes_of(crate, edit)]
-    return {(file, len(re.findall(r"\bfn \w", text))) for file, text in texts}
+    """The functions that an edit changes, each by its file, its name and how many stand before it there."""
+    found = [(file, FUNCTION.findall(text)) for file, text in fronts_of(crate, edit)]
+    return {(file, functions[-1][1] if functions else "", len(functions)) for file, functions in found}
+
+
+def is_inside(crate, edit):
+    """Whether an edit changes functions of src/ alone, of which none is proved together with others."""
+    for file, text in fronts_of(crate, edit):
+        functions = list(FUNCTION.finditer(text))
+        if not file.startswith("src/") or not functions:
+            return False
+        last = functions[-1]
+        has_ended = re.search(rf"^{last[1]}}}$", text[last.start() :], re.MULTILINE)
+        if has_ended or "#[cycle(" in text[: last.start()].rpartition("\n\n")[2]:
+            return False
+    return True
 
 
 def parted(crate, edits):
@@ -161,14 +225,14 @@ def parted(crate, edits):
     return [it[1] for it in groups]
 
 
-def said_with(crate, edits, function=""):
-    """What a check of a function says, or of none, in a crate with these edits."""
+def said_with(crate, edits, *words):
+    """What a check with these words says of a crate with these edits."""
     before = {}
     for file, old, new in (it for edit in edits for it in changes_of(crate, edit)):
         text = read_file(f"{crate}/{file}")
         before.setdefault(file, text)
         write_file(f"{crate}/{file}", text.replace(old, new, 1))
-    said = rt(crate, "check", "--jobs", "1", "--only", function)
+    said = rt(crate, "check", "--jobs", "1", *words)
     for file, text in before.items():
         write_file(f"{crate}/{file}", text)
     return said
@@ -176,8 +240,8 @@ def said_with(crate, edits, function=""):
 
 def refusal_of(crate, edits):
     """What the compiler's front end says against a crate with these edits; nothing where it takes them."""
-    said = said_with(crate, edits)
-    told = re.findall(r"^src/\S+ error.*$", said, re.MULTILINE)[:3]
+    said = said_with(crate, edits, "--only", "")
+    told = FRONT_END.findall(said)[:3]
     # a check that was stopped, or that lacked a library, says nothing of the body
     return told if told or READ in said else ["it was not read: " + " ".join(said.splitlines()[-1:])]
 
@@ -202,6 +266,11 @@ def copied(room):
             shutil.copytree(libraries, f"{room}/crates/{name}/out/rlib", copy_function=linked)
     for name in ("crates.txt", "HANDLES"):
         shutil.copy(f"{harness.TOP}/{name}", room)
+
+
+def copied_to(source, to):
+    """Copies a file, or links it where it is one that checks keep: they replace such files, and change none."""
+    (linked if "/out/" in source else shutil.copy2)(source, to)
 
 
 def linked(source, to):
@@ -259,7 +328,7 @@ def main(words):
         sys.exit(f"there is no crate {unknown[0]}")
     with tempfile.TemporaryDirectory(prefix="edits-") as room:
         ignored = shutil.ignore_patterns("out") if only_apply else None
-        shutil.copytree(f"{harness.TOP}/crates", f"{room}/crates", ignore=ignored)
+        shutil.copytree(f"{harness.TOP}/crates", f"{room}/crates", ignore=ignored, copy_function=copied_to)
         for name in ("crates.txt", "HANDLES"):
             shutil.copy(f"{harness.TOP}/{name}", room)
         kinds = FOLDERS if only_apply else FOLDERS[:1]
