@@ -1,13 +1,15 @@
--- What it is that a failure is right: a run of the template over its data has a fault at the place of the doubt.
+-- What it is that a failure is right: a run of the template over its data has the fault that was doubted.
 use Rattle.std.specs.Prelude.{◌≡◌, ℕ, Bool, true, false, List, [], ◌∷◌, Option, Some, Ok, IfSome, IsSome, IsUtf8}
 use Rattle.std.specs.Prelude.{option_and_then, string_bytes}
 use Rattle.serde_json.specs.Read.{read}
 use Rattle.tmpl_values.specs.Json.{data_of}
 use Rattle.tmpl_values.specs.Value.{Value}
 use Rattle.tmpl_syntax.specs.Set.{Template, tree_named}
-use Rattle.tmpl_meaning.specs.Fault.{Cause, Fault, lacks_entry}
+use Rattle.tmpl_meaning.specs.Fault.{Cause, Fault, lacks_entry, lacks_field, call_failed, not_a_range, not_a_function, nil_command, no_template}
 use Rattle.tmpl_meaning.specs.Meaning.{Rules, ran}
 use Rattle.tmpl_meaning.specs.declared.missing_key.MissingKey.{MissingKey}
+use Rattle.tmpl_shape.specs.declared.cause.Cause as doubted
+use Rattle.tmpl_shape.specs.declared.cause.Cause.TheVariants as doubted_for
 use Rattle.tmpl_schema.specs.declared.failure.Doubt.{Doubt}
 use Rattle.tmpl_samples.specs.declared.failing.Failure.{Failure}
 
@@ -20,21 +22,36 @@ abbrev pub fault_over : Rules → List Template → List ℕ → Value → Optio
 fault_over rules set name value =
     option_and_then (λ tree. (ran rules set name tree (Some value)).fault) (tree_named name set)
 
--- the fault is at the line and in the template of the doubt
-abbrev pub IsAt : Doubt → Fault → Type 0
-IsAt doubt fault = (fault.line ≡ doubt.line) × (fault.template ≡ doubt.template)
+-- a run that stops for this is what a doubt for that speaks of; no limit of the run is
+abbrev pub Speaks : doubted.Cause → Cause → Type 0
+Speaks (doubted_for.Absent name) (lacks_entry field) = field ≡ name
+Speaks (doubted_for.Absent name) (lacks_field field) = field ≡ name
+Speaks (doubted_for.NoFields name kind) (lacks_entry field) = field ≡ name
+Speaks (doubted_for.NoFields name kind) (lacks_field field) = field ≡ name
+Speaks (doubted_for.Arguments func) (call_failed f fault) = f ≡ func
+Speaks (doubted_for.FewItems func count) (call_failed f fault) = f ≡ func
+Speaks (doubted_for.NotFollowed func) (call_failed f fault) = f ≡ func
+Speaks (doubted_for.Range kind) not_a_range = Unit {0}
+Speaks (doubted_for.NoTemplate name) (no_template called) = called ≡ name
+Speaks doubted_for.Command not_a_function = Unit {0}
+Speaks doubted_for.Command nil_command = Unit {0}
+Speaks doubt cause = ⊥
+
+-- the fault is the one that was doubted: at that line, in that template, and what the doubt speaks of
+abbrev pub IsDoubted : Doubt → Fault → Type 0
+IsDoubted doubt fault = (fault.line ≡ doubt.line) × (fault.template ≡ doubt.template) × Speaks doubt.cause fault.cause
 
 -- a map has no entry of a name, which is a fault by one mode alone
 abbrev pub is_no_entry : Cause → Bool
 is_no_entry (lacks_entry name) = true
 is_no_entry cause = false
 
--- the data of the failure have a value, the run over that has a fault at the place of the doubt, and the failure says
--- whether that comes by one mode alone
+-- the data of the failure have a value, the run over that has the fault that was doubted, and the failure says whether that
+-- comes by one mode alone
 abbrev pub IsRight : Rules → List Template → List ℕ → Doubt → Failure → Type 0
 IsRight rules set name doubt failure = (value : Value) × (fault : Fault)
     × (data_of (string_bytes failure.data) ≡ Ok value) × (fault_over rules set name value ≡ Some fault)
-    × IsAt doubt fault × (failure.is_strict ≡ is_no_entry fault.cause)
+    × IsDoubted doubt fault × (failure.is_strict ≡ is_no_entry fault.cause)
 
 -- there is one entry for each of these doubts, and a failure that is given is right of the doubt at its place
 abbrev pub AreRight : Rules → List Template → List ℕ → List Doubt → List (Option Failure) → Type 0

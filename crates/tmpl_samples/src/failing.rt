@@ -3,11 +3,11 @@
 ghost use Rattle.std.specs.Prelude.{◌≡◌, Err, IfOk, IfSome, Ok, Some, string_bytes, true};
 ghost use Rattle.tmpl_values.specs.Json.{data_of};
 ghost use Rattle.tmpl_values.specs.View.{value_of};
-ghost use Rattle.tmpl_meaning.specs.View.{fault_seen};
+ghost use Rattle.tmpl_meaning.specs.View.{cause_of, fault_seen};
 ghost use Rattle.tmpl_meaning.specs.declared.fault.RunFault.{RunFault};
 ghost use Rattle.tmpl_engine.specs.View.{templates_in};
 ghost use Rattle.tmpl_engine.specs.declared.error.RenderError.{RenderError};
-ghost use Rattle.tmpl_samples.specs.Failing.{AreRight, IsAt, IsRight, fault_over, is_no_entry, rules_by};
+ghost use Rattle.tmpl_samples.specs.Failing.{AreRight, IsDoubted, IsRight, Speaks, fault_over, is_no_entry, rules_by};
 
 use serde_json::Value;
 use std::alloc::{AllocError, Global};
@@ -89,7 +89,9 @@ impl Sink for Nowhere {
 }
 
 /// Whether a fault is what a cause speaks of, and none that is allowed.
-fn is_caused(cause: &Cause, kind: &RunFaultKind<'_>, stops: &[Bytes]) -> bool {
+fn is_caused(cause: &Cause, kind: &RunFaultKind<'_>, stops: &[Bytes]) -> bool
+    ensures { result ≡ true → Speaks cause.now (cause_of kind.now) }
+{
     match (cause, kind) {
         (Cause::Absent(name), RunFaultKind::NoEntry(field) | RunFaultKind::NoField(field)) => {
             name.as_slice() == *field
@@ -100,7 +102,7 @@ fn is_caused(cause: &Cause, kind: &RunFaultKind<'_>, stops: &[Bytes]) -> bool {
         (
             Cause::Arguments(func) | Cause::FewItems(func, _) | Cause::NotFollowed(func),
             RunFaultKind::Call(other, _),
-        ) => func.name() == other.name(),
+        ) => *func == *other,
         (Cause::Range(_), RunFaultKind::NotARange) => true,
         (Cause::NoTemplate(name), RunFaultKind::NoTemplate(other)) => {
             name.as_slice() == *other && !stops.iter().any(|stop| stop.as_slice() == *other)
@@ -112,7 +114,7 @@ fn is_caused(cause: &Cause, kind: &RunFaultKind<'_>, stops: &[Bytes]) -> bool {
 
 /// Whether a fault is at the place of a doubt, and what it speaks of.
 pub(crate) fn is_doubted(doubt: &Doubt, fault: &RunFault<'_>, stops: &[Bytes]) -> bool
-    ensures { result ≡ true → IsAt doubt.now (fault_seen fault.now) }
+    ensures { result ≡ true → IsDoubted doubt.now (fault_seen fault.now) }
 {
     doubt.line == fault.line
         && doubt.template.as_slice() == fault.template
@@ -252,7 +254,7 @@ impl Question<'_> {
         text: String,
     ) -> Result<Option<Failure>, AllocError>
         ensures { IfOk result (λ found. IfSome found (λ failure. (failure.data ≡ text)
-            × IsAt doubt.now (fault_seen fault.now)
+            × IsDoubted doubt.now (fault_seen fault.now)
             × (failure.is_strict ≡ is_no_entry (fault_seen fault.now).cause))) }
     {
         if !is_doubted(doubt, fault, self.stops) {
