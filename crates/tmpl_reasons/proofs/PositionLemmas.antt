@@ -7,7 +7,8 @@ use Rattle.std.proofs.lemmas.List.{get_or-map, length-drop, length-map}
 use Rattle.std.proofs.lemmas.List.Elements.{Contains-get_or}
 use Rattle.std.proofs.lemmas.List.Sums.{prefix_len-le-length, sum_by-take-le}
 use Rattle.std.proofs.lemmas.Option.{slice_get_past}
-use Rattle.tmpl_reasons.specs.Position.{IsLine, IsStart, is_space, line_at}
+use Rattle.tmpl_refusals.specs.Column.{line_at}
+use Rattle.tmpl_reasons.specs.Position.{IsLine, IsStart, is_space}
 
 first_run : {X : Type 0} (p : X → Bool) (x : X) (xs : List X) → IfSome (slice_get xs (prefix_len p xs)) (λ y. p y ≡ false) → (b : Bool) → p x ≡ b
     → IfSome (slice_get (x ∷ xs) (cond b (1 + prefix_len p xs) 0)) (λ y. p y ≡ false)

@@ -1,25 +1,10 @@
--- Lines and columns in a text, each counted from 1, and where the parts of a JSON text begin.
-use Rattle.std.specs.Prelude.{◌≡◌, ◌≤◌, ◌⊎◌, ℕ, ◌+◌, Bool, false, ◌==◌, ◌&&◌, ◌||◌, not, nat_le, nat_lt, List, length}
-use Rattle.std.specs.Prelude.{take, drop, count_by, slice_get, Some, IfSome}
-use Rattle.std.specs.List.{Contains, after_last, prefix_len}
+-- Lines of a text, and where the parts of a JSON text begin.
+use Rattle.std.specs.Prelude.{◌≡◌, ◌≤◌, ◌⊎◌, ℕ, ◌+◌, Bool, false, ◌==◌, ◌||◌, List, length, take, drop, slice_get, Some, IfSome}
+use Rattle.std.specs.List.{Contains, prefix_len}
 use Rattle.std.specs.Str.{byte}
 use Rattle.std.specs.Str.Parse.{IsNumeral, without_leading_plus}
-
--- a byte that begins no character of UTF-8
-abbrev pub continues : ℕ → Bool
-continues b = nat_le 128 b && nat_lt b 192
-
--- how many newlines there are
-abbrev pub newlines : List ℕ → ℕ
-newlines bytes = count_by (λ b. b == byte "\n") bytes
-
--- the line of the place before which this many bytes stand
-abbrev pub line_at : List ℕ → ℕ → ℕ
-line_at bytes at = newlines (take at bytes) + 1
-
--- its column, by characters: how many bytes that begin one stand before it on its line
-abbrev pub column_at : List ℕ → ℕ → ℕ
-column_at bytes at = count_by (λ b. not (continues b)) (after_last (λ b. b == byte "\n") (take at bytes)) + 1
+use Rattle.tmpl_lex.specs.Text.{newlines}
+use Rattle.tmpl_refusals.specs.Column.{column_at, line_at}
 
 -- the text has a line of this number
 pub record IsLine (bytes : List ℕ) (line : ℕ) : Type 0 where

@@ -5,9 +5,11 @@ ghost use Rattle.std.specs.List.{prefix_len};
 ghost use Rattle.std.specs.String.{string_bytes};
 ghost use Rattle.std.specs.Str.Parse.{IsNumeral, without_leading_plus};
 ghost use Rattle.tmpl_reasons.specs.Position as spec;
-ghost use Rattle.tmpl_reasons.specs.Position.{Begins, IsLine, IsNamed, IsPosition, IsKey, IsStart, column_at, line_at};
+ghost use Rattle.tmpl_reasons.specs.Position.{Begins, IsLine, IsNamed, IsPosition, IsKey, IsStart};
+ghost use Rattle.tmpl_refusals.specs.Column.{column_at, line_at};
 
 use std::alloc::{AllocError, Global};
+use tmpl_refusals::Place;
 
 /// The line and the column of a byte, or of the end.
 fn place_of(bytes: &[u8], start: usize) -> (u64, u64)
@@ -15,25 +17,8 @@ fn place_of(bytes: &[u8], start: usize) -> (u64, u64)
     ensures line { result.0 ≡ line_at bytes.now start }
     ensures column { result.1 ≡ column_at bytes.now start }
 {
-    let mut line = 1;
-    let mut column = 1;
-    let before = &bytes[..start];
-    for byte in before {
-        if *byte == b'\n' {
-            line += 1;
-            column = 1;
-        } else if !continues(*byte) {
-            column += 1;
-        }
-    }
-    (line, column)
-}
-
-/// Whether a byte begins no character of UTF-8.
-fn continues(byte: u8) -> bool
-    ensures { result ≡ spec.continues byte }
-{
-    128 <= byte && byte < 192
+    let place = Place::first().at(bytes, start);
+    (place.line, place.column)
 }
 
 /// A member or an item: where its key or itself begins, and its value.
