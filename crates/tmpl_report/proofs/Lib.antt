@@ -1,3 +1,6 @@
 pub mod AcceptedLemmas
-pub mod LevelLemmas
+pub mod ItemLemmas
+pub mod LogLemmas
 pub mod SafeLemmas
+pub mod SaidLemmas
+pub mod UriLemmas

@@ -1,12 +1,13 @@
 //! What is found.
-ghost use Rattle.std.specs.Prelude.{◌≡◌, [], false, true, IfOk, Ok, OnOk};
-ghost use Rattle.std.specs.List.{list_any};
+ghost use Rattle.std.specs.Prelude.{◌≡◌, [], false, true, IfOk, Ok, OnOk, string_bytes};
 ghost use Rattle.tmpl_values.specs.Json.{data_of};
 ghost use Rattle.tmpl_values.specs.Value.{Value};
 ghost use Rattle.tmpl_syntax.specs.Parse.{Parses};
 ghost use Rattle.tmpl_syntax.specs.View.{set_view};
+ghost use Rattle.tmpl_report.specs.Finding.{has_error};
 ghost use Rattle.tmpl_report.specs.Level.{is_error};
 ghost use Rattle.tmpl_report.specs.Safe.{AreAccepted, HasValue, IsSafe};
+ghost use Rattle.tmpl_report.specs.Told.{told};
 
 use crate::entry::{Entry, Level};
 use crate::rule::{
@@ -37,20 +38,19 @@ pub enum Format {
     Sarif,
 }
 
-/// What is found, file by file. Contracts see how grave each finding is, in the order in which they are told.
+/// What is found, file by file. Contracts see the list of it, in the order in which it is told.
 #[derive(Drop)]
 pub struct Findings<'a> {
     pub(crate) entries: Vec<Entry<'a>>,
 }
 
 impl<'a> Model for Findings<'a> {
-    ghost use Rattle.std.specs.Prelude.{List, map};
-    ghost use Rattle.tmpl_report.specs.declared.entry.Entry.{Entry};
-    ghost use Rattle.tmpl_report.specs.declared.entry.Level.{Level};
+    ghost use Rattle.std.specs.Prelude.{List};
+    ghost use Rattle.tmpl_report.specs.Finding.{Finding};
 
-    ghost Value = { List Level };
+    ghost Value = { List Finding };
 
-    ghost view = { λ f. map (λ (e : Entry). e.level) f.entries.items };
+    ghost view = { λ f. f.entries.items };
 }
 
 /// The templates of all files, by their names.
@@ -72,17 +72,24 @@ impl<'a> Findings<'a> {
 
     /// Whether there are errors among them.
     pub fn has_errors(&self) -> bool
-        ensures { result ≡ list_any is_error self.now }
+        ensures { result ≡ has_error self.now }
     {
         has_error(self.entries.as_slice())
     }
 
     /// The text that tells them, as it is put out.
-    pub fn text(&self, alloc: Global, format: Format) -> Result<String, AllocError> {
+    ///
+    /// # Errors
+    ///
+    /// Where memory was refused.
+    pub fn text(&self, alloc: Global, format: Format) -> Result<String, AllocError>
+        ensures { IfOk result (λ t. string_bytes t ≡ told format self.now) }
+    {
+        let entries = self.entries.as_slice();
         match format {
-            Format::Text => text::lines(alloc, self),
-            Format::Json => json::document(alloc, self),
-            Format::Sarif => sarif::document(alloc, self),
+            Format::Text => text::lines(alloc, entries),
+            Format::Json => json::document(alloc, entries),
+            Format::Sarif => sarif::document(alloc, entries),
         }
     }
 
@@ -284,7 +291,7 @@ impl<'a> Findings<'a> {
 
     /// Adds an error where none tells what is wrong. Each check tells one, but no clause of theirs says so.
     fn add_unseen(&mut self, alloc: Global, question: &Question<'a>) -> Result<(), AllocError>
-        ensures { OnOk result (list_any is_error self.new ≡ true) }
+        ensures { OnOk result (has_error self.new ≡ true) }
     {
         if self.has_errors() {
             return Ok(());
@@ -296,7 +303,7 @@ impl<'a> Findings<'a> {
     /// Adds an error.
     fn add_error(&mut self, entry: Entry<'a>) -> Result<(), AllocError>
         requires { is_error entry.level ≡ true }
-        ensures { OnOk result (list_any is_error self.new ≡ true) }
+        ensures { OnOk result (has_error self.new ≡ true) }
     {
         self.entries.push(entry)?;
         Ok(())
@@ -396,7 +403,7 @@ fn about(alloc: Global, before: &str, name: &[u8], after: &str) -> Result<String
 
 /// Whether one of these is an error.
 fn has_error(entries: &[Entry<'_>]) -> bool
-    ensures { result ≡ list_any (λ entry. is_error entry.level) entries.now }
+    ensures { result ≡ has_error entries.now }
 {
     entries.iter().any(|entry| entry.is_error())
 }
@@ -431,7 +438,7 @@ pub fn findings_of<'a>(
     question: &Question<'a>,
     sources: &Sources<'a>,
 ) -> Result<Findings<'a>, AllocError>
-    ensures { IfOk result (λ found. list_any is_error found ≡ false → IsSafe question.now sources.now) }
+    ensures { IfOk result (λ found. has_error found ≡ false → IsSafe question.now sources.now) }
 {
     let mut findings = Findings::new(alloc);
     if !add_all(alloc, hash, &mut findings, question, sources)? {
