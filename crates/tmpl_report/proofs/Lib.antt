@@ -1,4 +1,5 @@
 pub mod AcceptedLemmas
+pub mod ErrorLemmas
 pub mod ItemLemmas
 pub mod LogLemmas
 pub mod SafeLemmas

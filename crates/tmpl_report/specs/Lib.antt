@@ -1,3 +1,4 @@
+pub mod Errors
 pub mod Finding
 pub mod Json
 pub mod Level
@@ -5,3 +6,4 @@ pub mod Rules
 pub mod Safe
 pub mod Sarif
 pub mod Told
+pub mod computed

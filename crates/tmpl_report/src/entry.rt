@@ -1,6 +1,7 @@
 //! Something that is found.
 ghost use Rattle.std.specs.Prelude.{◌≡◌};
 ghost use Rattle.tmpl_report.specs.Level.{is_error, word_of};
+ghost use Rattle.tmpl_report.specs.computed.Entries.{is_same};
 
 use crate::rule::Rule;
 use std::marker::Model;
@@ -70,7 +71,9 @@ impl Entry<'_> {
     }
 
     /// Whether the other says the same of the same place.
-    pub(crate) fn is_same(&self, other: &Entry<'_>) -> bool {
+    pub(crate) fn is_same(&self, other: &Entry<'_>) -> bool
+        ensures { result ≡ is_same self.now other.now }
+    {
         self.file == other.file
             && (self.line == other.line && self.column == other.column)
             && self.text.as_str() == other.text.as_str()

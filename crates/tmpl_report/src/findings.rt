@@ -1,13 +1,17 @@
 //! What is found.
-ghost use Rattle.std.specs.Prelude.{◌≡◌, [], false, true, IfOk, Ok, OnOk, string_bytes};
+ghost use Rattle.std.specs.Prelude.{◌≡◌, List, [], ◌∷◌, ◌++◌, false, true, IfOk, Ok, OnOk, if◌then◌else◌, map, string_bytes};
+ghost use Rattle.std.specs.List.{list_any};
 ghost use Rattle.tmpl_values.specs.Json.{data_of};
 ghost use Rattle.tmpl_values.specs.Value.{Value};
 ghost use Rattle.tmpl_syntax.specs.Parse.{Parses};
+ghost use Rattle.tmpl_syntax.specs.Set.{Template};
 ghost use Rattle.tmpl_syntax.specs.View.{set_view};
-ghost use Rattle.tmpl_report.specs.Finding.{has_error};
+ghost use Rattle.tmpl_report.specs.Errors.{AreAlone, AreOfFile, AreOfFiles, error_of, errors_in, errors_of};
+ghost use Rattle.tmpl_report.specs.Finding.{Finding, has_error};
 ghost use Rattle.tmpl_report.specs.Level.{is_error};
 ghost use Rattle.tmpl_report.specs.Safe.{AreAccepted, HasValue, IsSafe};
 ghost use Rattle.tmpl_report.specs.Told.{told};
+ghost use Rattle.tmpl_report.specs.computed.Entries.{is_same, warning_of};
 
 use crate::entry::{Entry, Level};
 use crate::rule::{
@@ -93,26 +97,50 @@ impl<'a> Findings<'a> {
         }
     }
 
-    /// Adds what is found, unless the same was found before.
-    pub(crate) fn add_once(&mut self, entry: Entry<'a>) -> Result<(), AllocError> {
-        if !self.entries.iter().any(|other| other.is_same(&entry)) {
-            self.entries.push(entry)?;
-        }
+    /// Adds what is found.
+    fn add(&mut self, entry: Entry<'a>) -> Result<(), AllocError>
+        ensures { OnOk result (self.new ≡ self.old ++ entry.entry ∷ []) }
+    {
+        self.entries.push(entry)?;
         Ok(())
     }
 
-    /// Adds what is wrong in a file.
+    /// Adds what is found, unless the same was found before.
+    pub(crate) fn add_once(&mut self, entry: Entry<'a>) -> Result<(), AllocError>
+        ensures { OnOk result (self.new
+            ≡ (if list_any (λ other. is_same other entry.entry) self.old then self.old else self.old ++ entry.entry ∷ [])) }
+    {
+        if has_same(self.entries.as_slice(), &entry) {
+            return Ok(());
+        }
+        self.add(entry)
+    }
+
+    /// Adds what is wrong in a file: first what is refused.
     fn add_problems(
         &mut self,
         alloc: Global,
         file: &'a str,
-        problems: Problems,
-    ) -> Result<(), AllocError> {
-        for problem in problems.refused.into_iter() {
-            self.entries.push(problem_entry(alloc, file, problem)?)?;
-        }
-        for problem in problems.beyond.into_iter() {
-            self.entries.push(problem_entry(alloc, file, problem)?)?;
+        problems: &Problems,
+    ) -> Result<(), AllocError>
+        ensures { OnOk result (self.new ≡ self.old ++ errors_of file.now problems.now) }
+    {
+        self.add_errors(alloc, file, problems.refused.as_slice())?;
+        self.add_errors(alloc, file, problems.beyond.as_slice())
+    }
+
+    /// Adds errors of a file.
+    fn add_errors(
+        &mut self,
+        alloc: Global,
+        file: &'a str,
+        problems: &[Problem],
+    ) -> Result<(), AllocError>
+        ensures { OnOk result (self.new ≡ self.old ++ map (error_of file.now) problems.now) }
+    {
+        for problem in problems {
+            let entry = problem_entry(alloc, file, problem)?;
+            self.add(entry)?;
         }
         Ok(())
     }
@@ -124,8 +152,12 @@ impl<'a> Findings<'a> {
         place: (u64, u64),
         rule: Rule,
         text: String,
-    ) -> Result<(), AllocError> {
-        self.entries.push(Entry {
+    ) -> Result<(), AllocError>
+        ensures added { OnOk result
+            (self.new ≡ self.old ++ warning_of file.now place rule.id.now (string_bytes text) ∷ []) }
+        ensures errors { OnOk result (errors_in self.new ≡ errors_in self.old) }
+    {
+        self.add(Entry {
             file,
             level: Level::Warning,
             line: place.0,
@@ -133,8 +165,7 @@ impl<'a> Findings<'a> {
             rule,
             text,
             note: None,
-        })?;
-        Ok(())
+        })
     }
 
     /// Adds what is suspicious in a file, and the names in it that no file has.
@@ -144,7 +175,9 @@ impl<'a> Findings<'a> {
         file: &'a str,
         survey: Survey<'_>,
         templates: &Templates<'_>,
-    ) -> Result<(), AllocError> {
+    ) -> Result<(), AllocError>
+        ensures { OnOk result (errors_in self.new ≡ errors_in self.old) }
+    {
         let Survey {
             warnings,
             called,
@@ -175,7 +208,9 @@ impl<'a> Findings<'a> {
         asked: &str,
         defined: &[Named<'_>],
         templates: &Templates<'_>,
-    ) -> Result<(), AllocError> {
+    ) -> Result<(), AllocError>
+        ensures { OnOk result (errors_in self.new ≡ errors_in self.old) }
+    {
         for definition in defined {
             if !templates.called.contains(definition.name) && definition.name != asked.as_bytes() {
                 let text = about(alloc, "the template ", definition.name, " is never called")?;
@@ -194,10 +229,14 @@ impl<'a> Findings<'a> {
     fn add_asked(
         &mut self,
         alloc: Global,
-        file: &'a str,
-        asked: &str,
+        question: &Question<'a>,
         templates: &Templates<'_>,
-    ) -> Result<(), AllocError> {
+    ) -> Result<(), AllocError>
+        ensures { OnOk result (errors_in self.new ≡ errors_in self.old) }
+    {
+        let (Some(asked), Some(first)) = (question.name, question.first) else {
+            return Ok(());
+        };
         if templates.defined.contains(asked.as_bytes()) {
             return Ok(());
         }
@@ -207,7 +246,7 @@ impl<'a> Findings<'a> {
             asked.as_bytes(),
             " of --name",
         )?;
-        self.warn(file, (1, 1), NO_SUCH_TEMPLATE, text)
+        self.warn(first, (1, 1), NO_SUCH_TEMPLATE, text)
     }
 
     /// Adds what is found in template files, and their templates to the set. Whether all are accepted.
@@ -219,15 +258,17 @@ impl<'a> Findings<'a> {
         files: &[Source<'a>],
         set: &mut Set,
     ) -> Result<bool, AllocError>
-        ensures { IfOk result (λ accepted. accepted ≡ true
+        ensures accepted { IfOk result (λ accepted. accepted ≡ true
             → AreAccepted (set_view set.old) files.now (set_view set.new)) }
+        ensures refused { IfOk result (λ accepted. accepted ≡ false → has_error self.new ≡ true) }
+        ensures told { OnOk result ((errors : List Finding)
+            × AreOfFiles (set_view set.old) files.now (set_view set.new) errors
+            × (errors_in self.new ≡ errors_in self.old ++ errors)) }
     {
         let surveys = survey_all(alloc, hash, files)?;
         let templates = templates_in(alloc, hash, files, surveys.as_slice())?;
         let accepted = self.add_each(alloc, hash, question.name, files, surveys, &templates, set)?;
-        if let (Some(name), Some(first)) = (question.name, question.first) {
-            self.add_asked(alloc, first, name, &templates)?;
-        }
+        self.add_asked(alloc, question, &templates)?;
         Ok(accepted)
     }
 
@@ -242,17 +283,19 @@ impl<'a> Findings<'a> {
         templates: &Templates<'_>,
         set: &mut Set,
     ) -> Result<bool, AllocError>
-        ensures { IfOk result (λ accepted. accepted ≡ true
+        ensures accepted { IfOk result (λ accepted. accepted ≡ true
             → AreAccepted (set_view set.old) files.now (set_view set.new)) }
+        ensures refused { IfOk result (λ accepted. accepted ≡ false → has_error self.new ≡ true) }
+        ensures told { OnOk result ((errors : List Finding)
+            × AreOfFiles (set_view set.old) files.now (set_view set.new) errors
+            × (errors_in self.new ≡ errors_in self.old ++ errors)) }
     {
         let mut surveys = surveys.into_iter();
         let mut accepted = true;
         for file in files {
             let here = self.add_checked(alloc, hash, file, &mut *set)?;
             accepted = accepted && here;
-            if let Some(survey) = surveys.next() {
-                self.add_surveyed(alloc, file.name, asked, survey, templates)?;
-            }
+            self.add_surveyed(alloc, file.name, asked, surveys.next(), templates)?;
         }
         Ok(accepted)
     }
@@ -265,24 +308,32 @@ impl<'a> Findings<'a> {
         file: &Source<'a>,
         set: &mut Set,
     ) -> Result<bool, AllocError>
-        ensures { IfOk result (λ accepted. accepted ≡ true
+        ensures accepted { IfOk result (λ accepted. accepted ≡ true
             → Parses (set_view set.old) file.now.name.now file.now.bytes.items (Ok (set_view set.new))) }
+        ensures refused { IfOk result (λ accepted. accepted ≡ false → has_error self.new ≡ true) }
+        ensures told { OnOk result ((errors : List Finding)
+            × AreOfFile (set_view set.old) file.now (set_view set.new) errors × (self.new ≡ self.old ++ errors)) }
     {
         let problems = check_file(alloc, set, hash, file.name, file.bytes.as_slice())?;
         let accepted = problems.refused.is_empty();
-        self.add_problems(alloc, file.name, problems)?;
+        self.add_problems(alloc, file.name, &problems)?;
         Ok(accepted)
     }
 
-    /// Adds what a survey of a file has.
+    /// Adds what the survey of a file has.
     fn add_surveyed(
         &mut self,
         alloc: Global,
         file: &'a str,
         asked: Option<&str>,
-        survey: Survey<'_>,
+        survey: Option<Survey<'_>>,
         templates: &Templates<'_>,
-    ) -> Result<(), AllocError> {
+    ) -> Result<(), AllocError>
+        ensures { OnOk result (errors_in self.new ≡ errors_in self.old) }
+    {
+        let Some(survey) = survey else {
+            return Ok(());
+        };
         if let Some(asked) = asked {
             self.add_uncalled(alloc, file, asked, survey.defined.as_slice(), templates)?;
         }
@@ -291,27 +342,20 @@ impl<'a> Findings<'a> {
 
     /// Adds an error where none tells what is wrong. Each check tells one, but no clause of theirs says so.
     fn add_unseen(&mut self, alloc: Global, question: &Question<'a>) -> Result<(), AllocError>
-        ensures { OnOk result (has_error self.new ≡ true) }
+        ensures told { OnOk result (has_error self.new ≡ true) }
+        ensures kept { OnOk result (has_error self.old ≡ true → self.new ≡ self.old) }
     {
         if self.has_errors() {
             return Ok(());
         }
         let entry = unseen_entry(alloc, question.first.unwrap_or(""))?;
-        self.add_error(entry)
-    }
-
-    /// Adds an error.
-    fn add_error(&mut self, entry: Entry<'a>) -> Result<(), AllocError>
-        requires { is_error entry.level ≡ true }
-        ensures { OnOk result (has_error self.new ≡ true) }
-    {
-        self.entries.push(entry)?;
-        Ok(())
+        self.add(entry)
     }
 
     /// Adds what is wrong in the data, if there is some. Whether it has a value then.
     fn add_given(&mut self, alloc: Global, sources: &Sources<'a>) -> Result<bool, AllocError>
-        ensures { IfOk result (λ accepted. accepted ≡ true → HasValue sources.now) }
+        ensures accepted { IfOk result (λ accepted. accepted ≡ true → HasValue sources.now) }
+        ensures alone { IfOk result (λ accepted. AreAlone sources.now → (accepted ≡ true) × (self.new ≡ self.old)) }
     {
         match &sources.data {
             Some(data) => self.add_data(alloc, data),
@@ -381,8 +425,10 @@ fn data_entry<'a>(file: &'a str, reason: DataReason, place: (u64, u64), text: St
 fn problem_entry<'a>(
     alloc: Global,
     file: &'a str,
-    problem: Problem,
-) -> Result<Entry<'a>, AllocError> {
+    problem: &Problem,
+) -> Result<Entry<'a>, AllocError>
+    ensures { IfOk result (λ entry. entry ≡ error_of file.now problem.now) }
+{
     let refusal = problem.refusal;
     Ok(Entry {
         file,
@@ -390,7 +436,7 @@ fn problem_entry<'a>(
         line: refusal.refused.line,
         column: refusal.column,
         rule: rule_of(refusal.refused.kind),
-        text: problem_text(alloc, &problem)?,
+        text: problem_text(alloc, problem)?,
         note: None,
     })
 }
@@ -406,6 +452,13 @@ fn has_error(entries: &[Entry<'_>]) -> bool
     ensures { result ≡ has_error entries.now }
 {
     entries.iter().any(|entry| entry.is_error())
+}
+
+/// Whether one of these says the same of the same place.
+fn has_same(entries: &[Entry<'_>], entry: &Entry<'_>) -> bool
+    ensures { result ≡ list_any (λ other. is_same other entry.now) entries.now }
+{
+    entries.iter().any(|other| other.is_same(entry))
 }
 
 /// That it is not seen that nothing is wrong.
@@ -426,6 +479,7 @@ fn unseen_entry<'a>(alloc: Global, file: &'a str) -> Result<Entry<'a>, AllocErro
 /// What is found in template files, in the order of the files, and then in data: errors, and what is suspicious. Where all
 /// files are accepted, the template that is asked for is checked against the schema. Names are hashed as is said.
 ///
+/// Where neither data nor a schema is given, the errors are those of `check_file`, one file after the other, and no others.
 /// Where no error is found all files are accepted, the data has a value, and, where no file is missing, no data of the
 /// schema makes the template fail, as `check_document` says it.
 ///
@@ -438,7 +492,9 @@ pub fn findings_of<'a>(
     question: &Question<'a>,
     sources: &Sources<'a>,
 ) -> Result<Findings<'a>, AllocError>
-    ensures { IfOk result (λ found. has_error found ≡ false → IsSafe question.now sources.now) }
+    ensures safe { IfOk result (λ found. has_error found ≡ false → IsSafe question.now sources.now) }
+    ensures told { IfOk result (λ found. AreAlone sources.now
+        → (set : List Template) × AreOfFiles [] sources.now.templates.items set (errors_in found)) }
 {
     let mut findings = Findings::new(alloc);
     if !add_all(alloc, hash, &mut findings, question, sources)? {
@@ -455,7 +511,11 @@ fn add_all<'a>(
     question: &Question<'a>,
     sources: &Sources<'a>,
 ) -> Result<bool, AllocError>
-    ensures { IfOk result (λ safe. safe ≡ true → IsSafe question.now sources.now) }
+    ensures safe { IfOk result (λ safe. safe ≡ true → IsSafe question.now sources.now) }
+    ensures told { IfOk result (λ safe. AreAlone sources.now
+        → (safe ≡ false → has_error findings.new ≡ true)
+        × ((set : List Template) × (errors : List Finding) × AreOfFiles [] sources.now.templates.items set errors
+        × (errors_in findings.new ≡ errors_in findings.old ++ errors))) }
 {
     let mut set = Set::with_hash(alloc, hash);
     let files = sources.templates.as_slice();

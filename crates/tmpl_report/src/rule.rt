@@ -1,5 +1,6 @@
 //! The rules that what is found breaks.
 ghost use Rattle.std.specs.Prelude.{◌≡◌, map};
+ghost use Rattle.tmpl_report.specs.Errors.{rule_for};
 ghost use Rattle.tmpl_report.specs.Rules.{rules};
 
 use tmpl_data_problems::DataReason;
@@ -117,7 +118,9 @@ pub(crate) fn all_rules() -> [Rule; 16]
 }
 
 /// The rule that a refusal for this reason breaks; want of memory is told otherwise.
-pub(crate) fn rule_of(kind: ParseKind) -> Rule {
+pub(crate) fn rule_of(kind: ParseKind) -> Rule
+    ensures { result.id.now ≡ rule_for kind }
+{
     match kind {
         ParseKind::Unreadable | ParseKind::OutOfMemory => UNREADABLE,
         ParseKind::NotAnAction => NOT_UNDERSTOOD,
