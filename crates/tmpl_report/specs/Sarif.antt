@@ -24,14 +24,15 @@ uri_of file = (if starts_with nat_eq file (codes "/") then codes "file://" else 
 abbrev pub message_of : List ℕ → Data
 message_of text = object_of ((codes "text", string text) ∷ [])
 
+-- its line and column
+abbrev pub region_of : Finding → Data
+region_of f =
+    object_of ((codes "startLine", number (unsigned f.line)) ∷ (codes "startColumn", number (unsigned f.column)) ∷ [])
+
 -- where it is
 abbrev pub place_of : Finding → Data
 place_of f = object_of ((codes "artifactLocation", object_of ((codes "uri", string (uri_of f.file)) ∷ []))
-    ∷ (
-      codes "region",
-      object_of ((codes "startLine", number (unsigned f.line))
-          ∷ (codes "startColumn", number (unsigned f.column)) ∷ []),
-    ) ∷ [])
+    ∷ (codes "region", region_of f) ∷ [])
 
 -- a list of that place alone, with what is said of it there, if anything is
 abbrev pub locations_of : Finding → List (List ℕ × Data) → Data

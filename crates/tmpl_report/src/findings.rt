@@ -1,5 +1,6 @@
 //! What is found.
-ghost use Rattle.std.specs.Prelude.{◌≡◌, List, [], ◌∷◌, ◌++◌, false, true, IfOk, Ok, OnOk, if◌then◌else◌, map, string_bytes};
+ghost use Rattle.std.specs.Prelude.{◌≡◌, List, [], ◌∷◌, ◌++◌, false, true, IfOk, Ok, OnOk, if◌then◌else◌};
+ghost use Rattle.std.specs.Prelude.{map, string_bytes};
 ghost use Rattle.std.specs.List.{list_any};
 ghost use Rattle.tmpl_values.specs.Json.{data_of};
 ghost use Rattle.tmpl_values.specs.Value.{Value};
@@ -107,8 +108,8 @@ impl<'a> Findings<'a> {
 
     /// Adds what is found, unless the same was found before.
     pub(crate) fn add_once(&mut self, entry: Entry<'a>) -> Result<(), AllocError>
-        ensures { OnOk result (self.new
-            ≡ (if list_any (λ other. is_same other entry.entry) self.old then self.old else self.old ++ entry.entry ∷ [])) }
+        ensures { OnOk result (self.new ≡ (if list_any (λ other. is_same other entry.entry) self.old
+            then self.old else self.old ++ entry.entry ∷ [])) }
     {
         if has_same(self.entries.as_slice(), &entry) {
             return Ok(());
@@ -476,12 +477,12 @@ fn unseen_entry<'a>(alloc: Global, file: &'a str) -> Result<Entry<'a>, AllocErro
     })
 }
 
-/// What is found in template files, in the order of the files, and then in data: errors, and what is suspicious. Where all
-/// files are accepted, the template that is asked for is checked against the schema. Names are hashed as is said.
+/// What is found in template files, in the order of the files, and then in data: errors, and what is suspicious. Where
+/// all files are accepted, the template that is asked for is checked against the schema. Names are hashed as is said.
 ///
-/// Where neither data nor a schema is given, the errors are those of `check_file`, one file after the other, and no others.
-/// Where no error is found all files are accepted, the data has a value, and, where no file is missing, no data of the
-/// schema makes the template fail, as `check_document` says it.
+/// Where neither data nor a schema is given, the errors are those of `check_file`, one file after the other, and no
+/// others. Where no error is found all files are accepted, the data has a value, and, where no file is missing, no data
+/// of the schema makes the template fail, as `check_document` says it.
 ///
 /// # Errors
 ///
