@@ -50,7 +50,8 @@ errors_of file all = map (error_of file) all.refused.items ++ map (error_of file
 abbrev pub AreAlone : Sources → Type 0
 AreAlone sources = (sources.data ≡ None) × (sources.schema ≡ None)
 
--- these are the errors of a file, as `check_file` has them: it makes the new set of the old one, or is refused
+-- these are the errors of a file, which makes the new set of the old one or is refused: all that is refused of it, in
+-- order and at its places, and then what is found beyond, of which nothing is said
 abbrev pub AreOfFile : List Template → Source → List Template → List Finding → Type 0
 AreOfFile old file new errors = (all : Problems) × (errors ≡ errors_of file.name.now all)
     × Examined old file.name.now file.bytes.items new (map refused_in (map refusal_in all.refused.items))

@@ -480,9 +480,9 @@ fn unseen_entry<'a>(alloc: Global, file: &'a str) -> Result<Entry<'a>, AllocErro
 /// What is found in template files, in the order of the files, and then in data: errors, and what is suspicious. Where
 /// all files are accepted, the template that is asked for is checked against the schema. Names are hashed as is said.
 ///
-/// Where neither data nor a schema is given, the errors are those of `check_file`, one file after the other, and no
-/// others. Where no error is found all files are accepted, the data has a value, and, where no file is missing, no data
-/// of the schema makes the template fail, as `check_document` says it.
+/// Where neither data nor a schema is given, the errors are, file by file, all that is refused of it, as `check_file`
+/// says it, and what is found beyond. Where no error is found all files are accepted, the data has a value, and, where
+/// no file is missing, no data of the schema makes the template fail, as `check_document` says it.
 ///
 /// # Errors
 ///
