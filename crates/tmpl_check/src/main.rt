@@ -2,8 +2,7 @@
 #![tactic(auto)]
 
 ghost use Rattle.std.specs.Prelude.{◌≡◌, if◌then◌else◌};
-ghost use Rattle.std.specs.List.{list_any};
-ghost use Rattle.tmpl_report.specs.Level.{is_error};
+ghost use Rattle.tmpl_report.specs.Finding.{has_error};
 
 mod build;
 mod files;
@@ -79,7 +78,7 @@ fn check(rt: &HostRuntime, request: &Request<'_>) -> Result<u8, Stop> {
 /// The status: 3 where a file could not be read, else 1 where errors are found, else 0.
 fn status_of(sources: &Sources<'_>, findings: &Findings<'_>) -> u8
     ensures { result
-        ≡ (if sources.now.is_short then 3 else (if list_any is_error findings.now then 1 else 0)) }
+        ≡ (if sources.now.is_short then 3 else (if has_error findings.now then 1 else 0)) }
 {
     if sources.is_short {
         3

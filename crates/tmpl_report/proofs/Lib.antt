@@ -1,3 +1,7 @@
 pub mod AcceptedLemmas
-pub mod LevelLemmas
+pub mod ErrorLemmas
+pub mod ItemLemmas
+pub mod LogLemmas
 pub mod SafeLemmas
+pub mod SaidLemmas
+pub mod UriLemmas

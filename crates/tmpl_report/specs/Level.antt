@@ -1,5 +1,5 @@
 -- How grave something is that is found.
-use Rattle.std.specs.Prelude.{Bool, true, false}
+use Rattle.std.specs.Prelude.{ℕ, List, Bool, true, false, codes}
 use Rattle.tmpl_report.specs.declared.entry.Level.{Level}
 use Rattle.tmpl_report.specs.declared.entry.Level.TheVariants.{Error, Warning}
 
@@ -7,3 +7,8 @@ use Rattle.tmpl_report.specs.declared.entry.Level.TheVariants.{Error, Warning}
 abbrev pub is_error : Level → Bool
 is_error Error = true
 is_error Warning = false
+
+-- its word, as it is told
+abbrev pub word_of : Level → List ℕ
+word_of Error = codes "error"
+word_of Warning = codes "warning"

@@ -1,2 +1,9 @@
+pub mod Errors
+pub mod Finding
+pub mod Json
 pub mod Level
+pub mod Rules
 pub mod Safe
+pub mod Sarif
+pub mod Told
+pub mod computed

@@ -1,8 +1,10 @@
 //! Something that is found.
 ghost use Rattle.std.specs.Prelude.{◌≡◌};
-ghost use Rattle.tmpl_report.specs.Level.{is_error};
+ghost use Rattle.tmpl_report.specs.Level.{is_error, word_of};
+ghost use Rattle.tmpl_report.specs.computed.Entries.{is_same};
 
 use crate::rule::Rule;
+use std::marker::Model;
 
 /// How grave it is.
 #[derive(Clone, Copy)]
@@ -20,7 +22,9 @@ impl Level {
     }
 
     /// Its word.
-    pub(crate) fn word(self) -> &'static str {
+    pub(crate) fn word(self) -> &'static str
+        ensures { result.now ≡ word_of self }
+    {
         match self {
             Level::Error => "error",
             Level::Warning => "warning",
@@ -28,7 +32,7 @@ impl Level {
     }
 }
 
-/// Something that is found at a place of a file.
+/// Something that is found at a place of a file. Contracts see its texts.
 #[derive(Drop)]
 pub(crate) struct Entry<'a> {
     pub(crate) file: &'a str,
@@ -41,6 +45,23 @@ pub(crate) struct Entry<'a> {
     pub(crate) note: Option<String>,
 }
 
+impl<'a> Model for Entry<'a> {
+    ghost use Rattle.std.specs.Prelude.{option_map, string_bytes};
+    ghost use Rattle.tmpl_report.specs.Finding.{Finding};
+
+    ghost Value = { Finding };
+
+    ghost view = { λ e. record {
+      file = e.file.now;
+      line = e.line;
+      column = e.column;
+      level = e.level;
+      rule = e.rule.id.now;
+      text = string_bytes e.text;
+      note = option_map string_bytes e.note;
+    } };
+}
+
 impl Entry<'_> {
     /// Whether it is an error.
     pub(crate) fn is_error(&self) -> bool
@@ -50,7 +71,9 @@ impl Entry<'_> {
     }
 
     /// Whether the other says the same of the same place.
-    pub(crate) fn is_same(&self, other: &Entry<'_>) -> bool {
+    pub(crate) fn is_same(&self, other: &Entry<'_>) -> bool
+        ensures { result ≡ is_same self.now other.now }
+    {
         self.file == other.file
             && (self.line == other.line && self.column == other.column)
             && self.text.as_str() == other.text.as_str()

@@ -1,12 +1,18 @@
 //! What is found.
-ghost use Rattle.std.specs.Prelude.{◌≡◌, [], false, true, IfOk, Ok, OnOk};
+ghost use Rattle.std.specs.Prelude.{◌≡◌, List, [], ◌∷◌, ◌++◌, false, true, IfOk, Ok, OnOk, if◌then◌else◌};
+ghost use Rattle.std.specs.Prelude.{map, string_bytes};
 ghost use Rattle.std.specs.List.{list_any};
 ghost use Rattle.tmpl_values.specs.Json.{data_of};
 ghost use Rattle.tmpl_values.specs.Value.{Value};
 ghost use Rattle.tmpl_syntax.specs.Parse.{Parses};
+ghost use Rattle.tmpl_syntax.specs.Set.{Template};
 ghost use Rattle.tmpl_syntax.specs.View.{set_view};
+ghost use Rattle.tmpl_report.specs.Errors.{AreAlone, AreOfFile, AreOfFiles, error_of, errors_in, errors_of};
+ghost use Rattle.tmpl_report.specs.Finding.{Finding, has_error};
 ghost use Rattle.tmpl_report.specs.Level.{is_error};
 ghost use Rattle.tmpl_report.specs.Safe.{AreAccepted, HasValue, IsSafe};
+ghost use Rattle.tmpl_report.specs.Told.{told};
+ghost use Rattle.tmpl_report.specs.computed.Entries.{is_same, warning_of};
 
 use crate::entry::{Entry, Level};
 use crate::rule::{
@@ -37,20 +43,19 @@ pub enum Format {
     Sarif,
 }
 
-/// What is found, file by file. Contracts see how grave each finding is, in the order in which they are told.
+/// What is found, file by file. Contracts see the list of it, in the order in which it is told.
 #[derive(Drop)]
 pub struct Findings<'a> {
     pub(crate) entries: Vec<Entry<'a>>,
 }
 
 impl<'a> Model for Findings<'a> {
-    ghost use Rattle.std.specs.Prelude.{List, map};
-    ghost use Rattle.tmpl_report.specs.declared.entry.Entry.{Entry};
-    ghost use Rattle.tmpl_report.specs.declared.entry.Level.{Level};
+    ghost use Rattle.std.specs.Prelude.{List};
+    ghost use Rattle.tmpl_report.specs.Finding.{Finding};
 
-    ghost Value = { List Level };
+    ghost Value = { List Finding };
 
-    ghost view = { λ f. map (λ (e : Entry). e.level) f.entries.items };
+    ghost view = { λ f. f.entries.items };
 }
 
 /// The templates of all files, by their names.
@@ -72,40 +77,71 @@ impl<'a> Findings<'a> {
 
     /// Whether there are errors among them.
     pub fn has_errors(&self) -> bool
-        ensures { result ≡ list_any is_error self.now }
+        ensures { result ≡ has_error self.now }
     {
         has_error(self.entries.as_slice())
     }
 
     /// The text that tells them, as it is put out.
-    pub fn text(&self, alloc: Global, format: Format) -> Result<String, AllocError> {
+    ///
+    /// # Errors
+    ///
+    /// Where memory was refused.
+    pub fn text(&self, alloc: Global, format: Format) -> Result<String, AllocError>
+        ensures { IfOk result (λ t. string_bytes t ≡ told format self.now) }
+    {
+        let entries = self.entries.as_slice();
         match format {
-            Format::Text => text::lines(alloc, self),
-            Format::Json => json::document(alloc, self),
-            Format::Sarif => sarif::document(alloc, self),
+            Format::Text => text::lines(alloc, entries),
+            Format::Json => json::document(alloc, entries),
+            Format::Sarif => sarif::document(alloc, entries),
         }
     }
 
-    /// Adds what is found, unless the same was found before.
-    pub(crate) fn add_once(&mut self, entry: Entry<'a>) -> Result<(), AllocError> {
-        if !self.entries.iter().any(|other| other.is_same(&entry)) {
-            self.entries.push(entry)?;
-        }
+    /// Adds what is found.
+    fn add(&mut self, entry: Entry<'a>) -> Result<(), AllocError>
+        ensures { OnOk result (self.new ≡ self.old ++ entry.entry ∷ []) }
+    {
+        self.entries.push(entry)?;
         Ok(())
     }
 
-    /// Adds what is wrong in a file.
+    /// Adds what is found, unless the same was found before.
+    pub(crate) fn add_once(&mut self, entry: Entry<'a>) -> Result<(), AllocError>
+        ensures { OnOk result (self.new ≡ (if list_any (λ other. is_same other entry.entry) self.old
+            then self.old else self.old ++ entry.entry ∷ [])) }
+    {
+        if has_same(self.entries.as_slice(), &entry) {
+            return Ok(());
+        }
+        self.add(entry)
+    }
+
+    /// Adds what is wrong in a file: first what is refused.
     fn add_problems(
         &mut self,
         alloc: Global,
         file: &'a str,
-        problems: Problems,
-    ) -> Result<(), AllocError> {
-        for problem in problems.refused.into_iter() {
-            self.entries.push(problem_entry(alloc, file, problem)?)?;
-        }
-        for problem in problems.beyond.into_iter() {
-            self.entries.push(problem_entry(alloc, file, problem)?)?;
+        problems: &Problems,
+    ) -> Result<(), AllocError>
+        ensures { OnOk result (self.new ≡ self.old ++ errors_of file.now problems.now) }
+    {
+        self.add_errors(alloc, file, problems.refused.as_slice())?;
+        self.add_errors(alloc, file, problems.beyond.as_slice())
+    }
+
+    /// Adds errors of a file.
+    fn add_errors(
+        &mut self,
+        alloc: Global,
+        file: &'a str,
+        problems: &[Problem],
+    ) -> Result<(), AllocError>
+        ensures { OnOk result (self.new ≡ self.old ++ map (error_of file.now) problems.now) }
+    {
+        for problem in problems {
+            let entry = problem_entry(alloc, file, problem)?;
+            self.add(entry)?;
         }
         Ok(())
     }
@@ -117,8 +153,12 @@ impl<'a> Findings<'a> {
         place: (u64, u64),
         rule: Rule,
         text: String,
-    ) -> Result<(), AllocError> {
-        self.entries.push(Entry {
+    ) -> Result<(), AllocError>
+        ensures added { OnOk result
+            (self.new ≡ self.old ++ warning_of file.now place rule.id.now (string_bytes text) ∷ []) }
+        ensures errors { OnOk result (errors_in self.new ≡ errors_in self.old) }
+    {
+        self.add(Entry {
             file,
             level: Level::Warning,
             line: place.0,
@@ -126,8 +166,7 @@ impl<'a> Findings<'a> {
             rule,
             text,
             note: None,
-        })?;
-        Ok(())
+        })
     }
 
     /// Adds what is suspicious in a file, and the names in it that no file has.
@@ -137,7 +176,9 @@ impl<'a> Findings<'a> {
         file: &'a str,
         survey: Survey<'_>,
         templates: &Templates<'_>,
-    ) -> Result<(), AllocError> {
+    ) -> Result<(), AllocError>
+        ensures { OnOk result (errors_in self.new ≡ errors_in self.old) }
+    {
         let Survey {
             warnings,
             called,
@@ -168,7 +209,9 @@ impl<'a> Findings<'a> {
         asked: &str,
         defined: &[Named<'_>],
         templates: &Templates<'_>,
-    ) -> Result<(), AllocError> {
+    ) -> Result<(), AllocError>
+        ensures { OnOk result (errors_in self.new ≡ errors_in self.old) }
+    {
         for definition in defined {
             if !templates.called.contains(definition.name) && definition.name != asked.as_bytes() {
                 let text = about(alloc, "the template ", definition.name, " is never called")?;
@@ -187,10 +230,14 @@ impl<'a> Findings<'a> {
     fn add_asked(
         &mut self,
         alloc: Global,
-        file: &'a str,
-        asked: &str,
+        question: &Question<'a>,
         templates: &Templates<'_>,
-    ) -> Result<(), AllocError> {
+    ) -> Result<(), AllocError>
+        ensures { OnOk result (errors_in self.new ≡ errors_in self.old) }
+    {
+        let (Some(asked), Some(first)) = (question.name, question.first) else {
+            return Ok(());
+        };
         if templates.defined.contains(asked.as_bytes()) {
             return Ok(());
         }
@@ -200,7 +247,7 @@ impl<'a> Findings<'a> {
             asked.as_bytes(),
             " of --name",
         )?;
-        self.warn(file, (1, 1), NO_SUCH_TEMPLATE, text)
+        self.warn(first, (1, 1), NO_SUCH_TEMPLATE, text)
     }
 
     /// Adds what is found in template files, and their templates to the set. Whether all are accepted.
@@ -212,15 +259,17 @@ impl<'a> Findings<'a> {
         files: &[Source<'a>],
         set: &mut Set,
     ) -> Result<bool, AllocError>
-        ensures { IfOk result (λ accepted. accepted ≡ true
+        ensures accepted { IfOk result (λ accepted. accepted ≡ true
             → AreAccepted (set_view set.old) files.now (set_view set.new)) }
+        ensures refused { IfOk result (λ accepted. accepted ≡ false → has_error self.new ≡ true) }
+        ensures told { OnOk result ((errors : List Finding)
+            × AreOfFiles (set_view set.old) files.now (set_view set.new) errors
+            × (errors_in self.new ≡ errors_in self.old ++ errors)) }
     {
         let surveys = survey_all(alloc, hash, files)?;
         let templates = templates_in(alloc, hash, files, surveys.as_slice())?;
         let accepted = self.add_each(alloc, hash, question.name, files, surveys, &templates, set)?;
-        if let (Some(name), Some(first)) = (question.name, question.first) {
-            self.add_asked(alloc, first, name, &templates)?;
-        }
+        self.add_asked(alloc, question, &templates)?;
         Ok(accepted)
     }
 
@@ -235,17 +284,19 @@ impl<'a> Findings<'a> {
         templates: &Templates<'_>,
         set: &mut Set,
     ) -> Result<bool, AllocError>
-        ensures { IfOk result (λ accepted. accepted ≡ true
+        ensures accepted { IfOk result (λ accepted. accepted ≡ true
             → AreAccepted (set_view set.old) files.now (set_view set.new)) }
+        ensures refused { IfOk result (λ accepted. accepted ≡ false → has_error self.new ≡ true) }
+        ensures told { OnOk result ((errors : List Finding)
+            × AreOfFiles (set_view set.old) files.now (set_view set.new) errors
+            × (errors_in self.new ≡ errors_in self.old ++ errors)) }
     {
         let mut surveys = surveys.into_iter();
         let mut accepted = true;
         for file in files {
             let here = self.add_checked(alloc, hash, file, &mut *set)?;
             accepted = accepted && here;
-            if let Some(survey) = surveys.next() {
-                self.add_surveyed(alloc, file.name, asked, survey, templates)?;
-            }
+            self.add_surveyed(alloc, file.name, asked, surveys.next(), templates)?;
         }
         Ok(accepted)
     }
@@ -258,24 +309,32 @@ impl<'a> Findings<'a> {
         file: &Source<'a>,
         set: &mut Set,
     ) -> Result<bool, AllocError>
-        ensures { IfOk result (λ accepted. accepted ≡ true
+        ensures accepted { IfOk result (λ accepted. accepted ≡ true
             → Parses (set_view set.old) file.now.name.now file.now.bytes.items (Ok (set_view set.new))) }
+        ensures refused { IfOk result (λ accepted. accepted ≡ false → has_error self.new ≡ true) }
+        ensures told { OnOk result ((errors : List Finding)
+            × AreOfFile (set_view set.old) file.now (set_view set.new) errors × (self.new ≡ self.old ++ errors)) }
     {
         let problems = check_file(alloc, set, hash, file.name, file.bytes.as_slice())?;
         let accepted = problems.refused.is_empty();
-        self.add_problems(alloc, file.name, problems)?;
+        self.add_problems(alloc, file.name, &problems)?;
         Ok(accepted)
     }
 
-    /// Adds what a survey of a file has.
+    /// Adds what the survey of a file has.
     fn add_surveyed(
         &mut self,
         alloc: Global,
         file: &'a str,
         asked: Option<&str>,
-        survey: Survey<'_>,
+        survey: Option<Survey<'_>>,
         templates: &Templates<'_>,
-    ) -> Result<(), AllocError> {
+    ) -> Result<(), AllocError>
+        ensures { OnOk result (errors_in self.new ≡ errors_in self.old) }
+    {
+        let Some(survey) = survey else {
+            return Ok(());
+        };
         if let Some(asked) = asked {
             self.add_uncalled(alloc, file, asked, survey.defined.as_slice(), templates)?;
         }
@@ -284,27 +343,20 @@ impl<'a> Findings<'a> {
 
     /// Adds an error where none tells what is wrong. Each check tells one, but no clause of theirs says so.
     fn add_unseen(&mut self, alloc: Global, question: &Question<'a>) -> Result<(), AllocError>
-        ensures { OnOk result (list_any is_error self.new ≡ true) }
+        ensures told { OnOk result (has_error self.new ≡ true) }
+        ensures kept { OnOk result (has_error self.old ≡ true → self.new ≡ self.old) }
     {
         if self.has_errors() {
             return Ok(());
         }
         let entry = unseen_entry(alloc, question.first.unwrap_or(""))?;
-        self.add_error(entry)
-    }
-
-    /// Adds an error.
-    fn add_error(&mut self, entry: Entry<'a>) -> Result<(), AllocError>
-        requires { is_error entry.level ≡ true }
-        ensures { OnOk result (list_any is_error self.new ≡ true) }
-    {
-        self.entries.push(entry)?;
-        Ok(())
+        self.add(entry)
     }
 
     /// Adds what is wrong in the data, if there is some. Whether it has a value then.
     fn add_given(&mut self, alloc: Global, sources: &Sources<'a>) -> Result<bool, AllocError>
-        ensures { IfOk result (λ accepted. accepted ≡ true → HasValue sources.now) }
+        ensures accepted { IfOk result (λ accepted. accepted ≡ true → HasValue sources.now) }
+        ensures alone { IfOk result (λ accepted. AreAlone sources.now → (accepted ≡ true) × (self.new ≡ self.old)) }
     {
         match &sources.data {
             Some(data) => self.add_data(alloc, data),
@@ -374,8 +426,10 @@ fn data_entry<'a>(file: &'a str, reason: DataReason, place: (u64, u64), text: St
 fn problem_entry<'a>(
     alloc: Global,
     file: &'a str,
-    problem: Problem,
-) -> Result<Entry<'a>, AllocError> {
+    problem: &Problem,
+) -> Result<Entry<'a>, AllocError>
+    ensures { IfOk result (λ entry. entry ≡ error_of file.now problem.now) }
+{
     let refusal = problem.refusal;
     Ok(Entry {
         file,
@@ -383,7 +437,7 @@ fn problem_entry<'a>(
         line: refusal.refused.line,
         column: refusal.column,
         rule: rule_of(refusal.refused.kind),
-        text: problem_text(alloc, &problem)?,
+        text: problem_text(alloc, problem)?,
         note: None,
     })
 }
@@ -396,9 +450,16 @@ fn about(alloc: Global, before: &str, name: &[u8], after: &str) -> Result<String
 
 /// Whether one of these is an error.
 fn has_error(entries: &[Entry<'_>]) -> bool
-    ensures { result ≡ list_any (λ entry. is_error entry.level) entries.now }
+    ensures { result ≡ has_error entries.now }
 {
     entries.iter().any(|entry| entry.is_error())
+}
+
+/// Whether one of these says the same of the same place.
+fn has_same(entries: &[Entry<'_>], entry: &Entry<'_>) -> bool
+    ensures { result ≡ list_any (λ other. is_same other entry.now) entries.now }
+{
+    entries.iter().any(|other| other.is_same(entry))
 }
 
 /// That it is not seen that nothing is wrong.
@@ -416,11 +477,12 @@ fn unseen_entry<'a>(alloc: Global, file: &'a str) -> Result<Entry<'a>, AllocErro
     })
 }
 
-/// What is found in template files, in the order of the files, and then in data: errors, and what is suspicious. Where all
-/// files are accepted, the template that is asked for is checked against the schema. Names are hashed as is said.
+/// What is found in template files, in the order of the files, and then in data: errors, and what is suspicious. Where
+/// all files are accepted, the template that is asked for is checked against the schema. Names are hashed as is said.
 ///
-/// Where no error is found all files are accepted, the data has a value, and, where no file is missing, no data of the
-/// schema makes the template fail, as `check_document` says it.
+/// Where neither data nor a schema is given, the errors are, file by file, all that is refused of it, as `check_file`
+/// says it, and what is found beyond. Where no error is found all files are accepted, the data has a value, and, where
+/// no file is missing, no data of the schema makes the template fail, as `check_document` says it.
 ///
 /// # Errors
 ///
@@ -431,7 +493,9 @@ pub fn findings_of<'a>(
     question: &Question<'a>,
     sources: &Sources<'a>,
 ) -> Result<Findings<'a>, AllocError>
-    ensures { IfOk result (λ found. list_any is_error found ≡ false → IsSafe question.now sources.now) }
+    ensures safe { IfOk result (λ found. has_error found ≡ false → IsSafe question.now sources.now) }
+    ensures told { IfOk result (λ found. AreAlone sources.now
+        → (set : List Template) × AreOfFiles [] sources.now.templates.items set (errors_in found)) }
 {
     let mut findings = Findings::new(alloc);
     if !add_all(alloc, hash, &mut findings, question, sources)? {
@@ -448,7 +512,11 @@ fn add_all<'a>(
     question: &Question<'a>,
     sources: &Sources<'a>,
 ) -> Result<bool, AllocError>
-    ensures { IfOk result (λ safe. safe ≡ true → IsSafe question.now sources.now) }
+    ensures safe { IfOk result (λ safe. safe ≡ true → IsSafe question.now sources.now) }
+    ensures told { IfOk result (λ safe. AreAlone sources.now
+        → (safe ≡ false → has_error findings.new ≡ true)
+        × ((set : List Template) × (errors : List Finding) × AreOfFiles [] sources.now.templates.items set errors
+        × (errors_in findings.new ≡ errors_in findings.old ++ errors))) }
 {
     let mut set = Set::with_hash(alloc, hash);
     let files = sources.templates.as_slice();

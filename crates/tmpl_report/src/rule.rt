@@ -1,4 +1,7 @@
 //! The rules that what is found breaks.
+ghost use Rattle.std.specs.Prelude.{◌≡◌, map};
+ghost use Rattle.tmpl_report.specs.Errors.{rule_for};
+ghost use Rattle.tmpl_report.specs.Rules.{rules};
 
 use tmpl_data_problems::DataReason;
 use tmpl_syntax::ParseKind;
@@ -90,28 +93,34 @@ pub(crate) const MAY_FAIL: Rule = Rule {
     text: "A template renders without a fault whatever data of the schema it is given.",
 };
 
-/// All rules.
-pub(crate) static RULES: [Rule; 16] = [
-    UNREADABLE,
-    NOT_UNDERSTOOD,
-    OUT_OF_PLACE,
-    UNDECLARED_VARIABLE,
-    OPEN_AT_END,
-    NESTED_TOO_DEEPLY,
-    TOO_LONG,
-    SECOND_DEFINITION,
-    NOT_JSON,
-    NUMBER_NOT_WHOLE,
-    SUSPICIOUS,
-    NO_SUCH_TEMPLATE,
-    NEVER_CALLED,
-    KEY_GIVEN_TWICE,
-    SCHEMA_NOT_UNDERSTOOD,
-    MAY_FAIL,
-];
+/// All rules, in the order in which they are told.
+pub(crate) fn all_rules() -> [Rule; 16]
+    ensures { map (λ rule. (rule.id.now, rule.text.now)) result ≡ rules }
+{
+    [
+        UNREADABLE,
+        NOT_UNDERSTOOD,
+        OUT_OF_PLACE,
+        UNDECLARED_VARIABLE,
+        OPEN_AT_END,
+        NESTED_TOO_DEEPLY,
+        TOO_LONG,
+        SECOND_DEFINITION,
+        NOT_JSON,
+        NUMBER_NOT_WHOLE,
+        SUSPICIOUS,
+        NO_SUCH_TEMPLATE,
+        NEVER_CALLED,
+        KEY_GIVEN_TWICE,
+        SCHEMA_NOT_UNDERSTOOD,
+        MAY_FAIL,
+    ]
+}
 
 /// The rule that a refusal for this reason breaks; want of memory is told otherwise.
-pub(crate) fn rule_of(kind: ParseKind) -> Rule {
+pub(crate) fn rule_of(kind: ParseKind) -> Rule
+    ensures { result.id.now ≡ rule_for kind }
+{
     match kind {
         ParseKind::Unreadable | ParseKind::OutOfMemory => UNREADABLE,
         ParseKind::NotAnAction => NOT_UNDERSTOOD,

@@ -1,6 +1,7 @@
 //! Whether a template never fails over the data of a schema, and where it may.
 ghost use Rattle.std.specs.Prelude.{◌≡◌, false, IfOk, map, true};
 ghost use Rattle.tmpl_syntax.specs.View.{set_view};
+ghost use Rattle.tmpl_report.specs.Errors.{AreAlone};
 ghost use Rattle.tmpl_report.specs.Safe.{IsSafeOver, asked_name};
 
 use crate::entry::{Entry, Level};
@@ -28,8 +29,9 @@ pub(crate) fn add_schema<'a>(
     question: &Question<'a>,
     sources: &Sources<'a>,
 ) -> Result<bool, AllocError>
-    ensures { IfOk result (λ safe. safe ≡ true → sources.now.is_short ≡ false
+    ensures safe { IfOk result (λ safe. safe ≡ true → sources.now.is_short ≡ false
         → IsSafeOver question.now sources.now (set_view set.now)) }
+    ensures alone { IfOk result (λ safe. AreAlone sources.now → (safe ≡ true) × (findings.new ≡ findings.old)) }
 {
     let Some(schema) = &sources.schema else {
         return Ok(true);

@@ -3,8 +3,8 @@ use Rattle.tmpl_syntax.specs.View.{set_view}
 use Rattle.tmpl_report.proofs.SafeLemmas.{safe-over}
 use Rattle.tmpl_report.proofs.schema.add_schema.Goals as goal
 
-pub returns-in-Ok : goal.returns-in-Ok
-returns-in-Ok c = λ t short. safe-over c.args.question.now c.args.sources.now (set_view c.args.set.now) c.in-Some.schema c.in-Some-first.first _ _ _
+pub returns-in-Ok-clause-safe : goal.returns-in-Ok-clause-safe
+returns-in-Ok-clause-safe c = λ t short. safe-over c.args.question.now c.args.sources.now (set_view c.args.set.now) c.in-Some.schema c.in-Some-first.first _ _ _
     c.in-Some.is c.in-Some-first.is c.as_slice-document.ensures.value
     (c.as_slice-2.ensures.value ∙ c.in_ok-stops.ensures ∙ ap (map (λ name. name.now)) c.as_slice.ensures.value)
     c.asked_name.ensures c.in-Ok.ensures
