@@ -1,3 +1,4 @@
 pub mod AcceptedLemmas
+pub mod InferredLemmas
 pub mod LevelLemmas
 pub mod SafeLemmas

@@ -1,2 +1,4 @@
+pub mod Inferred
 pub mod Level
 pub mod Safe
+pub mod computed
