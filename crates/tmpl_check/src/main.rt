@@ -100,7 +100,8 @@ fn infer(rt: &HostRuntime, request: &Request<'_>) -> Result<u8, Stop> {
         }
     }
     match infer_from(rt.alloc(), sources.as_slice())? {
-        Inferred::Schema(schema) if !is_short => {
+        Inferred::Schema(mut schema) if !is_short => {
+            schema.push('\n')?;
             write_all(rt, schema.as_str())?;
             Ok(0)
         }

@@ -1,5 +1,6 @@
 pub mod AcceptedLemmas
 pub mod ErrorLemmas
+pub mod InferredLemmas
 pub mod ItemLemmas
 pub mod LogLemmas
 pub mod SafeLemmas

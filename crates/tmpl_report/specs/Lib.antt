@@ -1,5 +1,6 @@
 pub mod Errors
 pub mod Finding
+pub mod Inferred
 pub mod Json
 pub mod Level
 pub mod Rules

@@ -1,8 +1,8 @@
 //! What is found.
-ghost use Rattle.std.specs.Prelude.{◌≡◌, List, [], ◌∷◌, ◌++◌, false, true, IfOk, Ok, OnOk, if◌then◌else◌};
+ghost use Rattle.std.specs.Prelude.{◌≡◌, List, [], ◌∷◌, ◌++◌, false, true, IfOk, Ok, Err, OnOk, if◌then◌else◌};
 ghost use Rattle.std.specs.Prelude.{map, string_bytes};
 ghost use Rattle.std.specs.List.{list_any};
-ghost use Rattle.tmpl_values.specs.Json.{data_of};
+ghost use Rattle.tmpl_values.specs.Json.{data_of, Flaw};
 ghost use Rattle.tmpl_values.specs.Value.{Value};
 ghost use Rattle.tmpl_syntax.specs.Parse.{Parses};
 ghost use Rattle.tmpl_syntax.specs.Set.{Template};
@@ -157,6 +157,7 @@ impl<'a> Findings<'a> {
         ensures added { OnOk result
             (self.new ≡ self.old ++ warning_of file.now place rule.id.now (string_bytes text) ∷ []) }
         ensures errors { OnOk result (errors_in self.new ≡ errors_in self.old) }
+        ensures has_error { OnOk result (has_error self.new ≡ has_error self.old) }
     {
         self.add(Entry {
             file,
@@ -353,6 +354,14 @@ impl<'a> Findings<'a> {
         self.add(entry)
     }
 
+    /// Adds an error.
+    fn add_error(&mut self, entry: Entry<'a>) -> Result<(), AllocError>
+        requires { is_error entry.level ≡ true }
+        ensures { OnOk result (has_error self.new ≡ true) }
+    {
+        self.add(entry)
+    }
+
     /// Adds what is wrong in the data, if there is some. Whether it has a value then.
     fn add_given(&mut self, alloc: Global, sources: &Sources<'a>) -> Result<bool, AllocError>
         ensures accepted { IfOk result (λ accepted. accepted ≡ true → HasValue sources.now) }
@@ -366,8 +375,12 @@ impl<'a> Findings<'a> {
 
     /// Adds what is wrong in data. Whether it has a value.
     pub(crate) fn add_data(&mut self, alloc: Global, data: &Source<'a>) -> Result<bool, AllocError>
-        ensures { IfOk result (λ accepted. accepted ≡ true
+        ensures accepted { IfOk result (λ accepted. accepted ≡ true
             → (value : Value) × (data_of «data».now.bytes.items ≡ Ok value)) }
+        ensures refused { IfOk result (λ accepted. accepted ≡ false
+            → (flaw : Flaw) × (data_of «data».now.bytes.items ≡ Err flaw)) }
+        ensures told { IfOk result (λ accepted. has_error self.new
+            ≡ (if accepted then has_error self.old else true)) }
     {
         let DataReport {
             refused,
@@ -396,21 +409,40 @@ impl<'a> Findings<'a> {
         file: &'a str,
         reason: DataReason,
         problems: Vec<DataProblem>,
-    ) -> Result<(), AllocError> {
-        let words = reason.words();
-        if problems.is_empty() {
-            self.entries.push(data_entry(file, reason, (1, 1), String::from_str(alloc, words)?))?;
-        }
-        for problem in problems.into_iter() {
-            let text = reason_text(alloc, words, problem.text.as_str())?;
-            self.entries.push(data_entry(file, reason, (problem.line, problem.column), text))?;
+    ) -> Result<(), AllocError>
+        ensures { OnOk result (has_error self.new ≡ true) }
+    {
+        let mut problems = problems.into_iter();
+        let Some(first) = problems.next() else {
+            let text = String::from_str(alloc, reason.words())?;
+            return self.add_error(data_entry(file, reason, (1, 1), text));
+        };
+        self.add_data_problem(alloc, file, reason, first)?;
+        for problem in problems {
+            self.add_data_problem(alloc, file, reason, problem)?;
         }
         Ok(())
+    }
+
+    /// Adds a place at which data is wrong.
+    fn add_data_problem(
+        &mut self,
+        alloc: Global,
+        file: &'a str,
+        reason: DataReason,
+        problem: DataProblem,
+    ) -> Result<(), AllocError>
+        ensures { OnOk result (has_error self.new ≡ true) }
+    {
+        let text = reason_text(alloc, reason.words(), problem.text.as_str())?;
+        self.add_error(data_entry(file, reason, (problem.line, problem.column), text))
     }
 }
 
 /// Something wrong in data.
-fn data_entry<'a>(file: &'a str, reason: DataReason, place: (u64, u64), text: String) -> Entry<'a> {
+fn data_entry<'a>(file: &'a str, reason: DataReason, place: (u64, u64), text: String) -> Entry<'a>
+    ensures { is_error result.level ≡ true }
+{
     Entry {
         file,
         level: Level::Error,

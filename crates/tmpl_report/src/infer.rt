@@ -1,4 +1,11 @@
 //! A schema of files of data.
+ghost use Rattle.std.specs.Prelude.{◌≡◌, map, option_map, string_bytes, IfOk, IfSome, OnOk};
+ghost use Rattle.std.specs.List.{AllByRecursion};
+ghost use Rattle.serde_json.specs.View.{view};
+ghost use Rattle.tmpl_values.specs.Json.{tree_value};
+ghost use Rattle.tmpl_json_schema.specs.Document.{ConformsTo, document_of};
+ghost use Rattle.tmpl_report.specs.Inferred.{IsInferred};
+ghost use Rattle.tmpl_report.specs.computed.Inferred.{AddsSample};
 
 use crate::findings::Findings;
 use crate::source::Source;
@@ -9,14 +16,16 @@ use tmpl_samples::infer_schema;
 /// What comes of files of data.
 #[derive(Drop)]
 pub enum Inferred<'a> {
-    /// The text of a schema to which each of them conforms.
+    /// The text of a schema to which each of them conforms, without a newline at its end.
     Schema(String),
     /// What is wrong in them.
     Refused(Findings<'a>),
 }
 
-/// A schema of files of data, or what is wrong in them.
-pub fn infer_from<'a>(alloc: Global, files: &[Source<'a>]) -> Result<Inferred<'a>, AllocError> {
+/// The text of a schema to which the value of each of these files conforms, or what is wrong in those that have none.
+pub fn infer_from<'a>(alloc: Global, files: &[Source<'a>]) -> Result<Inferred<'a>, AllocError>
+    ensures { IfOk result (IsInferred files.now) }
+{
     let mut findings = Findings::new(alloc);
     let mut samples: Vec<Value> = Vec::new(alloc);
     for file in files {
@@ -25,10 +34,28 @@ pub fn infer_from<'a>(alloc: Global, files: &[Source<'a>]) -> Result<Inferred<'a
     if findings.has_errors() {
         return Ok(Inferred::Refused(findings));
     }
-    let all: Vec<&Value> = samples.iter().collect(alloc)?;
-    let mut text = infer_schema(alloc, all.as_slice())?.to_string_pretty(alloc)?;
-    text.push('\n')?;
+    let text = schema_text(alloc, samples.as_slice())?;
     Ok(Inferred::Schema(text))
+}
+
+/// The text of a schema of samples.
+fn schema_text(alloc: Global, samples: &[Value]) -> Result<String, AllocError>
+    ensures { IfOk result (λ text. AllByRecursion
+        (λ sample. IfSome (tree_value (view sample)) (ConformsTo (string_bytes text))) samples.now) }
+{
+    let lent = references_to(alloc, samples)?;
+    let schema = infer_schema(alloc, lent.as_slice())?;
+    let text = schema.to_string_pretty(alloc)?;
+    // for what its contract says: the bytes of a text are UTF-8
+    let _shown = text.as_str();
+    Ok(text)
+}
+
+/// References to these values.
+fn references_to<'s>(alloc: Global, values: &'s [Value]) -> Result<Vec<&'s Value>, AllocError>
+    ensures { IfOk result (λ lent. map (λ value. value.now) lent.items ≡ values.now) }
+{
+    values.iter().collect(alloc)
 }
 
 /// Adds the value of a file of data, or what is wrong in it.
@@ -37,14 +64,33 @@ fn add_sample<'a>(
     file: &Source<'a>,
     findings: &mut Findings<'a>,
     samples: &mut Vec<Value>,
-) -> Result<(), AllocError> {
-    findings.add_data(alloc, file)?;
-    match Value::from_slice(alloc, file.bytes.as_slice()) {
-        Ok(value) => {
+) -> Result<(), AllocError>
+    ensures { OnOk result (AddsSample file.now findings.old findings.new samples.old.items samples.new.items) }
+{
+    if !findings.add_data(alloc, file)? {
+        return Ok(());
+    }
+    match value_of(alloc, file.bytes.as_slice())? {
+        Some(value) => {
             samples.push(value)?;
             Ok(())
         }
-        Err(error) if error.is_memory() => Err(AllocError),
-        Err(_) => Ok(()),
+        None => Ok(()),
+    }
+}
+
+/// The JSON value of bytes.
+fn value_of(alloc: Global, bytes: &[u8]) -> Result<Option<Value>, AllocError>
+    ensures { IfOk result (λ value. option_map view value ≡ document_of bytes.now) }
+{
+    match Value::from_slice(alloc, bytes) {
+        Ok(value) => Ok(Some(value)),
+        Err(error) => {
+            if error.is_memory() {
+                Err(AllocError)
+            } else {
+                Ok(None)
+            }
+        }
     }
 }

@@ -1,1 +1,3 @@
+pub mod ConformLemmas
 pub mod FailureLemmas
+pub mod StepLemmas

@@ -1,1 +1,3 @@
 pub mod Failing
+pub mod Inferred
+pub mod computed
