@@ -1,5 +1,5 @@
 -- For `schema_of`: a sample conforms to what is told of all samples.
-use Rattle.std.proofs.Common.{◌≡◌, ◌⊎◌, inl, inr, ◌≤◌, ◌++◌, ℕ, zero, suc, List, [], ◌∷◌, flat_map, filter_map, Bool, true, false, Option, Some, None, IfSome, IsSome, option_map, option_and_then, codes, refl, sym, subst, ap, ◌∙◌, arith, bytes_eq, max}
+use Rattle.std.proofs.Common.{◌≡◌, ◌⊎◌, inl, inr, ◌≤◌, ◌++◌, ℕ, zero, suc, List, [], ◌∷◌, flat_map, filter_map, Bool, true, false, Option, Some, None, IfSome, IsSome, option_map, option_and_then, codes, refl, sym, subst, ap, ◌∙◌, arith, bytes_eq}
 use Rattle.std.specs.Bool.{if◌then◌else◌}
 use Rattle.std.specs.Cmp.Lexicographic.{slice_cmp}
 use Rattle.std.specs.Ordering.{match_ordering, is_eq}

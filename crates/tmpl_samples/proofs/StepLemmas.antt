@@ -1,5 +1,5 @@
 -- For the loops of `infer.rt`: what one more sample, item, map or type adds.
-use Rattle.std.proofs.Common.{◌≡◌, ◌⊎◌, inl, inr, ◌<◌, ◌+◌, ◌++◌, ℕ, List, [], ◌∷◌, length, take, get_or, map, flat_map, filter_map, Option, Some, None, IfSome, option_map, String, Global, BTreeMap, refl, sym, subst, ap, ◌∙◌, arith, string_cmp}
+use Rattle.std.proofs.Common.{◌≡◌, inl, inr, ◌<◌, ◌+◌, ◌++◌, ℕ, List, [], ◌∷◌, length, take, get_or, map, flat_map, filter_map, Option, Some, None, IfSome, option_map, String, Global, BTreeMap, refl, sym, subst, ap, ◌∙◌, arith, string_cmp}
 use Rattle.std.proofs.Common.{false, bytes_eq, Less, Greater, nat_cmp, ℤ, zero, suc, ◌≤◌}
 use Rattle.std.specs.Ordering.{is_eq, ordering_reverse}
 use Rattle.std.specs.Cmp.Lexicographic.{slice_cmp}

@@ -1,14 +1,14 @@
-use Rattle.std.proofs.Common.{◌≡◌, ◌-◌, ◌+◌, ℕ, List, inl, inr, length, map, flat_map, filter_map, sym, subst, ap, ◌∙◌, suc, arith, codes}
+use Rattle.std.proofs.Common.{◌≡◌, ◌-◌, ℕ, List, inr, length, filter_map, sym, subst, ap, ◌∙◌, suc, arith, codes}
 use Rattle.std.proofs.lemmas.List.{length-map}
 use Rattle.std.proofs.lemmas.Result.{on_ok_weaker}
 use Rattle.std.specs.Borrow.{Bor}
-use Rattle.serde_json.specs.Data.{Data, Members, array, object, put}
-use Rattle.serde_json.specs.Find.{as_object, get_member}
+use Rattle.serde_json.specs.Data.{Members, array, object, put}
+use Rattle.serde_json.specs.Find.{get_member}
 use Rattle.serde_json.specs.View.{view, items_view, members_view}
 use Rattle.serde_json.specs.declared.value.Value.{Value}
 use Rattle.serde_json.proofs.Views.{view-Array, view-Object}
 use Rattle.tmpl_samples.specs.declared.infer.Keys.{Keys}
-use Rattle.tmpl_samples.specs.computed.Inferred.{seen, maps_seen, items_of_list, EachValue, Fits, AreTold}
+use Rattle.tmpl_samples.specs.computed.Inferred.{seen, maps_seen, EachValue, Fits, AreTold}
 use Rattle.tmpl_samples.proofs.ConformLemmas.{IsTold, schema-told, key-told, required-told}
 use Rattle.tmpl_samples.proofs.infer.+infer.Goals as goal
 use Rattle.tmpl_samples.proofs.infer.+infer.Goals.{add_key-then-len-maps+in_ok-try_from_str+in_ok-push, add_key-else-len-maps}

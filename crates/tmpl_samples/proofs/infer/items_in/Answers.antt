@@ -1,4 +1,4 @@
-use Rattle.std.proofs.Common.{◌≡◌, ◌<◌, ◌++◌, List, [], ◌∷◌, length, take, map, flat_map, sym, ap, ◌∙◌, arith}
+use Rattle.std.proofs.Common.{◌<◌, ◌++◌, length, take, map, flat_map, sym, ap, ◌∙◌, arith}
 use Rattle.serde_json.specs.View.{view}
 use Rattle.tmpl_samples.specs.computed.Inferred.{seen, items_of_list}
 use Rattle.tmpl_samples.proofs.StepLemmas.{seen-more, items-found, items-not_found}

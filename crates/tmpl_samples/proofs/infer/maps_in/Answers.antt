@@ -1,6 +1,4 @@
-use Rattle.std.proofs.Common.{◌≡◌, ◌<◌, ◌++◌, List, [], ◌∷◌, length, take, sym, subst, ap, ◌∙◌, arith, rules}
-use Rattle.std.specs.Borrow.{Bor}
-use Rattle.serde_json.specs.Data.{Data}
+use Rattle.std.proofs.Common.{◌<◌, length, take, sym, subst, ap, ◌∙◌, arith}
 use Rattle.serde_json.specs.View.{view}
 use Rattle.std.specs.List.{filter_map}
 use Rattle.serde_json.specs.Find.{as_object}

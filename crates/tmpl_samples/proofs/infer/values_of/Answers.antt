@@ -1,4 +1,4 @@
-use Rattle.std.proofs.Common.{◌≡◌, ◌<◌, ◌++◌, List, [], ◌∷◌, length, take, Some, None, option_map, filter_map, sym, ap, ◌∙◌, arith}
+use Rattle.std.proofs.Common.{◌<◌, length, take, option_map, filter_map, sym, ap, ◌∙◌, arith}
 use Rattle.serde_json.specs.Find.{get_member}
 use Rattle.serde_json.specs.View.{view, members_view}
 use Rattle.serde_json.proofs.Views.{view-lookup}
