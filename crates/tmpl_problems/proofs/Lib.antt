@@ -1,0 +1,4 @@
+pub mod ProgressLemmas
+pub mod SignLemmas
+pub mod StepLemmas
+pub mod TokenLemmas

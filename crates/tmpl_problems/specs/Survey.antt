@@ -1,0 +1,108 @@
+-- What is suspicious in a file, though it is not refused for it, and the templates that it defines and calls: our own rules.
+use Rattle.std.specs.Prelude.{◌≡◌, ℕ, ◌+◌, Bool, true, false, List, [], ◌∷◌, ◌++◌, codes, string_bytes, All}
+use Rattle.std.specs.Prelude.{Option, None, option_map, if◌then◌else◌}
+use Rattle.std.specs.List.{AllZip, enumerate_from, filter_map, list_any}
+use Rattle.tmpl_lex.specs.Begin.{BeginsAt}
+use Rattle.tmpl_lex.specs.Cut.{Cuts}
+use Rattle.tmpl_lex.specs.Piece.{Token, Piece, text, action, unreadable}
+use Rattle.tmpl_lex.specs.Place.{StandsAt}
+use Rattle.tmpl_refusals.specs.Column.{IsPlace}
+use Rattle.tmpl_refusals.specs.declared.place.Place.{Place}
+use Rattle.tmpl_problems.specs.Sign.{first_sign}
+use Rattle.tmpl_problems.specs.Tokens.{name_after}
+use Rattle.tmpl_problems.specs.declared.survey.Named.{Named}
+use Rattle.tmpl_problems.specs.declared.survey.Warning.{Warning}
+
+-- ---- what is found in a file
+
+-- the tokens of a piece, if it is an action that can be read
+abbrev pub tokens_in : Piece → List Token
+tokens_in (action line ts) = ts
+tokens_in other = []
+
+abbrev pub is_unreadable : Piece → Bool
+is_unreadable (unreadable line) = true
+is_unreadable other = false
+
+-- the pieces before one that can't be read
+abbrev pub readable : List Piece → List Piece
+readable [] = []
+readable (p ∷ ps) = if is_unreadable p then [] else p ∷ readable ps
+
+-- what is found in a file is, in order, what these things of its pieces make; where one of them can't be read, what those
+-- before it have comes first, and of what is found beyond no more is said than that it is at places of the file
+pub record Tells {A B : Type 0} (things : List Piece → List A) (Makes : A → B → Type 0) (place : B → Place)
+    (file : List ℕ) (found : List B) : Type 0 where
+  pub pieces : List Piece
+  pub cut : Cuts false 1 file pieces
+  pub front : List B
+  pub beyond : List B
+  pub parts : found ≡ front ++ beyond
+  pub told : AllZip Makes (things (readable pieces)) front
+  pub placed : All (λ b. IsPlace file (place b)) beyond
+  pub all : list_any is_unreadable pieces ≡ false → beyond ≡ []
+
+-- ---- the templates of a file
+
+abbrev pub definers : List (List ℕ)
+definers = codes "define" ∷ codes "block" ∷ []
+
+abbrev pub callers : List (List ℕ)
+callers = codes "template" ∷ codes "block" ∷ []
+
+-- the names that pieces give after one of these words, each with the number of its piece; the first piece has this number
+abbrev pub names_from : List (List ℕ) → ℕ → List Piece → List (ℕ × List ℕ)
+names_from words first pieces =
+    filter_map (λ p. option_map (λ name. (p.0, name)) (name_after words (tokens_in p.1))) (enumerate_from first pieces)
+
+abbrev pub named_place : Named → Place
+named_place n = record { start = n.start; line = n.line; column = n.column }
+
+-- the name is told where the action begins that gives it
+pub record IsNamed (file : List ℕ) (given : ℕ × List ℕ) (n : Named) : Type 0 where
+  pub name : n.name.now ≡ given.1
+  pub begins : BeginsAt file given.0 n.start
+  pub place : IsPlace file (named_place n)
+
+-- the file defines and calls just these
+abbrev pub Names : List (List ℕ) → List ℕ → List Named → Type 0
+Names words file found = Tells (names_from words 0) (IsNamed file) named_place file found
+
+-- ---- what is suspicious
+
+pub data Suspicion : Type 0 where
+  -- a sign after this many bytes of a text, with what is said of it
+  sign : List ℕ → ℕ × List ℕ → Suspicion
+
+abbrev pub signs_of : Piece → Option Suspicion
+signs_of (text line bytes) = option_map (sign bytes) (first_sign bytes)
+signs_of other = None
+
+abbrev pub suspicious : List Piece → List Suspicion
+suspicious pieces = filter_map signs_of pieces
+
+abbrev pub warned_place : Warning → Place
+warned_place w = record { start = w.start; line = w.line; column = w.column }
+
+-- it is told there: where the sign stands in the text
+abbrev pub IsToldAt : List ℕ → Suspicion → ℕ → Type 0
+IsToldAt file (sign bytes at) start = (begins : ℕ) × StandsAt file begins bytes × (start ≡ begins + at.0)
+
+-- and in these words
+abbrev pub words_of : Suspicion → List ℕ
+words_of (sign bytes at) = at.1
+
+pub record IsWarning (file : List ℕ) (s : Suspicion) (w : Warning) : Type 0 where
+  pub stands : IsToldAt file s w.start
+  pub words : string_bytes w.text ≡ words_of s
+  pub place : IsPlace file (warned_place w)
+
+-- the warnings of a file begin with those of its texts, and each is told at a place of the file
+pub record Warns (file : List ℕ) (found : List Warning) : Type 0 where
+  pub pieces : List Piece
+  pub cut : Cuts false 1 file pieces
+  pub front : List Warning
+  pub beyond : List Warning
+  pub parts : found ≡ front ++ beyond
+  pub told : AllZip (IsWarning file) (suspicious (readable pieces)) front
+  pub placed : All (λ w. IsPlace file (warned_place w)) beyond
