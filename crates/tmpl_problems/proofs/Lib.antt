@@ -2,3 +2,4 @@ pub mod ProgressLemmas
 pub mod SignLemmas
 pub mod StepLemmas
 pub mod TokenLemmas
+pub mod VariableLemmas

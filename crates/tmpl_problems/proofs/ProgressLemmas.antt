@@ -21,13 +21,13 @@ use Rattle.tmpl_lex.specs.declared.piece.Token as held
 use Rattle.tmpl_lex.proofs.CutLemmas.{IsPart, part-is}
 use Rattle.tmpl_refusals.specs.Column.{IsPlace}
 use Rattle.tmpl_refusals.specs.declared.place.Place.{Place}
-use Rattle.tmpl_problems.specs.Survey.{IsNamed, IsWarning, Suspicion, Tells, callers, definers, is_unreadable, named_place, names_from, readable, suspicious, warned_place}
+use Rattle.tmpl_problems.specs.Survey.{IsNamed, IsWarning, Suspicion, Tells, Warns, callers, definers, is_unreadable, named_place, names_from, readable, suspicious, warned_place}
 use Rattle.tmpl_problems.specs.Sign.{first_sign}
-use Rattle.tmpl_problems.specs.computed.Adds.{AddsAfter, AddsSign}
+use Rattle.tmpl_problems.specs.computed.Adds.{AddsAfter, AddsAll, AddsSign}
 use Rattle.tmpl_problems.specs.computed.Follows.{IsRestAfter}
 use Rattle.tmpl_problems.specs.declared.survey.Named.{Named}
 use Rattle.tmpl_problems.specs.declared.survey.Warning.{Warning}
-use Rattle.tmpl_problems.proofs.StepLemmas.{Adds, AddsAll, adds-all, adds-zip, after-adds, after-placed, nothing-adds, names-append, names-text, sign-adds, suspicious-append, suspicious-after}
+use Rattle.tmpl_problems.proofs.StepLemmas.{Adds, adds-all, adds-zip, after-adds, after-placed, nothing-adds, names-append, names-text, sign-adds, suspicious-append, suspicious-after}
 
 -- ---- any rest is cut into some pieces
 
@@ -353,3 +353,16 @@ module _ (file : List ℕ) where
         go true e = let d = is-done pieces so x e in stop-or-past next d.0 d.1
         go false e = subst (λ o. MatchOption o (Done new) (λ r. Progress r new)) (sym (rest-same ts after beyond next e follows))
             (read-on pieces so x e beyond cuts begins-further)
+
+-- at the end variables are warned of
+pub warns-all : (file : List ℕ) (f : Found) (found : List Warning) → Done file f → AddsAll (λ w. IsPlace file (warned_place w)) f.warnings found → Warns file found
+warns-all file f found d a =
+    let b = begins-more (IsWarning file) (λ w. IsPlace file (warned_place w)) (suspicious (readable d.pieces)) f.warnings found d.begun.warnings a in record {
+      pieces = d.pieces;
+      cut = d.cut;
+      front = b.front;
+      beyond = b.beyond;
+      parts = b.parts;
+      told = b.told;
+      placed = b.placed;
+    }

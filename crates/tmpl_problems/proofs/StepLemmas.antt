@@ -21,7 +21,7 @@ use Rattle.tmpl_refusals.specs.Column.{IsPlace}
 use Rattle.tmpl_problems.specs.Survey.{IsNamed, IsWarning, Suspicion, sign, is_unreadable, named_place, names_from, suspicious, tokens_in, warned_place}
 use Rattle.tmpl_problems.specs.Sign.{first_sign}
 use Rattle.tmpl_problems.specs.Tokens.{name_after}
-use Rattle.tmpl_problems.specs.computed.Adds.{AddsAfter, AddsName, AddsSign}
+use Rattle.tmpl_problems.specs.computed.Adds.{AddsAfter, AddsAll, AddsName, AddsSign}
 use Rattle.tmpl_problems.specs.declared.survey.Named.{Named}
 use Rattle.tmpl_problems.specs.declared.survey.Warning.{Warning}
 
@@ -53,12 +53,7 @@ pub adds-zip : {A B : Type 0} (R : A → B → Type 0) (all xs ys : List A) (old
 adds-zip R all xs ys old new e p a =
     subst (λ zs. AllZip R zs new) (sym e) (subst (λ bs. AllZip R (xs ++ ys) bs) (sym a.added) (zip-append R xs old ys a.more p a.told))
 
--- .. and of which no more is said than that it is so
-pub record AddsAll {B : Type 0} (P : B → Type 0) (old new : List B) : Type 0 where
-  pub more : List B
-  pub added : new ≡ old ++ more
-  pub all : All P more
-
+-- .. is so that this holds of each
 pub adds-all : {A B : Type 0} (R : A → B → Type 0) (P : B → Type 0) → ((x : A) (b : B) → R x b → P b) → (xs : List A) (old new : List B) → Adds R xs old new → AddsAll P old new
 adds-all {A = A} {B = B} R P so xs old new a = record { more = a.more; added = a.added; all = by xs a.more a.told }
   where

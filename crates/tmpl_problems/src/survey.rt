@@ -1,14 +1,14 @@
 //! What is suspicious in a file, though it is not refused: names that nothing uses, and texts that look like actions.
 
-ghost use Rattle.std.specs.Prelude.{◌≡◌, ◌≤◌, ◌<◌, ◌+◌, [], ◌∷◌, ◌++◌, ℕ, All, IfOk, IfSome, OnOk, length, map, option_map, string_bytes};
+ghost use Rattle.std.specs.Prelude.{List, ◌≡◌, ◌≤◌, ◌<◌, ◌+◌, [], ◌∷◌, ◌++◌, ℕ, All, IfOk, IfSome, OnOk, length, map, option_map, string_bytes};
 ghost use Rattle.std.specs.Option.{option_copied};
 ghost use Rattle.tmpl_lex.specs.View.{token_of};
 ghost use Rattle.tmpl_lex.specs.Place.{StandsAt};
 ghost use Rattle.tmpl_refusals.specs.Column.{IsPlace};
 ghost use Rattle.tmpl_problems.specs.Sign as sign;
 ghost use Rattle.tmpl_problems.specs.Tokens as token;
-ghost use Rattle.tmpl_problems.specs.Survey.{Names, callers, definers, named_place, warned_place};
-ghost use Rattle.tmpl_problems.specs.computed.Adds.{AddsAfter, AddsName, AddsSign};
+ghost use Rattle.tmpl_problems.specs.Survey.{Names, Warns, callers, definers, named_place, warned_place};
+ghost use Rattle.tmpl_problems.specs.computed.Adds.{AddsAfter, AddsAll, AddsName, AddsSign, ArePlaced};
 
 use crate::definitions::name_after;
 use crate::scan::{place_in, rest_after};
@@ -77,6 +77,7 @@ pub fn survey_file<'b>(
 ) -> Result<Survey<'b>, AllocError>
     ensures defined { IfOk result (λ s. Names definers file.now s.defined.items) }
     ensures called { IfOk result (λ s. Names callers file.now s.called.items) }
+    ensures warnings { IfOk result (λ s. Warns file.now s.warnings.items) }
 {
     let mut surveyor = Surveyor::new(alloc, hash);
     let mut tokens = Vec::new(alloc);
@@ -106,6 +107,7 @@ impl<'b> Surveyor<'b> {
         ensures warnings { result.warnings.items ≡ [] }
         ensures defined { result.defined.items ≡ [] }
         ensures called { result.called.items ≡ [] }
+        ensures variables { (file : List ℕ) → ArePlaced file result.variables.entries }
     {
         Surveyor {
             alloc,
@@ -125,7 +127,9 @@ impl<'b> Surveyor<'b> {
         after: AfterText,
         tokens: &[Token<'b>],
     ) -> Result<Place, AllocError>
-        requires { IsPlace file.now place }
+        requires place { IsPlace file.now place }
+        requires placed { ArePlaced file.now self.old.variables.entries }
+        ensures placed { OnOk result (ArePlaced file.now self.new.variables.entries) }
         ensures warnings { self.new.warnings ≡ self.old.warnings }
         ensures defined { OnOk result (AddsAfter file.now opens definers tokens.now after
             self.old.defined.items self.new.defined.items) }
@@ -149,7 +153,9 @@ impl<'b> Surveyor<'b> {
         opens: usize,
         tokens: &[Token<'b>],
     ) -> Result<Place, AllocError>
-        requires { IsPlace file.now place }
+        requires place { IsPlace file.now place }
+        requires placed { ArePlaced file.now self.old.variables.entries }
+        ensures placed { OnOk result (ArePlaced file.now self.new.variables.entries) }
         ensures warnings { self.new.warnings ≡ self.old.warnings }
         ensures defined { OnOk result (AddsName file.now opens (token.name_after definers (map token_of tokens.now))
             self.old.defined.items self.new.defined.items) }
@@ -170,6 +176,8 @@ impl<'b> Surveyor<'b> {
     fn finish(self) -> Result<Survey<'b>, AllocError>
         ensures defined { IfOk result (λ s. s.defined ≡ self.entry.defined) }
         ensures called { IfOk result (λ s. s.called ≡ self.entry.called) }
+        ensures warnings { (file : List ℕ) → ArePlaced file self.entry.variables.entries → IfOk result (λ s.
+            AddsAll (λ w. IsPlace file (warned_place w)) self.entry.warnings.items s.warnings.items) }
     {
         let Surveyor {
             alloc,
@@ -178,17 +186,46 @@ impl<'b> Surveyor<'b> {
             called,
             variables,
         } = self;
-        for (name, variable) in variables.iter() {
-            if !variable.is_used {
-                warnings.push(warning_at(variable.place, unused_text(alloc, *name)?))?;
-            }
-        }
+        warn_of_unused(alloc, &mut warnings, &variables)?;
         Ok(Survey {
             warnings,
             defined,
             called,
         })
     }
+}
+
+/// Warns of the variables that nothing uses.
+fn warn_of_unused(
+    alloc: Global,
+    warnings: &mut Vec<Warning>,
+    variables: &Variables<'_>,
+) -> Result<(), AllocError>
+    ensures { (file : List ℕ) → ArePlaced file variables.now.entries → OnOk result
+        (AddsAll (λ w. IsPlace file (warned_place w)) warnings.old.items warnings.new.items) }
+{
+    for number in 0..variables.len() {
+        if let Some((name, variable)) = variables.get_index(number) {
+            warn_if_unused(alloc, warnings, *name, *variable)?;
+        }
+    }
+    Ok(())
+}
+
+/// Warns of a variable, if nothing uses it.
+fn warn_if_unused(
+    alloc: Global,
+    warnings: &mut Vec<Warning>,
+    name: &[u8],
+    variable: Variable,
+) -> Result<(), AllocError>
+    ensures { (file : List ℕ) → IsPlace file variable.place → OnOk result
+        (AddsAll (λ w. IsPlace file (warned_place w)) warnings.old.items warnings.new.items) }
+{
+    if !variable.is_used {
+        warnings.push(warning_at(variable.place, unused_text(alloc, name)?))?;
+    }
+    Ok(())
 }
 
 /// Notes what is suspicious in a text that begins there. Says up to where columns were counted.
@@ -261,7 +298,9 @@ fn declare<'b>(
     opens: usize,
     tokens: &[Token<'b>],
 ) -> Result<Place, AllocError>
-    requires { IsPlace file.now place }
+    requires place { IsPlace file.now place }
+    requires placed { ArePlaced file.now variables.old.entries }
+    ensures placed { OnOk result (ArePlaced file.now variables.new.entries) }
     ensures place { IfOk result (λ p. IsPlace file.now p) }
 {
     let names = declared_names(alloc, tokens)?;
@@ -271,29 +310,48 @@ fn declare<'b>(
     let here = place_in(place, file, opens);
     let count = names.len();
     for (index, name) in names.as_slice().iter().enumerate() {
-        let is_used = count == 2 && index == 0;
-        if !variables.contains_key(*name) {
-            variables.insert(
-                *name,
-                Variable {
-                    place: here,
-                    is_used,
-                },
-            )?;
-        }
+        let variable = Variable {
+            place: here,
+            is_used: count == 2 && index == 0,
+        };
+        declare_name(variables, *name, variable)?;
     }
     Ok(here)
 }
 
+/// Notes a variable, unless one of its name is noted.
+fn declare_name<'b>(
+    variables: &mut Variables<'b>,
+    name: &'b [u8],
+    variable: Variable,
+) -> Result<(), AllocError>
+    ensures { (file : List ℕ) → ArePlaced file variables.old.entries → IsPlace file variable.place
+        → OnOk result (ArePlaced file variables.new.entries) }
+{
+    if !variables.contains_key(name) {
+        variables.insert(name, variable)?;
+    }
+    Ok(())
+}
+
 /// Notes the variables that an action uses.
-fn use_variables(variables: &mut Variables<'_>, tokens: &[Token<'_>]) {
+fn use_variables(variables: &mut Variables<'_>, tokens: &[Token<'_>])
+    ensures { (file : List ℕ) → ArePlaced file variables.old.entries → ArePlaced file variables.new.entries }
+{
     let (_, rest) = tokens.split_at(declaration_len(tokens));
     for token in rest {
         if let Some(name) = name_in(token) {
-            if let Some(variable) = variables.get_mut(name) {
-                variable.is_used = true;
-            }
+            use_variable(variables, name);
         }
+    }
+}
+
+/// Notes that the variable of this name is used, if there is one.
+fn use_variable(variables: &mut Variables<'_>, name: &[u8])
+    ensures { (file : List ℕ) → ArePlaced file variables.old.entries → ArePlaced file variables.new.entries }
+{
+    if let Some(variable) = variables.get_mut(name) {
+        variable.is_used = true;
     }
 }
 

@@ -1,12 +1,14 @@
 -- What a part of a file adds to what is found.
 use Rattle.std.specs.Prelude.{◌≡◌, ◌≤◌, ℕ, List, [], ◌∷◌, ◌++◌, length, Option, Some, None, string_bytes}
-use Rattle.std.specs.Prelude.{◌+◌, map}
+use Rattle.std.specs.Prelude.{◌+◌, All, map}
+use Rattle.std.specs.Borrow.{Bor}
 use Rattle.tmpl_lex.specs.View.{token_of}
 use Rattle.tmpl_lex.specs.declared.part.AfterText.{AfterText}
 use Rattle.tmpl_lex.specs.declared.part.AfterText.TheVariants as variant
 use Rattle.tmpl_lex.specs.declared.piece.Token as held
 use Rattle.tmpl_refusals.specs.Column.{IsPlace}
 use Rattle.tmpl_problems.specs.declared.survey.Named.{Named}
+use Rattle.tmpl_problems.specs.declared.survey.Variable.{Variable}
 use Rattle.tmpl_problems.specs.declared.survey.Warning.{Warning}
 use Rattle.tmpl_problems.specs.Survey.{named_place, warned_place}
 use Rattle.tmpl_problems.specs.Tokens.{name_after}
@@ -41,3 +43,13 @@ pub record AddsWarning (file : List ℕ) (start : ℕ) (at : ℕ × List ℕ) (o
 abbrev pub AddsSign : List ℕ → ℕ → Option (ℕ × List ℕ) → List Warning → List Warning → Type 0
 AddsSign file start None old new = new ≡ old
 AddsSign file start (Some at) old new = AddsWarning file start at old new
+
+-- the variables are noted at places of the file
+abbrev pub ArePlaced : List ℕ → List (Bor (List ℕ) × Variable) → Type 0
+ArePlaced file entries = All (λ e. IsPlace file e.1.place) entries
+
+-- more is added, of which this holds
+pub record AddsAll {B : Type 0} (P : B → Type 0) (old new : List B) : Type 0 where
+  pub more : List B
+  pub added : new ≡ old ++ more
+  pub all : All P more
