@@ -4,7 +4,7 @@ use Rattle.std.proofs.Common.{append_assoc, length-append}
 use Rattle.std.specs.List.{AllZip, list_any}
 use Rattle.std.specs.Prelude.{MatchOption, if◌then◌else◌}
 use Rattle.std.proofs.lemmas.List.{append-nil}
-use Rattle.std.proofs.lemmas.List.Elements.{All-append, All-nil}
+use Rattle.std.proofs.lemmas.List.Elements.{All-append, All-nil, All-weaker}
 use Rattle.std.proofs.lemmas.List.Folds.{list_any-append}
 use Rattle.tmpl_lex.specs.Begin.{BeginsAt, BeginsIn, BeginsAfter, BeginsFurther}
 use Rattle.tmpl_lex.specs.Cut.{Cuts}
@@ -21,7 +21,7 @@ use Rattle.tmpl_lex.specs.declared.piece.Token as held
 use Rattle.tmpl_lex.proofs.CutLemmas.{IsPart, part-is}
 use Rattle.tmpl_refusals.specs.Column.{IsPlace}
 use Rattle.tmpl_refusals.specs.declared.place.Place.{Place}
-use Rattle.tmpl_problems.specs.Survey.{IsNamed, IsWarning, Suspicion, Tells, Warns, callers, definers, is_unreadable, named_place, names_from, readable, suspicious, warned_place}
+use Rattle.tmpl_problems.specs.Survey.{IsNamed, IsOfVariable, IsWarning, Suspicion, Tells, Warns, callers, definers, is_unreadable, named_place, names_from, readable, suspicious, warned_place}
 use Rattle.tmpl_problems.specs.Sign.{first_sign}
 use Rattle.tmpl_problems.specs.computed.Adds.{AddsAfter, AddsAll, AddsSign}
 use Rattle.tmpl_problems.specs.computed.Follows.{IsRestAfter}
@@ -355,14 +355,36 @@ module _ (file : List ℕ) where
             (read-on pieces so x e beyond cuts begins-further)
 
 -- at the end variables are warned of
-pub warns-all : (file : List ℕ) (f : Found) (found : List Warning) → Done file f → AddsAll (λ w. IsPlace file (warned_place w)) f.warnings found → Warns file found
-warns-all file f found d a =
-    let b = begins-more (IsWarning file) (λ w. IsPlace file (warned_place w)) (suspicious (readable d.pieces)) f.warnings found d.begun.warnings a in record {
+pub warns-all : (file : List ℕ) (f : Found) (found : List Warning) → Done file f → AddsAll (IsOfVariable file) f.warnings found → Warns file found
+warns-all file f found d a = go (list_any is_unreadable d.pieces) refl
+  where
+    placed : AddsAll (λ w. IsPlace file (warned_place w)) f.warnings found
+    placed = record {
+      more = a.more;
+      added = a.added;
+      all = All-weaker (IsOfVariable file) (λ w. IsPlace file (warned_place w)) (λ w is. is.place) a.more a.all;
+    }
+
+    go : (b : Bool) → list_any is_unreadable d.pieces ≡ b → Warns file found
+    go true e =
+        let b = begins-more (IsWarning file) (λ w. IsPlace file (warned_place w)) (suspicious (readable d.pieces)) f.warnings found d.begun.warnings placed in
+        record {
+          pieces = d.pieces;
+          cut = d.cut;
+          front = b.front;
+          beyond = b.beyond;
+          parts = b.parts;
+          told = b.told;
+          placed = b.placed;
+          variables = λ f. absurd (let both = sym e ∙ f in cc);
+        }
+    go false e = record {
       pieces = d.pieces;
       cut = d.cut;
-      front = b.front;
-      beyond = b.beyond;
-      parts = b.parts;
-      told = b.told;
-      placed = b.placed;
+      front = f.warnings;
+      beyond = a.more;
+      parts = a.added;
+      told = subst (λ ps. AllZip (IsWarning file) (suspicious ps) f.warnings) (sym (readable-all d.pieces e)) (d.exact e).warnings;
+      placed = placed.all;
+      variables = λ same. a.all;
     }

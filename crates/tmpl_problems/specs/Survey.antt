@@ -9,7 +9,7 @@ use Rattle.tmpl_lex.specs.Place.{StandsAt}
 use Rattle.tmpl_refusals.specs.Column.{IsPlace}
 use Rattle.tmpl_refusals.specs.declared.place.Place.{Place}
 use Rattle.tmpl_problems.specs.Sign.{first_sign}
-use Rattle.tmpl_problems.specs.Tokens.{name_after}
+use Rattle.tmpl_problems.specs.Tokens.{name_after, unused_words}
 use Rattle.tmpl_problems.specs.declared.survey.Named.{Named}
 use Rattle.tmpl_problems.specs.declared.survey.Warning.{Warning}
 
@@ -97,7 +97,14 @@ pub record IsWarning (file : List ℕ) (s : Suspicion) (w : Warning) : Type 0 wh
   pub words : string_bytes w.text ≡ words_of s
   pub place : IsPlace file (warned_place w)
 
--- the warnings of a file begin with those of its texts, and each is told at a place of the file
+-- a warning that nothing uses a variable of some name, at a place of the file
+pub record IsOfVariable (file : List ℕ) (w : Warning) : Type 0 where
+  pub name : List ℕ
+  pub words : string_bytes w.text ≡ unused_words name
+  pub place : IsPlace file (warned_place w)
+
+-- the warnings of a file are those of its texts, in order, and then others at places of the file: where all its pieces can be
+-- read, those others are of variables
 pub record Warns (file : List ℕ) (found : List Warning) : Type 0 where
   pub pieces : List Piece
   pub cut : Cuts false 1 file pieces
@@ -106,3 +113,4 @@ pub record Warns (file : List ℕ) (found : List Warning) : Type 0 where
   pub parts : found ≡ front ++ beyond
   pub told : AllZip (IsWarning file) (suspicious (readable pieces)) front
   pub placed : All (λ w. IsPlace file (warned_place w)) beyond
+  pub variables : list_any is_unreadable pieces ≡ false → All (IsOfVariable file) beyond

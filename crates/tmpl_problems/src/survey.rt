@@ -7,7 +7,7 @@ ghost use Rattle.tmpl_lex.specs.Place.{StandsAt};
 ghost use Rattle.tmpl_refusals.specs.Column.{IsPlace};
 ghost use Rattle.tmpl_problems.specs.Sign as sign;
 ghost use Rattle.tmpl_problems.specs.Tokens as token;
-ghost use Rattle.tmpl_problems.specs.Survey.{Names, Warns, callers, definers, named_place, warned_place};
+ghost use Rattle.tmpl_problems.specs.Survey.{IsOfVariable, Names, Warns, callers, definers, named_place, warned_place};
 ghost use Rattle.tmpl_problems.specs.computed.Adds.{AddsAfter, AddsAll, AddsName, AddsSign, ArePlaced};
 
 use crate::definitions::name_after;
@@ -177,7 +177,7 @@ impl<'b> Surveyor<'b> {
         ensures defined { IfOk result (λ s. s.defined ≡ self.entry.defined) }
         ensures called { IfOk result (λ s. s.called ≡ self.entry.called) }
         ensures warnings { (file : List ℕ) → ArePlaced file self.entry.variables.entries → IfOk result (λ s.
-            AddsAll (λ w. IsPlace file (warned_place w)) self.entry.warnings.items s.warnings.items) }
+            AddsAll (IsOfVariable file) self.entry.warnings.items s.warnings.items) }
     {
         let Surveyor {
             alloc,
@@ -202,7 +202,7 @@ fn warn_of_unused(
     variables: &Variables<'_>,
 ) -> Result<(), AllocError>
     ensures { (file : List ℕ) → ArePlaced file variables.now.entries → OnOk result
-        (AddsAll (λ w. IsPlace file (warned_place w)) warnings.old.items warnings.new.items) }
+        (AddsAll (IsOfVariable file) warnings.old.items warnings.new.items) }
 {
     for number in 0..variables.len() {
         if let Some((name, variable)) = variables.get_index(number) {
@@ -220,7 +220,7 @@ fn warn_if_unused(
     variable: Variable,
 ) -> Result<(), AllocError>
     ensures { (file : List ℕ) → IsPlace file variable.place → OnOk result
-        (AddsAll (λ w. IsPlace file (warned_place w)) warnings.old.items warnings.new.items) }
+        (AddsAll (IsOfVariable file) warnings.old.items warnings.new.items) }
 {
     if !variable.is_used {
         warnings.push(warning_at(variable.place, unused_text(alloc, name)?))?;

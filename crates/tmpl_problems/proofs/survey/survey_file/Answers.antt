@@ -1,7 +1,6 @@
 use Rattle.std.proofs.Common.{◌≡◌, ap, sym, subst, Option, Some, None}
 use Rattle.std.proofs.lemmas.Result.{IfOk-weaker}
-use Rattle.tmpl_problems.specs.Survey.{Names, Warns, IsNamed, callers, definers, named_place, names_from, warned_place}
-use Rattle.tmpl_refusals.specs.Column.{IsPlace}
+use Rattle.tmpl_problems.specs.Survey.{Names, Warns, IsNamed, IsOfVariable, callers, definers, named_place, names_from}
 use Rattle.tmpl_problems.specs.Sign.{first_sign}
 use Rattle.tmpl_problems.specs.computed.Adds.{AddsAfter, AddsAll, AddsSign}
 use Rattle.tmpl_problems.proofs.ProgressLemmas.{Done, Found, progress-begins, progress-more, tells, warns-all}
@@ -87,5 +86,5 @@ returns-in-None-clause-warnings c =
     (subst (λ ts. AddsAfter file part.opens callers ts part.after old.called new.called) c.as_slice.ensures.value told.called)
     c.loop-tokens.invariant.found in
     IfOk-weaker c.finish.result
-    (λ s. AddsAll (λ w. IsPlace file (warned_place w)) c.pass_after.new.self.warnings.items s.warnings.items)
+    (λ s. AddsAll (IsOfVariable file) c.pass_after.new.self.warnings.items s.warnings.items)
     (λ s. Warns file s.warnings.items) (λ s more. warns-all file new s.warnings.items d more) (c.finish.ensures.warnings file told.placed)
