@@ -1,5 +1,5 @@
 -- For `survey_file`: what is found so far, from part to part.
-use Rattle.std.proofs.Common.{arith, ◌≡◌, ◌∙◌, ◌≤◌, ◌<◌, ◌+◌, ℕ, ◌-◌, zero, suc, Bool, true, false, ◌||◌, List, [], ◌∷◌, ◌++◌, Option, Some, None, All, refl, sym, ap, subst, length, map}
+use Rattle.std.proofs.Common.{arith, ◌≡◌, ◌∙◌, ◌<◌, ◌+◌, ℕ, ◌-◌, zero, suc, Bool, true, false, ◌||◌, List, [], ◌∷◌, ◌++◌, Option, Some, None, All, refl, sym, ap, subst, length}
 use Rattle.std.proofs.Common.{append_assoc, length-append}
 use Rattle.std.specs.List.{AllZip, list_any}
 use Rattle.std.specs.Prelude.{MatchOption, if◌then◌else◌}
@@ -21,7 +21,7 @@ use Rattle.tmpl_lex.specs.declared.piece.Token as held
 use Rattle.tmpl_lex.proofs.CutLemmas.{IsPart, part-is}
 use Rattle.tmpl_refusals.specs.Column.{IsPlace}
 use Rattle.tmpl_refusals.specs.declared.place.Place.{Place}
-use Rattle.tmpl_problems.specs.Survey.{IsNamed, IsOfVariable, IsWarning, Suspicion, Tells, Warns, callers, definers, is_unreadable, named_place, names_from, readable, suspicious, warned_place}
+use Rattle.tmpl_problems.specs.Survey.{IsNamed, IsOfVariable, IsWarning, Tells, Warns, callers, definers, is_unreadable, named_place, names_from, readable, suspicious, warned_place}
 use Rattle.tmpl_problems.specs.Sign.{first_sign}
 use Rattle.tmpl_problems.specs.computed.Adds.{AddsAfter, AddsAll, AddsSign}
 use Rattle.tmpl_problems.specs.computed.Follows.{IsRestAfter}

@@ -1,15 +1,13 @@
 -- What one part of a file adds to what is found.
-use Rattle.std.proofs.Common.{arith, ◌≡◌, ◌∙◌, ◌≤◌, ◌<◌, ◌+◌, ℕ, Bool, true, false, List, [], ◌∷◌, ◌++◌, Option, Some, None, All, refl, sym, ap, subst, length, map}
-use Rattle.std.proofs.Common.{append_assoc, length-append}
-use Rattle.std.specs.List.{AllZip, cons_option, enumerate_from, filter_map, list_any}
-use Rattle.std.specs.Option.{option_map, option_to_list}
+use Rattle.std.proofs.Common.{arith, ◌≡◌, ◌∙◌, ◌≤◌, ◌<◌, ◌+◌, ℕ, List, [], ◌∷◌, ◌++◌, Option, Some, None, All, refl, sym, ap, subst, length, map}
+use Rattle.std.proofs.Common.{length-append}
+use Rattle.std.specs.List.{AllZip, cons_option, enumerate_from, filter_map}
+use Rattle.std.specs.Option.{option_map}
 use Rattle.std.proofs.lemmas.List.{append-nil}
-use Rattle.std.proofs.lemmas.List.Elements.{All-append, All-cons, All-nil, filter_map-append}
-use Rattle.std.proofs.lemmas.List.Folds.{list_any-append}
+use Rattle.std.proofs.lemmas.List.Elements.{All-cons, All-nil, filter_map-append}
 use Rattle.tmpl_lex.specs.Begin.{BeginsAt}
 use Rattle.tmpl_lex.specs.Part.{pieces_after}
-use Rattle.tmpl_lex.specs.Piece.{Piece, action, unreadable}
-use Rattle.tmpl_lex.specs.Piece as piece
+use Rattle.tmpl_lex.specs.Piece.{Piece}
 use Rattle.tmpl_lex.specs.Place.{StandsAt}
 use Rattle.tmpl_lex.specs.Text.{text_piece}
 use Rattle.tmpl_lex.specs.View.{token_of}
@@ -18,7 +16,7 @@ use Rattle.tmpl_lex.specs.declared.part.AfterText.TheVariants as variant
 use Rattle.tmpl_lex.specs.declared.piece.Token as held
 use Rattle.tmpl_refusals.proofs.LocateLemmas.{begins-within}
 use Rattle.tmpl_refusals.specs.Column.{IsPlace}
-use Rattle.tmpl_problems.specs.Survey.{IsNamed, IsWarning, Suspicion, sign, is_unreadable, named_place, names_from, suspicious, tokens_in, warned_place}
+use Rattle.tmpl_problems.specs.Survey.{IsNamed, IsWarning, named_place, names_from, suspicious, tokens_in}
 use Rattle.tmpl_problems.specs.Sign.{first_sign}
 use Rattle.tmpl_problems.specs.Tokens.{name_after}
 use Rattle.tmpl_problems.specs.computed.Adds.{AddsAfter, AddsAll, AddsName, AddsSign}
@@ -113,7 +111,7 @@ module _ (file : List ℕ) (opens : ℕ) (old new : List Named) where
 pub suspicious-append : (ps qs : List Piece) → suspicious (ps ++ qs) ≡ suspicious ps ++ suspicious qs
 suspicious-append ps qs = filter_map-append _ ps qs
 
-pub suspicious-text : (line : ℕ) (bytes : List ℕ) → suspicious (text_piece line bytes) ≡ cons_option (option_map (sign bytes) (first_sign bytes)) []
+pub suspicious-text : (line : ℕ) (bytes : List ℕ) → suspicious (text_piece line bytes) ≡ cons_option (option_map (λ (s : ℕ × List ℕ). (bytes, s.0, s.1)) (first_sign bytes)) []
 suspicious-text line [] = refl
 suspicious-text line (b ∷ bytes) = refl
 
@@ -126,10 +124,10 @@ pub sign-adds : (file : List ℕ) (start line : ℕ) (bytes : List ℕ) (old new
     → Adds (IsWarning file) (suspicious (text_piece line bytes)) old new
 sign-adds file start line bytes old new stands a = subst (λ xs. Adds (IsWarning file) xs old new) (sym (suspicious-text line bytes)) (by (first_sign bytes) a)
   where
-    by : (o : Option (ℕ × List ℕ)) → AddsSign file start o old new → Adds (IsWarning file) (cons_option (option_map (sign bytes) o) []) old new
+    by : (o : Option (ℕ × List ℕ)) → AddsSign file start o old new → Adds (IsWarning file) (cons_option (option_map (λ (s : ℕ × List ℕ). (bytes, s.0, s.1)) o) []) old new
     by None a = record { more = []; added = a ∙ sym (append-nil old); told = tt }
     by (Some at) a = record {
       more = a.one ∷ [];
       added = a.added;
-      told = (record { stands = (start, stands, a.start_is); words = a.words; place = a.place }, tt);
+      told = (record { begins = start; stands = stands; start = a.start_is; words = a.words; place = a.place }, tt);
     }

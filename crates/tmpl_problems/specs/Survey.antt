@@ -1,4 +1,5 @@
--- What is suspicious in a file, though it is not refused for it, and the templates that it defines and calls: our own rules.
+-- What is suspicious in a file that may be accepted all the same, and the templates that it defines and calls: our own
+-- rules.
 use Rattle.std.specs.Prelude.{◌≡◌, ℕ, ◌+◌, Bool, true, false, List, [], ◌∷◌, ◌++◌, codes, string_bytes, All}
 use Rattle.std.specs.Prelude.{Option, None, option_map, if◌then◌else◌}
 use Rattle.std.specs.List.{AllZip, enumerate_from, filter_map, list_any}
@@ -29,8 +30,8 @@ abbrev pub readable : List Piece → List Piece
 readable [] = []
 readable (p ∷ ps) = if is_unreadable p then [] else p ∷ readable ps
 
--- what is found in a file is, in order, what these things of its pieces make; where one of them can't be read, what those
--- before it have comes first, and of what is found beyond no more is said than that it is at places of the file
+-- what is found in a file is made, in order, of these things in its pieces; where one of them can't be read, of those
+-- before it at first, and of what is found beyond no more is said than that it is at places of the file
 pub record Tells {A B : Type 0} (things : List Piece → List A) (Makes : A → B → Type 0) (place : B → Place)
     (file : List ℕ) (found : List B) : Type 0 where
   pub pieces : List Piece
@@ -50,7 +51,7 @@ definers = codes "define" ∷ codes "block" ∷ []
 abbrev pub callers : List (List ℕ)
 callers = codes "template" ∷ codes "block" ∷ []
 
--- the names that pieces give after one of these words, each with the number of its piece; the first piece has this number
+-- the names that pieces give after one of these words, each with the number of its piece, where the first has this one
 abbrev pub names_from : List (List ℕ) → ℕ → List Piece → List (ℕ × List ℕ)
 names_from words first pieces =
     filter_map (λ p. option_map (λ name. (p.0, name)) (name_after words (tokens_in p.1))) (enumerate_from first pieces)
@@ -70,31 +71,23 @@ Names words file found = Tells (names_from words 0) (IsNamed file) named_place f
 
 -- ---- what is suspicious
 
-pub data Suspicion : Type 0 where
-  -- a sign after this many bytes of a text, with what is said of it
-  sign : List ℕ → ℕ × List ℕ → Suspicion
+-- the texts among pieces that have a sign, each with its first one
+abbrev pub sign_of : Piece → Option (List ℕ × ℕ × List ℕ)
+sign_of (text line bytes) = option_map (λ sign. (bytes, sign.0, sign.1)) (first_sign bytes)
+sign_of other = None
 
-abbrev pub signs_of : Piece → Option Suspicion
-signs_of (text line bytes) = option_map (sign bytes) (first_sign bytes)
-signs_of other = None
-
-abbrev pub suspicious : List Piece → List Suspicion
-suspicious pieces = filter_map signs_of pieces
+abbrev pub suspicious : List Piece → List (List ℕ × ℕ × List ℕ)
+suspicious pieces = filter_map sign_of pieces
 
 abbrev pub warned_place : Warning → Place
 warned_place w = record { start = w.start; line = w.line; column = w.column }
 
--- it is told there: where the sign stands in the text
-abbrev pub IsToldAt : List ℕ → Suspicion → ℕ → Type 0
-IsToldAt file (sign bytes at) start = (begins : ℕ) × StandsAt file begins bytes × (start ≡ begins + at.0)
-
--- and in these words
-abbrev pub words_of : Suspicion → List ℕ
-words_of (sign bytes at) = at.1
-
-pub record IsWarning (file : List ℕ) (s : Suspicion) (w : Warning) : Type 0 where
-  pub stands : IsToldAt file s w.start
-  pub words : string_bytes w.text ≡ words_of s
+-- a sign after this many bytes of a text is told in its words, where it stands in the file
+pub record IsWarning (file : List ℕ) (sign : List ℕ × ℕ × List ℕ) (w : Warning) : Type 0 where
+  pub begins : ℕ
+  pub stands : StandsAt file begins sign.0
+  pub start : w.start ≡ begins + sign.1
+  pub words : string_bytes w.text ≡ sign.2
   pub place : IsPlace file (warned_place w)
 
 -- a warning that nothing uses a variable of some name, at a place of the file
@@ -103,8 +96,8 @@ pub record IsOfVariable (file : List ℕ) (w : Warning) : Type 0 where
   pub words : string_bytes w.text ≡ unused_words name
   pub place : IsPlace file (warned_place w)
 
--- the warnings of a file are those of its texts, in order, and then others at places of the file: where all its pieces can be
--- read, those others are of variables
+-- the warnings of a file are those of its texts, in order, and then others at places of the file, which are of
+-- variables where all its pieces can be read
 pub record Warns (file : List ℕ) (found : List Warning) : Type 0 where
   pub pieces : List Piece
   pub cut : Cuts false 1 file pieces

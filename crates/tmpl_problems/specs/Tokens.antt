@@ -21,13 +21,15 @@ is_quoted other = false
 abbrev pub quoted_name : Token → Option (List ℕ)
 quoted_name t =
     let name = take (length t.bytes - 2) (drop 1 t.bytes) in
-    if is_quoted t.kind && nat_le 2 (length t.bytes) && not (list_any (λ b. b == byte "\\") name) then Some name else None
+    if is_quoted t.kind && nat_le 2 (length t.bytes) && not (list_any (λ b. b == byte "\\") name) then Some name
+    else None
 
 -- the name that stands second in an action which begins with one of these words; white space does not count
 abbrev pub name_after : List (List ℕ) → List Token → Option (List ℕ)
 name_after words ts =
     let tokens = filter (λ (t : Token). not (is_blank t.kind)) ts in
-    option_and_then (λ first. if is_among words first.bytes then option_and_then quoted_name (slice_get tokens 1) else None)
+    option_and_then
+    (λ first. if is_among words first.bytes then option_and_then quoted_name (slice_get tokens 1) else None)
     (slice_get tokens 0)
 
 -- ---- variables
@@ -39,8 +41,8 @@ is_variable other = false
 
 abbrev pub variable_name : Token → Option (List ℕ)
 variable_name t =
-    if is_variable t.kind && starts_with nat_eq t.bytes (codes "$") && nat_lt 1 (length t.bytes) then Some (drop 1 t.bytes)
-    else None
+    if is_variable t.kind && starts_with nat_eq t.bytes (codes "$") && nat_lt 1 (length t.bytes)
+    then Some (drop 1 t.bytes) else None
 
 abbrev pub names_of : List Token → List (List ℕ)
 names_of ts = filter_map variable_name ts

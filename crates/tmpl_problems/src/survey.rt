@@ -1,6 +1,7 @@
 //! What is suspicious in a file, though it is not refused: names that nothing uses, and texts that look like actions.
 
-ghost use Rattle.std.specs.Prelude.{List, ◌≡◌, ◌≤◌, ◌<◌, ◌+◌, [], ◌∷◌, ◌++◌, ℕ, All, IfOk, IfSome, OnOk, length, map, option_map, string_bytes};
+ghost use Rattle.std.specs.Prelude.{◌≡◌, ◌≤◌, ◌<◌, ℕ, List, [], All, IfOk, IfSome, OnOk};
+ghost use Rattle.std.specs.Prelude.{length, map, option_map, string_bytes};
 ghost use Rattle.std.specs.Option.{option_copied};
 ghost use Rattle.tmpl_lex.specs.View.{token_of};
 ghost use Rattle.tmpl_lex.specs.Place.{StandsAt};

@@ -1,6 +1,5 @@
 -- What a part of a file adds to what is found.
-use Rattle.std.specs.Prelude.{◌≡◌, ◌≤◌, ℕ, List, [], ◌∷◌, ◌++◌, length, Option, Some, None, string_bytes}
-use Rattle.std.specs.Prelude.{◌+◌, All, map}
+use Rattle.std.specs.Prelude.{◌≡◌, ◌≤◌, ◌+◌, ℕ, List, [], ◌∷◌, ◌++◌, length, map, Option, Some, None, string_bytes, All}
 use Rattle.std.specs.Borrow.{Bor}
 use Rattle.tmpl_lex.specs.View.{token_of}
 use Rattle.tmpl_lex.specs.declared.part.AfterText.{AfterText}
@@ -29,8 +28,7 @@ AddsName file opens (Some name) old new = AddsOne file opens name old new
 -- .. that the action after a text gives after one of these words
 abbrev pub AddsAfter : List ℕ → ℕ → List (List ℕ) → List held.Token → AfterText → List Named → List Named → Type 0
 AddsAfter file opens words ts variant.Nothing old new = new ≡ old
-AddsAfter file opens words ts (variant.Action line) old new = AddsName file opens (name_after words (map token_of ts)) old new
-AddsAfter file opens words ts (variant.Unreadable line) old new = AddsName file opens (name_after words (map token_of ts)) old new
+AddsAfter file opens words ts other old new = AddsName file opens (name_after words (map token_of ts)) old new
 
 -- a warning of a sign is added, told there
 pub record AddsWarning (file : List ℕ) (start : ℕ) (at : ℕ × List ℕ) (old new : List Warning) : Type 0 where

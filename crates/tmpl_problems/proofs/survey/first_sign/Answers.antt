@@ -1,4 +1,4 @@
-use Rattle.std.proofs.Common.{◌≡◌, ◌∙◌, sym, ap, ℕ, List, Some, None, arith}
+use Rattle.std.proofs.Common.{sym, ap, ℕ, List, arith}
 use Rattle.std.specs.Option.{option_map}
 use Rattle.tmpl_problems.specs.Sign.{sign_at}
 use Rattle.tmpl_problems.proofs.SignLemmas.{none-more, found-first}

@@ -1,4 +1,4 @@
-use Rattle.std.proofs.Common.{arith, ◌≡◌, ◌≤◌, ◌∙◌, ◌+◌, ap, sym, subst, length, length-append, ◌++◌}
+use Rattle.std.proofs.Common.{arith, ◌≤◌, ◌∙◌, ◌+◌, ap, subst, length}
 use Rattle.tmpl_problems.specs.computed.Adds.{AddsSign}
 use Rattle.tmpl_problems.proofs.StepLemmas.{stands-within}
 use Rattle.tmpl_problems.proofs.survey.pass_text.Goals as goal

@@ -1,4 +1,4 @@
-use Rattle.std.proofs.Common.{◌≡◌, ap, sym, subst, Option, Some, None}
+use Rattle.std.proofs.Common.{◌≡◌, sym, subst, Some, None}
 use Rattle.std.proofs.lemmas.Result.{IfOk-weaker}
 use Rattle.tmpl_problems.specs.Survey.{Names, Warns, IsNamed, IsOfVariable, callers, definers, named_place, names_from}
 use Rattle.tmpl_problems.specs.Sign.{first_sign}

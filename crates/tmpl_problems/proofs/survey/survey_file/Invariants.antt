@@ -2,7 +2,7 @@ use Rattle.std.proofs.Common.{length}
 use Rattle.tmpl_lex.specs.Part.{IsLeft}
 use Rattle.tmpl_refusals.specs.Column.{IsPlace}
 use Rattle.tmpl_problems.specs.computed.Adds.{ArePlaced}
-use Rattle.tmpl_problems.proofs.ProgressLemmas.{Found, Progress}
+use Rattle.tmpl_problems.proofs.ProgressLemmas.{Progress}
 use Rattle.tmpl_problems.proofs.survey.survey_file.Given as goal
 
 abbrev pub invariant-loop-tokens : goal.invariant-loop-tokens

@@ -3,7 +3,6 @@ use Rattle.tmpl_refusals.specs.Column.{IsPlace}
 use Rattle.tmpl_problems.specs.Survey.{IsOfVariable}
 use Rattle.tmpl_problems.specs.computed.Adds.{AddsAll}
 use Rattle.tmpl_problems.specs.declared.survey.Variable.{Variable}
-use Rattle.tmpl_problems.specs.declared.survey.Warning.{Warning}
 use Rattle.tmpl_problems.proofs.VariableLemmas.{adds-both, get-all}
 use Rattle.tmpl_problems.proofs.survey.warn_of_unused.Goals as goal
 use Rattle.tmpl_problems.proofs.survey.warn_of_unused.Goals.{in-Some+in_ok-warn_if_unused, in_default}

@@ -1,5 +1,4 @@
-use Rattle.std.proofs.Common.{rules, tests, ◌≡◌, ◌∙◌, ap, sym, ℕ, Option, Some, None, map}
-use Rattle.std.specs.List.{position}
+use Rattle.std.proofs.Common.{rules, tests, ◌∙◌, ap, sym}
 use Rattle.std.specs.Option.{unwrap_or}
 use Rattle.std.proofs.lemmas.Iterator.{YieldsList-from_slice}
 use Rattle.std.proofs.lemmas.Iterator.Search.{position_from_yields_List}
