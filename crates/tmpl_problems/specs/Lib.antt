@@ -1,3 +1,7 @@
 pub mod Checked
 pub mod Line
+pub mod Sign
+pub mod Survey
+pub mod Tokens
 pub mod Words
+pub mod computed

@@ -1,6 +1,12 @@
 //! The templates that a file defines and calls, by the tokens of its actions.
-ghost use Rattle.std.specs.Prelude.{◌≡◌, IfOk};
+ghost use Rattle.std.specs.Prelude.{◌≡◌, ◌==◌, IfOk, map};
+ghost use Rattle.std.specs.List.{list_any};
+ghost use Rattle.std.specs.Option.{option_copied};
+ghost use Rattle.std.specs.Str.{byte};
+ghost use Rattle.tmpl_lex.specs.View.{token_of};
+ghost use Rattle.tmpl_hints.specs.Action as action;
 ghost use Rattle.tmpl_refusals.specs.Column.{IsPlace};
+ghost use Rattle.tmpl_problems.specs.Tokens as spec;
 
 use crate::scan::place_in;
 use indexmap::IndexMap;
@@ -10,16 +16,42 @@ use tmpl_lex::{Rest, Token, TokenKind, first_part};
 use tmpl_refusals::Place;
 use tmpl_syntax::{NameHash, base_name};
 
-/// The name in quotes that stands second in an action which begins with this word; none where it has a backslash.
-pub(crate) fn name_after<'b>(tokens: &[Token<'b>], words: &[&[u8]]) -> Option<&'b [u8]> {
+/// The name in quotes that stands second in an action which begins with one of these words; none where it has a
+/// backslash.
+pub(crate) fn name_after<'b>(tokens: &[Token<'b>], words: &[&[u8]]) -> Option<&'b [u8]>
+    ensures { option_copied result ≡ spec.name_after (map (λ word. word.now) words.now) (map token_of tokens.now) }
+{
     let first = significant(tokens, 0)?;
-    let second = significant(tokens, 1)?;
-    let begins = words.iter().any(|word| *word == first.bytes);
-    match (second.kind, second.bytes) {
-        (TokenKind::String | TokenKind::RawString, [_, name @ .., _])
-            if begins && !name.contains(&b'\\') => { Some(name) }
+    if !is_among(words, first.bytes) {
+        return None;
+    }
+    quoted_name(significant(tokens, 1)?)
+}
+
+/// Whether a word is among these.
+fn is_among(words: &[&[u8]], word: &[u8]) -> bool
+    ensures { result ≡ action.is_among (map (λ other. other.now) words.now) word.now }
+{
+    words.iter().any(|other| *other == word)
+}
+
+/// The name in a token in quotes, if it has no backslash.
+fn quoted_name<'b>(token: Token<'b>) -> Option<&'b [u8]>
+    ensures { option_copied result ≡ spec.quoted_name (token_of token.entry) }
+{
+    match (token.kind, token.bytes) {
+        (TokenKind::String | TokenKind::RawString, [_, name @ .., _]) if !has_backslash(name) => {
+            Some(name)
+        }
         _ => None,
     }
+}
+
+/// Whether a backslash is among the bytes.
+fn has_backslash(bytes: &[u8]) -> bool
+    ensures { result ≡ list_any (λ b. b == byte "\\") bytes.now }
+{
+    bytes.contains(&b'\\')
 }
 
 /// A second definition: where it is, and what is said of it.

@@ -2,6 +2,7 @@
 ghost use Rattle.std.specs.Prelude.{◌≡◌, ◌≤◌, ◌<◌, ◌+◌, length};
 ghost use Rattle.tmpl_lex.specs.Part.{IsLeft, IsLeftAfter};
 ghost use Rattle.tmpl_refusals.specs.Column.{IsPlace};
+ghost use Rattle.tmpl_problems.specs.computed.Follows.{IsRestAfter};
 
 use tmpl_hints::opens_comment;
 use tmpl_lex::{AfterText, Part, Rest};
@@ -10,7 +11,8 @@ use tmpl_refusals::Place;
 /// The place of this byte of a file, or of its end if it has fewer.
 pub(crate) fn place_in(place: Place, file: &[u8], start: usize) -> Place
     requires { IsPlace file.now place }
-    ensures { IsPlace file.now result }
+    ensures start { start ≤ length file.now → result.start ≡ start }
+    ensures place { IsPlace file.now result }
 {
     place.at(file, start.min(file.len()))
 }
@@ -20,7 +22,8 @@ pub(crate) fn place_in(place: Place, file: &[u8], start: usize) -> Place
 pub(crate) fn rest_after<'b>(file: &'b [u8], rest: Rest<'b>, part: Part<'b>) -> Option<Rest<'b>>
     requires left { IsLeft file.now rest }
     requires next { IsLeftAfter file.now rest part.rest }
-    ensures { IsLeftAfter file.now rest.entry result }
+    ensures left { IsLeftAfter file.now rest.entry result }
+    ensures follows { IsRestAfter part.entry.after part.entry.rest result }
 {
     match part.after {
         AfterText::Unreadable(_) => rest_past(file, rest, skip(file, rest, part.opens)?),

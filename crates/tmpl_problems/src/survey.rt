@@ -1,12 +1,23 @@
 //! What is suspicious in a file, though it is not refused: names that nothing uses, and texts that look like actions.
 
+ghost use Rattle.std.specs.Prelude.{◌≡◌, ◌≤◌, ◌<◌, ℕ, List, [], All, IfOk, IfSome, OnOk};
+ghost use Rattle.std.specs.Prelude.{length, map, option_map, string_bytes};
+ghost use Rattle.std.specs.Option.{option_copied};
+ghost use Rattle.tmpl_lex.specs.View.{token_of};
+ghost use Rattle.tmpl_lex.specs.Place.{StandsAt};
+ghost use Rattle.tmpl_refusals.specs.Column.{IsPlace};
+ghost use Rattle.tmpl_problems.specs.Sign as sign;
+ghost use Rattle.tmpl_problems.specs.Tokens as token;
+ghost use Rattle.tmpl_problems.specs.Survey.{IsOfVariable, Names, Warns, callers, definers, named_place, warned_place};
+ghost use Rattle.tmpl_problems.specs.computed.Adds.{AddsAfter, AddsAll, AddsName, AddsSign, ArePlaced};
+
 use crate::definitions::name_after;
 use crate::scan::{place_in, rest_after};
 use crate::variables::{declaration_len, declared_names, name_in};
 use indexmap::IndexMap;
 use std::alloc::{AllocError, Global};
 use tmpl_hints::Sentence;
-use tmpl_lex::{AfterText, Rest, Token, TokenKind, first_part};
+use tmpl_lex::{AfterText, Rest, Token, first_part};
 use tmpl_refusals::Place;
 use tmpl_syntax::NameHash;
 
@@ -46,12 +57,17 @@ struct Variable {
     is_used: bool,
 }
 
+/// The variables of a file by their names, in the order in which they are first declared.
+type Variables<'b> = IndexMap<&'b [u8], Variable, NameHash>;
+
 /// A survey under way.
 #[derive(Drop)]
 struct Surveyor<'b> {
     alloc: Global,
-    survey: Survey<'b>,
-    variables: IndexMap<&'b [u8], Variable, NameHash>,
+    warnings: Vec<Warning>,
+    defined: Vec<Named<'b>>,
+    called: Vec<Named<'b>>,
+    variables: Variables<'b>,
 }
 
 /// Surveys a file, whether it is refused or not.
@@ -59,24 +75,26 @@ pub fn survey_file<'b>(
     alloc: Global,
     hash: NameHash,
     file: &'b [u8],
-) -> Result<Survey<'b>, AllocError> {
+) -> Result<Survey<'b>, AllocError>
+    ensures defined { IfOk result (λ s. Names definers file.now s.defined.items) }
+    ensures called { IfOk result (λ s. Names callers file.now s.called.items) }
+    ensures warnings { IfOk result (λ s. Warns file.now s.warnings.items) }
+{
     let mut surveyor = Surveyor::new(alloc, hash);
     let mut tokens = Vec::new(alloc);
     let mut place = Place::first();
     let mut rest = Rest::of(file);
     loop {
         let part = first_part(file, rest, &mut tokens)?;
-        if let Some(before) = suspicious_at(part.text) {
-            place = place_in(place, file, part.start.saturating_add(before));
-            surveyor.pass_text(place, part.text.get(before..).unwrap_or(&[]))?;
-        }
-        if part.after != AfterText::Nothing {
-            if wants_place(tokens.as_slice()) {
-                place = place_in(place, file, part.opens);
-                surveyor.pass_names(place, tokens.as_slice())?;
-            }
-            surveyor.pass_uses(tokens.as_slice());
-        }
+        place = pass_text(
+            alloc,
+            &mut surveyor.warnings,
+            file,
+            place,
+            part.start,
+            part.text,
+        )?;
+        place = surveyor.pass_after(file, place, part.opens, part.after, tokens.as_slice())?;
         match rest_after(file, rest, part) {
             Some(next) => rest = next,
             None => return surveyor.finish(),
@@ -86,100 +104,263 @@ pub fn survey_file<'b>(
 
 impl<'b> Surveyor<'b> {
     /// Nothing yet.
-    fn new(alloc: Global, hash: NameHash) -> Surveyor<'b> {
+    fn new(alloc: Global, hash: NameHash) -> Surveyor<'b>
+        ensures warnings { result.warnings.items ≡ [] }
+        ensures defined { result.defined.items ≡ [] }
+        ensures called { result.called.items ≡ [] }
+        ensures variables { (file : List ℕ) → ArePlaced file result.variables.entries }
+    {
         Surveyor {
             alloc,
-            survey: Survey {
-                warnings: Vec::new(alloc),
-                defined: Vec::new(alloc),
-                called: Vec::new(alloc),
-            },
+            warnings: Vec::new(alloc),
+            defined: Vec::new(alloc),
+            called: Vec::new(alloc),
             variables: IndexMap::with_hasher(alloc, hash),
         }
     }
 
-    /// Notes what is suspicious in a text, which there begins so.
-    fn pass_text(&mut self, place: Place, sign: &[u8]) -> Result<(), AllocError> {
-        let text = match sign {
-            [b'}', ..] => "\"}}\" closes no action: it is text",
-            _ => "\"{ {\" begins no action: it is text",
-        };
-        self.warn(place, String::from_str(self.alloc, text)?)
-    }
-
-    /// Notes a warning.
-    fn warn(&mut self, place: Place, text: String) -> Result<(), AllocError> {
-        self.survey.warnings.push(Warning {
-            start: place.start,
-            line: place.line,
-            column: place.column,
-            text,
-        })?;
-        Ok(())
-    }
-
-    /// Notes the templates that an action defines and calls, and the variables that it declares.
-    fn pass_names(&mut self, place: Place, tokens: &[Token<'b>]) -> Result<(), AllocError> {
-        let definers: [&[u8]; 2] = [b"define", b"block"];
-        let callers: [&[u8]; 2] = [b"template", b"block"];
-        if let Some(name) = name_after(tokens, &definers) {
-            self.survey.defined.push(named_at(name, place))?;
-        }
-        if let Some(name) = name_after(tokens, &callers) {
-            self.survey.called.push(named_at(name, place))?;
-        }
-        self.declare(place, tokens)
-    }
-
-    /// Notes the variables that an action uses.
-    fn pass_uses(&mut self, tokens: &[Token<'b>]) {
-        let (_, rest) = tokens.split_at(declaration_len(tokens));
-        for token in rest {
-            if let Some(name) = name_in(token) {
-                if let Some(variable) = self.variables.get_mut(name) {
-                    variable.is_used = true;
-                }
-            }
+    /// Notes the templates that the action after a text defines and calls, and the variables that it declares and uses.
+    fn pass_after(
+        &mut self,
+        file: &[u8],
+        place: Place,
+        opens: usize,
+        after: AfterText,
+        tokens: &[Token<'b>],
+    ) -> Result<Place, AllocError>
+        requires place { IsPlace file.now place }
+        requires placed { ArePlaced file.now self.old.variables.entries }
+        ensures placed { OnOk result (ArePlaced file.now self.new.variables.entries) }
+        ensures warnings { self.new.warnings ≡ self.old.warnings }
+        ensures defined { OnOk result (AddsAfter file.now opens definers tokens.now after
+            self.old.defined.items self.new.defined.items) }
+        ensures called { OnOk result (AddsAfter file.now opens callers tokens.now after
+            self.old.called.items self.new.called.items) }
+        ensures place { IfOk result (λ p. IsPlace file.now p) }
+    {
+        match after {
+            AfterText::Nothing => Ok(place),
+            AfterText::Action(_) | AfterText::Unreadable(_) => self.pass_action(
+                file, place, opens, tokens,
+            ),
         }
     }
 
-    /// Notes the variables that an action declares. Of two, the first has to be there for the second to be, so that it
-    /// is not used says nothing.
-    fn declare(&mut self, place: Place, tokens: &[Token<'b>]) -> Result<(), AllocError> {
-        let names = declared_names(self.alloc, tokens)?;
-        let count = names.len();
-        for (index, name) in names.as_slice().iter().enumerate() {
-            let is_used = count == 2 && index == 0;
-            if !self.variables.contains_key(*name) {
-                self.variables.insert(*name, Variable { place, is_used })?;
-            }
-        }
-        Ok(())
+    /// Notes the templates that an action defines and calls, and the variables that it declares and uses.
+    fn pass_action(
+        &mut self,
+        file: &[u8],
+        place: Place,
+        opens: usize,
+        tokens: &[Token<'b>],
+    ) -> Result<Place, AllocError>
+        requires place { IsPlace file.now place }
+        requires placed { ArePlaced file.now self.old.variables.entries }
+        ensures placed { OnOk result (ArePlaced file.now self.new.variables.entries) }
+        ensures warnings { self.new.warnings ≡ self.old.warnings }
+        ensures defined { OnOk result (AddsName file.now opens (token.name_after definers (map token_of tokens.now))
+            self.old.defined.items self.new.defined.items) }
+        ensures called { OnOk result (AddsName file.now opens (token.name_after callers (map token_of tokens.now))
+            self.old.called.items self.new.called.items) }
+        ensures place { IfOk result (λ p. IsPlace file.now p) }
+    {
+        let defined = name_after(tokens, &[b"define", b"block"]);
+        let place = pass_name(&mut self.defined, file, place, opens, defined)?;
+        let called = name_after(tokens, &[b"template", b"block"]);
+        let place = pass_name(&mut self.called, file, place, opens, called)?;
+        let place = declare(self.alloc, &mut self.variables, file, place, opens, tokens)?;
+        use_variables(&mut self.variables, tokens);
+        Ok(place)
     }
 
     /// The survey, with the variables that nothing uses.
-    fn finish(self) -> Result<Survey<'b>, AllocError> {
+    fn finish(self) -> Result<Survey<'b>, AllocError>
+        ensures defined { IfOk result (λ s. s.defined ≡ self.entry.defined) }
+        ensures called { IfOk result (λ s. s.called ≡ self.entry.called) }
+        ensures warnings { (file : List ℕ) → ArePlaced file self.entry.variables.entries → IfOk result (λ s.
+            AddsAll (IsOfVariable file) self.entry.warnings.items s.warnings.items) }
+    {
         let Surveyor {
             alloc,
-            mut survey,
+            mut warnings,
+            defined,
+            called,
             variables,
         } = self;
-        for (name, variable) in variables.iter() {
-            if !variable.is_used {
-                survey.warnings.push(Warning {
-                    start: variable.place.start,
-                    line: variable.place.line,
-                    column: variable.place.column,
-                    text: unused_text(alloc, *name)?,
-                })?;
-            }
+        warn_of_unused(alloc, &mut warnings, &variables)?;
+        Ok(Survey {
+            warnings,
+            defined,
+            called,
+        })
+    }
+}
+
+/// Warns of the variables that nothing uses.
+fn warn_of_unused(
+    alloc: Global,
+    warnings: &mut Vec<Warning>,
+    variables: &Variables<'_>,
+) -> Result<(), AllocError>
+    ensures { (file : List ℕ) → ArePlaced file variables.now.entries → OnOk result
+        (AddsAll (IsOfVariable file) warnings.old.items warnings.new.items) }
+{
+    for number in 0..variables.len() {
+        if let Some((name, variable)) = variables.get_index(number) {
+            warn_if_unused(alloc, warnings, *name, *variable)?;
         }
-        Ok(survey)
+    }
+    Ok(())
+}
+
+/// Warns of a variable, if nothing uses it.
+fn warn_if_unused(
+    alloc: Global,
+    warnings: &mut Vec<Warning>,
+    name: &[u8],
+    variable: Variable,
+) -> Result<(), AllocError>
+    ensures { (file : List ℕ) → IsPlace file variable.place → OnOk result
+        (AddsAll (IsOfVariable file) warnings.old.items warnings.new.items) }
+{
+    if !variable.is_used {
+        warnings.push(warning_at(variable.place, unused_text(alloc, name)?))?;
+    }
+    Ok(())
+}
+
+/// Notes what is suspicious in a text that begins there. Says up to where columns were counted.
+fn pass_text(
+    alloc: Global,
+    warnings: &mut Vec<Warning>,
+    file: &[u8],
+    place: Place,
+    start: usize,
+    text: &[u8],
+) -> Result<Place, AllocError>
+    requires place { IsPlace file.now place }
+    requires stands { StandsAt file.now start text.now }
+    ensures told { OnOk result (AddsSign file.now start (sign.first_sign text.now)
+        warnings.old.items warnings.new.items) }
+    ensures place { IfOk result (λ p. IsPlace file.now p) }
+{
+    match first_sign(text) {
+        Some(sign) => {
+            let here = place.at(file, start.saturating_add(sign.at).min(file.len()));
+            warnings.push(warning_at(here, String::from_str(alloc, sign.words)?))?;
+            Ok(here)
+        }
+        None => Ok(place),
+    }
+}
+
+/// A warning of this at a place.
+fn warning_at(place: Place, text: String) -> Warning
+    ensures text { string_bytes result.text ≡ string_bytes text }
+    ensures place { warned_place result ≡ place }
+{
+    Warning {
+        start: place.start,
+        line: place.line,
+        column: place.column,
+        text,
+    }
+}
+
+/// Adds a template that the action names which opens there, if it names one. Says up to where columns were counted.
+fn pass_name<'b>(
+    found: &mut Vec<Named<'b>>,
+    file: &[u8],
+    place: Place,
+    opens: usize,
+    name: Option<&'b [u8]>,
+) -> Result<Place, AllocError>
+    requires { IsPlace file.now place }
+    ensures added { OnOk result (AddsName file.now opens (option_copied name.entry) found.old.items found.new.items) }
+    ensures place { IfOk result (λ p. IsPlace file.now p) }
+{
+    match name {
+        Some(name) => {
+            let here = place_in(place, file, opens);
+            found.push(named_at(name, here))?;
+            Ok(here)
+        }
+        None => Ok(place),
+    }
+}
+
+/// Notes the variables that an action declares. Of two, the first has to be there for the second to be, so that it
+/// is not used says nothing.
+fn declare<'b>(
+    alloc: Global,
+    variables: &mut Variables<'b>,
+    file: &[u8],
+    place: Place,
+    opens: usize,
+    tokens: &[Token<'b>],
+) -> Result<Place, AllocError>
+    requires place { IsPlace file.now place }
+    requires placed { ArePlaced file.now variables.old.entries }
+    ensures placed { OnOk result (ArePlaced file.now variables.new.entries) }
+    ensures place { IfOk result (λ p. IsPlace file.now p) }
+{
+    let names = declared_names(alloc, tokens)?;
+    if names.is_empty() {
+        return Ok(place);
+    }
+    let here = place_in(place, file, opens);
+    let count = names.len();
+    for (index, name) in names.as_slice().iter().enumerate() {
+        let variable = Variable {
+            place: here,
+            is_used: count == 2 && index == 0,
+        };
+        declare_name(variables, *name, variable)?;
+    }
+    Ok(here)
+}
+
+/// Notes a variable, unless one of its name is noted.
+fn declare_name<'b>(
+    variables: &mut Variables<'b>,
+    name: &'b [u8],
+    variable: Variable,
+) -> Result<(), AllocError>
+    ensures { (file : List ℕ) → ArePlaced file variables.old.entries → IsPlace file variable.place
+        → OnOk result (ArePlaced file variables.new.entries) }
+{
+    if !variables.contains_key(name) {
+        variables.insert(name, variable)?;
+    }
+    Ok(())
+}
+
+/// Notes the variables that an action uses.
+fn use_variables(variables: &mut Variables<'_>, tokens: &[Token<'_>])
+    ensures { (file : List ℕ) → ArePlaced file variables.old.entries → ArePlaced file variables.new.entries }
+{
+    let (_, rest) = tokens.split_at(declaration_len(tokens));
+    for token in rest {
+        if let Some(name) = name_in(token) {
+            use_variable(variables, name);
+        }
+    }
+}
+
+/// Notes that the variable of this name is used, if there is one.
+fn use_variable(variables: &mut Variables<'_>, name: &[u8])
+    ensures { (file : List ℕ) → ArePlaced file variables.old.entries → ArePlaced file variables.new.entries }
+{
+    if let Some(variable) = variables.get_mut(name) {
+        variable.is_used = true;
     }
 }
 
 /// A template that is named at a place.
-fn named_at(name: &[u8], place: Place) -> Named<'_> {
+fn named_at(name: &[u8], place: Place) -> Named<'_>
+    ensures name { result.name.now ≡ name.now }
+    ensures place { named_place result ≡ place }
+{
     Named {
         name,
         start: place.start,
@@ -188,32 +369,44 @@ fn named_at(name: &[u8], place: Place) -> Named<'_> {
     }
 }
 
-/// Whether an action of these tokens may define or call a template, or declare a variable.
-fn wants_place(tokens: &[Token<'_>]) -> bool {
-    tokens.iter().any(|token| matches!(
-        token.kind,
-        TokenKind::String | TokenKind::RawString | TokenKind::Declare
-    ))
-}
-
-/// How many bytes of a text stand before the first `{ {` or `}}` in it.
-fn suspicious_at(text: &[u8]) -> Option<usize> {
-    if !text.iter().any(|b| *b == b'{' || *b == b'}') {
-        return None;
-    }
-    let closed = text.windows(2).position(|pair| pair == b"}}".as_slice());
-    let opened = text.windows(3).position(|three| three == b"{ {".as_slice());
-    match (opened, closed) {
-        (Some(left), Some(right)) => Some(left.min(right)),
-        (left, right) => left.or(right),
-    }
-}
-
 /// What is said of a variable of this name that nothing uses.
-fn unused_text(alloc: Global, name: &[u8]) -> Result<String, AllocError> {
+fn unused_text(alloc: Global, name: &[u8]) -> Result<String, AllocError>
+    ensures { IfOk result (λ t. string_bytes t ≡ token.unused_words name.now) }
+{
     Sentence::new(alloc)
         .say("variable \"$")
         .show(name)
         .say("\" is never used")
         .finish()
+}
+
+/// A sign in a text: how many bytes of the text stand before it, and what is said of it.
+#[derive(Clone, Copy)]
+struct Sign {
+    at: usize,
+    words: &'static str,
+}
+
+/// The first sign in a text, if it has one.
+fn first_sign(text: &[u8]) -> Option<Sign>
+    ensures within { IfSome result (λ sign. sign.at < length text.now) }
+    ensures value { option_map (λ sign. (sign.at, sign.words.now)) result ≡ sign.first_sign text.now }
+{
+    for at in 0..text.len() {
+        if let Some(words) = sign_at(text, at) {
+            return Some(Sign { at, words });
+        }
+    }
+    None
+}
+
+/// What is said of the sign that stands in a text after this many bytes, if one does.
+fn sign_at(text: &[u8], at: usize) -> Option<&'static str>
+    ensures { option_copied result ≡ sign.sign_at text.now at }
+{
+    match text.get(at..)? {
+        [b'}', b'}', ..] => Some("\"}}\" closes no action: it is text"),
+        [b'{', b' ', b'{', ..] => Some("\"{ {\" begins no action: it is text"),
+        _ => None,
+    }
 }

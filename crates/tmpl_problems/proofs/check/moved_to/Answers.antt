@@ -1,6 +1,6 @@
-use Rattle.std.proofs.Common.{◌≡◌, ◌∙◌, ◌+◌, ◌++◌, [], ◌∷◌, ap, map, rules, sym, take}
+use Rattle.std.proofs.Common.{◌∙◌, ◌++◌, [], ◌∷◌, ap, map, sym, take}
 use Rattle.std.proofs.lemmas.List.{map-append, take_more}
-use Rattle.tmpl_refusals.specs.Examine.{IsLocated, refused_in}
+use Rattle.tmpl_refusals.specs.Examine.{refused_in}
 use Rattle.tmpl_refusals.proofs.LocateLemmas.{located-more}
 use Rattle.tmpl_problems.proofs.check.moved_to.Goals as goal
 

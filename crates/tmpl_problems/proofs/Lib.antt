@@ -1,0 +1,5 @@
+pub mod ProgressLemmas
+pub mod SignLemmas
+pub mod StepLemmas
+pub mod TokenLemmas
+pub mod VariableLemmas

@@ -1,0 +1,133 @@
+-- What one part of a file adds to what is found.
+use Rattle.std.proofs.Common.{arith, ◌≡◌, ◌∙◌, ◌≤◌, ◌<◌, ◌+◌, ℕ, List, [], ◌∷◌, ◌++◌, Option, Some, None, All, refl, sym, ap, subst, length, map}
+use Rattle.std.proofs.Common.{length-append}
+use Rattle.std.specs.List.{AllZip, cons_option, enumerate_from, filter_map}
+use Rattle.std.specs.Option.{option_map}
+use Rattle.std.proofs.lemmas.List.{append-nil}
+use Rattle.std.proofs.lemmas.List.Elements.{All-cons, All-nil, filter_map-append}
+use Rattle.tmpl_lex.specs.Begin.{BeginsAt}
+use Rattle.tmpl_lex.specs.Part.{pieces_after}
+use Rattle.tmpl_lex.specs.Piece.{Piece}
+use Rattle.tmpl_lex.specs.Place.{StandsAt}
+use Rattle.tmpl_lex.specs.Text.{text_piece}
+use Rattle.tmpl_lex.specs.View.{token_of}
+use Rattle.tmpl_lex.specs.declared.part.AfterText.{AfterText}
+use Rattle.tmpl_lex.specs.declared.part.AfterText.TheVariants as variant
+use Rattle.tmpl_lex.specs.declared.piece.Token as held
+use Rattle.tmpl_refusals.proofs.LocateLemmas.{begins-within}
+use Rattle.tmpl_refusals.specs.Column.{IsPlace}
+use Rattle.tmpl_problems.specs.Survey.{IsNamed, IsWarning, named_place, names_from, suspicious, tokens_in}
+use Rattle.tmpl_problems.specs.Sign.{first_sign}
+use Rattle.tmpl_problems.specs.Tokens.{name_after}
+use Rattle.tmpl_problems.specs.computed.Adds.{AddsAfter, AddsAll, AddsName, AddsSign}
+use Rattle.tmpl_problems.specs.declared.survey.Named.{Named}
+use Rattle.tmpl_problems.specs.declared.survey.Warning.{Warning}
+
+-- each place of a text that stands in a file is one of the file
+pub stands-within : (file text : List ℕ) (start at : ℕ) → StandsAt file start text → at < length text → start + at ≤ length file
+stands-within file text start at stands lt =
+    omega (arith, lt, ap length stands.parts, stands.count, length-append (stands.before ++ text) stands.after, length-append stands.before text)
+
+-- ---- lists
+
+pub zip-append : {A B : Type 0} (R : A → B → Type 0) (xs : List A) (cs : List B) (ys : List A) (bs : List B) → AllZip R xs cs → AllZip R ys bs → AllZip R (xs ++ ys) (cs ++ bs)
+zip-append R [] [] ys bs p q = q
+zip-append R [] (a ∷ cs) ys bs p q = absurd p
+zip-append R (x ∷ xs) [] ys bs p q = absurd p
+zip-append R (x ∷ xs) (a ∷ cs) ys bs p q = (p.0, zip-append R xs cs ys bs p.1 q)
+
+pub enumerate-append : {A : Type 0} (n : ℕ) (xs ys : List A) → enumerate_from n (xs ++ ys) ≡ enumerate_from n xs ++ enumerate_from (n + length xs) ys
+enumerate-append n [] ys = ap (λ k. enumerate_from k ys) (omega arith)
+enumerate-append n (x ∷ xs) ys =
+    ap (λ zs. (n, x) ∷ zs) (enumerate-append (n + 1) xs ys ∙ ap (λ k. enumerate_from (n + 1) xs ++ enumerate_from k ys) (omega arith))
+
+-- what is added at the end
+pub record Adds {A B : Type 0} (R : A → B → Type 0) (xs : List A) (old new : List B) : Type 0 where
+  pub more : List B
+  pub added : new ≡ old ++ more
+  pub told : AllZip R xs more
+
+pub adds-zip : {A B : Type 0} (R : A → B → Type 0) (all xs ys : List A) (old new : List B) → all ≡ xs ++ ys → AllZip R xs old → Adds R ys old new → AllZip R all new
+adds-zip R all xs ys old new e p a =
+    subst (λ zs. AllZip R zs new) (sym e) (subst (λ bs. AllZip R (xs ++ ys) bs) (sym a.added) (zip-append R xs old ys a.more p a.told))
+
+-- .. is so that this holds of each
+pub adds-all : {A B : Type 0} (R : A → B → Type 0) (P : B → Type 0) → ((x : A) (b : B) → R x b → P b) → (xs : List A) (old new : List B) → Adds R xs old new → AddsAll P old new
+adds-all {A = A} {B = B} R P so xs old new a = record { more = a.more; added = a.added; all = by xs a.more a.told }
+  where
+    by : (xs : List A) (bs : List B) → AllZip R xs bs → All P bs
+    by [] [] z = All-nil P
+    by [] (b ∷ bs) z = absurd z
+    by (x ∷ xs) [] z = absurd z
+    by (x ∷ xs) (b ∷ bs) z = All-cons P b bs (so x b z.0) (by xs bs z.1)
+
+-- ---- names
+
+module _ (words : List (List ℕ)) where
+  pub names-append : (n : ℕ) (ps qs : List Piece) → names_from words n (ps ++ qs) ≡ names_from words n ps ++ names_from words (n + length ps) qs
+  names-append n ps qs =
+      ap (filter_map (λ (p : ℕ × Piece). option_map (λ (name : List ℕ). (p.0, name)) (name_after words (tokens_in p.1)))) (enumerate-append n ps qs)
+      ∙ filter_map-append (λ (p : ℕ × Piece). option_map (λ (name : List ℕ). (p.0, name)) (name_after words (tokens_in p.1))) (enumerate_from n ps)
+      (enumerate_from (n + length ps) qs)
+
+  pub names-text : (n line : ℕ) (bytes : List ℕ) → names_from words n (text_piece line bytes) ≡ []
+  names-text n line [] = refl
+  names-text n line (b ∷ bytes) = refl
+
+module _ (file : List ℕ) (opens : ℕ) (old new : List Named) where
+  name-adds : (k : ℕ) → BeginsAt file k opens → (o : Option (List ℕ)) → AddsName file opens o old new
+      → Adds (IsNamed file) (cons_option (option_map (λ (name : List ℕ). (k, name)) o) []) old new
+  name-adds k b None a = record { more = []; added = a ∙ sym (append-nil old); told = tt }
+  name-adds k b (Some name) a = record {
+    more = a.one ∷ [];
+    added = a.added;
+    told = (record { name = a.name_is; begins = subst (λ at. BeginsAt file k at) (sym (a.start (begins-within file k opens b))) b; place = a.place }, tt);
+  }
+
+  name-placed : (o : Option (List ℕ)) → AddsName file opens o old new → AddsAll (λ n. IsPlace file (named_place n)) old new
+  name-placed None a = record { more = []; added = a ∙ sym (append-nil old); all = All-nil (λ n. IsPlace file (named_place n)) }
+  name-placed (Some name) a = record {
+    more = a.one ∷ [];
+    added = a.added;
+    all = All-cons (λ n. IsPlace file (named_place n)) a.one [] a.place (All-nil (λ n. IsPlace file (named_place n)));
+  }
+
+  pub after-adds : (words : List (List ℕ)) (ts : List held.Token) (line k : ℕ) → BeginsAt file k opens → AddsAfter file opens words ts (variant.Action line) old new
+      → Adds (IsNamed file) (names_from words k (pieces_after ts (variant.Action line))) old new
+  after-adds words ts line k b a = name-adds k b (name_after words (map token_of ts)) a
+
+  pub nothing-adds : (words : List (List ℕ)) (ts : List held.Token) (k : ℕ) → AddsAfter file opens words ts variant.Nothing old new
+      → Adds (IsNamed file) (names_from words k (pieces_after ts variant.Nothing)) old new
+  nothing-adds words ts k a = record { more = []; added = a ∙ sym (append-nil old); told = tt }
+
+  pub after-placed : (words : List (List ℕ)) (ts : List held.Token) (after : AfterText) → AddsAfter file opens words ts after old new
+      → AddsAll (λ n. IsPlace file (named_place n)) old new
+  after-placed words ts variant.Nothing a = record { more = []; added = a ∙ sym (append-nil old); all = All-nil (λ n. IsPlace file (named_place n)) }
+  after-placed words ts (variant.Action line) a = name-placed (name_after words (map token_of ts)) a
+  after-placed words ts (variant.Unreadable line) a = name-placed (name_after words (map token_of ts)) a
+
+-- ---- signs
+
+pub suspicious-append : (ps qs : List Piece) → suspicious (ps ++ qs) ≡ suspicious ps ++ suspicious qs
+suspicious-append ps qs = filter_map-append _ ps qs
+
+pub suspicious-text : (line : ℕ) (bytes : List ℕ) → suspicious (text_piece line bytes) ≡ cons_option (option_map (λ (s : ℕ × List ℕ). (bytes, s.0, s.1)) (first_sign bytes)) []
+suspicious-text line [] = refl
+suspicious-text line (b ∷ bytes) = refl
+
+pub suspicious-after : (ts : List held.Token) (after : AfterText) → suspicious (pieces_after ts after) ≡ []
+suspicious-after ts variant.Nothing = refl
+suspicious-after ts (variant.Action line) = refl
+suspicious-after ts (variant.Unreadable line) = refl
+
+pub sign-adds : (file : List ℕ) (start line : ℕ) (bytes : List ℕ) (old new : List Warning) → StandsAt file start bytes → AddsSign file start (first_sign bytes) old new
+    → Adds (IsWarning file) (suspicious (text_piece line bytes)) old new
+sign-adds file start line bytes old new stands a = subst (λ xs. Adds (IsWarning file) xs old new) (sym (suspicious-text line bytes)) (by (first_sign bytes) a)
+  where
+    by : (o : Option (ℕ × List ℕ)) → AddsSign file start o old new → Adds (IsWarning file) (cons_option (option_map (λ (s : ℕ × List ℕ). (bytes, s.0, s.1)) o) []) old new
+    by None a = record { more = []; added = a ∙ sym (append-nil old); told = tt }
+    by (Some at) a = record {
+      more = a.one ∷ [];
+      added = a.added;
+      told = (record { begins = start; stands = stands; start = a.start_is; words = a.words; place = a.place }, tt);
+    }
