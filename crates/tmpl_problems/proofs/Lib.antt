@@ -1,3 +1,4 @@
+pub mod NotedLemmas
 pub mod ProgressLemmas
 pub mod SignLemmas
 pub mod StepLemmas

@@ -1,10 +1,10 @@
 -- For `survey_file`: what is found so far, from part to part.
-use Rattle.std.proofs.Common.{arith, ◌≡◌, ◌∙◌, ◌<◌, ◌+◌, ℕ, ◌-◌, zero, suc, Bool, true, false, ◌||◌, List, [], ◌∷◌, ◌++◌, Option, Some, None, All, refl, sym, ap, subst, length}
+use Rattle.std.proofs.Common.{arith, ◌≡◌, ◌∙◌, ◌<◌, ◌+◌, ℕ, ◌-◌, zero, suc, Bool, true, false, ◌||◌, List, [], ◌∷◌, ◌++◌, Option, Some, None, Result, Ok, Err, IfOk, Bor, All, refl, sym, ap, subst, length, map}
 use Rattle.std.proofs.Common.{append_assoc, length-append}
 use Rattle.std.specs.List.{AllZip, list_any}
 use Rattle.std.specs.Prelude.{MatchOption, if◌then◌else◌}
 use Rattle.std.proofs.lemmas.List.{append-nil}
-use Rattle.std.proofs.lemmas.List.Elements.{All-append, All-nil, All-weaker}
+use Rattle.std.proofs.lemmas.List.Elements.{All-append, All-cons, All-nil}
 use Rattle.std.proofs.lemmas.List.Folds.{list_any-append}
 use Rattle.tmpl_lex.specs.Begin.{BeginsAt, BeginsIn, BeginsAfter, BeginsFurther}
 use Rattle.tmpl_lex.specs.Cut.{Cuts}
@@ -12,6 +12,7 @@ use Rattle.tmpl_lex.specs.Part.{IsCutBy, pieces_after}
 use Rattle.tmpl_lex.specs.Piece.{Piece, unreadable}
 use Rattle.tmpl_lex.specs.Place.{StandsAt}
 use Rattle.tmpl_lex.specs.Text.{text_piece}
+use Rattle.tmpl_lex.specs.View.{token_of}
 use Rattle.tmpl_lex.specs.computed.Part as computed
 use Rattle.tmpl_lex.specs.computed.Part.{part_of}
 use Rattle.tmpl_lex.specs.declared.part.AfterText.{AfterText}
@@ -21,13 +22,15 @@ use Rattle.tmpl_lex.specs.declared.piece.Token as held
 use Rattle.tmpl_lex.proofs.CutLemmas.{IsPart, part-is}
 use Rattle.tmpl_refusals.specs.Column.{IsPlace}
 use Rattle.tmpl_refusals.specs.declared.place.Place.{Place}
-use Rattle.tmpl_problems.specs.Survey.{IsNamed, IsOfVariable, IsWarning, Tells, Warns, callers, definers, is_unreadable, named_place, names_from, readable, suspicious, warned_place}
+use Rattle.tmpl_problems.specs.Survey.{Declared, IsNamed, IsUnused, IsWarning, Tells, Warns, callers, declared_from, definers, firsts, is_unreadable, named_place, names_from, readable, suspicious, unused, used_from, warned_place}
 use Rattle.tmpl_problems.specs.Sign.{first_sign}
-use Rattle.tmpl_problems.specs.computed.Adds.{AddsAfter, AddsAll, AddsSign}
+use Rattle.tmpl_problems.specs.computed.Adds.{AddsAfter, AddsAll, AddsSign, AddsZip, ArePlaced, IsNoted, PassesAfter}
 use Rattle.tmpl_problems.specs.computed.Follows.{IsRestAfter}
 use Rattle.tmpl_problems.specs.declared.survey.Named.{Named}
+use Rattle.tmpl_problems.specs.declared.survey.Variable.{Variable}
 use Rattle.tmpl_problems.specs.declared.survey.Warning.{Warning}
-use Rattle.tmpl_problems.proofs.StepLemmas.{Adds, adds-all, adds-zip, after-adds, after-placed, nothing-adds, names-append, names-text, sign-adds, suspicious-append, suspicious-after}
+use Rattle.tmpl_problems.proofs.NotedLemmas.{AreNoted, action-noted, after-keeps, noted-placed, text-declares, text-uses}
+use Rattle.tmpl_problems.proofs.StepLemmas.{adds-all, adds-zip, after-adds, after-placed, nothing-adds, names-append, names-text, sign-adds, suspicious-append, suspicious-after}
 
 -- ---- any rest is cut into some pieces
 
@@ -108,11 +111,19 @@ begins-there file rest (variant.Unreadable line) count opens n so b = so count o
 
 names-adds : (file : List ℕ) (opens k : ℕ) (words : List (List ℕ)) (ts : List held.Token) (after : AfterText) (old new : List Named)
     → list_any is_unreadable (pieces_after ts after) ≡ false → BeginsThere file after k opens → AddsAfter file opens words ts after old new
-    → Adds (IsNamed file) (names_from words k (pieces_after ts after)) old new
+    → AddsZip (IsNamed file) (names_from words k (pieces_after ts after)) old new
 unfolding BeginsThere
 names-adds file opens k words ts variant.Nothing old new e b a = nothing-adds file opens old new words ts k a
 names-adds file opens k words ts (variant.Action line) old new e b a = after-adds file opens old new words ts line k b a
 names-adds file opens k words ts (variant.Unreadable line) old new e b a = absurd (cc)
+
+noted-after : (file : List ℕ) (opens : ℕ) (ps : List Piece) (ts : List held.Token) (after : AfterText) (old new : List (Bor (List ℕ) × Variable))
+    → list_any is_unreadable (pieces_after ts after) ≡ false → BeginsThere file after (length ps) opens → PassesAfter file opens ts after old new
+    → AreNoted file ps old → AreNoted file (ps ++ pieces_after ts after) new
+unfolding BeginsThere
+noted-after file opens ps ts variant.Nothing old new e b p z = subst (λ qs. AreNoted file qs new) (sym (append-nil ps)) (subst (AreNoted file ps) (sym p) z)
+noted-after file opens ps ts (variant.Action line) old new e b p z = action-noted file ps line opens (map token_of ts) old new p b z
+noted-after file opens ps ts (variant.Unreadable line) old new e b p z = absurd (cc)
 
 -- ---- what is found of the pieces that can be read comes first
 
@@ -164,28 +175,32 @@ tells {A = A} {B = B} things R place file pieces found cut begins exact = go (li
 
 -- ---- what is found so far
 
--- warnings of texts, and the names of templates that are defined and called
+-- warnings of texts, the names of templates that are defined and called, and the variables that are noted
 pub record Found : Type 0 where
   pub warnings : List Warning
   pub defined : List Named
   pub called : List Named
+  pub variables : List (Bor (List ℕ) × Variable)
 
 module _ (file : List ℕ) where
   pub record Exact (pieces : List Piece) (f : Found) : Type 0 where
     pub warnings : AllZip (IsWarning file) (suspicious pieces) f.warnings
     pub defined : AllZip (IsNamed file) (names_from definers 0 pieces) f.defined
     pub called : AllZip (IsNamed file) (names_from callers 0 pieces) f.called
+    pub variables : AllZip (IsNoted file (used_from 0 pieces)) (firsts [] (declared_from 0 pieces)) f.variables
 
   pub record Begun (pieces : List Piece) (f : Found) : Type 0 where
     pub warnings : BeginsWith (IsWarning file) (λ w. IsPlace file (warned_place w)) (suspicious pieces) f.warnings
     pub defined : BeginsWith (IsNamed file) (λ n. IsPlace file (named_place n)) (names_from definers 0 pieces) f.defined
     pub called : BeginsWith (IsNamed file) (λ n. IsPlace file (named_place n)) (names_from callers 0 pieces) f.called
+    pub variables : ArePlaced file f.variables
 
   begun-exact : (pieces : List Piece) (f : Found) → Exact pieces f → Begun pieces f
   begun-exact pieces f x = record {
     warnings = begins-exact (IsWarning file) (λ w. IsPlace file (warned_place w)) (suspicious pieces) f.warnings x.warnings;
     defined = begins-exact (IsNamed file) (λ n. IsPlace file (named_place n)) (names_from definers 0 pieces) f.defined x.defined;
     called = begins-exact (IsNamed file) (λ n. IsPlace file (named_place n)) (names_from callers 0 pieces) f.called x.called;
+    variables = noted-placed file (used_from 0 pieces) (firsts [] (declared_from 0 pieces)) f.variables x.variables;
   }
 
   -- at the end
@@ -206,14 +221,14 @@ module _ (file : List ℕ) where
     past : (d : Done f) → list_any is_unreadable d.pieces ≡ true → Progress rest f
 
   pub progress-begins : (rest : Rest) (f : Found) → rest.bytes.now ≡ file → rest.line ≡ 1 → rest.trims ≡ false
-      → f.warnings ≡ [] → f.defined ≡ [] → f.called ≡ [] → Progress rest f
-  progress-begins rest f b l t w d c =
+      → f.warnings ≡ [] → f.defined ≡ [] → f.called ≡ [] → f.variables ≡ [] → Progress rest f
+  progress-begins rest f b l t w d c v =
       let start : length file - length rest.bytes.now ≡ 0 = omega (arith, ap length b) in
       within [] (record {
         cuts = λ more cuts. simp (b, l, t) at cuts;
         begins = λ n at p. subst (λ k. BeginsAt file k at) (omega arith) (rw (start, t, l, b) at p);
         readable = refl;
-      }) (record { warnings = rw w tt; defined = rw d tt; called = rw c tt })
+      }) (record { warnings = rw w tt; defined = rw d tt; called = rw c tt; variables = rw v tt })
 
   -- ---- a part
 
@@ -222,14 +237,15 @@ module _ (file : List ℕ) where
       (begins-after : BeginsAfter file rest after (length (text_piece line text)) opens)
       (begins-further : BeginsFurther file rest (length (text_piece line text ++ pieces_after ts after)) beyond) (follows : IsRestAfter after beyond next)
       (old new : Found) (warns : AddsSign file start (first_sign text) old.warnings new.warnings)
-      (defines : AddsAfter file opens definers ts after old.defined new.defined) (calls : AddsAfter file opens callers ts after old.called new.called) where
+      (defines : AddsAfter file opens definers ts after old.defined new.defined) (calls : AddsAfter file opens callers ts after old.called new.called)
+      (passes : PassesAfter file opens ts after old.variables new.variables) where
     abbrev own : List Piece
     own = text_piece line text
 
     abbrev here : List Piece
     here = own ++ pieces_after ts after
 
-    warned : Adds (IsWarning file) (suspicious own) old.warnings new.warnings
+    warned : AddsZip (IsWarning file) (suspicious own) old.warnings new.warnings
     warned = sign-adds file start line text old.warnings new.warnings stands warns
 
     placed-more : (pieces : List Piece) → Begun pieces old → Begun pieces new
@@ -240,6 +256,7 @@ module _ (file : List ℕ) where
           (after-placed file opens old.defined new.defined definers ts after defines);
       called = begins-more (IsNamed file) (λ n. IsPlace file (named_place n)) (names_from callers 0 pieces) old.called new.called b.called
           (after-placed file opens old.called new.called callers ts after calls);
+      variables = after-keeps file opens ts after old.variables new.variables passes b.variables;
     }
 
     done-more : (d : Done old) → list_any is_unreadable d.pieces ≡ true → Done new
@@ -266,6 +283,10 @@ module _ (file : List ℕ) where
           ∙ ap (λ l. suspicious pieces ++ l) (suspicious-append own (pieces_after ts after)
           ∙ ap (λ l. suspicious own ++ l) (suspicious-after ts after) ∙ append-nil (suspicious own))
 
+      noted-own : AreNoted file (pieces ++ own) old.variables
+      noted-own = subst (λ uses. AllZip (IsNoted file uses) (firsts [] (declared_from 0 (pieces ++ own))) old.variables) (sym (text-uses pieces line text))
+          (subst (λ ds. AllZip (IsNoted file (used_from 0 pieces)) (firsts [] ds) old.variables) (sym (text-declares pieces line text)) x.variables)
+
       exact-more : list_any is_unreadable (pieces_after ts after) ≡ false → Exact (pieces ++ here) new
       exact-more e =
           let there = begins-there file rest after (length own) opens (length pieces) so.begins begins-after in
@@ -276,6 +297,9 @@ module _ (file : List ℕ) where
                 old.defined new.defined (names-here definers) x.defined (names-adds file opens k definers ts after old.defined new.defined e there defines);
             called = adds-zip (IsNamed file) (names_from callers 0 (pieces ++ here)) (names_from callers 0 pieces) (names_from callers k (pieces_after ts after))
                 old.called new.called (names-here callers) x.called (names-adds file opens k callers ts after old.called new.called e there calls);
+            variables = subst (λ ps. AreNoted file ps new.variables) (append_assoc pieces own (pieces_after ts after))
+                (noted-after file opens (pieces ++ own) ts after old.variables new.variables e
+                (subst (λ n. BeginsThere file after n opens) (sym (length-append pieces own)) there) passes noted-own);
           }
 
       readable-here : list_any is_unreadable (pieces_after ts after) ≡ false → list_any is_unreadable (pieces ++ here) ≡ false
@@ -312,6 +336,7 @@ module _ (file : List ℕ) where
             (placed-more pieces (begun-exact pieces old x)).defined;
         called = subst (λ xs. BeginsWith (IsNamed file) (λ n. IsPlace file (named_place n)) xs new.called) (names-own callers)
             (placed-more pieces (begun-exact pieces old x)).called;
+        variables = (placed-more pieces (begun-exact pieces old x)).variables;
       }
 
       whole : (l : ℕ) → pieces_after ts after ≡ unreadable l ∷ [] → (o : Option Rest) → IsCutBy rest here o
@@ -355,19 +380,13 @@ module _ (file : List ℕ) where
             (read-on pieces so x e beyond cuts begins-further)
 
 -- at the end variables are warned of
-pub warns-all : (file : List ℕ) (f : Found) (found : List Warning) → Done file f → AddsAll (IsOfVariable file) f.warnings found → Warns file found
-warns-all file f found d a = go (list_any is_unreadable d.pieces) refl
+pub warns-all : (file : List ℕ) (f : Found) (found : List Warning) (d : Done file f) → AddsAll (λ w. IsPlace file (warned_place w)) f.warnings found
+    → (list_any is_unreadable d.pieces ≡ false → AddsZip (IsUnused file) (unused d.pieces) f.warnings found) → Warns file found
+warns-all file f found d a u = go (list_any is_unreadable d.pieces) refl
   where
-    placed : AddsAll (λ w. IsPlace file (warned_place w)) f.warnings found
-    placed = record {
-      more = a.more;
-      added = a.added;
-      all = All-weaker (IsOfVariable file) (λ w. IsPlace file (warned_place w)) (λ w is. is.place) a.more a.all;
-    }
-
     go : (b : Bool) → list_any is_unreadable d.pieces ≡ b → Warns file found
     go true e =
-        let b = begins-more (IsWarning file) (λ w. IsPlace file (warned_place w)) (suspicious (readable d.pieces)) f.warnings found d.begun.warnings placed in
+        let b = begins-more (IsWarning file) (λ w. IsPlace file (warned_place w)) (suspicious (readable d.pieces)) f.warnings found d.begun.warnings a in
         record {
           pieces = d.pieces;
           cut = d.cut;
@@ -378,13 +397,26 @@ warns-all file f found d a = go (list_any is_unreadable d.pieces) refl
           placed = b.placed;
           variables = λ f. absurd (let both = sym e ∙ f in cc);
         }
-    go false e = record {
-      pieces = d.pieces;
-      cut = d.cut;
-      front = f.warnings;
-      beyond = a.more;
-      parts = a.added;
-      told = subst (λ ps. AllZip (IsWarning file) (suspicious ps) f.warnings) (sym (readable-all d.pieces e)) (d.exact e).warnings;
-      placed = placed.all;
-      variables = λ same. a.all;
-    }
+    go false e =
+        let z = u e in
+        record {
+          pieces = d.pieces;
+          cut = d.cut;
+          front = f.warnings;
+          beyond = z.more;
+          parts = z.added;
+          told = subst (λ ps. AllZip (IsWarning file) (suspicious ps) f.warnings) (sym (readable-all d.pieces e)) (d.exact e).warnings;
+          placed = unused-placed (unused d.pieces) z.more z.told;
+          variables = λ same. z.told;
+        }
+      where
+        unused-placed : (ds : List Declared) (ws : List Warning) → AllZip (IsUnused file) ds ws → All (λ w. IsPlace file (warned_place w)) ws
+        unused-placed [] [] z = All-nil (λ w. IsPlace file (warned_place w))
+        unused-placed [] (w ∷ ws) z = absurd z
+        unused-placed (d ∷ ds) [] z = absurd z
+        unused-placed (d ∷ ds) (w ∷ ws) z = All-cons (λ w. IsPlace file (warned_place w)) w ws z.0.place (unused-placed ds ws z.1)
+
+-- of a result of which one thing is so, and another under a condition
+pub ok-both : {A E C : Type 0} (P Q R : A → Type 0) (r : Result A E) → IfOk r P → (C → IfOk r Q) → ((a : A) → P a → (C → Q a) → R a) → IfOk r R
+ok-both P Q R (Ok a) p q next = next a p q
+ok-both P Q R (Err e) p q next = tt

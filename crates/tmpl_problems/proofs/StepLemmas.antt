@@ -19,7 +19,7 @@ use Rattle.tmpl_refusals.specs.Column.{IsPlace}
 use Rattle.tmpl_problems.specs.Survey.{IsNamed, IsWarning, named_place, names_from, suspicious, tokens_in}
 use Rattle.tmpl_problems.specs.Sign.{first_sign}
 use Rattle.tmpl_problems.specs.Tokens.{name_after}
-use Rattle.tmpl_problems.specs.computed.Adds.{AddsAfter, AddsAll, AddsName, AddsSign}
+use Rattle.tmpl_problems.specs.computed.Adds.{AddsAfter, AddsAll, AddsName, AddsSign, AddsZip}
 use Rattle.tmpl_problems.specs.declared.survey.Named.{Named}
 use Rattle.tmpl_problems.specs.declared.survey.Warning.{Warning}
 
@@ -41,18 +41,12 @@ enumerate-append n [] ys = ap (λ k. enumerate_from k ys) (omega arith)
 enumerate-append n (x ∷ xs) ys =
     ap (λ zs. (n, x) ∷ zs) (enumerate-append (n + 1) xs ys ∙ ap (λ k. enumerate_from (n + 1) xs ++ enumerate_from k ys) (omega arith))
 
--- what is added at the end
-pub record Adds {A B : Type 0} (R : A → B → Type 0) (xs : List A) (old new : List B) : Type 0 where
-  pub more : List B
-  pub added : new ≡ old ++ more
-  pub told : AllZip R xs more
-
-pub adds-zip : {A B : Type 0} (R : A → B → Type 0) (all xs ys : List A) (old new : List B) → all ≡ xs ++ ys → AllZip R xs old → Adds R ys old new → AllZip R all new
+pub adds-zip : {A B : Type 0} (R : A → B → Type 0) (all xs ys : List A) (old new : List B) → all ≡ xs ++ ys → AllZip R xs old → AddsZip R ys old new → AllZip R all new
 adds-zip R all xs ys old new e p a =
     subst (λ zs. AllZip R zs new) (sym e) (subst (λ bs. AllZip R (xs ++ ys) bs) (sym a.added) (zip-append R xs old ys a.more p a.told))
 
 -- .. is so that this holds of each
-pub adds-all : {A B : Type 0} (R : A → B → Type 0) (P : B → Type 0) → ((x : A) (b : B) → R x b → P b) → (xs : List A) (old new : List B) → Adds R xs old new → AddsAll P old new
+pub adds-all : {A B : Type 0} (R : A → B → Type 0) (P : B → Type 0) → ((x : A) (b : B) → R x b → P b) → (xs : List A) (old new : List B) → AddsZip R xs old new → AddsAll P old new
 adds-all {A = A} {B = B} R P so xs old new a = record { more = a.more; added = a.added; all = by xs a.more a.told }
   where
     by : (xs : List A) (bs : List B) → AllZip R xs bs → All P bs
@@ -76,7 +70,7 @@ module _ (words : List (List ℕ)) where
 
 module _ (file : List ℕ) (opens : ℕ) (old new : List Named) where
   name-adds : (k : ℕ) → BeginsAt file k opens → (o : Option (List ℕ)) → AddsName file opens o old new
-      → Adds (IsNamed file) (cons_option (option_map (λ (name : List ℕ). (k, name)) o) []) old new
+      → AddsZip (IsNamed file) (cons_option (option_map (λ (name : List ℕ). (k, name)) o) []) old new
   name-adds k b None a = record { more = []; added = a ∙ sym (append-nil old); told = tt }
   name-adds k b (Some name) a = record {
     more = a.one ∷ [];
@@ -93,11 +87,11 @@ module _ (file : List ℕ) (opens : ℕ) (old new : List Named) where
   }
 
   pub after-adds : (words : List (List ℕ)) (ts : List held.Token) (line k : ℕ) → BeginsAt file k opens → AddsAfter file opens words ts (variant.Action line) old new
-      → Adds (IsNamed file) (names_from words k (pieces_after ts (variant.Action line))) old new
+      → AddsZip (IsNamed file) (names_from words k (pieces_after ts (variant.Action line))) old new
   after-adds words ts line k b a = name-adds k b (name_after words (map token_of ts)) a
 
   pub nothing-adds : (words : List (List ℕ)) (ts : List held.Token) (k : ℕ) → AddsAfter file opens words ts variant.Nothing old new
-      → Adds (IsNamed file) (names_from words k (pieces_after ts variant.Nothing)) old new
+      → AddsZip (IsNamed file) (names_from words k (pieces_after ts variant.Nothing)) old new
   nothing-adds words ts k a = record { more = []; added = a ∙ sym (append-nil old); told = tt }
 
   pub after-placed : (words : List (List ℕ)) (ts : List held.Token) (after : AfterText) → AddsAfter file opens words ts after old new
@@ -121,10 +115,10 @@ suspicious-after ts (variant.Action line) = refl
 suspicious-after ts (variant.Unreadable line) = refl
 
 pub sign-adds : (file : List ℕ) (start line : ℕ) (bytes : List ℕ) (old new : List Warning) → StandsAt file start bytes → AddsSign file start (first_sign bytes) old new
-    → Adds (IsWarning file) (suspicious (text_piece line bytes)) old new
-sign-adds file start line bytes old new stands a = subst (λ xs. Adds (IsWarning file) xs old new) (sym (suspicious-text line bytes)) (by (first_sign bytes) a)
+    → AddsZip (IsWarning file) (suspicious (text_piece line bytes)) old new
+sign-adds file start line bytes old new stands a = subst (λ xs. AddsZip (IsWarning file) xs old new) (sym (suspicious-text line bytes)) (by (first_sign bytes) a)
   where
-    by : (o : Option (ℕ × List ℕ)) → AddsSign file start o old new → Adds (IsWarning file) (cons_option (option_map (λ (s : ℕ × List ℕ). (bytes, s.0, s.1)) o) []) old new
+    by : (o : Option (ℕ × List ℕ)) → AddsSign file start o old new → AddsZip (IsWarning file) (cons_option (option_map (λ (s : ℕ × List ℕ). (bytes, s.0, s.1)) o) []) old new
     by None a = record { more = []; added = a ∙ sym (append-nil old); told = tt }
     by (Some at) a = record {
       more = a.one ∷ [];

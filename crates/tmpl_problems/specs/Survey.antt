@@ -1,8 +1,9 @@
 -- What is suspicious in a file that may be accepted all the same, and the templates that it defines and calls: our own
 -- rules.
-use Rattle.std.specs.Prelude.{◌≡◌, ℕ, ◌+◌, Bool, true, false, List, [], ◌∷◌, ◌++◌, codes, string_bytes, All}
-use Rattle.std.specs.Prelude.{Option, None, option_map, if◌then◌else◌}
-use Rattle.std.specs.List.{AllZip, enumerate_from, filter_map, list_any}
+use Rattle.std.specs.Prelude.{◌≡◌, ℕ, ◌+◌, ◌==◌, nat_le, Bool, true, false, not, ◌&&◌, ◌||◌, List, [], ◌∷◌, ◌++◌, codes}
+use Rattle.std.specs.Prelude.{Option, None, option_map, if◌then◌else◌, length, map, filter, string_bytes, All}
+use Rattle.std.specs.List.{AllZip, enumerate_from, filter_map, flat_map, list_any}
+use Rattle.std.specs.Str.{bytes_eq}
 use Rattle.tmpl_lex.specs.Begin.{BeginsAt}
 use Rattle.tmpl_lex.specs.Cut.{Cuts}
 use Rattle.tmpl_lex.specs.Piece.{Token, Piece, text, action, unreadable}
@@ -10,7 +11,7 @@ use Rattle.tmpl_lex.specs.Place.{StandsAt}
 use Rattle.tmpl_refusals.specs.Column.{IsPlace}
 use Rattle.tmpl_refusals.specs.declared.place.Place.{Place}
 use Rattle.tmpl_problems.specs.Sign.{first_sign}
-use Rattle.tmpl_problems.specs.Tokens.{name_after, unused_words}
+use Rattle.tmpl_problems.specs.Tokens.{declared_names, name_after, unused_words, used_names}
 use Rattle.tmpl_problems.specs.declared.survey.Named.{Named}
 use Rattle.tmpl_problems.specs.declared.survey.Warning.{Warning}
 
@@ -90,14 +91,51 @@ pub record IsWarning (file : List ℕ) (sign : List ℕ × ℕ × List ℕ) (w :
   pub words : string_bytes w.text ≡ sign.2
   pub place : IsPlace file (warned_place w)
 
--- a warning that nothing uses a variable of some name, at a place of the file
-pub record IsOfVariable (file : List ℕ) (w : Warning) : Type 0 where
+-- ---- variables
+
+-- a variable that an action declares: the number of its piece, its name, and whether it is the first of two, which has
+-- to be there for the second to be
+pub record Declared : Type 0 where
+  pub piece : ℕ
   pub name : List ℕ
-  pub words : string_bytes w.text ≡ unused_words name
+  pub is_first : Bool
+
+-- the names that an action of this number declares, as variables
+abbrev pub declared_in : ℕ → List (List ℕ) → List Declared
+declared_in number names =
+    map (λ x. record { piece = number; name = x.1; is_first = length names == 2 && x.0 == 0 }) (enumerate_from 0 names)
+
+-- the variables that pieces declare, and the names that they use, each with the number of its piece
+abbrev pub declared_from : ℕ → List Piece → List Declared
+declared_from first pieces =
+    flat_map (λ p. declared_in p.0 (declared_names (tokens_in p.1))) (enumerate_from first pieces)
+
+abbrev pub used_from : ℕ → List Piece → List (ℕ × List ℕ)
+used_from first pieces =
+    flat_map (λ p. map (λ name. (p.0, name)) (used_names (tokens_in p.1))) (enumerate_from first pieces)
+
+-- those whose names are not among these, and of equal names the first
+abbrev pub firsts : List (List ℕ) → List Declared → List Declared
+firsts known [] = []
+firsts known (d ∷ ds) =
+    if list_any (bytes_eq d.name) known then firsts (d.name ∷ known) ds else d ∷ firsts (d.name ∷ known) ds
+
+-- nothing may be said of it, or its name is used in its piece or in one after it
+abbrev pub is_used : List (ℕ × List ℕ) → Declared → Bool
+is_used uses d = d.is_first || list_any (λ u. nat_le d.piece u.0 && bytes_eq d.name u.1) uses
+
+-- the variables that nothing uses, each where its name is first declared
+abbrev pub unused : List Piece → List Declared
+unused pieces = filter (λ d. not (is_used (used_from 0 pieces) d)) (firsts [] (declared_from 0 pieces))
+
+-- the variable is told as unused, where the action begins that declares it
+pub record IsUnused (file : List ℕ) (d : Declared) (w : Warning) : Type 0 where
+  pub words : string_bytes w.text ≡ unused_words d.name
+  pub begins : BeginsAt file d.piece w.start
   pub place : IsPlace file (warned_place w)
 
--- the warnings of a file are those of its texts, in order, and then others at places of the file, which are of
--- variables where all its pieces can be read
+-- the warnings of a file are those of its texts, in order, and then those of variables that nothing uses; where one of
+-- its pieces can't be read, of those beyond it no more is said than that they are at places of the file
 pub record Warns (file : List ℕ) (found : List Warning) : Type 0 where
   pub pieces : List Piece
   pub cut : Cuts false 1 file pieces
@@ -106,4 +144,4 @@ pub record Warns (file : List ℕ) (found : List Warning) : Type 0 where
   pub parts : found ≡ front ++ beyond
   pub told : AllZip (IsWarning file) (suspicious (readable pieces)) front
   pub placed : All (λ w. IsPlace file (warned_place w)) beyond
-  pub variables : list_any is_unreadable pieces ≡ false → All (IsOfVariable file) beyond
+  pub variables : list_any is_unreadable pieces ≡ false → AllZip (IsUnused file) (unused pieces) beyond

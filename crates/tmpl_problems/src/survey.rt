@@ -1,15 +1,18 @@
 //! What is suspicious in a file, though it is not refused: names that nothing uses, and texts that look like actions.
 
-ghost use Rattle.std.specs.Prelude.{◌≡◌, ◌≤◌, ◌<◌, ℕ, List, [], All, IfOk, IfSome, OnOk};
-ghost use Rattle.std.specs.Prelude.{length, map, option_map, string_bytes};
+ghost use Rattle.std.specs.Prelude.{◌≡◌, ◌≤◌, ◌<◌, ◌==◌, ◌&&◌, ℕ, List, [], ◌∷◌, All, IfOk, IfSome, OnOk};
+ghost use Rattle.std.specs.Prelude.{length, map, filter, not, option_map, string_bytes};
+ghost use Rattle.std.specs.List.{AllZip};
 ghost use Rattle.std.specs.Option.{option_copied};
 ghost use Rattle.tmpl_lex.specs.View.{token_of};
 ghost use Rattle.tmpl_lex.specs.Place.{StandsAt};
 ghost use Rattle.tmpl_refusals.specs.Column.{IsPlace};
 ghost use Rattle.tmpl_problems.specs.Sign as sign;
 ghost use Rattle.tmpl_problems.specs.Tokens as token;
-ghost use Rattle.tmpl_problems.specs.Survey.{IsOfVariable, Names, Warns, callers, definers, named_place, warned_place};
-ghost use Rattle.tmpl_problems.specs.computed.Adds.{AddsAfter, AddsAll, AddsName, AddsSign, ArePlaced};
+ghost use Rattle.tmpl_problems.specs.Survey.{Declared, IsUnused, Names, Warns, callers, definers, is_used, named_place};
+ghost use Rattle.tmpl_problems.specs.Survey.{warned_place};
+ghost use Rattle.tmpl_problems.specs.computed.Adds.{AddsAfter, AddsAll, AddsName, AddsSign, AddsZip, ArePlaced, IsNoted};
+ghost use Rattle.tmpl_problems.specs.computed.Adds.{Notes, Passes, PassesAfter, mark, mark_each, note};
 
 use crate::definitions::name_after;
 use crate::scan::{place_in, rest_after};
@@ -108,7 +111,7 @@ impl<'b> Surveyor<'b> {
         ensures warnings { result.warnings.items ≡ [] }
         ensures defined { result.defined.items ≡ [] }
         ensures called { result.called.items ≡ [] }
-        ensures variables { (file : List ℕ) → ArePlaced file result.variables.entries }
+        ensures variables { result.variables.entries ≡ [] }
     {
         Surveyor {
             alloc,
@@ -128,9 +131,9 @@ impl<'b> Surveyor<'b> {
         after: AfterText,
         tokens: &[Token<'b>],
     ) -> Result<Place, AllocError>
-        requires place { IsPlace file.now place }
-        requires placed { ArePlaced file.now self.old.variables.entries }
-        ensures placed { OnOk result (ArePlaced file.now self.new.variables.entries) }
+        requires { IsPlace file.now place }
+        ensures variables { OnOk result (PassesAfter file.now opens tokens.now after
+            self.old.variables.entries self.new.variables.entries) }
         ensures warnings { self.new.warnings ≡ self.old.warnings }
         ensures defined { OnOk result (AddsAfter file.now opens definers tokens.now after
             self.old.defined.items self.new.defined.items) }
@@ -154,9 +157,9 @@ impl<'b> Surveyor<'b> {
         opens: usize,
         tokens: &[Token<'b>],
     ) -> Result<Place, AllocError>
-        requires place { IsPlace file.now place }
-        requires placed { ArePlaced file.now self.old.variables.entries }
-        ensures placed { OnOk result (ArePlaced file.now self.new.variables.entries) }
+        requires { IsPlace file.now place }
+        ensures variables { OnOk result (Passes file.now opens (map token_of tokens.now)
+            self.old.variables.entries self.new.variables.entries) }
         ensures warnings { self.new.warnings ≡ self.old.warnings }
         ensures defined { OnOk result (AddsName file.now opens (token.name_after definers (map token_of tokens.now))
             self.old.defined.items self.new.defined.items) }
@@ -177,8 +180,11 @@ impl<'b> Surveyor<'b> {
     fn finish(self) -> Result<Survey<'b>, AllocError>
         ensures defined { IfOk result (λ s. s.defined ≡ self.entry.defined) }
         ensures called { IfOk result (λ s. s.called ≡ self.entry.called) }
-        ensures warnings { (file : List ℕ) → ArePlaced file self.entry.variables.entries → IfOk result (λ s.
-            AddsAll (IsOfVariable file) self.entry.warnings.items s.warnings.items) }
+        ensures placed { (file : List ℕ) → ArePlaced file self.entry.variables.entries → IfOk result (λ s.
+            AddsAll (λ w. IsPlace file (warned_place w)) self.entry.warnings.items s.warnings.items) }
+        ensures unused { (file : List ℕ) (uses : List (ℕ × List ℕ)) (ds : List Declared)
+            → AllZip (IsNoted file uses) ds self.entry.variables.entries → IfOk result (λ s.
+            AddsZip (IsUnused file) (filter (λ d. not (is_used uses d)) ds) self.entry.warnings.items s.warnings.items) }
     {
         let Surveyor {
             alloc,
@@ -202,8 +208,11 @@ fn warn_of_unused(
     warnings: &mut Vec<Warning>,
     variables: &Variables<'_>,
 ) -> Result<(), AllocError>
-    ensures { (file : List ℕ) → ArePlaced file variables.now.entries → OnOk result
-        (AddsAll (IsOfVariable file) warnings.old.items warnings.new.items) }
+    ensures placed { (file : List ℕ) → ArePlaced file variables.now.entries → OnOk result
+        (AddsAll (λ w. IsPlace file (warned_place w)) warnings.old.items warnings.new.items) }
+    ensures unused { (file : List ℕ) (uses : List (ℕ × List ℕ)) (ds : List Declared)
+        → AllZip (IsNoted file uses) ds variables.now.entries → OnOk result
+        (AddsZip (IsUnused file) (filter (λ d. not (is_used uses d)) ds) warnings.old.items warnings.new.items) }
 {
     for number in 0..variables.len() {
         if let Some((name, variable)) = variables.get_index(number) {
@@ -220,8 +229,11 @@ fn warn_if_unused(
     name: &[u8],
     variable: Variable,
 ) -> Result<(), AllocError>
-    ensures { (file : List ℕ) → IsPlace file variable.place → OnOk result
-        (AddsAll (IsOfVariable file) warnings.old.items warnings.new.items) }
+    ensures placed { (file : List ℕ) → IsPlace file variable.place → OnOk result
+        (AddsAll (λ w. IsPlace file (warned_place w)) warnings.old.items warnings.new.items) }
+    ensures unused { (file : List ℕ) (uses : List (ℕ × List ℕ)) (d : Declared)
+        → IsNoted file uses d (name.entry, variable) → OnOk result
+        (AddsZip (IsUnused file) (filter (λ d. not (is_used uses d)) (d ∷ [])) warnings.old.items warnings.new.items) }
 {
     if !variable.is_used {
         warnings.push(warning_at(variable.place, unused_text(alloc, name)?))?;
@@ -299,25 +311,29 @@ fn declare<'b>(
     opens: usize,
     tokens: &[Token<'b>],
 ) -> Result<Place, AllocError>
-    requires place { IsPlace file.now place }
-    requires placed { ArePlaced file.now variables.old.entries }
-    ensures placed { OnOk result (ArePlaced file.now variables.new.entries) }
+    requires { IsPlace file.now place }
+    ensures notes { OnOk result (Notes file.now opens (token.declared_names (map token_of tokens.now))
+        variables.old.entries variables.new.entries) }
     ensures place { IfOk result (λ p. IsPlace file.now p) }
 {
     let names = declared_names(alloc, tokens)?;
-    if names.is_empty() {
-        return Ok(place);
-    }
     let here = place_in(place, file, opens);
     let count = names.len();
     for (index, name) in names.as_slice().iter().enumerate() {
         let variable = Variable {
             place: here,
-            is_used: count == 2 && index == 0,
+            is_used: is_first_of_two(index, count),
         };
         declare_name(variables, *name, variable)?;
     }
     Ok(here)
+}
+
+/// Whether it is the first of two.
+fn is_first_of_two(index: usize, count: usize) -> bool
+    ensures { result ≡ (count == 2 && index == 0) }
+{
+    count == 2 && index == 0
 }
 
 /// Notes a variable, unless one of its name is noted.
@@ -326,8 +342,7 @@ fn declare_name<'b>(
     name: &'b [u8],
     variable: Variable,
 ) -> Result<(), AllocError>
-    ensures { (file : List ℕ) → ArePlaced file variables.old.entries → IsPlace file variable.place
-        → OnOk result (ArePlaced file variables.new.entries) }
+    ensures { OnOk result (variables.new.entries ≡ note name.entry variable variables.old.entries) }
 {
     if !variables.contains_key(name) {
         variables.insert(name, variable)?;
@@ -337,7 +352,7 @@ fn declare_name<'b>(
 
 /// Notes the variables that an action uses.
 fn use_variables(variables: &mut Variables<'_>, tokens: &[Token<'_>])
-    ensures { (file : List ℕ) → ArePlaced file variables.old.entries → ArePlaced file variables.new.entries }
+    ensures { variables.new.entries ≡ mark_each (token.used_names (map token_of tokens.now)) variables.old.entries }
 {
     let (_, rest) = tokens.split_at(declaration_len(tokens));
     for token in rest {
@@ -349,7 +364,7 @@ fn use_variables(variables: &mut Variables<'_>, tokens: &[Token<'_>])
 
 /// Notes that the variable of this name is used, if there is one.
 fn use_variable(variables: &mut Variables<'_>, name: &[u8])
-    ensures { (file : List ℕ) → ArePlaced file variables.old.entries → ArePlaced file variables.new.entries }
+    ensures { variables.new.entries ≡ mark name.now variables.old.entries }
 {
     if let Some(variable) = variables.get_mut(name) {
         variable.is_used = true;

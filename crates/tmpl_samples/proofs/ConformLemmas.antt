@@ -73,11 +73,11 @@ pub if-some : {A : Type 0} (P : A → Type 0) (o : Option A) (a : A) → IfSome 
 if-some P None a h is = cc
 if-some P (Some b) a h is = let e : b ≡ a = cc in subst P e h
 
-mapped : {A B : Type 0} (Q : B → Type 0) (f : A → B) {P : A → Type 0} (o : Option A) → IfSome o P → ((a : A) → P a → Q (f a)) → IfSome (option_map f o) Q
+pub mapped : {A B : Type 0} (Q : B → Type 0) (f : A → B) {P : A → Type 0} (o : Option A) → IfSome o P → ((a : A) → P a → Q (f a)) → IfSome (option_map f o) Q
 mapped Q f None h next = tt
 mapped Q f (Some a) h next = next a h
 
-chained : {A B : Type 0} (Q : B → Type 0) (f : A → Option B) {P : A → Type 0} (o : Option A) → IfSome o P → ((a : A) → P a → IfSome (f a) Q)
+pub chained : {A B : Type 0} (Q : B → Type 0) (f : A → Option B) {P : A → Type 0} (o : Option A) → IfSome o P → ((a : A) → P a → IfSome (f a) Q)
     → IfSome (option_and_then f o) Q
 chained Q f None h next = tt
 chained Q f (Some a) h next = next a h
@@ -108,7 +108,7 @@ bytes_eq-sym : (k l : List ℕ) → bytes_eq k l ≡ true → bytes_eq l k ≡ t
 bytes_eq-sym k l e = (bytes_eq-Decides l k).1 (sym ((bytes_eq-Decides k l).0 e))
 
 -- what an object has under a key, and the entry of that key in its value
-abbrev AreAlike : List ℕ → Option Data → Option Value → Type 0
+abbrev pub AreAlike : List ℕ → Option Data → Option Value → Type 0
 AreAlike k None found = found ≡ None
 AreAlike k (Some d) found = (w : Value) × (tree_value d ≡ Some w) × (found ≡ Some w)
 
@@ -123,7 +123,7 @@ alike-more k l Less d w found rest e is h = rw (sym e) h
 alike-more k l Equal d w found rest e is h = rw (sym e) (w, is, refl)
 alike-more k l Greater d w found rest e is h = rw (sym e) h
 
-alike : (k : List ℕ) (ms : Members) → IfSome (tree_entries ms) (λ es. AreAlike k (get_member k ms) (entry_at k es))
+pub alike : (k : List ℕ) (ms : Members) → IfSome (tree_entries ms) (λ es. AreAlike k (get_member k ms) (entry_at k es))
 alike k no_members = refl
 alike k (member l d ms) = chained _ (λ v. option_map (entry l v) (tree_entries ms)) (tree_value d) (if-all (λ w. tree_value d ≡ Some w) (tree_value d) (λ w is. is)) (λ w is.
     mapped _ (entry l w) (tree_entries ms) (alike k ms) (λ es h.
@@ -152,6 +152,10 @@ abbrev pub HasEach : Members → Items → Type 0
 HasEach ms no_items = Unit {0}
 HasEach ms (json.item d ds) = ((k : List ℕ) × (d ≡ json.string k) × IsSome (get_member k ms)) × HasEach ms ds
 
+pub there : (k : List ℕ) (o : Option Data) (p : Option Value) → AreAlike k o p → IsSome o → IsSome p
+there k None p l i = cc
+there k (Some x) p l i = let is = l.2 in rw is refl
+
 found-fits : (C : Value → Type 0) (k : List ℕ) (o : Option Data) (w : Value) → AreAlike k o (Some w) → IfSome o (λ x. IfSome (tree_value x) C) → C w
 found-fits C k None w like fits = cc
 found-fits C k (Some x) w like fits =
@@ -174,10 +178,6 @@ module _ (C : Data → Value → Type 0) where
   has-key ms es like (json.item d ks) h =
       (rw (h.0.1) (has-one ms es h.0.0 (like h.0.0) h.0.2), has-key ms es like ks h.1)
     where
-      there : (k : List ℕ) (o : Option Data) (p : Option Value) → AreAlike k o p → IsSome o → IsSome p
-      there k None p l i = cc
-      there k (Some x) p l i = let is = l.2 in rw is refl
-
       has-one : (ms : Members) (es : Entries) (k : List ℕ) → AreAlike k (get_member k ms) (entry_at k es) → IsSome (get_member k ms) → IsSome (entry_at k es)
       has-one ms es k l i = there k (get_member k ms) (entry_at k es) l i
 

@@ -1,3 +1,4 @@
 pub mod ConformLemmas
 pub mod FailureLemmas
+pub mod MeetLemmas
 pub mod StepLemmas

@@ -1,31 +1,22 @@
 -- For the loops of `infer.rt`: what one more sample, item, map or type adds.
-use Rattle.std.proofs.Common.{◌≡◌, inl, inr, ◌<◌, ◌+◌, ◌++◌, ℕ, List, [], ◌∷◌, length, take, get_or, map, flat_map, filter_map, Option, Some, None, IfSome, option_map, String, Global, BTreeMap, refl, sym, subst, ap, ◌∙◌, arith, string_cmp}
-use Rattle.std.proofs.Common.{false, bytes_eq, Less, Greater, nat_cmp, ℤ, zero, suc, ◌≤◌}
-use Rattle.std.specs.Ordering.{is_eq, ordering_reverse}
-use Rattle.std.specs.Cmp.Lexicographic.{slice_cmp}
-use Rattle.std.proofs.lemmas.Cmp.{nat_list_cmp_total}
+use Rattle.std.proofs.Common.{◌≡◌, inl, inr, ◌<◌, ◌+◌, ◌++◌, ℕ, List, [], ◌∷◌, length, take, get_or, map, flat_map, filter_map, Option, Some, None, IfSome, option_map, String, Global, BTreeMap, refl, sym, subst, ap, ◌∙◌, arith}
+use Rattle.std.proofs.Common.{bytes_eq, zero, suc, ◌≤◌}
 use Rattle.std.proofs.lemmas.Slice.Eq.{bytes_eq-Decides}
 use Rattle.std.proofs.Common.{true}
-use Rattle.std.proofs.lemmas.Map.Text.{is_eq-slice_cmp}
 use Rattle.std.specs.Borrow.{Bor}
-use Rattle.std.specs.Map.{keys_of}
 use Rattle.std.specs.List.{AllByRecursion}
-use Rattle.std.specs.List.Sorted.{IsStrictlySortedBy}
 use Rattle.std.proofs.lemmas.Grind.{flat_map-append}
 use Rattle.std.proofs.lemmas.List.{append-nil, map-append, take_more}
 use Rattle.std.proofs.lemmas.List.Elements.{filter_map-append}
 use Rattle.serde_json.specs.declared.value.Value.{Value}
 use Rattle.serde_json.specs.Data as json
 use Rattle.serde_json.specs.Data.{no_items, depth, items_depth, Data, null, boolean, number, string, array, object, Items, Members}
-use Rattle.serde_json.specs.Find.{as_array, as_i64, as_str, as_object, get_member}
+use Rattle.serde_json.specs.Find.{as_array, as_str, as_object, get_member}
 use Rattle.serde_json.specs.View.{view, items_view, members_view}
 use Rattle.tmpl_values.specs.Value as value
 use Rattle.tmpl_values.specs.Value.{Entries, no_entry, entry, IsBelow, AreRising, mapping}
-use Rattle.tmpl_values.specs.Field.{entry_at}
-use Rattle.tmpl_values.specs.Json.{tree_value, tree_items, tree_entries}
-use Rattle.tmpl_values.proofs.RisingLemmas.{AreRising-sorted}
-use Rattle.tmpl_shape.specs.Shape.{AreDistinct}
-use Rattle.tmpl_json_schema.specs.Document.{IsInstance, IsNameOfType, IsOfType, SomeItem, type_of}
+use Rattle.tmpl_values.specs.Json.{tree_value}
+use Rattle.tmpl_json_schema.specs.Document.{IsNameOfType, IsOfType, SomeItem, type_of}
 use Rattle.tmpl_samples.specs.computed.Inferred.{seen, maps_seen, items_among, items_of_list, EachValue, IsOnlyOrList}
 
 abbrev Map : Type 0
@@ -60,51 +51,6 @@ map-found maps before d m so is =
 pub map-not_found : (maps : List (Bor Map)) (before : List Data) (d : Data) → maps_seen maps ≡ filter_map as_object before
     → None ≡ as_object d → maps_seen maps ≡ filter_map as_object (before ++ d ∷ [])
 map-not_found maps before d so is = rw (so, filter_map-append as_object before (d ∷ []), ← is) (sym (append-nil _))
-
-below-apart : (k : List ℕ) (es : Entries) → IsBelow k es → AreRising es → entry_at k es ≡ None
-below-apart k no_entry below rising = refl
-below-apart k (entry l v es) below rising =
-    let above : slice_cmp nat_cmp l k ≡ Greater = nat_list_cmp_total.antisymm l k ∙ ap ordering_reverse below in
-    let apart : bytes_eq l k ≡ false = sym (is_eq-slice_cmp l k) ∙ ap is_eq above in
-    rw apart (below-apart k es (below-next k l es below rising.0) rising.1)
-  where
-    below-next : (k l : List ℕ) (es : Entries) → slice_cmp nat_cmp k l ≡ Less → IsBelow l es → IsBelow k es
-    below-next k l no_entry b r = tt
-    below-next k l (entry m v es) b r = nat_list_cmp_total.trans k l m b r
-
-pub distinct : (es : Entries) → AreRising es → AreDistinct es
-distinct no_entry h = tt
-distinct (entry k v es) h = (below-apart k es h.0 h.1, distinct es h.1)
-
-pub map-instance : (d : Data) (es : List (String Global × Value)) → Some (members_view es) ≡ as_object d → IsStrictlySortedBy string_cmp (keys_of es)
-    → IfSome (tree_value d) IsInstance
-map-instance null es is sorted = cc
-map-instance (boolean b) es is sorted = cc
-map-instance (number n) es is sorted = cc
-map-instance (string s) es is sorted = cc
-map-instance (array ds) es is sorted = cc
-map-instance (object ms) es is sorted = let same : members_view es ≡ ms = cc in subst (λ l. IfSome (option_map mapping (tree_entries l)) IsInstance) same (by (tree_entries (members_view es)) (λ out e. AreRising-sorted es out sorted e))
-  where
-    by : (o : Option Entries) → ((out : Entries) → o ≡ Some out → AreRising out) → IfSome (option_map mapping o) IsInstance
-    by None h = tt
-    by (Some out) h = distinct out (h out refl)
-
--- a sample that is no map is an instance, whatever it is
-pub other-instance : (d : Data) → None ≡ as_object d → IfSome (tree_value d) IsInstance
-other-instance null is = tt
-other-instance (boolean b) is = tt
-other-instance (number n) is = by (as_i64 n)
-  where
-    by : (o : Option ℤ) → IfSome (option_map value.number o) IsInstance
-    by None = tt
-    by (Some z) = tt
-other-instance (string s) is = tt
-other-instance (array ds) is = by (tree_items ds)
-  where
-    by : (o : Option value.Items) → IfSome (option_map value.sequence o) IsInstance
-    by None = tt
-    by (Some vs) = tt
-other-instance (object ms) is = cc
 
 -- ---- items
 

@@ -1,7 +1,8 @@
--- What it is that a failure is right: a run of the template over its data has the fault that was doubted.
-use Rattle.std.specs.Prelude.{◌≡◌, ℕ, Bool, true, false, List, [], ◌∷◌, Option, Some, Ok, IfSome, IsSome, IsUtf8}
+-- What it is that a failure is right: its data conform to the schema, and a run of the template over them has the fault
+-- that was doubted.
+use Rattle.std.specs.Prelude.{◌≡◌, ℕ, Bool, true, false, List, [], ◌∷◌, Option, Some, Ok, IfSome}
 use Rattle.std.specs.Prelude.{option_and_then, string_bytes}
-use Rattle.serde_json.specs.Read.{read}
+use Rattle.serde_json.specs.Data.{Data}
 use Rattle.tmpl_values.specs.Json.{data_of}
 use Rattle.tmpl_values.specs.Value.{Value}
 use Rattle.tmpl_syntax.specs.Set.{Template, tree_named}
@@ -10,7 +11,9 @@ use Rattle.tmpl_meaning.specs.Meaning.{Rules, ran}
 use Rattle.tmpl_meaning.specs.declared.missing_key.MissingKey.{MissingKey}
 use Rattle.tmpl_shape.specs.declared.cause.Cause as doubted
 use Rattle.tmpl_shape.specs.declared.cause.Cause.TheVariants as doubted_for
+use Rattle.tmpl_schema.specs.Safe.{MayEnd}
 use Rattle.tmpl_schema.specs.declared.failure.Doubt.{Doubt}
+use Rattle.tmpl_samples.specs.Inferred.{IsOfSchema}
 use Rattle.tmpl_samples.specs.declared.failing.Failure.{Failure}
 
 -- the rules of these runs: by this mode, 20,000 steps, and 50 templates inside one another
@@ -46,20 +49,26 @@ abbrev pub is_no_entry : Cause → Bool
 is_no_entry (lacks_entry name) = true
 is_no_entry cause = false
 
--- the data of the failure have a value, the run over that has the fault that was doubted, and the failure says whether that
--- comes by one mode alone
-abbrev pub IsRight : Rules → List Template → List ℕ → Doubt → Failure → Type 0
-IsRight rules set name doubt failure = (value : Value) × (fault : Fault)
-    × (data_of (string_bytes failure.data) ≡ Ok value) × (fault_over rules set name value ≡ Some fault)
-    × IsDoubted doubt fault × (failure.is_strict ≡ is_no_entry fault.cause)
+-- what is asked: the runs of a template of a set by these rules, over values of a schema, where a call of one of the
+-- stops is no failure
+pub record Asked : Type 0 where
+  pub rules : Rules
+  pub stops : List (List ℕ)
+  pub set : List Template
+  pub name : List ℕ
+  pub schema : Data
+
+-- the data of the failure have a value, which conforms to the schema, and the run over it has the fault that was
+-- doubted, which is none that is allowed; the failure says whether it comes by one mode alone
+abbrev pub IsRight : Asked → Doubt → Failure → Type 0
+IsRight asked doubt failure = (value : Value) × (fault : Fault)
+    × (data_of (string_bytes failure.data) ≡ Ok value) × IsOfSchema asked.schema value
+    × (fault_over asked.rules asked.set asked.name value ≡ Some fault)
+    × IsDoubted doubt fault × ¬ (MayEnd asked.stops fault.cause)
+    × (failure.is_strict ≡ is_no_entry fault.cause)
 
 -- there is one entry for each of these doubts, and a failure that is given is right of the doubt at its place
-abbrev pub AreRight : Rules → List Template → List ℕ → List Doubt → List (Option Failure) → Type 0
-AreRight rules set name [] [] = Unit {0}
-AreRight rules set name (doubt ∷ doubts) (found ∷ rest) =
-    IfSome found (IsRight rules set name doubt) × AreRight rules set name doubts rest
-AreRight rules set name doubts found = ⊥
-
--- these bytes are a JSON value
-abbrev pub IsJson : List ℕ → Type 0
-IsJson bytes = IsUtf8 bytes × IsSome (read bytes)
+abbrev pub AreRight : Asked → List Doubt → List (Option Failure) → Type 0
+AreRight asked [] [] = Unit {0}
+AreRight asked (doubt ∷ doubts) (found ∷ rest) = IfSome found (IsRight asked doubt) × AreRight asked doubts rest
+AreRight asked doubts found = ⊥

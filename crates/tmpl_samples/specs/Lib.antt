@@ -1,3 +1,4 @@
 pub mod Failing
 pub mod Inferred
+pub mod Laws
 pub mod computed

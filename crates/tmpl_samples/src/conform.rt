@@ -1,6 +1,18 @@
 //! Whether a value conforms to a schema, by all its keywords. Where that is not seen, as of a `pattern`, it does not.
+ghost use Rattle.std.specs.Prelude.{◌≡◌, ◌<◌, ◌≤◌, Bool, IfSome, IsSome, Some, codes, length, true};
+ghost use Rattle.percent_encoding.specs.Percent.{percent_decode};
+ghost use Rattle.serde_json.specs.Data.{object};
+ghost use Rattle.serde_json.specs.Find.{as_object, get};
+ghost use Rattle.serde_json.specs.View.{view, items_view, members_view};
+ghost use Rattle.tmpl_values.specs.Value.{mapping, sequence};
+ghost use Rattle.tmpl_values.specs.Json.{tree_value, tree_items, tree_entries};
+ghost use Rattle.tmpl_json_schema.specs.Document.{FitsAdditional, FitsItems, FitsProperties, FitsSome, HasItems, HasKey, HasKeys};
+ghost use Rattle.tmpl_json_schema.specs.Document.{HasType, IsConstant, IsOfType, IsOneOf, conforms_in, fragment_of};
+ghost use Rattle.tmpl_json_schema.specs.Document.{in_properties, refer};
+ghost use Rattle.tmpl_samples.specs.computed.Conformed.{AreApart, IsAtLeast, Meets, MeetsEach, MeetsOfKind};
 
 use serde_json::{Map, Number, Value};
+use std::str::from_utf8;
 
 /// The largest whole number that has an exact neighbor among floats.
 const EXACT: i64 = 9_007_199_254_740_992;
@@ -29,36 +41,85 @@ pub(crate) fn text_of_format(format: &str) -> Option<&'static str> {
 }
 
 /// What a `$ref` within a document points to; none where it has escapes of a URI.
-pub(crate) fn referred<'d>(root: &'d Value, reference: &Value) -> Option<&'d Value> {
-    let Value::String(reference) = reference else {
-        return None;
-    };
-    let pointer = reference.as_str().strip_prefix('#')?;
-    if pointer.as_bytes().contains(&b'%') {
+pub(crate) fn referred<'d>(root: &'d Value, reference: &Value) -> Option<&'d Value>
+    ensures { IfSome result (λ schema. refer (view root.now) (view reference.now) ≡ Some (view schema.now)) }
+{
+    match reference {
+        Value::String(reference) => root.pointer(fragment_in(reference.as_str())?),
+        _ => None,
+    }
+}
+
+/// The JSON Pointer of a reference within the document; none where it has escapes of a URI.
+fn fragment_in(reference: &str) -> Option<&str>
+    ensures { IfSome result (λ pointer. fragment_of reference.now ≡ Some pointer.now) }
+{
+    let pointer = after_mark(reference)?;
+    if pointer.contains(&b'%') {
         return None;
     }
-    root.pointer(pointer)
+    match from_utf8(pointer) {
+        Ok(pointer) => Some(pointer),
+        Err(_) => None,
+    }
+}
+
+/// What stands after the `#` with which a reference begins, if it does.
+fn after_mark(reference: &str) -> Option<&[u8]>
+    ensures { IfSome result (λ rest. fragment_of reference.now ≡ Some (percent_decode rest.now)) }
+{
+    match reference.as_bytes() {
+        [b'#', rest @ ..] => Some(rest),
+        _ => None,
+    }
 }
 
 /// Whether a value conforms to a schema of the document, as far as this many levels show.
 #[cycle(conform)]
-pub(crate) fn conforms(root: &Value, levels: usize, schema: &Value, value: &Value) -> bool {
+pub(crate) fn conforms(root: &Value, levels: usize, schema: &Value, value: &Value) -> bool
+    ensures { result ≡ true → IfSome (tree_value (view value.now))
+        (conforms_in (view root.now) levels (view schema.now)) }
+{
     if levels == 0 {
         return false;
     }
-    let fewer = levels - 1;
     match schema {
         Value::Bool(is_any) => *is_any,
         Value::Object(rules) => {
-            for (keyword, rule) in rules.iter() {
-                if !meets(root, fewer, schema, keyword.as_str(), rule, value) {
-                    return false;
-                }
-            }
-            true
+            count_keys(value);
+            meets_all(root, levels - 1, schema, rules, value)
         }
         _ => false,
     }
+}
+
+/// Counts the keys of a value, for what that says: a map has each of them once.
+pub(crate) fn count_keys(value: &Value)
+    ensures { IfSome (as_object (view value.now)) AreApart }
+{
+    if let Value::Object(members) = value {
+        let _count = members.len();
+    }
+}
+
+/// Whether a value meets each keyword of a schema.
+#[cycle(conform)]
+fn meets_all(
+    root: &Value,
+    levels: usize,
+    schema: &Value,
+    rules: &Map<String, Value>,
+    value: &Value,
+) -> bool
+    ensures { result ≡ true → IfSome (tree_value (view value.now)) (MeetsEach (view root.now)
+        (conforms_in (view root.now) levels) (view schema.now) (members_view rules.now.entries)) }
+{
+    for (keyword, rule) in rules.iter() {
+        if !meets(root, levels, schema, keyword.as_str(), rule, value) {
+            return false;
+        }
+    }
+    true
 }
 
 /// Whether a value meets a keyword of a schema.
@@ -70,16 +131,19 @@ fn meets(
     keyword: &str,
     rule: &Value,
     value: &Value,
-) -> bool {
+) -> bool
+    ensures { result ≡ true → IfSome (tree_value (view value.now)) (Meets (view root.now)
+        (conforms_in (view root.now) levels) (view schema.now) keyword.now (view rule.now)) }
+{
     match keyword {
         "type" => is_of_types(rule, value),
-        "const" => *rule == *value,
+        "const" => is_constant(rule, value),
         "enum" => is_among(rule, value),
         "$ref" => match referred(root, rule) {
             Some(schema) => conforms(root, levels, schema, value),
             None => false,
         },
-        "anyOf" => count_met(root, levels, rule, value) > 0,
+        "anyOf" => count_met(root, levels, rule, value) >= 1,
         "oneOf" => count_met(root, levels, rule, value) == 1,
         _ => meets_of_kind(root, levels, schema, keyword, rule, value),
     }
@@ -94,7 +158,10 @@ fn meets_of_kind(
     keyword: &str,
     rule: &Value,
     value: &Value,
-) -> bool {
+) -> bool
+    ensures { result ≡ true → IfSome (tree_value (view value.now)) (MeetsOfKind
+        (conforms_in (view root.now) levels) (view schema.now) keyword.now (view rule.now)) }
+{
     match value {
         Value::Null | Value::Bool(_) => true,
         Value::Number(number) => meets_of_number(keyword, rule, number),
@@ -116,7 +183,10 @@ fn meets_of_kind(
 
 /// To how many of the schemas a value conforms.
 #[cycle(conform)]
-fn count_met(root: &Value, levels: usize, schemas: &Value, value: &Value) -> usize {
+fn count_met(root: &Value, levels: usize, schemas: &Value, value: &Value) -> usize
+    ensures { 1 ≤ result → IfSome (tree_value (view value.now))
+        (λ v. FitsSome (conforms_in (view root.now) levels) v (view schemas.now)) }
+{
     let mut count: usize = 0;
     if let Value::Array(schemas) = schemas {
         for schema in schemas {
@@ -130,7 +200,10 @@ fn count_met(root: &Value, levels: usize, schemas: &Value, value: &Value) -> usi
 
 /// Whether each item conforms to a schema.
 #[cycle(conform)]
-fn all_conform(root: &Value, levels: usize, schema: &Value, items: &[Value]) -> bool {
+fn all_conform(root: &Value, levels: usize, schema: &Value, items: &[Value]) -> bool
+    ensures { result ≡ true → IfSome (tree_items (items_view items.now))
+        (λ vs. FitsItems (conforms_in (view root.now) levels) (sequence vs) (view schema.now)) }
+{
     for item in items {
         if !conforms(root, levels, schema, item) {
             return false;
@@ -146,7 +219,11 @@ fn properties_conform(
     levels: usize,
     properties: &Value,
     members: &Map<String, Value>,
-) -> bool {
+) -> bool
+    ensures { result ≡ true → IfSome (tree_entries (members_view members.now.entries))
+        (λ es. FitsProperties (conforms_in (view root.now) levels) (mapping es) (view properties.now)) }
+{
+    count_keys(properties);
     for (name, member) in members.iter() {
         if let Some(schema) = properties.get(name.as_str()) {
             if !conforms(root, levels, schema, member) {
@@ -165,7 +242,11 @@ fn others_conform(
     schema: &Value,
     others: &Value,
     members: &Map<String, Value>,
-) -> bool {
+) -> bool
+    ensures { result ≡ true → IfSome (tree_entries (members_view members.now.entries))
+        (λ es. FitsAdditional (conforms_in (view root.now) levels) (get (codes "properties") (view schema.now))
+        (mapping es) (view others.now)) }
+{
     for (name, member) in members.iter() {
         if !is_property(schema, name.as_str()) && !conforms(root, levels, others, member) {
             return false;
@@ -175,7 +256,9 @@ fn others_conform(
 }
 
 /// Whether the properties of a schema have this name.
-pub(crate) fn is_property(schema: &Value, name: &str) -> bool {
+pub(crate) fn is_property(schema: &Value, name: &str) -> bool
+    ensures { result ≡ in_properties name.now (get (codes "properties") (view schema.now)) }
+{
     match schema.get("properties") {
         Some(properties) => properties.get(name).is_some(),
         None => false,
@@ -183,7 +266,9 @@ pub(crate) fn is_property(schema: &Value, name: &str) -> bool {
 }
 
 /// Whether a value is of the type of this name, or of one of these.
-fn is_of_types(types: &Value, value: &Value) -> bool {
+fn is_of_types(types: &Value, value: &Value) -> bool
+    ensures { result ≡ true → IfSome (tree_value (view value.now)) (λ v. IsOfType v (view types.now)) }
+{
     match types {
         Value::String(name) => is_of_type(name.as_str(), value),
         Value::Array(names) => {
@@ -201,7 +286,9 @@ fn is_of_types(types: &Value, value: &Value) -> bool {
 }
 
 /// Whether a value is of the type of this name.
-fn is_of_type(name: &str, value: &Value) -> bool {
+fn is_of_type(name: &str, value: &Value) -> bool
+    ensures { result ≡ true → IfSome (tree_value (view value.now)) (HasType name.now) }
+{
     match name {
         "null" => value.is_null(),
         "boolean" => value.is_boolean(),
@@ -212,12 +299,34 @@ fn is_of_type(name: &str, value: &Value) -> bool {
     }
 }
 
-/// Whether a value is one of these.
-fn is_among(values: &Value, value: &Value) -> bool {
-    match values {
-        Value::Array(values) => values.iter().any(|one| *one == *value),
+/// Whether a value is this constant.
+fn is_constant(constant: &Value, value: &Value) -> bool
+    ensures { result ≡ true → IfSome (tree_value (view value.now)) (λ v. IsConstant v (view constant.now)) }
+{
+    match (constant, value) {
+        (Value::Null, Value::Null) => true,
+        (Value::Bool(one), Value::Bool(other)) => *one == *other,
+        (Value::String(one), Value::String(other)) => one.as_str() == other.as_str(),
+        (Value::Number(_), Value::Number(_)) | (Value::Array(_), Value::Array(_)) => *constant
+            == *value,
+        (Value::Object(_), Value::Object(_)) => *constant == *value,
         _ => false,
     }
+}
+
+/// Whether a value is one of these.
+fn is_among(values: &Value, value: &Value) -> bool
+    ensures { result ≡ true → IfSome (tree_value (view value.now)) (λ v. IsOneOf v (view values.now)) }
+{
+    let Value::Array(values) = values else {
+        return false;
+    };
+    for one in values {
+        if is_constant(one, value) {
+            return true;
+        }
+    }
+    false
 }
 
 /// Whether one number is at most the other, or below it where that is asked for.
@@ -260,8 +369,13 @@ fn is_multiple(number: &Number, step: &Number) -> bool {
 }
 
 /// Whether a count is at least, or at most, what a rule says.
-fn is_at_least(count: usize, rule: &Value) -> bool {
-    rule.as_u64().is_some_and(|least| count as u64 >= least)
+fn is_at_least(count: usize, rule: &Value) -> bool
+    ensures { result ≡ true → IsAtLeast count (view rule.now) }
+{
+    match rule.as_u64() {
+        Some(least) => count as u64 >= least,
+        None => false,
+    }
 }
 
 fn is_at_most(count: usize, rule: &Value) -> bool {
@@ -283,7 +397,10 @@ fn meets_of_text(keyword: &str, rule: &Value, text: &str) -> bool {
 }
 
 /// Whether a list meets a keyword other than `items`.
-fn meets_of_list(keyword: &str, rule: &Value, items: &[Value]) -> bool {
+fn meets_of_list(keyword: &str, rule: &Value, items: &[Value]) -> bool
+    ensures { result ≡ true → IfSome (tree_items (items_view items.now))
+        (λ vs. keyword.now ≡ codes "minItems" → HasItems (sequence vs) (view rule.now)) }
+{
     match keyword {
         "minItems" => is_at_least(items.len(), rule),
         "maxItems" => is_at_most(items.len(), rule),
@@ -301,7 +418,10 @@ fn are_distinct(items: &[Value]) -> bool {
 }
 
 /// Whether a map meets a keyword that does not speak of its values.
-fn meets_of_map(keyword: &str, rule: &Value, members: &Map<String, Value>) -> bool {
+fn meets_of_map(keyword: &str, rule: &Value, members: &Map<String, Value>) -> bool
+    ensures { result ≡ true → IfSome (tree_entries (members_view members.now.entries))
+        (λ es. keyword.now ≡ codes "required" → HasKeys (mapping es) (view rule.now)) }
+{
     match keyword {
         "minProperties" => is_at_least(members.len(), rule),
         "maxProperties" => is_at_most(members.len(), rule),
@@ -312,16 +432,30 @@ fn meets_of_map(keyword: &str, rule: &Value, members: &Map<String, Value>) -> bo
 }
 
 /// Whether a map has each of these keys.
-fn has_all(names: &Value, members: &Map<String, Value>) -> bool {
+fn has_all(names: &Value, members: &Map<String, Value>) -> bool
+    ensures { result ≡ true → IfSome (tree_entries (members_view members.now.entries))
+        (λ es. HasKeys (mapping es) (view names.now)) }
+{
     let Value::Array(names) = names else {
         return false;
     };
     for name in names {
-        if name.as_str().is_none_or(|name| members.get(name).is_none()) {
+        if !has_key(name, members) {
             return false;
         }
     }
     true
+}
+
+/// Whether a map has this key.
+fn has_key(name: &Value, members: &Map<String, Value>) -> bool
+    ensures { result ≡ true → IfSome (tree_entries (members_view members.now.entries))
+        (λ es. HasKey es (view name.now)) }
+{
+    match name {
+        Value::String(name) => members.get(name.as_str()).is_some(),
+        _ => false,
+    }
 }
 
 /// Whether a map has, for each key of these that it has, the keys under that.

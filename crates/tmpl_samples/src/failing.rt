@@ -1,14 +1,21 @@
-//! Failures: over which data the template fails at the place of a doubt. Whatever a search finds, a failure is told by a
-//! render of the data that it shows.
-ghost use Rattle.std.specs.Prelude.{◌≡◌, Err, IfOk, IfSome, Ok, Some, string_bytes, true};
+//! Failures: over which data of a schema the template fails at the place of a doubt. Whatever a search finds, a failure is
+//! told by a check and a render of the data that it shows.
+ghost use Rattle.std.specs.Prelude.{◌≡◌, Contains, Err, IfOk, IfSome, Ok, Some, string_bytes, false, true};
+ghost use Rattle.serde_json.specs.View.{view};
 ghost use Rattle.tmpl_values.specs.Json.{data_of};
+ghost use Rattle.tmpl_values.specs.Value as tree;
 ghost use Rattle.tmpl_values.specs.View.{value_of};
 ghost use Rattle.tmpl_meaning.specs.View.{cause_of, fault_seen};
 ghost use Rattle.tmpl_meaning.specs.declared.fault.RunFault.{RunFault};
 ghost use Rattle.tmpl_engine.specs.View.{templates_in};
 ghost use Rattle.tmpl_engine.specs.declared.error.RenderError.{RenderError};
+ghost use Rattle.tmpl_schema.specs.Safe.{MayEnd};
 ghost use Rattle.tmpl_samples.specs.Failing.{AreRight, IsDoubted, IsRight, Speaks, fault_over, is_no_entry, rules_by};
+ghost use Rattle.tmpl_samples.specs.Inferred.{IsOfSchema};
+ghost use Rattle.tmpl_samples.specs.computed.Asked.{asked_in};
 
+use crate::conform::conforms;
+use crate::draw::LEVELS;
 use serde_json::Value;
 use std::alloc::{AllocError, Global};
 use std::str::from_utf8;
@@ -88,9 +95,22 @@ impl Sink for Nowhere {
     }
 }
 
+/// Whether a name is one of the stops.
+fn is_stop(stops: &[Bytes], name: &[u8]) -> bool
+    ensures { result ≡ false → ¬ (Contains stops.now name.now) }
+{
+    for stop in stops {
+        if stop.as_slice() == name {
+            return true;
+        }
+    }
+    false
+}
+
 /// Whether a fault is what a cause speaks of, and none that is allowed.
 fn is_caused(cause: &Cause, kind: &RunFaultKind<'_>, stops: &[Bytes]) -> bool
-    ensures { result ≡ true → Speaks cause.now (cause_of kind.now) }
+    ensures speaks { result ≡ true → Speaks cause.now (cause_of kind.now) }
+    ensures not_allowed { result ≡ true → ¬ (MayEnd stops.now (cause_of kind.now)) }
 {
     match (cause, kind) {
         (Cause::Absent(name), RunFaultKind::NoEntry(field) | RunFaultKind::NoField(field)) => {
@@ -105,7 +125,7 @@ fn is_caused(cause: &Cause, kind: &RunFaultKind<'_>, stops: &[Bytes]) -> bool
         ) => *func == *other,
         (Cause::Range(_), RunFaultKind::NotARange) => true,
         (Cause::NoTemplate(name), RunFaultKind::NoTemplate(other)) => {
-            name.as_slice() == *other && !stops.iter().any(|stop| stop.as_slice() == *other)
+            name.as_slice() == *other && !is_stop(stops, *other)
         }
         (Cause::Command, RunFaultKind::NotAFunction | RunFaultKind::NilCommand) => true,
         _ => false,
@@ -114,7 +134,8 @@ fn is_caused(cause: &Cause, kind: &RunFaultKind<'_>, stops: &[Bytes]) -> bool
 
 /// Whether a fault is at the place of a doubt, and what it speaks of.
 pub(crate) fn is_doubted(doubt: &Doubt, fault: &RunFault<'_>, stops: &[Bytes]) -> bool
-    ensures { result ≡ true → IsDoubted doubt.now (fault_seen fault.now) }
+    ensures doubted { result ≡ true → IsDoubted doubt.now (fault_seen fault.now) }
+    ensures not_allowed { result ≡ true → ¬ (MayEnd stops.now (fault_seen fault.now).cause) }
 {
     doubt.line == fault.line
         && doubt.template.as_slice() == fault.template
@@ -198,8 +219,7 @@ impl Question<'_> {
         &self,
         values: Vec<Option<Value>>,
     ) -> Result<Vec<Option<Failure>>, AllocError>
-        ensures { IfOk result (λ failures. AreRight (rules_by self.now.mode)
-            (templates_in self.now.renderer.now) self.now.name.now self.now.doubts.now failures.items) }
+        ensures { IfOk result (λ failures. AreRight (asked_in self.now) self.now.doubts.now failures.items) }
     {
         let mut values = values.into_iter();
         let mut failures = Vec::new(self.alloc);
@@ -210,22 +230,34 @@ impl Question<'_> {
         Ok(failures)
     }
 
-    /// The failure of a doubt for a value, if there is one, its text is short, and it makes the template fail there.
+    /// The failure of a doubt for a value, if there is one, its text is short, it conforms to the schema, and it makes the
+    /// template fail there.
     fn failure(&self, doubt: &Doubt, value: Option<Value>) -> Result<Option<Failure>, AllocError>
-        ensures { IfOk result (λ found. IfSome found (IsRight (rules_by self.now.mode)
-            (templates_in self.now.renderer.now) self.now.name.now doubt.now)) }
+        ensures { IfOk result (λ found. IfSome found (IsRight (asked_in self.now) doubt.now)) }
     {
         let Some(value) = value else {
             return Ok(None);
         };
         let data = value.to_string(self.alloc)?;
-        if data.len() > MOST_SHOWN {
+        if data.len() > MOST_SHOWN || !self.is_of_schema(data.as_str())? {
             return Ok(None);
         }
         match Data::from_json(self.alloc, data.as_bytes()) {
             Ok(tree) => self.failure_over(doubt, &tree, data),
             Err(DataFault::OutOfMemory) => Err(AllocError),
             Err(_) => Ok(None),
+        }
+    }
+
+    /// Whether the value of this text conforms to the schema.
+    fn is_of_schema(&self, text: &str) -> Result<bool, AllocError>
+        ensures { IfOk result (λ is_of. is_of ≡ true → (v : tree.Value) → data_of text.now ≡ Ok v
+            → IsOfSchema (view self.now.root.now) v) }
+    {
+        match Value::from_slice(self.alloc, text.as_bytes()) {
+            Ok(value) => Ok(conforms(self.root, LEVELS, self.root, &value)),
+            Err(error) if error.is_memory() => Err(AllocError),
+            Err(_) => Ok(false),
         }
     }
 
@@ -236,9 +268,9 @@ impl Question<'_> {
         tree: &Data,
         text: String,
     ) -> Result<Option<Failure>, AllocError>
-        requires { data_of (string_bytes text) ≡ Ok (value_of tree.now) }
-        ensures { IfOk result (λ found. IfSome found (IsRight (rules_by self.now.mode)
-            (templates_in self.now.renderer.now) self.now.name.now doubt.now)) }
+        requires value { data_of (string_bytes text) ≡ Ok (value_of tree.now) }
+        requires conforms { IsOfSchema (view self.now.root.now) (value_of tree.now) }
+        ensures { IfOk result (λ found. IfSome found (IsRight (asked_in self.now) doubt.now)) }
     {
         match self.fault(tree)? {
             Some(fault) => self.failure_by(doubt, &fault, text),
@@ -255,6 +287,7 @@ impl Question<'_> {
     ) -> Result<Option<Failure>, AllocError>
         ensures { IfOk result (λ found. IfSome found (λ failure. (failure.data ≡ text)
             × IsDoubted doubt.now (fault_seen fault.now)
+            × ¬ (MayEnd self.now.stops.now (fault_seen fault.now).cause)
             × (failure.is_strict ≡ is_no_entry (fault_seen fault.now).cause))) }
     {
         if !is_doubted(doubt, fault, self.stops) {

@@ -11,6 +11,7 @@ ghost use Rattle.tmpl_samples.specs.Inferred.{Conforms};
 ghost use Rattle.tmpl_samples.specs.computed.Inferred.{seen, maps_seen, items_of_list, EachValue, IsOnlyOrList};
 ghost use Rattle.tmpl_samples.specs.computed.Inferred.{Fits, room, AddsItems, AreTold, AddsProperties};
 
+use crate::conform::count_keys;
 use serde_json::{Map, Value, put};
 use std::alloc::{AllocError, Global};
 
@@ -96,9 +97,8 @@ fn maps_in<'s>(
 {
     let mut maps = Vec::new(alloc);
     for sample in samples {
+        count_keys(*sample);
         if let Some(members) = sample.as_object() {
-            // for what its contract says: a map has each key once
-            let _count = members.len();
             maps.push(members)?;
         }
     }

@@ -5,9 +5,11 @@ mod conform;
 mod draw;
 mod failing;
 mod infer;
+mod laws;
 mod search;
 mod smaller;
 
 pub use failing::Failure;
 pub use infer::infer_schema;
+pub use laws::failure_refutes;
 pub use search::failures_of;

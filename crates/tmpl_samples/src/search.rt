@@ -1,8 +1,9 @@
 //! The search for values of a schema for which a template fails.
-ghost use Rattle.std.specs.Prelude.{◌≡◌, [], IfOk, unwrap_or};
+ghost use Rattle.std.specs.Prelude.{◌≡◌, [], IfOk, MatchOption, unwrap_or};
 ghost use Rattle.tmpl_meaning.specs.declared.missing_key.MissingKey.{MissingKey};
 ghost use Rattle.tmpl_syntax.specs.View.{set_view};
-ghost use Rattle.tmpl_samples.specs.Failing.{AreRight, IsJson, rules_by};
+ghost use Rattle.tmpl_json_schema.specs.Document.{document_of};
+ghost use Rattle.tmpl_samples.specs.Failing.{AreRight, rules_by};
 
 use crate::conform::conforms;
 use crate::draw::{Draw, Flip, LEVELS};
@@ -304,8 +305,10 @@ fn values_found(question: &Question<'_>) -> Result<Vec<Option<Value>>, AllocErro
 ///
 /// The doubts are those that `check_document` gives for the set, the name, the document, the mode and the stops.
 ///
-/// Each failure that is given is right of the doubt at its place: the run over its data has a fault at the line and in the
-/// template of the doubt, by the mode that is asked for, or else `MissingKey::Error`, 20,000 steps and a depth of 50.
+/// Each failure that is given is right of the doubt at its place: its data conform to the document, as far as
+/// `check_document` looks, and the run over them has a fault at the line and in the template of the doubt that is no call of
+/// a stop, by the mode that is asked for, or else `MissingKey::Error`, 20,000 steps and a depth of 50. So the doubt is no
+/// false alarm (law `failure_refutes`).
 ///
 /// # Errors
 ///
@@ -319,9 +322,14 @@ pub fn failures_of(
     stops: &[Bytes],
     doubts: &[Doubt],
 ) -> Result<Vec<Option<Failure>>, AllocError>
-    ensures right { IfOk result (λ failures. IsJson document.now
-        → AreRight (rules_by (unwrap_or mode MissingKey.Error)) (set_view set.now) name.now doubts.now failures.items) }
-    ensures empty { IfOk result (λ failures. ¬ IsJson document.now → failures.items ≡ []) }
+    ensures { IfOk result (λ failures. MatchOption (document_of document.now) (failures.items ≡ [])
+        (λ schema. AreRight (record {
+          rules = rules_by (unwrap_or mode MissingKey.Error);
+          stops = stops.now;
+          set = set_view set.now;
+          name = name.now;
+          schema = schema;
+        }) doubts.now failures.items)) }
 {
     let root = match Value::from_slice(alloc, document) {
         Ok(root) => root,

@@ -1,16 +1,22 @@
 -- What a part of a file adds to what is found.
-use Rattle.std.specs.Prelude.{◌≡◌, ◌≤◌, ◌+◌, ℕ, List, [], ◌∷◌, ◌++◌, length, map, Option, Some, None, string_bytes, All}
+use Rattle.std.specs.Prelude.{◌≡◌, ◌≤◌, ◌+◌, ◌==◌, ◌&&◌, ℕ, List, [], ◌∷◌, ◌++◌, length, map, fold, true}
+use Rattle.std.specs.Prelude.{Option, Some, None, string_bytes, All, if◌then◌else◌}
+use Rattle.std.specs.List.{AllZip, enumerate_from, list_any}
+use Rattle.std.specs.Str.{bytes_eq}
 use Rattle.std.specs.Borrow.{Bor}
+use Rattle.tmpl_lex.specs.Begin.{BeginsAt}
+use Rattle.tmpl_lex.specs.Piece.{Token}
 use Rattle.tmpl_lex.specs.View.{token_of}
 use Rattle.tmpl_lex.specs.declared.part.AfterText.{AfterText}
 use Rattle.tmpl_lex.specs.declared.part.AfterText.TheVariants as variant
 use Rattle.tmpl_lex.specs.declared.piece.Token as held
 use Rattle.tmpl_refusals.specs.Column.{IsPlace}
+use Rattle.tmpl_refusals.specs.declared.place.Place.{Place}
 use Rattle.tmpl_problems.specs.declared.survey.Named.{Named}
 use Rattle.tmpl_problems.specs.declared.survey.Variable.{Variable}
 use Rattle.tmpl_problems.specs.declared.survey.Warning.{Warning}
-use Rattle.tmpl_problems.specs.Survey.{named_place, warned_place}
-use Rattle.tmpl_problems.specs.Tokens.{name_after}
+use Rattle.tmpl_problems.specs.Survey.{Declared, is_used, named_place, warned_place}
+use Rattle.tmpl_problems.specs.Tokens.{declared_names, name_after, used_names}
 
 -- a name is added, told there
 pub record AddsOne (file : List ℕ) (opens : ℕ) (name : List ℕ) (old new : List Named) : Type 0 where
@@ -45,6 +51,57 @@ AddsSign file start (Some at) old new = AddsWarning file start at old new
 -- the variables are noted at places of the file
 abbrev pub ArePlaced : List ℕ → List (Bor (List ℕ) × Variable) → Type 0
 ArePlaced file entries = All (λ e. IsPlace file e.1.place) entries
+
+-- a variable is noted, unless one of its name is
+abbrev pub note : Bor (List ℕ) → Variable → List (Bor (List ℕ) × Variable) → List (Bor (List ℕ) × Variable)
+note name v entries = if list_any (λ e. bytes_eq name.now e.0.now) entries then entries else entries ++ (name, v) ∷ []
+
+-- the first variable of this name is used
+abbrev pub mark : List ℕ → List (Bor (List ℕ) × Variable) → List (Bor (List ℕ) × Variable)
+mark name [] = []
+mark name (e ∷ es) =
+    if bytes_eq name e.0.now then (e.0, record { place = e.1.place; is_used = true }) ∷ es else e ∷ mark name es
+
+-- variables of these names are noted, of which there are as many together, at a place
+abbrev pub note_each : Place → ℕ → List (Bor (List ℕ)) → List (Bor (List ℕ) × Variable) → List (Bor (List ℕ) × Variable)
+note_each place count names entries =
+    fold (λ es x. note x.1 (record { place = place; is_used = count == 2 && x.0 == 0 }) es) entries (enumerate_from 0 names)
+
+-- .. of these names are used
+abbrev pub mark_each : List (List ℕ) → List (Bor (List ℕ) × Variable) → List (Bor (List ℕ) × Variable)
+mark_each names entries = fold (λ es name. mark name es) entries names
+
+-- the variables that an action declares are noted, where it opens
+pub record Notes (file : List ℕ) (opens : ℕ) (declared : List (List ℕ)) (old new : List (Bor (List ℕ) × Variable)) : Type 0 where
+  pub names : List (Bor (List ℕ))
+  pub names_are : map (λ (name : Bor (List ℕ)). name.now) names ≡ declared
+  pub place : Place
+  pub is_place : IsPlace file place
+  pub start : opens ≤ length file → place.start ≡ opens
+  pub entries : new ≡ note_each place (length names) names old
+
+-- .. and then those that it uses are used
+pub record Passes (file : List ℕ) (opens : ℕ) (ts : List Token) (old new : List (Bor (List ℕ) × Variable)) : Type 0 where
+  pub noted : List (Bor (List ℕ) × Variable)
+  pub notes : Notes file opens (declared_names ts) old noted
+  pub marks : new ≡ mark_each (used_names ts) noted
+
+abbrev pub PassesAfter : List ℕ → ℕ → List held.Token → AfterText → List (Bor (List ℕ) × Variable) → List (Bor (List ℕ) × Variable) → Type 0
+PassesAfter file opens ts variant.Nothing old new = new ≡ old
+PassesAfter file opens ts other old new = Passes file opens (map token_of ts) old new
+
+-- the variable is noted, as it is declared there and used so far
+pub record IsNoted (file : List ℕ) (uses : List (ℕ × List ℕ)) (d : Declared) (e : Bor (List ℕ) × Variable) : Type 0 where
+  pub name : e.0.now ≡ d.name
+  pub used : e.1.is_used ≡ is_used uses d
+  pub begins : BeginsAt file d.piece e.1.place.start
+  pub place : IsPlace file e.1.place
+
+-- more is added, in which each of these is told
+pub record AddsZip {A B : Type 0} (R : A → B → Type 0) (xs : List A) (old new : List B) : Type 0 where
+  pub more : List B
+  pub added : new ≡ old ++ more
+  pub told : AllZip R xs more
 
 -- more is added, of which this holds
 pub record AddsAll {B : Type 0} (P : B → Type 0) (old new : List B) : Type 0 where

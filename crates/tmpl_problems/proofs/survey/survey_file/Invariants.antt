@@ -1,7 +1,6 @@
 use Rattle.std.proofs.Common.{length}
 use Rattle.tmpl_lex.specs.Part.{IsLeft}
 use Rattle.tmpl_refusals.specs.Column.{IsPlace}
-use Rattle.tmpl_problems.specs.computed.Adds.{ArePlaced}
 use Rattle.tmpl_problems.proofs.ProgressLemmas.{Progress}
 use Rattle.tmpl_problems.proofs.survey.survey_file.Given as goal
 
@@ -9,8 +8,7 @@ abbrev pub invariant-loop-tokens : goal.invariant-loop-tokens
 invariant-loop-tokens l = record {
   left : IsLeft l.file l.rest;
   place : IsPlace l.file l.place;
-  placed : ArePlaced l.file l.surveyor.variables.entries;
-  found : Progress l.file l.rest (record { warnings = l.surveyor.warnings.items; defined = l.surveyor.defined.items; called = l.surveyor.called.items });
+  found : Progress l.file l.rest (record { warnings = l.surveyor.warnings.items; defined = l.surveyor.defined.items; called = l.surveyor.called.items; variables = l.surveyor.variables.entries });
 }
 
 abbrev pub decreases-loop-tokens : goal.decreases-loop-tokens

@@ -1,13 +1,12 @@
-use Rattle.std.proofs.Common.{subst, sym, true}
-use Rattle.tmpl_refusals.specs.Column.{IsPlace}
-use Rattle.tmpl_problems.specs.computed.Adds.{ArePlaced}
+use Rattle.std.proofs.Common.{◌∙◌, refl, sym, ap, true}
 use Rattle.tmpl_problems.specs.declared.survey.Variable.{Variable}
-use Rattle.tmpl_problems.proofs.VariableLemmas.{lookup-all, set-all}
+use Rattle.tmpl_problems.proofs.NotedLemmas.{marks-found, marks-none}
 use Rattle.tmpl_problems.proofs.survey.use_variable.Goals as goal
 
 pub returns-in-Some : goal.returns-in-Some
-returns-in-Some c = λ file all.
+returns-in-Some c =
     let w : Variable = record { place = c.in-Some.variable.now.place; is_used = true } in
-    subst (λ es. ArePlaced file es) (sym (c.get_mut.follows.holds w).0)
-    (set-all (λ (v : Variable). IsPlace file v.place) _ _ w all
-    (lookup-all (λ (v : Variable). IsPlace file v.place) _ _ c.in-Some.variable.now all (sym c.in-Some.ensures.value)))
+    (c.get_mut.follows.holds w).0 ∙ marks-found _ c.args.name.now (λ k. refl) _ c.in-Some.variable.now (sym c.in-Some.ensures.value)
+
+pub returns-in_default : goal.returns-in_default
+returns-in_default c = ap (λ m. m.entries) c.get_mut.follows.holds-at-none ∙ marks-none _ c.args.name.now (λ k. refl) _ (sym c.in_default.ensures.value)

@@ -1,6 +1,8 @@
-use Rattle.std.proofs.Common.{List, ℕ}
-use Rattle.tmpl_problems.specs.computed.Adds.{ArePlaced}
+use Rattle.std.proofs.Common.{◌≡◌, map, take}
+use Rattle.tmpl_lex.specs.View.{token_of}
+use Rattle.tmpl_problems.specs.Tokens.{names_of}
+use Rattle.tmpl_problems.specs.computed.Adds.{mark_each}
 use Rattle.tmpl_problems.proofs.survey.use_variables.Given as goal
 
 abbrev pub invariant-loop-token : goal.invariant-loop-token
-invariant-loop-token l = (file : List ℕ) → ArePlaced file l.initial.variables.entries → ArePlaced file l.variables.entries
+invariant-loop-token l = l.variables.entries ≡ mark_each (names_of (map token_of (take l.token-index l.rest))) l.initial.variables.entries

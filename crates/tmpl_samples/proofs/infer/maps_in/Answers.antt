@@ -4,7 +4,8 @@ use Rattle.std.specs.List.{filter_map}
 use Rattle.serde_json.specs.Find.{as_object}
 use Rattle.tmpl_json_schema.specs.Document.{IsInstance}
 use Rattle.tmpl_samples.specs.computed.Inferred.{seen, maps_seen, EachValue}
-use Rattle.tmpl_samples.proofs.StepLemmas.{seen-more, all-more, map-found, map-not_found, map-instance, other-instance}
+use Rattle.tmpl_samples.proofs.StepLemmas.{seen-more, all-more, map-found, map-not_found}
+use Rattle.tmpl_samples.proofs.MeetLemmas.{instance-of}
 use Rattle.tmpl_samples.proofs.infer.maps_in.Goals as goal
 use Rattle.tmpl_samples.proofs.infer.maps_in.Goals.{in-Some+in_ok-push, in_default}
 
@@ -19,10 +20,10 @@ loop-sample-preserved c =
       | in-Some+in_ok-push w ↦ (
         ap (λ m. maps_seen m.items) w.maps-is ∙ ap maps_seen w.in_ok-push.ensures.items
             ∙ map-found c.loop-sample.maps.items before d w.in-Some.members said.0 w.in-Some.ensures ∙ ap (filter_map as_object) (sym more),
-        subst (EachValue IsInstance) (sym more) (all-more _ before d said.1 (map-instance d w.in-Some.members.now.entries w.in-Some.ensures w.len-count.ensures.ordered)),
+        subst (EachValue IsInstance) (sym more) (all-more _ before d said.1 (instance-of d c.count_keys.ensures)),
       )
       | in_default w ↦ (
         ap (λ m. maps_seen m.items) w.maps-is ∙ map-not_found c.loop-sample.maps.items before d said.0 w.in_default.ensures ∙ ap (filter_map as_object) (sym more),
-        subst (EachValue IsInstance) (sym more) (all-more _ before d said.1 (other-instance d w.in_default.ensures)),
+        subst (EachValue IsInstance) (sym more) (all-more _ before d said.1 (instance-of d c.count_keys.ensures)),
       )
     ]

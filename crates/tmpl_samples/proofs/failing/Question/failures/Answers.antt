@@ -1,16 +1,14 @@
 use Rattle.std.proofs.Common.{◌≡◌, ◌∙◌, ◌+◌, ◌++◌, [], ◌∷◌, ap, subst, sym, take}
 use Rattle.std.proofs.lemmas.List.{take_more}
 use Rattle.tmpl_schema.specs.declared.failure.Doubt.{Doubt}
-use Rattle.tmpl_engine.specs.View.{templates_in}
-use Rattle.tmpl_samples.specs.Failing.{AreRight, rules_by}
+use Rattle.tmpl_samples.specs.Failing.{AreRight}
+use Rattle.tmpl_samples.specs.computed.Asked.{asked_in}
 use Rattle.tmpl_samples.proofs.FailureLemmas.{right_more}
 use Rattle.tmpl_samples.proofs.failing.Question.failures.Goals as goal
 
 pub loop-doubt-preserved : goal.loop-doubt-preserved
 loop-doubt-preserved c =
-    let rules = rules_by c.args.self.now.mode in
-    let set = templates_in c.args.self.now.renderer.now in
-    let name = c.args.self.now.name.now in
+    let asked = asked_in c.args.self.now in
     let doubts = c.args.self.now.doubts.now in
     let before = c.loop-doubt.failures.items in
     let i = c.loop-doubt.doubt-index in
@@ -18,6 +16,6 @@ loop-doubt-preserved c =
     let found = c.in_ok-failure.failure in
     let parts : take (i + 1) doubts ≡ take i doubts ++ doubt ∷ [] =
     take_more doubts i doubt c.loop-doubt-test.true ∙ ap (λ (d : Doubt). take i doubts ++ d ∷ []) (sym c.doubt-item.is) in
-    subst (λ found. AreRight rules set name (take (i + 1) doubts) found) (sym c.in_ok-push.ensures.items)
-    (subst (λ ds. AreRight rules set name ds (before ++ found ∷ [])) (sym parts)
-    (right_more rules set name (take i doubts) before doubt found c.loop-doubt.invariant c.in_ok-failure.ensures))
+    subst (λ found. AreRight asked (take (i + 1) doubts) found) (sym c.in_ok-push.ensures.items)
+    (subst (λ ds. AreRight asked ds (before ++ found ∷ [])) (sym parts)
+    (right_more asked (take i doubts) before doubt found c.loop-doubt.invariant c.in_ok-failure.ensures))

@@ -1,0 +1,16 @@
+use Rattle.std.proofs.Common.{◌≡◌, Ok, subst, sym}
+use Rattle.serde_json.specs.View.{view}
+use Rattle.tmpl_values.specs.Json.{data_of, tree_value}
+use Rattle.tmpl_json_schema.specs.Document.{conforms_in}
+use Rattle.tmpl_samples.proofs.ConformLemmas.{if-some}
+use Rattle.tmpl_samples.proofs.FailureLemmas.{document-is, value-read}
+use Rattle.tmpl_samples.proofs.failing.Question.is_of_schema.Goals as goal
+
+pub returns-in-Ok : goal.returns-in-Ok
+returns-in-Ok c = λ e v is.
+    let root = view c.args.self.now.root.now in
+    let bytes = c.as_bytes.result.now in
+    let d = view c.in-Ok.value in
+    let said = c.in-Ok.ensures.ok in
+    let has : data_of bytes ≡ Ok v = subst (λ bs. data_of bs ≡ Ok v) (sym c.as_bytes.ensures.value) is in
+    (120, if-some (conforms_in root 120 root) (tree_value d) v (c.conforms.ensures e) (value-read bytes d v (document-is bytes d said.0 said.1) has))
