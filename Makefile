@@ -4,7 +4,6 @@ export PREFIX DESTDIR CRATE
 
 PROGRAM = crates/tmpl/out/tmpl
 CHECKER = crates/tmpl_check/out/tmpl_check
-PROBE = crates/tmpl_probe/out/tmpl_probe
 # the engine as a C library: what is proved, and what is linked of it for others
 PROVED_LIBRARY = crates/tmpl_c/out/libtmpl_c.a
 STATIC_LIBRARY = bindings/out/libtmpl.a
@@ -32,16 +31,25 @@ program is proved and built. Put it on the PATH, or install a package that was m
 # proves the programs tmpl and tmpl-check and the crates that they use, over what earlier runs kept in out/, and builds them
 build: $(PROGRAM) $(CHECKER)
 
-# builds the program without proofs, renders examples/hello, and keeps it as crates/tmpl/out/tmpl-unproved
+# builds tmpl without proofs, renders examples/hello, and keeps it as out/unproved/bin/tmpl
 demo:
 	@$(NEEDS_RT)
-	@echo "Building without proofs, which takes a minute or two .." >&2
-	@python3 packaging/demo.py
+	@python3 packaging/demo.py tmpl
 
-# the gate: every proof from nothing, then the tests over the program that it left, as each of the two compilers built it; tests/run runs some
+# builds tmpl-check without proofs, checks a template, and keeps it as out/unproved/bin/tmpl-check
+demo-check:
+	@$(NEEDS_RT)
+	@python3 packaging/demo.py tmpl-check
+
+# tests the programs, built without proofs where no build is up to date, in some minutes; tests/run runs single tests
 test:
 	@$(NEEDS_RT)
 	tests/run
+
+# the gate: every proof, then all tests over the programs that it left, as each of the two compilers built them
+prove gate:
+	@$(NEEDS_RT)
+	tests/run --all
 
 # proves the engine as a C library and builds it: bindings/out/libtmpl.a and libtmpl.so
 lib: $(STATIC_LIBRARY) $(SHARED_LIBRARY)
@@ -62,7 +70,8 @@ edits:
 	python3 -m tests.gate.edits $${CRATE:+"$$CRATE"}
 
 # times the program, the C library and what is built for other places beside others
-bench: $(PROGRAM) $(CHECKER) $(PROBE) lib
+bench: $(PROGRAM) $(CHECKER) lib
+	python3 packaging/unproved.py tmpl_probe
 	python3 -m tests.bench.bench
 	python3 -m tests.bench.bench_servers
 	python3 -m tests.bench.bench_ports
@@ -143,11 +152,6 @@ $(CHECKER): $(SOURCES)
 	cd crates/tmpl_check && rt run -- --help > /dev/null
 	@touch $@
 
-$(PROBE): $(SOURCES)
-	@$(NEEDS_RT)
-	cd crates/tmpl_probe && rt run -- cases data/cases > /dev/null
-	@touch $@
-
 $(PROVED_LIBRARY): $(SOURCES)
 	@$(NEEDS_RT)
 	@echo "Proving the library: docs/CONTRIBUTING.md says how long that takes from a fresh clone; seconds where little changed .." >&2
@@ -184,4 +188,4 @@ $(SHARED_LIBRARY): $(STATIC_LIBRARY) bindings/c/tmpl.map
 
 include packaging/ports.mk
 
-.PHONY: build demo test lib test-bindings install-lib check edits bench fuzz compare install install-documents uninstall dist deb wheel help
+.PHONY: build demo demo-check test prove gate lib test-bindings install-lib check edits bench fuzz compare install install-documents uninstall dist deb wheel help

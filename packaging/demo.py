@@ -1,97 +1,38 @@
-"""Builds the program without proofs by `rt try`, renders examples/hello with it, and keeps it as crates/tmpl/out/tmpl-unproved.
-`rt try` keeps no program. So the run is given a named pipe as a second template file: it waits there until this has copied the program
-that runs, and is then given an empty file, which puts out nothing."""
-import errno
+"""Builds programs without proofs and shows that they run: `demo.py tmpl` renders examples/hello, `demo.py tmpl-check` checks a template. Both
+stay in out/unproved/bin."""
 import os
-import shutil
 import subprocess
 import sys
 import tempfile
-import time
 
-HERE = os.path.dirname(os.path.abspath(__file__))
-TOP = os.path.dirname(HERE)
+import unproved
+from unproved import TOP
+
 HELLO = f"{TOP}/examples/hello"
-KEPT = f"{TOP}/crates/tmpl/out/tmpl-unproved"
+WRONG = "Hello {{name}}\n"
 
 
-def writer(path):
-    """The pipe, opened to write; none while nobody reads it."""
-    try:
-        return os.open(path, os.O_WRONLY | os.O_NONBLOCK)
-    except OSError as error:
-        if error.errno != errno.ENXIO:
-            raise
-        return None
+def render(tmpl):
+    """Renders the example; its exit status."""
+    return subprocess.run([tmpl, "--data", f"{HELLO}/data.json", f"{HELLO}/hello.tmpl"]).returncode
 
 
-def words_of(process):
-    try:
-        with open(f"/proc/{process}/cmdline", "rb") as it:
-            return os.fsdecode(it.read()).split("\0")[:-1]
-    except OSError:
-        return []
+def check(tmpl_check):
+    """Checks a template with a mistake; 0 where that is reported."""
+    with tempfile.TemporaryDirectory() as folder:
+        unproved.write(f"{folder}/wrong.tmpl", WRONG)
+        print(f"$ cat wrong.tmpl\n{WRONG}$ tmpl-check wrong.tmpl", flush=True)
+        return int(subprocess.run([tmpl_check, "wrong.tmpl"], cwd=folder).returncode != 1)
 
 
-def running(pipe):
-    """The files that were built among the first words of a process that has this pipe as its last word."""
-    for process in filter(str.isdecimal, os.listdir("/proc")):
-        words = words_of(process)
-        if words and words[-1] == pipe and "try" not in words:
-            for word in [f"/proc/{process}/exe", *words[: words.index("--data") if "--data" in words else 1]]:
-                yield word
-
-
-def is_tmpl(path):
-    """Whether a file is the program: it puts out its usage line."""
-    try:
-        how = {"stdin": subprocess.DEVNULL, "stdout": subprocess.PIPE, "stderr": subprocess.DEVNULL, "timeout": 60}
-        ran = subprocess.run([path, "--help"], check=False, **how)
-    except (OSError, subprocess.TimeoutExpired):
-        return False
-    return ran.returncode == 0 and ran.stdout.startswith(b"usage: tmpl ")
-
-
-def keep(pipe):
-    """Copies the program that waits at the pipe; whether it was found."""
-    for path in running(pipe):
-        try:
-            shutil.copyfile(path, f"{KEPT}.new")
-        except OSError:
-            continue
-        os.chmod(f"{KEPT}.new", 0o755)
-        if is_tmpl(f"{KEPT}.new"):
-            os.replace(f"{KEPT}.new", KEPT)
-            return True
-        os.remove(f"{KEPT}.new")
-    return False
-
-
-def main():
-    os.makedirs(os.path.dirname(KEPT), exist_ok=True)
-    is_kept = False
-    with tempfile.TemporaryDirectory() as folder, open(f"{folder}/errors", "w+b") as errors:
-        os.chmod(folder, 0o755)
-        pipe = f"{folder}/pipe"
-        os.mkfifo(pipe)
-        os.chmod(pipe, 0o666)
-        data = ["--data", f"hello.tmpl={HELLO}/hello.tmpl", "--data", f"data.json={HELLO}/data.json"]
-        words = ["rt", "try", *data, "--", "--data", "data.json", "hello.tmpl", pipe]
-        with subprocess.Popen(words, cwd=f"{TOP}/crates/tmpl", stdin=subprocess.DEVNULL, stderr=errors) as ran:
-            while ran.poll() is None:
-                held = writer(pipe)
-                if held is not None:
-                    is_kept = is_kept or keep(pipe)
-                    os.close(held)
-                time.sleep(0.1)
-        if ran.returncode:
-            errors.seek(0)
-            sys.stderr.buffer.write(errors.read())
-            return 1
-    kept = f". It is kept as {os.path.relpath(KEPT, TOP)};" if is_kept else " and could not be kept:"
-    print(f"This build is not proved{kept} `make` proves the program and builds it.", file=sys.stderr)
-    return 0
+def main(name):
+    print(f"Building {name} without proofs, about a minute ..", file=sys.stderr, flush=True)
+    (path,) = unproved.build_all([name])
+    status = {"tmpl": render, "tmpl-check": check}[name](path)
+    folder = os.path.relpath(os.path.dirname(path), TOP)
+    print(f'It is {folder}/{name}, and not proved: `export PATH="$PWD/{folder}:$PATH"` to use it, `make` to prove and build it.', file=sys.stderr)
+    return status
 
 
 if __name__ == "__main__":
-    sys.exit(main())
+    sys.exit(main(*sys.argv[1:]))

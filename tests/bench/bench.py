@@ -23,7 +23,7 @@ from tests.lib import harness
 
 MIB = 1 << 20
 LINE = b"All the world's a stage, and all the men and women merely players.\n"
-PROBE = calls.PROBE
+PROBE = harness.PROBE
 SMALL_ACTIONS = b"{{if .a}}{{$x := .b}}{{$x}}{{else}}{{range .c}}{{.}}{{end}}{{end}}\n"
 PAGE = f"{harness.TOP}/docs/SPEED.md"
 BEGIN, END = "<!-- made by `make bench`: begin -->\n", "<!-- made by `make bench`: end -->\n"

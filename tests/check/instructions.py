@@ -10,7 +10,6 @@ import tempfile
 from tests.fault import sweep
 from tests.lib import harness
 
-PROBE = f"{harness.TOP}/crates/tmpl_probe/out/tmpl_probe"
 
 # a template file of the name m, and the code of what it defines
 OUT_OF_MEMORY = 7  # the status of the probe where memory is refused
@@ -253,7 +252,7 @@ def listed(folder, template, more, keep):
     with open(f"{folder}/m", "w", newline="", encoding="utf-8") as file:
         file.write(template)
     ran = subprocess.run(
-        [PROBE, "list", "m"],
+        [harness.PROBE, "list", "m"],
         cwd=folder,
         env={**os.environ, **more},
         pass_fds=keep,
@@ -281,14 +280,14 @@ def judge_size(folder, template, code):
     wanted = 16 * sum(not line.strip().startswith("template") for line in code.splitlines())
     with open(f"{folder}/m", "w", newline="", encoding="utf-8") as file:
         file.write(template)
-    told = subprocess.run([PROBE, "code", "m"], cwd=folder, stdout=subprocess.PIPE, timeout=harness.SECONDS).stdout.decode()
+    told = subprocess.run([harness.PROBE, "code", "m"], cwd=folder, stdout=subprocess.PIPE, timeout=harness.SECONDS).stdout.decode()
     wrong = [] if told == f"{wanted}\n" else [f"    the code takes {told.strip()} bytes, and not {wanted}"]
     return f"{template}, its size", 0, wrong
 
 
 def main():
-    if not os.access(PROBE, os.X_OK):
-        sys.exit("there is no probe: the gate builds it")
+    if not harness.is_built(harness.PROBE):
+        return harness.closing(0, 1)
     with tempfile.TemporaryDirectory() as folder:
         shim = f"{folder}/shim.so"
         sweep.build_shim("fail_alloc.c", shim)

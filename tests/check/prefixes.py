@@ -1,7 +1,7 @@
 """Reads every front of every template and data file of the rows and examples: its first n bytes, for each n, of files of up to 20,000
 bytes whole. Of longer ones, whose fronts are too many bytes (those of 16 MiB are 1.4e14), it reads the first 2,000, and where they have up
 to 1,048,576 bytes 16 that lie evenly after these, and the last 4 before the whole file. `prefixes.py --long` reads all those of files of up
-to 262,144 bytes, and these 20 of all longer ones. They are read in memory, many in one process, by the probe. What a front comes
+to 262,144 bytes, and these 20 of all longer ones, and `--some` those of each 16th file. They are read in memory, many in one process, by the probe. What a front comes
 to is told by meaning.py and reading.py, which share no code with the program: a template is refused at a line for a reason, or runs over
 the row's data to a text and an end; data is refused, or put out whole by `{{.}}`. That data of more than 1,000 bytes whose first bracket
 or quote is not closed by its last byte is no JSON is told without reading it. Of the fronts of a file of more than
@@ -25,6 +25,7 @@ ALONE = 100  # bytes of a file up to which each of its fronts is read alone too
 SPARE = 1 << 24  # bytes that one process may read, which it keeps, and trees of them
 LEAST = {"template": 380000, "data": 26400}  # fronts
 RUNS = 25000  # fronts of templates that are accepted
+SOME = 16  # by --some, each this many files are read
 CLOSES = {b"[": b"]", b"{": b"}", b'"': b'"'}  # what ends a list, a map or a text of JSON
 OPTIONS = meaning.Options(depth=20, steps=1000)  # what a run may take
 WORDS = [b"tmpl", b"--steps", b"1000", b"--depth", b"20"]
@@ -202,9 +203,10 @@ def main(words):
         return harness.closing(0, 1)
     templates, data = sources(harness.read_rows())
     templates.add((b"m", TABLE, None))
-    is_long = "--long" in words
+    is_long, part = "--long" in words, SOME if "--some" in words else 1
     its = [it for name, what, given in sorted(templates, key=repr) for it in cases("template", name, what, given, is_long)]
     its += itertools.chain.from_iterable(cases("data", b"d", what, None, is_long) for what in sorted(data))
+    its = its[::part]
     failed = len(check_table())
     print(*check_table(), sep="\n", end="\n" * failed)
     runs = 0
@@ -213,8 +215,8 @@ def main(words):
         print(*wrong, sep="\n", end="\n" * bool(wrong))
     passed = len(its) + 1 - failed
     for kind, least in LEAST.items():
-        failed += harness.too_few(f"fronts of {kind} files were read", sum(fronts_of(it) for it in its if it[0] == kind), least)
-    failed += harness.too_few("fronts were accepted", runs, RUNS)
+        failed += harness.too_few(f"fronts of {kind} files were read", sum(fronts_of(it) for it in its if it[0] == kind), least if part == 1 else least // (2 * part))
+    failed += harness.too_few("fronts were accepted", runs, RUNS if part == 1 else RUNS // (4 * part))
     return harness.closing(passed, failed)
 
 

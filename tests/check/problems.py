@@ -15,7 +15,8 @@ import urllib.parse
 
 from tests.lib.harness import CHECKER as CHECK
 from tests.lib.harness import PROGRAM as TMPL
-from tests.lib.harness import SECONDS, build_shim, closing
+from tests.lib.harness import ROWS as NAMED
+from tests.lib.harness import SECONDS, build_shim, closing, is_built
 from tests.rows.problem_rows import DATA, FILES, ROWS
 
 LINE = re.compile(r"(.+?):([1-9][0-9]*):([1-9][0-9]*): (error|warning): (.*)")
@@ -45,9 +46,14 @@ def hold(title, what, expected, came, failures):
         failures.append(f"{title}: {what}\n  expected {expected!r}\n  came     {came!r}")
 
 
+def named(rows):
+    """Those of these rows whose titles hold what was asked for by -k."""
+    return [it for it in rows if NAMED in it[0]]
+
+
 def rows(folder, failures):
     """Each row by its lines and its status, and as JSON and SARIF."""
-    for title, text, lines in ROWS + FILES:
+    for title, text, lines in named(ROWS + FILES):
         write(folder, "m", text)
         status, out, err = run(CHECK, ["m"], folder)
         hold(title, "lines", "".join(f"m:{line}\n" for line in lines), out.decode(), failures)
@@ -55,7 +61,7 @@ def rows(folder, failures):
         forms(folder, ["m"], title, lines, failures)
         if not all(" warning: " in f" {line}" for line in lines):
             same_refusal(folder, title, failures)
-    for title, text, lines in DATA:
+    for title, text, lines in named(DATA):
         write(folder, "m", "")
         write(folder, "d", text)
         status, out, err = run(CHECK, ["--data", "d", "m"], folder)
@@ -287,13 +293,14 @@ def refused_memory(folder, failures):
 def main():
     count = int(sys.argv[1]) if len(sys.argv) > 1 else 1500
     seed = int(sys.argv[2]) if len(sys.argv) > 2 else 56
-    for program in (TMPL, CHECK):
-        if not os.access(program, os.X_OK):
-            print(f"there is no {program}: build it by `make`")
-            return closing(0, 1)
+    if not is_built(TMPL, CHECK):
+        return closing(0, 1)
     failures = []
     with tempfile.TemporaryDirectory(dir="/dev/shm" if os.access("/dev/shm", os.W_OK) else None) as folder:
         rows(folder, failures)
+        if NAMED:
+            print(*failures, sep="\n", end="\n" * bool(failures))
+            return closing(len(named(ROWS + FILES + DATA)) - len(failures), len(failures))
         words(folder, failures)
         uris(folder, failures)
         notes(folder, failures)

@@ -447,13 +447,19 @@ def results():
         yield f"{template} by {mode} over {data}", 1, [] if 1 in came else [f"    no render failed: {came}"]
 
 
+def narrow():
+    """Leaves, of the rows, those alone whose titles hold what -k asks for."""
+    for name, rows in list(vars(schema_rows).items()):
+        if name.isupper() and isinstance(rows, list):
+            setattr(schema_rows, name, [it for it in rows if harness.ROWS in str(it[0])])
+
+
 def main():
-    if not harness.is_built():
-        print("there is no program: build it by `make`")
+    if not harness.is_built(harness.PROGRAM, harness.CHECKER):
         return harness.closing(0, 1)
-    if not os.access(harness.CHECKER, os.X_OK):
-        print("there is no tmpl-check: build it by `make`")
-        return harness.closing(0, 1)
+    if harness.ROWS:
+        narrow()
+        return harness.closing(*harness.tally(row_results())[:2])
     if jsonschema is None:
         print("what conforms is not held to the package jsonschema, which is not installed")
     seed, count = map(int, sys.argv[1:3]) if len(sys.argv) > 2 else (1, 400)

@@ -13,7 +13,6 @@ import tempfile
 from tests.fault import sweep
 from tests.lib import harness
 
-PROBE = f"{harness.TOP}/crates/tmpl_probe/out/tmpl_probe"
 FEWER, MORE = 100, 300  # calls
 LONG = "a <b> & c/d=\"e\" " * 60
 NESTED = {"b": [1, None, "x<y"], "a": {"k": "v" * 50, "": True}}
@@ -123,7 +122,7 @@ def a_call(shim, folder, function, arguments):
     file = f"{folder}/arguments"
     with open(file, "w", encoding="utf-8") as it:
         json.dump(arguments, it)
-    return each(shim, [[PROBE, "call", file, function, str(count)] for count in (FEWER, MORE)])
+    return each(shim, [[harness.PROBE, "call", file, function, str(count)] for count in (FEWER, MORE)])
 
 
 def a_share(shim, folder, text):
@@ -131,7 +130,7 @@ def a_share(shim, folder, text):
     file = f"{folder}/text"
     with open(file, "w", encoding="utf-8") as it:
         it.write(text)
-    return each(shim, [[PROBE, "share", file, str(count)] for count in (FEWER, MORE)])
+    return each(shim, [[harness.PROBE, "share", file, str(count)] for count in (FEWER, MORE)])
 
 
 def a_turn(shim, folder, template):
@@ -182,8 +181,8 @@ def judge_caller(shim, folder, calls, most):
 
 
 def main():
-    if not os.access(PROBE, os.X_OK):
-        sys.exit("there is no probe: the gate builds it")
+    if not harness.is_built(harness.PROBE):
+        return harness.closing(0, 1)
     with tempfile.TemporaryDirectory() as folder:
         shim = f"{folder}/shim.so"
         sweep.build_shim("fail_alloc.c", shim)

@@ -11,7 +11,6 @@ from typing import NamedTuple, Optional
 from tests.fault import sweep
 from tests.lib import harness
 
-PROBE = f"{harness.TOP}/crates/tmpl_probe/out/tmpl_probe"
 FEW, MANY = 10, 1000  # calls
 SLACK = 1024  # kilobytes by which many calls may take more than few, so a hundredth of what the texts of all of them are
 LONG = "text " * 20000
@@ -75,7 +74,7 @@ def often(folder, words, times, shim=None, refused=0, out=subprocess.PIPE):
     try:
         with tempfile.TemporaryFile() as told, tempfile.TemporaryFile() as said:
             process = subprocess.Popen(
-                [PROBE, "often", str(times), "tmpl", *words],
+                [harness.PROBE, "often", str(times), "tmpl", *words],
                 cwd=folder,
                 env=environment,
                 pass_fds=keep,
@@ -143,8 +142,8 @@ def judge_refused(shim, folder, words):
 
 
 def main():
-    if not os.access(PROBE, os.X_OK):
-        sys.exit("there is no probe: the gate builds it")
+    if not harness.is_built(harness.PROBE):
+        return harness.closing(0, 1)
     with tempfile.TemporaryDirectory(dir=harness.MEMORY) as folder:
         shim = f"{folder}/shim.so"
         sweep.build_shim("fail_alloc.c", shim)

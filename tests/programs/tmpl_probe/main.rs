@@ -24,7 +24,6 @@
 //!
 //! The status is 0 where the part was done, 3 where it was not, since the words or a file do not say what with or a
 //! call is refused for another cause than memory, and 7 where memory was refused outside the call that is looked at.
-#![tactic(auto)]
 
 mod calls;
 mod case;

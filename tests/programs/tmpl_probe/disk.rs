@@ -1,5 +1,4 @@
 //! The file system as a source. Of its files nothing is told.
-ghost use Rattle.std.specs.Prelude.{◌≡◌, None};
 
 use std::alloc::Global;
 use std::fs;
@@ -15,14 +14,14 @@ pub(crate) struct Disk<'a, R> {
 }
 
 impl<'a, R: Files + AllocGlobal> Disk<'a, R> {
-    pub(crate) fn new(rt: &'a R) -> Disk<'a, R>
-        ensures { result.failures ≡ 0 }
-    {
+    pub(crate) fn new(rt: &'a R) -> Disk<'a, R> {
         Disk { rt, failures: 0 }
     }
 }
 
 impl<'a, R: Files + AllocGlobal> Source for Disk<'a, R> {
+    ghost use Rattle.std.specs.Prelude.{None};
+
     ghost contents = { λ _. None };
 
     ghost failures = { λ s. s.failures };

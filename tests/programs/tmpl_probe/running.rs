@@ -1,7 +1,5 @@
 //! Runs of compiled templates, over a stack and a piece that are lent in the sizes that the words say, to a sink that
 //! takes as much as the words say. Words, files and the line of a fault are those of the command.
-ghost use Rattle.std.specs.Prelude.{◌<◌, length};
-ghost use Rattle.tmpl_syntax.specs.View.{set_view};
 
 use crate::disk::Disk;
 use crate::limited::{LimitedSink, Limits};
@@ -134,9 +132,7 @@ fn run_template(
     request: &Request<'_>,
     loan: Loan,
     in_arrays: bool,
-) -> io::Result<bool>
-    requires { number < length (set_view inputs.now.set) }
-{
+) -> io::Result<bool> {
     let program = compile(rt.alloc(), &inputs.set)?;
     let job = Job {
         program: &program,
@@ -153,9 +149,7 @@ fn run_template(
 }
 
 /// Runs over as many cells as are enough, or over all cells of the room.
-fn run_in_vecs(rt: &HostRuntime, job: &Job<'_, '_>) -> io::Result<bool>
-    requires { job.now.entry.number < length (set_view job.now.program.now.set.value) }
-{
+fn run_in_vecs(rt: &HostRuntime, job: &Job<'_, '_>) -> io::Result<bool> {
     let alloc = rt.alloc();
     let depth = job.request.options.depth;
     let count = if job.loan.has_room {
@@ -176,9 +170,7 @@ fn run_in_vecs(rt: &HostRuntime, job: &Job<'_, '_>) -> io::Result<bool>
 }
 
 /// Runs over arrays, to a sink that keeps its bytes in one, which is then put out. So it takes no memory of its own.
-fn run_in_arrays(rt: &HostRuntime, job: &Job<'_, '_>) -> io::Result<bool>
-    requires { job.now.entry.number < length (set_view job.now.program.now.set.value) }
-{
+fn run_in_arrays(rt: &HostRuntime, job: &Job<'_, '_>) -> io::Result<bool> {
     let mut cells = filled_array(b"before");
     let mut piece = [0; BYTES];
     let mut kept = [0; BYTES];
@@ -224,9 +216,7 @@ fn run_often<'a, W: Write, E: Write>(
     piece: &mut [u8],
     out: &mut W,
     err: &mut E,
-) -> io::Result<bool>
-    requires { job.now.entry.number < length (set_view job.now.program.now.set.value) }
-{
+) -> io::Result<bool> {
     let options = &job.request.options;
     for _ in 0..job.loan.times {
         if (cells.len() as u64) < job.program.cells(options.depth) {

@@ -1,5 +1,4 @@
 //! A sink that takes as much as it is told to, and then fails.
-ghost use Rattle.std.specs.Prelude.{◌≡◌, ◌<◌, ◌≤◌, length, None, IfOk};
 
 use std::io::Write;
 use tmpl_run::{Sink, SinkFault};
@@ -36,9 +35,7 @@ pub(crate) struct LimitedSink<W: Drop> {
 
 impl<W: Write + Drop> LimitedSink<W> {
     /// A sink over the writer, with no failure yet.
-    pub(crate) fn new(writer: W, limits: Limits) -> LimitedSink<W>
-        ensures { result.failures ≡ 0 }
-    {
+    pub(crate) fn new(writer: W, limits: Limits) -> LimitedSink<W> {
         LimitedSink {
             writer,
             limits,
@@ -53,10 +50,7 @@ impl<W: Write + Drop> LimitedSink<W> {
     }
 
     /// Writes as many of the bytes as the limits let through.
-    fn take(&mut self, bytes: &[u8]) -> Result<usize, SinkFault>
-        ensures count { IfOk result (λ n. (1 ≤ n) × (n ≤ length bytes.now)) }
-        ensures failures { self.new.failures ≡ self.old.failures }
-    {
+    fn take(&mut self, bytes: &[u8]) -> Result<usize, SinkFault> {
         let count = bytes.len().min(self.limits.most).min(self.limits.left);
         if count == 0 {
             if self.limits.once {
@@ -75,6 +69,8 @@ impl<W: Write + Drop> LimitedSink<W> {
 }
 
 impl<W: Write + Drop> Sink for LimitedSink<W> {
+    ghost use Rattle.std.specs.Prelude.{None};
+
     ghost so_far = { λ s. record { bytes = None; failures = s.failures } };
 
     fn put(&mut self, bytes: &[u8]) -> Result<usize, SinkFault> {

@@ -86,8 +86,7 @@ fn cut_files<'a>(case: &Case<'a>, number: u64) -> Result<Vec<File<'a>>, AllocErr
     let mut files = case.files.clone()?;
     if case.numbers.varied == Varied::Front
         && let Some(first) = files.as_mut_slice().first_mut()
-        && let Some((front, _)) = first.bytes.split_at_checked(number as usize)
-    {
+        && let Some((front, _)) = first.bytes.split_at_checked(number as usize) {
         first.bytes = front;
     }
     Ok(files)

@@ -1,5 +1,4 @@
 //! Calls of the library one by one, over files. Each puts out what was asked for, or that memory was refused.
-ghost use Rattle.std.specs.Prelude.{◌<◌, ◌-◌, ◌^◌};
 
 use crate::case::next_file;
 use crate::reader::Reader;
