@@ -10,9 +10,9 @@ import unicodedata
 
 from tests.lib import harness
 from tests.oracle import functions
+from tests.oracle.table import NAMES as FUNCTIONS
 
 LEAST = 10000  # templates
-FUNCTIONS = "and eq ge gt html index le len lt ne not or print printf println slice urlquery".split()
 CONSTANTS = "true false nil".split()
 LETTERS = "abcdefghijklmnopqrstuvwxyz"
 # the code of each letter that stands for itself after a backslash

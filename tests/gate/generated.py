@@ -12,7 +12,9 @@ import subprocess
 import sys
 import tempfile
 
-from tests.lib import harness
+from tests.fault import calls
+from tests.lib import harness, programs
+from tests.oracle import meaning, table
 
 sys.path.insert(0, f"{harness.TOP}/completions")
 import make as completions
@@ -72,6 +74,32 @@ def numbers():
         for name, (pattern, names) in its.items():
             row = told(name.partition(",")[0])
             yield f"{name} in {path}", [tuple(row[it] for it in names)], [it if isinstance(it, tuple) else (it,) for it in re.findall(pattern, text)]
+
+
+def listed(path, pattern, part=r"\w+"):
+    """The names in the first place of a file that the pattern finds."""
+    return [it.lower() for it in re.findall(part, re.search(pattern, programs.read(f"{harness.TOP}/{path}"), re.DOTALL)[1])]
+
+
+def functions():
+    """The table of docs/LANGUAGE.md is the one list of functions: every other has the same names, and the code the same numbers of arguments."""
+    names = table.NAMES
+    func, spec = "crates/tmpl_funcs/src/func.rt", "crates/tmpl_funcs/specs/Func.antt"
+    yield f"the variants in {func}", names, listed(func, r"pub enum Func \{(.*?)\}")
+    yield f"the list in {func}", names, listed(func, r"const FUNCS: .*? = \[(.*?)\];", r"Func::(\w+)")
+    code = programs.read(f"{harness.TOP}/{func}")
+    rows = re.findall(r'Func::(\w+) => Row::new\("(\w+)", (\d+), (?:None|Some\((\d+)\))', code)
+    wanted = [(name, name, least, most) for name, (least, most) in table.COUNTS.items()]
+    yield f"the rows in {func}", wanted, [(it.lower(), name, int(least), int(most or table.MANY)) for it, name, least, most in rows]
+    yield f"the rows in {spec}", names, listed(spec, r"\nrow_of (.*)", r'codes "(\w+)"')[: len(names)]
+    computed = "crates/tmpl_grammar/specs/computed/Operand.antt"
+    yield f"the list in {computed}", names, listed(computed, r"\n    (And ∷.*?) ∷ \[\]")
+    places = "crates/tmpl_funcs/proofs/func/Func/named/Answers.antt"
+    yield f"the places in {places}", names, listed(places, r"(.*)", r"\nplace (\w+) =")
+    yield "what tests/oracle/meaning.py gives", sorted(names), sorted(meaning.GIVES)
+    called = {it[0] for it in (*calls.MAKERS, *calls.OTHERS)}
+    yield "the calls of tests/fault/calls.py", sorted(set(names) - {"and", "or"}), sorted(called)
+    yield "functions that tests/fuzz/dictionary lacks", [], sorted(set(names) - set(listed("tests/fuzz/dictionary", "(.*)", r'\n"(\w+) "')))
 
 
 def pages():
@@ -184,7 +212,7 @@ def main():
             with open(f"{folder}/{name}", "w", encoding="utf-8"):
                 pass
         shells = {"bash": in_bash, "zsh": in_zsh, "fish": in_fish}
-        cases = [*made(), *usage(), *numbers(), *pages()]
+        cases = [*made(), *usage(), *numbers(), *functions(), *pages()]
         for shell in filter(shutil.which, shells):
             cases += shells[shell](folder)
         cases += editors(folder)

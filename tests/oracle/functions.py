@@ -5,20 +5,11 @@ import itertools
 import json
 import string
 
+from tests.oracle.table import COUNTS
+
 DATA = {"n": None, "e": [], "l": [7, [5, 6], None], "m": {"a": [5], "1": 1}}
-MANY = 1000
 WRONG_COUNT, WRONG_KIND = "wrong number of arguments", "wrong kind of argument"
 OUT_OF_RANGE, NOT_COMPARABLE, REFUSED = "out of range", "can't be compared", "format refused"
-
-# the least and the greatest number of arguments
-COUNTS = {
-    **dict.fromkeys(("print", "println", "html", "urlquery"), (0, MANY)),
-    **dict.fromkeys(("and", "or", "index", "printf"), (1, MANY)),
-    **dict.fromkeys(("not", "len"), (1, 1)),
-    **dict.fromkeys(("ne", "lt", "le", "gt", "ge"), (2, 2)),
-    "slice": (1, 3),
-    "eq": (2, MANY),
-}
 
 # an operand of each kind: nothing, null, a truth value, a number, a text, a made text, a list and a map
 KINDS = ["nil", ".n", "true", "1", '"1"', "(print 1)", ".l", ".m"]

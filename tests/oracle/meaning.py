@@ -8,7 +8,7 @@ import operator
 import os
 import re
 
-from tests.oracle import reading
+from tests.oracle import reading, table
 
 Options = collections.namedtuple("Options", "missingkey name depth steps", defaults=(b"default", None, 1000, 1000000000))
 
@@ -16,7 +16,6 @@ WRONG_COUNT, WRONG_KIND = b"wrong number of arguments", b"wrong kind of argument
 OUT_OF_RANGE, NOT_COMPARABLE, REFUSED = b"out of range", b"can't be compared", b"format refused"
 NO_RANGE, NO_FUNCTION, NIL_COMMAND = b"can't range over this value", b"not a function", b"nil is not a command"
 BREAK, CONTINUE = b"break", b"continue"
-MANY = float("inf")
 
 
 class Nothing:
@@ -232,15 +231,14 @@ def plain(verb, value):
     raise Fault(REFUSED)
 
 
-# What each function gives, and its least and greatest number of arguments. `and` and `or` may leave arguments unlooked at.
-FUNCTIONS = {
-    **{b"and": (None, 1, MANY), b"or": (None, 1, MANY), b"not": (not_, 1, 1)},
-    **{b"len": (len_, 1, 1), b"index": (index, 1, MANY), b"slice": (slice_, 1, 3)},
-    **{b"print": (print_, 0, MANY), b"println": (println, 0, MANY), b"printf": (printf, 1, MANY)},
-    **{b"html": (html, 0, MANY), b"urlquery": (urlquery, 0, MANY)},
-    **{b"eq": (eq, 2, MANY), b"ne": (ne, 2, 2)},
-    **{name.encode(): (functools.partial(ordered, getattr(operator, name)), 2, 2) for name in ("lt", "le", "gt", "ge")},
+# What each function gives. `and` and `or` may leave arguments unlooked at.
+GIVES = {
+    **{"and": None, "or": None, "not": not_, "len": len_, "index": index, "slice": slice_, "print": print_, "println": println},
+    **{"printf": printf, "html": html, "urlquery": urlquery, "eq": eq, "ne": ne},
+    **{name: functools.partial(ordered, getattr(operator, name)) for name in ("lt", "le", "gt", "ge")},
 }
+# Each function with what it gives, and its least and greatest number of arguments.
+FUNCTIONS = {name.encode(): (GIVES[name], *counts) for name, counts in table.COUNTS.items()}
 
 
 # ---- a run

