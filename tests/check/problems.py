@@ -17,7 +17,7 @@ from tests.lib.harness import CHECKER as CHECK
 from tests.lib.harness import PROGRAM as TMPL
 from tests.lib.harness import ROWS as NAMED
 from tests.lib.harness import SECONDS, build_shim, closing, is_built
-from tests.rows.problem_rows import DATA, FILES, ROWS
+from tests.rows.problem_rows import DATA, FILES, HIDDEN, ROWS
 
 LINE = re.compile(r"(.+?):([1-9][0-9]*):([1-9][0-9]*): (error|warning): (.*)")
 
@@ -69,6 +69,17 @@ def rows(folder, failures):
         wrong = any(" error: " in f" {line}" for line in lines)
         hold(f"data, {title}", "status and errors", (int(wrong), b""), (status, err), failures)
         hold(f"data, {title}", "status of tmpl", 5 * wrong, run(TMPL, ["--data", "d", "m"], folder)[0], failures)
+
+
+def hidden(folder, failures):
+    """No name makes a line that looks like a finding, nor does that of a file; JSON has it as it is."""
+    for title, text, lines, texts in HIDDEN:
+        for file, shown in (("m", "m"), ("m\nm:1:1: error: no", "m\\nm:1:1: error: no")):
+            write(folder, file, text)
+            status, out, err = run(CHECK, [file], folder)
+            hold(title, f"lines of {shown}", (0, "".join(f"{shown}:{line}\n" for line in lines), b""), (status, out.decode(), err), failures)
+            out = run(CHECK, ["--format", "json", file], folder)[1]
+            hold(title, f"JSON of {shown}", [(file, it) for it in texts], [(it["file"], it["text"]) for it in json.loads(out)["problems"]], failures)
 
 
 def forms(folder, words, title, lines, failures):
@@ -301,6 +312,7 @@ def main():
         if NAMED:
             print(*failures, sep="\n", end="\n" * bool(failures))
             return closing(len(named(ROWS + FILES + DATA)) - len(failures), len(failures))
+        hidden(folder, failures)
         words(folder, failures)
         uris(folder, failures)
         notes(folder, failures)
@@ -309,7 +321,7 @@ def main():
         draws(folder, count, seed, failures)
     for failure in failures[:20]:
         print(failure)
-    passed = len(ROWS) + len(FILES) + len(DATA) + count - len(failures)
+    passed = len(ROWS) + len(FILES) + len(DATA) + 4 * len(HIDDEN) + count - len(failures)
     return closing(max(passed, 0), len(failures))
 
 

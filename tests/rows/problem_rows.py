@@ -239,3 +239,15 @@ root {{ key "web/root" }};
 {{end}}
 """, ["5:1: " + OPEN + '"define" of line 1 is open at the end of the file']),
 ]
+
+# what is written by its code in a line, and as it is in JSON: a title, a file, the lines, and the texts in JSON
+HIDDEN = [
+    ("a name that would make a line of its own", "{{template `z\nm:1:1: error: no` .a}}",
+     ['1:1: warning: no file defines the template "z\\nm:1:1: error: no"'], ['no file defines the template "z\nm:1:1: error: no"']),
+    ("a name that colours a terminal", "{{template `z\x1b[31m\r\x7f`}}",
+     ['1:1: warning: no file defines the template "z\\x1b[31m\\r\\x7f"'], ['no file defines the template "z\x1b[31m\r\x7f"']),
+    ("a name that ends a line, and one that turns it", "{{$a\u2028 := 1}}{{$b\u202e := 1}}{{$\u00e9 := 1}}{{$c\u0085 := 1}}",
+     ['1:1: warning: variable "$a\\u2028" is never used', '1:13: warning: variable "$b\\u202e" is never used',
+      '1:25: warning: variable "$\u00e9" is never used', '1:36: warning: variable "$c\\u0085" is never used'],
+     ['variable "$a\u2028" is never used', 'variable "$b\u202e" is never used', 'variable "$\u00e9" is never used', 'variable "$c\u0085" is never used']),
+]

@@ -1,3 +1,4 @@
+mod LineLemmas
 pub mod NotedLemmas
 pub mod ProgressLemmas
 pub mod SignLemmas

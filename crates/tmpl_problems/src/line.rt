@@ -1,10 +1,14 @@
 //! What is found as lines, as compilers write them.
-ghost use Rattle.std.specs.Prelude.{◌≡◌, ◌++◌, IfOk, OnOk, string_bytes};
-ghost use Rattle.tmpl_problems.specs.Line.{all_lines, line_of, lines_for, reason_with, text_of};
+ghost use Rattle.std.specs.Prelude.{◌≡◌, ◌++◌, ◌∷◌, ◌<◌, [], IfOk, None, OnOk, codes, false, string_bytes, true};
+ghost use Rattle.std.specs.Fmt.{digit_glyph};
+ghost use Rattle.tmpl_values.specs.Quote.{letter_of, letters, spelling};
+ghost use Rattle.tmpl_values.specs.Rune.{char};
+ghost use Rattle.tmpl_problems.specs.Line.{all_lines, is_hidden, line_of, lines_for, place_in_line, reason_with, shown_char, shown_in_line, text_of};
 
 use crate::problem::{Problem, Problems};
 use crate::reason::reason_words;
 use std::alloc::{AllocError, Global};
+use tmpl_values::digit;
 
 /// What is wrong, and where, in a line.
 #[derive(Clone, Copy, Debug)]
@@ -18,7 +22,7 @@ pub struct Finding<'a> {
 }
 
 impl<'a> Finding<'a> {
-    /// Adds its line, with a newline.
+    /// Adds its line, with a newline. What can not be seen in the file name and in the text, or would make another line, is written by its code.
     ///
     /// # Errors
     ///
@@ -27,12 +31,88 @@ impl<'a> Finding<'a> {
         ensures { OnOk result (string_bytes out.new
             ≡ string_bytes out.old ++ line_of self.now.file.now self.now.place self.now.level.now self.now.text.now) }
     {
-        let file = self.file;
-        let (line, column) = self.place;
-        let level = self.level;
-        let text = self.text;
-        writeln!(out, "{file}:{line}:{column}: {level}: {text}")
+        push_shown(out, self.file)?;
+        push_place(out, self.place, self.level)?;
+        push_shown(out, self.text)?;
+        push_end(out)
     }
+}
+
+/// Adds what stands between the file and the text.
+fn push_place(out: &mut String, place: (u64, u64), level: &str) -> Result<(), AllocError>
+    ensures { OnOk result (string_bytes out.new ≡ string_bytes out.old ++ place_in_line place level.now) }
+{
+    let (line, column) = place;
+    write!(out, ":{line}:{column}: {level}: ")
+}
+
+/// Ends a line.
+fn push_end(out: &mut String) -> Result<(), AllocError>
+    ensures { OnOk result (string_bytes out.new ≡ string_bytes out.old ++ codes "\n") }
+{
+    out.push_str("\n")
+}
+
+/// Adds a string, with what can't be seen or would look like another line by its code.
+fn push_shown(out: &mut String, text: &str) -> Result<(), AllocError>
+    ensures { OnOk result (string_bytes out.new ≡ string_bytes out.old ++ shown_in_line text.now) }
+{
+    for c in text.chars() {
+        push_char(out, c)?;
+    }
+    Ok(())
+}
+
+/// Adds a character, or its code.
+fn push_char(out: &mut String, c: char) -> Result<(), AllocError>
+    ensures { OnOk result (string_bytes out.new ≡ string_bytes out.old ++ shown_char c) }
+{
+    if !is_hidden(c) {
+        return out.push(c);
+    }
+    match c {
+        '\u{7}' => out.push_str("\\a"),
+        '\u{8}' => out.push_str("\\b"),
+        '\t' => out.push_str("\\t"),
+        '\n' => out.push_str("\\n"),
+        '\u{b}' => out.push_str("\\v"),
+        '\u{c}' => out.push_str("\\f"),
+        '\r' => out.push_str("\\r"),
+        _ => push_code(out, c as u32),
+    }
+}
+
+/// Whether a character is written by its code: a control character, one that ends a line, or one that turns the direction of text.
+fn is_hidden(c: char) -> bool
+    ensures { result ≡ is_hidden c }
+{
+    matches!(c, '\0'..='\u{1f}' | '\u{7f}'..='\u{9f}' | '\u{2028}'..='\u{202e}' | '\u{2066}'..='\u{2069}')
+}
+
+/// Adds the code of a character that has no letter of its own.
+#[tactic(auto, unfolding(tmpl_values::specs::Quote::hexes))]
+fn push_code(out: &mut String, n: u32) -> Result<(), AllocError>
+    requires hidden { is_hidden n ≡ true }
+    requires unlettered { letter_of n letters ≡ None }
+    ensures { OnOk result (string_bytes out.new ≡ string_bytes out.old ++ spelling (λ _. false) (char n)) }
+{
+    if n < 32 || n == 127 {
+        out.push_str("\\x")?;
+    } else {
+        out.push_str("\\u")?;
+        push_digit(out, n / 16 / 16 / 16 % 16)?;
+        push_digit(out, n / 16 / 16 % 16)?;
+    }
+    push_digit(out, n / 16 % 16)?;
+    push_digit(out, n % 16)
+}
+
+/// Adds a digit in base 16.
+fn push_digit(out: &mut String, n: u32) -> Result<(), AllocError>
+    requires { n < 16 }
+    ensures { OnOk result (string_bytes out.new ≡ string_bytes out.old ++ digit_glyph false n ∷ []) }
+{
+    out.push(digit(n, false) as char)
 }
 
 /// A reason, and what more is said of it.

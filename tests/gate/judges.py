@@ -1,0 +1,60 @@
+"""Tests the tests: each is given programs that answer wrongly, and must not pass.
+
+One that only fails, one that does nothing and ends well, one that loses the last byte of its output, and one that adds a line to it. The
+last two are given to some tests alone, since they make two processes of each run."""
+import os
+import re
+import subprocess
+import sys
+import tempfile
+from concurrent.futures import ThreadPoolExecutor
+
+from tests.lib import harness, programs
+
+# the tests, each with the program that is put in place
+JUDGED = {
+    **dict.fromkeys(("check.rendered", "check.places", "check.tables", "check.printing", "check.quotes", "check.hostile", "gate.generated"), "tmpl"),
+    **dict.fromkeys(("check.problems", "check.migration", "check.verdicts", "gate.documents"), "tmpl-check"),
+    **dict.fromkeys(("check.prefixes", "check.instructions"), "tmpl_probe"),
+    "check.host": "tmpl_host",
+}
+ONLY_FAILS = ("check.printing", "check.quotes", "check.hostile", "check.places", "check.tables")  # that are long over any other
+FINELY = ("check.rendered", "check.problems", "check.migration", "gate.documents", "check.host")  # with the last two programs too
+SECONDS = 300
+
+
+def passes(test, name, program, more):
+    """Whether a test passes over a program."""
+    environment = {**os.environ, programs.VARIABLES[name]: program, **more}
+    words = [sys.executable, "-m", f"tests.{test}"]
+    ran = subprocess.run(words, cwd=harness.TOP, env=environment, stdout=subprocess.PIPE, stderr=subprocess.STDOUT, timeout=SECONDS, text=True)
+    return ran.returncode == 0 and bool(re.search(r"^[1-9]\d* passed, 0 failed$", ran.stdout, re.MULTILINE))
+
+
+def wrongs(test, name, folder):
+    """What answers wrongly: of each what it does, its path, and what it is told."""
+    yield "fails", "/bin/false", {}
+    if test in ONLY_FAILS:
+        return
+    yield "does nothing", "/bin/true", {}
+    if test in FINELY:
+        # a copy of its own name, since some tests look at that
+        real = {"REAL": programs.path(name)}
+        yield "loses a byte", f"{folder}/{name}", real
+        yield "adds a line", f"{folder}/{name}", {**real, "ADDS": "1"}
+
+
+def main():
+    with tempfile.TemporaryDirectory() as folder:
+        for name in programs.ALL:
+            subprocess.run(["cc", "-O1", f"{harness.TESTS}/shim/wrong.c", "-o", f"{folder}/{name}"], check=True)
+        cases = [(test, name, *it) for test, name in JUDGED.items() for it in wrongs(test, name, folder)]
+        with ThreadPoolExecutor(harness.processes()) as pool:
+            came = list(pool.map(lambda it: passes(it[0], it[1], *it[3:]), cases))
+    told = [(f"{test} with a {name} that {what}", 1, ["    it passes"] * is_wrong) for (test, name, what, *_), is_wrong in zip(cases, came)]
+    passed, failed, _ = harness.tally(told)
+    return harness.closing(passed, failed)
+
+
+if __name__ == "__main__":
+    sys.exit(main())
