@@ -11,10 +11,11 @@ ghost use Rattle.tmpl_engine.specs.View.{templates_in};
 
 use crate::cells::empty_cells;
 use crate::error::RenderError;
+use crate::runner::run;
 use std::alloc::{AllocError, Global};
 use std::sync::Arc;
 use tmpl_code::{Entry, Program, compile};
-use tmpl_run::{Options, Sink, run};
+use tmpl_meaning::{Options, Sink};
 use tmpl_syntax::Set;
 use tmpl_values::Data;
 
@@ -108,7 +109,7 @@ impl Renderer {
     /// Renders the template of this name with data, if there are any, by these options, and puts its text out.
     ///
     /// The memory of the run is taken here: its cells, and a piece of 4,096 bytes in which output waits.
-    /// `tmpl_run::run` does the same over memory that is lent.
+    /// [`run`] does the same over memory that is lent.
     ///
     /// # Errors
     ///

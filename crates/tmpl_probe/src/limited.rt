@@ -2,7 +2,7 @@
 ghost use Rattle.std.specs.Prelude.{◌≡◌, ◌<◌, ◌≤◌, length, None, IfOk};
 
 use std::io::Write;
-use tmpl_run::{Sink, SinkFault};
+use tmpl_engine::{Sink, SinkFault};
 
 /// What a sink takes.
 #[derive(Clone, Copy)]

@@ -1,7 +1,7 @@
 //! A sink that keeps its bytes in a lent slice, takes little a put, and fails where it is told to.
 ghost use Rattle.std.specs.Prelude.{◌≡◌, ◌+◌, ◌≤◌, length, take, Some};
 
-use tmpl_run::{Sink, SinkFault};
+use tmpl_engine::{Sink, SinkFault};
 
 /// What a sink takes, and when it fails.
 #[derive(Clone, Copy)]
