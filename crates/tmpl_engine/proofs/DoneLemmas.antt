@@ -21,7 +21,7 @@ use Rattle.tmpl_engine.specs.Machine.{stuck}
 use Rattle.tmpl_engine.specs.Ready.{Has}
 use Rattle.tmpl_engine.specs.Ends.{Comes, Ends, IsReady, RunsTo}
 use Rattle.tmpl_engine.specs.Laws.{Begins, Lessens}
-use Rattle.tmpl_engine.specs.computed.Machines.{no_template}
+use Rattle.tmpl_engine.specs.computed.Machines.{no_template, with_told}
 use Rattle.tmpl_engine.specs.computed.Turned.{added_text, mark_after}
 
 -- what a fault is told of as in a template
@@ -33,9 +33,6 @@ abbrev pub tell : Template → List ℕ → Bool → Turn → Turn
 tell t x m (goes u) = goes (record u { text = x; made_text = m })
 tell t x m (ended r) = ended (record { text = x; fault = retold t r.fault; made_text = m })
 tell t x m stuck = stuck
-
-abbrev pub with_told : List ℕ → Bool → State → State
-with_told x m s = record s { text = x; made_text = m }
 
 -- what an instruction does hangs neither on the template that is told nor on what was put out before it
 pub carry_out-told : (plan : Plan) (t : Template) (x : List ℕ) (m : Bool) (i : Instruction) (s : State)

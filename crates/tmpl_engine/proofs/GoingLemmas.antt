@@ -22,12 +22,12 @@ use Rattle.tmpl_engine.specs.Laws.{Begins}
 use Rattle.tmpl_engine.specs.Machine.{Turn, carry_out, ended, fault_in, goes, next_of, ran_so, stuck}
 use Rattle.tmpl_engine.specs.Ready.{Has}
 use Rattle.tmpl_engine.specs.State.{Plan, State}
-use Rattle.tmpl_engine.specs.computed.Came.{Came, ComesTo, IsStopped}
-use Rattle.tmpl_engine.specs.computed.Machines.{no_template, state_of}
+use Rattle.tmpl_engine.specs.computed.Came.{Aim, Came, IsStopped, Stands}
+use Rattle.tmpl_engine.specs.computed.Machines.{no_template, state_of, with_told}
+use Rattle.tmpl_engine.specs.computed.Near.{HasNear, IsNear}
 use Rattle.tmpl_engine.specs.computed.Plain.{IsPlain, SparedOr}
 use Rattle.tmpl_engine.specs.computed.Turned.{Executed, Lands, added_text, mark_after, put_by, put_out}
 use Rattle.tmpl_engine.specs.computed.Turned as turning
-use Rattle.tmpl_engine.specs.computed.View.{size_of}
 use Rattle.tmpl_engine.specs.declared.fault.RunError.{RunError}
 use Rattle.tmpl_engine.specs.declared.fault.RunError.TheVariants as error
 use Rattle.tmpl_engine.specs.declared.flow.Flow.{Flow}
@@ -36,29 +36,34 @@ use Rattle.tmpl_engine.specs.declared.halt.Halt.{Halt}
 use Rattle.tmpl_engine.specs.declared.halt.Halt.TheVariants as stop
 use Rattle.tmpl_engine.specs.declared.machine.Machine.{Machine}
 use Rattle.tmpl_engine.proofs.DoneLemmas.{carry_out-told, each-lessens, ends-so, falls, finds, goes-on, in-code, is-next, mark_at, next-depth, ready, retold, tell}
-use Rattle.tmpl_engine.proofs.DoneLemmas.{tells-more, text-begins, with_told, work}
+use Rattle.tmpl_engine.proofs.DoneLemmas.{tells-more, text-begins, work}
 
--- what the loop keeps: after what was put out so far and the mark, the machine comes to the end
-pub record Stands (plan : Plan) (end : Ran) (m : Machine) (before now : Puts) : Type 0 where
-  pub depth : m.depth + m.left < 2 ^ 64 - 1
-  pub text : List ℕ
-  pub made : Bool
-  pub given : IsPut {F = SinkFault} (Ok tt) before now text
-  pub ends : Ends plan (size_of m.stack) (with_told text made (state_of m)) end
-  pub plain : made ≡ false → IsPlain m
+-- what is to come to an end has put nothing out yet
+pub starts : (plan : Plan) (end : Ran) (room : ℕ) (s : State) (Plain : Type 0) (now : Puts) → Ends plan room (with_told [] false s) end → Plain
+    → s.depth + s.left < 2 ^ 64 - 1 → Stands plan (record { end = end; room = room; before = now }) s Plain now
+starts plan end room s Plain now ends plain depth =
+    record { depth = depth; text = []; made = false; given = IsPut-nil now; ends = ends; plain = λ e. plain }
 
-pub starts : (plan : Plan) (end : Ran) (m : Machine) (now : Puts) → ComesTo plan m end → IsPlain m → m.depth + m.left < 2 ^ 64 - 1 → Stands plan end m now now
-starts plan end m now ends plain depth = record { depth = depth; text = []; made = false; given = IsPut-nil now; ends = ends; plain = λ e. plain }
+-- an instruction finds its room near by, where its stack is whole or has three cells more
+module _ (room high n size : ℕ) (near : IsNear room high size) (low : n ≤ high) where
+  pub near-by : (i : Instruction) → Has i n room → HasNear i n size
+  near-by i h = grind arith
 
-module _ {plan : Plan} {end : Ran} {m : Machine} {before now : Puts} (inv : Stands plan end m before now) where
+module _ {plan : Plan} {aim : Aim} (m : Machine) {now : Puts} (inv : Stands plan aim (state_of m) (IsPlain m) now) where
   abbrev s : State
   s = state_of m
+
+  abbrev end : Ran
+  end = aim.end
+
+  abbrev before : Puts
+  before = aim.before
 
   abbrev past : State
   past = with_told inv.text inv.made s
 
   abbrev room : ℕ
-  room = size_of m.stack
+  room = aim.room
 
   -- there are the template that runs and an instruction
   pub runs : (t : Template) × (slice_get plan.templates m.template ≡ Some t) × (m.place < length plan.code)
@@ -140,7 +145,7 @@ module _ {plan : Plan} {end : Ran} {m : Machine} {before now : Puts} (inv : Stan
 
         -- what a turn comes to: the loop goes on with fewer steps left, or it ended as the run does
         abbrev pub Outcome : Result Flow Halt → Type 0
-        Outcome (Ok flow.On) = Stands plan end n before after × (work (length plan.code) (state_of n) < work (length plan.code) s)
+        Outcome (Ok flow.On) = Stands plan aim (state_of n) (IsPlain n) after × (work (length plan.code) (state_of n) < work (length plan.code) s)
         Outcome (Ok flow.Over) = Came end before after (Ok tt)
         Outcome (Err halt) = (e : RunError) → IsStopped (slice_get plan.templates m.template) n.line halt e → Came end before after (Err e)
 
@@ -173,29 +178,27 @@ module _ {plan : Plan} {end : Ran} {m : Machine} {before now : Puts} (inv : Stan
           marked never,
         )
 
-        on : Executed plan i m n (Ok flow.On) → Gave (Ok flow.On) → size_of n.stack ≡ room → (mark_after i false ≡ false → IsPlain m → IsPlain n)
-            → Outcome (Ok flow.On)
-        on step more size plain =
+        on : Executed plan i m n (Ok flow.On) → Gave (Ok flow.On) → (mark_after i false ≡ false → IsPlain m → IsPlain n) → Outcome (Ok flow.On)
+        on step more plain =
             let later = beyond n step in (
               record {
                 depth = let deep = inv.depth in let deeper = later.depth in omega arith;
                 text = inv.text ++ out;
                 made = inv.made || mark_after i false;
                 given = IsPut-append inv.given more;
-                ends = subst (λ k. Ends plan k (told out (state_of n)) end) (sym size) later.ends;
+                ends = later.ends;
                 plain = λ e. let both = or_parts inv.made (mark_after i false) e in plain both.1 (inv.plain both.0);
               },
               later.less,
             )
 
-        by : (r : Result Flow Halt) → Executed plan i m n r → Gave r → size_of n.stack ≡ room
-            → (mark_after i false ≡ false → IsPlain m → SparedOr r (IsPlain n)) → Outcome r
-        by (Ok flow.On) step more size plain = on step more size plain
-        by (Ok flow.Over) step more size plain = over None step more
-        by (Err (stop.Fault kind)) step more size plain = faulted kind step more
-        by (Err stop.WriteFailed) step more size plain = cut (beyond n step) more
-        by (Err stop.OutOfMemory) step more size never = refused more never
+        by : (r : Result Flow Halt) → Executed plan i m n r → Gave r → (mark_after i false ≡ false → IsPlain m → SparedOr r (IsPlain n)) → Outcome r
+        by (Ok flow.On) step more plain = on step more plain
+        by (Ok flow.Over) step more plain = over None step more
+        by (Err (stop.Fault kind)) step more plain = faulted kind step more
+        by (Err stop.WriteFailed) step more plain = cut (beyond n step) more
+        by (Err stop.OutOfMemory) step more never = refused more never
 
-        pub turned : (r q : Result Flow Halt) → r ≡ q → Executed plan i m n r → Gave r → size_of n.stack ≡ room
+        pub turned : (r q : Result Flow Halt) → r ≡ q → Executed plan i m n r → Gave r
             → (mark_after i false ≡ false → IsPlain m → SparedOr r (IsPlain n)) → Outcome q
-        turned r q same did more size spared = subst Outcome same (by r did more size spared)
+        turned r q same did more spared = subst Outcome same (by r did more spared)

@@ -20,3 +20,4 @@ pub mod RunLemmas
 pub mod BoundLemmas
 pub mod TurnExamples
 pub mod RenderLemmas
+pub mod ReservedLemmas

@@ -7,9 +7,12 @@ use Rattle.tmpl_values.proofs.PutLemmas.{IsPut-along, IsPut-append, append_bytes
 use Rattle.tmpl_meaning.specs.Meaning.{Ran}
 use Rattle.tmpl_meaning.specs.Sink.{Cut, Told, Whole, sunk}
 use Rattle.tmpl_meaning.specs.declared.sink.SinkFault.{SinkFault}
-use Rattle.tmpl_engine.specs.computed.Came.{Came, Closed, Flushed}
+use Rattle.tmpl_engine.specs.computed.Came.{Aim, Came, Closed, Flushed, IsLeft, ended_by}
 use Rattle.tmpl_engine.specs.computed.Output.{Grows}
 use Rattle.tmpl_engine.specs.Run.{IsRun}
+use Rattle.tmpl_engine.specs.State.{Plan, State}
+use Rattle.tmpl_engine.specs.declared.flow.Flow.{Flow}
+use Rattle.tmpl_engine.specs.declared.flow.Flow.TheVariants as flow
 use Rattle.tmpl_engine.specs.declared.fault.RunError.{RunError}
 use Rattle.tmpl_engine.specs.declared.fault.RunError.TheVariants as error
 use Rattle.tmpl_engine.proofs.OutputLemmas.{beyond}
@@ -72,3 +75,10 @@ pub counts-so : (end : Ran) (old new : Puts) (r : Result (Unit {0}) RunError) �
 counts-so end old new (Err error.WriteFailed) came h = absurd (h refl)
 counts-so end old new (Err error.OutOfMemory) came h = came.2.count ∙ add-zero old.failures
 counts-so end old new _ came h = came.0.count ∙ add-zero old.failures
+
+-- how a run ended that does not go on
+pub left-came : (plan : Plan) (aim : Aim) (s : State) (Plain : Type 0) (now : Puts) (r : Result Flow RunError) → IsLeft plan aim s Plain now r
+    → (r ≡ Ok flow.On → ⊥) → Came aim.end aim.before now (ended_by r)
+left-came plan aim s Plain now (Ok flow.On) left never = absurd (never refl)
+left-came plan aim s Plain now (Ok flow.Over) left never = left
+left-came plan aim s Plain now (Err e) left never = left

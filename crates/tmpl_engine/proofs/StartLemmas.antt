@@ -1,7 +1,8 @@
 -- For `run` and `Machine::start`: the state at the start comes to the meaning of its template.
-use Rattle.std.proofs.Common.{arith, ◌≡◌, ◌<◌, ◌≤◌, ℕ, [], length, get_or, ap, sym, subst, Option, Some}
+use Rattle.std.proofs.Common.{arith, ◌≡◌, ◌+◌, ◌-◌, ◌^◌, ◌<◌, ◌≤◌, ℕ, false, [], length, get_or, ap, sym, subst, Option, Some}
 use Rattle.std.specs.Prelude.{IfSome, slice_get}
 use Rattle.std.proofs.lemmas.Option.{slice_get-get_or, slice_get_within}
+use Rattle.tmpl_values.specs.Put.{Puts}
 use Rattle.tmpl_values.specs.Value.{Value}
 use Rattle.tmpl_syntax.specs.Set.{Template}
 use Rattle.tmpl_syntax.specs.View.{set_view}
@@ -12,13 +13,12 @@ use Rattle.tmpl_code.specs.Code.{Starts}
 use Rattle.tmpl_code.specs.Room.{Suffices}
 use Rattle.tmpl_code.specs.View.{instructions_of}
 use Rattle.tmpl_code.specs.declared.program.Parts.{Parts}
-use Rattle.tmpl_engine.specs.computed.Came.{ComesTo}
-use Rattle.tmpl_engine.specs.computed.Machines.{no_template, state_of}
+use Rattle.tmpl_engine.specs.computed.Came.{Stands}
+use Rattle.tmpl_engine.specs.computed.Machines.{no_template, with_told}
 use Rattle.tmpl_engine.specs.computed.Plan.{plan_of}
-use Rattle.tmpl_engine.specs.computed.View.{size_of}
-use Rattle.tmpl_engine.specs.declared.machine.Machine.{Machine}
 use Rattle.tmpl_engine.specs.Ends.{Ends}
 use Rattle.tmpl_engine.specs.State.{Plan, State, starting, starting_dot}
+use Rattle.tmpl_engine.proofs.GoingLemmas.{starts}
 use Rattle.tmpl_engine.proofs.TreeLemmas.{need-is, run-leads, starts-at}
 
 -- the run of the template that a state runs, over its dot
@@ -59,12 +59,21 @@ module _ {plan : Plan} {size number : ℕ} (can : Can plan size number) where
   pub three : 3 ≤ size
   three = let mine = need-is plan.templates number me is-me in let own = can.fits [] tt (let some = can.some in omega arith) in omega arith
 
-  -- a machine that is at the start comes to the meaning
-  pub comes-so : (m : Machine) (v : Value) → size_of m.stack ≡ size → state_of m ≡ starting plan number (get_or plan.starts number 0) v
-      → ComesTo plan m (ran_from plan (state_of m))
-  comes-so m v sized state = subst (λ n. Ends plan n (state_of m) (ran_from plan (state_of m))) (sym sized)
-      (subst (λ (t : State). Ends plan size t (ran_from plan t)) (sym state) (run-leads plan size can.linked can.some number me can.fits is-me
-      (get_or plan.starts number 0) (slice_get-get_or plan.starts number 0 has-start) v))
+  -- a state at the start comes to the meaning
+  pub comes-so : (s : State) (v : Value) → s ≡ starting plan number (get_or plan.starts number 0) v → Ends plan size s (ran_from plan s)
+  comes-so s v state =
+      subst (λ (t : State). Ends plan size t (ran_from plan t)) (sym state) (run-leads plan size can.linked can.some number me can.fits is-me
+      (get_or plan.starts number 0) (slice_get-get_or plan.starts number 0 has-start) v)
+
+  -- .. from where nothing was put out yet
+  pub stands-so : (s : State) (Plain : Type 0) (now : Puts) (v : Value) → s ≡ starting plan number (get_or plan.starts number 0) v
+      → Ends plan size (with_told [] false s) (ran_from plan s) → Plain → 1 + plan.rules.step_limit < 2 ^ 64 - 1
+      → (room : ℕ) → room ≡ size → Stands plan (record { end = ran_from plan s; room = room; before = now }) s Plain now
+  stands-so s Plain now v state ends plain few room same =
+      let deep = ap (λ (t : State). t.depth) state in
+      let left = ap (λ (t : State). t.left) state in
+      starts plan (ran_from plan s) room s Plain now (subst (λ n. Ends plan n (with_told [] false s) (ran_from plan s)) (sym same) ends) plain
+      (omega (arith, deep, left, few))
 
   -- what holds of that run holds of the meaning of the template
   pub meant-so : (Holds : Ran → Type 0) (input : Option Value) (s : State) → s ≡ starting plan number (get_or plan.starts number 0) (starting_dot input)

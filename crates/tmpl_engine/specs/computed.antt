@@ -2,7 +2,9 @@
 pub mod Came
 pub mod Held
 pub mod Machines
+pub mod Near
 pub mod Output
+pub mod Paused
 pub mod Plain
 pub mod Plan
 pub mod Turned

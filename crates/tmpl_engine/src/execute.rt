@@ -6,10 +6,10 @@ ghost use Rattle.tmpl_engine.specs.Machine.{carry_out};
 ghost use Rattle.tmpl_engine.specs.computed.Machines.{no_template, state_of};
 ghost use Rattle.tmpl_engine.specs.computed.Output.{Grows, given_of};
 ghost use Rattle.tmpl_engine.specs.computed.Plain.{IsPlain, SparedOr, StopsIn};
-ghost use Rattle.tmpl_engine.specs.Ready.{Has};
+ghost use Rattle.tmpl_engine.specs.computed.Near.{HasNear};
 ghost use Rattle.tmpl_engine.specs.computed.Plan.{plan_of};
 ghost use Rattle.tmpl_engine.specs.computed.Turned.{Executed, IsAble, Lands, mark_after, put_by, put_out};
-ghost use Rattle.tmpl_engine.specs.computed.View.{cells_of, size_of};
+ghost use Rattle.tmpl_engine.specs.computed.View.{IsSameRoom, cells_of, size_of};
 
 use crate::flow::Flow;
 use crate::halt::Halt;
@@ -35,7 +35,7 @@ impl<'m, 'a> Machine<'m, 'a> {
     ) -> Result<Flow, Halt<'a>>
         requires place { self.old.place + 1 < 2 ^ 64 }
         requires depth { self.old.depth + 1 < 2 ^ 64 }
-        requires ready { Has (instruction_of program.now.tables instruction.now) (length (cells_of self.old.stack))
+        requires ready { HasNear (instruction_of program.now.tables instruction.now) (length (cells_of self.old.stack))
             (size_of self.old.stack) }
         requires lands { Lands (carry_out (plan_of options.now program.now) no_template (instruction_of program.now.tables instruction.now)
             (state_of self.old)) }
@@ -49,7 +49,7 @@ impl<'m, 'a> Machine<'m, 'a> {
         ensures taken { Grows (S.so_far sink.old) (S.so_far sink.new) }
         ensures plain { mark_after (instruction_of program.now.tables instruction.now) false ≡ false
             → IsPlain self.old → SparedOr result (IsPlain self.new) }
-        ensures size { size_of self.new.stack ≡ size_of self.old.stack }
+        ensures size { IsSameRoom self.old.stack self.new.stack }
         ensures template { StopsIn result self.old self.new }
     {
         match *instruction {

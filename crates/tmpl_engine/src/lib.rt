@@ -3,7 +3,6 @@
 //! templates.
 #![tactic(auto)]
 
-mod cells;
 mod control;
 mod engine;
 mod error;
@@ -20,6 +19,7 @@ mod piece;
 mod put;
 mod range;
 mod rendering;
+mod reserved;
 mod runner;
 mod stack;
 mod variable;

@@ -14,7 +14,7 @@ ghost use Rattle.tmpl_engine.specs.computed.Machines.{by_mode, state_of, without
 ghost use Rattle.tmpl_engine.specs.computed.Plain.{IsPlain, SparedOr, Steady, SteadyOr, StopsIn};
 ghost use Rattle.tmpl_engine.specs.Step as pipe;
 ghost use Rattle.tmpl_engine.specs.computed.Turned.{Executed, IsFound, TurnedOr};
-ghost use Rattle.tmpl_engine.specs.computed.View.{cells_of, size_of};
+ghost use Rattle.tmpl_engine.specs.computed.View.{IsSameRoom, cells_of, size_of};
 
 use crate::flow::Flow;
 use crate::halt::Halt;
@@ -62,7 +62,7 @@ impl<'m, 'a> Machine<'m, 'a> {
           place = self.old.place + 1;
         } }
         ensures plain { is_made val.entry ≡ false → IsPlain self.old → IsPlain self.new }
-        ensures size { size_of self.new.stack ≡ size_of self.old.stack }
+        ensures size { IsSameRoom self.old.stack self.new.stack }
     {
         self.stack.push(val, 0);
         self.place += 1;
@@ -152,7 +152,7 @@ impl<'m, 'a> Machine<'m, 'a> {
         requires place { self.old.place + 1 < 2 ^ 64 }
         ensures step { TurnedOr without_bytes (act (call_with func count piped)) self.old self.new result }
         ensures plain { makes_text func ≡ false → IsPlain self.old → SparedOr result (IsPlain self.new) }
-        ensures size { size_of self.new.stack ≡ size_of self.old.stack }
+        ensures size { IsSameRoom self.old.stack self.new.stack }
         ensures template { StopsIn result self.old self.new }
     {
         let alloc = self.alloc;

@@ -9,9 +9,10 @@ ghost use Rattle.tmpl_code.specs.Instruction as code;
 ghost use Rattle.tmpl_engine.specs.Cell.{cell, slot, slot_cell};
 ghost use Rattle.tmpl_engine.specs.Machine.{elements_for, is_number, variables_on};
 ghost use Rattle.tmpl_engine.specs.computed.Machines.{state_of, without_bytes};
+ghost use Rattle.tmpl_engine.specs.computed.Near.{HasRoomFor};
 ghost use Rattle.tmpl_engine.specs.computed.Plain.{IsPlain, Spared, Steady, SteadyOr, StopsIn};
 ghost use Rattle.tmpl_engine.specs.computed.Turned.{Executed, TurnedOr, TurnedUnder};
-ghost use Rattle.tmpl_engine.specs.computed.View.{cells_of, size_of};
+ghost use Rattle.tmpl_engine.specs.computed.View.{IsSameRoom, cells_of, size_of};
 ghost use Rattle.tmpl_engine.specs.computed.Held.{has_more};
 
 use crate::flow::Flow;
@@ -79,7 +80,7 @@ impl<'m, 'a> Machine<'m, 'a> {
         requires found { 2 ≤ length (cells_of self.old.stack) }
         requires element { item_at (slot_cell 1 (cells_of self.old.stack)).num
             (slot_cell 1 (cells_of self.old.stack)).val ≡ None → ⊥ }
-        requires room { length (cells_of self.old.stack) + count ≤ size_of self.old.stack }
+        requires room { HasRoomFor count (length (cells_of self.old.stack)) (size_of self.old.stack) }
         requires place { self.old.place + 1 < 2 ^ 64 }
         ensures step { TurnedOr without_bytes (code.turn count) self.old self.new result }
         ensures steady { SteadyOr result self.old self.new }
@@ -95,13 +96,13 @@ impl<'m, 'a> Machine<'m, 'a> {
 
     /// Puts the values of this many variables, the element above its index or key.
     fn declare(&mut self, count: usize, key: Val<'a>, element: &Val<'a>) -> Result<(), AllocError>
-        requires { length (cells_of self.old.stack) + count ≤ size_of self.old.stack }
+        requires { HasRoomFor count (length (cells_of self.old.stack)) (size_of self.old.stack) }
         ensures step { OnOk result (state_of self.new ≡ record (state_of self.old) {
           cells = variables_on count (val_of key.entry, val_of element.now) (cells_of self.old.stack);
         }) }
         ensures plain { is_made key.entry ≡ false → is_made element.now ≡ false
             → IsPlain self.old → Spared result (IsPlain self.new) }
-        ensures size { size_of self.new.stack ≡ size_of self.old.stack }
+        ensures size { IsSameRoom self.old.stack self.new.stack }
         ensures template { StopsIn result self.old self.new }
     {
         match count {

@@ -1,22 +1,23 @@
 //! The run of a program, from the start of a template to its end.
-ghost use Rattle.std.specs.Prelude.{◌≡◌, ◌≢◌, Err, ◌+◌, ◌-◌, ◌<◌, ◌≤◌, ◌^◌, IfSome, false, get_or, length};
+ghost use Rattle.std.specs.Prelude.{◌≡◌, ◌≢◌, Ok, Err, ◌+◌, ◌-◌, ◌<◌, ◌≤◌, ◌^◌, IfSome, [], false, get_or, length};
 ghost use Rattle.std.specs.Prelude.{option_map, slice_get};
 ghost use Rattle.tmpl_values.specs.View.{is_made, val_of, value_of};
 ghost use Rattle.tmpl_syntax.specs.View.{set_view};
-ghost use Rattle.tmpl_meaning.specs.Meaning.{Ran, ran};
+ghost use Rattle.tmpl_meaning.specs.Meaning.{ran};
 ghost use Rattle.tmpl_meaning.specs.Sink.{sunk};
 ghost use Rattle.tmpl_meaning.specs.View.{rules_of};
 ghost use Rattle.tmpl_code.specs.MakesText.{set_makes_text};
 ghost use Rattle.tmpl_code.specs.Program.{IsOutline};
 ghost use Rattle.tmpl_code.specs.Room.{Suffices};
-ghost use Rattle.tmpl_engine.specs.computed.Came.{Came, Closed, ComesTo, IsStopped};
+ghost use Rattle.tmpl_engine.specs.computed.Came.{Aim, Closed, IsLeft, IsStopped, Stands, ended_by};
+ghost use Rattle.tmpl_engine.specs.computed.Near.{IsNear};
 ghost use Rattle.tmpl_engine.specs.computed.Machines.{state_of};
 ghost use Rattle.tmpl_engine.specs.computed.Output.{Grows, given_of, waiting};
-ghost use Rattle.tmpl_engine.specs.computed.Plain.{IsPlain};
+ghost use Rattle.tmpl_engine.specs.computed.Plain.{IsPlain, IsPlainStack};
 ghost use Rattle.tmpl_engine.specs.Run.{IsRun};
 ghost use Rattle.tmpl_engine.specs.computed.Plan.{plan_of};
 ghost use Rattle.tmpl_engine.specs.State.{starting, starting_dot};
-ghost use Rattle.tmpl_engine.specs.computed.View.{size_of};
+ghost use Rattle.tmpl_engine.specs.computed.View.{IsSameRoom, cells_of, size_of};
 
 use crate::fault::RunError;
 use crate::flow::Flow;
@@ -42,7 +43,7 @@ fn starting_dot<'a>(data: Option<&'a Data>) -> Val<'a>
 
 impl<'m, 'a> Machine<'m, 'a> {
     /// Before the first instruction of a template.
-    fn start(
+    pub(crate) fn start(
         alloc: Global,
         program: &Parts,
         entry: Entry,
@@ -58,7 +59,29 @@ impl<'m, 'a> Machine<'m, 'a> {
         ensures plain { IsPlain result }
         ensures size { size_of result.stack ≡ length cells.old }
     {
-        let mut stack = Stack::new(cells);
+        Machine::start_over(alloc, program, entry, data, options, Stack::new(cells))
+    }
+
+    /// Before the first instruction of a template, over a stack of which no cell is live.
+    pub(crate) fn start_over(
+        alloc: Global,
+        program: &Parts,
+        entry: Entry,
+        data: Option<&'a Data>,
+        options: &Options,
+        stack: Stack<'m, 'a>,
+    ) -> Machine<'m, 'a>
+        requires entry { entry.number < length program.now.starts.items }
+        requires none { cells_of stack ≡ [] }
+        requires plain { IsPlainStack stack }
+        requires room { 3 ≤ size_of stack }
+        ensures state { let plan = plan_of options.now program.now in state_of result
+            ≡ starting plan entry.number (get_or plan.starts entry.number 0)
+            (starting_dot (option_map (λ d. value_of d.now) «data».entry)) }
+        ensures plain { IsPlain result }
+        ensures size { IsSameRoom stack.entry result.stack }
+    {
+        let mut stack = stack;
         stack.push(Val::Nothing, 0);
         stack.push(Val::Nothing, 0);
         stack.push(starting_dot(data), 0);
@@ -74,29 +97,36 @@ impl<'m, 'a> Machine<'m, 'a> {
         }
     }
 
-    /// Carries out instructions until the run is over or stops.
-    fn turns<S: Sink>(
+    /// Carries out instructions until the run is over or stops, or until more cells are live than this, so that it may be
+    /// given more of them.
+    pub(crate) fn turns<S: Sink>(
         &mut self,
         program: &'a Parts,
         options: &Options,
+        high: usize,
         piece: &mut LentPiece<'_>,
         sink: &mut S,
-    ) -> Result<(), RunError<'a>>
-        ghost end: { Ran }
-        requires ends { ComesTo (plan_of options.now program.now) self.old end }
-        requires plain { IsPlain self.old }
-        requires depth { self.old.depth + self.old.left < 2 ^ 64 - 1 }
-        requires countable { (S.so_far sink.old).failures < 2 ^ 64 - 1 }
+    ) -> Result<Flow, RunError<'a>>
+        ghost aim: { Aim }
+        requires stands { Stands (plan_of options.now program.now) aim (state_of self.old) (IsPlain self.old)
+            (given_of (S.so_far sink.old) piece.old) }
+        requires near { IsNear aim.room high (size_of self.old.stack) }
+        requires countable { aim.before.failures < 2 ^ 64 - 1 }
         requires outline { IsOutline program.now }
-        ensures came { Came end (given_of (S.so_far sink.old) piece.old) (given_of (S.so_far sink.new) piece.new)
-            result }
+        ensures left { IsLeft (plan_of options.now program.now) aim (state_of self.new) (IsPlain self.new)
+            (given_of (S.so_far sink.new) piece.new) result }
+        ensures short { result ≡ Ok Flow.On → high < 2 ^ 64 - 1 }
+        ensures size { IsSameRoom self.old.stack self.new.stack }
         ensures taken { Grows (S.so_far sink.old) (S.so_far sink.new) }
     {
         let instructions = program.instructions.as_slice();
         loop {
+            if self.stack.height() > high {
+                return Ok(Flow::On);
+            }
             match self.execute(program, options, &instructions[self.place], piece, sink) {
                 Ok(Flow::On) => {}
-                Ok(Flow::Over) => return Ok(()),
+                Ok(Flow::Over) => return Ok(Flow::Over),
                 Err(stop) => return Err(error_for(program, self.template, self.line, stop)),
             }
         }
@@ -151,12 +181,22 @@ pub fn run<'a, S: Sink>(
     let parts = program.parts();
     let mut machine = Machine::start(alloc, parts, entry, data, options, cells);
     let mut piece = LentPiece::new(piece);
-    let end = machine.turns(parts, options, &mut piece, out);
-    close(&mut piece, out, end)
+    let end = machine.turns(parts, options, usize::MAX, &mut piece, out);
+    close(&mut piece, out, ended(end))
+}
+
+/// The end of a run that was not left to be given more cells.
+pub(crate) fn ended<'a>(end: Result<Flow, RunError<'a>>) -> Result<(), RunError<'a>>
+    ensures { result ≡ ended_by end.entry }
+{
+    match end {
+        Ok(_) => Ok(()),
+        Err(error) => Err(error),
+    }
 }
 
 /// Gives the sink what waits, where a run came to its end or to a fault.
-fn close<'a, S: Sink>(
+pub(crate) fn close<'a, S: Sink>(
     piece: &mut LentPiece<'_>,
     sink: &mut S,
     end: Result<(), RunError<'a>>,

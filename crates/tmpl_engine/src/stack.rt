@@ -52,7 +52,7 @@ pub(crate) struct Stack<'s, 'a> {
 impl<'s, 'a> Stack<'s, 'a> {
     ghost use Rattle.tmpl_engine.specs.Cell.{slot, slot_cell, values_in};
     ghost use Rattle.tmpl_engine.specs.computed.Plain.{IsPlainStack, Spared, SteadyStack};
-    ghost use Rattle.tmpl_engine.specs.computed.View.{cells_of, size_of};
+    ghost use Rattle.tmpl_engine.specs.computed.View.{IsSameRoom, cells_of, size_of};
 
     /// No cell is live.
     pub(crate) fn new(cells: &'s mut [Cell<'a>]) -> Stack<'s, 'a>
@@ -63,13 +63,21 @@ impl<'s, 'a> Stack<'s, 'a> {
         Stack { cells, top: 0 }
     }
 
+    /// How many cells are live.
+    #[inline(always)]
+    pub(crate) fn height(&self) -> usize
+        ensures { result ≡ length (cells_of self.now) }
+    {
+        self.top
+    }
+
     /// Puts a cell.
     #[tactic(auto, using(crate::proofs::StackLemmas::pushes, crate::proofs::PlainLemmas::pushes), unfolding(crate::specs::computed::View::cells_of, crate::specs::computed::Plain::IsPlainStack))]
     pub(crate) fn push(&mut self, val: Val<'a>, num: u64)
         requires { length (cells_of self.old) < size_of self.old }
         ensures cells { cells_of self.new ≡ cell (val_of val.entry) num ∷ cells_of self.old }
         ensures count { length (cells_of self.new) ≡ length (cells_of self.old) + 1 }
-        ensures size { size_of self.new ≡ size_of self.old }
+        ensures size { IsSameRoom self.old self.new }
         ensures plain { is_made val.entry ≡ false → IsPlainStack self.old → IsPlainStack self.new }
     {
         self.cells[self.top] = Cell { val, num };
@@ -83,7 +91,7 @@ impl<'s, 'a> Stack<'s, 'a> {
         ensures cells { cells_of self.old ≡ cell_of result ∷ cells_of self.new }
         ensures count { length (cells_of self.old) ≡ length (cells_of self.new) + 1 }
         ensures room { length (cells_of self.new) < size_of self.new }
-        ensures size { size_of self.new ≡ size_of self.old }
+        ensures size { IsSameRoom self.old self.new }
         ensures plain { IsPlainStack self.old → (is_made result.val ≡ false) × IsPlainStack self.new }
     {
         self.top -= 1;
@@ -99,7 +107,7 @@ impl<'s, 'a> Stack<'s, 'a> {
         ensures count { length (cells_of self.old) ≡ length (cells_of self.new) + 1 }
         ensures room { length (cells_of self.new) < size_of self.new }
         ensures kept { IfOk result (λ c. is_kept c.val ≡ true) }
-        ensures size { size_of self.new ≡ size_of self.old }
+        ensures size { IsSameRoom self.old self.new }
         ensures plain { IsPlainStack self.old → IsOkAnd result (λ c. (is_made c.val ≡ false) × IsPlainStack self.new) }
     {
         let Cell { val, num } = self.take();
@@ -126,7 +134,7 @@ impl<'s, 'a> Stack<'s, 'a> {
     pub(crate) fn push_shared(&mut self, val: &Val<'a>) -> Result<(), AllocError>
         requires { length (cells_of self.old) < size_of self.old }
         ensures cells { OnOk result (cells_of self.new ≡ cell (val_of val.now) 0 ∷ cells_of self.old) }
-        ensures size { size_of self.new ≡ size_of self.old }
+        ensures size { IsSameRoom self.old self.new }
         ensures plain { is_made val.now ≡ false → IsPlainStack self.old → Spared result (IsPlainStack self.new) }
     {
         match unowned(val) {
@@ -143,7 +151,7 @@ impl<'s, 'a> Stack<'s, 'a> {
         requires found { index < length (cells_of self.old) }
         requires room { length (cells_of self.old) < size_of self.old }
         ensures cells { OnOk result (cells_of self.new ≡ cell (slot index (cells_of self.old)) 0 ∷ cells_of self.old) }
-        ensures size { size_of self.new ≡ size_of self.old }
+        ensures size { IsSameRoom self.old self.new }
         ensures plain { IsPlainStack self.old → Spared result (IsPlainStack self.new) }
     {
         copy_value(self.cells, self.top - 1 - index, self.top)?;
@@ -225,7 +233,7 @@ impl<'s, 'a> Stack<'s, 'a> {
         ensures cells { cells_of self.new
             ≡ slice_set (cells_of self.old) index (cell (slot index (cells_of self.old)) num) }
         ensures count { length (cells_of self.new) ≡ length (cells_of self.old) }
-        ensures size { size_of self.new ≡ size_of self.old }
+        ensures size { IsSameRoom self.old self.new }
         ensures plain { IsPlainStack self.old → IsPlainStack self.new }
     {
         let at = self.top - 1 - index;
@@ -252,7 +260,7 @@ impl<'s, 'a> Stack<'s, 'a> {
         requires { index < length (cells_of self.old) }
         ensures cells { cells_of self.new ≡ slice_set (cells_of self.old) index (cell (val_of val.entry) 0) }
         ensures count { length (cells_of self.new) ≡ length (cells_of self.old) }
-        ensures size { size_of self.new ≡ size_of self.old }
+        ensures size { IsSameRoom self.old self.new }
         ensures plain { is_made val.entry ≡ false → IsPlainStack self.old → IsPlainStack self.new }
     {
         let at = self.top - 1 - index;
@@ -266,7 +274,7 @@ impl<'s, 'a> Stack<'s, 'a> {
         requires { 1 ≤ length (cells_of self.old) }
         ensures cells { cells_of self.new ≡ cell (val_of val.old) num ∷ drop 1 (cells_of self.old) }
         ensures value { val_of val.new ≡ slot 0 (cells_of self.old) }
-        ensures size { size_of self.new ≡ size_of self.old }
+        ensures size { IsSameRoom self.old self.new }
         ensures plain { is_made val.old ≡ false → IsPlainStack self.old
             → (is_made val.new ≡ false) × IsPlainStack self.new }
     {
@@ -311,7 +319,7 @@ impl<'s, 'a> Stack<'s, 'a> {
             ++ take (piped_count piped) (drop count (cells_of self.old)))) result }
         ensures cells { cells_of self.new ≡ drop (count + piped_count piped) (cells_of self.old) }
         ensures count { length (cells_of self.old) ≡ length (cells_of self.new) + (count + piped_count piped) }
-        ensures size { size_of self.new ≡ size_of self.old }
+        ensures size { IsSameRoom self.old self.new }
         ensures plain { makes_text func ≡ false → IsPlainStack self.old → IsBorrowed result × IsPlainStack self.new }
     {
         let below = piped_count(piped);

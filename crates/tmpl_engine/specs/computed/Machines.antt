@@ -1,6 +1,6 @@
 -- What a machine stands for. It holds neither what was put out before nor which template runs under what name, and what
 -- an instruction does hangs on neither, so here there is none.
-use Rattle.std.specs.Prelude.{[], false}
+use Rattle.std.specs.Prelude.{ℕ, Bool, List, [], false}
 use Rattle.tmpl_values.specs.View.{val_of}
 use Rattle.tmpl_syntax.specs.Set.{Template}
 use Rattle.tmpl_syntax.specs.Tree.{none}
@@ -26,6 +26,10 @@ state_of m = record {
   depth = m.depth;
   place = m.place;
 }
+
+-- a state of which this text and this mark are told
+abbrev pub with_told : List ℕ → Bool → State → State
+with_told x m s = record s { text = x; made_text = m }
 
 -- a plan of which no more is told than the mode for missing keys
 abbrev pub by_mode : MissingKey → Plan

@@ -4,7 +4,7 @@ use Rattle.std.specs.Prelude.{◌≡◌, false, take, Result, Ok, Err, OnErr}
 use Rattle.std.specs.declared.alloc.AllocError.{AllocError}
 use Rattle.tmpl_values.specs.View.{is_made}
 use Rattle.tmpl_funcs.specs.Answer.{AreBorrowed}
-use Rattle.tmpl_engine.specs.computed.View.{size_of}
+use Rattle.tmpl_engine.specs.computed.View.{IsSameRoom}
 use Rattle.tmpl_engine.specs.declared.machine.Machine.{Machine}
 use Rattle.tmpl_engine.specs.declared.stack.Stack.{Stack}
 use Rattle.tmpl_engine.specs.declared.halt.Halt.{Halt}
@@ -30,12 +30,12 @@ SparedOr (Err (stop.Fault kind)) Holds = Holds
 SparedOr (Err stop.WriteFailed) Holds = Holds
 SparedOr (Err stop.OutOfMemory) Holds = ⊥
 
--- there are as many cells as before, and where none held a made text, none does
+-- there is the same room as before, and where no cell held a made text, none does
 abbrev pub SteadyStack : Stack → Stack → Type 0
-SteadyStack old new = (size_of new ≡ size_of old) × (IsPlainStack old → IsPlainStack new)
+SteadyStack old new = IsSameRoom old new × (IsPlainStack old → IsPlainStack new)
 
 abbrev pub Steady : Machine → Machine → Type 0
-Steady old new = (IsPlain old → IsPlain new) × (size_of new.stack ≡ size_of old.stack)
+Steady old new = (IsPlain old → IsPlain new) × IsSameRoom old.stack new.stack
 
 -- the template that runs is the same where it stops
 abbrev pub StopsIn : {A E : Type 0} → Result A E → Machine → Machine → Type 0
@@ -44,4 +44,4 @@ StopsIn result old new = OnErr result (new.template ≡ old.template)
 -- .. and memory was not refused then
 abbrev pub SteadyOr : {A : Type 0} → Result A Halt → Machine → Machine → Type 0
 SteadyOr result old new =
-    (IsPlain old → SparedOr result (IsPlain new)) × (size_of new.stack ≡ size_of old.stack) × StopsIn result old new
+    (IsPlain old → SparedOr result (IsPlain new)) × IsSameRoom old.stack new.stack × StopsIn result old new
