@@ -1,6 +1,6 @@
 """What strangers choose must get its line and status, and cost little: files that do not end or are far too long, lines of
-many programs on one error stream, what nests as deep as it may on a small stack of the machine, and names that a known hash
-does not tell apart; the keys of the hash are drawn from the system; and standard input that has no name which the system opens, as a
+many programs on one error stream, what nests as deep as it may on a small stack of the machine, what may call itself as deep as it may,
+and names that a known hash does not tell apart; the keys of the hash are drawn from the system; and standard input that has no name which the system opens, as a
 socket. TMPL=PATH names another build."""
 import os
 import resource
@@ -21,9 +21,11 @@ STACK = 512 << 10  # bytes
 ALIKE = (20000, 40000, 80000)  # definitions
 TWICE = 2  # times as long as with other names they may take
 NOISE = 0.1  # seconds
-LEAST = 47  # cases
+LEAST = 50  # cases
 FEW = 64 << 20  # bytes of memory that a refused file may take
 SOME = 300 << 20
+DEEPEST = "100000"  # levels of calls
+TOUCHED = 1 << 10  # kB that a run may touch more where it may go deep and does not
 TOO_LONG = "file longer than 16777216 bytes"
 
 
@@ -111,6 +113,28 @@ def stacked(folder):
             file.write(printed)
         again = ran(["--print", "m"], folder, STACK=STACK)
         yield f"{name}, printed and read", (0, ""), (again[0], again[2])
+
+
+def resident(words, folder):
+    """What the program answers, and the most memory that it had in use, in kB."""
+    with subprocess.Popen([harness.PROGRAM, *words], cwd=folder, stdin=subprocess.DEVNULL, stdout=subprocess.PIPE, stderr=subprocess.PIPE) as running:
+        out, err = running.stdout.read(), running.stderr.read()
+        _, status, usage = os.wait4(running.pid, 0)
+        running.returncode = os.waitstatus_to_exitcode(status)
+    return (running.returncode, out.decode(), err.decode()), usage.ru_maxrss
+
+
+def deep(folder):
+    """Templates that may call themselves as deep as it may be, and do so twice: they touch no more memory than where the limit is small."""
+    kept = "".join("{{$v%d := .}}" % it for it in range(60))
+    for name, rest in (("alone", ""), ("with 60 variables", kept), ("in each other's place", '{{template "other" .}}')):
+        template = '{{define "t"}}%s{{with .kid}}({{template "t" .}}){{end}}{{end}}{{define "other"}}{{with .no}}{{template "t" .}}{{end}}{{end}}' % rest
+        for path, text in (("m", template + '{{template "t" .}}'), ("d", '{"kid": {"kid": {}}}')):
+            with open(f"{folder}/{path}", "w", encoding="ascii") as file:
+                file.write(text)
+        (few, least), (many, most) = (resident(["--data", "d", "--depth", depth, "m"], folder) for depth in ("10", DEEPEST))
+        more = "little more memory" if most <= least + TOUCHED else f"{most} kB, beside {least} kB"
+        yield f"a template that may call itself, {name}", ((0, "()", ""), (0, "()", ""), "little more memory"), (few, many, more)
 
 
 def defining(names):
@@ -216,7 +240,7 @@ def main():
         return 1
     passed, failed = 0, []
     with tempfile.TemporaryDirectory(dir=harness.MEMORY) as folder:
-        for test in (endless, shared, stacked, colliding, drawn, inputs):
+        for test in (endless, shared, stacked, deep, colliding, drawn, inputs):
             for name, wanted, got in test(folder):
                 if wanted == got:
                     passed += 1

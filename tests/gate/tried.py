@@ -18,8 +18,8 @@ from tests.lib import harness
 
 # by crate, the dearest first
 TRIED = {
-    "tmpl_run": (
-        "break_leaves_dot_of_with break_undoes_an_assignment element_costs_no_step every_operand_looked_at fault_told_after_a_failed_write"
+    "tmpl_engine": (
+        "first_template_run break_leaves_dot_of_with break_undoes_an_assignment element_costs_no_step every_operand_looked_at fault_told_after_a_failed_write"
         " no_else_part_below_one short_put_taken_as_whole stack_grown_where_no_text_is_made steps_spent_at_once text_before_fault_dropped"
         " write_failed_where_none_did"
     ),
@@ -33,7 +33,6 @@ TRIED = {
     "tmpl_funcs": "equal_looked_past pair_skipped space_beside_a_text",
     "tmpl_values": "map_printed_out_of_order map_visited_backwards number_visited_from_one",
     "tmpl_lex": "dash_is_a_left_marker left_marker_goes_past_a_comment vertical_tab_is_space",
-    "tmpl_engine": "first_template_run",
     "tmpl_data_problems": "fraction_accepted",
     "tmpl_grammar": "range_assigns octal_escape_past_a_byte",
     "tmpl_hints": "end_told_as_a_jump comment_after_a_dash",

@@ -13,9 +13,9 @@ use Rattle.tmpl_meaning.specs.Meaning.{Ran, Rules, ran}
 use Rattle.tmpl_meaning.specs.Sink.{Sunk, Told, sunk}
 use Rattle.tmpl_meaning.specs.View.{rules_of}
 use Rattle.tmpl_meaning.specs.declared.options.Options.{Options}
-use Rattle.tmpl_run.specs.Run.{IsRun}
-use Rattle.tmpl_run.specs.declared.fault.RunError.{RunError}
-use Rattle.tmpl_run.specs.declared.fault.RunError.TheVariants as run
+use Rattle.tmpl_engine.specs.Run.{IsRun}
+use Rattle.tmpl_engine.specs.declared.fault.RunError.{RunError}
+use Rattle.tmpl_engine.specs.declared.fault.RunError.TheVariants as run
 use Rattle.tmpl_engine.specs.Error.{error_of}
 use Rattle.tmpl_engine.specs.Laws.{LeavesSink}
 use Rattle.tmpl_engine.specs.Render.{EndsBefore, IsRender, IsRunOf, Renders, ran_named}

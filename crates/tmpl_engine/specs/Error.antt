@@ -1,6 +1,6 @@
 -- A run's error as a render's.
-use Rattle.tmpl_run.specs.declared.fault.RunError.{RunError}
-use Rattle.tmpl_run.specs.declared.fault.RunError.TheVariants as run
+use Rattle.tmpl_engine.specs.declared.fault.RunError.{RunError}
+use Rattle.tmpl_engine.specs.declared.fault.RunError.TheVariants as run
 use Rattle.tmpl_engine.specs.declared.error.RenderError.{RenderError}
 use Rattle.tmpl_engine.specs.declared.error.RenderError.TheVariants.{Fault, WriteFailed, OutOfMemory}
 

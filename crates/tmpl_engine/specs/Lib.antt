@@ -1,7 +1,15 @@
+pub mod Cell
+pub mod computed
+pub mod Ends
 pub mod Engine
 pub mod Error
 pub mod Laws
+pub mod Machine
 pub mod Prepared
+pub mod Ready
 pub mod Render
+pub mod Run
+pub mod State
+pub mod Step
 pub mod View
 pub mod Writer

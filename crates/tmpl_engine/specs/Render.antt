@@ -9,8 +9,8 @@ use Rattle.tmpl_meaning.specs.Meaning.{Ran, Rules, ran}
 use Rattle.tmpl_meaning.specs.Sink.{Sunk, Told, Untouched, sunk}
 use Rattle.tmpl_meaning.specs.View.{rules_of}
 use Rattle.tmpl_meaning.specs.declared.options.Options.{Options}
-use Rattle.tmpl_run.specs.Run.{IsRun}
-use Rattle.tmpl_run.specs.declared.fault.RunError.TheVariants as run
+use Rattle.tmpl_engine.specs.Run.{IsRun}
+use Rattle.tmpl_engine.specs.declared.fault.RunError.TheVariants as run
 use Rattle.tmpl_engine.specs.declared.error.RenderError.{RenderError}
 use Rattle.tmpl_engine.specs.declared.error.RenderError.TheVariants.{NoTemplate, Fault, WriteFailed, OutOfMemory}
 

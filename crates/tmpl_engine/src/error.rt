@@ -1,5 +1,6 @@
 //! Why a render ends before its template does.
-use tmpl_run::{RunError, RunFault};
+use crate::fault::RunError;
+use tmpl_meaning::RunFault;
 
 /// Why a render ends before its template does.
 #[derive(Clone, Copy, Debug)]

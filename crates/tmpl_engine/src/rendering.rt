@@ -9,19 +9,19 @@ ghost use Rattle.tmpl_engine.specs.Prepared.{IsPrepared};
 ghost use Rattle.tmpl_engine.specs.Render.{IsRunOf, Renders};
 ghost use Rattle.tmpl_engine.specs.View.{templates_in};
 
-use crate::cells::empty_cells;
 use crate::error::RenderError;
+use crate::reserved::run_reserved;
 use std::alloc::{AllocError, Global};
 use std::sync::Arc;
 use tmpl_code::{Entry, Program, compile};
-use tmpl_run::{Options, Sink, run};
+use tmpl_meaning::{Options, Sink};
 use tmpl_syntax::Set;
 use tmpl_values::Data;
 
 /// How many bytes of the text wait until they are put out together.
 const PIECE_SIZE: usize = 4096;
 
-/// Runs the template of this number over a stack that is taken before, and a piece that is lent.
+/// Runs the template of this number over a stack that is reserved before, and a piece that is lent.
 fn run_numbered<'a, S: Sink>(
     alloc: Global,
     program: &'a Program,
@@ -38,16 +38,16 @@ fn run_numbered<'a, S: Sink>(
         (sunk (S.so_far out.old) (S.so_far out.new)) result) }
 {
     let count = program.cells_for(Entry { number }, options.depth);
-    let Ok(mut cells) = empty_cells(alloc, count) else {
+    let Ok(mut cells) = Vec::with_capacity(alloc, count as usize) else {
         return Err(RenderError::OutOfMemory);
     };
-    let end = run(
+    let end = run_reserved(
         alloc,
         program,
         Entry { number },
         data,
         options,
-        cells.as_mut_slice(),
+        &mut cells,
         piece,
         out,
     );
@@ -108,7 +108,7 @@ impl Renderer {
     /// Renders the template of this name with data, if there are any, by these options, and puts its text out.
     ///
     /// The memory of the run is taken here: its cells, and a piece of 4,096 bytes in which output waits.
-    /// `tmpl_run::run` does the same over memory that is lent.
+    /// [`run`] does the same over memory that is lent.
     ///
     /// # Errors
     ///

@@ -5,7 +5,7 @@ ghost use Rattle.tmpl_engine.specs.Writer.{known_if, write_result};
 ghost use Rattle.std.specs.Option.{is_some};
 
 use std::io::{self, Write};
-use tmpl_run::{Sink, SinkFault};
+use tmpl_meaning::{Sink, SinkFault};
 
 /// A writer, such as standard output, as a sink. A write of no byte is a failure. What it took is told if the bytes
 /// that the writer holds are known, as those of a `Vec<u8>` are, and the sink was made by `over`.

@@ -1,4 +1,4 @@
--- For the laws `adds_to_text`, and `text_is_named` of tmpl_run: what holds between the start and the end of each part of a template, where it holds after
+-- For the laws `adds_to_text`, and `text_is_named` of tmpl_engine: what holds between the start and the end of each part of a template, where it holds after
 -- each text that is put, each pipeline, each step and each change of the variables.
 use Rattle.std.proofs.Common.{◌≡◌, ◌-◌, ◌||◌, ℕ, zero, suc, nat_eq, Bool, true, false, List, [], ◌∷◌, Option, Some, None, Result, Ok, Err, IfSome, ◌++◌}
 use Rattle.std.proofs.Common.{refl, subst}

@@ -14,7 +14,7 @@ use crate::render::{asked_name, put_out, render_named};
 use crate::status::Status;
 use crate::words::request::Request;
 use std::alloc::Global;
-use tmpl_run::Sink;
+use tmpl_engine::Sink;
 use tmpl_syntax::{Set, print_set};
 use tmpl_values::Data;
 

@@ -19,7 +19,7 @@ use crate::words::help::asks_help;
 use crate::words::request::WordsFault;
 use crate::words::request_of;
 use std::alloc::Global;
-use tmpl_run::Sink;
+use tmpl_engine::Sink;
 use tmpl_syntax::NameHash;
 
 /// What `--help` puts out.

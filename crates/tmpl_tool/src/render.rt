@@ -17,8 +17,7 @@ use crate::messages::lines::{out_of_memory, run_failed, template_missing, write_
 use crate::status::Status;
 use crate::words::request::Request;
 use std::alloc::Global;
-use tmpl_engine::{RenderError, Renderer};
-use tmpl_run::{Options, Sink, put_all};
+use tmpl_engine::{Options, RenderError, Renderer, Sink, put_all};
 use tmpl_syntax::{Set, base_name};
 use tmpl_values::Data;
 

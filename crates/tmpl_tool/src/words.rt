@@ -18,7 +18,7 @@ use crate::words::request::{Request, WordsFault};
 use clap::error::ErrorKind;
 use clap::{ArgMatches, Error};
 use std::alloc::{AllocError, Global};
-use tmpl_run::{MissingKey, Options};
+use tmpl_engine::{MissingKey, Options};
 
 /// The words of `--missingkey`.
 static MODES: [&str; 4] = ["default", "invalid", "zero", "error"];

@@ -1,7 +1,7 @@
 //! A sink that takes as much as it is told to, and then fails.
 
 use std::io::Write;
-use tmpl_run::{Sink, SinkFault};
+use tmpl_engine::{Sink, SinkFault};
 
 /// What a sink takes.
 #[derive(Clone, Copy)]

@@ -7,8 +7,7 @@ use std::alloc::{AllocError, Global};
 use std::array;
 use std::io::{self, Write};
 use tmpl_code::{Entry, Program, compile};
-use tmpl_engine::RenderError;
-use tmpl_run::run;
+use tmpl_engine::{RenderError, run};
 use tmpl_syntax::{NameHash, ParseKind, Set};
 use tmpl_tool::{
     Inputs, Request, Status, Stop, WordsFault, asked_name, read_inputs, request_of, tell_end,

@@ -1,6 +1,6 @@
 //! A sink that keeps its bytes in a lent slice, takes little a put, and fails where it is told to.
 
-use tmpl_run::{Sink, SinkFault};
+use tmpl_engine::{Sink, SinkFault};
 
 /// What a sink takes, and when it fails.
 #[derive(Clone, Copy)]

@@ -14,8 +14,8 @@ use crate::messages::part::LinePart::{self, Bytes, Number, Quoted, Text};
 use crate::messages::part::put_line;
 use crate::status::Status;
 use crate::stop::Stop;
+use tmpl_engine::{RunFault, RunFaultKind, Sink};
 use tmpl_funcs::CallFault;
-use tmpl_run::{RunFault, RunFaultKind, Sink};
 use tmpl_syntax::{ParseFault, ParseKind};
 
 /// Says a line of these parts, and gives this status. A sink that fails cuts the line.

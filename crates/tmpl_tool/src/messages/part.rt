@@ -7,7 +7,7 @@ ghost use Rattle.tmpl_tool.specs.computed.View.{part_bytes, parts_bytes};
 
 use crate::messages::fixed::{Fixed, Full};
 use itoa::Buffer;
-use tmpl_run::{Sink, SinkFault, WholePuts, put_all};
+use tmpl_engine::{Sink, SinkFault, WholePuts, put_all};
 use tmpl_values::{Put, put_quoted};
 
 /// A line of this many bytes goes out by one put, so that lines of programs that share a stream do not mix.

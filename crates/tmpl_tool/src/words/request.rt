@@ -4,7 +4,7 @@ ghost use Rattle.tmpl_tool.specs.declared.words.request.WordsFault.TheVariants.{
 
 use std::alloc::AllocError;
 use thiserror::Error;
-use tmpl_run::Options;
+use tmpl_engine::Options;
 
 /// What the words ask for.
 #[derive(Debug, Drop)]

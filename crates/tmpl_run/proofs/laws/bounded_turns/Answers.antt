@@ -1,5 +1,0 @@
-use Rattle.tmpl_run.proofs.BoundLemmas.{bounded_turns}
-use Rattle.tmpl_run.proofs.laws.bounded_turns.Goals as goal
-
-pub returns : goal.returns
-returns c = bounded_turns

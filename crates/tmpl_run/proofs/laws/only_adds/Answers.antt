@@ -1,5 +1,0 @@
-use Rattle.tmpl_run.proofs.DoneLemmas.{text-begins}
-use Rattle.tmpl_run.proofs.laws.only_adds.Goals as goal
-
-pub returns : goal.returns
-returns c = λ plan size s end. text-begins plan size end s

@@ -1,9 +1,0 @@
-pub mod Cell
-pub mod computed
-pub mod Ends
-pub mod Laws
-pub mod Machine
-pub mod Ready
-pub mod Run
-pub mod State
-pub mod Step

@@ -1,9 +1,0 @@
--- What a run holds, and what its private contracts say of it.
-pub mod Came
-pub mod Held
-pub mod Machines
-pub mod Output
-pub mod Plain
-pub mod Plan
-pub mod Turned
-pub mod View
