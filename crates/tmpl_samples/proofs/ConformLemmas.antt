@@ -230,10 +230,10 @@ told t i p = with_properties p (with_items i (put (codes "type") t no_members))
 module _ (root : Data) (C : Data → Value → Type 0) (t : Data) (v : Value) (inst : IsInstance v) (type : IsOfType v t) where
   conforms-told : (i : Option Data) (p : Option (Members × Items)) → IfSome i (λ d. FitsItems C v d)
       → IfSome p (λ q. FitsProperties C v (object q.0) × HasKeys v (array q.1)) → ConformsBy root C (object (told t i p)) v
-  conforms-told None None items props = (inst, type, tt, tt, tt, tt, tt, tt, tt, tt, tt, tt)
-  conforms-told (Some i) None items props = (inst, type, tt, tt, tt, tt, tt, items, tt, tt, tt, tt)
-  conforms-told None (Some p) items props = (inst, type, tt, tt, props.1, props.0, tt, tt, tt, tt, tt, tt)
-  conforms-told (Some i) (Some p) items props = (inst, type, tt, tt, props.1, props.0, tt, items, tt, tt, tt, tt)
+  conforms-told None None items props = (inst, tt, λ _. (type, λ _. tt, tt, tt, tt, tt, tt, tt, tt, tt))
+  conforms-told (Some i) None items props = (inst, tt, λ _. (type, λ _. tt, tt, tt, tt, tt, items, tt, tt, tt))
+  conforms-told None (Some p) items props = (inst, tt, λ _. (type, λ _. tt, tt, props.1, props.0, tt, tt, tt, tt, tt))
+  conforms-told (Some i) (Some p) items props = (inst, tt, λ _. (type, λ _. tt, tt, props.1, props.0, tt, items, tt, tt, tt))
 
 -- what fits within any document fits within this one
 at-root : (root : Data) (n : ℕ) (d : Data) (o : Option Value) → IfSome o (Fits n d) → IfSome o (conforms_in root n d)
@@ -334,7 +334,7 @@ schema-told fewer levels samples maps t one two three el em eo inst types flat i
 pub none-told : (levels : ℕ) (samples : List Data) (ms : Members) → ms ≡ no_members → EachValue IsInstance samples → IsTold levels samples ms
 none-told levels samples ms e inst = rw e (
   all-from _ samples (λ s m. if-all _ (tree_value s) (λ v is root.
-      (if-some IsInstance (tree_value s) v (all-at (λ s. IfSome (tree_value s) IsInstance) s samples inst m) is, tt, tt, tt, tt, tt, tt, tt, tt, tt, tt, tt))),
+      (if-some IsInstance (tree_value s) v (all-at (λ s. IfSome (tree_value s) IsInstance) s samples inst m) is, tt, λ _. (tt, λ _. tt, tt, tt, tt, tt, tt, tt, tt, tt)))),
   omega arith,
 )
 

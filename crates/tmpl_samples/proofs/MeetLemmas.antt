@@ -142,17 +142,19 @@ conforms-all root n ms None instance each = tt
 conforms-all root n ms (Some v) instance each =
     let at : (k : List ℕ) → IfSome (get_member k ms) (λ d. Meets root (conforms_in root n) (object ms) k d v) = λ k. found (λ k d. Meets root (conforms_in root n) (object ms) k d v) k ms each in (
       instance,
-      weaker _ _ (get_member (codes "type") ms) (at (codes "type")) (λ d m. m.type refl),
-      weaker _ _ (get_member (codes "const") ms) (at (codes "const")) (λ d m. m.const refl),
-      weaker _ _ (get_member (codes "enum") ms) (at (codes "enum")) (λ d m. m.enum refl),
-      weaker _ _ (get_member (codes "required") ms) (at (codes "required")) (λ d m. m.kind.required refl),
-      weaker _ _ (get_member (codes "properties") ms) (at (codes "properties")) (λ d m. m.kind.properties refl),
-      weaker _ _ (get_member (codes "additionalProperties") ms) (at (codes "additionalProperties")) (λ d m. m.kind.additional refl),
-      weaker _ _ (get_member (codes "items") ms) (at (codes "items")) (λ d m. m.kind.items refl),
-      weaker _ _ (get_member (codes "minItems") ms) (at (codes "minItems")) (λ d m. m.kind.least refl),
-      weaker _ _ (get_member (codes "anyOf") ms) (at (codes "anyOf")) (λ d m. m.any refl),
-      weaker _ _ (get_member (codes "oneOf") ms) (at (codes "oneOf")) (λ d m. m.one refl),
       weaker _ _ (get_member (codes "$ref") ms) (at (codes "$ref")) (λ d m. m.ref refl),
+      λ _. (
+        weaker _ _ (get_member (codes "type") ms) (at (codes "type")) (λ d m. m.type refl),
+        λ _. weaker _ _ (get_member (codes "const") ms) (at (codes "const")) (λ d m. m.const refl),
+        weaker _ _ (get_member (codes "enum") ms) (at (codes "enum")) (λ d m. m.enum refl),
+        weaker _ _ (get_member (codes "required") ms) (at (codes "required")) (λ d m. m.kind.required refl),
+        weaker _ _ (get_member (codes "properties") ms) (at (codes "properties")) (λ d m. m.kind.properties refl),
+        weaker _ _ (get_member (codes "additionalProperties") ms) (at (codes "additionalProperties")) (λ d m. m.kind.additional refl),
+        weaker _ _ (get_member (codes "items") ms) (at (codes "items")) (λ d m. m.kind.items refl),
+        weaker _ _ (get_member (codes "minItems") ms) (at (codes "minItems")) (λ d m. m.kind.least refl),
+        weaker _ _ (get_member (codes "anyOf") ms) (at (codes "anyOf")) (λ d m. m.any refl),
+        weaker _ _ (get_member (codes "oneOf") ms) (at (codes "oneOf")) (λ d m. m.one refl),
+      ),
     )
 
 -- ---- items

@@ -164,7 +164,7 @@ fn meets_of_kind(
 {
     match value {
         Value::Null | Value::Bool(_) => true,
-        Value::Number(number) => meets_of_number(keyword, rule, number),
+        Value::Number(number) => meets_of_number(schema, keyword, rule, number),
         Value::String(text) => meets_of_text(keyword, rule, text.as_str()),
         Value::Array(items) => {
             if keyword == "items" {
@@ -340,8 +340,13 @@ fn is_in_order(one: &Number, other: &Number, is_strict: bool) -> bool {
     }
 }
 
+/// Whether a bound of a schema is none of its values: so draft-04 says it, by a truth value.
+pub(crate) fn is_excluded(schema: &Value, keyword: &str) -> bool {
+    schema.get(keyword).and_then(Value::as_bool) == Some(true)
+}
+
 /// Whether a number meets a keyword.
-fn meets_of_number(keyword: &str, rule: &Value, number: &Number) -> bool {
+fn meets_of_number(schema: &Value, keyword: &str, rule: &Value, number: &Number) -> bool {
     let Value::Number(bound) = rule else {
         return true;
     };
@@ -350,8 +355,14 @@ fn meets_of_number(keyword: &str, rule: &Value, number: &Number) -> bool {
         None => false,
     };
     match keyword {
-        "minimum" => is_exact && is_in_order(bound, number, false),
-        "maximum" => is_exact && is_in_order(number, bound, false),
+        "minimum" => {
+            let is_strict = is_excluded(schema, "exclusiveMinimum");
+            is_exact && is_in_order(bound, number, is_strict)
+        }
+        "maximum" => {
+            let is_strict = is_excluded(schema, "exclusiveMaximum");
+            is_exact && is_in_order(number, bound, is_strict)
+        }
         "exclusiveMinimum" => is_exact && is_in_order(bound, number, true),
         "exclusiveMaximum" => is_exact && is_in_order(number, bound, true),
         "multipleOf" => is_multiple(number, bound),
