@@ -17,11 +17,11 @@ from tests.lib import harness
 TRIED = {
     "tmpl_grammar": {"range_assigns": "header::may_bind", "octal_escape_past_a_byte": "constant::quoted::as_byte"},
     "tmpl_hints": {"end_told_as_a_jump": "detail::misplaced_text", "comment_after_a_dash": "unread::opens_comment"},
-    "tmpl_json_schema": {"second_type_left_out": "kinds::kind_with", "most_items_taken_for_least": "fields::least_in"},
+    "tmpl_json_schema": {"second_type_left_out": "kinds::kind_with", "most_items_taken_for_least": "fields::least_in", "type_of_the_last_sample_only": "infer::types_of"},
     "tmpl_problems": {"column_before_its_line": "line::Finding::push_to", "one_brace_and_a_space_is_a_sign": "survey::sign_at"},
     "tmpl_reasons": {"line_and_column_exchanged": "position::place_of", "key_without_quotes": "position::is_key"},
     "tmpl_report": {"errors_only_where_all_are": "findings::has_error", "note_told_as_an_error": "text::push_lines"},
-    "tmpl_samples": {"limit_told_for_a_doubt": "failing::is_caused", "type_of_the_last_sample_only": "infer::types_of"},
+    "tmpl_samples": {"limit_told_for_a_doubt": "failing::is_caused"},
     "tmpl_schema": {"a_join_that_keeps_one_side": "known::join_shared"},
     "tmpl_shape": {"each_field_required": "shape::put_field", "a_number_compared_with_a_text": "call::clashes"},
 }

@@ -2,10 +2,12 @@
 #![tactic(auto)]
 
 mod check;
+mod conform;
 mod draft;
 mod empty;
 mod fault;
 mod fields;
+mod infer;
 mod keyword;
 mod kinds;
 mod read;
@@ -14,6 +16,8 @@ mod schema;
 mod shapes;
 
 pub use check::{CheckFault, check_document};
+pub use conform::{conforms, is_excluded, is_property, referred, text_of_format};
 pub use empty::part_without_values;
 pub use fault::{Refused, SchemaFault};
+pub use infer::infer_schema;
 pub use schema::read_schema;

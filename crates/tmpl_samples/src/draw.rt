@@ -1,8 +1,8 @@
 //! Values of a schema: one for each way to choose, where there are several.
 
-use crate::conform::{conforms, is_excluded, is_property, referred, text_of_format};
 use serde_json::{Map, Value};
 use std::alloc::{AllocError, Global};
+use tmpl_json_schema::{conforms, is_excluded, is_property, referred, text_of_format};
 
 /// How many levels of a schema are followed, one into the other.
 pub(crate) const LEVELS: usize = 120;
