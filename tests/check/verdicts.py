@@ -103,6 +103,11 @@ def ran(words, folder=None):
     return subprocess.run(words, stdout=subprocess.PIPE, stderr=subprocess.PIPE, timeout=harness.SECONDS, cwd=folder, check=False)
 
 
+def is_valid(schema, value):
+    """Whether a value is valid by jsonschema, which reads a schema by the draft that it names, or else 2020-12."""
+    return jsonschema.validators.validator_for(schema, jsonschema.Draft202012Validator)(schema).is_valid(value)
+
+
 def rendered(template, mode, data):
     """What came of a render."""
     with tempfile.TemporaryDirectory(dir=harness.MEMORY) as folder:
@@ -148,7 +153,7 @@ def note_faults(folder, schema, words, lines):
                 yield f"    {line!r} after {before!r}"
             if ended.returncode != 1 or not re.fullmatch(pattern, ended.stderr.decode()):
                 yield f"    {line!r}: {ended.returncode} {ended.stderr!r}"
-            if not conforming.conforms(schema, schema, value) or jsonschema and not jsonschema.Draft202012Validator(schema).is_valid(value):
+            if not conforming.conforms(schema, schema, value) or jsonschema and not is_valid(schema, value):
                 yield f"    {line!r}: the value does not conform to {json.dumps(schema)}"
 
 
@@ -176,6 +181,18 @@ def told(folder, words):
     """What tmpl-check tells over the schema s, without the file, the line and the column, and without warnings and notes."""
     lines = ran([harness.CHECKER, "--schema", "s", *words], folder).stdout.decode().splitlines()
     return [line.partition(": error: may fail: ")[2] for line in lines if ": warning: " not in line and ": note: " not in line]
+
+
+def misread_results(folder):
+    """Schemas that say less than they seem to by a reader of another draft or of another document: the value is valid by jsonschema, the template
+    fails over it, and it is not accepted."""
+    for title, schema, template, value in schema_rows.MISREAD:
+        status, out = checked(folder, schema, template, [])
+        yield f"misread: {title}", 1, [] if status == 1 else [f"    status {status}: {out}"]
+        came = rendered(template, "default", value)
+        yield f"render of: {title}", 1, [] if came.returncode == 1 else [f"    status {came.returncode}"]
+        if jsonschema is not None:
+            yield f"value of: {title}", 1, [] if is_valid(schema, value) else ["    it is not valid"]
 
 
 def hostile_results(folder):
@@ -250,6 +267,13 @@ def row_results():
             wanted = f"s:{placed(schema, token)}: error: schema not understood: {said}\n"
             came = checked(folder, schema, "text", [])
             yield f"schema: {title}", 1, [] if came == (1, wanted) else [f"    {came}, and not {wanted!r}"]
+        for title, schema, wanted in schema_rows.EMPTY:
+            write(folder, "s", schema)
+            write(folder, "t", "text")
+            came = ran([harness.CHECKER, "--schema", "s", "t"], folder)
+            good = (came.returncode, came.stdout.decode(), came.stderr) == (0, wanted and f"s:{wanted}: no value conforms to this schema\n", b"")
+            yield f"no values: {title}", 1, [] if good else [f"    {came}, and not {wanted}"]
+        yield from misread_results(folder)
         yield from hostile_results(folder)
         yield from example_results(folder)
         yield from cookbook_results(folder)
@@ -276,7 +300,7 @@ def inferred_faults(folder, samples, out):
     if came != (0, ""):
         yield f"    {out}: {came}"
     for sample in samples:
-        if not conforming.conforms(schema, schema, sample) or jsonschema and not jsonschema.Draft202012Validator(schema).is_valid(sample):
+        if not conforming.conforms(schema, schema, sample) or jsonschema and not is_valid(schema, sample):
             yield f"    {json.dumps(sample)} does not conform to {out}"
 
 
@@ -413,7 +437,7 @@ def drawn_results(seed, count):
             values = [conforming.drawn_value(draw, schema, schema, 5) for _ in range(12)]
             good = [value for value in values if conforming.conforms(schema, schema, value)][:3]
             if jsonschema is not None:
-                theirs = [jsonschema.Draft202012Validator(schema).is_valid(value) for value in values]
+                theirs = [is_valid(schema, value) for value in values]
                 ours = [conforming.conforms(schema, schema, value) for value in values]
                 yield f"what conforms to schema {number}", 1, [] if theirs == ours else [f"    {json.dumps(schema)}: {list(zip(values, theirs, ours))}"]
             template = accepted_part(folder, schema, conforming.drawn_template(draw), words)

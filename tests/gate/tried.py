@@ -36,11 +36,11 @@ TRIED = {
     "tmpl_data_problems": "fraction_accepted",
     "tmpl_grammar": "range_assigns octal_escape_past_a_byte",
     "tmpl_hints": "end_told_as_a_jump comment_after_a_dash",
-    "tmpl_json_schema": "second_type_left_out most_items_taken_for_least",
+    "tmpl_json_schema": "second_type_left_out most_items_taken_for_least type_of_the_last_sample_only",
     "tmpl_problems": "newline_as_it_is one_brace_and_a_space_is_a_sign",
     "tmpl_reasons": "line_and_column_exchanged key_without_quotes",
     "tmpl_report": "errors_only_where_all_are note_told_as_an_error",
-    "tmpl_samples": "limit_told_for_a_doubt type_of_the_last_sample_only",
+    "tmpl_samples": "limit_told_for_a_doubt",
     "tmpl_schema": "a_join_that_keeps_one_side",
     "tmpl_shape": "each_field_required a_number_compared_with_a_text",
 }

@@ -6,6 +6,8 @@ NARROWING = ("minimum", "maximum", "exclusiveMinimum", "exclusiveMaximum", "minL
 FIELDS = ("a", "b", "c")
 FORMS = ("%v", "%v", "%v", "%s", "%s", "%d", "%d", "%q", "%x", "%X", "%o", "%b", "%c", "%t", "%5d", "%05d", "%+d", "% d", "%-6s", "%6s", "%.1s", "%7v", "%-v", "%+v", "%%")
 HEAD = "https://json-schema.org/draft/2020-12/schema"
+DRAFT_04 = "http://json-schema.org/draft-04/schema#"
+DRAFTS = (HEAD, "https://json-schema.org/draft/2019-09/schema", "http://json-schema.org/draft-07/schema#", "http://json-schema.org/draft-06/schema", DRAFT_04)
 
 
 def has_type(name, value):
@@ -41,10 +43,10 @@ def conforms(root, schema, value):
         "anyOf": lambda it: any(conforms(root, one, value) for one in it),
         "oneOf": lambda it: sum(conforms(root, one, value) for one in it) == 1,
         "$ref": lambda it: conforms(root, pointed(root, it), value),
-        "minimum": lambda it: type(value) is not int or value >= it,
-        "maximum": lambda it: type(value) is not int or value <= it,
-        "exclusiveMinimum": lambda it: type(value) is not int or value > it,
-        "exclusiveMaximum": lambda it: type(value) is not int or value < it,
+        "minimum": lambda it: type(value) is not int or value > it or value == it and schema.get("exclusiveMinimum") is not True,
+        "maximum": lambda it: type(value) is not int or value < it or value == it and schema.get("exclusiveMaximum") is not True,
+        "exclusiveMinimum": lambda it: type(value) is not int or type(it) is bool or value > it,
+        "exclusiveMaximum": lambda it: type(value) is not int or type(it) is bool or value < it,
         "minLength": lambda it: not isinstance(value, str) or len(value) >= it,
         "minItems": lambda it: not isinstance(value, list) or len(value) >= it,
     }
@@ -89,7 +91,30 @@ def drawn_document(draw):
     """A whole document, whose definitions do not stand for themselves."""
     names = {name: {"type": "object", "required": ["a"], "properties": {"a": drawn_schema(draw, 0), "b": {"type": "array", "items": drawn_schema(draw, 1)}}}
              for name in ("n", "m/o", "p%q")}
-    return {"$schema": HEAD, "title": "drawn", **drawn_object(draw, 3), "$defs": names}
+    head = draw.choice(DRAFTS)
+    schema = {"$schema": head, "title": "drawn", **drawn_object(draw, 3), "$defs": names}
+    return in_draft_04(schema) if head == DRAFT_04 else schema
+
+
+def in_draft_04(schema):
+    """A schema that is drawn, as draft-04 writes it: without `const`, and with `exclusiveMinimum` as a truth value."""
+    if schema is True:
+        return {}
+    if not isinstance(schema, dict):
+        return schema
+    out = {}
+    for keyword, it in schema.items():
+        if keyword in ("properties", "$defs"):
+            out[keyword] = {name: in_draft_04(one) for name, one in it.items()}
+        elif keyword in ("anyOf", "oneOf"):
+            out[keyword] = [in_draft_04(one) for one in it]
+        elif keyword == "const":
+            out["enum"] = [it]
+        elif keyword in ("exclusiveMinimum", "exclusiveMaximum"):
+            out[keyword[9:].lower()], out[keyword] = it, True
+        else:
+            out[keyword] = in_draft_04(it) if keyword in ("items", "additionalProperties") else it
+    return out
 
 
 def drawn_value(draw, root, schema, depth):

@@ -29,9 +29,13 @@ def low(count, line=1):
 
 NO_LEAST = 'no "minItems" at s:%d'
 TEXT, WHOLE, ITEMS = {"type": "string"}, {"type": "integer"}, {"type": "array", "items": {"type": "string"}}
+NO_DRAFT = '/$schema: the drafts that are read are 2020-12, 2019-09, draft-07, draft-06 and draft-04, and not "%s"'
 NODE = {"$defs": {"node": of({"name": TEXT, "kids": {"type": "array", "items": {"$ref": "#/$defs/node"}}})}}
 DEFAULT = ["--missingkey", "default"]
 MAYBE = {**of({"b": TEXT}), "type": ["object", "null"]}
+
+DRAFT_04, DRAFT_06, DRAFT_07 = ({"$schema": f"http://json-schema.org/draft-0{number}/schema#"} for number in (4, 6, 7))
+DRAFT_2019 = {"$schema": "https://json-schema.org/draft/2019-09/schema"}
 
 # a title, a schema, a template, more words, and what is said of the template t: a line without its beginning
 ACCEPTED = [
@@ -54,6 +58,12 @@ ACCEPTED = [
     ("escapes of a pointer", of({"a": {"$ref": "#/$defs/x~1y"}, "b": {"$ref": "#/$defs/p%25q"}, "c": {"$ref": "#/$defs/u~0v"}},
                                 **{"$defs": {"x/y": of({"k": TEXT}), "p%q": of({"l": TEXT}), "u~v": of({"m": TEXT})}}), "{{.a.k}}{{.b.l}}{{.c.m}}", []),
     ("pointer to a property", of({"a": of({"k": TEXT}), "b": {"$ref": "#/properties/a"}}), "{{.b.k}}", []),
+    ("draft-04", of({"a": TEXT, "n": {"type": "number", "minimum": 1, "exclusiveMinimum": True}}, id="http://example.org/x", **DRAFT_04), "{{len .a}}{{lt .n 3}}", []),
+    ("draft-06", of({"a": {"const": "x"}}, **{"$id": "x"}, **DRAFT_06), "{{len .a}}", []),
+    ("draft-07", {"$ref": "#/definitions/a", "title": "t", "definitions": {"a": of({"a": TEXT, "n": {"exclusiveMinimum": 1}})}, **DRAFT_07}, "{{len .a}}", []),
+    ("draft 2019-09", {**of({"a": {"$ref": "#/$defs/a", "maxLength": 3}}), "$defs": {"a": TEXT}, "dependentRequired": {}, **DRAFT_2019}, "{{len .a}}", []),
+    ("a draft without an empty fragment", of({"a": TEXT}, **{"$schema": "http://json-schema.org/draft-07/schema"}), "{{len .a}}", []),
+    ("definitions below the top", of({"a": {"$ref": "#/properties/b/$defs/x"}, "b": {"type": "integer", "$defs": {"x": TEXT}, "definitions": {"y": True}}}), "{{len .a}}", []),
     ("definitions of earlier drafts", of({"a": {"$ref": "#/definitions/x"}}, definitions={"x": TEXT}), "{{len .a}}", []),
     ("notes", {"$id": "urn:x", "$comment": "c", "title": "t", "description": "d", "default": {"x": 1.5}, "examples": [1.5], "deprecated": False, "readOnly": True,
                "writeOnly": False, "$schema": "https://json-schema.org/draft/2020-12/schema", **of({"a": TEXT})}, "{{.a}}", []),
@@ -336,6 +346,8 @@ PORTS = """{
   }
 }"""
 SHOWN = [
+    ("a bound that draft-04 excludes", of({"n": {"type": "integer", "minimum": 5, "exclusiveMinimum": True}}, **DRAFT_04), "{{len .n}}", [],
+     ['1:1: error: may fail: "len" may get what it refuses', '1:1: note: fails for {"n":6}: len: wrong kind of argument']),
     ("in a range by a reference", PORTS, "{{range .ports}}\n{{.protocol}}{{end}}", [],
      ['2:1: error: may fail: .protocol may be absent: not in "required" of s:19',
       '2:1: note: fails with --missingkey error for {"ports":[{"number":1}]}: no entry for key "protocol"']),
@@ -407,6 +419,37 @@ NOT_INFERRED = [
     ("not whole", ['{"a": 1}', "1.5"], (1, "d1:1:1: error: number not whole or out of range: .: 1.5 is not whole or is out of range\n")),
 ]
 
+# a schema in which a part has no values, and where that is, with what precedes the words; or nothing where each part has some
+EMPTY = [
+    ("the whole", False, "1:1: warning"),
+    ("no constants", {"enum": []}, "1:1: warning"),
+    ("constant of another type", of({"a": {"type": "string", "const": 1}}, []), "1:66: warning: /properties/a"),
+    ("constants of another type", {"items": {"type": ["null", "object"], "enum": [1, "x"]}}, "1:2: warning: /items"),
+    ("constant that is none of some", {"$defs": {"a": {"const": 1, "enum": ["x"]}}}, "1:12: warning: /$defs/a"),
+    ("required property", of({"a": False}), "1:66: warning: /properties/a"),
+    ("alternative", {"anyOf": [True, False]}, "1:18: warning: /anyOf/1"),
+    ("inside an alternative", {"oneOf": [{"items": {"enum": []}}]}, "1:13: warning: /oneOf/0/items"),
+    ("the first of several", {"properties": {"a": {"enum": []}, "b": {"enum": []}}}, "1:17: warning: /properties/a"),
+    ("property that is never there", of({"a": False}, []), ""),
+    ("no items and no other properties", {"items": False, "additionalProperties": False}, ""),
+    ("a constant of that type", {"type": "string", "const": "x", "default": False, "examples": [{"enum": []}]}, ""),
+]
+
+# a schema that says less than it seems to, a template, and a value for which it fails and which is valid
+MISREAD = [
+    ("name of a definition below the top", {"type": "object", "required": ["a"], "properties": {
+        "a": {"$ref": "#/properties/b/$defs/x/properties/y"},
+        "b": {"$defs": {"x": {"$id": "http://example.org/x", "properties": {"y": {"$ref": "#/$defs/s"}}, "$defs": {"s": WHOLE}}}}}, "$defs": {"s": TEXT}}, "{{len .a}}", {"a": 5}),
+    ("name of draft-04", {**DRAFT_04, "type": "object", "required": ["a"], "properties": {
+        "a": {"$ref": "#/properties/b/definitions/x/properties/y"},
+        "b": {"definitions": {"x": {"id": "http://example.org/x", "properties": {"y": {"$ref": "#/definitions/s"}}, "definitions": {"s": WHOLE}}}}}, "definitions": {"s": TEXT}}, "{{len .a}}", {"a": 5}),
+    ("const of draft-04", {**DRAFT_04, "type": "object", "required": ["a"], "properties": {"a": {"const": "x"}}}, "{{len .a}}", {"a": 5}),
+    ("alternatives of draft-03", {"$schema": "http://json-schema.org/draft-03/schema#", "type": "object", "properties": {"a": {"anyOf": [TEXT]}}}, "{{len .a}}", {"a": 5}),
+    ("type beside a reference of draft-07", {**DRAFT_07, "type": "object", "required": ["a"], "properties": {"a": {"$ref": "#/definitions/x", "type": "string"}}, "definitions": {"x": True}},
+     "{{len .a}}", {"a": 5}),
+    ("required beside a reference of draft-06", {**DRAFT_06, "$ref": "#/definitions/x", "required": ["a"], "definitions": {"x": {"type": "object", "properties": {"a": TEXT}}}}, "{{len .a}}", {}),
+]
+
 # a schema that is not read, by its text; before what in it the place is, or none for its beginning; and what is said
 UNREAD = [
     ("misspelled keyword", '{"type": "object",\n "propertys": {}}', '"propertys"', '/propertys: the keyword "propertys" is not understood'),
@@ -423,7 +466,26 @@ UNREAD = [
     ("no such type", '{"type": "text"}', '"type"', '/type: no type "text"'),
     ("no such type in a list", '{"type": ["string", "text"]}', '"text"', '/type/1: no type "text"'),
     ("a type that is no text", '{"type": 1}', '"type"', "/type: the name of a type is wanted, or a list of them"),
-    ("items of draft 7", '{"items": [true]}', '"items"', "/items: a schema is wanted: an object, true or false"),
+    ("items of draft 7", '{"items": [true]}', '"items"', "/items: a list of schemas is not understood"),
+    ("items of draft 7 by its name", '{"$schema": "http://json-schema.org/draft-07/schema#", "items": [true]}', '"items"', "/items: a list of schemas is not understood"),
+    ("in a definition below the top", '{"items": {"$defs": {"a": {"x": 1}}}}', '"x"', '/items/$defs/a/x: the keyword "x" is not understood'),
+    ("in a definition of earlier drafts below the top", '{"properties": {"b": {"definitions": {"a": {"x": 1}}}}}', '"x"', '/properties/b/definitions/a/x: the keyword "x" is not understood'),
+    ("in a definition of a definition", '{"$defs": {"a": {"$defs": {"b": {"items": {"x": 1}}}}}}', '"x"', '/$defs/a/$defs/b/items/x: the keyword "x" is not understood'),
+    ("in a definition beside a reference", '{"items": {"$ref": "#/$defs/a", "$defs": {"b": {"x": 1}}}, "$defs": {"a": true}}', '"x"', '/items/$defs/b/x: the keyword "x" is not understood'),
+    ("a name inside a definition below the top", '{"items": {"$defs": {"a": {"$id": "x"}}}}', '"$id"', '/items/$defs/a/$id: "$id" is understood at the top of a document alone'),
+    ("draft-03", '{"$schema": "http://json-schema.org/draft-03/schema#"}', '"$schema"', NO_DRAFT % "http://json-schema.org/draft-03/schema#"),
+    ("a draft by another scheme", '{"$schema": "https://json-schema.org/draft-07/schema#"}', '"$schema"', NO_DRAFT % "https://json-schema.org/draft-07/schema#"),
+    ("a draft that is no text", '{"$schema": 7}', '"$schema"', "/$schema: a text is wanted"),
+    ("a draft below the top", '{"items": {"$schema": "https://json-schema.org/draft/2020-12/schema"}}', '"$schema"', '/items/$schema: "$schema" is understood at the top of a document alone'),
+    ("const of draft-04", '{"$schema": "http://json-schema.org/draft-04/schema#", "items": {"const": 1}}', '"const"', '/items/const: "const" has no effect in draft-04'),
+    ("name of draft-04", '{"$schema": "http://json-schema.org/draft-04/schema#", "$id": "x"}', '"$id"', '/$id: the keyword "$id" is not understood'),
+    ("name of draft-04 below the top", '{"$schema": "http://json-schema.org/draft-04/schema#", "items": {"id": "x"}}', '"id"', '/items/id: "id" is understood at the top of a document alone'),
+    ("bound of draft-04", '{"$schema": "http://json-schema.org/draft-04/schema#", "exclusiveMaximum": 1}', '"exclusiveMaximum"', "/exclusiveMaximum: true or false is wanted"),
+    ("later keyword", '{"$schema": "http://json-schema.org/draft-07/schema#", "dependentRequired": {}}', '"dependentRequired"', '/dependentRequired: "dependentRequired" has no effect before draft 2019-09'),
+    ("type beside a reference of draft-07", '{"$schema": "http://json-schema.org/draft-07/schema#", "$ref": "#/definitions/a", "type": "object", "definitions": {"a": true}}', '"type"',
+     '/type: "type" has no effect beside "$ref" before draft 2019-09'),
+    ("bound beside a reference of draft-06", '{"$schema": "http://json-schema.org/draft-06/schema#", "items": {"$ref": "#/definitions/a", "maximum": 1}, "definitions": {"a": true}}', '"maximum"',
+     '/items/maximum: "maximum" has no effect beside "$ref" before draft 2019-09'),
     ("required of draft 3", '{"properties": {"a": {"required": true}}}', '"required"', "/properties/a/required: a list of names is wanted"),
     ("reference beside others", '{"$ref": "#/$defs/a", "type": "object", "$defs": {"a": true}}', '"type"', '/type: the keyword "type" is not understood beside "$ref"'),
     ("reference to another file", '{"$ref": "other.json"}', '"$ref"', '/$ref: only what begins with "#" is looked up, and not "other.json"'),

@@ -1,5 +1,5 @@
 -- For the call `read_schema`: a value that conforms to a document fits the shape that is read of it.
-use Rattle.std.proofs.Common.{arith, ◌≡◌, ◌⊎◌, ◌≤◌, ◌&&◌, length, Bool, true, false, not, List, [], ◌∷◌, ℕ, zero, suc, Option, Some, None, All, IfSome, IsSome, is_some, inl, inr, refl, sym, subst, if◌then◌else◌, codes}
+use Rattle.std.proofs.Common.{arith, ◌≡◌, ◌∙◌, ap, ◌⊎◌, ◌≤◌, ◌&&◌, length, Bool, true, false, not, List, [], ◌∷◌, ℕ, zero, suc, Option, Some, None, All, IfSome, IsSome, is_some, inl, inr, refl, sym, subst, if◌then◌else◌, codes}
 use Rattle.std.specs.Option.{option_map, option_map_or, option_and_then}
 use Rattle.std.specs.Str.{bytes_eq}
 use Rattle.std.proofs.lemmas.Bool.{false≢true, and_parts}
@@ -17,12 +17,13 @@ use Rattle.tmpl_shape.specs.computed.Means.{Means}
 use Rattle.tmpl_shape.proofs.NameLemmas.{meant}
 use Rattle.tmpl_shape.proofs.ShapeLemmas.{same_name, or_cases, items-has, entries-has}
 use Rattle.tmpl_json_schema.specs.Document.{IsInstance, IsOfType, IsConstant, IsOneOf, HasKeys, SomeItem, in_properties, FitsProperty, FitsProperties, FitsAdditional}
-use Rattle.tmpl_json_schema.specs.Document.{HasItems, FitsItems, FitsSome, fragment_of, refer, ConformsBy, conforms_in}
+use Rattle.tmpl_json_schema.specs.Document.{HasItems, FitsItems, FitsSome, fragment_of, refer, ConformsBy, conforms_in, draft_of, has_const, is_alone}
+use Rattle.tmpl_json_schema.specs.declared.draft.Draft.{Draft}
 use Rattle.tmpl_json_schema.specs.declared.kinds.Kinds.{Kinds}
 use Rattle.tmpl_json_schema.specs.computed.Reading.{fold, fold_members, every_kind, both_kinds, types_in, const_in, enum_in, kinds_in, type_kinds, enum_kinds, constant_kind}
 use Rattle.tmpl_json_schema.specs.computed.Reading.{count_of, least_in, is_every_kind, by_kinds, keep_kinds, rest_of, shape_of_rest, has_content, choices_in, or_else, is_listed, reference_shape, or_shape}
 use Rattle.tmpl_json_schema.specs.computed.Reading.{choice_with, choice_shape, shape_under, required_in, required_fields, properties_in, property_fields, with_property}
-use Rattle.tmpl_json_schema.specs.computed.Reading.{fields_in, content_shape, plain_shape, object_shape, shape_by}
+use Rattle.tmpl_json_schema.specs.computed.Reading.{fields_in, content_shape, plain_shape, object_shape, is_unread, shape_by}
 use Rattle.tmpl_json_schema.specs.computed.Defined.{IsDefinition, are_defined}
 use Rattle.tmpl_json_schema.proofs.KindLemmas.{HasKind, HasParts, is-some, not-some, both-kinds, type_kinds-has, constant_kind-has, enum_kinds-has, or-one, or-other, by_kinds-has, kept-has}
 use Rattle.tmpl_json_schema.proofs.FieldLemmas.{rest-field, rest-shape, rest-required, required-fields, required-has, properties-fields, properties-has}
@@ -200,14 +201,30 @@ module _ (N : Names) (read : Data → Option Shape) (C : Data → Value → Type
 
   -- ---- an object
 
-  module _ (root : Data) (ms : Members) (v : Value) (h : ConformsBy root C (json.object ms) v) where
+  -- it conforms to each keyword but `$ref`
+  abbrev ConformsPlainly : Members → Value → Type 0
+  ConformsPlainly ms v =
+      let keyword : List ℕ → Option Data = λ name. get name (json.object ms) in
+      IsInstance v
+      × IfSome (keyword (codes "type")) (IsOfType v)
+      × IfSome (keyword (codes "const")) (IsConstant v)
+      × IfSome (keyword (codes "enum")) (IsOneOf v)
+      × IfSome (keyword (codes "required")) (HasKeys v)
+      × IfSome (keyword (codes "properties")) (FitsProperties C v)
+      × IfSome (keyword (codes "additionalProperties")) (FitsAdditional C (keyword (codes "properties")) v)
+      × IfSome (keyword (codes "items")) (FitsItems C v)
+      × IfSome (keyword (codes "minItems")) (HasItems v)
+      × IfSome (keyword (codes "anyOf")) (FitsSome C v)
+      × IfSome (keyword (codes "oneOf")) (FitsSome C v)
+
+  module _ (ms : Members) (v : Value) (h : ConformsPlainly ms v) where
     abbrev whole : Data
     whole = json.object ms
 
     inside : (i : Shape) (fs : Fields) → shape_under read (codes "items") whole ≡ Some i → fields_in read whole ≡ Some fs → HasParts N (least_in whole) i fs v
     inside i fs e f = by v h
       where
-        by : (w : Value) → ConformsBy root C whole w → HasParts N (least_in whole) i fs w
+        by : (w : Value) → ConformsPlainly ms w → HasParts N (least_in whole) i fs w
         by (sequence vs) k = (
           least-has (get (codes "minItems") whole) vs k.8,
           items-has (λ w. IfSome (get (codes "items") whole) (λ d. C d w)) (HasShape N i) (λ w. under-has (get (codes "items") whole) i w e) vs
@@ -249,29 +266,47 @@ module _ (N : Names) (read : Data → Option Shape) (C : Data → Value → Type
     all-kinds : (ks : Kinds) → kinds_in whole ≡ Some ks → HasKind ks v
     all-kinds ks e = kinds-has whole ks v e h.0 h.1 h.2 h.3
 
-    object-has : (names : List (List ℕ))
-        → ((r : Data) (s : Shape) → reference_shape names r ≡ Some s → IfSome (refer root r) (λ d. C d v) → HasShape N s v)
-        → (s : Shape) → object_shape read names whole ≡ Some s → HasShape N s v
-    object-has names refers s e = by (get (codes "$ref") whole) h.11 e
+    kinds-plain : (s : Shape) → option_and_then (plain_shape read whole) (kinds_in whole) ≡ Some s → HasShape N s v
+    kinds-plain s e = by (kinds_in whole) refl e
       where
-        rest : (o : Option Kinds) → kinds_in whole ≡ o → option_and_then (plain_shape read whole) o ≡ Some s → HasShape N s v
-        rest None is f = absurd (not-some s f)
-        rest (Some ks) is f = plain-has ks s f (all-kinds ks is)
+        by : (o : Option Kinds) → kinds_in whole ≡ o → option_and_then (plain_shape read whole) o ≡ Some s → HasShape N s v
+        by None is f = absurd (not-some s f)
+        by (Some ks) is f = plain-has ks s f (all-kinds ks is)
 
-        by : (o : Option Data) → IfSome o (λ r. IfSome (refer root r) (λ d. C d v))
-            → option_map_or (reference_shape names) o (option_and_then (plain_shape read whole) (kinds_in whole)) ≡ Some s → HasShape N s v
-        by None x f = rest (kinds_in whole) refl f
-        by (Some r) x f = refers r s f x
+  -- a `$ref` that is not there is not alone, and a `const` that the draft does not have is not there
+  const-read : (o : Option Data) (b : Bool) (v : Value) → (is_some o && not b) ≡ false → (b ≡ true → IfSome o (IsConstant v)) → IfSome o (IsConstant v)
+  const-read None b v e h = tt
+  const-read (Some d) true v e h = h refl
+  const-read (Some d) false v e h = absurd (false≢true (sym e))
+
+  plainly : (root : Data) (draft : Draft) (ms : Members) (v : Value) → draft_of root ≡ Some draft → get (codes "$ref") (json.object ms) ≡ None
+      → is_unread draft (json.object ms) ≡ false → ConformsBy root C (json.object ms) v → ConformsPlainly ms v
+  plainly root draft ms v is none unread h =
+      let alone : is_alone root (get (codes "$ref") (json.object ms)) ≡ false = ap (is_alone root) none in
+      let all = h.2 alone in
+      let const = const-read (get (codes "const") (json.object ms)) (has_const draft) v unread (λ e. all.1 (ap (λ o. option_map_or has_const o true) is ∙ e)) in
+      (h.0, all.0, const, all.2, all.3, all.4, all.5, all.6, all.7, all.8, all.9)
+
+  object-has : (root : Data) (draft : Draft) (names : List (List ℕ)) (ms : Members) (v : Value) → draft_of root ≡ Some draft
+      → ((r : Data) (s : Shape) → reference_shape names r ≡ Some s → IfSome (refer root r) (λ d. C d v) → HasShape N s v)
+      → (s : Shape) → object_shape read draft names (json.object ms) ≡ Some s → ConformsBy root C (json.object ms) v → HasShape N s v
+  object-has root draft names ms v is refers s e h = by (is_unread draft (json.object ms)) refl (get (codes "$ref") (json.object ms)) refl h.1 e
+    where
+      by : (c : Bool) → is_unread draft (json.object ms) ≡ c → (o : Option Data) → get (codes "$ref") (json.object ms) ≡ o → IfSome o (λ r. IfSome (refer root r) (λ d. C d v))
+          → (if c then None else option_map_or (reference_shape names) o (option_and_then (plain_shape read (json.object ms)) (kinds_in (json.object ms)))) ≡ Some s → HasShape N s v
+      by true u o x r f = absurd (not-some s f)
+      by false u (Some d) x r f = refers d s f r
+      by false u None x r f = kinds-plain ms v (plainly root draft ms v is x u h) s f
 
 -- ---- a document
 
 -- each of the names stands for what is read at its pointer
-abbrev pub EachDefined : Data → List (List ℕ) → ℕ → Defs → Type 0
-EachDefined root names l defs = (p : List ℕ) → is_listed names p ≡ true
-    → (d : Data) × (s : Shape) × (pointer p root ≡ Some d) × (defs p ≡ Some s) × (shape_by names l d ≡ Some s)
+abbrev pub EachDefined : Draft → Data → List (List ℕ) → ℕ → Defs → Type 0
+EachDefined draft root names l defs = (p : List ℕ) → is_listed names p ≡ true
+    → (d : Data) × (s : Shape) × (pointer p root ≡ Some d) × (defs p ≡ Some s) × (shape_by draft names l d ≡ Some s)
 
-module _ (root : Data) (names : List (List ℕ)) (l : ℕ) (defs : Defs) (defined : EachDefined root names l defs) (N : Names) (means : Means defs N) where
-  module _ (C : Data → Value → Type 0) (ok : (d : Data) (s : Shape) (v : Value) → shape_by names l d ≡ Some s → C d v → HasShape N s v) where
+module _ (draft : Draft) (root : Data) (is-of : draft_of root ≡ Some draft) (names : List (List ℕ)) (l : ℕ) (defs : Defs) (defined : EachDefined draft root names l defs) (N : Names) (means : Means defs N) where
+  module _ (C : Data → Value → Type 0) (ok : (d : Data) (s : Shape) (v : Value) → shape_by draft names l d ≡ Some s → C d v → HasShape N s v) where
     refers-has : (v : Value) (r : Data) (s : Shape) → reference_shape names r ≡ Some s → IfSome (refer root r) (λ d. C d v) → HasShape N s v
     refers-has v (json.string t) s e h = by (fragment_of t) e h
       where
@@ -290,7 +325,7 @@ module _ (root : Data) (names : List (List ℕ)) (l : ℕ) (defs : Defs) (define
         by (Some p) f k = at p k (is_listed names p) refl f
     refers-has v r s e h = absurd (not-some s e)
 
-  sound : (n m : ℕ) (d : Data) (s : Shape) (v : Value) → shape_by names m d ≡ Some s → conforms_in root n d v → HasShape N s v
+  sound : (n m : ℕ) (d : Data) (s : Shape) (v : Value) → shape_by draft names m d ≡ Some s → conforms_in root n d v → HasShape N s v
   sound zero m d s v e h = absurd h
   sound (suc n) zero d s v e h = absurd (not-some s e)
   sound (suc n) (suc m) (json.boolean b) s v e h = by b h e
@@ -299,21 +334,21 @@ module _ (root : Data) (names : List (List ℕ)) (l : ℕ) (defs : Defs) (define
       by true x f = is-some (λ t. HasShape N t v) anything s f tt
       by false x f = absurd (false≢true x)
   sound (suc n) (suc m) (json.object ms) s v e h =
-      object-has N (shape_by names m) (conforms_in root n) (sound n m) root ms v h names (refers-has (conforms_in root n) (sound n l) v) s e
+      object-has N (shape_by draft names m) (conforms_in root n) (sound n m) root draft names ms v is-of (refers-has (conforms_in root n) (sound n l) v) s e h
   sound (suc n) (suc m) d s v e h = absurd (not-some s e)
 
 -- ---- the definitions
 
-find-definition : (root : Data) (names : List (List ℕ)) (l : ℕ) (ds : List Definition) → All (IsDefinition root names l) ds → (p : List ℕ) → IsSome (defs_in ds p)
-    → (d : Data) × (s : Shape) × (pointer p root ≡ Some d) × (defs_in ds p ≡ Some s) × (shape_by names l d ≡ Some s)
-find-definition root names l [] all p is = absurd (false≢true is)
-find-definition root names l (x ∷ ds) all p is = by (bytes_eq p x.name) refl is (find-definition root names l ds (All-tail (IsDefinition root names l) x ds all) p)
+find-definition : (draft : Draft) (root : Data) (names : List (List ℕ)) (l : ℕ) (ds : List Definition) → All (IsDefinition draft root names l) ds → (p : List ℕ) → IsSome (defs_in ds p)
+    → (d : Data) × (s : Shape) × (pointer p root ≡ Some d) × (defs_in ds p ≡ Some s) × (shape_by draft names l d ≡ Some s)
+find-definition draft root names l [] all p is = absurd (false≢true is)
+find-definition draft root names l (x ∷ ds) all p is = by (bytes_eq p x.name) refl is (find-definition draft root names l ds (All-tail (IsDefinition draft root names l) x ds all) p)
   where
     by : (c : Bool) → bytes_eq p x.name ≡ c → IsSome (if c then Some (shape_of x.shape) else defs_in ds p)
-        → (IsSome (defs_in ds p) → (d : Data) × (s : Shape) × (pointer p root ≡ Some d) × (defs_in ds p ≡ Some s) × (shape_by names l d ≡ Some s))
-        → (d : Data) × (s : Shape) × (pointer p root ≡ Some d) × ((if c then Some (shape_of x.shape) else defs_in ds p) ≡ Some s) × (shape_by names l d ≡ Some s)
+        → (IsSome (defs_in ds p) → (d : Data) × (s : Shape) × (pointer p root ≡ Some d) × (defs_in ds p ≡ Some s) × (shape_by draft names l d ≡ Some s))
+        → (d : Data) × (s : Shape) × (pointer p root ≡ Some d) × ((if c then Some (shape_of x.shape) else defs_in ds p) ≡ Some s) × (shape_by draft names l d ≡ Some s)
     by true e i more =
-        let at = All-head (IsDefinition root names l) x ds all in
+        let at = All-head (IsDefinition draft root names l) x ds all in
         (at.0, shape_of x.shape, subst (λ (k : List ℕ). pointer k root ≡ Some at.0) (sym (same_name p x.name e)) at.1, refl, at.2)
     by false e i more = more i
 
@@ -326,9 +361,9 @@ listed-defined defs (x ∷ xs) p e is =
       | inr more ↦ listed-defined defs xs p both.1 more
     ]
 
-pub document-fits : (root : Data) (names : List (List ℕ)) (l : ℕ) (ds : List Definition) (s : Shape) → All (IsDefinition root names l) ds
-    → are_defined (defs_in ds) names ≡ true → shape_by names l root ≡ Some s → (n : ℕ) (v : Value) → conforms_in root n root v
+pub document-fits : (draft : Draft) (root : Data) → draft_of root ≡ Some draft → (names : List (List ℕ)) (l : ℕ) (ds : List Definition) (s : Shape) → All (IsDefinition draft root names l) ds
+    → are_defined (defs_in ds) names ≡ true → shape_by draft names l root ≡ Some s → (n : ℕ) (v : Value) → conforms_in root n root v
     → HasShape (stands_for (defs_in ds)) s v
-document-fits root names l ds s all e is n v h =
-    sound root names l (defs_in ds) (λ p i. find-definition root names l ds all p (listed-defined (defs_in ds) names p e i))
+document-fits draft root is-of names l ds s all e is n v h =
+    sound draft root is-of names l (defs_in ds) (λ p i. find-definition draft root names l ds all p (listed-defined (defs_in ds) names p e i))
     (stands_for (defs_in ds)) (meant (defs_in ds)) n l root s v is h

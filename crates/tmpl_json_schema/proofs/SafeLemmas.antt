@@ -5,9 +5,9 @@ use Rattle.tmpl_syntax.specs.Set.{Template}
 use Rattle.tmpl_meaning.specs.declared.missing_key.MissingKey.{MissingKey}
 use Rattle.tmpl_shape.specs.Shape.{Fits, Schema}
 use Rattle.tmpl_schema.specs.Safe.{NeverFails}
-use Rattle.tmpl_json_schema.specs.Document.{ConformsTo}
+use Rattle.tmpl_json_schema.specs.Document.{ConformsTo, IsDocument}
 use Rattle.tmpl_json_schema.specs.Safe.{NeverFailsOver}
 
 pub over-document : (bytes : List ℕ) (mode : Option MissingKey) (stops : List (List ℕ)) (set : List Template) (name : List ℕ) (schema : Schema)
-    → ((v : Value) → ConformsTo bytes v → Fits schema v) → NeverFails schema mode stops set name → NeverFailsOver bytes mode stops set name
-over-document bytes mode stops set name schema fits h = (h.0, h.1, λ rules v covers conforms. h.2 rules (Some v) covers (fits v conforms))
+    → IsDocument bytes → ((v : Value) → ConformsTo bytes v → Fits schema v) → NeverFails schema mode stops set name → NeverFailsOver bytes mode stops set name
+over-document bytes mode stops set name schema document fits h = (h.0, h.1, document, λ rules v covers conforms. h.2 rules (Some v) covers (fits v conforms))

@@ -1,7 +1,8 @@
--- Which values conform to a JSON Schema (draft 2020-12), by the JSON value of its bytes. C is the core specification, V
--- that of validation. What only narrows further is left out, as `minLength`: more values conform than by the specification.
-use Rattle.std.specs.Prelude.{◌≡◌, ◌⊎◌, ◌≤◌, ℕ, zero, suc, true, false, List, length, [], ◌∷◌, ◌||◌, ◌==◌, Bool, Option, Some, None, IsSome, IfSome, codes}
-use Rattle.std.specs.Option.{option_and_then}
+-- Which values conform to a JSON Schema, by the JSON value of its bytes. C is the core specification, V that of validation,
+-- of the draft 2020-12; where an earlier draft differs in a keyword that is used here, that is said. What only narrows further
+-- is left out, as `minLength`: more values conform than by the specification.
+use Rattle.std.specs.Prelude.{◌≡◌, ◌⊎◌, ◌≤◌, ℕ, zero, suc, true, false, not, is_some, List, length, [], ◌∷◌, ◌||◌, ◌&&◌, ◌==◌, Bool, Option, Some, None, IsSome, IfSome, codes}
+use Rattle.std.specs.Option.{option_and_then, option_map_or}
 use Rattle.std.specs.Prelude.{if◌then◌else◌}
 use Rattle.std.specs.Str.{bytes_eq, is_utf8}
 use Rattle.percent_encoding.specs.Percent.{percent_decode}
@@ -13,6 +14,44 @@ use Rattle.tmpl_values.specs.Value.{Value, Entries, nothing, null, boolean, numb
 use Rattle.tmpl_values.specs.Elements.{values_of_items}
 use Rattle.tmpl_values.specs.Field.{entry_at}
 use Rattle.tmpl_shape.specs.Shape.{EachItem, EachEntry, AreDistinct}
+use Rattle.tmpl_json_schema.specs.declared.draft.Draft.{Draft}
+use Rattle.tmpl_json_schema.specs.declared.draft.Draft.TheVariants.{Draft04, Draft06, Draft07, Draft2019, Draft2020}
+
+-- one of two spellings
+abbrev pub names_either : List ℕ → List ℕ → List ℕ → Bool
+names_either plain marked uri = bytes_eq uri plain || bytes_eq uri marked
+
+-- the draft that a URI names (C 8.1.1), with or without an empty fragment
+abbrev pub draft_named : List ℕ → Option Draft
+draft_named uri =
+    if names_either (codes "http://json-schema.org/draft-04/schema") (codes "http://json-schema.org/draft-04/schema#") uri then Some Draft04
+    else if names_either (codes "http://json-schema.org/draft-06/schema") (codes "http://json-schema.org/draft-06/schema#") uri then Some Draft06
+    else if names_either (codes "http://json-schema.org/draft-07/schema") (codes "http://json-schema.org/draft-07/schema#") uri then Some Draft07
+    else if names_either (codes "https://json-schema.org/draft/2019-09/schema") (codes "https://json-schema.org/draft/2019-09/schema#") uri then Some Draft2019
+    else if names_either (codes "https://json-schema.org/draft/2020-12/schema") (codes "https://json-schema.org/draft/2020-12/schema#") uri then Some Draft2020
+    else None
+
+-- the draft of a document, if it is one of these: that which `$schema` names at its top, or else 2020-12
+abbrev pub draft_in : Data → Option Draft
+draft_in (json.string uri) = draft_named uri
+draft_in d = None
+
+abbrev pub draft_of : Data → Option Draft
+draft_of root = option_map_or draft_in (get (codes "$schema") root) (Some Draft2020)
+
+abbrev pub is_since_2019 : Draft → Bool
+is_since_2019 Draft2019 = true
+is_since_2019 Draft2020 = true
+is_since_2019 draft = false
+
+-- whether a draft has `const`: draft-04 has not
+abbrev pub has_const : Draft → Bool
+has_const Draft04 = false
+has_const draft = true
+
+-- whether this is so of the draft of a document
+abbrev pub of_draft : (Draft → Bool) → Data → Bool
+of_draft P root = option_map_or P (draft_of root) true
 
 -- a value that is looked at (C 4.2.1): there is one, and a map has each key once
 abbrev pub IsInstance : Value → Type 0
@@ -126,14 +165,20 @@ abbrev pub refer : Data → Data → Option Data
 refer root (json.string r) = option_and_then (λ p. pointer p root) (fragment_of r)
 refer root d = None
 
+-- there is a `$ref` beside which nothing else is looked at: no draft before 2019-09 does
+abbrev pub is_alone : Data → Option Data → Bool
+is_alone root reference = is_some reference && not (of_draft is_since_2019 root)
+
 -- a value conforms to what stands in a document (C 4.3.1, 4.3.2): to each keyword by itself
 abbrev pub ConformsBy : Data → (Data → Value → Type 0) → Data → Value → Type 0
 ConformsBy root Conforms (json.boolean b) v = b ≡ true
 ConformsBy root Conforms (json.object ms) v =
     let keyword : List ℕ → Option Data = λ name. get name (json.object ms) in
     IsInstance v
-    × IfSome (keyword (codes "type")) (IsOfType v)
-    × IfSome (keyword (codes "const")) (IsConstant v)
+    × IfSome (keyword (codes "$ref")) (λ r. IfSome (refer root r) (λ d. Conforms d v))
+    × (is_alone root (keyword (codes "$ref")) ≡ false
+    → IfSome (keyword (codes "type")) (IsOfType v)
+    × (of_draft has_const root ≡ true → IfSome (keyword (codes "const")) (IsConstant v))
     × IfSome (keyword (codes "enum")) (IsOneOf v)
     × IfSome (keyword (codes "required")) (HasKeys v)
     × IfSome (keyword (codes "properties")) (FitsProperties Conforms v)
@@ -141,8 +186,7 @@ ConformsBy root Conforms (json.object ms) v =
     × IfSome (keyword (codes "items")) (FitsItems Conforms v)
     × IfSome (keyword (codes "minItems")) (HasItems v)
     × IfSome (keyword (codes "anyOf")) (FitsSome Conforms v)
-    × IfSome (keyword (codes "oneOf")) (FitsSome Conforms v)
-    × IfSome (keyword (codes "$ref")) (λ r. IfSome (refer root r) (λ d. Conforms d v))
+    × IfSome (keyword (codes "oneOf")) (FitsSome Conforms v))
 ConformsBy root Conforms d v = Unit {0}
 
 -- .. where as many schemas are followed, one into the other
@@ -153,6 +197,10 @@ conforms_in root (suc n) d v = ConformsBy root (conforms_in root n) d v
 -- the JSON value of bytes
 abbrev pub document_of : List ℕ → Option Data
 document_of bytes = if is_utf8 bytes then read bytes else None
+
+-- these bytes are a document, of one of these drafts
+abbrev pub IsDocument : List ℕ → Type 0
+IsDocument bytes = (root : Data) × (document_of bytes ≡ Some root) × IsSome (draft_of root)
 
 -- a value conforms to the schema that these bytes are
 abbrev pub ConformsTo : List ℕ → Value → Type 0

@@ -1,3 +1,4 @@
 pub mod Document
+pub mod Inferred
 pub mod Safe
 pub mod computed

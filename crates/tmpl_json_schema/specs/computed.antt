@@ -1,2 +1,4 @@
+pub mod Conformed
 pub mod Defined
+pub mod Inferred
 pub mod Reading

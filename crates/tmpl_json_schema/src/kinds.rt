@@ -86,6 +86,11 @@ pub(crate) fn is_every_kind(kinds: Kinds) -> bool
     kinds.null && (kinds.truth && (kinds.number && (kinds.text && (kinds.list && kinds.map))))
 }
 
+/// Whether there is none of them.
+pub(crate) fn is_no_kind(kinds: Kinds) -> bool {
+    !(kinds.null || kinds.truth || kinds.number || kinds.text || kinds.list || kinds.map)
+}
+
 /// The kind of the type of this name.
 fn kind_named(word: &str) -> Option<Kinds>
     ensures { result ≡ kind_named word.now }

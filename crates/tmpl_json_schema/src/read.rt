@@ -1,14 +1,15 @@
 //! The shape of a schema.
 #![tactic(auto, using(tmpl_shape::proofs::ViewLemmas::parts))]
 
-ghost use Rattle.std.specs.Prelude.{◌≡◌, IfOk, Some, codes};
+ghost use Rattle.std.specs.Prelude.{◌≡◌, IfOk, OnOk, Some, codes, false};
 ghost use Rattle.std.specs.Option.{option_map, option_map_or};
 ghost use Rattle.serde_json.specs.View.{items_view, members_view, view};
 ghost use Rattle.tmpl_shape.specs.Shape.{never};
 ghost use Rattle.tmpl_shape.specs.View.{fields_of, shape_of};
-ghost use Rattle.tmpl_json_schema.specs.computed.Reading.{choice_shape, choice_with, choices_in, content_shape, fields_in, fold, fold_members};
+ghost use Rattle.tmpl_json_schema.specs.computed.Reading.{choice_shape, choice_with, choices_in, content_shape, fields_in, fold, fold_members, is_unread};
 ghost use Rattle.tmpl_json_schema.specs.computed.Reading.{object_shape, plain_shape, properties_in, reference_shape, shape_by, shape_under, with_property};
 
+use crate::draft::Draft;
 use crate::fault::{SchemaFault, at_index, refusal, refusal_of, under};
 use crate::fields::{has_content, is_required, least_in, required_in};
 use crate::keyword::check_keywords;
@@ -20,9 +21,10 @@ use std::alloc::Global;
 use tmpl_schema::{Fields, Shape, put_field};
 use tmpl_values::Bytes;
 
-/// What is asked of a document while it is read: the pointers that a `$ref` may have, and the memory for shapes.
+/// What is asked of a document while it is read: its draft, the pointers that a `$ref` may have, and the memory for shapes.
 #[derive(Clone, Copy)]
 pub(crate) struct Reader<'s> {
+    pub(crate) draft: Draft,
     pub(crate) names: &'s [Bytes],
     /// How many levels of a schema are read.
     pub(crate) levels: usize,
@@ -79,7 +81,7 @@ pub(crate) fn shape_by(
     steps: usize,
     schema: &Value,
 ) -> Result<Shape, SchemaFault>
-    ensures { IfOk result (λ s. shape_by reader.now.names.now steps (view schema.now) ≡ Some (shape_of s)) }
+    ensures { IfOk result (λ s. shape_by reader.now.draft reader.now.names.now steps (view schema.now) ≡ Some (shape_of s)) }
 {
     if steps == 0 {
         return Err(refusal(reader.alloc, "too many levels"));
@@ -98,10 +100,13 @@ pub(crate) fn shape_by(
 /// The shape of a schema that is an object.
 #[cycle(read)]
 fn object_shape(reader: &Reader<'_>, steps: usize, schema: &Value) -> Result<Shape, SchemaFault>
-    ensures { IfOk result (λ s. object_shape (shape_by reader.now.names.now steps) reader.now.names.now
-        (view schema.now) ≡ Some (shape_of s)) }
+    ensures { IfOk result (λ s. object_shape (shape_by reader.now.draft reader.now.names.now steps) reader.now.draft
+        reader.now.names.now (view schema.now) ≡ Some (shape_of s)) }
 {
-    check_keywords(reader.alloc, schema, steps == reader.top)?;
+    check_keywords(reader.alloc, reader.draft, schema, steps == reader.top)?;
+    check_const(reader, schema)?;
+    check_defined(reader, steps, schema, "$defs")?;
+    check_defined(reader, steps, schema, "definitions")?;
     check_unused(reader, steps, schema)?;
     match schema.get("$ref") {
         Some(reference) => match reference_shape(reader, reference) {
@@ -113,6 +118,37 @@ fn object_shape(reader: &Reader<'_>, steps: usize, schema: &Value) -> Result<Sha
             plain_shape(reader, steps, schema, kinds)
         }
     }
+}
+
+/// Refuses a `const` that the draft does not have.
+fn check_const(reader: &Reader<'_>, schema: &Value) -> Result<(), SchemaFault>
+    ensures { OnOk result (is_unread reader.now.draft (view schema.now) ≡ false) }
+{
+    if schema.get("const").is_some() && !reader.draft.has_const() {
+        let fault = refusal(reader.alloc, "\"const\" has no effect in draft-04");
+        return Err(under(reader.alloc, fault, "const"));
+    }
+    Ok(())
+}
+
+/// Reads the schemas that stand under this keyword by their names, so that nothing in them is read over.
+#[cycle(read)]
+fn check_defined(
+    reader: &Reader<'_>,
+    steps: usize,
+    schema: &Value,
+    keyword: &str,
+) -> Result<(), SchemaFault> {
+    let Some(Value::Object(members)) = schema.get(keyword) else {
+        return Ok(());
+    };
+    for (name, member) in members.iter() {
+        if let Err(fault) = shape_by(reader, steps, member) {
+            let fault = under(reader.alloc, fault, name.as_str());
+            return Err(under(reader.alloc, fault, keyword));
+        }
+    }
+    Ok(())
 }
 
 /// Reads the alternatives that give no shape, so that nothing in them is read over.
@@ -154,7 +190,7 @@ fn plain_shape(
     schema: &Value,
     kinds: Kinds,
 ) -> Result<Shape, SchemaFault>
-    ensures { IfOk result (λ s. plain_shape (shape_by reader.now.names.now steps) (view schema.now) kinds
+    ensures { IfOk result (λ s. plain_shape (shape_by reader.now.draft reader.now.names.now steps) (view schema.now) kinds
         ≡ Some (shape_of s)) }
 {
     match choices_in(schema) {
@@ -178,7 +214,7 @@ pub(crate) fn chosen_by(schema: &Value) -> &'static str {
 /// The shape of any of these.
 #[cycle(read)]
 fn choice_shape(reader: &Reader<'_>, steps: usize, choices: &Value) -> Result<Shape, SchemaFault>
-    ensures { IfOk result (λ s. choice_shape (shape_by reader.now.names.now steps) (view choices.now)
+    ensures { IfOk result (λ s. choice_shape (shape_by reader.now.draft reader.now.names.now steps) (view choices.now)
         ≡ Some (shape_of s)) }
 {
     match choices {
@@ -190,7 +226,7 @@ fn choice_shape(reader: &Reader<'_>, steps: usize, choices: &Value) -> Result<Sh
 /// The shape of any of the schemas.
 #[cycle(read)]
 fn some_shape(reader: &Reader<'_>, steps: usize, choices: &[Value]) -> Result<Shape, SchemaFault>
-    ensures { IfOk result (λ s. fold (choice_with (shape_by reader.now.names.now steps)) never
+    ensures { IfOk result (λ s. fold (choice_with (shape_by reader.now.draft reader.now.names.now steps)) never
         (items_view choices.now) ≡ Some (shape_of s)) }
 {
     let mut shape = Shape::Never;
@@ -213,7 +249,7 @@ fn content_shape(
     schema: &Value,
     kinds: Kinds,
 ) -> Result<Shape, SchemaFault>
-    ensures { IfOk result (λ s. content_shape (shape_by reader.now.names.now steps) (view schema.now) kinds
+    ensures { IfOk result (λ s. content_shape (shape_by reader.now.draft reader.now.names.now steps) (view schema.now) kinds
         ≡ Some (shape_of s)) }
 {
     if is_every_kind(kinds) && !has_content(schema) {
@@ -227,10 +263,14 @@ fn content_shape(
 /// The shape of items.
 #[cycle(read)]
 fn items_shape(reader: &Reader<'_>, steps: usize, schema: &Value) -> Result<Shape, SchemaFault>
-    ensures { IfOk result (λ s. shape_under (shape_by reader.now.names.now steps) (codes "items") (view schema.now)
+    ensures { IfOk result (λ s. shape_under (shape_by reader.now.draft reader.now.names.now steps) (codes "items") (view schema.now)
         ≡ Some (shape_of s)) }
 {
     match schema.get("items") {
+        Some(Value::Array(_)) => {
+            let fault = refusal(reader.alloc, "a list of schemas is not understood");
+            Err(under(reader.alloc, fault, "items"))
+        }
         Some(items) => match shape_by(reader, steps, items) {
             Ok(shape) => Ok(shape),
             Err(fault) => Err(under(reader.alloc, fault, "items")),
@@ -242,7 +282,7 @@ fn items_shape(reader: &Reader<'_>, steps: usize, schema: &Value) -> Result<Shap
 /// The shape of fields that are not named.
 #[cycle(read)]
 fn additional_shape(reader: &Reader<'_>, steps: usize, schema: &Value) -> Result<Shape, SchemaFault>
-    ensures { IfOk result (λ s. shape_under (shape_by reader.now.names.now steps) (codes "additionalProperties")
+    ensures { IfOk result (λ s. shape_under (shape_by reader.now.draft reader.now.names.now steps) (codes "additionalProperties")
         (view schema.now) ≡ Some (shape_of s)) }
 {
     match schema.get("additionalProperties") {
@@ -257,7 +297,7 @@ fn additional_shape(reader: &Reader<'_>, steps: usize, schema: &Value) -> Result
 /// The fields of a map.
 #[cycle(read)]
 fn fields_in(reader: &Reader<'_>, steps: usize, schema: &Value) -> Result<Fields, SchemaFault>
-    ensures { IfOk result (λ fs. fields_in (shape_by reader.now.names.now steps) (view schema.now)
+    ensures { IfOk result (λ fs. fields_in (shape_by reader.now.draft reader.now.names.now steps) (view schema.now)
         ≡ Some (fields_of fs)) }
 {
     let additional = additional_shape(reader, steps, schema)?;
@@ -274,7 +314,7 @@ fn properties_in(
     schema: &Value,
     fields: Fields,
 ) -> Result<Fields, SchemaFault>
-    ensures { IfOk result (λ fs. properties_in (shape_by reader.now.names.now steps) (view schema.now)
+    ensures { IfOk result (λ fs. properties_in (shape_by reader.now.draft reader.now.names.now steps) (view schema.now)
         (fields_of fields) ≡ Some (fields_of fs)) }
 {
     match schema.get("properties") {
@@ -302,7 +342,7 @@ fn property_fields(
     fields: Fields,
     members: &Map<String, Value>,
 ) -> Result<Fields, SchemaFault>
-    ensures { IfOk result (λ fs. fold_members (with_property (shape_by reader.now.names.now steps)
+    ensures { IfOk result (λ fs. fold_members (with_property (shape_by reader.now.draft reader.now.names.now steps)
         (option_map (λ v. view v.now) required.entry)) (fields_of fields) (members_view members.now.entries)
         ≡ Some (fields_of fs)) }
 {

@@ -1,17 +1,18 @@
 //! A schema of a document's bytes.
 #![tactic(auto, using(tmpl_shape::proofs::ViewLemmas::parts))]
 
-ghost use Rattle.std.specs.Prelude.{◌≡◌, ℕ, All, IfOk, is_some};
+ghost use Rattle.std.specs.Prelude.{◌≡◌, ℕ, All, IfOk, IsSome, OnOk, is_some};
 ghost use Rattle.serde_json.specs.Errors.{IsMemory};
 ghost use Rattle.serde_json.specs.View.{view};
 ghost use Rattle.tmpl_values.specs.Value.{Value as DataValue};
 ghost use Rattle.tmpl_shape.specs.Shape.{Fits};
 ghost use Rattle.tmpl_shape.specs.View.{defs_in, schema_of};
-ghost use Rattle.tmpl_json_schema.specs.Document.{ConformsTo, conforms_in};
+ghost use Rattle.tmpl_json_schema.specs.Document.{ConformsTo, IsDocument, conforms_in, draft_of};
 ghost use Rattle.tmpl_json_schema.specs.declared.fault.SchemaFault.TheVariants as fault;
 ghost use Rattle.tmpl_json_schema.specs.computed.Defined.{IsDefinition, are_defined};
 
-use crate::fault::{SchemaFault, refusal, refusal_of, under};
+use crate::draft::draft_of;
+use crate::fault::{SchemaFault, refusal, refusal_of};
 use crate::read::{Reader, shape_by};
 use crate::reference::{MOST_DEFINITIONS, fragment_of, is_listed, pointed};
 use serde_json::{Error, Value};
@@ -140,7 +141,8 @@ fn add_name(
 
 /// The reader of what a pointer points to: the empty one points to the top.
 fn reader_at<'s>(reader: &Reader<'s>, name: &[u8]) -> Reader<'s>
-    ensures { result.names.now ≡ reader.now.names.now }
+    ensures names { result.names.now ≡ reader.now.names.now }
+    ensures draft { result.draft ≡ reader.now.draft }
 {
     let top = if name.is_empty() {
         reader.levels.saturating_sub(1)
@@ -152,7 +154,7 @@ fn reader_at<'s>(reader: &Reader<'s>, name: &[u8]) -> Reader<'s>
 
 /// The definition of what a pointer points to.
 fn definition_of(reader: &Reader<'_>, root: &Value, name: &[u8]) -> Result<Definition, SchemaFault>
-    ensures { IfOk result (λ d. IsDefinition (view root.now) reader.now.names.now reader.now.levels d) }
+    ensures { IfOk result (λ d. IsDefinition reader.now.draft (view root.now) reader.now.names.now reader.now.levels d) }
 {
     let Some(value) = pointed(root, name) else {
         return Err(refusal(
@@ -167,7 +169,7 @@ fn definition_of(reader: &Reader<'_>, root: &Value, name: &[u8]) -> Result<Defin
 
 /// The definitions of what these pointers point to.
 fn definitions_of(reader: &Reader<'_>, root: &Value) -> Result<Vec<Definition>, SchemaFault>
-    ensures { IfOk result (λ ds. All (IsDefinition (view root.now) reader.now.names.now reader.now.levels) ds.items) }
+    ensures { IfOk result (λ ds. All (IsDefinition reader.now.draft (view root.now) reader.now.names.now reader.now.levels) ds.items) }
 {
     let mut definitions = Vec::new(reader.alloc);
     for name in reader.names {
@@ -346,20 +348,6 @@ fn check_definitions(alloc: Global, definitions: &[Definition]) -> Result<(), Sc
     Ok(())
 }
 
-/// Reads each schema under this keyword at the top, so that nothing in it is read over.
-fn check_members(reader: &Reader<'_>, root: &Value, keyword: &str) -> Result<(), SchemaFault> {
-    let Some(Value::Object(members)) = root.get(keyword) else {
-        return Ok(());
-    };
-    for (name, schema) in members.iter() {
-        if let Err(fault) = shape_by(reader, reader.levels, schema) {
-            let fault = under(reader.alloc, fault, name.as_str());
-            return Err(under(reader.alloc, fault, keyword));
-        }
-    }
-    Ok(())
-}
-
 /// The pointers of the references in a document.
 fn names_in(alloc: Global, root: &Value) -> Result<Vec<Bytes>, SchemaFault> {
     if count_values(root, 0) > MOST_VALUES {
@@ -375,18 +363,19 @@ fn names_in(alloc: Global, root: &Value) -> Result<Vec<Bytes>, SchemaFault> {
 
 /// The schema of a document, of which as many levels are read.
 fn schema_in(alloc: Global, levels: usize, root: &Value) -> Result<Schema, SchemaFault>
-    ensures { IfOk result (λ s. (n : ℕ) (v : DataValue) → conforms_in (view root.now) n (view root.now) v
+    ensures draft { OnOk result (IsSome (draft_of (view root.now))) }
+    ensures fits { IfOk result (λ s. (n : ℕ) (v : DataValue) → conforms_in (view root.now) n (view root.now) v
         → Fits (schema_of s) v) }
 {
+    let draft = draft_of(alloc, root)?;
     let names = names_in(alloc, root)?;
     let parts = Reader {
+        draft,
         names: names.as_slice(),
         levels,
         top: levels,
         alloc,
     };
-    check_members(&parts, root, "$defs")?;
-    check_members(&parts, root, "definitions")?;
     let shape = shape_by(&reader_at(&parts, b""), levels, root)?;
     let definitions = definitions_of(&parts, root)?;
     if !are_defined(definitions.as_slice(), names.as_slice()) {
@@ -396,14 +385,15 @@ fn schema_in(alloc: Global, levels: usize, root: &Value) -> Result<Schema, Schem
     Ok(Schema { definitions, shape })
 }
 
-/// The schema that a file of JSON Schema (draft 2020-12) is: each value that conforms to the file fits it.
+/// The schema that a file of JSON Schema is, by the draft that it names or else 2020-12: each value that conforms to the file fits it.
 ///
 /// # Errors
 ///
 /// `NotJson` where the bytes are not JSON, `Refused` where a keyword in it is not one that is understood, or what stands
 /// under it is not what it wants, and `OutOfMemory` where memory is refused.
 pub fn read_schema(alloc: Global, bytes: &[u8]) -> Result<Schema, SchemaFault>
-    ensures { IfOk result (λ s. (v : DataValue) → ConformsTo bytes.now v → Fits (schema_of s) v) }
+    ensures document { OnOk result (IsDocument bytes.now) }
+    ensures fits { IfOk result (λ s. (v : DataValue) → ConformsTo bytes.now v → Fits (schema_of s) v) }
 {
     let root = Value::from_slice(alloc, bytes)?;
     schema_in(alloc, LEVELS, &root)

@@ -15,7 +15,7 @@ use Rattle.std.proofs.lemmas.Str.{is_utf8-from_IsUtf8, IsUtf8-from_is_utf8}
 use Rattle.std.specs.Str.{is_utf8}
 use Rattle.std.specs.Bool.{if◌then◌else◌}
 use Rattle.serde_json.specs.Read.{read}
-use Rattle.tmpl_samples.specs.Inferred.{Conforms}
+use Rattle.tmpl_json_schema.specs.Inferred.{Conforms}
 use Rattle.tmpl_json_schema.specs.Document.{ConformsTo, document_of, conforms_in}
 use Rattle.tmpl_report.specs.Finding.{Finding, has_error}
 use Rattle.tmpl_report.specs.declared.source.Source.{Source}

@@ -19,4 +19,5 @@ rules =
     ∷ (codes "never-called", codes "A template is called, or is the one that is asked for.")
     ∷ (codes "key-given-twice", codes "An object of data has a key once.")
     ∷ (codes "schema-not-understood", codes "A schema has keywords that are known, each with a value that it takes.")
+    ∷ (codes "schema-without-values", codes "To each part of a schema some value conforms.")
     ∷ (codes "may-fail", codes "A template renders without a fault whatever data of the schema it is given.") ∷ []

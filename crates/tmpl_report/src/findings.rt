@@ -16,10 +16,10 @@ ghost use Rattle.tmpl_report.specs.computed.Entries.{is_same, warning_of};
 
 use crate::entry::{Entry, Level};
 use crate::rule::{
-    KEY_GIVEN_TWICE, MAY_FAIL, NEVER_CALLED, NO_SUCH_TEMPLATE, Rule, SUSPICIOUS, data_rule_of,
-    rule_of,
+    KEY_GIVEN_TWICE, MAY_FAIL, NEVER_CALLED, NO_SUCH_TEMPLATE, Rule, SCHEMA_WITHOUT_VALUES,
+    SUSPICIOUS, data_rule_of, rule_of,
 };
-use crate::schema::{add_schema, say_name};
+use crate::schema::{add_schema, part_text, say_name};
 use crate::source::{Question, Source, Sources};
 use crate::{json, sarif, text};
 use indexmap::IndexSet;
@@ -27,9 +27,11 @@ use std::alloc::{AllocError, Global};
 use std::marker::Model;
 use tmpl_data_problems::{DataProblem, DataReason, DataReport, check_data};
 use tmpl_hints::Sentence;
+use tmpl_json_schema::Refused;
 use tmpl_problems::{
     Named, Problem, Problems, Survey, check_file, problem_text, reason_text, survey_file,
 };
+use tmpl_reasons::position_of;
 use tmpl_syntax::{NameHash, Set, base_name};
 
 /// How what is found is told.
@@ -225,6 +227,20 @@ impl<'a> Findings<'a> {
             }
         }
         Ok(())
+    }
+
+    /// Adds a warning of a part of a schema.
+    pub(crate) fn warn_of_part(
+        &mut self,
+        alloc: Global,
+        schema: &Source<'a>,
+        part: &Refused,
+    ) -> Result<(), AllocError>
+        ensures { OnOk result (errors_in self.new ≡ errors_in self.old) }
+    {
+        let place = position_of(schema.bytes.as_slice(), part.path.as_slice());
+        let text = part_text(alloc, part)?;
+        self.warn(schema.name, place, SCHEMA_WITHOUT_VALUES, text)
     }
 
     /// Adds that no file defines the template that is asked for, if that is so.

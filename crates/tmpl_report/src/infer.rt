@@ -11,7 +11,7 @@ use crate::findings::Findings;
 use crate::source::Source;
 use serde_json::Value;
 use std::alloc::{AllocError, Global};
-use tmpl_samples::infer_schema;
+use tmpl_json_schema::infer_schema;
 
 /// What comes of files of data.
 #[derive(Drop)]

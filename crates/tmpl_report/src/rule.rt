@@ -88,13 +88,18 @@ pub(crate) const SCHEMA_NOT_UNDERSTOOD: Rule = Rule {
     text: "A schema has keywords that are known, each with a value that it takes.",
 };
 
+pub(crate) const SCHEMA_WITHOUT_VALUES: Rule = Rule {
+    id: "schema-without-values",
+    text: "To each part of a schema some value conforms.",
+};
+
 pub(crate) const MAY_FAIL: Rule = Rule {
     id: "may-fail",
     text: "A template renders without a fault whatever data of the schema it is given.",
 };
 
 /// All rules, in the order in which they are told.
-pub(crate) fn all_rules() -> [Rule; 16]
+pub(crate) fn all_rules() -> [Rule; 17]
     ensures { map (λ rule. (rule.id.now, rule.text.now)) result ≡ rules }
 {
     [
@@ -113,6 +118,7 @@ pub(crate) fn all_rules() -> [Rule; 16]
         NEVER_CALLED,
         KEY_GIVEN_TWICE,
         SCHEMA_NOT_UNDERSTOOD,
+        SCHEMA_WITHOUT_VALUES,
         MAY_FAIL,
     ]
 }

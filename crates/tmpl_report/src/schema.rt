@@ -12,7 +12,7 @@ use std::alloc::{AllocError, Global};
 use std::str::from_utf8;
 use tmpl_funcs::Func;
 use tmpl_hints::Sentence;
-use tmpl_json_schema::{CheckFault, Refused, SchemaFault, check_document};
+use tmpl_json_schema::{CheckFault, Refused, SchemaFault, check_document, part_without_values};
 use tmpl_meaning::MissingKey;
 use tmpl_reasons::{Reason, Why, position_of, reasons_of};
 use tmpl_samples::{Failure, failures_of};
@@ -63,7 +63,12 @@ pub(crate) fn add_schema<'a>(
         render.mode,
         stops.as_slice(),
     ) {
-        Ok(()) => Ok(true),
+        Ok(()) => {
+            if let Some(part) = part_without_values(alloc, document)? {
+                findings.warn_of_part(alloc, schema, &part)?;
+            }
+            Ok(true)
+        }
         Err(fault) => {
             render.add_fault(alloc, findings, stops.as_slice(), fault)?;
             Ok(false)
@@ -199,16 +204,27 @@ fn schema_entry<'a>(
     })
 }
 
-/// What is said of it: the way to it as a JSON Pointer, if it is not the whole document, and what is wrong there.
+/// What is said of a schema that is not read.
 fn refused_text(alloc: Global, refused: &Refused) -> Result<String, AllocError> {
-    let mut said = Sentence::new(alloc).say("schema not understood: ");
+    let said = Sentence::new(alloc).say("schema not understood: ");
+    say_refused(said, refused).finish()
+}
+
+/// What is said of a part of a schema: the way to it, and what is wrong there.
+pub(crate) fn part_text(alloc: Global, part: &Refused) -> Result<String, AllocError> {
+    say_refused(Sentence::new(alloc), part).finish()
+}
+
+/// Says the way to a part of a schema as a JSON Pointer, if it is not the whole document, and what is wrong there.
+fn say_refused(said: Sentence, refused: &Refused) -> Sentence {
+    let mut said = said;
     for part in refused.path.as_slice().iter().rev() {
         said = say_part(said.say("/"), part.as_str());
     }
     if !refused.path.is_empty() {
         said = said.say(": ");
     }
-    said.say(refused.text.as_str()).finish()
+    said.say(refused.text.as_str())
 }
 
 /// Says a part of a JSON Pointer.

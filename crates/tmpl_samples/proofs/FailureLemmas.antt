@@ -54,4 +54,4 @@ pub failure-refutes : FailureRefutes
 failure-refutes bytes mode asked doubt failure document covers right never =
     let t = never.0 in
     let there = fault-there (λ tree. (ran asked.rules asked.set asked.name tree (Some right.0)).fault) (tree_named asked.name asked.set) t right.1 right.4 never.1 in
-    right.6 (subst (λ o. IfSome o (λ f. MayEnd asked.stops f.cause)) there (never.2 asked.rules right.0 covers (asked.schema, document, right.3)))
+    right.6 (subst (λ o. IfSome o (λ f. MayEnd asked.stops f.cause)) there (never.3 asked.rules right.0 covers (asked.schema, document, right.3)))

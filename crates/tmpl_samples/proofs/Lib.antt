@@ -1,4 +1,1 @@
-pub mod ConformLemmas
 pub mod FailureLemmas
-pub mod MeetLemmas
-pub mod StepLemmas

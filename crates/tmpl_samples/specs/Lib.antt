@@ -1,4 +1,3 @@
 pub mod Failing
-pub mod Inferred
 pub mod Laws
 pub mod computed

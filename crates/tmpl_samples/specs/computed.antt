@@ -1,3 +1,1 @@
 pub mod Asked
-pub mod Conformed
-pub mod Inferred

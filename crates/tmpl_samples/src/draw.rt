@@ -1,8 +1,8 @@
 //! Values of a schema: one for each way to choose, where there are several.
 
-use crate::conform::{conforms, is_property, referred, text_of_format};
 use serde_json::{Map, Value};
 use std::alloc::{AllocError, Global};
+use tmpl_json_schema::{conforms, is_excluded, is_property, referred, text_of_format};
 
 /// How many levels of a schema are followed, one into the other.
 pub(crate) const LEVELS: usize = 120;
@@ -338,6 +338,11 @@ impl<'d> Draw<'d> {
 
 /// A number by what stands under a keyword.
 fn bound_in(schema: &Value, keyword: &str, step: i64) -> Option<i64> {
+    let step = match keyword {
+        "minimum" if is_excluded(schema, "exclusiveMinimum") => 1,
+        "maximum" if is_excluded(schema, "exclusiveMaximum") => -1,
+        _ => step,
+    };
     schema.get(keyword)?.as_i64()?.checked_add(step)
 }
 

@@ -11,10 +11,9 @@ ghost use Rattle.tmpl_engine.specs.View.{templates_in};
 ghost use Rattle.tmpl_engine.specs.declared.error.RenderError.{RenderError};
 ghost use Rattle.tmpl_schema.specs.Safe.{MayEnd};
 ghost use Rattle.tmpl_samples.specs.Failing.{AreRight, IsDoubted, IsRight, Speaks, fault_over, is_no_entry, rules_by};
-ghost use Rattle.tmpl_samples.specs.Inferred.{IsOfSchema};
+ghost use Rattle.tmpl_json_schema.specs.Inferred.{IsOfSchema};
 ghost use Rattle.tmpl_samples.specs.computed.Asked.{asked_in};
 
-use crate::conform::conforms;
 use crate::draw::LEVELS;
 use serde_json::Value;
 use std::alloc::{AllocError, Global};
@@ -23,6 +22,7 @@ use tmpl_engine::{
     Data, DataFault, MissingKey, Options, RenderError, Renderer, RunFault, RunFaultKind, Sink,
     SinkFault, WriterSink,
 };
+use tmpl_json_schema::conforms;
 use tmpl_schema::{Cause, Doubt};
 use tmpl_tool::tell_end;
 use tmpl_values::Bytes;

@@ -1,15 +1,12 @@
 //! Values of a JSON Schema for which a template fails, and a schema of samples.
 #![tactic(auto)]
 
-mod conform;
 mod draw;
 mod failing;
-mod infer;
 mod laws;
 mod search;
 mod smaller;
 
 pub use failing::Failure;
-pub use infer::infer_schema;
 pub use laws::failure_refutes;
 pub use search::failures_of;

@@ -8,7 +8,8 @@ use Rattle.serde_json.specs.Data.{Data, Items, no_items, Members, no_members, me
 use Rattle.serde_json.specs.Find.{as_number, as_u64, get}
 use Rattle.tmpl_shape.specs.Shape.{Shape, never, nothings, nulls, truths, numbers, texts, anything, list_of, record_of}
 use Rattle.tmpl_shape.specs.Shape.{either, named, Fields, no_field, others, field}
-use Rattle.tmpl_json_schema.specs.Document.{fragment_of}
+use Rattle.tmpl_json_schema.specs.Document.{fragment_of, has_const}
+use Rattle.tmpl_json_schema.specs.declared.draft.Draft.{Draft}
 use Rattle.tmpl_json_schema.specs.declared.kinds.Kinds.{Kinds}
 
 -- what comes of items one after the other, unless one gives nothing
@@ -214,6 +215,10 @@ reference_shape names d = None
 abbrev pub required_in : Data → Fields → Option Fields
 required_in d rest = option_map_or (required_fields (get (codes "properties") d) rest) (get (codes "required") d) (Some rest)
 
+-- a `const` that the draft does not have
+abbrev pub is_unread : Draft → Data → Bool
+is_unread draft d = is_some (get (codes "const") d) && not (has_const draft)
+
 module _ (read : Data → Option Shape) where
   abbrev pub choice_with : Shape → Data → Option Shape
   choice_with s d = option_map (λ t. or_shape t s) (read d)
@@ -248,15 +253,17 @@ module _ (read : Data → Option Shape) where
   abbrev pub plain_shape : Data → Kinds → Option Shape
   plain_shape d ks = option_map_or (λ c. option_map (keep_kinds ks) (choice_shape c)) (choices_in d) (content_shape d ks)
 
-  abbrev pub object_shape : List (List ℕ) → Data → Option Shape
-  object_shape names d = option_map_or (reference_shape names) (get (codes "$ref") d) (option_and_then (plain_shape d) (kinds_in d))
+  abbrev pub object_shape : Draft → List (List ℕ) → Data → Option Shape
+  object_shape draft names d =
+      if is_unread draft d then None
+      else option_map_or (reference_shape names) (get (codes "$ref") d) (option_and_then (plain_shape d) (kinds_in d))
 
 -- the shape of a schema; what stands inside it is read as many levels deep
-abbrev pub shape_read : List (List ℕ) → (Data → Option Shape) → Data → Option Shape
-shape_read names read (json.boolean b) = Some (if b then anything else never)
-shape_read names read (json.object ms) = object_shape read names (json.object ms)
-shape_read names read d = None
+abbrev pub shape_read : Draft → List (List ℕ) → (Data → Option Shape) → Data → Option Shape
+shape_read draft names read (json.boolean b) = Some (if b then anything else never)
+shape_read draft names read (json.object ms) = object_shape read draft names (json.object ms)
+shape_read draft names read d = None
 
-abbrev pub shape_by : List (List ℕ) → ℕ → Data → Option Shape
-shape_by names zero d = None
-shape_by names (suc n) d = shape_read names (shape_by names n) d
+abbrev pub shape_by : Draft → List (List ℕ) → ℕ → Data → Option Shape
+shape_by draft names zero d = None
+shape_by draft names (suc n) d = shape_read draft names (shape_by draft names n) d

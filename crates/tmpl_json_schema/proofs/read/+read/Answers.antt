@@ -11,5 +11,5 @@ pub shape_by-returns-in-Object : goal.shape_by-returns-in-Object
 shape_by-returns-in-Object t c =
     let ms = members_view c.in-Object.field-0.entries in
     let is : view c.args.schema.now ≡ json.object ms = ap view c.in-Object.is ∙ view-Object c.in-Object.field-0 in
-    let next = object-next c.args.reader.now.names.now c.args.steps (view c.args.schema.now) ms is c.if-steps-eq0.false in
+    let next = object-next c.args.reader.now.draft c.args.reader.now.names.now c.args.steps (view c.args.schema.now) ms is c.if-steps-eq0.false in
     subst (λ (o : Option Shape). IfOk c.object_shape.result (λ s. o ≡ Some (shape_of s))) (sym next) c.object_shape.ensures

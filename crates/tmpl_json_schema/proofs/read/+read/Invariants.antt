@@ -8,12 +8,12 @@ use Rattle.tmpl_json_schema.proofs.read.+read.Given as goal
 
 abbrev pub invariant-some_shape-loop-choice : goal.invariant-some_shape-loop-choice
 invariant-some_shape-loop-choice l =
-    fold (choice_with (shape_by l.fn.reader.names.now l.fn.steps)) never (items_view l.choices)
-    ≡ fold (choice_with (shape_by l.fn.reader.names.now l.fn.steps)) (shape_of l.shape) (items_view (drop l.choice-index l.choices))
+    fold (choice_with (shape_by l.fn.reader.draft l.fn.reader.names.now l.fn.steps)) never (items_view l.choices)
+    ≡ fold (choice_with (shape_by l.fn.reader.draft l.fn.reader.names.now l.fn.steps)) (shape_of l.shape) (items_view (drop l.choice-index l.choices))
 
 abbrev pub invariant-property_fields-loop-name : goal.invariant-property_fields-loop-name
 invariant-property_fields-loop-name l =
-    let w = with_property (shape_by l.fn.reader.names.now l.fn.steps) (option_map (λ v. view v.now) l.fn.required) in
+    let w = with_property (shape_by l.fn.reader.draft l.fn.reader.names.now l.fn.steps) (option_map (λ v. view v.now) l.fn.required) in
     fold_members w (fields_of l.fn.fields) (members_view l.fn.members.entries) ≡ fold_members w (fields_of l.fields) (members_view l.name-iterator)
 
 abbrev pub decreases-shape_by : goal.decreases-shape_by
@@ -24,6 +24,9 @@ decreases-some_shape l = 20 * l.steps + 2
 
 abbrev pub decreases-choice_shape : goal.decreases-choice_shape
 decreases-choice_shape l = 20 * l.steps + 4
+
+abbrev pub decreases-check_defined : goal.decreases-check_defined
+decreases-check_defined l = 20 * l.steps + 2
 
 abbrev pub decreases-check_choices : goal.decreases-check_choices
 decreases-check_choices l = 20 * l.steps + 5

@@ -6,7 +6,7 @@ use Rattle.tmpl_json_schema.proofs.schema.definitions_of.Goals as goal
 
 pub loop-name-preserved : goal.loop-name-preserved
 loop-name-preserved c =
-    let P = IsDefinition (view c.args.root.now) c.args.reader.now.names.now c.args.reader.now.levels in
+    let P = IsDefinition c.args.reader.now.draft (view c.args.root.now) c.args.reader.now.names.now c.args.reader.now.levels in
     let old = c.loop-name.definitions.items in
     let new = c.in_ok-definition_of.field-0 in
     All-same P c.push.new.self.items (old ++ new ∷ []) c.in_ok-push.ensures.items (All-push P old new c.loop-name.invariant c.in_ok-definition_of.ensures)

@@ -1,18 +1,21 @@
 use Rattle.std.proofs.Common.{rules, ◌≡◌, All, Some, true}
 use Rattle.serde_json.specs.View.{view}
 use Rattle.tmpl_shape.specs.View.{defs_in, shape_of}
+use Rattle.tmpl_json_schema.specs.Document.{draft_of}
 use Rattle.tmpl_json_schema.specs.computed.Reading.{shape_by}
 use Rattle.tmpl_json_schema.specs.computed.Defined.{IsDefinition, are_defined}
 use Rattle.tmpl_json_schema.proofs.DocumentLemmas.{document-fits}
 use Rattle.tmpl_json_schema.proofs.schema.schema_in.Goals as goal
 
-pub returns : goal.returns
-returns c =
+pub returns-clause-fits : goal.returns-clause-fits
+returns-clause-fits c =
     let root = view c.args.root.now in
     let names = c.as_slice.result.now in
     let ds = c.in_ok-definitions.definitions.items in
     let shape = shape_of c.in_ok-shape.shape in
-    let all : All (IsDefinition root names c.args.levels) ds = c.in_ok-definitions.ensures in
+    let draft = c.in_ok-draft.draft in
+    let is-of : draft_of root ≡ Some draft = c.in_ok-draft.ensures in
+    let all : All (IsDefinition draft root names c.args.levels) ds = c.in_ok-definitions.ensures in
     let defined : are_defined (defs_in ds) names ≡ true = search rules in
-    let is : shape_by names c.args.levels root ≡ Some shape = search rules in
-    document-fits root names c.args.levels ds shape all defined is
+    let is : shape_by draft names c.args.levels root ≡ Some shape = search rules in
+    document-fits draft root is-of names c.args.levels ds shape all defined is

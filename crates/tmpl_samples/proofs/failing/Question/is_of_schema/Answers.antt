@@ -2,7 +2,7 @@ use Rattle.std.proofs.Common.{◌≡◌, Ok, subst, sym}
 use Rattle.serde_json.specs.View.{view}
 use Rattle.tmpl_values.specs.Json.{data_of, tree_value}
 use Rattle.tmpl_json_schema.specs.Document.{conforms_in}
-use Rattle.tmpl_samples.proofs.ConformLemmas.{if-some}
+use Rattle.tmpl_json_schema.proofs.ConformLemmas.{if-some}
 use Rattle.tmpl_samples.proofs.FailureLemmas.{document-is, value-read}
 use Rattle.tmpl_samples.proofs.failing.Question.is_of_schema.Goals as goal
 

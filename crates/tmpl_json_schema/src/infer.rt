@@ -1,0 +1,279 @@
+//! A schema of samples.
+ghost use Rattle.std.specs.Prelude.{◌≡◌, ◌≤◌, ◌++◌, true, suc, IfOk, IfSome, OnOk, map, flat_map, filter_map};
+ghost use Rattle.std.specs.List.{AllByRecursion};
+ghost use Rattle.serde_json.specs.Data.{string, object, depth};
+ghost use Rattle.serde_json.specs.Find.{as_object, get_member};
+ghost use Rattle.serde_json.specs.Read.{max_depth};
+ghost use Rattle.serde_json.specs.View.{view, items_view, members_view};
+ghost use Rattle.tmpl_values.specs.Json.{tree_value};
+ghost use Rattle.tmpl_json_schema.specs.Document.{IsInstance, IsOfType, SomeItem, type_of as type_name};
+ghost use Rattle.tmpl_json_schema.specs.Inferred.{Conforms};
+ghost use Rattle.tmpl_json_schema.specs.computed.Inferred.{seen, maps_seen, items_of_list, EachValue, IsOnlyOrList};
+ghost use Rattle.tmpl_json_schema.specs.computed.Inferred.{Fits, room, AddsItems, AreTold, AddsProperties};
+
+use crate::conform::count_keys;
+use serde_json::{Map, Value, put};
+use std::alloc::{AllocError, Global};
+
+/// How many levels of samples are told: below them each value fits.
+const LEVELS: usize = 40;
+
+/// The draft of JSON Schema.
+const DRAFT: &str = "https://json-schema.org/draft/2020-12/schema";
+
+/// What is told of the keys of maps.
+#[derive(Drop)]
+struct Keys {
+    /// For each of them a schema of the values there.
+    properties: Map<String, Value>,
+    /// Those that each map has.
+    required: Vec<Value>,
+}
+
+/// The type of a value.
+fn type_of(value: &Value) -> &'static str
+    ensures { IfSome (tree_value (view value.now)) (λ v. result.now ≡ type_name v) }
+{
+    match value {
+        Value::Null => "null",
+        Value::Bool(_) => "boolean",
+        Value::Number(number) => { if number.is_f64() { "number" } else { "integer" } }
+        Value::String(_) => "string",
+        Value::Array(_) => "array",
+        Value::Object(_) => "object",
+    }
+}
+
+/// Whether one of these values is this text.
+fn has_text(values: &[Value], text: &str) -> bool
+    ensures { result ≡ true → SomeItem (λ d. d ≡ string text.now) (items_view values.now) }
+{
+    for value in values {
+        if let Some(other) = value.as_str()
+            && other == text
+        {
+            return true;
+        }
+    }
+    false
+}
+
+/// The types of samples: one, or a list of them, each once.
+fn types_of(alloc: Global, samples: &[&Value]) -> Result<Value, AllocError>
+    ensures conform { IfOk result
+        (λ types. EachValue (λ v. IsOfType v (view types)) (seen samples.now)) }
+    ensures nests { IfOk result (λ types. depth (view types) ≤ 1) }
+{
+    let mut types: Vec<Value> = Vec::new(alloc);
+    for sample in samples {
+        let name = type_of(*sample);
+        if !has_text(types.as_slice(), name) {
+            types.push(Value::try_from_str(alloc, name)?)?;
+        }
+    }
+    Ok(one_or_list(types))
+}
+
+/// The only one of these, or a list of them.
+fn one_or_list(mut values: Vec<Value>) -> Value
+    ensures { IsOnlyOrList (items_view values.items) (view result) }
+{
+    if values.len() != 1 {
+        return Value::Array(values);
+    }
+    match values.pop() {
+        Some(only) => only,
+        None => Value::Array(values),
+    }
+}
+
+/// The maps among samples.
+fn maps_in<'s>(
+    alloc: Global,
+    samples: &[&'s Value],
+) -> Result<Vec<&'s Map<String, Value>>, AllocError>
+    ensures maps { IfOk result (λ maps. maps_seen maps.items ≡ filter_map as_object (seen samples.now)) }
+    ensures instances { OnOk result (EachValue IsInstance (seen samples.now)) }
+{
+    let mut maps = Vec::new(alloc);
+    for sample in samples {
+        count_keys(*sample);
+        if let Some(members) = sample.as_object() {
+            maps.push(members)?;
+        }
+    }
+    Ok(maps)
+}
+
+/// The items of the lists among samples.
+fn items_in<'s>(alloc: Global, samples: &[&'s Value]) -> Result<Vec<&'s Value>, AllocError>
+    ensures { IfOk result (λ items. seen items.items ≡ flat_map items_of_list (seen samples.now)) }
+{
+    let mut all = Vec::new(alloc);
+    for sample in samples {
+        if let Some(items) = sample.as_array() {
+            add_items_of(items.as_slice(), &mut all)?;
+        }
+    }
+    Ok(all)
+}
+
+/// Adds these items.
+fn add_items_of<'s>(items: &'s [Value], all: &mut Vec<&'s Value>) -> Result<(), AllocError>
+    ensures { OnOk result (seen all.new.items ≡ seen all.old.items ++ map view items.now) }
+{
+    for item in items {
+        all.push(item)?;
+    }
+    Ok(())
+}
+
+/// What maps have under this key.
+fn values_of<'s>(
+    alloc: Global,
+    maps: &[&'s Map<String, Value>],
+    key: &str,
+) -> Result<Vec<&'s Value>, AllocError>
+    ensures { IfOk result
+        (λ values. seen values.items ≡ filter_map (get_member key.now) (maps_seen maps.now)) }
+{
+    let mut values = Vec::new(alloc);
+    for map in maps {
+        if let Some(value) = map.get(key) {
+            values.push(value)?;
+        }
+    }
+    Ok(values)
+}
+
+/// The schema of samples.
+#[cycle(infer)]
+fn schema_of(
+    alloc: Global,
+    levels: usize,
+    samples: &[&Value],
+) -> Result<Map<String, Value>, AllocError>
+    ensures conform { IfOk result
+        (λ schema. EachValue (Fits (suc levels) (object (members_view schema.entries))) (seen samples.now)) }
+    ensures nests { IfOk result (λ schema. depth (object (members_view schema.entries)) ≤ room levels) }
+{
+    let mut schema: Map<String, Value> = Map::new(alloc);
+    let maps = maps_in(alloc, samples)?;
+    if levels == 0 || samples.is_empty() {
+        return Ok(schema);
+    }
+    let fewer = levels - 1;
+    put(&mut schema, alloc, "type", types_of(alloc, samples)?)?;
+    add_items(alloc, fewer, samples, &mut schema)?;
+    add_properties(alloc, fewer, maps.as_slice(), &mut schema)?;
+    Ok(schema)
+}
+
+/// Adds what is said of the items of lists, if there are some.
+#[cycle(infer)]
+fn add_items(
+    alloc: Global,
+    levels: usize,
+    samples: &[&Value],
+    schema: &mut Map<String, Value>,
+) -> Result<(), AllocError>
+    ensures { OnOk result (AddsItems levels (seen samples.now)
+        (members_view schema.old.entries) (members_view schema.new.entries)) }
+{
+    let items = items_in(alloc, samples)?;
+    if items.is_empty() {
+        return Ok(());
+    }
+    let told = schema_of(alloc, levels, items.as_slice())?;
+    put(schema, alloc, "items", Value::Object(told))
+}
+
+/// Adds what is said of the keys of maps, if there are some.
+#[cycle(infer)]
+fn add_properties(
+    alloc: Global,
+    levels: usize,
+    maps: &[&Map<String, Value>],
+    schema: &mut Map<String, Value>,
+) -> Result<(), AllocError>
+    ensures { OnOk result (AddsProperties levels (maps_seen maps.now)
+        (members_view schema.old.entries) (members_view schema.new.entries)) }
+{
+    let mut keys = Keys {
+        properties: Map::new(alloc),
+        required: Vec::new(alloc),
+    };
+    for map in maps {
+        add_keys(alloc, levels, maps, *map, &mut keys)?;
+    }
+    let Keys {
+        properties,
+        required,
+    } = keys;
+    if properties.is_empty() {
+        return Ok(());
+    }
+    put(schema, alloc, "properties", Value::Object(properties))?;
+    put(schema, alloc, "required", Value::Array(required))
+}
+
+/// Adds what is told of the keys of one of the maps.
+#[cycle(infer)]
+fn add_keys(
+    alloc: Global,
+    levels: usize,
+    maps: &[&Map<String, Value>],
+    map: &Map<String, Value>,
+    keys: &mut Keys,
+) -> Result<(), AllocError>
+    requires { AreTold levels (maps_seen maps.now) (members_view keys.old.properties.entries)
+        (items_view keys.old.required.items) }
+    ensures { OnOk result (AreTold levels (maps_seen maps.now) (members_view keys.new.properties.entries)
+        (items_view keys.new.required.items)) }
+{
+    for name in map.keys() {
+        if keys.properties.get(name.as_str()).is_none() {
+            add_key(alloc, levels, maps, name.as_str(), &mut *keys)?;
+        }
+    }
+    Ok(())
+}
+
+/// Adds what is told of a key of maps.
+#[cycle(infer)]
+fn add_key(
+    alloc: Global,
+    levels: usize,
+    maps: &[&Map<String, Value>],
+    name: &str,
+    keys: &mut Keys,
+) -> Result<(), AllocError>
+    requires { AreTold levels (maps_seen maps.now) (members_view keys.old.properties.entries)
+        (items_view keys.old.required.items) }
+    ensures { OnOk result (AreTold levels (maps_seen maps.now) (members_view keys.new.properties.entries)
+        (items_view keys.new.required.items)) }
+{
+    let values = values_of(alloc, maps, name)?;
+    if values.len() == maps.len() {
+        keys.required.push(Value::try_from_str(alloc, name)?)?;
+    }
+    let property = schema_of(alloc, levels, values.as_slice())?;
+    put(&mut keys.properties, alloc, name, Value::Object(property))
+}
+
+/// A JSON Schema to which each of the samples conforms: their types, the properties of maps, of which those are
+/// required that each has, and the items of lists.
+pub fn infer_schema(alloc: Global, samples: &[&Value]) -> Result<Value, AllocError>
+    ensures conform { IfOk result
+        (λ schema. AllByRecursion (λ sample. Conforms (view schema) (view sample.now)) samples.now) }
+    ensures nests { IfOk result (λ schema. depth (view schema) ≤ max_depth) }
+{
+    let mut schema = schema_of(alloc, LEVELS, samples)?;
+    put(
+        &mut schema,
+        alloc,
+        "$schema",
+        Value::try_from_str(alloc, DRAFT)?,
+    )?;
+    Ok(Value::Object(schema))
+}
