@@ -9,7 +9,7 @@ use std::alloc::Global;
 
 /// A draft of JSON Schema.
 #[derive(Clone, Copy)]
-pub(crate) enum Draft {
+pub enum Draft {
     Draft04,
     Draft06,
     Draft07,

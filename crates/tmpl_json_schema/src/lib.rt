@@ -17,6 +17,7 @@ mod shapes;
 
 pub use check::{CheckFault, check_document};
 pub use conform::{conforms, is_excluded, is_property, referred, text_of_format};
+pub use draft::Draft;
 pub use empty::part_without_values;
 pub use fault::{Refused, SchemaFault};
 pub use infer::infer_schema;
