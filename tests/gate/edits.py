@@ -344,7 +344,7 @@ def read_edits_in(crate, name):
 def read_changed(crates):
     """Has the front end read the edits of those crates that changed since: how many it takes and how many not."""
     changed = [it for it in crates if edits_in(f"{harness.TOP}/crates/{it}/edits") and not is_told(SEEN, it, READ_OF)]
-    with ThreadPoolExecutor(int(os.environ.get("RT_JOBS") or 1)) as pool:
+    with ThreadPoolExecutor(int(os.environ.get("RT_JOBS") or harness.processes())) as pool:
         came = [(name, pool.submit(read_edits, name)) for name in changed]
         for name, it in came:
             if not it.result()[1]:
@@ -354,7 +354,7 @@ def read_changed(crates):
 
 def attempt_all(room, every, crates):
     """Tries the edits of these crates, RT_JOBS crates side by side."""
-    jobs = int(os.environ.get("RT_JOBS") or 1)
+    jobs = int(os.environ.get("RT_JOBS") or harness.processes())
     if jobs > 1:
         # so that no two of them build one library at the same time
         for name in every:

@@ -10,9 +10,9 @@ and nowhere else.
     tests/run --list         the names, each with the first words of what it does
     tests/run --all --record writes what each part took to tests/gate/times.json, from which the times still to come are told
 
-Tests run side by side; those that call make run one after the other. `rt ci` gets RT_JOBS, where it is not set: as many checks side by side
-as there are processors, and memory for each. It then gives each check one job: several took a quarter more of the processors' time where
-that was measured, in one crate. The libraries that `rt ci` proved are marked for `rt lib`."""
+Tests run side by side; those that call make run one after the other. The libraries that `rt ci` proved are marked for `rt lib`. Without RT_JOBS
+`rt ci` gives a check the processors that no other waits for, so that the longest chain of crates ends sooner; with RT_JOBS=N it has N checks of
+one job each, which takes a quarter less of the processors' time."""
 import argparse
 import datetime
 import json
@@ -28,7 +28,6 @@ from concurrent.futures import ThreadPoolExecutor
 from tests.gate import processors, proved
 from tests.lib import harness, programs
 
-MEMORY = 5 << 30  # bytes that have to be free for each check; those seen took up to 3 GiB
 PROOFS = "proofs"
 BY_RATTLE = f"env TMPL={harness.TOP}/crates/tmpl/out/tmpl.by-rattle"  # the program as the toolchain's other compiler builds it
 # each test by its name: the command, or a module of a folder beside this one with its words
@@ -173,13 +172,6 @@ class Lanes:
         return {name: it.result() for name, it in futures.items()}
 
 
-def checks():
-    """How many checks may run side by side."""
-    with open("/proc/meminfo", encoding="ascii") as it:
-        free = int(re.search(r"MemAvailable: +(\d+) kB", it.read())[1]) << 10
-    return max(1, min(harness.processes(), free // MEMORY))
-
-
 def chosen(names):
     """The tests of these names, of which one may be that of a folder."""
     folders = {it.partition(".")[0] for it in TESTS.values() if MODULE.match(it)}
@@ -257,7 +249,6 @@ def prepare(given):
         print(*(f"-k is ignored by {it}: it has no rows" for it in ignoring), sep="\n", end="\n" * bool(ignoring))
     if given.j:
         os.environ["PROCESSES"] = os.environ["RT_JOBS"] = str(given.j)
-    os.environ.setdefault("RT_JOBS", str(checks()))
 
 
 def main():

@@ -5,7 +5,7 @@ named here are tried on a copy of the repository, over the libraries that `rt ci
 functions that they change are checked, with those that these call. A function that calls one which is refused is not judged, so the bodies that
 are left are put in once more without the others, over what that check proved, until no check refuses any. `make edits` tries all of edits/.
 
-    tried.py [CRATE..]     tries those of all crates, or of these; RT_JOBS=N takes N crates side by side, else one"""
+    tried.py [CRATE..]     tries those of all crates, or of these; RT_JOBS=N takes N crates side by side, else as many as there are processors"""
 import os
 import re
 import sys
@@ -90,7 +90,7 @@ def complaint(name):
 
 def main(words):
     crates = words or wanted()
-    with ThreadPoolExecutor(int(os.environ.get("RT_JOBS") or 1)) as pool:
+    with ThreadPoolExecutor(int(os.environ.get("RT_JOBS") or harness.processes())) as pool:
         told = dict(zip(crates, pool.map(complaint, crates)))
     failed = {name: why for name, why in told.items() if why}
     print(*[f"WRONG BODIES of {name}: {why}" for name, why in failed.items()], sep="\n", end="\n" if failed else "")
