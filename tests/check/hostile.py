@@ -1,7 +1,9 @@
 """What strangers choose must get its line and status, and cost little: files that do not end or are far too long, lines of
 many programs on one error stream, what nests as deep as it may on a small stack of the machine, what may call itself as deep as it may,
-and names that a known hash does not tell apart; the keys of the hash are drawn from the system; and standard input that has no name which the system opens, as a
-socket. TMPL=PATH names another build."""
+and names that a known hash does not tell apart; the keys of the hash are drawn from the system; standard input that has no name which the
+system opens, as a socket; and what has many parts of a kind is checked against a schema on a small stack. TMPL=PATH and TMPL_CHECK=PATH name
+other builds."""
+import json
 import os
 import resource
 import socket
@@ -21,7 +23,9 @@ STACK = 512 << 10  # bytes
 ALIKE = (20000, 40000, 80000)  # definitions
 TWICE = 2  # times as long as with other names they may take
 NOISE = 0.1  # seconds
-LEAST = 50  # cases
+LEAST = 72  # cases
+COMPLEX = "error: may fail: it is too complex for this check"
+PARTS = (5000, 100000)
 FEW = 64 << 20  # bytes of memory that a refused file may take
 SOME = 300 << 20
 DEEPEST = "100000"  # levels of calls
@@ -235,12 +239,42 @@ def inputs(folder):
     yield "no standard input", (3, b"", b"tmpl: /dev/stdin: read failed\n"), (done.returncode, done.stdout, done.stderr)
 
 
+def many(count):
+    """Templates of so many parts of a kind, each with what is told where they are more than a check goes down to."""
+    yield "operands of and", "{{and" + " 1" * count + "}}", COMPLEX
+    yield "operands of or", "{{or" + " $.a" * count + "}}", COMPLEX
+    yield "guards of and", "{{if and" + " .a" * count + "}}x{{end}}", COMPLEX
+    yield "operands of print", "{{print" + " 1" * count + "}}", COMPLEX
+    yield "operands of eq", "{{eq" + " 1" * count + "}}", COMPLEX
+    yield "keys of index", "{{index ." + ' "a"' * count + "}}", COMPLEX
+    yield "commands", "{{1" + "|print" * count + "}}", COMPLEX
+    yield "fields", "{{if ." + ".".join(["a"] * count) + "}}x{{end}}", COMPLEX
+    yield "variables", "{{$x:=1}}" * count, COMPLEX
+    yield "assignments", "{{$x:=1}}" + "{{$x =1}}" * count, ""
+    chain = "".join('{{define "t%d"}}{{template "t%d" .}}{{end}}' % (number, number + 1) for number in range(count // 5))
+    yield "templates", f'{chain}{{{{define "t{count // 5}"}}}}x{{{{end}}}}{{{{template "t0" .}}}}', ""
+
+
+def parts(folder):
+    """A check against a schema goes down a small stack no further than it has room: the rest is refused as too complex."""
+    with open(f"{folder}/s", "w", encoding="ascii") as file:
+        json.dump({"type": "object", "properties": {"a": {"type": "string"}}, "required": ["a"], "additionalProperties": False}, file)
+    for count in PARTS:
+        for name, template, said in many(count):
+            with open(f"{folder}/m", "w", encoding="ascii") as file:
+                file.write(template)
+            words = [harness.CHECKER, "--schema", "s", "m"]
+            done = subprocess.run(words, cwd=folder, stdin=subprocess.DEVNULL, capture_output=True, preexec_fn=limited(STACK=STACK), timeout=harness.SECONDS)
+            told = "".join(line.partition(" ")[2] for line in done.stdout.decode().splitlines() if ": error: " in line)
+            yield f"{count} {name}, checked", (1 if said else 0, said, b""), (done.returncode, told, done.stderr)
+
+
 def main():
     if not harness.is_built():
         return 1
     passed, failed = 0, []
     with tempfile.TemporaryDirectory(dir=harness.MEMORY) as folder:
-        for test in (endless, shared, stacked, deep, colliding, drawn, inputs):
+        for test in (endless, shared, stacked, deep, colliding, drawn, inputs, parts):
             for name, wanted, got in test(folder):
                 if wanted == got:
                     passed += 1

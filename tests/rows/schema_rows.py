@@ -585,3 +585,29 @@ HOSTILE = [
     ("5,000 lines over 150 fields", of({name: ITEMS for name in MANY[:150]}),
      "".join("{{range .name%d}}{{len .}}{{end}}{{if .name%d}}{{len .name%d}}{{end}}\n" % (line % 150, line % 149, line % 149) for line in range(5_000)), [], None),
 ]
+
+# schemas and templates of few bytes that lead to much work in a walk that is repeated, or that are more than a check goes down to: each is checked
+# within SOON of a processor, and what takes more work than there is for it is refused as too complex
+SOON = 5
+COMPLEX = "it is too complex for this check"
+FORMS = {count: {"anyOf": [of({name: TEXT}, []) for name in MANY[:count]]} for count in (65, 80, 600)}
+INSIDE = "".join("{{$x%d := 1}}{{range $.l}}" % number for number in range(20)) + "".join("{{$x%d = $.l}}{{end}}" % number for number in reversed(range(20)))
+ALIASES = "".join("{{$x%d := $.%s}}" % (number, name) for number, name in enumerate(MANY[:1_600]))
+BOUNDED = [
+    ("a list of 65 forms", {"type": "array", "items": FORMS[65]}, "{{range .}}{{if .name1}}x{{end}}{{end}}", DEFAULT, None),
+    ("a list of 600 forms", {"type": "array", "items": FORMS[600]}, "{{range .}}{{if .}}x{{end}}{{end}}", [], None),
+    ("80 forms beside what is asked for", of({"u": FORMS[80], "l": ITEMS}), "{{range .l}}{{if $.l}}{{.}}{{end}}{{end}}" * 20, [], None),
+    ("600 forms beside what is asked for", of({"u": FORMS[600], "l": ITEMS}), "{{range .l}}{{if $.l}}{{.}}{{end}}{{end}}" * 20, [], None),
+    ("20 ranges inside one another, each with a variable", of({"l": ITEMS}), INSIDE, [], COMPLEX),
+    ("1,600 aliases and 1,600 guards", of({name: ITEMS for name in MANY[:1_600]}),
+     ALIASES + "".join("{{if $x%d}}x{{end}}" % number for number in range(1_600)), [], COMPLEX),
+    ("10,000 variables", of({"l": ITEMS}), "".join("{{$x%d := $.l}}" % number for number in range(10_000)), [], COMPLEX),
+    ("10,000 calls in a range", of({"l": ITEMS}), "{{range .l}}" + "".join('{{template "t%d" .}}' % number for number in range(10_000)) + "{{end}}"
+     + "".join('{{define "t%d"}}{{.}}{{end}}' % number for number in range(10_000)), [], None),
+    ("10,000 templates that call one another in ranges", of({"l": ITEMS}),
+     "".join('{{define "t%d"}}{{range $.l}}{{template "t%d" $}}{{end}}{{end}}' % (number, number + 1) for number in range(10_000))
+     + '{{define "t10000"}}{{len .l}}{{end}}{{template "t0" .}}', [], None),
+    ("10,000 assignments in a range", of({"l": ITEMS}), "".join("{{$x%d := 1}}" % number for number in range(100)) + "{{range .l}}"
+     + "".join("{{$x%d = $x%d}}" % (number % 100, (number + 1) % 100) for number in range(10_000)) + "{{end}}", [], None),
+    ("5,000 operands of or", of({"a": TEXT}), "{{or" + " $.a" * 5_000 + "}}", [], COMPLEX),
+]

@@ -299,6 +299,7 @@ fn cause_text(
         }
         Cause::Variables => said.say("what the variables hold after it is not followed"),
         Cause::Command => said.say("what it gives is not followed by this check"),
+        Cause::TooComplex => said.say("it is too complex for this check"),
     };
     said.finish()
 }
@@ -413,7 +414,7 @@ fn is_named(text: &[u8], cause: &Cause) -> bool {
             text.starts_with(func.name().as_bytes())
         }
         Cause::Range(_) => text.starts_with(b"range"),
-        Cause::Variables | Cause::Command => false,
+        Cause::Variables | Cause::Command | Cause::TooComplex => false,
     }
 }
 

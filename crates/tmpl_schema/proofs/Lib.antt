@@ -8,6 +8,7 @@ pub mod LengthLemmas
 pub mod FactLemmas
 pub mod PipelineLemmas
 pub mod NodeLemmas
+pub mod RoomLemmas
 pub mod ControlLemmas
 pub mod ModeLemmas
 pub mod AcceptLemmas

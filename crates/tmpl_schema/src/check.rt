@@ -13,12 +13,13 @@ ghost use Rattle.tmpl_schema.specs.computed.View.{callee_of, entries_of, table_o
 
 use crate::failure::{Doubt, Failure};
 use crate::node::{Checker, after_nodes};
+use crate::room::first_crowded;
 use crate::state::at_start;
-use crate::survey::{MOST_ROUNDS, Question, Search, unknown_doubt};
+use crate::survey::{MOST_EFFORT, MOST_ROUNDS, Question, Search};
 use crate::table::{Callee, Entry};
 use std::alloc::{AllocError, Global};
 use tmpl_meaning::MissingKey;
-use tmpl_shape::{Base, Cause, Schema, Shape, null_gone};
+use tmpl_shape::{Base, Cause, Effort, Schema, Shape, null_gone};
 use tmpl_syntax::{Set, Tree};
 use tmpl_values::Bytes;
 
@@ -45,7 +46,10 @@ fn check_tree(checker: &Checker<'_>, shape: &Shape, tree: &Tree) -> Result<(), F
     ensures { OnOk result (is_safe (base_of checker.now.base) checker.now.mode (table_of checker.now.table.now)
         (shape_of shape.now) (tree_of tree.now).nodes ≡ true) }
 {
-    let start = at_start(checker.base.alloc, shape)?;
+    if let Some(line) = first_crowded(tree.nodes.as_slice()) {
+        return Err(Failure::may_fail(checker.base.alloc, Cause::TooComplex, line));
+    }
+    let start = at_start(&checker.base, shape)?;
     after_nodes(checker, None, start, tree.nodes.as_slice())?;
     Ok(())
 }
@@ -76,15 +80,15 @@ fn check_callee(
                 Ok(()) => Ok(()),
                 Err(failure) => Err(failure),
             },
-            None => Err(Failure::MayFail(Cause::Command, 0)),
+            None => Err(Failure::may_fail(checker.base.alloc, Cause::Command, 0)),
         },
         Callee::Absent => match set.get(entry.name.as_slice()) {
-            Some(_) => Err(Failure::MayFail(Cause::Command, 0)),
+            Some(_) => Err(Failure::may_fail(checker.base.alloc, Cause::Command, 0)),
             None => {
                 if is_stop(stops, entry.name.as_slice()) {
                     return Ok(());
                 }
-                Err(Failure::MayFail(Cause::Command, 0))
+                Err(Failure::may_fail(checker.base.alloc, Cause::Command, 0))
             }
         },
     }
@@ -100,13 +104,10 @@ fn check_callees(
     ensures { OnOk result (EachCallee (base_of checker.now.base) checker.now.mode stops.now (set_view set.now)
         (table_of checker.now.table.now) (entries_of entries.now)) }
 {
-    match entries {
-        [] => Ok(()),
-        [first, rest @ ..] => {
-            check_callee(checker, set, stops, first)?;
-            check_callees(checker, set, stops, rest)
-        }
+    for entry in entries {
+        check_callee(checker, set, stops, entry)?;
     }
+    Ok(())
 }
 
 /// The mode in which a template is checked: the one that is asked for, or where each is, `Error`. There a field that
@@ -135,15 +136,7 @@ fn check_all(base: &Base<'_>, question: &Question<'_>, table: &[Entry]) -> Resul
             }
             Err(failure) => Err(failure),
         },
-        None => Err(Failure::MayFail(Cause::Command, 0)),
-    }
-}
-
-/// That it is not seen why a template may fail.
-fn refusal_unseen(alloc: Global, name: &[u8]) -> Refusal {
-    match unknown_doubt(alloc, name) {
-        Ok(doubts) => Refusal::MayFail(doubts),
-        Err(_) => Refusal::OutOfMemory,
+        None => Err(Failure::may_fail(checker.base.alloc, Cause::Command, 0)),
     }
 }
 
@@ -158,6 +151,7 @@ fn check_shape(base: &Base<'_>, question: &Question<'_>) -> Result<(), Refusal>
         if !search.spread(base, question)? {
             break;
         }
+        base.effort.renew(MOST_EFFORT);
         match check_all(base, question, search.table.as_slice()) {
             Ok(()) => return Ok(()),
             Err(Failure::OutOfMemory) => return Err(Refusal::OutOfMemory),
@@ -167,7 +161,7 @@ fn check_shape(base: &Base<'_>, question: &Question<'_>) -> Result<(), Refusal>
             return Err(Refusal::MayFail(doubts));
         }
     }
-    Err(refusal_unseen(base.alloc, question.name))
+    Err(search.refusal(base.alloc, question.name))
 }
 
 /// Whether a template of the set never fails over the values of a schema: in this mode for missing keys, or, where none
@@ -189,10 +183,12 @@ pub fn check_schema(
 ) -> Result<(), Refusal>
     ensures { OnOk result (NeverFails (schema_of schema.now) mode stops.now (set_view set.now) name.now) }
 {
+    let effort = Effort::new(MOST_EFFORT);
     let base = Base {
         definitions: schema.definitions.as_slice(),
         names: 6,
-        limit: 400,
+        limit: 150,
+        effort: &effort,
         alloc,
     };
     match null_gone(&base, &schema.shape) {

@@ -1,11 +1,12 @@
 //! Why a check does not accept.
-ghost use Rattle.std.specs.Prelude.{◌≡◌};
+ghost use Rattle.std.specs.Prelude.{◌≡◌, Box};
+ghost use Rattle.std.specs.Global.{Global};
 ghost use Rattle.tmpl_schema.specs.declared.failure.Failure.TheVariants as failure;
 ghost use Rattle.tmpl_shape.specs.declared.cause.Cause.{Cause};
 ghost use Rattle.tmpl_shape.specs.declared.cause.Trouble.TheVariants as trouble;
 
 use crate::table::Call;
-use std::alloc::{AllocError, AllocFailed};
+use std::alloc::{AllocError, AllocFailed, Global};
 use tmpl_shape::{Cause, Trouble};
 use tmpl_values::Bytes;
 
@@ -25,9 +26,19 @@ pub(crate) enum Failure {
     /// Want of memory.
     OutOfMemory,
     /// A fault may come, in the action of this line; 0 where it is that which is looked at.
-    MayFail(Cause, u64),
+    MayFail(Box<Cause>, u64),
     /// A template is called with more than the table has for it.
-    Wanted(Call),
+    Wanted(Box<Call>),
+}
+
+impl Failure {
+    /// That a fault may come, for this cause.
+    pub(crate) fn may_fail(alloc: Global, cause: Cause, line: u64) -> Failure {
+        match Box::new(alloc, cause) {
+            Ok(cause) => Failure::MayFail(cause, line),
+            Err(_) => Failure::OutOfMemory,
+        }
+    }
 }
 
 impl From<AllocError> for Failure {
@@ -48,7 +59,7 @@ impl<T: Drop> From<AllocFailed<T>> for Failure {
 
 impl From<Trouble> for Failure {
     ghost from_gives = { λ t e. (t ≡ trouble.OutOfMemory → e ≡ failure.OutOfMemory)
-        × ((cause : Cause) → t ≡ trouble.MayFail cause → e ≡ failure.MayFail cause 0) };
+        × ((cause : Box Cause Global) → t ≡ trouble.MayFail cause → e ≡ failure.MayFail cause 0) };
 
     fn from(trouble: Trouble) -> Failure {
         match trouble {

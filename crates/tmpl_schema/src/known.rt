@@ -15,16 +15,36 @@ use crate::origin::{copy_origin, join_origins, origin_within, rest_of};
 use std::alloc::{AllocError, Global};
 use std::rc::Rc;
 use tmpl_grammar::Binding;
-use tmpl_shape::{Base, Cause, Shape, Trouble, copy_name, copy_shape, either, refine, within};
+use tmpl_shape::{Base, Cause, Shape, Trouble, copy_counted, copy_name, either, refine, within};
 use tmpl_values::Bytes;
+
+/// How much work it is to make a variable anew.
+const VARIABLE: u64 = 4;
 
 /// The variables in scope, the newest first. A copy shares them, since each part of a template begins with all that is known
 /// before it, and mostly adds nothing.
 #[cycle(known)]
-#[derive(Drop)]
 pub(crate) enum Known {
     Empty,
     More(Rc<Variable>),
+}
+
+impl Drop for Known {
+    /// One by one, however many there are.
+    fn drop(mut self) {
+        loop {
+            match self {
+                Known::Empty => return,
+                Known::More(newest) => match Rc::into_inner(newest) {
+                    Some(variable) => {
+                        let Variable { older, .. } = variable;
+                        self = older;
+                    }
+                    None => return,
+                },
+            }
+        }
+    }
 }
 
 /// A variable, and the older ones.
@@ -106,7 +126,7 @@ pub(crate) fn variable_origin<'k>(name: &[u8], known: &'k Known) -> Option<&'k [
 
 /// Where the newest variable of a name is assigned a value of this shape and origin.
 fn assign(
-    alloc: Global,
+    base: &Base<'_>,
     name: &[u8],
     shape: Rc<Shape>,
     origin: Option<Vec<Bytes>>,
@@ -115,17 +135,18 @@ fn assign(
     ensures { IfOk result (λ ks. known_of ks
         ≡ assigned_shape name.now (shape_of shape.value) (origin_of origin) (known_of known.now)) }
 {
+    base.effort.spend(VARIABLE);
     match known {
         Known::Empty => Ok(Known::Empty),
         Known::More(newest) => {
             if newest.name.as_slice() == name {
                 let older = copy_known(&newest.older)?;
-                put_variable(alloc, name, shape, origin, older)
+                put_variable(base.alloc, name, shape, origin, older)
             } else {
                 let kept = Rc::clone(&newest.shape)?;
-                let kept_origin = copy_origin(alloc, &newest.origin)?;
-                let older = assign(alloc, name, shape, origin, &newest.older)?;
-                put_variable(alloc, newest.name.as_slice(), kept, kept_origin, older)
+                let kept_origin = copy_origin(base.alloc, &newest.origin)?;
+                let older = assign(base, name, shape, origin, &newest.older)?;
+                put_variable(base.alloc, newest.name.as_slice(), kept, kept_origin, older)
             }
         }
     }
@@ -133,7 +154,7 @@ fn assign(
 
 /// Where variables take an element of this shape and origin, and its index or key.
 pub(crate) fn bind(
-    alloc: Global,
+    base: &Base<'_>,
     binding: &Binding,
     key: &Shape,
     element: &Shape,
@@ -146,22 +167,28 @@ pub(crate) fn bind(
     match binding {
         Binding::Unbound => copy_known(known),
         Binding::Declare(name) => {
-            let shape = Rc::new(alloc, copy_shape(alloc, element)?)?;
-            let origin = copy_origin(alloc, origin)?;
-            put_variable(alloc, name.as_slice(), shape, origin, copy_known(known)?)
+            let shape = Rc::new(base.alloc, copy_counted(base, element)?)?;
+            let origin = copy_origin(base.alloc, origin)?;
+            put_variable(
+                base.alloc,
+                name.as_slice(),
+                shape,
+                origin,
+                copy_known(known)?,
+            )
         }
         Binding::Assign(name) => {
-            let shape = Rc::new(alloc, copy_shape(alloc, element)?)?;
-            let origin = copy_origin(alloc, origin)?;
-            assign(alloc, name.as_slice(), shape, origin, known)
+            let shape = Rc::new(base.alloc, copy_counted(base, element)?)?;
+            let origin = copy_origin(base.alloc, origin)?;
+            assign(base, name.as_slice(), shape, origin, known)
         }
         Binding::DeclarePair(pair) => {
-            let shape = Rc::new(alloc, copy_shape(alloc, key)?)?;
+            let shape = Rc::new(base.alloc, copy_counted(base, key)?)?;
             let older = copy_known(known)?;
-            let older = put_variable(alloc, pair.key.as_slice(), shape, None, older)?;
-            let shape = Rc::new(alloc, copy_shape(alloc, element)?)?;
-            let origin = copy_origin(alloc, origin)?;
-            put_variable(alloc, pair.element.as_slice(), shape, origin, older)
+            let older = put_variable(base.alloc, pair.key.as_slice(), shape, None, older)?;
+            let shape = Rc::new(base.alloc, copy_counted(base, element)?)?;
+            let origin = copy_origin(base.alloc, origin)?;
+            put_variable(base.alloc, pair.element.as_slice(), shape, origin, older)
         }
     }
 }
@@ -215,6 +242,7 @@ pub(crate) fn refine_variable(
     ensures { IfOk result (λ ks. known_of ks
         ≡ refine_variable (base_of base.now) least name.now names.now (known_of known.now)) }
 {
+    base.effort.spend(VARIABLE);
     match known {
         Known::Empty => Ok(Known::Empty),
         Known::More(newest) => {
@@ -261,6 +289,7 @@ pub(crate) fn refine_all(
     ensures { IfOk result (λ ks. known_of ks
         ≡ refine_all (base_of base.now) least names.now (known_of known.now)) }
 {
+    base.effort.spend(VARIABLE);
     match known {
         Known::Empty => Ok(Known::Empty),
         Known::More(newest) => {
@@ -300,8 +329,8 @@ fn join_shared(base: &Base<'_>, one: &Rc<Shape>, other: &Rc<Shape>) -> Result<Rc
     if within(base, other, one) {
         return Ok(Rc::clone(one)?);
     }
-    let one = copy_shape(base.alloc, one)?;
-    let both = either(base.alloc, one, copy_shape(base.alloc, other)?)?;
+    let one = copy_counted(base, one)?;
+    let both = either(base.alloc, one, copy_counted(base, other)?)?;
     Ok(Rc::new(base.alloc, both)?)
 }
 
@@ -310,11 +339,12 @@ pub(crate) fn join_all(base: &Base<'_>, known: &Known, others: &Known) -> Result
     ensures { IfOk result (λ ks. join_all (base_of base.now) (known_of known.now) (known_of others.now)
         ≡ Some (known_of ks)) }
 {
+    base.effort.spend(VARIABLE);
     match (known, others) {
         (Known::Empty, Known::Empty) => Ok(Known::Empty),
         (Known::More(newest), Known::More(other)) => {
             if newest.name.as_slice() != other.name.as_slice() {
-                return Err(Trouble::MayFail(Cause::Variables));
+                return Err(Trouble::may_fail(base.alloc, Cause::Variables));
             }
             let shape = join_shared(base, &newest.shape, &other.shape)?;
             let origin = join_origins(base.alloc, &newest.origin, &other.origin)?;
@@ -323,7 +353,7 @@ pub(crate) fn join_all(base: &Base<'_>, known: &Known, others: &Known) -> Result
             Ok(put_variable(base.alloc, name, shape, origin, older)?)
         }
         (Known::Empty, Known::More(_)) | (Known::More(_), Known::Empty) => {
-            Err(Trouble::MayFail(Cause::Variables))
+            Err(Trouble::may_fail(base.alloc, Cause::Variables))
         }
     }
 }
@@ -353,10 +383,10 @@ pub(crate) fn leave_with(
     match head {
         Some(head) => {
             if !all_within(base, oldest(known, head), head) {
-                return Err(Trouble::MayFail(Cause::Variables));
+                return Err(Trouble::may_fail(base.alloc, Cause::Variables));
             }
             Ok(())
         }
-        None => Err(Trouble::MayFail(Cause::Variables)),
+        None => Err(Trouble::may_fail(base.alloc, Cause::Variables)),
     }
 }

@@ -9,6 +9,7 @@ mod laws;
 mod node;
 mod origin;
 mod pipeline;
+mod room;
 mod state;
 mod survey;
 mod table;

@@ -24,9 +24,12 @@ use std::alloc::{AllocError, Global};
 use std::rc::Rc;
 use tmpl_grammar::{Control, Header, Pipeline};
 use tmpl_meaning::MissingKey;
-use tmpl_shape::{Base, Cause, Shape, Visit, copy_name, copy_shape, fill, visit_of, within};
+use tmpl_shape::{Base, Cause, Shape, Visit, copy_counted, copy_name, fill, visit_of, within};
 use tmpl_syntax::{ControlNode, Node, NodeKind};
 use tmpl_values::Bytes;
+
+/// How much work a node is at the least.
+const NODE: u64 = 4;
 
 /// What nodes are checked by: the definitions of names, the mode for missing keys, and the templates that are called.
 #[derive(Clone, Copy)]
@@ -34,6 +37,13 @@ pub(crate) struct Checker<'s> {
     pub(crate) base: Base<'s>,
     pub(crate) mode: MissingKey,
     pub(crate) table: &'s [Entry],
+}
+
+impl Checker<'_> {
+    /// Whether no work is left.
+    pub(crate) fn is_spent(&self) -> bool {
+        self.base.effort.is_spent()
+    }
 }
 
 /// Where the body of an `if` or a `with` begins.
@@ -51,7 +61,7 @@ pub(crate) fn in_body(
     let from = pipeline_origin(base.alloc, header.pipeline.commands.as_slice(), state)?;
     let before = narrow(base, true, header.pipeline.commands.as_slice(), state)?;
     let known = bind(
-        base.alloc,
+        base,
         &header.binding,
         &Shape::Nothings,
         &full,
@@ -83,7 +93,7 @@ pub(crate) fn in_other(
     let from = pipeline_origin(base.alloc, header.pipeline.commands.as_slice(), state)?;
     let before = narrow(base, false, header.pipeline.commands.as_slice(), state)?;
     let known = bind(
-        base.alloc,
+        base,
         &header.binding,
         &Shape::Nothings,
         shape,
@@ -96,7 +106,7 @@ pub(crate) fn in_other(
 
 /// Where a turn of a range begins.
 pub(crate) fn in_turn(
-    alloc: Global,
+    base: &Base<'_>,
     header: &Header,
     visit: &Visit,
     known: &Known,
@@ -104,9 +114,9 @@ pub(crate) fn in_turn(
     ensures { IfOk result (λ k. state_of k
         ≡ in_turn (header_of header.now) (visit_seen visit.now) (known_of known.now)) }
 {
-    let dot = Rc::new(alloc, copy_shape(alloc, &visit.element)?)?;
+    let dot = Rc::new(base.alloc, copy_counted(base, &visit.element)?)?;
     let known = bind(
-        alloc,
+        base,
         &header.binding,
         &visit.key,
         &visit.element,
@@ -137,7 +147,7 @@ fn after_action(checker: &Checker<'_>, state: &State, header: &Header) -> Result
         state,
     )?;
     Ok(bind(
-        checker.base.alloc,
+        &checker.base,
         &header.binding,
         &Shape::Nothings,
         &shape,
@@ -169,7 +179,10 @@ fn handed_shape(
 /// That a template is called with values of this shape.
 fn want_call(alloc: Global, name: &Bytes, shape: Shape) -> Failure {
     match copy_name(alloc, name.as_slice()) {
-        Ok(name) => Failure::Wanted(Call { name, shape }),
+        Ok(name) => match Box::new(alloc, Call { name, shape }) {
+            Ok(call) => Failure::Wanted(call),
+            Err(_) => Failure::OutOfMemory,
+        },
         Err(_) => Failure::OutOfMemory,
     }
 }
@@ -258,7 +271,7 @@ fn turn(
         (table_of checker.now.table.now) (header_of header.now) (visit_seen visit.now) (nodes_in body.now)
         (known_of known.now) ≡ Some (known_of ks)) }
 {
-    let inside = in_turn(checker.base.alloc, header, visit, known)?;
+    let inside = in_turn(&checker.base, header, visit, known)?;
     let end = after_nodes(checker, Some(known), inside, body)?;
     Ok(copy_known(oldest(&end, known))?)
 }
@@ -279,7 +292,7 @@ fn settle(
         (visit_seen visit.now) (nodes_in body.now)) (known_of known) ≡ Some (known_of ks)) }
 {
     if rounds == 0 {
-        return Err(Failure::MayFail(Cause::Variables, 0));
+        return Err(Failure::may_fail(checker.base.alloc, Cause::Variables, 0));
     }
     let end = turn(checker, &known, header, visit, body)?;
     if all_within(&checker.base, &end, &known) {
@@ -359,7 +372,7 @@ fn after_control(
         ≡ Some (known_of ks)) }
 {
     if !holds_loop(head, &state.known) {
-        return Err(Failure::MayFail(Cause::Variables, 0));
+        return Err(Failure::may_fail(checker.base.alloc, Cause::Variables, 0));
     }
     let shape = pipeline_shape(
         &checker.base,
@@ -391,6 +404,10 @@ pub(crate) fn after_node(
         (table_of checker.now.table.now) (known_seen head.entry) (state_of state.now) (node_of node.now).what
         ≡ Some (known_of ks)) }
 {
+    checker.base.effort.spend(NODE);
+    if checker.base.effort.is_spent() {
+        return Err(Failure::may_fail(checker.base.alloc, Cause::TooComplex, 0));
+    }
     match &node.what {
         NodeKind::Text(_) => Ok(copy_known(&state.known)?),
         NodeKind::Action(header) => after_action(checker, state, header),

@@ -20,7 +20,7 @@ use tmpl_funcs::Func;
 use tmpl_grammar::{Command, Operand};
 use tmpl_meaning::MissingKey;
 use tmpl_shape::{
-    Base, Cause, Key, Kind, Kinds, Shape, Trouble, call_shape, chain_shape, copy_shape, fill,
+    Base, Cause, Key, Kind, Kinds, Shape, Trouble, call_shape, chain_shape, copy_counted, fill,
     has_kind, index_shape, join, kinds_of, null_gone, part_shape, printf_shape, within,
 };
 
@@ -35,18 +35,21 @@ fn operand_shape(
     ensures { IfOk result (λ s. operand_shape (base_of base.now) mode (state_of state.now) (operand_of operand.now)
         ≡ Some (shape_of s)) }
 {
+    if base.effort.is_spent() {
+        return Err(Trouble::may_fail(base.alloc, Cause::TooComplex));
+    }
     match operand {
-        Operand::Dot => Ok(copy_shape(base.alloc, &state.dot)?),
+        Operand::Dot => Ok(copy_counted(base, &state.dot)?),
         Operand::Fields(names) => chain_shape(base, mode, names.as_slice(), &state.dot),
         Operand::Variable { name, fields } => match variable_shape(name.as_slice(), &state.known) {
             Some(shape) => chain_shape(base, mode, fields.as_slice(), shape),
-            None => Err(Trouble::MayFail(Cause::Command)),
+            None => Err(Trouble::may_fail(base.alloc, Cause::Command)),
         },
         Operand::Bool(_) => Ok(Shape::Truths),
         Operand::Number(_) => Ok(Shape::Numbers),
         Operand::Text(_) => Ok(Shape::Texts),
         Operand::Nil => Ok(Shape::Nothings),
-        Operand::Function(func) => bare_shape(*func),
+        Operand::Function(func) => bare_shape(base, *func),
         Operand::Group { commands, fields } => {
             let shape = commands_shape(base, mode, state, commands.as_slice(), None)?;
             chain_shape(base, mode, fields.as_slice(), &shape)
@@ -55,22 +58,22 @@ fn operand_shape(
 }
 
 /// The shape of a function as an argument: a call without arguments.
-fn bare_shape(func: Func) -> Result<Shape, Trouble>
+fn bare_shape(base: &Base<'_>, func: Func) -> Result<Shape, Trouble>
     ensures { IfOk result (λ s. (if takes func 0 then kinds_shape func [] else None) ≡ Some (shape_of s)) }
 {
     if !func.takes(0) {
-        return Err(Trouble::MayFail(Cause::Command));
+        return Err(Trouble::may_fail(base.alloc, Cause::Command));
     }
-    shape_of_call(func, &[])
+    shape_of_call(base, func, &[])
 }
 
 /// The shape of a call with arguments of these kinds.
-fn shape_of_call(func: Func, kinds: &[Kinds]) -> Result<Shape, Trouble>
+fn shape_of_call(base: &Base<'_>, func: Func, kinds: &[Kinds]) -> Result<Shape, Trouble>
     ensures { IfOk result (λ s. kinds_shape func kinds.now ≡ Some (shape_of s)) }
 {
     match call_shape(func, kinds) {
         Some(shape) => Ok(shape),
-        None => Err(Trouble::MayFail(Cause::Arguments(func))),
+        None => Err(Trouble::may_fail(base.alloc, Cause::Arguments(func))),
     }
 }
 
@@ -137,7 +140,7 @@ fn called_shape(
         (operands_in operands.now) (shape_seen piped.entry) ≡ Some (shape_of s)) }
 {
     let kinds = argument_kinds(base, mode, state, operands, piped)?;
-    shape_of_call(func, kinds.as_slice())
+    shape_of_call(base, func, kinds.as_slice())
 }
 
 /// The shape of an `or`, or else of an `and`, whose operands before these do not decide.
@@ -156,8 +159,8 @@ fn junction_shape(
 {
     match operands {
         [] => match piped {
-            Some(shape) => Ok(copy_shape(base.alloc, shape)?),
-            None => Ok(copy_shape(base.alloc, last)?),
+            Some(shape) => Ok(copy_counted(base, shape)?),
+            None => Ok(copy_counted(base, last)?),
         },
         [first, rest @ ..] => {
             let shape = operand_shape(base, mode, state, first)?;
@@ -191,7 +194,7 @@ fn entry_by(base: &Base<'_>, key: &Shape, shape: &Shape) -> Result<Shape, Troubl
     if within(base, key, &Shape::Texts) {
         index_shape(base, Key::Text, shape)
     } else {
-        Err(Trouble::MayFail(Cause::Arguments(Func::Index)))
+        Err(Trouble::may_fail(base.alloc, Cause::Arguments(Func::Index)))
     }
 }
 
@@ -211,7 +214,7 @@ fn entry_along(
     match keys {
         [] => match piped {
             Some(key) => entry_by(base, key, shape),
-            None => Ok(copy_shape(base.alloc, shape)?),
+            None => Ok(copy_counted(base, shape)?),
         },
         [first, rest @ ..] => {
             let key = operand_shape(base, mode, state, first)?;
@@ -237,11 +240,11 @@ fn indexed_shape(
         (operands_in operands.now) (shape_seen piped.entry) ≡ Some (shape_of s)) }
 {
     match operands {
-        [] => Err(Trouble::MayFail(Cause::NotFollowed(Func::Index))),
+        [] => Err(Trouble::may_fail(base.alloc, Cause::NotFollowed(Func::Index))),
         [first, rest @ ..] => {
             let shape = operand_shape(base, mode, state, first)?;
             if has_kind(base, Kind::Blank, &shape) {
-                return Err(Trouble::MayFail(Cause::Arguments(Func::Index)));
+                return Err(Trouble::may_fail(base.alloc, Cause::Arguments(Func::Index)));
             }
             entry_along(base, mode, state, rest, piped, &shape)
         }
@@ -261,12 +264,12 @@ fn sliced_shape(
         (operands_in operands.now) (shape_seen piped.entry) ≡ Some (shape_of s)) }
 {
     match operands {
-        [] => Err(Trouble::MayFail(Cause::NotFollowed(Func::Slice))),
+        [] => Err(Trouble::may_fail(base.alloc, Cause::NotFollowed(Func::Slice))),
         [first, rest @ ..] => {
             let shape = operand_shape(base, mode, state, first)?;
             match bounds_of(rest, piped) {
                 Some((from, to)) => part_shape(base, from, to, &shape),
-                None => Err(Trouble::MayFail(Cause::NotFollowed(Func::Slice))),
+                None => Err(Trouble::may_fail(base.alloc, Cause::NotFollowed(Func::Slice))),
             }
         }
     }
@@ -286,16 +289,16 @@ fn printed_shape(
         (operands_in operands.now) (shape_seen piped.entry) ≡ Some (shape_of s)) }
 {
     match operands {
-        [] => Err(Trouble::MayFail(Cause::NotFollowed(Func::Printf))),
+        [] => Err(Trouble::may_fail(base.alloc, Cause::NotFollowed(Func::Printf))),
         [first, rest @ ..] => match text_of(first) {
             Some(format) => {
                 let kinds = argument_kinds(base, mode, state, rest, piped)?;
                 match printf_shape(base.alloc, format.as_slice(), kinds.as_slice())? {
                     Some(shape) => Ok(shape),
-                    None => Err(Trouble::MayFail(Cause::Arguments(Func::Printf))),
+                    None => Err(Trouble::may_fail(base.alloc, Cause::Arguments(Func::Printf))),
                 }
             }
-            None => Err(Trouble::MayFail(Cause::NotFollowed(Func::Printf))),
+            None => Err(Trouble::may_fail(base.alloc, Cause::NotFollowed(Func::Printf))),
         },
     }
 }
@@ -315,7 +318,7 @@ fn function_shape(
         (operands_in operands.now)) (shape_seen piped.entry) ≡ Some (shape_of s)) }
 {
     if !func.takes(argument_count(operands, piped)) {
-        return Err(Trouble::MayFail(Cause::Command));
+        return Err(Trouble::may_fail(base.alloc, Cause::Command));
     }
     match func {
         Func::And => junction_shape(base, false, mode, state, &Shape::Nothings, operands, piped),
@@ -341,10 +344,10 @@ fn alone_shape(
         (operand_of first.now)) (shape_seen piped.entry) (operands_in rest.now) ≡ Some (shape_of s)) }
 {
     match piped {
-        Some(_) => Err(Trouble::MayFail(Cause::Command)),
+        Some(_) => Err(Trouble::may_fail(base.alloc, Cause::Command)),
         None => match rest {
             [] => operand_shape(base, mode, state, first),
-            [_, _more @ ..] => Err(Trouble::MayFail(Cause::Command)),
+            [_, _more @ ..] => Err(Trouble::may_fail(base.alloc, Cause::Command)),
         },
     }
 }
@@ -363,10 +366,10 @@ fn command_shape(
         (operands_in operands.now) (shape_seen piped.entry) ≡ Some (shape_of s)) }
 {
     match operands {
-        [] => Err(Trouble::MayFail(Cause::Command)),
+        [] => Err(Trouble::may_fail(base.alloc, Cause::Command)),
         [first, rest @ ..] => match head_of(first) {
             Head::Function(func) => function_shape(base, mode, state, func, rest, piped),
-            Head::Nil => Err(Trouble::MayFail(Cause::Command)),
+            Head::Nil => Err(Trouble::may_fail(base.alloc, Cause::Command)),
             Head::Value => alone_shape(base, mode, state, first, rest, piped),
         },
     }
@@ -386,7 +389,7 @@ fn commands_shape(
 {
     match commands {
         [] => match piped {
-            Some(shape) => Ok(copy_shape(base.alloc, shape)?),
+            Some(shape) => Ok(copy_counted(base, shape)?),
             None => Ok(Shape::Nothings),
         },
         [first, rest @ ..] => {

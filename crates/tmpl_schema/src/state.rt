@@ -22,7 +22,7 @@ use std::alloc::{AllocError, Global};
 use std::rc::Rc;
 use tmpl_funcs::Func;
 use tmpl_grammar::{Command, Operand};
-use tmpl_shape::{Base, Shape, copy_shape, refine};
+use tmpl_shape::{Base, Shape, copy_counted, refine};
 use tmpl_values::Bytes;
 
 /// What is known of dot and of the variables.
@@ -47,10 +47,11 @@ pub(crate) fn copy_state(alloc: Global, state: &State) -> Result<State, AllocErr
 }
 
 /// Where a template starts.
-pub(crate) fn at_start(alloc: Global, shape: &Shape) -> Result<State, AllocError>
+pub(crate) fn at_start(base: &Base<'_>, shape: &Shape) -> Result<State, AllocError>
     ensures { IfOk result (λ k. state_of k ≡ at_start (shape_of shape.now)) }
 {
-    let dot = Rc::new(alloc, copy_shape(alloc, shape)?)?;
+    let alloc = base.alloc;
+    let dot = Rc::new(alloc, copy_counted(base, shape)?)?;
     let origin: Vec<Bytes> = Vec::new(alloc);
     let of_variable: Vec<Bytes> = Vec::new(alloc);
     let shape = Rc::clone(&dot)?;

@@ -3,11 +3,12 @@
 //! action gave no value at all, so that nothing more is said of it.
 #![tactic(auto)]
 
-use crate::check::{is_stop, mode_for};
+use crate::check::{Refusal, is_stop, mode_for};
 use crate::failure::{Doubt, Failure};
 use crate::known::{Known, after_both, bind, copy_known};
 use crate::node::{Checker, after_node, in_body, in_other, in_turn, settle_soon};
 use crate::pipeline::pipeline_shape;
+use crate::room::first_crowded;
 use crate::state::{State, at_start, copy_state};
 use crate::table::{Call, Callee, Entry};
 use std::alloc::{AllocError, Global};
@@ -28,6 +29,9 @@ const MOST_VISITS: usize = 100_000;
 
 pub(crate) const MOST_ROUNDS: usize = 16;
 
+/// The most work that one search, one check or one survey takes.
+pub(crate) const MOST_EFFORT: u64 = 60_000_000;
+
 /// What a template is asked for: the set and the name in it, the shape of its data, the mode for missing keys or else each,
 /// and the templates that need not be there.
 #[derive(Clone, Copy)]
@@ -42,6 +46,8 @@ pub(crate) struct Question<'q> {
 /// What is found.
 #[derive(Drop)]
 struct Found {
+    /// Whether it is given up, since no work is left.
+    is_over: bool,
     doubts: Vec<Doubt>,
     /// Calls for which the table has less than they hand over.
     wanted: Vec<Call>,
@@ -59,6 +65,7 @@ impl Found {
     /// Nothing.
     fn new(alloc: Global) -> Found {
         Found {
+            is_over: false,
             doubts: Vec::new(alloc),
             wanted: Vec::new(alloc),
         }
@@ -68,9 +75,10 @@ impl Found {
     fn add(&mut self, walk: &Walk<'_>, failure: Failure, line: u64) -> Result<(), AllocError> {
         match failure {
             Failure::OutOfMemory => Err(AllocError),
-            Failure::MayFail(cause, 0) => self.add_doubt(walk, cause, line),
-            Failure::MayFail(cause, inner) => self.add_doubt(walk, cause, inner),
+            Failure::MayFail(cause, 0) => self.add_doubt(walk, Box::into_inner(cause), line),
+            Failure::MayFail(cause, inner) => self.add_doubt(walk, Box::into_inner(cause), inner),
             Failure::Wanted(call) => {
+                let call = Box::into_inner(call);
                 let name = call.name.as_slice();
                 if walk.question.set.get(name).is_some() || is_stop(walk.question.stops, name) {
                     self.wanted.push(call)?;
@@ -78,6 +86,20 @@ impl Found {
                 }
                 self.add_doubt(walk, Cause::NoTemplate(call.name), line)
             }
+        }
+    }
+
+    /// Gives up, since no work is left where an action of this line failed.
+    fn give_up(&mut self, walk: &Walk<'_>, failure: &Failure, line: u64) -> Result<(), AllocError> {
+        if self.is_over {
+            return Ok(());
+        }
+        self.is_over = true;
+        match failure {
+            Failure::MayFail(_, inner) if *inner > 0 => {
+                self.add_doubt(walk, Cause::TooComplex, *inner)
+            }
+            _ => self.add_doubt(walk, Cause::TooComplex, line),
         }
     }
 
@@ -105,12 +127,17 @@ fn survey_nodes(
     nodes: &[Node],
     found: &mut Found,
 ) -> Result<Known, AllocError> {
+    let checker = walk.checker;
     let State { dot, origin, known } = state;
     let mut state = State { dot, origin, known };
     for node in nodes {
-        match after_node(walk.checker, head, &state, node) {
+        match after_node(checker, head, &state, node) {
             Ok(known) => state.known = known,
             Err(failure) => {
+                if checker.is_spent() {
+                    found.give_up(walk, &failure, node.line)?;
+                    break;
+                }
                 let known = survey_node(walk, head, &state, node, failure, found)?;
                 state.known = known;
             }
@@ -129,13 +156,13 @@ fn survey_node(
     failure: Failure,
     found: &mut Found,
 ) -> Result<Known, AllocError> {
-    let alloc = walk.checker.base.alloc;
+    let checker = walk.checker;
     match &node.what {
         NodeKind::Control(control) => survey_control(walk, head, state, control, node.line, found),
         NodeKind::Action(header) => {
             found.add(walk, failure, node.line)?;
             bind(
-                alloc,
+                &checker.base,
                 &header.binding,
                 &Shape::Never,
                 &Shape::Never,
@@ -225,7 +252,6 @@ fn survey_range(
     found: &mut Found,
 ) -> Result<Known, AllocError> {
     let checker = walk.checker;
-    let alloc = checker.base.alloc;
     let header = &control.header;
     let visit = match visit_of(&checker.base, &header.binding, shape) {
         Ok(visit) => visit,
@@ -247,7 +273,7 @@ fn survey_range(
         Ok(known) => known,
         Err(failure) => {
             let before = found.doubts.len().saturating_add(found.wanted.len());
-            let inside = in_turn(alloc, header, &visit, &state.known)?;
+            let inside = in_turn(&checker.base, header, &visit, &state.known)?;
             survey_nodes(
                 walk,
                 Some(&state.known),
@@ -261,7 +287,7 @@ fn survey_range(
             copy_known(&state.known)?
         }
     };
-    let outside = copy_state(alloc, state)?;
+    let outside = copy_state(checker.base.alloc, state)?;
     let other = survey_nodes(walk, head, outside, control.other.as_slice(), found)?;
     survey_end(walk, state, &known, &other, line, found)
 }
@@ -281,7 +307,10 @@ fn survey_template(
     };
     match question.set.get(name) {
         Some(tree) => {
-            let start = at_start(checker.base.alloc, shape)?;
+            if let Some(line) = first_crowded(tree.nodes.as_slice()) {
+                return found.add_doubt(&walk, Cause::TooComplex, line);
+            }
+            let start = at_start(&checker.base, shape)?;
             survey_nodes(&walk, None, start, tree.nodes.as_slice(), found)?;
             Ok(())
         }
@@ -458,6 +487,9 @@ fn survey_all(
         &mut found,
     )?;
     for entry in table {
+        if found.is_over {
+            break;
+        }
         if let Callee::Handed(shape) = &entry.callee {
             survey_template(&checker, question, entry.name.as_slice(), shape, &mut found)?;
         }
@@ -466,7 +498,7 @@ fn survey_all(
 }
 
 /// That it is not seen why a template may fail.
-pub(crate) fn unknown_doubt(alloc: Global, name: &[u8]) -> Result<Vec<Doubt>, AllocError> {
+fn unknown_doubt(alloc: Global, name: &[u8]) -> Result<Vec<Doubt>, AllocError> {
     let mut doubts: Vec<Doubt> = Vec::new(alloc);
     doubts.push(Doubt {
         template: copy_name(alloc, name)?,
@@ -482,6 +514,8 @@ pub(crate) fn unknown_doubt(alloc: Global, name: &[u8]) -> Result<Vec<Doubt>, Al
 pub(crate) struct Search {
     pub(crate) table: Vec<Entry>,
     waiting: Vec<Call>,
+    /// The places that were found in the template in which the search was given up.
+    given_up: Vec<Doubt>,
 }
 
 impl Search {
@@ -494,6 +528,7 @@ impl Search {
         Ok(Search {
             table: Vec::new(base.alloc),
             waiting,
+            given_up: Vec::new(base.alloc),
         })
     }
 
@@ -507,7 +542,16 @@ impl Search {
         let mut found = Found::new(checker.base.alloc);
         let name = call.name.as_slice();
         survey_template(checker, question, name, &call.shape, &mut found)?;
-        self.grow(&checker.base, question, found.wanted.as_slice())
+        let Found {
+            is_over,
+            doubts,
+            wanted,
+        } = found;
+        if is_over {
+            self.given_up = doubts;
+            return Ok(());
+        }
+        self.grow(&checker.base, question, wanted.as_slice())
     }
 
     /// Puts calls into the table.
@@ -527,6 +571,7 @@ impl Search {
         base: &Base<'_>,
         question: &Question<'_>,
     ) -> Result<bool, AllocError> {
+        base.effort.renew(MOST_EFFORT);
         // by no table each call is one for which the table has less than it hands over
         let checker = Checker {
             base: *base,
@@ -542,8 +587,23 @@ impl Search {
                 return Ok(false);
             }
             self.visit(&checker, question, &call)?;
+            if !self.given_up.is_empty() {
+                return Ok(false);
+            }
         }
         Ok(false)
+    }
+
+    /// Why the search came to no end.
+    pub(crate) fn refusal(self, alloc: Global, name: &[u8]) -> Refusal {
+        let Search { given_up, .. } = self;
+        if !given_up.is_empty() {
+            return Refusal::MayFail(given_up);
+        }
+        match unknown_doubt(alloc, name) {
+            Ok(doubts) => Refusal::MayFail(doubts),
+            Err(_) => Refusal::OutOfMemory,
+        }
     }
 
     /// Each place that may fail by the table, or nothing where the table lacks a call, which is put there.
@@ -552,8 +612,13 @@ impl Search {
         base: &Base<'_>,
         question: &Question<'_>,
     ) -> Result<Option<Vec<Doubt>>, AllocError> {
-        let Found { doubts, wanted } = survey_all(base, question, self.table.as_slice())?;
-        if !wanted.is_empty() {
+        base.effort.renew(MOST_EFFORT);
+        let Found {
+            is_over,
+            doubts,
+            wanted,
+        } = survey_all(base, question, self.table.as_slice())?;
+        if !is_over && !wanted.is_empty() {
             self.grow(base, question, wanted.as_slice())?;
             return Ok(None);
         }

@@ -34,14 +34,10 @@ pub(crate) struct Call {
 pub(crate) fn find_callee<'t>(table: &'t [Entry], name: &[u8]) -> Option<&'t Callee>
     ensures { callee_seen result ≡ table_of table.now name.now }
 {
-    match table {
-        [] => None,
-        [first, rest @ ..] => {
-            if name == first.name.as_slice() {
-                Some(&first.callee)
-            } else {
-                find_callee(rest, name)
-            }
+    for entry in table {
+        if name == entry.name.as_slice() {
+            return Some(&entry.callee);
         }
     }
+    None
 }

@@ -1,5 +1,5 @@
 -- For the law `runs_safely`: calls have the shapes that are computed.
-use Rattle.std.proofs.Common.{◌≡◌, ◌∙◌, ◌⊎◌, ◌||◌, ◌&&◌, ℕ, pos, Bool, true, false, not, List, [], ◌∷◌, map, Option, Some, None, Result, inl, inr, refl, sym, subst, if◌then◌else◌, option_map, option_and_then, ok_or}
+use Rattle.std.proofs.Common.{◌≡◌, ◌∙◌, ◌||◌, ◌&&◌, ℕ, pos, Bool, true, false, not, List, [], ◌∷◌, map, Option, Some, None, Result, inl, inr, refl, sym, if◌then◌else◌, option_map, option_and_then, ok_or}
 use Rattle.std.proofs.lemmas.Bool.{false≢true, and_parts}
 use Rattle.std.specs.Result.{result_map_both}
 use Rattle.tmpl_values.specs.Value.{Value, nothing, null, boolean, number, string, sequence, mapping}

@@ -1,6 +1,6 @@
 -- For the law `runs_safely`: whether `printf` refuses its arguments depends on their kinds alone.
-use Rattle.std.proofs.Common.{◌≡◌, ◌&&◌, ◌||◌, ◌==◌, not, ℕ, pos, Bool, true, false, List, [], ◌∷◌, ◌++◌, map, Option, Some, None, is_some, refl, subst, if◌then◌else◌}
-use Rattle.std.proofs.lemmas.Bool.{false≢true, and_parts}
+use Rattle.std.proofs.Common.{◌≡◌, ◌||◌, ◌==◌, not, ℕ, pos, Bool, true, false, List, [], ◌∷◌, ◌++◌, map, Option, Some, None, is_some, refl, subst, if◌then◌else◌}
+use Rattle.std.proofs.lemmas.Bool.{false≢true}
 use Rattle.std.specs.List.{find, flat_map}
 use Rattle.std.specs.Option.{option_map, option_and_then}
 use Rattle.std.specs.Prelude.{IfSome, is_ok, ok_or}
@@ -24,7 +24,7 @@ use Rattle.tmpl_meaning.specs.Pipeline.{apply_function}
 use Rattle.tmpl_shape.specs.Shape as shape
 use Rattle.tmpl_shape.specs.Shape.{Shape, Names, HasShape}
 use Rattle.tmpl_shape.specs.declared.kind.Kind.{Kind}
-use Rattle.tmpl_shape.specs.declared.kind.Kind.TheVariants.{Blank, Truth, Number, Text, Many}
+use Rattle.tmpl_shape.specs.declared.kind.Kind.TheVariants.{Blank}
 use Rattle.tmpl_shape.specs.computed.Means.{Means}
 use Rattle.tmpl_shape.specs.declared.kind.Kinds.{Kinds}
 use Rattle.tmpl_shape.specs.computed.Shapes.{Base, kinds_of}

@@ -1,12 +1,12 @@
 -- For code that leaves the shapes of one kind to a last arm: what is computed for what that arm takes.
-use Rattle.std.proofs.Common.{rules, ◌≡◌, ℕ, zero, suc, Bool, false, List, Box, Global, refl, ap, sym, subst}
+use Rattle.std.proofs.Common.{rules, ◌≡◌, ℕ, Bool, false, List, Box, Global, refl, ap, sym, subst}
 use Rattle.tmpl_grammar.specs.View.{binding_of}
 use Rattle.tmpl_grammar.specs.declared.tree.Binding as held_binding
 use Rattle.tmpl_grammar.specs.declared.tree.Binding.TheVariants as variants
 use Rattle.tmpl_grammar.specs.declared.tree.Pair as held_pair
 use Rattle.tmpl_shape.specs.Shape as spec
 use Rattle.tmpl_shape.specs.View.{fields_of, shape_of}
-use Rattle.tmpl_shape.specs.computed.Shapes.{Base, gone_step, has_name, is_of_kind, kind_step, number_visit, plain_within, refine_step, some_part, visit}
+use Rattle.tmpl_shape.specs.computed.Shapes.{Base, gathered, gone_step, has_name, is_of_kind, kind_step, number_visit, plain_within, refine_step, some_along, visit}
 use Rattle.tmpl_shape.specs.declared.kind.Kind.{Kind}
 use Rattle.tmpl_shape.specs.declared.kind.Kind.TheVariants.{Many}
 use Rattle.tmpl_shape.specs.declared.shape.Shape as held
@@ -75,24 +75,19 @@ is-leaf base k held.Numbers a b c = subst (IsLeaf base k) (sym numbers_seen) tt
 is-leaf base k held.Texts a b c = subst (IsLeaf base k) (sym texts_seen) tt
 is-leaf base k held.Anything a b c = subst (IsLeaf base k) (sym anything_seen) tt
 
-part-step : (base : Base) (n : ℕ) (p : spec.Shape → Bool) (s : held.Shape) → (s ≡ held.Anything → ⊥) → NotEither s → NotNamed s
-    → some_part base (suc n) p (shape_of s) ≡ p (shape_of s)
-part-step base n p held.Anything a b c = absurd (a refl)
-part-step base n p (held.Either' x s y t) a b c = absurd (b (box x s) (box y t) refl)
-part-step base n p (held.Named y) a b c = absurd (c y refl)
-part-step base n p (held.List' m x s) a b c = rw (list_seen m (box x s)) refl
-part-step base n p (held.Record fs) a b c = rw (record_seen fs) refl
-part-step base n p held.Never a b c = rw never_seen refl
-part-step base n p held.Nothings a b c = rw nothings_seen refl
-part-step base n p held.Nulls a b c = rw nulls_seen refl
-part-step base n p held.Truths a b c = rw truths_seen refl
-part-step base n p held.Numbers a b c = rw numbers_seen refl
-part-step base n p held.Texts a b c = rw texts_seen refl
-
-pub part-leaf : (base : Base) (n : ℕ) (p : spec.Shape → Bool) (s : held.Shape) → (n ≡ 0 → ⊥) → (s ≡ held.Anything → ⊥) → NotEither s → NotNamed s
-    → some_part base n p (shape_of s) ≡ p (shape_of s)
-part-leaf base zero p s e a b c = absurd (e refl)
-part-leaf base (suc n) p s e a b c = part-step base n p s a b c
+pub part-leaf : (base : Base) (f p : spec.Shape → Bool) (s : held.Shape) → (s ≡ held.Anything → ⊥) → NotEither s → NotNamed s
+    → some_along base f p (shape_of s) ≡ p (shape_of s)
+part-leaf base f p held.Anything a b c = absurd (a refl)
+part-leaf base f p (held.Either' x s y t) a b c = absurd (b (box x s) (box y t) refl)
+part-leaf base f p (held.Named y) a b c = absurd (c y refl)
+part-leaf base f p (held.List' m x s) a b c = rw (list_seen m (box x s)) refl
+part-leaf base f p (held.Record fs) a b c = rw (record_seen fs) refl
+part-leaf base f p held.Never a b c = rw never_seen refl
+part-leaf base f p held.Nothings a b c = rw nothings_seen refl
+part-leaf base f p held.Nulls a b c = rw nulls_seen refl
+part-leaf base f p held.Truths a b c = rw truths_seen refl
+part-leaf base f p held.Numbers a b c = rw numbers_seen refl
+part-leaf base f p held.Texts a b c = rw texts_seen refl
 
 pub list-plain : (w : spec.Shape → spec.Shape → Bool) (n : ℕ) (x : Box held.Shape Global) (s t : held.Shape) → s ≡ held.List n x → NotList t
     → plain_within w (shape_of s) (shape_of t) ≡ false
@@ -133,6 +128,19 @@ is-end (held_fields.Field' p n r s fs) a =
     absurd (a (record { ptr = p.ptr; alloc = p.alloc; value = record { name = n; required = r; shape = s; rest = fs } }) refl)
 
 -- ---- what shapes become
+
+pub gathered-ends : (f : spec.Shape → spec.Shape → spec.Shape) (s : held.Shape) (t : spec.Shape) → NotEither s → gathered f (shape_of s) t ≡ t
+gathered-ends f (held.Either' p s q u) t a = absurd (a (box p s) (box q u) refl)
+gathered-ends f (held.Named y) t a = rw named_seen refl
+gathered-ends f (held.List' n p s) t a = rw (list_seen n (box p s)) refl
+gathered-ends f (held.Record fs) t a = rw (record_seen fs) refl
+gathered-ends f held.Never t a = rw never_seen refl
+gathered-ends f held.Nothings t a = rw nothings_seen refl
+gathered-ends f held.Nulls t a = rw nulls_seen refl
+gathered-ends f held.Truths t a = rw truths_seen refl
+gathered-ends f held.Numbers t a = rw numbers_seen refl
+gathered-ends f held.Texts t a = rw texts_seen refl
+gathered-ends f held.Anything t a = rw anything_seen refl
 
 pub gone-leaf : (base : Base) (f : spec.Shape → spec.Shape) (s : held.Shape) → (s ≡ held.Nulls → ⊥) → NotEither s → NotNamed s
     → gone_step base f (shape_of s) ≡ shape_of s

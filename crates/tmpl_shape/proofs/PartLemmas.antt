@@ -1,13 +1,12 @@
 -- For the law `runs_safely`: items and parts of lists have the shapes that are computed.
-use Rattle.std.proofs.Common.{arith, ◌≡◌, ◌∙◌, ◌-◌, ◌≤◌, ◌<◌, ◌&&◌, ℕ, zero, suc, pos, nat_le, nat_lt, min, Bool, true, false, List, [], ◌∷◌, length, take, drop, slice_get, slice_range, Option, Some, None, Result, Ok, Err, option_map, inl, inr, ap, refl, sym, subst, if◌then◌else◌}
-use Rattle.std.proofs.lemmas.Bool.{leb-true, ltb-true, le-leb, and_parts}
+use Rattle.std.proofs.Common.{arith, ◌≡◌, ◌∙◌, ◌-◌, ◌≤◌, ◌<◌, ◌&&◌, ℕ, zero, suc, pos, nat_le, Bool, true, false, List, [], ◌∷◌, length, take, drop, slice_get, slice_range, Option, Some, None, Result, option_map, inl, inr, ap, refl, if◌then◌else◌}
+use Rattle.std.proofs.lemmas.Bool.{leb-true, le-leb, and_parts}
 use Rattle.std.proofs.lemmas.List.{length-drop, length-take-le}
 use Rattle.std.specs.Option.{option_map_or, option_and_then}
 use Rattle.std.specs.Result.{result_map_both}
-use Rattle.tmpl_values.specs.Value.{Value, number, string, sequence, Items, no_item, item}
+use Rattle.tmpl_values.specs.Value.{Value, string, sequence, Items, no_item, item}
 use Rattle.tmpl_values.specs.Elements.{values_of_items}
 use Rattle.tmpl_values.specs.Item.{in_sequence}
-use Rattle.tmpl_funcs.specs.Index.{element_at}
 use Rattle.tmpl_funcs.specs.Slice.{extent, part}
 use Rattle.tmpl_funcs.specs.declared.fault.CallFault.{CallFault}
 use Rattle.tmpl_funcs.specs.declared.func.Func.TheVariants as func

@@ -1,5 +1,5 @@
 -- For the law `runs_safely`: what is computed with shapes holds of their values.
-use Rattle.std.proofs.Common.{arith, ◌≡◌, ◌∙◌, ◌⊎◌, ◌≤◌, ℕ, zero, suc, nat_le, Bool, true, false, not, ◌&&◌, ◌||◌, List, Option, Some, None}
+use Rattle.std.proofs.Common.{arith, ◌≡◌, ◌∙◌, ◌⊎◌, ℕ, zero, suc, nat_le, Bool, true, false, not, ◌&&◌, ◌||◌, List, Option, Some, None}
 use Rattle.std.proofs.Common.{IsSome, inl, inr, ap, refl, sym, subst, if◌then◌else◌}
 use Rattle.std.proofs.lemmas.Bool.{false≢true, and_parts, leb-true}
 use Rattle.std.proofs.lemmas.Slice.Eq.{bytes_eq-Decides}
@@ -14,7 +14,7 @@ use Rattle.tmpl_shape.specs.Shape.{either, named, Names, Fields, no_field, other
 use Rattle.tmpl_shape.specs.Shape.{EachItem, EachEntry, HasRequired, HasShape, IsField}
 use Rattle.tmpl_shape.specs.computed.Means.{Means}
 use Rattle.tmpl_shape.specs.computed.Shapes.{Base, shape_at, is_required, requires_all, is_listed, others_within}
-use Rattle.tmpl_shape.specs.computed.Shapes.{fields_along, fields_within, record_within, has_name, plain_within, some_part, within_by}
+use Rattle.tmpl_shape.specs.computed.Shapes.{fields_along, fields_within, record_within, each_along, has_name, if_more, plain_within, some_along, some_part, within_by}
 use Rattle.tmpl_shape.specs.computed.Shapes.{within, join, has_kind, null_gone_by, null_gone}
 use Rattle.tmpl_shape.specs.declared.kind.Kind.TheVariants.{Blank}
 use Rattle.tmpl_shape.proofs.KindLemmas.{has_kind-has}
@@ -191,34 +191,50 @@ module _ (base : Base) (N : Names) (means : Means base.defs N) where
       by None is e = absurd (false≢true e)
       by (Some s) is e = f s is e
 
-  some_part-has : (p : Shape → Bool) (v : Value) → ((t : Shape) → p t ≡ true → HasShape N t v) → (n : ℕ) (t : Shape) → some_part base n p t ≡ true → HasShape N t v
-  some_part-has p v f zero t e = absurd (false≢true e)
-  some_part-has p v f (suc n) (either s t) e =
-      elim (or_cases (some_part base n p s) (some_part base n p t) e) [ inl x ↦ inl (some_part-has p v f n s x) | inr x ↦ inr (some_part-has p v f n t x) ]
-  some_part-has p v f (suc n) (named x) e =
-      told x (some_part base n p) (N x v) (λ s is y. means.folds x s v is (some_part-has p v f n s y)) e
-  some_part-has p v f (suc n) anything e = tt
-  some_part-has p v f (suc n) t e = f t e
+  some_along-has : (f p : Shape → Bool) (v : Value) → ((t : Shape) → f t ≡ true → HasShape N t v) → ((t : Shape) → p t ≡ true → HasShape N t v)
+      → (t : Shape) → some_along base f p t ≡ true → HasShape N t v
+  some_along-has f p v g h (either s t) e =
+      elim (or_cases (f s) (some_along base f p t) e) [ inl x ↦ inl (g s x) | inr x ↦ inr (some_along-has f p v g h t x) ]
+  some_along-has f p v g h (named x) e = told x f (N x v) (λ s is y. means.folds x s v is (g s y)) e
+  some_along-has f p v g h anything e = tt
+  some_along-has f p v g h t e = h t e
 
-  within_by-has : (k n : ℕ) (s t : Shape) (v : Value) → within_by base k n s t ≡ true → HasShape N s v → HasShape N t v
-  within_by-has k zero s t v e h = absurd (false≢true e)
-  within_by-has k (suc n) never t v e h = absurd h
-  within_by-has k (suc n) (either s u) t v e h =
-      let p = and_parts (within_by base k n s t) (within_by base k n u t) e in
-      elim h [ inl x ↦ within_by-has k n s t v p.0 x | inr x ↦ within_by-has k n u t v p.1 x ]
-  within_by-has zero (suc n) (named x) t v e h =
+  some_part-has : (p : Shape → Bool) (v : Value) → ((t : Shape) → p t ≡ true → HasShape N t v) → (n : ℕ) (t : Shape) → some_part base n p t ≡ true → HasShape N t v
+  some_part-has p v h zero t e = absurd (false≢true e)
+  some_part-has p v h (suc n) t e = some_along-has (some_part base n p) p v (some_part-has p v h n) h t e
+
+  each_along-has : (f : Shape → Bool) (g : List ℕ → Bool) (p : Shape → Bool) (v : Value) (P : Type 0)
+      → ((s : Shape) → f s ≡ true → HasShape N s v → P) → ((x : List ℕ) → g x ≡ true → N x v → P) → ((s : Shape) → p s ≡ true → HasShape N s v → P)
+      → (s : Shape) → each_along f g p s ≡ true → HasShape N s v → P
+  each_along-has f g p v P a b c (either s t) e h =
+      let q = and_parts (f s) (each_along f g p t) e in
+      elim h [ inl x ↦ a s q.0 x | inr x ↦ each_along-has f g p v P a b c t q.1 x ]
+  each_along-has f g p v P a b c never e h = absurd h
+  each_along-has f g p v P a b c (named x) e h = b x e h
+  each_along-has f g p v P a b c s e h = c s e h
+
+  name-has : (k : ℕ) (w : ℕ → Shape → Bool) (t : Shape) (v : Value) → ((i : ℕ) (s : Shape) → suc i ≡ k → w i s ≡ true → HasShape N s v → HasShape N t v)
+      → (x : List ℕ) → (has_name x t || if_more (λ i. option_map_or (w i) (base.defs x) false) k) ≡ true → N x v → HasShape N t v
+  name-has zero w t v f x e h =
       elim (or_cases (has_name x t) false e) [ inl y ↦ has_name-has N x v h t y | inr y ↦ absurd (false≢true y) ]
-  within_by-has (suc k) (suc n) (named x) t v e h =
-      elim (or_cases (has_name x t) (option_map_or (λ s. within_by base k n s t) (base.defs x) false) e) [
+  name-has (suc k) w t v f x e h =
+      elim (or_cases (has_name x t) (option_map_or (w k) (base.defs x) false) e) [
         | inl y ↦ has_name-has N x v h t y
-        | inr y ↦ told x (λ s. within_by base k n s t) (HasShape N t v) (λ s is z. within_by-has k n s t v z (means.unfolds x s v is h)) y
+        | inr y ↦ told x (w k) (HasShape N t v) (λ s is z. f k s refl z (means.unfolds x s v is h)) y
       ]
-  within_by-has k (suc n) s t v e h =
-      some_part-has (plain_within (within_by base k n) s) v (λ u y. plain_within-has N (within_by base k n) (within_by-has k n) s u v y h) 64 t e
+
+  within_by-has : (n k : ℕ) (s t : Shape) (v : Value) → within_by base k n s t ≡ true → HasShape N s v → HasShape N t v
+  within_by-has zero k s t v e h = absurd (false≢true e)
+  within_by-has (suc n) k s t v e h =
+      each_along-has (λ u. within_by base k n u t) (λ x. has_name x t || if_more (λ i. option_map_or (λ u. within_by base i n u t) (base.defs x) false) k)
+      (λ u. some_part base 64 (plain_within (within_by base k n) u) t) v (HasShape N t v) (λ u y z. within_by-has n k u t v y z)
+      (λ x y z. name-has k (λ i u. within_by base i n u t) t v (λ i u is q r. within_by-has n i u t v q r) x y z)
+      (λ u y z. some_part-has (plain_within (within_by base k n) u) v (λ o q. plain_within-has N (within_by base k n) (λ a b w. within_by-has n k a b w) u o v q z) 64 t y)
+      s e h
 
   pub within-has : (s t : Shape) (v : Value) → within base s t ≡ true → HasShape N s v → HasShape N t v
   unfolding within
-  within-has s t v e h = within_by-has base.names base.limit s t v e h
+  within-has s t v e h = within_by-has base.limit base.names s t v e h
 
   -- ---- alternatives
 

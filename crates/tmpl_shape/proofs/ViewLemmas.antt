@@ -1,5 +1,5 @@
 -- For code on shapes: shapes and fields, seen by their parts.
-use Rattle.std.proofs.Common.{rules, ◌≡◌, List, ℕ, suc, Box, Global}
+use Rattle.std.proofs.Common.{rules, ◌≡◌, ◌+◌, List, ℕ, suc, Box, Global}
 use Rattle.tmpl_shape.specs.Shape as spec
 use Rattle.tmpl_shape.specs.View.{fields_of, shape_of}
 use Rattle.tmpl_shape.specs.declared.shape.Shape as held
@@ -60,3 +60,16 @@ abbrev pub count : spec.Fields → ℕ
 count spec.no_field = 0
 count (spec.others s) = 0
 count (spec.field n r s fs) = suc (count fs)
+
+-- how much there is to copy
+abbrev mutual
+  pub amount : spec.Shape → ℕ
+  amount (spec.list_of n s) = suc (amount s)
+  amount (spec.record_of fs) = suc (amounts fs)
+  amount (spec.either s t) = suc (amount s + amount t)
+  amount s = 0
+
+  pub amounts : spec.Fields → ℕ
+  amounts spec.no_field = 0
+  amounts (spec.others s) = suc (amount s)
+  amounts (spec.field n r s fs) = suc (amount s + amounts fs)

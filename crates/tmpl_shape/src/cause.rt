@@ -3,7 +3,7 @@ ghost use Rattle.std.specs.Prelude.{◌≡◌};
 ghost use Rattle.tmpl_shape.specs.declared.cause.Trouble.TheVariants as trouble;
 
 use crate::shape::Shape;
-use std::alloc::{AllocError, AllocFailed};
+use std::alloc::{AllocError, AllocFailed, Global};
 use tmpl_funcs::Func;
 use tmpl_values::Bytes;
 
@@ -28,6 +28,8 @@ pub enum Cause {
     Variables,
     /// The form of a command is a fault, or what it gives is not followed.
     Command,
+    /// What there is to look at takes more steps, or more of the stack, than a check has.
+    TooComplex,
 }
 
 /// Why no shape is given.
@@ -35,8 +37,19 @@ pub enum Cause {
 pub enum Trouble {
     /// Want of memory.
     OutOfMemory,
-    /// A fault may come, for this cause.
-    MayFail(Cause),
+    /// A fault may come, for this cause. It lies on the heap, so that what is handed back from each step takes little of
+    /// the stack.
+    MayFail(Box<Cause>),
+}
+
+impl Trouble {
+    /// That a fault may come, for this cause.
+    pub fn may_fail(alloc: Global, cause: Cause) -> Trouble {
+        match Box::new(alloc, cause) {
+            Ok(cause) => Trouble::MayFail(cause),
+            Err(_) => Trouble::OutOfMemory,
+        }
+    }
 }
 
 impl From<AllocError> for Trouble {

@@ -4,12 +4,15 @@
 ghost use Rattle.std.specs.Prelude.{◌≡◌, IfOk};
 ghost use Rattle.tmpl_shape.specs.View.{fields_of, shape_of};
 ghost use Rattle.tmpl_shape.specs.computed.Shapes.{fill, join, null_gone, null_gone_by, refine, refine_by};
-ghost use Rattle.tmpl_shape.specs.computed.Shapes.{refine_record, with_field};
+ghost use Rattle.tmpl_shape.specs.computed.Shapes.{refine_record, with_field, with_first};
 ghost use Rattle.tmpl_shape.specs.computed.View.{base_of};
 
 use crate::inclusion::{find, shape_at, within};
 use crate::kind::{Kind, has_kind};
-use crate::shape::{Base, Fields, Shape, copy_fields, copy_shape, either, list_of, put_field};
+use crate::shape::{
+    Base, Fields, Shape, copy_counted, copy_fields, copy_shape, either, fields_of_all, list_of,
+    put_field, weight_of_fields,
+};
 use std::alloc::{AllocError, Global};
 use tmpl_values::Bytes;
 
@@ -32,7 +35,7 @@ fn null_gone_by(base: &Base<'_>, steps: usize, shape: &Shape) -> Result<Shape, A
     ensures { IfOk result (λ s. shape_of s ≡ null_gone_by (base_of base.now) steps (shape_of shape.now)) }
 {
     if steps == 0 {
-        return either(base.alloc, copy_shape(base.alloc, shape)?, Shape::Nothings);
+        return either(base.alloc, copy_counted(base, shape)?, Shape::Nothings);
     }
     let fewer = steps - 1;
     match shape {
@@ -46,14 +49,14 @@ fn null_gone_by(base: &Base<'_>, steps: usize, shape: &Shape) -> Result<Shape, A
         }
         Shape::Named(name) => {
             if !has_kind(base, Kind::Blank, shape) {
-                return copy_shape(base.alloc, shape);
+                return copy_counted(base, shape);
             }
             match find(base.definitions, name.as_slice()) {
                 Some(defined) => null_gone_by(base, fewer, defined),
-                None => either(base.alloc, copy_shape(base.alloc, shape)?, Shape::Nothings),
+                None => either(base.alloc, copy_counted(base, shape)?, Shape::Nothings),
             }
         }
-        _ => copy_shape(base.alloc, shape),
+        _ => copy_counted(base, shape),
     }
 }
 
@@ -62,6 +65,26 @@ pub fn null_gone(base: &Base<'_>, shape: &Shape) -> Result<Shape, AllocError>
     ensures { IfOk result (λ s. shape_of s ≡ null_gone (base_of base.now) (shape_of shape.now)) }
 {
     null_gone_by(base, base.limit, shape)
+}
+
+/// The fields of which the first is always there and has the shape; where there is none but others may be, it is put there.
+#[inline(never)]
+fn with_first(
+    alloc: Global,
+    name: &[u8],
+    shape: Shape,
+    fields: &Fields,
+) -> Result<Fields, AllocError>
+    ensures { IfOk result (λ fs. fields_of fs ≡ with_first name.now (shape_of shape) (fields_of fields.now)) }
+{
+    match fields {
+        Fields::Closed => Ok(Fields::Closed),
+        Fields::Others(_) => put_field(alloc, name, true, shape, copy_fields(alloc, fields)?),
+        Fields::Field(first) => {
+            let rest = copy_fields(alloc, &first.rest)?;
+            put_field(alloc, first.name.as_slice(), true, shape, rest)
+        }
+    }
 }
 
 /// The fields with one that is always there and has the shape.
@@ -73,25 +96,19 @@ fn with_field(
 ) -> Result<Fields, AllocError>
     ensures { IfOk result (λ fs. fields_of fs ≡ with_field name.now (shape_of shape) (fields_of fields.now)) }
 {
-    match fields {
-        Fields::Closed => Ok(Fields::Closed),
-        Fields::Others(_) => put_field(alloc, name, true, shape, copy_fields(alloc, fields)?),
-        Fields::Field(first) => {
-            if name == first.name.as_slice() {
-                put_field(
-                    alloc,
-                    first.name.as_slice(),
-                    true,
-                    shape,
-                    copy_fields(alloc, &first.rest)?,
-                )
-            } else {
-                let kept = copy_shape(alloc, &first.shape)?;
-                let rest = with_field(alloc, name, shape, &first.rest)?;
-                put_field(alloc, first.name.as_slice(), first.required, kept, rest)
-            }
+    let mut back = Fields::Closed;
+    let mut rest = fields;
+    while let Fields::Field(first) = rest {
+        if name == first.name.as_slice() {
+            let last = with_first(alloc, name, shape, rest)?;
+            return fields_of_all(alloc, back, last);
         }
+        let kept = copy_shape(alloc, &first.shape)?;
+        back = put_field(alloc, first.name.as_slice(), first.required, kept, back)?;
+        rest = &first.rest;
     }
+    let last = with_first(alloc, name, shape, rest)?;
+    fields_of_all(alloc, back, last)
 }
 
 /// Of the values of which the field of the field of .. is neither nothing nor null, and has at least as many items if it
@@ -106,8 +123,9 @@ fn refine_by(
 ) -> Result<Shape, AllocError>
     ensures { IfOk result (λ s. shape_of s ≡ refine_by (base_of base.now) least steps names.now (shape_of shape.now)) }
 {
+    base.effort.spend(1);
     if steps == 0 {
-        return copy_shape(base.alloc, shape);
+        return copy_counted(base, shape);
     }
     let fewer = steps - 1;
     match shape {
@@ -116,7 +134,7 @@ fn refine_by(
             least: known,
             items,
         } => {
-            let items = copy_shape(base.alloc, items)?;
+            let items = copy_counted(base, items)?;
             list_of(base.alloc, (*known).max(least), items)
         }
         Shape::Either(one, other) => {
@@ -128,10 +146,10 @@ fn refine_by(
         }
         Shape::Named(name) => match find(base.definitions, name.as_slice()) {
             Some(defined) => refine_by(base, least, fewer, names, defined),
-            None => copy_shape(base.alloc, shape),
+            None => copy_counted(base, shape),
         },
         Shape::Record(fields) => refine_record(base, least, fewer, names, fields),
-        _ => copy_shape(base.alloc, shape),
+        _ => copy_counted(base, shape),
     }
 }
 
@@ -147,6 +165,8 @@ fn refine_record(
     ensures { IfOk result (λ s. shape_of s
         ≡ refine_record (base_of base.now) (refine_by (base_of base.now) least steps) names.now (fields_of fields.now)) }
 {
+    base.effort
+        .spend(weight_of_fields(fields).saturating_mul(4));
     match names {
         [] => Ok(Shape::Record(copy_fields(base.alloc, fields)?)),
         [first, rest @ ..] => match shape_at(first.as_slice(), fields) {

@@ -3,13 +3,13 @@
 
 ghost use Rattle.std.specs.Prelude.{◌≡◌, IfOk, Some};
 ghost use Rattle.tmpl_shape.specs.View.{fields_of, shape_of};
-ghost use Rattle.tmpl_shape.specs.computed.Shapes.{absent_shape, any_field, chain_shape, entry_shape, field_shape_by, index_shape, index_shape_by, item_shape, keyed_shape, of_field};
+ghost use Rattle.tmpl_shape.specs.computed.Shapes.{absent_shape, any_field, chain_shape, entry_shape, field_shape_by, gathered, index_shape, index_shape_by, item_shape, join, keyed_shape, of_field};
 ghost use Rattle.tmpl_shape.specs.computed.View.{base_of, key_seen};
 
 use crate::cause::{Cause, Trouble, kind_word};
 use crate::change::join;
 use crate::inclusion::find;
-use crate::shape::{Base, Fields, Shape, copy_name, copy_shape};
+use crate::shape::{Base, Fields, Shape, copy_counted, copy_name, either};
 use std::alloc::{AllocError, Global};
 use tmpl_funcs::Func;
 use tmpl_meaning::MissingKey;
@@ -33,14 +33,14 @@ fn absent_shape(alloc: Global, mode: MissingKey, name: &[u8]) -> Result<Shape, T
     match mode {
         MissingKey::Default | MissingKey::Invalid => Ok(Shape::Nothings),
         MissingKey::Zero => Ok(Shape::Nulls),
-        MissingKey::Error => Err(Trouble::MayFail(Cause::Absent(copy_name(alloc, name)?))),
+        MissingKey::Error => Err(Trouble::may_fail(alloc, Cause::Absent(copy_name(alloc, name)?))),
     }
 }
 
 /// That a field of this name is asked of values of this shape, which have none.
 fn no_fields(alloc: Global, name: &[u8], shape: &Shape) -> Trouble {
     match copy_name(alloc, name) {
-        Ok(name) => Trouble::MayFail(Cause::NoFields(name, kind_word(shape))),
+        Ok(name) => Trouble::may_fail(alloc, Cause::NoFields(name, kind_word(shape))),
         Err(_) => Trouble::OutOfMemory,
     }
 }
@@ -55,7 +55,7 @@ fn of_field(
 ) -> Result<Shape, Trouble>
     ensures { IfOk result (λ s. of_field (base_of base.now) mode required (shape_of shape.now) ≡ Some (shape_of s)) }
 {
-    let shape = copy_shape(base.alloc, shape)?;
+    let shape = copy_counted(base, shape)?;
     if required {
         return Ok(shape);
     }
@@ -72,16 +72,16 @@ fn entry_shape(
     ensures { IfOk result (λ s. entry_shape (base_of base.now) mode name.now (fields_of fields.now)
         ≡ Some (shape_of s)) }
 {
-    match fields {
-        Fields::Closed => absent_shape(base.alloc, mode, name),
-        Fields::Others(shape) => of_field(base, mode, name, false, shape),
-        Fields::Field(first) => {
-            if name == first.name.as_slice() {
-                of_field(base, mode, name, first.required, &first.shape)
-            } else {
-                entry_shape(base, mode, name, &first.rest)
-            }
+    let mut rest = fields;
+    while let Fields::Field(first) = rest {
+        if name == first.name.as_slice() {
+            return of_field(base, mode, name, first.required, &first.shape);
         }
+        rest = &first.rest;
+    }
+    match rest {
+        Fields::Others(shape) => of_field(base, mode, name, false, shape),
+        Fields::Closed | Fields::Field(_) => absent_shape(base.alloc, mode, name),
     }
 }
 
@@ -97,7 +97,7 @@ fn field_shape_by(
         ≡ Some (shape_of s)) }
 {
     if steps == 0 {
-        return Err(Trouble::MayFail(Cause::Command));
+        return Err(Trouble::may_fail(base.alloc, Cause::Command));
     }
     let fewer = steps - 1;
     match shape {
@@ -114,7 +114,7 @@ fn field_shape_by(
         }
         Shape::Named(defined) => match find(base.definitions, defined.as_slice()) {
             Some(shape) => field_shape_by(base, fewer, mode, name, shape),
-            None => Err(Trouble::MayFail(Cause::Command)),
+            None => Err(Trouble::may_fail(base.alloc, Cause::Command)),
         },
         _ => Err(no_fields(base.alloc, name, shape)),
     }
@@ -131,7 +131,7 @@ pub fn chain_shape(
         ≡ Some (shape_of s)) }
 {
     match names {
-        [] => Ok(copy_shape(base.alloc, shape)?),
+        [] => Ok(copy_counted(base, shape)?),
         [first, rest @ ..] => {
             let shape = field_shape_by(base, base.limit, mode, first.as_slice(), shape)?;
             chain_shape(base, mode, rest, &shape)
@@ -143,12 +143,32 @@ pub fn chain_shape(
 pub(crate) fn any_field(base: &Base<'_>, fields: &Fields) -> Result<Shape, AllocError>
     ensures { IfOk result (λ s. shape_of s ≡ any_field (base_of base.now) (fields_of fields.now)) }
 {
-    match fields {
-        Fields::Closed => Ok(Shape::Never),
-        Fields::Others(shape) => copy_shape(base.alloc, shape),
-        Fields::Field(first) => {
-            let shape = copy_shape(base.alloc, &first.shape)?;
-            join(base, shape, any_field(base, &first.rest)?)
+    let mut back = Shape::Never;
+    let mut rest = fields;
+    while let Fields::Field(first) = rest {
+        back = either(base.alloc, copy_counted(base, &first.shape)?, back)?;
+        rest = &first.rest;
+    }
+    let last = match rest {
+        Fields::Others(shape) => copy_counted(base, shape)?,
+        Fields::Closed | Fields::Field(_) => Shape::Never,
+    };
+    join_with_all(base, back, last)
+}
+
+/// The values of the second and of each alternative of the first but its last.
+fn join_with_all(base: &Base<'_>, back: Shape, last: Shape) -> Result<Shape, AllocError>
+    ensures { IfOk result (λ all. shape_of all ≡ gathered (join (base_of base.now)) (shape_of back) (shape_of last)) }
+{
+    let mut back = back;
+    let mut all = last;
+    loop {
+        match back {
+            Shape::Either(one, rest) => {
+                all = join(base, Box::into_inner(one), all)?;
+                back = Box::into_inner(rest);
+            }
+            _ => return Ok(all),
         }
     }
 }
@@ -164,7 +184,7 @@ fn keyed_shape(base: &Base<'_>, key: Key<'_>, fields: &Fields) -> Result<Shape, 
             let any = any_field(base, fields)?;
             Ok(join(base, any, Shape::Nulls)?)
         }
-        Key::Place(_) => Err(Trouble::MayFail(Cause::Arguments(Func::Index))),
+        Key::Place(_) => Err(Trouble::may_fail(base.alloc, Cause::Arguments(Func::Index))),
     }
 }
 
@@ -175,11 +195,17 @@ fn item_shape(base: &Base<'_>, key: Key<'_>, least: u64, items: &Shape) -> Resul
     match key {
         Key::Place(place) => {
             if place < least {
-                return Ok(copy_shape(base.alloc, items)?);
+                return Ok(copy_counted(base, items)?);
             }
-            Err(Trouble::MayFail(Cause::FewItems(Func::Index, place.saturating_add(1))))
+            Err(Trouble::may_fail(
+                base.alloc,
+                Cause::FewItems(Func::Index, place.saturating_add(1)),
+            ))
         }
-        Key::Name(_) | Key::Text => Err(Trouble::MayFail(Cause::Arguments(Func::Index))),
+        Key::Name(_) | Key::Text => Err(Trouble::may_fail(
+            base.alloc,
+            Cause::Arguments(Func::Index),
+        )),
     }
 }
 
@@ -194,7 +220,7 @@ fn index_shape_by(
         ≡ Some (shape_of s)) }
 {
     if steps == 0 {
-        return Err(Trouble::MayFail(Cause::Command));
+        return Err(Trouble::may_fail(base.alloc, Cause::Command));
     }
     let fewer = steps - 1;
     match shape {
@@ -208,9 +234,9 @@ fn index_shape_by(
         }
         Shape::Named(defined) => match find(base.definitions, defined.as_slice()) {
             Some(shape) => index_shape_by(base, fewer, key, shape),
-            None => Err(Trouble::MayFail(Cause::Command)),
+            None => Err(Trouble::may_fail(base.alloc, Cause::Command)),
         },
-        _ => Err(Trouble::MayFail(Cause::Arguments(Func::Index))),
+        _ => Err(Trouble::may_fail(base.alloc, Cause::Arguments(Func::Index))),
     }
 }
 

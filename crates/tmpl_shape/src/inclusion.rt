@@ -13,32 +13,28 @@ use crate::shape::{Base, Definition, Fields, Shape};
 pub(crate) fn find<'s>(definitions: &'s [Definition], name: &[u8]) -> Option<&'s Shape>
     ensures { shape_seen result ≡ defs_in definitions.now name.now }
 {
-    match definitions {
-        [] => None,
-        [first, rest @ ..] => {
-            if name == first.name.as_slice() {
-                Some(&first.shape)
-            } else {
-                find(rest, name)
-            }
+    for definition in definitions {
+        if name == definition.name.as_slice() {
+            return Some(&definition.shape);
         }
     }
+    None
 }
 
 /// The shape that a field of a name has if it is there.
 pub(crate) fn shape_at<'f>(name: &[u8], fields: &'f Fields) -> Option<&'f Shape>
     ensures { shape_seen result ≡ shape_at name.now (fields_of fields.now) }
 {
-    match fields {
-        Fields::Closed => None,
-        Fields::Others(shape) => Some(shape),
-        Fields::Field(first) => {
-            if name == first.name.as_slice() {
-                Some(&first.shape)
-            } else {
-                shape_at(name, &first.rest)
-            }
+    let mut rest = fields;
+    while let Fields::Field(first) = rest {
+        if name == first.name.as_slice() {
+            return Some(&first.shape);
         }
+        rest = &first.rest;
+    }
+    match rest {
+        Fields::Others(shape) => Some(shape),
+        Fields::Closed | Fields::Field(_) => None,
     }
 }
 
@@ -46,65 +42,83 @@ pub(crate) fn shape_at<'f>(name: &[u8], fields: &'f Fields) -> Option<&'f Shape>
 fn is_required(name: &[u8], fields: &Fields) -> bool
     ensures { result ≡ is_required name.now (fields_of fields.now) }
 {
-    match fields {
-        Fields::Closed | Fields::Others(_) => false,
-        Fields::Field(first) => {
-            (name == first.name.as_slice() && first.required) || is_required(name, &first.rest)
+    let mut rest = fields;
+    while let Fields::Field(first) = rest {
+        if name == first.name.as_slice() && first.required {
+            return true;
         }
+        rest = &first.rest;
     }
+    false
 }
 
 /// Whether those of the second that are always there are so in the first.
 fn requires_all(fields: &Fields, others: &Fields) -> bool
     ensures { result ≡ requires_all (fields_of fields.now) (fields_of others.now) }
 {
-    match others {
-        Fields::Closed | Fields::Others(_) => true,
-        Fields::Field(first) => {
-            (!first.required || is_required(first.name.as_slice(), fields))
-                && requires_all(fields, &first.rest)
+    let mut rest = others;
+    while let Fields::Field(first) = rest {
+        if first.required && !is_required(first.name.as_slice(), fields) {
+            return false;
         }
+        rest = &first.rest;
     }
+    true
 }
 
 /// Whether there is a field of this name.
 fn is_listed(name: &[u8], fields: &Fields) -> bool
     ensures { result ≡ is_listed name.now (fields_of fields.now) }
 {
-    match fields {
-        Fields::Closed | Fields::Others(_) => false,
-        Fields::Field(first) => name == first.name.as_slice() || is_listed(name, &first.rest),
+    let mut rest = fields;
+    while let Fields::Field(first) = rest {
+        if name == first.name.as_slice() {
+            return true;
+        }
+        rest = &first.rest;
     }
+    false
 }
 
 /// Whether this name is one of the alternatives.
 pub fn has_name(name: &[u8], shape: &Shape) -> bool
     ensures { result ≡ has_name name.now (shape_of shape.now) }
 {
-    match shape {
-        Shape::Either(one, other) => has_name(name, one) || has_name(name, other),
+    let mut rest = shape;
+    while let Shape::Either(one, other) = rest {
+        if has_name(name, one) {
+            return true;
+        }
+        rest = other;
+    }
+    match rest {
         Shape::Named(other) => name == other.as_slice(),
         _ => false,
     }
 }
 
-/// Whether each value of the one has the other, as far as these steps show.
+/// Whether each value of the one has the other, as far as these steps show. The alternatives of the one are asked one by
+/// one, however many there are.
 #[cycle(within)]
 fn within_by(base: &Base<'_>, names: usize, steps: usize, one: &Shape, other: &Shape) -> bool
     ensures { result ≡ within_by (base_of base.now) names steps (shape_of one.now) (shape_of other.now) }
 {
+    base.effort.spend(1);
     if steps == 0 {
         return false;
     }
     let fewer = steps - 1;
-    match one {
-        Shape::Never => true,
-        Shape::Either(first, second) => {
-            within_by(base, names, fewer, first, other)
-                && within_by(base, names, fewer, second, other)
+    let mut rest = one;
+    while let Shape::Either(first, second) = rest {
+        if !within_by(base, names, fewer, first, other) {
+            return false;
         }
+        rest = second;
+    }
+    match rest {
+        Shape::Never => true,
         Shape::Named(name) => name_within(base, names, fewer, name.as_slice(), other),
-        _ => some_part(base, 64, names, fewer, one, other),
+        _ => some_part(base, 64, names, fewer, rest, other),
     }
 }
 
@@ -125,7 +139,8 @@ fn name_within(base: &Base<'_>, names: usize, steps: usize, name: &[u8], other: 
     }
 }
 
-/// Whether some alternative has each value of a shape of one kind, as far as this many steps show.
+/// Whether some alternative has each value of a shape of one kind, as far as this many steps show. The alternatives are
+/// asked one by one, however many there are.
 #[cycle(within)]
 fn some_part(
     base: &Base<'_>,
@@ -142,17 +157,20 @@ fn some_part(
         return false;
     }
     let fewer = reach - 1;
-    match other {
-        Shape::Either(first, second) => {
-            some_part(base, fewer, names, steps, one, first)
-                || some_part(base, fewer, names, steps, one, second)
+    let mut rest = other;
+    while let Shape::Either(first, second) = rest {
+        if some_part(base, fewer, names, steps, one, first) {
+            return true;
         }
+        rest = second;
+    }
+    match rest {
         Shape::Named(name) => match find(base.definitions, name.as_slice()) {
             Some(shape) => some_part(base, fewer, names, steps, one, shape),
             None => false,
         },
         Shape::Anything => true,
-        _ => plain_within(base, names, steps, one, other),
+        _ => plain_within(base, names, steps, one, rest),
     }
 }
 
@@ -162,6 +180,7 @@ fn some_part(
 fn plain_within(base: &Base<'_>, names: usize, steps: usize, one: &Shape, other: &Shape) -> bool
     ensures { result ≡ plain_within (within_by (base_of base.now) names steps) (shape_of one.now) (shape_of other.now) }
 {
+    base.effort.spend(1);
     match (one, other) {
         (Shape::Nothings, Shape::Nothings) => true,
         (Shape::Nulls, Shape::Nulls) => true,

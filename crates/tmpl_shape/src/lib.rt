@@ -4,6 +4,7 @@
 mod call;
 mod cause;
 mod change;
+mod effort;
 mod field;
 mod format;
 mod inclusion;
@@ -15,13 +16,14 @@ mod visit;
 pub use call::call_shape;
 pub use cause::{Cause, Trouble};
 pub use change::{fill, join, null_gone, refine};
+pub use effort::Effort;
 pub use field::{Key, chain_shape, index_shape};
 pub use format::printf_shape;
 pub use inclusion::{has_name, within};
 pub use kind::{Kind, Kinds, has_kind, kinds_of};
 pub use part::part_shape;
 pub use shape::{
-    Base, Definition, Field, Fields, Schema, Shape, copy_name, copy_shape, either, list_of,
-    put_field,
+    Base, Definition, Field, Fields, Schema, Shape, copy_counted, copy_name, copy_shape, either,
+    list_of, put_field,
 };
 pub use visit::{Visit, visit_of};

@@ -9,7 +9,7 @@ ghost use Rattle.tmpl_shape.specs.computed.View.{base_of};
 use crate::cause::{Cause, Trouble};
 use crate::change::join;
 use crate::inclusion::find;
-use crate::shape::{Base, Shape, copy_shape, list_of};
+use crate::shape::{Base, Shape, copy_counted, list_of};
 use tmpl_funcs::Func;
 
 /// The part of a list of at least as many items between two bounds, or from one on.
@@ -23,24 +23,27 @@ fn list_part(
     ensures { IfOk result (λ s. list_part from to least (shape_of items.now) ≡ Some (shape_of s)) }
 {
     let end = match to {
-        Some(end) if end < from => return Err(Trouble::MayFail(Cause::Arguments(Func::Slice))),
+        Some(end) if end < from => return Err(Trouble::may_fail(
+            base.alloc,
+            Cause::Arguments(Func::Slice),
+        )),
         Some(end) => end,
         None => least,
     };
     let most = from.max(end);
     if most > least {
-        return Err(Trouble::MayFail(Cause::FewItems(Func::Slice, most)));
+        return Err(Trouble::may_fail(base.alloc, Cause::FewItems(Func::Slice, most)));
     }
-    Ok(list_of(base.alloc, end - from, copy_shape(base.alloc, items)?)?)
+    Ok(list_of(base.alloc, end - from, copy_counted(base, items)?)?)
 }
 
 /// The part of a text.
-fn text_part(from: u64, to: Option<u64>) -> Result<Shape, Trouble>
+fn text_part(base: &Base<'_>, from: u64, to: Option<u64>) -> Result<Shape, Trouble>
     ensures { IfOk result (λ s. text_part from to ≡ Some (shape_of s)) }
 {
     match to {
         None if from == 0 => Ok(Shape::Texts),
-        _ => Err(Trouble::MayFail(Cause::NotFollowed(Func::Slice))),
+        _ => Err(Trouble::may_fail(base.alloc, Cause::NotFollowed(Func::Slice))),
     }
 }
 
@@ -56,12 +59,12 @@ fn part_shape_by(
         ≡ Some (shape_of s)) }
 {
     if steps == 0 {
-        return Err(Trouble::MayFail(Cause::Command));
+        return Err(Trouble::may_fail(base.alloc, Cause::Command));
     }
     let fewer = steps - 1;
     match shape {
         Shape::Never => Ok(Shape::Never),
-        Shape::Texts => text_part(from, to),
+        Shape::Texts => text_part(base, from, to),
         Shape::List { least, items } => list_part(base, from, to, *least, items),
         Shape::Either(one, other) => {
             let one = part_shape_by(base, fewer, from, to, one)?;
@@ -70,9 +73,9 @@ fn part_shape_by(
         }
         Shape::Named(name) => match find(base.definitions, name.as_slice()) {
             Some(shape) => part_shape_by(base, fewer, from, to, shape),
-            None => Err(Trouble::MayFail(Cause::Command)),
+            None => Err(Trouble::may_fail(base.alloc, Cause::Command)),
         },
-        _ => Err(Trouble::MayFail(Cause::Arguments(Func::Slice))),
+        _ => Err(Trouble::may_fail(base.alloc, Cause::Arguments(Func::Slice))),
     }
 }
 

@@ -11,7 +11,7 @@ use crate::cause::{Cause, Trouble, kind_word};
 use crate::change::join;
 use crate::field::any_field;
 use crate::inclusion::find;
-use crate::shape::{Base, Shape, copy_shape};
+use crate::shape::{Base, Shape, copy_counted};
 use std::alloc::AllocError;
 use tmpl_grammar::Binding;
 
@@ -23,11 +23,11 @@ pub struct Visit {
 }
 
 /// What a range over a number visits, where it may have these variables.
-fn number_visit(binding: &Binding) -> Result<Visit, Trouble>
+fn number_visit(base: &Base<'_>, binding: &Binding) -> Result<Visit, Trouble>
     ensures { IfOk result (λ v. number_visit (binding_of binding.now) ≡ Some (visit_seen v)) }
 {
     match binding {
-        Binding::DeclarePair(_) => Err(Trouble::MayFail(Cause::Range("a number"))),
+        Binding::DeclarePair(_) => Err(Trouble::may_fail(base.alloc, Cause::Range("a number"))),
         _ => Ok(Visit {
             key: Shape::Numbers,
             element: Shape::Numbers,
@@ -56,7 +56,7 @@ fn visit_by(
         ≡ Some (visit_seen v)) }
 {
     if steps == 0 {
-        return Err(Trouble::MayFail(Cause::Command));
+        return Err(Trouble::may_fail(base.alloc, Cause::Command));
     }
     let fewer = steps - 1;
     match shape {
@@ -64,10 +64,10 @@ fn visit_by(
             key: Shape::Never,
             element: Shape::Never,
         }),
-        Shape::Numbers => number_visit(binding),
+        Shape::Numbers => number_visit(base, binding),
         Shape::List { items, .. } => Ok(Visit {
             key: Shape::Numbers,
-            element: copy_shape(base.alloc, items)?,
+            element: copy_counted(base, items)?,
         }),
         Shape::Record(fields) => Ok(Visit {
             key: Shape::Texts,
@@ -80,9 +80,9 @@ fn visit_by(
         }
         Shape::Named(name) => match find(base.definitions, name.as_slice()) {
             Some(shape) => visit_by(base, fewer, binding, shape),
-            None => Err(Trouble::MayFail(Cause::Command)),
+            None => Err(Trouble::may_fail(base.alloc, Cause::Command)),
         },
-        _ => Err(Trouble::MayFail(Cause::Range(kind_word(shape)))),
+        _ => Err(Trouble::may_fail(base.alloc, Cause::Range(kind_word(shape)))),
     }
 }
 

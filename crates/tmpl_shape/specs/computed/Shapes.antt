@@ -58,6 +58,27 @@ with_field n t (others s) = field n true t (others s)
 with_field n t (field name required s fs) =
     if bytes_eq n name then field name true t fs else field name required s (with_field n t fs)
 
+-- with the first that is always there and has the shape; where there is none but others may be, with this one
+abbrev pub with_first : List ℕ → Shape → Fields → Fields
+with_first n t no_field = no_field
+with_first n t (others s) = field n true t (others s)
+with_first n t (field name required s fs) = field name true t fs
+
+-- the first field, and those after it
+abbrev pub first_in : Fields → Option (List ℕ × Bool × Shape × Fields)
+first_in (field n required s fs) = Some (n, required, s, fs)
+first_in fs = None
+
+-- the fields of the first, the last of them foremost, and then the second
+abbrev pub onto : Fields → Fields → Fields
+onto (field n required s fs) gs = onto fs (field n required s gs)
+onto fs gs = gs
+
+-- the second, joined by this with each alternative of the first in turn but the last, which only ends them
+abbrev pub gathered : (Shape → Shape → Shape) → Shape → Shape → Shape
+gathered f (either a back) s = gathered f back (f a s)
+gathered f back s = s
+
 -- ---- inclusion
 
 -- each field that is none of all these may be among the others
@@ -115,6 +136,13 @@ plain_within w (list_of n s) (list_of m t) = nat_le m n && w s t
 plain_within w (record_of fs) (record_of gs) = fields_along w fs gs
 plain_within w s t = false
 
+-- each alternative is such: by what is asked of those before the last, of names, and of a shape of one kind
+abbrev pub each_along : (Shape → Bool) → (List ℕ → Bool) → (Shape → Bool) → Shape → Bool
+each_along f g p (either s t) = f s && each_along f g p t
+each_along f g p never = true
+each_along f g p (named x) = g x
+each_along f g p s = p s
+
 -- what is known of an index: it is this text, or a text, or this number
 pub data Key : Type 0 where
   of_name : List ℕ → Key
@@ -150,22 +178,24 @@ number_visit (declare_pair key name) = None
 number_visit c = visit numbers numbers
 
 module _ (base : Base) where
-  -- some alternative is such, or it has each value, as far as this many steps show
+  -- some alternative is such, or it has each value: by what is asked of those before the last, and of what names stand for
+  abbrev pub some_along : (Shape → Bool) → (Shape → Bool) → Shape → Bool
+  some_along f p (either s t) = f s || some_along f p t
+  some_along f p (named x) = option_map_or f (base.defs x) false
+  some_along f p anything = true
+  some_along f p t = p t
+
+  -- .. as far as this many steps show
   abbrev pub some_part : ℕ → (Shape → Bool) → Shape → Bool
   some_part zero p t = false
-  some_part (suc n) p (either s t) = some_part n p s || some_part n p t
-  some_part (suc n) p (named x) = option_map_or (some_part n p) (base.defs x) false
-  some_part (suc n) p anything = true
-  some_part (suc n) p t = p t
+  some_part (suc n) p t = some_along (some_part n p) p t
 
   -- each value of the first has the second, as far as is seen where as many names are followed, and as many steps taken
   abbrev pub within_by : ℕ → ℕ → Shape → Shape → Bool
   within_by k zero s t = false
-  within_by k (suc n) never t = true
-  within_by k (suc n) (either s u) t = within_by k n s t && within_by k n u t
-  within_by k (suc n) (named x) t =
-      has_name x t || if_more (λ i. option_map_or (λ s. within_by i n s t) (base.defs x) false) k
-  within_by k (suc n) s t = some_part 64 (plain_within (within_by k n) s) t
+  within_by k (suc n) s t =
+      each_along (λ u. within_by k n u t) (λ x. has_name x t || if_more (λ i. option_map_or (λ u. within_by i n u t) (base.defs x) false) k)
+      (λ u. some_part 64 (plain_within (within_by k n) u) t) s
 
   unfoldable pub within : Shape → Shape → Bool
   within s t = within_by base.names base.limit s t

@@ -1,9 +1,12 @@
 -- What the program's values that only the check has stand for.
-use Rattle.std.specs.Prelude.{ℕ, Bool, false, ◌||◌, List, Option}
+use Rattle.std.specs.Prelude.{ℕ, Bool, false, ◌||◌, List, Option, Box}
 use Rattle.std.specs.Option.{option_map, option_map_or}
 use Rattle.std.specs.Borrow.{Bor}
 use Rattle.tmpl_shape.specs.Shape as spec
-use Rattle.tmpl_shape.specs.View.{defs_in, shape_of}
+use Rattle.tmpl_shape.specs.View.{defs_in, fields_of, shape_of}
+use Rattle.tmpl_shape.specs.declared.shape.Field as held_field
+use Rattle.tmpl_shape.specs.declared.shape.Field.{out-Field}
+use Rattle.std.specs.Global.{Global}
 use Rattle.tmpl_shape.specs.computed.Shapes as computed
 use Rattle.tmpl_shape.specs.computed.Shapes.{Key, of_name, of_text, of_place, has_name, if_more, within_by}
 use Rattle.tmpl_shape.specs.declared.field.Key as held_key
@@ -29,3 +32,8 @@ visit_seen v = record { key = shape_of v.key; element = shape_of v.element }
 -- a name is one of the alternatives, or what it stands for is within the shape, where one more name is followed
 abbrev pub name_within : computed.Base → ℕ → ℕ → List ℕ → spec.Shape → Bool
 name_within base k n x t = has_name x t || if_more (λ i. option_map_or (λ s. within_by base i n s t) (base.defs x) false) k
+
+-- a field, and those after it
+abbrev pub first_seen : Box held_field.Field Global → List ℕ × Bool × spec.Shape × spec.Fields
+first_seen f =
+    let first = out-Field f.value in (first.name, first.required, shape_of first.shape, fields_of first.rest)

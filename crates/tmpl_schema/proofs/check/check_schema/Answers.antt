@@ -10,7 +10,7 @@ use Rattle.tmpl_schema.proofs.check.check_schema.Goals as goal
 
 pub returns-in-Ok : goal.returns-in-Ok
 returns-in-Ok c =
-    let base : Base = record { defs = defs_in c.as_slice.result.now; names = 6; limit = 400 } in
+    let base : Base = record { defs = defs_in c.as_slice.result.now; names = 6; limit = 150 } in
     let asked = c.args.mode in
     let stops = c.args.stops.now in
     let set = set_view c.args.set.now in

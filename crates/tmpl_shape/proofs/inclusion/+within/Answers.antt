@@ -1,24 +1,68 @@
-use Rattle.std.proofs.Common.{rules, ◌≡◌, ◌&&◌, ◌||◌, not, true, false, ◌∙◌, ap, sym, subst}
+use Rattle.std.proofs.Common.{rules, ◌≡◌, ◌-◌, ◌&&◌, ◌||◌, not, true, false, Option, Some, ◌∙◌, ap, sym}
+use Rattle.std.specs.Option.{option_map_or}
 use Rattle.std.specs.Str.{bytes_eq}
 use Rattle.tmpl_shape.specs.View.{fields_of, shape_of}
-use Rattle.tmpl_shape.specs.computed.Shapes.{fields_along, within_by}
+use Rattle.tmpl_shape.specs.Shape.{Shape}
+use Rattle.tmpl_shape.specs.computed.Shapes.{fields_along, plain_within, some_along, some_part, within_by}
 use Rattle.tmpl_shape.specs.computed.View.{base_of}
 use Rattle.tmpl_shape.specs.declared.shape.Field.{out-Field}
-use Rattle.tmpl_shape.proofs.LeafLemmas.{is-leaf, is-end}
-use Rattle.tmpl_shape.proofs.ViewLemmas.{named_seen, field_seen}
-use Rattle.tmpl_shape.proofs.StepLemmas.{first-ends, second-ends, names-agree, names-differ, leaf-within, named-within}
+use Rattle.tmpl_shape.proofs.LeafLemmas.{is-leaf, is-end, part-leaf}
+use Rattle.tmpl_shape.proofs.ViewLemmas.{either_seen, named_seen, field_seen}
+use Rattle.tmpl_shape.proofs.StepLemmas.{first-ends, second-ends, names-agree, names-differ, within_along, within-more, within-ends, leaf-along, part-more, part-ends}
 use Rattle.tmpl_shape.proofs.inclusion.+within.Goals as goal
 
-pub within_by-returns-in-Named : goal.within_by-returns-in-Named
-within_by-returns-in-Named t c =
-    named-within (base_of c.args.base.now) c.args.names c.args.steps _ (shape_of c.args.one.now) (shape_of c.args.other.now) c.name_within.result
-    (ap shape_of c.in-Named.is ∙ named_seen c.in-Named.name) c.if-steps-eq0.false (search rules)
+pub within_by-loop-rest-preserved : goal.within_by-loop-rest-preserved
+within_by-loop-rest-preserved t c =
+    let base = base_of c.args.base.now in
+    let one = shape_of c.in-Either.first.value in
+    let two = shape_of c.in-Either.second.value in
+    let other = shape_of c.args.other.now in
+    let holds : within_by base c.args.names (c.args.steps - 1) one other ≡ true = search rules in
+    let step : within_along base c.args.names (c.args.steps - 1) other (shape_of c.args.one.now) ≡ within_along base c.args.names (c.args.steps - 1) other two =
+    within-more base c.args.names (c.args.steps - 1) (shape_of c.args.one.now) (shape_of c.loop-rest.rest.now) one two other c.loop-rest.invariant
+    (ap shape_of c.in-Either.is ∙ either_seen c.in-Either.first c.in-Either.second) holds in
+    search (rules, step)
 
-pub within_by-returns-in_default : goal.within_by-returns-in_default
-within_by-returns-in_default t c =
-    leaf-within (base_of c.args.base.now) c.args.names c.args.steps (shape_of c.args.one.now) (shape_of c.args.other.now) c.some_part.result
-    (is-leaf (base_of c.args.base.now) c.args.names c.args.one.now c.in_default.not-Never c.in_default.not-Either c.in_default.not-Named) c.if-steps-eq0.false
-    c.some_part.ensures
+pub within_by-returns-in_default-rest : goal.within_by-returns-in_default-rest
+within_by-returns-in_default-rest t c =
+    let base = base_of c.args.base.now in
+    let rest = c.loop-rest.rest.now in
+    within-ends base c.args.names c.args.steps (shape_of c.args.one.now) (shape_of rest) (shape_of c.args.other.now) c.some_part.result c.if-steps-eq0.false c.loop-rest.invariant
+    (c.some_part.ensures
+    ∙ sym (leaf-along base c.args.names (c.args.steps - 1) (shape_of rest) (shape_of c.args.other.now)
+    (is-leaf base c.args.names rest c.in_default-rest.not-Never c.in_default.not-Either c.in_default-rest.not-Named)))
+
+pub some_part-loop-rest-preserved : goal.some_part-loop-rest-preserved
+some_part-loop-rest-preserved t c =
+    let base = base_of c.args.base.now in
+    let p = plain_within (within_by base c.args.names c.args.steps) (shape_of c.args.one.now) in
+    let f = some_part base (c.args.reach - 1) p in
+    let one = shape_of c.in-Either.first.value in
+    let two = shape_of c.in-Either.second.value in
+    let apart : f one ≡ false = search rules in
+    let step : some_along base f p (shape_of c.args.other.now) ≡ some_along base f p two =
+    part-more base p f (shape_of c.args.other.now) (shape_of c.loop-rest.rest.now) one two c.loop-rest.invariant
+    (ap shape_of c.in-Either.is ∙ either_seen c.in-Either.first c.in-Either.second) apart in
+    search (rules, step)
+
+pub some_part-returns-in-Some : goal.some_part-returns-in-Some
+some_part-returns-in-Some t c =
+    let base = base_of c.args.base.now in
+    let p = plain_within (within_by base c.args.names c.args.steps) (shape_of c.args.one.now) in
+    let f = some_part base (c.args.reach - 1) p in
+    let rest = c.loop-rest.rest.now in
+    let found : ◌≡◌ {A = Option Shape} (Some (shape_of c.in-Some.shape.now)) (base.defs c.in-Named.name) = search rules in
+    part-ends base p c.args.reach (shape_of c.args.other.now) (shape_of rest) c.some_part-in-Some.result c.if-reach-eq0.false c.loop-rest.invariant
+    (c.some_part-in-Some.ensures ∙ ap (λ o. option_map_or f o false) found ∙ sym (ap (some_along base f p) (ap shape_of c.in-Named.is ∙ named_seen c.in-Named.name)))
+
+pub some_part-returns-in_default-rest : goal.some_part-returns-in_default-rest
+some_part-returns-in_default-rest t c =
+    let base = base_of c.args.base.now in
+    let p = plain_within (within_by base c.args.names c.args.steps) (shape_of c.args.one.now) in
+    let f = some_part base (c.args.reach - 1) p in
+    let rest = c.loop-rest.rest.now in
+    part-ends base p c.args.reach (shape_of c.args.other.now) (shape_of rest) c.plain_within.result c.if-reach-eq0.false c.loop-rest.invariant
+    (c.plain_within.ensures ∙ sym (part-leaf base f p rest c.in_default-rest.not-Anything c.in_default.not-Either c.in_default-rest.not-Named))
 
 pub fields_along-returns-then-ne : goal.fields_along-returns-then-ne
 fields_along-returns-then-ne t c =

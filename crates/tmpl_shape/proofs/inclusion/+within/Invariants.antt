@@ -1,7 +1,8 @@
 use Rattle.std.proofs.Common.{◌≡◌, ◌+◌, ◌*◌}
 use Rattle.tmpl_shape.specs.View.{fields_of, shape_of}
-use Rattle.tmpl_shape.specs.computed.Shapes.{fields_along, fields_within, others_within, within_by}
+use Rattle.tmpl_shape.specs.computed.Shapes.{fields_along, fields_within, others_within, plain_within, some_along, some_part, within_by}
 use Rattle.tmpl_shape.specs.computed.View.{base_of}
+use Rattle.tmpl_shape.proofs.StepLemmas.{spine, within_along}
 use Rattle.tmpl_shape.proofs.ViewLemmas.{count}
 use Rattle.tmpl_shape.proofs.inclusion.+within.Given as goal
 
@@ -52,3 +53,19 @@ abbrev pub invariant-others_within-loop-rest : goal.invariant-others_within-loop
 invariant-others_within-loop-rest l =
     let p = within_by (base_of l.base) l.names l.steps (shape_of l.shape) in
     others_within p (fields_of l.all) (fields_of l.others) ≡ others_within p (fields_of l.all) (fields_of l.rest)
+
+abbrev pub decreases-within_by-loop-rest : goal.decreases-within_by-loop-rest
+decreases-within_by-loop-rest l = spine (shape_of l.rest)
+
+abbrev pub invariant-within_by-loop-rest : goal.invariant-within_by-loop-rest
+invariant-within_by-loop-rest l =
+    within_along (base_of l.base) l.names l.fewer (shape_of l.other) (shape_of l.one) ≡ within_along (base_of l.base) l.names l.fewer (shape_of l.other) (shape_of l.rest)
+
+abbrev pub decreases-some_part-loop-rest : goal.decreases-some_part-loop-rest
+decreases-some_part-loop-rest l = spine (shape_of l.rest)
+
+abbrev pub invariant-some_part-loop-rest : goal.invariant-some_part-loop-rest
+invariant-some_part-loop-rest l =
+    let base = base_of l.base in
+    let p = plain_within (within_by base l.names l.steps) (shape_of l.one) in
+    some_along base (some_part base l.fewer p) p (shape_of l.other) ≡ some_along base (some_part base l.fewer p) p (shape_of l.rest)
