@@ -17,6 +17,9 @@ use std::str::from_utf8;
 /// The largest whole number that has an exact neighbor among floats.
 const EXACT: i64 = 9_007_199_254_740_992;
 
+/// How many levels of a schema are followed, one into the other.
+pub const LEVELS: usize = 120;
+
 /// Texts of the formats that are met.
 static FORMATS: [(&str, &str); 9] = [
     ("date", "2000-01-01"),
@@ -31,7 +34,7 @@ static FORMATS: [(&str, &str); 9] = [
 ];
 
 /// The text of a format, if it is one of those.
-pub fn text_of_format(format: &str) -> Option<&'static str> {
+pub(crate) fn text_of_format(format: &str) -> Option<&'static str> {
     for (name, text) in FORMATS.iter() {
         if *name == format {
             return Some(*text);
@@ -41,7 +44,7 @@ pub fn text_of_format(format: &str) -> Option<&'static str> {
 }
 
 /// What a `$ref` within a document points to; none where it has escapes of a URI.
-pub fn referred<'d>(root: &'d Value, reference: &Value) -> Option<&'d Value>
+pub(crate) fn referred<'d>(root: &'d Value, reference: &Value) -> Option<&'d Value>
     ensures { IfSome result (λ schema. refer (view root.now) (view reference.now) ≡ Some (view schema.now)) }
 {
     match reference {
@@ -256,7 +259,7 @@ fn others_conform(
 }
 
 /// Whether the properties of a schema have this name.
-pub fn is_property(schema: &Value, name: &str) -> bool
+pub(crate) fn is_property(schema: &Value, name: &str) -> bool
     ensures { result ≡ in_properties name.now (get (codes "properties") (view schema.now)) }
 {
     match schema.get("properties") {
@@ -341,7 +344,7 @@ fn is_in_order(one: &Number, other: &Number, is_strict: bool) -> bool {
 }
 
 /// Whether a bound of a schema is none of its values: so draft-04 says it, by a truth value.
-pub fn is_excluded(schema: &Value, keyword: &str) -> bool {
+pub(crate) fn is_excluded(schema: &Value, keyword: &str) -> bool {
     schema.get(keyword).and_then(Value::as_bool) == Some(true)
 }
 

@@ -24,6 +24,11 @@ fn is_key(key: &[u8], names: &[Value]) -> bool
     }
 }
 
+/// How many items a list has at least, where that is said.
+pub fn least_items(schema: &Value) -> Option<u64> {
+    schema.get("minItems").and_then(Value::as_u64)
+}
+
 /// How many items a list has at least.
 pub(crate) fn least_in(schema: &Value) -> u64
     ensures { result ≡ least_in (view schema.now) }
@@ -46,6 +51,11 @@ pub(crate) fn is_required(key: &[u8], required: Option<&Value>) -> bool
         Some(_) => false,
         None => false,
     }
+}
+
+/// Whether a schema requires this key.
+pub fn requires_key(schema: &Value, key: &str) -> bool {
+    is_required(key.as_bytes(), schema.get("required"))
 }
 
 /// The fields, with one more that is always there unless it is a property.
@@ -142,7 +152,7 @@ pub(crate) fn required_in(
 }
 
 /// Whether something is said of fields and items.
-pub(crate) fn has_content(schema: &Value) -> bool
+pub fn has_content(schema: &Value) -> bool
     ensures { result ≡ has_content (view schema.now) }
 {
     schema.get("properties").is_some()

@@ -11,13 +11,13 @@ use std::alloc::Global;
 
 /// Which kinds of values there may be.
 #[derive(Clone, Copy)]
-pub(crate) struct Kinds {
-    pub(crate) null: bool,
-    pub(crate) truth: bool,
-    pub(crate) number: bool,
-    pub(crate) text: bool,
-    pub(crate) list: bool,
-    pub(crate) map: bool,
+pub struct Kinds {
+    pub null: bool,
+    pub truth: bool,
+    pub number: bool,
+    pub text: bool,
+    pub list: bool,
+    pub map: bool,
 }
 
 /// None of them.
@@ -80,7 +80,7 @@ fn both_kinds(one: Kinds, other: Kinds) -> Kinds
 }
 
 /// Whether they are all kinds.
-pub(crate) fn is_every_kind(kinds: Kinds) -> bool
+pub fn is_every_kind(kinds: Kinds) -> bool
     ensures { result ≡ is_every_kind kinds }
 {
     kinds.null && (kinds.truth && (kinds.number && (kinds.text && (kinds.list && kinds.map))))
@@ -276,4 +276,21 @@ pub(crate) fn kinds_in(alloc: Global, schema: &Value) -> Result<Kinds, SchemaFau
     let types = types_in(alloc, schema)?;
     let constants = enum_in(alloc, schema)?;
     Ok(both_kinds(types, both_kinds(constants, const_in(schema))))
+}
+
+/// The kinds of values that a schema lets through by itself, where it is one that was read.
+pub fn kinds_of(alloc: Global, schema: &Value) -> Kinds {
+    match schema {
+        Value::Bool(true) => every_kind(),
+        Value::Bool(false) => no_kind(),
+        _ => kinds_in(alloc, schema).unwrap_or(NO_KIND),
+    }
+}
+
+/// Whether there is a kind among these but that of maps.
+pub fn lets_no_map(kinds: Kinds) -> bool {
+    !is_no_kind(Kinds {
+        map: false,
+        ..kinds
+    })
 }

@@ -4,6 +4,7 @@
 mod check;
 mod conform;
 mod draft;
+mod draw;
 mod empty;
 mod fault;
 mod fields;
@@ -16,9 +17,13 @@ mod schema;
 mod shapes;
 
 pub use check::{CheckFault, check_document};
-pub use conform::{conforms, is_excluded, is_property, referred, text_of_format};
+pub use conform::{LEVELS, conforms};
 pub use draft::Draft;
+pub use draw::{Draw, Flip};
 pub use empty::part_without_values;
 pub use fault::{Refused, SchemaFault};
+pub use fields::{has_content, least_items, requires_key};
 pub use infer::infer_schema;
+pub use kinds::{Kinds, is_every_kind, kinds_of, lets_no_map};
+pub use read::{choices_in, chosen_by};
 pub use schema::read_schema;

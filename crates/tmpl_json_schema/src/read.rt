@@ -62,7 +62,7 @@ fn reference_shape(reader: &Reader<'_>, reference: &Value) -> Result<Shape, Sche
 }
 
 /// The alternatives, where they are not beside what is said of fields and items.
-pub(crate) fn choices_in(schema: &Value) -> Option<&Value>
+pub fn choices_in(schema: &Value) -> Option<&Value>
     ensures { option_map (λ v. view v.now) result ≡ choices_in (view schema.now) }
 {
     if has_content(schema) {
@@ -203,7 +203,7 @@ fn plain_shape(
 }
 
 /// The keyword under which the alternatives stand that give the shape.
-pub(crate) fn chosen_by(schema: &Value) -> &'static str {
+pub fn chosen_by(schema: &Value) -> &'static str {
     if schema.get("anyOf").is_some() {
         "anyOf"
     } else {

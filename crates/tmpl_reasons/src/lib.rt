@@ -1,8 +1,6 @@
 //! Where in a JSON Schema the reason for a doubt about a template stands, and where the parts of a JSON text stand.
 #![tactic(auto)]
 
-mod keywords;
-mod kind;
 mod origin;
 mod position;
 mod reason;

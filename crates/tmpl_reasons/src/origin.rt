@@ -3,11 +3,12 @@
 ghost use Rattle.std.specs.Prelude.{◌≡◌};
 ghost use Rattle.tmpl_reasons.specs.declared.origin.Lost.TheVariants as lost;
 
-use crate::keywords::{alternatives_in, has_content, requires_key};
-use crate::kind::{Kind, lets_each_kind, lets_no_map};
 use percent_encoding::{DecodeError, percent_decode};
 use serde_json::Value;
 use std::alloc::{AllocError, AllocFailed, Global};
+use tmpl_json_schema::{
+    Kinds, choices_in, chosen_by, has_content, is_every_kind, kinds_of, lets_no_map, requires_key,
+};
 
 /// The most places that are followed at once.
 const MOST_PLACES: usize = 64;
@@ -131,6 +132,11 @@ pub(crate) fn below(alloc: Global, place: &str, part: &str) -> Result<String, Al
 }
 
 impl<'d> Document<'d> {
+    /// The kinds of values that a schema lets through by itself.
+    pub(crate) fn kinds(&self, schema: &Value) -> Kinds {
+        kinds_of(self.alloc, schema)
+    }
+
     /// What stands at a place.
     pub(crate) fn schema_at(&self, place: &str) -> Result<&'d Value, Lost> {
         match self.root.pointer(place) {
@@ -162,14 +168,14 @@ impl<'d> Document<'d> {
             let referred = self.referred(reference)?;
             return self.add_plain(fewer, referred.as_str(), plain);
         }
-        let Some(keyword) = alternatives_in(schema) else {
+        let Some(choices) = choices_in(schema) else {
             return plain.add(String::from_str(self.alloc, place)?);
         };
-        if !lets_each_kind(schema) {
+        if !is_every_kind(self.kinds(schema)) {
             return Err(Lost::Untold);
         }
-        let alternatives = schema.get(keyword).and_then(Value::as_array);
-        for index in 0..alternatives.map_or(0, |alternatives| alternatives.len()) {
+        let keyword = chosen_by(schema);
+        for index in 0..choices.as_array().map_or(0, |choices| choices.len()) {
             let alternative = format!(in self.alloc; "{place}/{keyword}/{index}")?;
             self.add_plain(fewer, alternative.as_str(), plain)?;
         }
@@ -231,10 +237,11 @@ impl<'d> Document<'d> {
     /// Adds where the elements of lists and maps come from that conform to the schema at a plain place.
     fn add_elements(&self, place: &str, elements: &mut Origin) -> Result<(), Lost> {
         let schema = self.schema_at(place)?;
-        if Kind::List.is_let_by(schema) {
+        let kinds = self.kinds(schema);
+        if kinds.list {
             self.add_under(place, "items", elements)?;
         }
-        if Kind::Map.is_let_by(schema) {
+        if kinds.map {
             self.add_entries(place, elements)?;
         }
         Ok(())
@@ -247,10 +254,11 @@ impl<'d> Document<'d> {
         field.is_there = plain.is_there;
         for place in plain.places.as_slice() {
             let schema = self.schema_at(place.as_str())?;
-            if Kind::Map.is_let_by(schema) {
+            let kinds = self.kinds(schema);
+            if kinds.map {
                 self.add_field(place.as_str(), name, &mut field)?;
             }
-            if lets_no_map(schema) {
+            if lets_no_map(kinds) {
                 field.is_there = false;
             }
         }
@@ -268,7 +276,7 @@ impl<'d> Document<'d> {
     }
 }
 
-/// Whether each value conforms to a schema without alternatives, as far as kinds, fields and items go.
-pub(crate) fn lets_all(schema: &Value) -> bool {
-    !has_content(schema) && lets_each_kind(schema)
+/// Whether each value conforms to a schema without alternatives and with these kinds, as far as fields and items go.
+pub(crate) fn lets_all(schema: &Value, kinds: Kinds) -> bool {
+    !has_content(schema) && is_every_kind(kinds)
 }

@@ -3,13 +3,12 @@ ghost use Rattle.std.specs.Prelude.{◌≡◌, Some, IfOk, IfSome};
 ghost use Rattle.std.specs.List.{AllZip};
 ghost use Rattle.tmpl_reasons.specs.Reason.{AreReasons, IsReason, IsTold, absence, few, gap_by, gap_of, kind};
 
-use crate::keywords::{least_items, requires_key};
-use crate::kind::Kind;
 use crate::origin::{Document, Lost, Origin, below, lets_all};
 use crate::position::line_of;
 use crate::walk::{Asked, asked_of};
 use serde_json::Value;
 use std::alloc::{AllocError, Global};
+use tmpl_json_schema::{Kinds, least_items, requires_key};
 use tmpl_schema::{Cause, Doubt};
 use tmpl_syntax::Set;
 
@@ -152,7 +151,7 @@ fn why_absent(document: Document<'_>, place: &str, name: &str) -> Result<Option<
     ensures { IfOk result (λ reason. IfSome reason (IsReason document.entry.bytes.now (Some absence))) }
 {
     let schema = document.schema_at(place)?;
-    if !Kind::Map.is_let_by(schema) || requires_key(schema, name) {
+    if !document.kinds(schema).map || requires_key(schema, name) {
         return Ok(None);
     }
     match schema.get("properties") {
@@ -167,18 +166,18 @@ fn why_absent(document: Document<'_>, place: &str, name: &str) -> Result<Option<
     }
 }
 
-/// Whether a schema without alternatives lets values of the kind of this word through; none where that is not told.
-fn lets_kind(schema: &Value, word: &str) -> Option<bool> {
-    let kind = match word {
-        "any value" => return Some(lets_all(schema)),
-        "null" => Kind::Null,
-        "a truth value" => Kind::Truth,
-        "a number" => Kind::Number,
-        "a text" => Kind::Text,
-        "a list" => Kind::List,
-        _ => return None,
-    };
-    Some(kind.is_let_by(schema))
+/// Whether a schema without alternatives and with these kinds lets values of the kind of this word through; none where
+/// that is not told.
+fn lets_kind(schema: &Value, kinds: Kinds, word: &str) -> Option<bool> {
+    match word {
+        "any value" => Some(lets_all(schema, kinds)),
+        "null" => Some(kinds.null),
+        "a truth value" => Some(kinds.truth),
+        "a number" => Some(kinds.number),
+        "a text" => Some(kinds.text),
+        "a list" => Some(kinds.list),
+        _ => None,
+    }
 }
 
 /// Why a value of the schema at a plain place may be of the kind of this word.
@@ -191,7 +190,7 @@ fn why_kind(
     ensures { IfOk result (λ reason. IfSome reason (IsReason document.entry.bytes.now (Some kind))) }
 {
     let schema = document.schema_at(place)?;
-    match lets_kind(schema, word) {
+    match lets_kind(schema, document.kinds(schema), word) {
         Some(_) if word == "null" && !is_there => Err(Lost::Untold),
         Some(true) => reason_of_kind(document, schema, place),
         Some(false) => Ok(None),
@@ -220,7 +219,7 @@ fn why_few(document: Document<'_>, place: &str, count: u64) -> Result<Option<Rea
     ensures { IfOk result (λ reason. IfSome reason (IsReason document.entry.bytes.now (Some few))) }
 {
     let schema = document.schema_at(place)?;
-    if !Kind::List.is_let_by(schema) {
+    if !document.kinds(schema).list {
         return Ok(None);
     }
     match least_items(schema) {

@@ -1,5 +1,5 @@
 -- For `findings_of`: the errors among what is found, and those of one more file.
-use Rattle.std.proofs.Common.{◌≡◌, ◌∙◌, ◌++◌, ◌||◌, ◌==◌, Bool, true, false, ℕ, List, [], ◌∷◌, ap, append-nil, append_assoc, arith, cond, length, map, refl, sym}
+use Rattle.std.proofs.Common.{◌≡◌, ◌∙◌, ◌++◌, ◌||◌, ◌==◌, Bool, true, false, ℕ, List, [], ◌∷◌, ap, append-nil, append_assoc, cond, length, map, refl, sym}
 use Rattle.std.proofs.lemmas.List.Elements.{filter-append}
 use Rattle.tmpl_syntax.specs.Set.{Template}
 use Rattle.tmpl_problems.specs.declared.problem.Problem.{Problem}

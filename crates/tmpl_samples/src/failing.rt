@@ -14,7 +14,6 @@ ghost use Rattle.tmpl_samples.specs.Failing.{AreRight, IsDoubted, IsRight, Speak
 ghost use Rattle.tmpl_json_schema.specs.Inferred.{IsOfSchema};
 ghost use Rattle.tmpl_samples.specs.computed.Asked.{asked_in};
 
-use crate::draw::LEVELS;
 use serde_json::Value;
 use std::alloc::{AllocError, Global};
 use std::str::from_utf8;
@@ -22,7 +21,7 @@ use tmpl_engine::{
     Data, DataFault, MissingKey, Options, RenderError, Renderer, RunFault, RunFaultKind, Sink,
     SinkFault, WriterSink,
 };
-use tmpl_json_schema::conforms;
+use tmpl_json_schema::{LEVELS, conforms};
 use tmpl_schema::{Cause, Doubt};
 use tmpl_tool::tell_end;
 use tmpl_values::Bytes;

@@ -1,7 +1,6 @@
 //! Values of a JSON Schema for which a template fails, and a schema of samples.
 #![tactic(auto)]
 
-mod draw;
 mod failing;
 mod laws;
 mod search;

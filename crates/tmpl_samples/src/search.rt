@@ -5,13 +5,12 @@ ghost use Rattle.tmpl_syntax.specs.View.{set_view};
 ghost use Rattle.tmpl_json_schema.specs.Document.{document_of};
 ghost use Rattle.tmpl_samples.specs.Failing.{AreRight, rules_by};
 
-use crate::draw::{Draw, Flip, LEVELS};
 use crate::failing::{Failure, MOST_TEXT, Nowhere, Question, is_doubted};
 use crate::smaller::without;
 use serde_json::Value;
 use std::alloc::{AllocError, Global};
 use tmpl_engine::{Data, DataFault, MissingKey, RenderError, Renderer, RunFault, Set};
-use tmpl_json_schema::conforms;
+use tmpl_json_schema::{Draw, Flip, LEVELS, conforms};
 use tmpl_schema::{Cause, Doubt};
 use tmpl_values::Bytes;
 

@@ -1,4 +1,4 @@
-use Rattle.std.proofs.Common.{◌≡◌, ◌<◌, take, length, sym, subst, ap, ◌∙◌, arith, string_bytes, IfSome}
+use Rattle.std.proofs.Common.{◌≡◌, ◌<◌, take, length, sym, subst, ◌∙◌, arith, string_bytes, IfSome}
 use Rattle.std.proofs.lemmas.List.{take_all}
 use Rattle.std.specs.List.{AllByRecursion}
 use Rattle.serde_json.specs.View.{view}

@@ -1,4 +1,4 @@
-use Rattle.std.proofs.Common.{◌≡◌, List, IfSome, IsUtf8, map, sym, subst, ap, ◌∙◌, string_bytes}
+use Rattle.std.proofs.Common.{IfSome, IsUtf8, subst, string_bytes}
 use Rattle.std.specs.Borrow.{Bor}
 use Rattle.std.specs.List.{AllByRecursion}
 use Rattle.serde_json.specs.View.{view}

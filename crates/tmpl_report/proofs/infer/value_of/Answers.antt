@@ -1,4 +1,4 @@
-use Rattle.std.proofs.Common.{◌≡◌, sym}
+use Rattle.std.proofs.Common.{sym}
 use Rattle.serde_json.specs.View.{view}
 use Rattle.tmpl_report.proofs.InferredLemmas.{document-read, document-none}
 use Rattle.tmpl_report.proofs.infer.value_of.Goals as goal

@@ -1,5 +1,5 @@
 use Rattle.std.proofs.Common.{◌+◌, ◌*◌}
-use Rattle.tmpl_samples.proofs.draw.Draw.+draw.Given as goal
+use Rattle.tmpl_json_schema.proofs.draw.Draw.+draw.Given as goal
 
 abbrev pub decreases-of_schema : goal.decreases-of_schema
 decreases-of_schema l = 20 * l.levels + 0

@@ -1,11 +1,10 @@
 //! Values of a schema: one for each way to choose, where there are several.
 
+use crate::conform::{LEVELS, conforms, is_excluded, is_property, referred, text_of_format};
+use crate::fields::{least_in, requires_key};
+use crate::read::choices_in;
 use serde_json::{Map, Value};
 use std::alloc::{AllocError, Global};
-use tmpl_json_schema::{conforms, is_excluded, is_property, referred, text_of_format};
-
-/// How many levels of a schema are followed, one into the other.
-pub(crate) const LEVELS: usize = 120;
 
 /// After how many references, one into the other, what may be left out is, and after how many no value is made.
 const FEW_REFERENCES: usize = 1;
@@ -36,32 +35,27 @@ const OTHER_KEY: &str = "other";
 
 /// Another choice than the usual one, at the point of this number: the usual one is 0 away.
 #[derive(Clone, Copy)]
-pub(crate) struct Flip {
-    pub(crate) point: usize,
-    pub(crate) away: usize,
+pub struct Flip {
+    pub point: usize,
+    pub away: usize,
 }
 
 /// How a value is made: what is chosen, and between how many at each point.
 #[derive(Drop)]
-pub(crate) struct Draw<'d> {
+pub struct Draw<'d> {
     root: &'d Value,
     alloc: Global,
     flips: &'d [Flip],
     /// Whether usually what may be left out is.
     is_lean: bool,
     /// Between how many was chosen, at each point.
-    pub(crate) counts: Vec<usize>,
-    pub(crate) parts: usize,
+    pub counts: Vec<usize>,
+    pub parts: usize,
     references: usize,
 }
 
 impl<'d> Draw<'d> {
-    pub(crate) fn new(
-        alloc: Global,
-        root: &'d Value,
-        is_lean: bool,
-        flips: &'d [Flip],
-    ) -> Draw<'d> {
+    pub fn new(alloc: Global, root: &'d Value, is_lean: bool, flips: &'d [Flip]) -> Draw<'d> {
         Draw {
             root,
             alloc,
@@ -74,7 +68,7 @@ impl<'d> Draw<'d> {
     }
 
     /// A value of the whole document, if one is made. It need not conform.
-    pub(crate) fn whole(&mut self) -> Result<Option<Value>, AllocError> {
+    pub fn whole(&mut self) -> Result<Option<Value>, AllocError> {
         let root = self.root;
         self.of_schema(LEVELS, root)
     }
@@ -128,7 +122,7 @@ impl<'d> Draw<'d> {
                 None => Ok(None),
             };
         }
-        match choices_in(schema) {
+        match choices_in(schema).and_then(Value::as_array) {
             Some(choices) => {
                 let index = self.choose(choices.len(), 0)?;
                 match choices.get(index) {
@@ -253,7 +247,7 @@ impl<'d> Draw<'d> {
     /// A list: usually of one item, or of as many as there have to be.
     #[cycle(draw)]
     fn of_list(&mut self, levels: usize, schema: &Value) -> Result<Option<Value>, AllocError> {
-        let least = schema.get("minItems").and_then(Value::as_u64).unwrap_or(0);
+        let least = least_in(schema);
         let is_empty = self.is_lean || self.references > FEW_REFERENCES;
         let length = match self.choose(3, usize::from(is_empty))? {
             0 => least.max(1),
@@ -280,7 +274,7 @@ impl<'d> Draw<'d> {
         let mut members: Map<String, Value> = Map::new(self.alloc);
         if let Some(Value::Object(properties)) = schema.get("properties") {
             for (name, property) in properties.iter() {
-                if is_required(schema, name.as_str()) || self.keeps()? {
+                if requires_key(schema, name.as_str()) || self.keeps()? {
                     if let Some(value) = self.of_schema(levels, property)? {
                         serde_json::put(&mut members, self.alloc, name.as_str(), value)?;
                     }
@@ -304,7 +298,7 @@ impl<'d> Draw<'d> {
 
     /// Chooses whether a map has a member that is no property: usually where it has no properties.
     fn has_others(&mut self, schema: &Value) -> Result<bool, AllocError> {
-        if is_property(schema, OTHER_KEY) || is_required(schema, OTHER_KEY) {
+        if is_property(schema, OTHER_KEY) || requires_key(schema, OTHER_KEY) {
             return Ok(false);
         }
         match schema.get("additionalProperties") {
@@ -365,35 +359,9 @@ fn format_text(schema: &Value) -> &'static str {
     }
 }
 
-/// The alternatives that a value is made by, where nothing is said of fields and items beside them.
-fn choices_in(schema: &Value) -> Option<&[Value]> {
-    if is_map_schema(schema) || schema.get("items").is_some() {
-        return None;
-    }
-    match (schema.get("anyOf"), schema.get("oneOf")) {
-        (Some(Value::Array(choices)), _) | (None, Some(Value::Array(choices))) => {
-            Some(choices.as_slice())
-        }
-        _ => None,
-    }
-}
-
 /// Whether a schema speaks of fields.
 fn is_map_schema(schema: &Value) -> bool {
     schema.get("properties").is_some()
         || schema.get("required").is_some()
         || schema.get("additionalProperties").is_some()
-}
-
-/// Whether a schema requires this key.
-fn is_required(schema: &Value, key: &str) -> bool {
-    let Some(Value::Array(names)) = schema.get("required") else {
-        return false;
-    };
-    for name in names {
-        if name.as_str() == Some(key) {
-            return true;
-        }
-    }
-    false
 }
