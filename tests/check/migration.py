@@ -55,11 +55,14 @@ def main():
                     for span in spans(it["say"]):
                         hold(f"{title}: what is said of {it['names']}: {span!r} is not read", is_read(span, folder))
                     for name in it["names"].split():
-                        said = f'no function "{name}": {it["say"].replace("`", "")}\n'
+                        line = f'm:1:1: error: action not understood: no function "{name}": {it["say"].replace("`", "")}\n'
+                        # a name that stands for a control opens one
+                        control = "if" if "{{if" in it["say"] else "range"
+                        open_at_end = f'm:1:{len(name) + 5}: error: file ends inside a control: "{control}" of line 1 is open at the end of the file\n'
                         with open(os.path.join(folder, "m"), "w", encoding="utf-8") as file:
                             file.write("{{" + name + "}}")
                         told = subprocess.run([harness.CHECKER, "m"], cwd=folder, capture_output=True, timeout=harness.SECONDS, check=False)
-                        hold(f"{title}: {name}: {told.stdout!r}", told.returncode == 1 and told.stdout.decode().split("\n")[0].endswith(said.strip()))
+                        hold(f"{title}: {name}: {told.stdout!r}", told.returncode == 1 and told.stdout.decode() in (line, line + open_at_end))
     return harness.closing(passed, failed)
 
 

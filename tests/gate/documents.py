@@ -158,7 +158,7 @@ def is_there(name):
 
 
 def put_out(folder, said):
-    """What each command puts out."""
+    """What each command puts out, and its status."""
     os.makedirs(f"{folder}/bin")
     os.symlink(harness.PROGRAM, f"{folder}/bin/tmpl")
     os.symlink(harness.CHECKER, f"{folder}/bin/tmpl-check")
@@ -167,20 +167,24 @@ def put_out(folder, said):
     os.symlink(f"{folder}/quotes", f"{folder}/share/tmpl/quotes")  # where an installed program has them
     os.makedirs(f"{folder}/room")
     shutil.copy(f"{harness.TOP}/examples/hello/hello.tmpl", f"{folder}/room")  # which docs/COMMAND.md shows
-    script = "\n".join(f"{it}\nstatus=$?; printf '{MARK}'; (exit $status)" for it in said)
+    script = "\n".join(f"{it}\nstatus=$?; printf '{MARK}%d\\n' $status; (exit $status)" for it in said)
     environment = {**os.environ, "PATH": f"{folder}/bin:{os.environ['PATH']}", "LC_ALL": "C.UTF-8", "HOME": folder}
     environment["QUOTES"] = f"{folder}/quotes"
     how = {"cwd": f"{folder}/room", "env": environment, "stdout": subprocess.PIPE, "stderr": subprocess.STDOUT}
     ran = subprocess.run(["bash", "--norc"], input=script.encode(), timeout=5 * harness.SECONDS, **how)
-    return [it.strip("\n") for it in ran.stdout.decode(errors="replace").split(MARK)[:-1]]
+    first, *rest = ran.stdout.decode(errors="replace").split(MARK)
+    parts = [it.partition("\n") for it in rest]
+    return [(text.strip("\n"), int(status)) for text, (status, _, _) in zip([first, *(it[2] for it in parts)], parts)]
 
 
 def check(name, said):
     with tempfile.TemporaryDirectory() as folder:
         got = put_out(folder, [command for command, _ in said])
-    got += ["it did not end"] * (len(said) - len(got))
-    for (command, wanted), came in zip(said, got):
+    got += [("it did not end", 1)] * (len(said) - len(got))
+    for (command, wanted), (came, status) in zip(said, got):
         wrong = [f"    $ {command}", f"    got {came!r}", f"    wanted {wanted!r}"] if came != wanted.strip("\n") else []
+        if not came and status and not wrong:
+            wrong = [f"    $ {command}", f"    it fails with status {status}, and puts out nothing"]
         yield f"{name}: {command.splitlines()[0]}", 1, wrong
 
 

@@ -40,7 +40,8 @@ def wrongs(test, name, folder):
     if test in FINELY:
         # a copy of its own name, since some tests look at that
         real = {"REAL": programs.path(name)}
-        yield "loses a byte", f"{folder}/{name}", real
+        if test != "gate.documents":  # a block does not show whether an output ends with a newline
+            yield "loses a byte", f"{folder}/{name}", real
         yield "adds a line", f"{folder}/{name}", {**real, "ADDS": "1"}
 
 

@@ -35,6 +35,7 @@ TESTS = {
     PROOFS: "rt ci",
     "edits": "gate.edits --apply",
     "tried": "gate.tried",
+    "judges": "gate.judges",
     "believed": "gate.believed",
     "rendered": "check.rendered",
     "rendered-by-rattle": f"{BY_RATTLE} {sys.executable} -m tests.check.rendered",
@@ -54,6 +55,7 @@ QUICK = {
 # the programs that a test runs, where these are not tmpl alone
 RUNS = {
     **dict.fromkeys(("problems", "migration", "verdicts", "documents", "generated", "hostile"), ("tmpl", "tmpl-check")),
+    "judges": programs.ALL,
     **dict.fromkeys(("calls", "kept", "lent_memory", "memory", "prefixes", "instructions"), ("tmpl", "tmpl_probe")),
     "host": ("tmpl_host", "tmpl_probe"),
     **dict.fromkeys((PROOFS, "edits", "tried", "believed"), ()),
