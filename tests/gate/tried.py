@@ -35,7 +35,7 @@ TRIED = {
     "tmpl_lex": "dash_is_a_left_marker left_marker_goes_past_a_comment vertical_tab_is_space",
     "tmpl_data_problems": "fraction_accepted",
     "tmpl_grammar": "range_assigns octal_escape_past_a_byte",
-    "tmpl_hints": "end_told_as_a_jump comment_after_a_dash",
+    "tmpl_hints": "end_told_as_a_jump broken_byte_told_by_a_mark",
     "tmpl_json_schema": "second_type_left_out most_items_taken_for_least type_of_the_last_sample_only",
     "tmpl_problems": "newline_as_it_is one_brace_and_a_space_is_a_sign",
     "tmpl_reasons": "line_and_column_exchanged key_without_quotes",

@@ -1,20 +1,21 @@
 -- What is shown of bytes that are UTF-8, and of others; and words that follow one another.
-use Rattle.std.proofs.Common.{◌≡◌, ◌∙◌, ◌++◌, Bool, true, false, ℕ, List, Some, None, arith, ap, append_assoc, map, refl, sym, if◌then◌else◌}
+use Rattle.std.proofs.Common.{◌≡◌, ◌∙◌, ◌++◌, Bool, true, false, ℕ, List, Some, None, arith, ap, append_assoc, refl, sym, if◌then◌else◌}
+use Rattle.std.specs.List.{flat_map}
 use Rattle.std.specs.Option.{option_map}
 use Rattle.std.proofs.lemmas.Str.{IsUtf8-from_is_utf8, is_utf8-from_IsUtf8}
 use Rattle.std.specs.Str.{IsUtf8, is_utf8}
-use Rattle.tmpl_hints.specs.Sentence.{Adds, Said, ascii_of, readable}
+use Rattle.tmpl_hints.specs.Sentence.{Adds, Said, byte_shown, readable}
 
-chosen : (bytes : List ℕ) (b : Bool) → is_utf8 bytes ≡ b → (if b then bytes else map ascii_of bytes) ≡ readable bytes
-chosen bytes b e = sym (ap (λ t. if t then bytes else map ascii_of bytes) e)
+chosen : (bytes : List ℕ) (b : Bool) → is_utf8 bytes ≡ b → (if b then bytes else flat_map byte_shown bytes) ≡ readable bytes
+chosen bytes b e = sym (ap (λ t. if t then bytes else flat_map byte_shown bytes) e)
 
 pub readable_text : (bytes : List ℕ) → IsUtf8 bytes → bytes ≡ readable bytes
 readable_text bytes is = chosen bytes true (is_utf8-from_IsUtf8 bytes is)
 
-pub readable_other : (bytes : List ℕ) → ¬ (IsUtf8 bytes) → map ascii_of bytes ≡ readable bytes
+pub readable_other : (bytes : List ℕ) → ¬ (IsUtf8 bytes) → flat_map byte_shown bytes ≡ readable bytes
 readable_other bytes not = by (is_utf8 bytes) refl
   where
-    by : (b : Bool) → is_utf8 bytes ≡ b → map ascii_of bytes ≡ readable bytes
+    by : (b : Bool) → is_utf8 bytes ≡ b → flat_map byte_shown bytes ≡ readable bytes
     by true e = absurd (not (IsUtf8-from_is_utf8 bytes e))
     by false e = chosen bytes false e
 

@@ -1,11 +1,15 @@
 //! What is said of a problem.
-ghost use Rattle.std.specs.Prelude.{◌≡◌, ◌++◌, [], ◌∷◌, Some, None, IfOk, OnErr, codes, map, string_bytes};
+ghost use Rattle.std.specs.Prelude.{◌≡◌, ◌<◌, ◌++◌, [], Some, None, IfOk, OnErr, codes, string_bytes};
 ghost use Rattle.std.specs.Fmt.{decimal};
-ghost use Rattle.tmpl_hints.specs.Sentence.{Adds, ascii_of, readable, shown};
+ghost use Rattle.std.specs.Char.{encode_utf8};
+ghost use Rattle.std.specs.List.{flat_map};
+ghost use Rattle.tmpl_values.specs.Quote.{hexes};
+ghost use Rattle.tmpl_hints.specs.Sentence.{Adds, byte_shown, readable, shown};
 
 use std::alloc::{AllocError, Global};
 use std::marker::Model;
 use std::str::from_utf8;
+use tmpl_values::digit;
 
 /// The most bytes of a piece of a file that are shown.
 const MOST_SHOWN: usize = 80;
@@ -56,7 +60,7 @@ impl Sentence {
         }
     }
 
-    /// Adds bytes. Where they are no UTF-8, a byte from 80h is shown as `?`.
+    /// Adds bytes. Where they are no UTF-8, a byte from 80h is shown by its code.
     fn show_all(self, bytes: &[u8]) -> Sentence
         ensures { Adds self result (readable bytes.now) }
     {
@@ -66,9 +70,9 @@ impl Sentence {
         }
     }
 
-    /// Adds bytes, each from 80h as `?`.
+    /// Adds bytes, each from 80h by its code.
     fn show_ascii(self, bytes: &[u8]) -> Sentence
-        ensures { Adds self result (map ascii_of bytes.now) }
+        ensures { Adds self result (flat_map byte_shown bytes.now) }
     {
         let mut said = self;
         for byte in bytes {
@@ -77,12 +81,32 @@ impl Sentence {
         said
     }
 
-    /// Adds a byte, or `?` for one from 80h.
-    fn put(mut self, byte: u8) -> Sentence
-        ensures { Adds self result (ascii_of byte ∷ []) }
+    /// Adds a byte, or the code of one from 80h.
+    fn put(self, byte: u8) -> Sentence
+        ensures { Adds self result (byte_shown byte) }
     {
-        let shown = if byte.is_ascii() { byte as char } else { '?' };
-        if self.text.push(shown).is_err() {
+        if byte.is_ascii() {
+            self.push(byte as char)
+        } else {
+            self.say("\\x").push_code(byte as u32)
+        }
+    }
+
+    /// Adds the two digits of a byte in base 16.
+    #[tactic(auto, using(crate::proofs::SentenceLemmas::adds_then), unfolding(tmpl_values::specs::Quote::hexes))]
+    fn push_code(self, n: u32) -> Sentence
+        requires { n < 256 }
+        ensures { Adds self result (hexes 2 n) }
+    {
+        self.push(digit(n / 16 % 16, false) as char)
+            .push(digit(n % 16, false) as char)
+    }
+
+    /// Adds a character.
+    fn push(mut self, c: char) -> Sentence
+        ensures { Adds self result (encode_utf8 c) }
+    {
+        if self.text.push(c).is_err() {
             self.is_refused = true;
         }
         self
