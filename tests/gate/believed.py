@@ -38,8 +38,8 @@ MOST = {
     "tmpl_grammar": 292,
     "tmpl_syntax": 337,
     "tmpl_meaning": 213,
-    "tmpl_tool": 236,
-    "tmpl_engine": 2,
+    "tmpl_tool": 220,
+    "tmpl_engine": 18,
     "tmpl_c": 96,
 }
 

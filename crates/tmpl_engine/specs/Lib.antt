@@ -7,6 +7,7 @@ pub mod Laws
 pub mod Machine
 pub mod Prepared
 pub mod Ready
+pub mod Reason
 pub mod Render
 pub mod Run
 pub mod State

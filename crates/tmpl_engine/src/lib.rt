@@ -18,6 +18,7 @@ mod output;
 mod piece;
 mod put;
 mod range;
+mod reason;
 mod rendering;
 mod reserved;
 mod runner;
@@ -32,6 +33,7 @@ pub use laws::{
     comes_to_meaning, depth_by_chains, each_turn_lessens, leaves_sink, mark_stays, one_end,
     only_adds, stays_within, text_is_named,
 };
+pub use reason::put_reason;
 pub use rendering::Renderer;
 pub use runner::run;
 pub use tmpl_meaning::{

@@ -35,7 +35,7 @@ use tmpl_values::{Cell, Data, Val};
 /// How many cells are filled at first.
 const FIRST: usize = 64;
 
-/// The most cells that an instruction puts above those that are live.
+/// No instruction puts more cells than this above those that are live.
 const MOST_PUT: usize = 3;
 
 /// A run that waits for more cells: where it stands, but for its cells.

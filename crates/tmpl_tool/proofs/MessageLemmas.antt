@@ -1,14 +1,12 @@
 -- For all that say a line: its pieces one after the other, and that a line is said whole or cut once.
 use Rattle.std.proofs.Common.{◌≡◌, ◌∙◌, ◌++◌, ◌+◌, ◌<◌, ℕ, List, [], ◌∷◌, Result, refl, ap, sym, drop, get_or, length}
-use Rattle.std.proofs.Common.{append_assoc, append-nil, codes, inr}
+use Rattle.std.proofs.Common.{append-nil, codes, inr}
 use Rattle.std.proofs.Common.{Option, Some, None}
 use Rattle.std.specs.Prelude.{decimal, option_map}
 use Rattle.std.proofs.lemmas.List.{at_drop_more}
 use Rattle.tmpl_syntax.specs.Fault.{Reason}
-use Rattle.tmpl_values.specs.Quote.{quote}
 use Rattle.tmpl_values.proofs.PutLemmas.{IsPut-nil}
 use Rattle.tmpl_meaning.specs.Sink.{IsPut, Told, Sunk, Whole, as_puts, sunk}
-use Rattle.tmpl_meaning.specs.declared.fault.RunFault.{RunFault}
 use Rattle.tmpl_meaning.specs.declared.sink.SinkFault.{SinkFault}
 use Rattle.tmpl_meaning.proofs.PutLemmas.{counts_once, whole_or_cut}
 use Rattle.tmpl_tool.specs.Outcome.{Answer, Once, Outcome, Says, line, memory_line}
@@ -17,7 +15,6 @@ use Rattle.tmpl_tool.specs.Tool.{reason_text}
 use Rattle.tmpl_tool.specs.Inputs.{said_of}
 use Rattle.tmpl_tool.specs.Source.{Bytes}
 use Rattle.tmpl_tool.specs.computed.View.{part_bytes, parts_bytes}
-use Rattle.tmpl_tool.specs.computed.Load.{line_at}
 use Rattle.tmpl_tool.specs.declared.messages.part.LinePart.{LinePart}
 
 -- one part, and then others
@@ -30,10 +27,6 @@ pub parts-more : (parts : List LinePart) (i : ℕ) (d : LinePart) → i < length
     → parts_bytes (drop i parts) ≡ part_bytes (get_or parts i d) ++ parts_bytes (drop (i + 1) parts)
 parts-more parts i d lt = at_drop_more parts_bytes parts i d lt ∙ parts-cons (get_or parts i d) (drop (i + 1) parts)
 
--- a line in two parts
-pub line-parted : (s t : Bytes) → codes "tmpl: " ++ (s ++ (t ++ 10 ∷ [])) ≡ line (s ++ t)
-line-parted s t = ap (λ (t : Bytes). codes "tmpl: " ++ t) (sym (append_assoc s t (10 ∷ [])))
-
 -- what was put is said
 module _ (before after : Told) (text : Bytes) (r : Result (Unit {0}) SinkFault) (put : IsPut r (as_puts before) (as_puts after) text) where
   pub put_once : Once before.failures after.failures
@@ -43,11 +36,6 @@ module _ (before after : Told) (text : Bytes) (r : Result (Unit {0}) SinkFault) 
   put_says = whole_or_cut r (sunk before after) text put
 
 pub ruleset said = (put_once, put_says)
-
--- a line that says a place and then this
-pub place-said : (f : RunFault) (said : Bytes)
-    → line ((f.file.now ++ (codes ":" ++ (decimal f.line ++ (codes ": in " ++ (quote f.template.now ++ codes ": "))))) ++ said) ≡ line_at f said
-place-said f said = simp append_assoc
 
 -- nothing is put
 pub nothing_put : (t : Told) → Whole [] (sunk t t)

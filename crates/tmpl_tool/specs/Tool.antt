@@ -14,11 +14,8 @@ use Rattle.tmpl_syntax.specs.Set.{Template, tree_named}
 use Rattle.tmpl_syntax.specs.Parse.{Parses, Refusal, base_name}
 use Rattle.tmpl_syntax.specs.Print.Printed.{printed_set}
 use Rattle.tmpl_meaning.specs.Sink.{Sunk}
-use Rattle.tmpl_meaning.specs.Meaning.{Cause, steps_spent, not_a_function, nil_command, lacks_field, lacks_entry}
-use Rattle.tmpl_meaning.specs.Meaning.{not_a_range, call_failed, no_template, calls_too_deep, Fault, Ran, Rules, ran}
-use Rattle.tmpl_funcs.specs.Func.{name_of}
-use Rattle.tmpl_funcs.specs.declared.fault.CallFault.{CallFault}
-use Rattle.tmpl_funcs.specs.declared.fault.CallFault.TheVariants as call
+use Rattle.tmpl_meaning.specs.Meaning.{Fault, Ran, Rules, ran}
+use Rattle.tmpl_engine.specs.Reason.{cause_text}
 use Rattle.tmpl_tool.specs.Help.{asks_help}
 use Rattle.tmpl_tool.specs.Words.{Wanted, words_request}
 use Rattle.tmpl_tool.specs.Source.{Asked, Bytes, Files}
@@ -81,24 +78,6 @@ stop_answer (flawed file not_json) = only_line 5 (file ++ codes ": not JSON")
 stop_answer (flawed file not_whole) = only_line 5 (file ++ codes ": number not whole or out of range")
 
 -- ---- a run
-
-abbrev pub call_text : CallFault → Bytes
-call_text call.WrongCount = codes "wrong number of arguments"
-call_text call.WrongKind = codes "wrong kind of argument"
-call_text call.OutOfRange = codes "out of range"
-call_text call.NotComparable = codes "can't be compared"
-call_text call.FormatRefused = codes "format refused"
-
-abbrev pub cause_text : Cause → Bytes
-cause_text (steps_spent limit) = codes "more than " ++ (decimal limit ++ codes " steps")
-cause_text (lacks_field name) = codes "no field " ++ (quote name ++ codes " here")
-cause_text (lacks_entry name) = codes "no entry for key " ++ quote name
-cause_text not_a_range = codes "can't range over this value"
-cause_text not_a_function = codes "not a function"
-cause_text nil_command = codes "nil is not a command"
-cause_text (no_template name) = codes "no template " ++ quote name
-cause_text (calls_too_deep limit) = codes "calls deeper than " ++ decimal limit
-cause_text (call_failed f fault) = name_of f ++ (codes ": " ++ call_text fault)
 
 -- a line that says where a run stopped, and why
 abbrev pub fault_line : Fault → Bytes

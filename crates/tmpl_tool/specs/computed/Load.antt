@@ -1,13 +1,10 @@
--- The stages of the command after a stage, and where a run failed.
-use Rattle.std.specs.Prelude.{◌++◌, List, [], Option, Result, codes, decimal, length}
-use Rattle.tmpl_values.specs.Quote.{quote}
+-- The stages of the command after a stage.
+use Rattle.std.specs.Prelude.{List, [], Option, Result, length}
 use Rattle.tmpl_values.specs.Stage.{and_then}
 use Rattle.tmpl_values.specs.Value.{Value}
 use Rattle.tmpl_syntax.specs.Set.{Template}
 use Rattle.tmpl_meaning.specs.Meaning.{Ran}
-use Rattle.tmpl_meaning.specs.declared.fault.RunFault.{RunFault}
-use Rattle.tmpl_tool.specs.Outcome.{line}
-use Rattle.tmpl_tool.specs.Source.{Bytes, Files}
+use Rattle.tmpl_tool.specs.Source.{Files}
 use Rattle.tmpl_tool.specs.Tool.{Failing, Parse, Early, asked_name, data_found, load_each, named_run, printed}
 use Rattle.tmpl_tool.specs.Tool.{stop_if}
 use Rattle.tmpl_tool.specs.Words.{Wanted}
@@ -32,8 +29,3 @@ after_set files fails w set = and_then (stop_if w.print (printed set)) (λ u. af
 -- each FILE, and so on
 abbrev pub after_words : Parse → Files → Wanted → Failing → Result Ran Early
 after_words parse files w fails = and_then (load_each parse files fails 0 [] w.files) (after_set files fails w)
-
--- a line that says where a run failed, and then this
-abbrev pub line_at : RunFault → Bytes → Bytes
-line_at f said = line (f.file.now ++ (codes ":" ++ (decimal f.line ++ (codes ": in " ++ (quote f.template.now
-    ++ (codes ": " ++ said))))))

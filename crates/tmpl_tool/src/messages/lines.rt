@@ -3,19 +3,17 @@ ghost use Rattle.std.specs.Prelude.{◌≡◌, ◌≢◌, ◌<◌, ◌^◌, ◌-
 ghost use Rattle.tmpl_meaning.specs.Sink.{sunk};
 ghost use Rattle.tmpl_meaning.specs.View.{fault_seen};
 ghost use Rattle.tmpl_tool.specs.Outcome.{EndsWith, Once, Says, line, memory_line, write_line};
-ghost use Rattle.tmpl_tool.specs.computed.Load.{line_at};
-ghost use Rattle.tmpl_tool.specs.Tool.{call_text, fault_line};
+ghost use Rattle.tmpl_tool.specs.Tool.{fault_line};
 ghost use Rattle.tmpl_tool.specs.Tool.{bad_words, reason_text, stop_answer, unnamed};
 ghost use Rattle.tmpl_tool.specs.computed.View.{parts_bytes};
 ghost use Rattle.tmpl_tool.specs.Inputs.{refusal_seen, said_of, stop_seen};
 ghost use Rattle.tmpl_syntax.specs.Fault.{reason_of};
 
-use crate::messages::part::LinePart::{self, Bytes, Number, Quoted, Text};
+use crate::messages::part::LinePart::{self, Bytes, Number, Quoted, Reason, Text};
 use crate::messages::part::put_line;
 use crate::status::Status;
 use crate::stop::Stop;
-use tmpl_engine::{RunFault, RunFaultKind, Sink};
-use tmpl_funcs::CallFault;
+use tmpl_engine::{RunFault, Sink};
 use tmpl_syntax::{ParseFault, ParseKind};
 
 /// Says a line of these parts, and gives this status. A sink that fails cuts the line.
@@ -25,7 +23,7 @@ fn say<E: Sink>(err: &mut E, parts: &[LinePart<'_>], code: u8) -> Status
     ensures { EndsWith code (line (parts_bytes parts.now))
         (sunk (E.so_far err.old) (E.so_far err.new)) result.code }
 {
-    let _ = put_line(err, [].as_slice(), parts);
+    let _ = put_line(err, parts);
     Status { code }
 }
 
@@ -134,85 +132,20 @@ pub fn refuse<E: Sink>(err: &mut E, stop: &Stop<'_>) -> Status
     }
 }
 
-/// Why a function refused its arguments, in words.
-fn call_text(fault: CallFault) -> &'static str
-    ensures { result.now ≡ call_text fault }
-{
-    match fault {
-        CallFault::WrongCount => "wrong number of arguments",
-        CallFault::WrongKind => "wrong kind of argument",
-        CallFault::OutOfRange => "out of range",
-        CallFault::NotComparable => "can't be compared",
-        CallFault::FormatRefused => "format refused",
-    }
-}
-
 /// Says where and why a run failed.
 pub(crate) fn run_failed<E: Sink>(err: &mut E, fault: &RunFault<'_>) -> Status
     requires { (E.so_far err.old).failures < 2 ^ 64 - 1 }
     ensures { EndsWith 1 (fault_line (fault_seen fault.now))
         (sunk (E.so_far err.old) (E.so_far err.new)) result.code }
 {
-    say_fault(err, fault);
-    Status { code: 1 }
-}
-
-/// Says where a run failed, and these parts as the reason.
-#[tactic(auto, using(crate::proofs::MessageLemmas::said))]
-fn say_at<E: Sink>(err: &mut E, fault: &RunFault<'_>, reason: &[LinePart<'_>])
-    requires { (E.so_far err.old).failures < 2 ^ 64 - 1 }
-    ensures cuts { Once (E.so_far err.old).failures (E.so_far err.new).failures }
-    ensures line { Says (line_at fault.now (parts_bytes reason.now))
-        (sunk (E.so_far err.old) (E.so_far err.new)) }
-{
-    let place = [
+    let parts = [
         Bytes(fault.file),
         Text(":"),
         Number(fault.line),
         Text(": in "),
         Quoted(fault.template),
         Text(": "),
+        Reason(&fault.kind),
     ];
-    let _ = put_line(err, place.as_slice(), reason);
-}
-
-/// Says where a run failed, and why.
-fn say_fault<E: Sink>(err: &mut E, fault: &RunFault<'_>)
-    requires { (E.so_far err.old).failures < 2 ^ 64 - 1 }
-    ensures cuts { Once (E.so_far err.old).failures (E.so_far err.new).failures }
-    ensures line { Says (fault_line (fault_seen fault.now))
-        (sunk (E.so_far err.old) (E.so_far err.new)) }
-{
-    match fault.kind {
-        RunFaultKind::StepsSpent(limit) => {
-            let parts = [Text("more than "), Number(limit), Text(" steps")];
-            say_at(err, fault, parts.as_slice())
-        }
-        RunFaultKind::NoField(name) => {
-            let parts = [Text("no field "), Quoted(name), Text(" here")];
-            say_at(err, fault, parts.as_slice())
-        }
-        RunFaultKind::NoEntry(name) => {
-            let parts = [Text("no entry for key "), Quoted(name)];
-            say_at(err, fault, parts.as_slice())
-        }
-        RunFaultKind::NoTemplate(name) => {
-            let parts = [Text("no template "), Quoted(name)];
-            say_at(err, fault, parts.as_slice())
-        }
-        RunFaultKind::CallsTooDeep(limit) => {
-            let parts = [Text("calls deeper than "), Number(limit as u64)];
-            say_at(err, fault, parts.as_slice())
-        }
-        RunFaultKind::NotARange => {
-            let parts = [Text("can't range over this value")];
-            say_at(err, fault, parts.as_slice())
-        }
-        RunFaultKind::NotAFunction => say_at(err, fault, [Text("not a function")].as_slice()),
-        RunFaultKind::NilCommand => say_at(err, fault, [Text("nil is not a command")].as_slice()),
-        RunFaultKind::Call(func, why) => {
-            let parts = [Text(func.name()), Text(": "), Text(call_text(why))];
-            say_at(err, fault, parts.as_slice())
-        }
-    }
+    say(err, parts.as_slice(), 1)
 }

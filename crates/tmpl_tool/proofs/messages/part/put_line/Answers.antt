@@ -1,4 +1,4 @@
-use Rattle.std.proofs.Common.{◌≡◌, ◌++◌, refl, sym, subst}
+use Rattle.std.proofs.Common.{◌≡◌, refl, sym, subst}
 use Rattle.tmpl_values.specs.Put.{IsPut}
 use Rattle.tmpl_meaning.specs.Sink.{as_puts}
 use Rattle.tmpl_tool.specs.Outcome.{line}
@@ -12,6 +12,6 @@ returns-in-None g c =
     let same : c.err-1.given.0 ≡ c.write_line.new.put.sink.now = c.err-1.given.1 (sym put.through) in
     subst
     (λ (s : g.row.E.Denot). IsPut c.write_line.result (as_puts (g.E.Sink.so_far c.args.err.now)) (as_puts (g.E.Sink.so_far s))
-    (line (parts_bytes c.args.place.now ++ parts_bytes c.args.parts.now)))
+    (line (parts_bytes c.args.parts.now)))
     (sym same)
     (record { count = put.count; bytes = put.bytes; through = refl })
