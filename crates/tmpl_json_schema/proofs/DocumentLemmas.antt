@@ -1,12 +1,14 @@
 -- For the call `read_schema`: a value that conforms to a document fits the shape that is read of it.
-use Rattle.std.proofs.Common.{arith, ◌≡◌, ◌∙◌, ap, ◌⊎◌, ◌≤◌, ◌&&◌, length, Bool, true, false, not, List, [], ◌∷◌, ℕ, zero, suc, Option, Some, None, All, IfSome, IsSome, is_some, inl, inr, refl, sym, subst, if◌then◌else◌, codes}
+use Rattle.std.proofs.Common.{arith, IsUtf8, ◌≡◌, ◌∙◌, ap, ◌⊎◌, ◌≤◌, ◌&&◌, length, Bool, true, false, not, List, [], ◌∷◌, ℕ, zero, suc, Option, Some, None, All, IfSome, IsSome, is_some, inl, inr, refl, sym, subst, if◌then◌else◌, codes}
 use Rattle.std.specs.Option.{option_map, option_map_or, option_and_then}
-use Rattle.std.specs.Str.{bytes_eq}
+use Rattle.std.specs.Str.{bytes_eq, is_utf8}
 use Rattle.std.proofs.lemmas.Bool.{false≢true, and_parts}
+use Rattle.std.proofs.lemmas.Str.{is_utf8-from_IsUtf8, IsUtf8-from_is_utf8}
 use Rattle.std.proofs.lemmas.List.Elements.{All-head, All-tail}
 use Rattle.serde_json.specs.Data as json
 use Rattle.serde_json.specs.Data.{Data, Items, no_items, Members, no_members, member}
 use Rattle.serde_json.specs.Find.{get, pointer}
+use Rattle.serde_json.specs.Read.{read}
 use Rattle.tmpl_values.specs.Value.{Value, Entries, no_entry, entry, nothing, null, boolean, number, string, sequence, mapping, item, no_item}
 use Rattle.tmpl_values.specs.Value as value
 use Rattle.tmpl_values.specs.Elements.{values_of_items}
@@ -17,7 +19,7 @@ use Rattle.tmpl_shape.specs.computed.Means.{Means}
 use Rattle.tmpl_shape.proofs.NameLemmas.{meant}
 use Rattle.tmpl_shape.proofs.ShapeLemmas.{same_name, or_cases, items-has, entries-has}
 use Rattle.tmpl_json_schema.specs.Document.{IsInstance, IsOfType, IsConstant, IsOneOf, HasKeys, SomeItem, in_properties, FitsProperty, FitsProperties, FitsAdditional}
-use Rattle.tmpl_json_schema.specs.Document.{HasItems, FitsItems, FitsSome, fragment_of, refer, ConformsBy, conforms_in, draft_of, has_const, is_alone}
+use Rattle.tmpl_json_schema.specs.Document.{HasItems, FitsItems, FitsSome, fragment_of, refer, ConformsBy, conforms_in, document_of, draft_of, has_const, is_alone}
 use Rattle.tmpl_json_schema.specs.declared.draft.Draft.{Draft}
 use Rattle.tmpl_json_schema.specs.declared.kinds.Kinds.{Kinds}
 use Rattle.tmpl_json_schema.specs.computed.Reading.{fold, fold_members, every_kind, both_kinds, types_in, const_in, enum_in, kinds_in, type_kinds, enum_kinds, constant_kind}
@@ -367,3 +369,15 @@ pub document-fits : (draft : Draft) (root : Data) → draft_of root ≡ Some dra
 document-fits draft root is-of names l ds s all e is n v h =
     sound draft root is-of names l (defs_in ds) (λ p i. find-definition draft root names l ds all p (listed-defined (defs_in ds) names p e i))
     (stands_for (defs_in ds)) (meant (defs_in ds)) n l root s v is h
+
+-- ---- the document that bytes are
+
+pub document-read : (text : List ℕ) (root : Data) → IsUtf8 text → read text ≡ Some root → document_of text ≡ Some root
+document-read text root u r = rw (is_utf8-from_IsUtf8 text u) r
+
+document-none-by : (text : List ℕ) (b : Bool) → is_utf8 text ≡ b → (IsUtf8 text → read text ≡ None) → (if b then read text else None) ≡ None
+document-none-by text true e h = h (IsUtf8-from_is_utf8 text e)
+document-none-by text false e h = refl
+
+pub document-none : (text : List ℕ) → (IsUtf8 text → read text ≡ None) → document_of text ≡ None
+document-none text h = document-none-by text (is_utf8 text) refl h

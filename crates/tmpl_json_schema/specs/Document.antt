@@ -198,10 +198,10 @@ conforms_in root (suc n) d v = ConformsBy root (conforms_in root n) d v
 abbrev pub document_of : List ℕ → Option Data
 document_of bytes = if is_utf8 bytes then read bytes else None
 
--- these bytes are a document, of one of these drafts
-abbrev pub IsDocument : List ℕ → Type 0
-IsDocument bytes = (root : Data) × (document_of bytes ≡ Some root) × IsSome (draft_of root)
+-- a value conforms to a document
+abbrev pub IsOfSchema : Data → Value → Type 0
+IsOfSchema root v = (n : ℕ) × conforms_in root n root v
 
--- a value conforms to the schema that these bytes are
+-- .. to the one that these bytes are
 abbrev pub ConformsTo : List ℕ → Value → Type 0
-ConformsTo bytes v = (root : Data) × (document_of bytes ≡ Some root) × ((n : ℕ) × conforms_in root n root v)
+ConformsTo bytes v = (root : Data) × (document_of bytes ≡ Some root) × IsOfSchema root v

@@ -1,10 +1,12 @@
 //! Whether a template never fails over the data of a JSON Schema.
 ghost use Rattle.std.specs.Prelude.{OnOk};
+ghost use Rattle.serde_json.specs.View.{view};
 ghost use Rattle.tmpl_syntax.specs.View.{set_view};
 ghost use Rattle.tmpl_json_schema.specs.Safe.{NeverFailsOver};
 
 use crate::fault::SchemaFault;
 use crate::schema::read_schema;
+use serde_json::Value;
 use std::alloc::Global;
 use tmpl_meaning::MissingKey;
 use tmpl_schema::{Refusal, check_schema};
@@ -20,7 +22,7 @@ pub enum CheckFault {
     Template(Refusal),
 }
 
-/// Whether a template of the set never fails over data that conforms to the JSON Schema that the document's bytes are: in
+/// Whether a template of the set never fails over data that conforms to the JSON Schema that the document is: in
 /// this mode for missing keys, or, where none is given, in each of them. A call of a template that is not there is
 /// allowed where its name is one of the stops.
 ///
@@ -34,11 +36,11 @@ pub fn check_document(
     alloc: Global,
     set: &Set,
     name: &[u8],
-    document: &[u8],
+    document: &Value,
     mode: Option<MissingKey>,
     stops: &[Bytes],
 ) -> Result<(), CheckFault>
-    ensures { OnOk result (NeverFailsOver document.now mode stops.now (set_view set.now) name.now) }
+    ensures { OnOk result (NeverFailsOver (view document.now) mode stops.now (set_view set.now) name.now) }
 {
     let schema = match read_schema(alloc, document) {
         Ok(schema) => schema,

@@ -109,15 +109,14 @@ fn check_part(alloc: Global, part: Part, value: &Value) -> Result<(), SchemaFaul
 /// # Errors
 ///
 /// Where memory is refused.
-pub fn part_without_values(alloc: Global, bytes: &[u8]) -> Result<Option<Refused>, AllocError> {
-    let found = match Value::from_slice(alloc, bytes) {
-        Ok(Value::Bool(false)) => Err(refusal(alloc, NO_VALUE)),
-        Ok(root) => check_part(alloc, Part::Schema, &root),
-        Err(error) => Err(SchemaFault::from(error)),
+pub fn part_without_values(alloc: Global, root: &Value) -> Result<Option<Refused>, AllocError> {
+    let found = match root {
+        Value::Bool(false) => Err(refusal(alloc, NO_VALUE)),
+        _ => check_part(alloc, Part::Schema, root),
     };
     match found {
         Err(SchemaFault::Refused(refused)) => Ok(Some(refused)),
         Err(SchemaFault::OutOfMemory) => Err(AllocError),
-        Err(SchemaFault::NotJson) | Ok(()) => Ok(None),
+        Ok(()) => Ok(None),
     }
 }

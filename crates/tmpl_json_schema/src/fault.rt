@@ -19,8 +19,6 @@ pub struct Refused {
 pub enum SchemaFault {
     /// Memory was refused.
     OutOfMemory,
-    /// The bytes are not JSON.
-    NotJson,
     /// Something in it is not understood.
     Refused(Refused),
 }
@@ -89,7 +87,6 @@ pub(crate) fn under(alloc: Global, fault: SchemaFault, key: &str) -> SchemaFault
             }
         }
         SchemaFault::OutOfMemory => SchemaFault::OutOfMemory,
-        SchemaFault::NotJson => SchemaFault::NotJson,
     }
 }
 

@@ -26,4 +26,4 @@ pub use fields::{has_content, least_items, requires_key};
 pub use infer::infer_schema;
 pub use kinds::{Kinds, is_every_kind, kinds_of, lets_no_map};
 pub use read::{choices_in, chosen_by};
-pub use schema::read_schema;
+pub use schema::{read_document, read_schema};

@@ -1,21 +1,19 @@
 //! A schema of a document's bytes.
 #![tactic(auto, using(tmpl_shape::proofs::ViewLemmas::parts))]
 
-ghost use Rattle.std.specs.Prelude.{◌≡◌, ℕ, All, IfOk, IsSome, OnOk, is_some};
-ghost use Rattle.serde_json.specs.Errors.{IsMemory};
+ghost use Rattle.std.specs.Prelude.{◌≡◌, All, IfOk, IsSome, OnOk, is_some, option_map};
 ghost use Rattle.serde_json.specs.View.{view};
 ghost use Rattle.tmpl_values.specs.Value.{Value as DataValue};
 ghost use Rattle.tmpl_shape.specs.Shape.{Fits};
 ghost use Rattle.tmpl_shape.specs.View.{defs_in, schema_of};
-ghost use Rattle.tmpl_json_schema.specs.Document.{ConformsTo, IsDocument, conforms_in, draft_of};
-ghost use Rattle.tmpl_json_schema.specs.declared.fault.SchemaFault.TheVariants as fault;
+ghost use Rattle.tmpl_json_schema.specs.Document.{IsOfSchema, document_of, draft_of};
 ghost use Rattle.tmpl_json_schema.specs.computed.Defined.{IsDefinition, are_defined};
 
 use crate::draft::draft_of;
 use crate::fault::{SchemaFault, refusal, refusal_of};
 use crate::read::{Reader, shape_by};
 use crate::reference::{MOST_DEFINITIONS, fragment_of, is_listed, pointed};
-use serde_json::{Error, Value};
+use serde_json::Value;
 use std::alloc::{AllocError, Global};
 use std::str::from_utf8;
 use tmpl_schema::{Definition, Schema, Shape, copy_name};
@@ -29,19 +27,6 @@ const MOST_VALUES: usize = 10_000;
 
 /// The most alternatives that a definition may come to, those of each reference among them counted.
 const MOST_ALTERNATIVES: usize = 1_000;
-
-impl From<Error> for SchemaFault {
-    ghost from_gives = { λ error e. (IsMemory error → e ≡ fault.OutOfMemory)
-        × (¬ IsMemory error → e ≡ fault.NotJson) };
-
-    fn from(error: Error) -> SchemaFault {
-        if error.is_memory() {
-            SchemaFault::OutOfMemory
-        } else {
-            SchemaFault::NotJson
-        }
-    }
-}
 
 /// How many names a schema requires that are no properties: each has the shape of the other properties.
 fn unlisted_count(schema: &Value) -> usize {
@@ -364,8 +349,7 @@ fn names_in(alloc: Global, root: &Value) -> Result<Vec<Bytes>, SchemaFault> {
 /// The schema of a document, of which as many levels are read.
 fn schema_in(alloc: Global, levels: usize, root: &Value) -> Result<Schema, SchemaFault>
     ensures draft { OnOk result (IsSome (draft_of (view root.now))) }
-    ensures fits { IfOk result (λ s. (n : ℕ) (v : DataValue) → conforms_in (view root.now) n (view root.now) v
-        → Fits (schema_of s) v) }
+    ensures fits { IfOk result (λ s. (v : DataValue) → IsOfSchema (view root.now) v → Fits (schema_of s) v) }
 {
     let draft = draft_of(alloc, root)?;
     let names = names_in(alloc, root)?;
@@ -385,16 +369,36 @@ fn schema_in(alloc: Global, levels: usize, root: &Value) -> Result<Schema, Schem
     Ok(Schema { definitions, shape })
 }
 
-/// The schema that a file of JSON Schema is, by the draft that it names or else 2020-12: each value that conforms to the file fits it.
+/// The schema that a document of JSON Schema is, by the draft that it names or else 2020-12: each value that conforms to
+/// the document fits it.
 ///
 /// # Errors
 ///
-/// `NotJson` where the bytes are not JSON, `Refused` where a keyword in it is not one that is understood, or what stands
-/// under it is not what it wants, and `OutOfMemory` where memory is refused.
-pub fn read_schema(alloc: Global, bytes: &[u8]) -> Result<Schema, SchemaFault>
-    ensures document { OnOk result (IsDocument bytes.now) }
-    ensures fits { IfOk result (λ s. (v : DataValue) → ConformsTo bytes.now v → Fits (schema_of s) v) }
+/// `Refused` where a keyword in it is not one that is understood, or what stands under it is not what it wants, and
+/// `OutOfMemory` where memory is refused.
+pub fn read_schema(alloc: Global, root: &Value) -> Result<Schema, SchemaFault>
+    ensures draft { OnOk result (IsSome (draft_of (view root.now))) }
+    ensures fits { IfOk result (λ s. (v : DataValue) → IsOfSchema (view root.now) v → Fits (schema_of s) v) }
 {
-    let root = Value::from_slice(alloc, bytes)?;
-    schema_in(alloc, LEVELS, &root)
+    schema_in(alloc, LEVELS, root)
+}
+
+/// The JSON value that a file is, if it is one.
+///
+/// # Errors
+///
+/// Where memory is refused.
+pub fn read_document(alloc: Global, bytes: &[u8]) -> Result<Option<Value>, AllocError>
+    ensures { IfOk result (λ root. option_map view root ≡ document_of bytes.now) }
+{
+    match Value::from_slice(alloc, bytes) {
+        Ok(root) => Ok(Some(root)),
+        Err(error) => {
+            if error.is_memory() {
+                Err(AllocError)
+            } else {
+                Ok(None)
+            }
+        }
+    }
 }

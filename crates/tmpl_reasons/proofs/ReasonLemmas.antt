@@ -1,24 +1,10 @@
 -- On what is told of doubts.
-use Rattle.std.proofs.Common.{◌≡◌, ◌++◌, ◌+◌, List, ℕ, [], ◌∷◌, Option, Some, None, MatchOption, sym, subst, take, IsUtf8}
+use Rattle.std.proofs.Common.{◌≡◌, ◌++◌, ◌+◌, List, ℕ, [], ◌∷◌, Option, sym, subst, take}
 use Rattle.std.proofs.lemmas.Slice.Zip.{all_zipped_more}
 use Rattle.std.specs.List.{AllZip}
-use Rattle.serde_json.specs.Data.{Data}
-use Rattle.serde_json.specs.Read.{read}
 use Rattle.tmpl_schema.specs.declared.failure.Doubt.{Doubt}
-use Rattle.tmpl_values.proofs.TreeLemmas.{tree_of-some, tree_of-none}
 use Rattle.tmpl_reasons.specs.declared.reason.Reason.{Reason}
-use Rattle.tmpl_reasons.specs.Reason.{AreReasons, IsTold}
-
--- over a document
-pub are_reasons : (bytes : List ℕ) (doubts : List Doubt) (told : List (Option Reason)) (value : Data) → IsUtf8 bytes → read bytes ≡ Some value
-    → AllZip (IsTold bytes) doubts told → AreReasons bytes doubts told
-are_reasons bytes doubts told value is_text is_read each =
-    subst (λ o. MatchOption o (told ≡ []) (λ value. AllZip (IsTold bytes) doubts told)) (sym (tree_of-some bytes value is_text is_read)) each
-
--- over what is none
-pub no_reasons : (bytes : List ℕ) (doubts : List Doubt) (told : List (Option Reason)) → (IsUtf8 bytes → read bytes ≡ None) → told ≡ [] → AreReasons bytes doubts told
-no_reasons bytes doubts told unread none =
-    subst (λ o. MatchOption o (told ≡ []) (λ value. AllZip (IsTold bytes) doubts told)) (sym (tree_of-none bytes unread)) none
+use Rattle.tmpl_reasons.specs.Reason.{IsTold}
 
 -- of one doubt more
 pub told_more : (bytes : List ℕ) (doubts : List Doubt) (i : ℕ) (doubt : Doubt) (before after : List (Option Reason)) (told : Option Reason)

@@ -1,9 +1,5 @@
 -- Which reasons are told of which doubts.
-use Rattle.std.specs.Prelude.{◌≡◌, ℕ, List, [], Option, Some, None, IfSome, MatchOption}
-use Rattle.std.specs.Prelude.{if◌then◌else◌}
-use Rattle.std.specs.List.{AllZip}
-use Rattle.std.specs.Str.{is_utf8}
-use Rattle.serde_json.specs.Read.{read}
+use Rattle.std.specs.Prelude.{◌≡◌, ℕ, List, Option, Some, None, IfSome}
 use Rattle.tmpl_shape.specs.declared.cause.Cause.{Cause}
 use Rattle.tmpl_shape.specs.declared.cause.Cause.TheVariants as cause
 use Rattle.tmpl_schema.specs.declared.failure.Doubt.{Doubt}
@@ -42,8 +38,3 @@ pub record IsReason (bytes : List ℕ) (gap : Option Gap) (reason : Reason) : Ty
 -- what is told of a doubt, a reason or none
 abbrev pub IsTold : List ℕ → Doubt → Option Reason → Type 0
 IsTold bytes doubt told = IfSome told (IsReason bytes (gap_of doubt.cause))
-
--- where the document is JSON that is told of each doubt in turn, else of none
-abbrev pub AreReasons : List ℕ → List Doubt → List (Option Reason) → Type 0
-AreReasons bytes doubts told =
-    MatchOption (if is_utf8 bytes then read bytes else None) (told ≡ []) (λ value. AllZip (IsTold bytes) doubts told)

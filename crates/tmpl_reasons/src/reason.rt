@@ -1,7 +1,7 @@
 //! Where a document lets through what may be a fault of a template.
 ghost use Rattle.std.specs.Prelude.{◌≡◌, Some, IfOk, IfSome};
 ghost use Rattle.std.specs.List.{AllZip};
-ghost use Rattle.tmpl_reasons.specs.Reason.{AreReasons, IsReason, IsTold, absence, few, gap_by, gap_of, kind};
+ghost use Rattle.tmpl_reasons.specs.Reason.{IsReason, IsTold, absence, few, gap_by, gap_of, kind};
 
 use crate::origin::{Document, Lost, Origin, below, lets_all};
 use crate::position::line_of;
@@ -39,42 +39,21 @@ pub struct Reason {
     pub line: u64,
 }
 
-/// For each doubt why what it speaks of may come, in a run of the template of this name over data of the document,
-/// where one place of that alone lets it through; else none. The doubts are those that `check_document` gives.
-#[tactic(auto, using(crate::proofs::ReasonLemmas::are_reasons, crate::proofs::ReasonLemmas::no_reasons))]
+/// For each doubt why what it speaks of may come, in a run of the template of this name over data of the document of
+/// these bytes, where one place of that alone lets it through; else none. The doubts are those that `check_document` gives.
 pub fn reasons_of(
     alloc: Global,
     set: &Set,
     name: &[u8],
-    document: &[u8],
+    root: &Value,
+    bytes: &[u8],
     doubts: &[Doubt],
 ) -> Result<Vec<Option<Reason>>, AllocError>
-    ensures { IfOk result (λ reasons. AreReasons document.now doubts.now reasons.items) }
+    ensures { IfOk result (λ reasons. AllZip (IsTold bytes.now) doubts.now reasons.items) }
 {
-    let root = match Value::from_slice(alloc, document) {
-        Ok(root) => root,
-        Err(error) if error.is_memory() => return Err(AllocError),
-        Err(_) => return Ok(Vec::new(alloc)),
-    };
-    let document = Document {
-        root: &root,
-        bytes: document,
-        alloc,
-    };
-    Ok(reasons_in(document, set, name, doubts)?)
-}
-
-/// The reasons in a document for the doubts.
-fn reasons_in(
-    document: Document<'_>,
-    set: &Set,
-    name: &[u8],
-    doubts: &[Doubt],
-) -> Result<Vec<Option<Reason>>, AllocError>
-    ensures { IfOk result (λ reasons. AllZip (IsTold document.entry.bytes.now) doubts.now reasons.items) }
-{
+    let document = Document { root, bytes, alloc };
     let asked = asked_of(document, set, name, doubts)?;
-    let mut reasons = Vec::new(document.alloc);
+    let mut reasons = Vec::new(alloc);
     for doubt in doubts {
         let asked = asked.get(reasons.len());
         reasons.push(reason_for(document, asked, doubt)?)?;

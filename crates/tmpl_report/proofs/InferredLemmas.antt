@@ -106,13 +106,3 @@ samples-told text root (s ∷ lent) e h = (by (tree_value (view s.now)) h.0, sam
     by : (o : Option value.Value) → IfSome o (λ v. (n : ℕ) × conforms_in root n root v) → IfSome o (ConformsTo text)
     by None h = tt
     by (Some v) h = (root, e, h)
-
-pub document-read : (text : List ℕ) (root : Data) → IsUtf8 text → read text ≡ Some root → document_of text ≡ Some root
-document-read text root u r = rw (is_utf8-from_IsUtf8 text u) r
-
-document-none-by : (text : List ℕ) (b : Bool) → is_utf8 text ≡ b → (IsUtf8 text → read text ≡ None) → (if b then read text else None) ≡ None
-document-none-by text true e h = h (IsUtf8-from_is_utf8 text e)
-document-none-by text false e h = refl
-
-pub document-none : (text : List ℕ) → (IsUtf8 text → read text ≡ None) → document_of text ≡ None
-document-none text h = document-none-by text (is_utf8 text) refl h

@@ -1,10 +1,12 @@
 -- What is so where no error is found.
-use Rattle.std.specs.Prelude.{◌≡◌, ℕ, false, List, [], ◌∷◌, map, Ok, IfSome}
+use Rattle.std.specs.Prelude.{◌≡◌, ℕ, false, List, [], ◌∷◌, map, Some, Ok, IfSome}
 use Rattle.std.specs.Option.{option_map_or}
 use Rattle.tmpl_values.specs.Json.{data_of}
 use Rattle.tmpl_values.specs.Value.{Value}
 use Rattle.tmpl_syntax.specs.Set.{Template}
 use Rattle.tmpl_syntax.specs.Parse.{Parses, base_name}
+use Rattle.serde_json.specs.Data.{Data}
+use Rattle.tmpl_json_schema.specs.Document.{document_of}
 use Rattle.tmpl_json_schema.specs.Safe.{NeverFailsOver}
 use Rattle.tmpl_report.specs.declared.source.Question.{Question}
 use Rattle.tmpl_report.specs.declared.source.Source.{Source}
@@ -23,7 +25,8 @@ asked_name question first = option_map_or (λ name. name.now) question.name (bas
 -- the template that is rendered never fails over the schema, if there is one
 abbrev pub IsSafeOver : Question → Sources → List Template → Type 0
 IsSafeOver question sources set = IfSome sources.schema (λ schema. IfSome question.first (λ first.
-    NeverFailsOver schema.bytes.items question.mode (map (λ stop. stop.now) question.stops.items) set
+    (document : Data) × (document_of schema.bytes.items ≡ Some document)
+    × NeverFailsOver document question.mode (map (λ stop. stop.now) question.stops.items) set
     (asked_name question first.now)))
 
 -- the data has a value, if there is some

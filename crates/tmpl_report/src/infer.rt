@@ -1,9 +1,9 @@
 //! A schema of files of data.
-ghost use Rattle.std.specs.Prelude.{◌≡◌, map, option_map, string_bytes, IfOk, IfSome, OnOk};
+ghost use Rattle.std.specs.Prelude.{◌≡◌, map, string_bytes, IfOk, IfSome, OnOk};
 ghost use Rattle.std.specs.List.{AllByRecursion};
 ghost use Rattle.serde_json.specs.View.{view};
 ghost use Rattle.tmpl_values.specs.Json.{tree_value};
-ghost use Rattle.tmpl_json_schema.specs.Document.{ConformsTo, document_of};
+ghost use Rattle.tmpl_json_schema.specs.Document.{ConformsTo};
 ghost use Rattle.tmpl_report.specs.Inferred.{IsInferred};
 ghost use Rattle.tmpl_report.specs.computed.Inferred.{AddsSample};
 
@@ -11,7 +11,7 @@ use crate::findings::Findings;
 use crate::source::Source;
 use serde_json::Value;
 use std::alloc::{AllocError, Global};
-use tmpl_json_schema::infer_schema;
+use tmpl_json_schema::{infer_schema, read_document};
 
 /// What comes of files of data.
 #[derive(Drop)]
@@ -70,27 +70,11 @@ fn add_sample<'a>(
     if !findings.add_data(alloc, file)? {
         return Ok(());
     }
-    match value_of(alloc, file.bytes.as_slice())? {
+    match read_document(alloc, file.bytes.as_slice())? {
         Some(value) => {
             samples.push(value)?;
             Ok(())
         }
         None => Ok(()),
-    }
-}
-
-/// The JSON value of bytes.
-fn value_of(alloc: Global, bytes: &[u8]) -> Result<Option<Value>, AllocError>
-    ensures { IfOk result (λ value. option_map view value ≡ document_of bytes.now) }
-{
-    match Value::from_slice(alloc, bytes) {
-        Ok(value) => Ok(Some(value)),
-        Err(error) => {
-            if error.is_memory() {
-                Err(AllocError)
-            } else {
-                Ok(None)
-            }
-        }
     }
 }

@@ -8,11 +8,14 @@ use crate::entry::{Entry, Level};
 use crate::findings::Findings;
 use crate::rule::{MAY_FAIL, SCHEMA_NOT_UNDERSTOOD};
 use crate::source::{Question, Source, Sources};
+use serde_json::Value;
 use std::alloc::{AllocError, Global};
 use std::str::from_utf8;
 use tmpl_funcs::Func;
 use tmpl_hints::Sentence;
-use tmpl_json_schema::{CheckFault, Refused, SchemaFault, check_document, part_without_values};
+use tmpl_json_schema::{
+    CheckFault, Refused, SchemaFault, check_document, part_without_values, read_document,
+};
 use tmpl_meaning::MissingKey;
 use tmpl_reasons::{Reason, Why, position_of, reasons_of};
 use tmpl_samples::{Failure, failures_of};
@@ -54,23 +57,26 @@ pub(crate) fn add_schema<'a>(
         schema,
     };
     let stops = names_of(alloc, question.stops.as_slice())?;
-    let document = schema.bytes.as_slice();
+    let Some(document) = read_document(alloc, schema.bytes.as_slice())? else {
+        findings.add_data(alloc, schema)?;
+        return Ok(false);
+    };
     match check_document(
         alloc,
         set,
         render.name,
-        document,
+        &document,
         render.mode,
         stops.as_slice(),
     ) {
         Ok(()) => {
-            if let Some(part) = part_without_values(alloc, document)? {
+            if let Some(part) = part_without_values(alloc, &document)? {
                 findings.warn_of_part(alloc, schema, &part)?;
             }
             Ok(true)
         }
         Err(fault) => {
-            render.add_fault(alloc, findings, stops.as_slice(), fault)?;
+            render.add_fault(alloc, findings, &document, stops.as_slice(), fault)?;
             Ok(false)
         }
     }
@@ -104,20 +110,18 @@ impl<'a> Render<'a, '_> {
         &self,
         alloc: Global,
         findings: &mut Findings<'a>,
+        document: &Value,
         stops: &[Bytes],
         fault: CheckFault,
     ) -> Result<(), AllocError> {
         match fault {
-            CheckFault::Schema(SchemaFault::NotJson) => {
-                findings.add_data(alloc, self.schema)?;
-            }
             CheckFault::Schema(SchemaFault::Refused(refused)) => {
                 findings
                     .entries
                     .push(schema_entry(alloc, self.schema, &refused)?)?;
             }
             CheckFault::Template(Refusal::MayFail(doubts)) => {
-                self.add_doubts(alloc, findings, stops, doubts.as_slice())?;
+                self.add_doubts(alloc, findings, document, stops, doubts.as_slice())?;
             }
             CheckFault::Schema(SchemaFault::OutOfMemory) => return Err(AllocError),
             CheckFault::Template(Refusal::OutOfMemory) => return Err(AllocError),
@@ -131,6 +135,7 @@ impl<'a> Render<'a, '_> {
         &self,
         alloc: Global,
         findings: &mut Findings<'a>,
+        document: &Value,
         stops: &[Bytes],
         doubts: &[Doubt],
     ) -> Result<(), AllocError> {
@@ -142,8 +147,8 @@ impl<'a> Render<'a, '_> {
             sources,
             schema,
         } = *self;
-        let document = schema.bytes.as_slice();
-        let reasons = reasons_of(alloc, set, name, document, doubts)?;
+        let bytes = schema.bytes.as_slice();
+        let reasons = reasons_of(alloc, set, name, document, bytes, doubts)?;
         let failures = failures_of(alloc, set, name, document, mode, stops, doubts)?;
         for (index, doubt) in doubts.iter().enumerate() {
             let mut entry = doubt_entry(alloc, set, first, sources, doubt)?;

@@ -27,16 +27,6 @@ right_more asked (d ∷ ds) (f ∷ fs) doubt found a p = (a.0, right_more asked 
 
 -- ---- documents
 
-pub document-is : (bs : List ℕ) (d : Data) → IsUtf8 bs → read bs ≡ Some d → document_of bs ≡ Some d
-document-is bs d u r = rw (is_utf8-from_IsUtf8 bs u) r
-
-pub document-none : (bs : List ℕ) → (IsUtf8 bs → read bs ≡ None) → document_of bs ≡ None
-document-none bs h = go (is_utf8 bs) (λ e. h (IsUtf8-from_is_utf8 bs e))
-  where
-    go : (b : Bool) → (b ≡ true → read bs ≡ None) → (if b then read bs else None) ≡ None
-    go true n = n refl
-    go false n = refl
-
 -- the value of data is that of the JSON value that they read as
 pub value-read : (bs : List ℕ) (d : Data) (v : Value) → document_of bs ≡ Some d → data_of bs ≡ Ok v → tree_value d ≡ Some v
 value-read bs d v is p = of (tree_value d) (sym (ap (λ o. and_then (ok_or o not_json) (λ d. ok_or (tree_value d) not_whole)) is) ∙ p)
@@ -51,7 +41,7 @@ fault-there : {A B : Type 0} (f : A → Option B) (o : Option A) (a : A) (b : B)
 fault-there f o a b e is = sym (ap (option_and_then f) is) ∙ e
 
 pub failure-refutes : FailureRefutes
-failure-refutes bytes mode asked doubt failure document covers right never =
+failure-refutes mode asked doubt failure covers right never =
     let t = never.0 in
     let there = fault-there (λ tree. (ran asked.rules asked.set asked.name tree (Some right.0)).fault) (tree_named asked.name asked.set) t right.1 right.4 never.1 in
-    right.6 (subst (λ o. IfSome o (λ f. MayEnd asked.stops f.cause)) there (never.3 asked.rules right.0 covers (asked.schema, document, right.3)))
+    right.6 (subst (λ o. IfSome o (λ f. MayEnd asked.stops f.cause)) there (never.3 asked.rules right.0 covers right.3))

@@ -13,7 +13,7 @@ use Rattle.tmpl_shape.specs.declared.cause.Cause as doubted
 use Rattle.tmpl_shape.specs.declared.cause.Cause.TheVariants as doubted_for
 use Rattle.tmpl_schema.specs.Safe.{MayEnd}
 use Rattle.tmpl_schema.specs.declared.failure.Doubt.{Doubt}
-use Rattle.tmpl_json_schema.specs.Inferred.{IsOfSchema}
+use Rattle.tmpl_json_schema.specs.Document.{IsOfSchema}
 use Rattle.tmpl_samples.specs.declared.failing.Failure.{Failure}
 
 -- the rules of these runs: by this mode, 20,000 steps, and 50 templates inside one another

@@ -1,8 +1,8 @@
 //! The search for values of a schema for which a template fails.
-ghost use Rattle.std.specs.Prelude.{◌≡◌, [], IfOk, MatchOption, unwrap_or};
+ghost use Rattle.std.specs.Prelude.{IfOk, unwrap_or};
+ghost use Rattle.serde_json.specs.View.{view};
 ghost use Rattle.tmpl_meaning.specs.declared.missing_key.MissingKey.{MissingKey};
 ghost use Rattle.tmpl_syntax.specs.View.{set_view};
-ghost use Rattle.tmpl_json_schema.specs.Document.{document_of};
 ghost use Rattle.tmpl_samples.specs.Failing.{AreRight, rules_by};
 
 use crate::failing::{Failure, MOST_TEXT, Nowhere, Question, is_doubted};
@@ -300,7 +300,6 @@ fn values_found(question: &Question<'_>) -> Result<Vec<Option<Value>>, AllocErro
 
 /// For each doubt of a template over data of the document a value for which it is right, as small as was found, if one
 /// was: it conforms to the document by all its keywords, and the template fails over it at the place of the doubt.
-/// There is nothing where the document is not JSON.
 ///
 /// The doubts are those that `check_document` gives for the set, the name, the document, the mode and the stops.
 ///
@@ -316,31 +315,25 @@ pub fn failures_of(
     alloc: Global,
     set: &Set,
     name: &[u8],
-    document: &[u8],
+    document: &Value,
     mode: Option<MissingKey>,
     stops: &[Bytes],
     doubts: &[Doubt],
 ) -> Result<Vec<Option<Failure>>, AllocError>
-    ensures { IfOk result (λ failures. MatchOption (document_of document.now) (failures.items ≡ [])
-        (λ schema. AreRight (record {
-          rules = rules_by (unwrap_or mode MissingKey.Error);
-          stops = stops.now;
-          set = set_view set.now;
-          name = name.now;
-          schema = schema;
-        }) doubts.now failures.items)) }
+    ensures { IfOk result (λ failures. AreRight (record {
+      rules = rules_by (unwrap_or mode MissingKey.Error);
+      stops = stops.now;
+      set = set_view set.now;
+      name = name.now;
+      schema = view document.now;
+    }) doubts.now failures.items) }
 {
-    let root = match Value::from_slice(alloc, document) {
-        Ok(root) => root,
-        Err(error) if error.is_memory() => return Err(AllocError),
-        Err(_) => return Ok(Vec::new(alloc)),
-    };
     let renderer = Renderer::new(alloc, set)?;
     let question = Question {
         alloc,
         renderer: &renderer,
         name,
-        root: &root,
+        root: document,
         mode: mode.unwrap_or(MissingKey::Error),
         stops,
         doubts,

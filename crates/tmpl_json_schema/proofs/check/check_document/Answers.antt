@@ -1,3 +1,4 @@
+use Rattle.serde_json.specs.View.{view}
 use Rattle.tmpl_syntax.specs.View.{set_view}
 use Rattle.tmpl_shape.specs.View.{schema_of}
 use Rattle.tmpl_json_schema.proofs.SafeLemmas.{over-document}
@@ -5,5 +6,5 @@ use Rattle.tmpl_json_schema.proofs.check.check_document.Goals as goal
 
 pub returns-in-Ok-check_schema : goal.returns-in-Ok-check_schema
 returns-in-Ok-check_schema c =
-    over-document c.args.document.now c.args.mode c.args.stops.now (set_view c.args.set.now) c.args.name.now (schema_of c.in-Ok.schema) c.in-Ok.ensures.document c.in-Ok.ensures.fits
+    over-document (view c.args.document.now) c.args.mode c.args.stops.now (set_view c.args.set.now) c.args.name.now (schema_of c.in-Ok.schema) c.in-Ok.ensures.draft c.in-Ok.ensures.fits
     c.in-Ok-check_schema.ensures

@@ -18,4 +18,4 @@ returns-clause-fits c =
     let all : All (IsDefinition draft root names c.args.levels) ds = c.in_ok-definitions.ensures in
     let defined : are_defined (defs_in ds) names ≡ true = search rules in
     let is : shape_by draft names c.args.levels root ≡ Some shape = search rules in
-    document-fits draft root is-of names c.args.levels ds shape all defined is
+    λ v h. document-fits draft root is-of names c.args.levels ds shape all defined is h.0 v h.1

@@ -6,7 +6,8 @@ use Rattle.serde_json.specs.declared.value.Value.{Value}
 use Rattle.tmpl_values.specs.Json.{tree_value}
 use Rattle.tmpl_json_schema.specs.Document.{ConformsTo}
 use Rattle.tmpl_json_schema.specs.Inferred.{Conforms}
-use Rattle.tmpl_report.proofs.InferredLemmas.{samples-told, document-read}
+use Rattle.tmpl_json_schema.proofs.DocumentLemmas.{document-read}
+use Rattle.tmpl_report.proofs.InferredLemmas.{samples-told}
 use Rattle.tmpl_report.proofs.infer.schema_text.Goals as goal
 
 pub returns : goal.returns

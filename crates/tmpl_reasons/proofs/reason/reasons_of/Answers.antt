@@ -2,7 +2,7 @@ use Rattle.std.proofs.Common.{◌≡◌, ◌∙◌, ◌+◌, ◌++◌, [], ◌�
 use Rattle.std.proofs.lemmas.List.{take_more}
 use Rattle.tmpl_schema.specs.declared.failure.Doubt.{Doubt}
 use Rattle.tmpl_reasons.proofs.ReasonLemmas.{told_more}
-use Rattle.tmpl_reasons.proofs.reason.reasons_in.Goals as goal
+use Rattle.tmpl_reasons.proofs.reason.reasons_of.Goals as goal
 
 pub loop-doubt-preserved : goal.loop-doubt-preserved
 loop-doubt-preserved c =
@@ -11,5 +11,5 @@ loop-doubt-preserved c =
     let doubt = c.doubt-item.result in
     let parts : take (i + 1) all ≡ take i all ++ doubt ∷ [] =
     take_more all i doubt c.loop-doubt-test.true ∙ ap (λ (d : Doubt). take i all ++ d ∷ []) (sym c.doubt-item.is) in
-    told_more c.args.document.bytes.now all i doubt c.loop-doubt.reasons.items c.push.new.self.items c.in_ok-reason_for.field-0
+    told_more c.args.bytes.now all i doubt c.loop-doubt.reasons.items c.push.new.self.items c.in_ok-reason_for.field-0
     parts c.in_ok-push.ensures.items c.loop-doubt.invariant c.in_ok-reason_for.ensures
