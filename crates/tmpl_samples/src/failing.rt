@@ -1,12 +1,14 @@
 //! Failures: over which data of a schema the template fails at the place of a doubt. Whatever a search finds, a failure is
 //! told by a check and a render of the data that it shows.
 ghost use Rattle.std.specs.Prelude.{◌≡◌, Contains, Err, IfOk, IfSome, Ok, Some, string_bytes, false, true};
+ghost use Rattle.std.specs.Str.{IsUtf8};
 ghost use Rattle.serde_json.specs.View.{view};
 ghost use Rattle.tmpl_values.specs.Json.{data_of};
 ghost use Rattle.tmpl_values.specs.Value as tree;
 ghost use Rattle.tmpl_values.specs.View.{value_of};
 ghost use Rattle.tmpl_meaning.specs.View.{cause_of, fault_seen};
 ghost use Rattle.tmpl_meaning.specs.declared.fault.RunFault.{RunFault};
+ghost use Rattle.tmpl_engine.specs.Reason.{cause_text};
 ghost use Rattle.tmpl_engine.specs.View.{templates_in};
 ghost use Rattle.tmpl_engine.specs.declared.error.RenderError.{RenderError};
 ghost use Rattle.tmpl_schema.specs.Safe.{MayEnd};
@@ -19,11 +21,10 @@ use std::alloc::{AllocError, Global};
 use std::str::from_utf8;
 use tmpl_engine::{
     Data, DataFault, MissingKey, Options, RenderError, Renderer, RunFault, RunFaultKind, Sink,
-    SinkFault, WriterSink,
+    SinkFault, WholePuts, WriterSink, put_reason,
 };
 use tmpl_json_schema::{LEVELS, conforms};
 use tmpl_schema::{Cause, Doubt};
-use tmpl_tool::tell_end;
 use tmpl_values::Bytes;
 
 /// The limits of a render.
@@ -141,42 +142,20 @@ pub(crate) fn is_doubted(doubt: &Doubt, fault: &RunFault<'_>, stops: &[Bytes]) -
         && is_caused(&doubt.cause, &fault.kind, stops)
 }
 
-/// What `tmpl` says of a fault of the template of this name, after the file, the line and the template.
-fn said_of(alloc: Global, fault: RunFault<'_>, name: &[u8]) -> Result<String, AllocError> {
-    let mut sink = WriterSink::new(Vec::new(alloc));
-    let _ = tell_end(Err(RenderError::Fault(fault)), name, &mut sink);
-    if sink.failures > 0 {
+/// What `tmpl` says of a fault, after the file, the line and the template.
+fn said_of(alloc: Global, kind: &RunFaultKind<'_>) -> Result<String, AllocError>
+    ensures { IfOk result (λ said. IsUtf8 (cause_text (cause_of kind.now))
+        → string_bytes said ≡ cause_text (cause_of kind.now)) }
+{
+    let mut sink = WriterSink::over(Vec::new(alloc));
+    let mut puts = WholePuts { sink: &mut sink };
+    if put_reason(kind, &mut puts).is_err() {
         return Err(AllocError);
     }
-    let line = sink.writer.as_slice();
-    let start = b"tmpl: ".len().saturating_add(fault.file.len());
-    let rest = line.get(start..).unwrap_or(&[]);
-    match from_utf8(reason_in(rest)) {
+    match from_utf8(sink.writer.as_slice()) {
         Ok(reason) => String::from_str(alloc, reason),
         Err(_) => String::from_str(alloc, "it fails there"),
     }
-}
-
-/// The reason in what stands after the file in a line: after the first text in quotes, and without the end of the line.
-fn reason_in(line: &[u8]) -> &[u8] {
-    let mut is_quoted = false;
-    let mut is_escaped = false;
-    let mut start: usize = 0;
-    for byte in line {
-        start = start.saturating_add(1);
-        if is_escaped {
-            is_escaped = false;
-        } else if *byte == b'\\' {
-            is_escaped = is_quoted;
-        } else if *byte == b'"' {
-            if is_quoted {
-                break;
-            }
-            is_quoted = true;
-        }
-    }
-    let end = line.len().saturating_sub(1);
-    line.get(start.saturating_add(2)..end).unwrap_or(&[])
 }
 
 impl Question<'_> {
@@ -294,7 +273,7 @@ impl Question<'_> {
         }
         Ok(Some(Failure {
             data: text,
-            said: said_of(self.alloc, *fault, self.name)?,
+            said: said_of(self.alloc, &fault.kind)?,
             is_strict: matches!(&fault.kind, RunFaultKind::NoEntry(_)),
         }))
     }
