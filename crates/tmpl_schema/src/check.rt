@@ -151,14 +151,20 @@ fn check_shape(base: &Base<'_>, question: &Question<'_>) -> Result<(), Refusal>
         if !search.spread(base, question)? {
             break;
         }
-        base.effort.renew(MOST_EFFORT);
         match check_all(base, question, search.table.as_slice()) {
             Ok(()) => return Ok(()),
             Err(Failure::OutOfMemory) => return Err(Refusal::OutOfMemory),
             Err(_) => {}
         }
+        let is_spent = base.effort.is_spent();
+        if is_spent {
+            base.effort.renew(MOST_EFFORT);
+        }
         if let Some(doubts) = search.doubts(base, question)? {
             return Err(Refusal::MayFail(doubts));
+        }
+        if is_spent {
+            break;
         }
     }
     Err(search.refusal(base.alloc, question.name))

@@ -198,6 +198,7 @@ fn after_call(
         (table_of checker.now.table.now) None (state_of state.now) (template_node name.now
         (option_map pipeline_of given.now)) ≡ Some (known_of ks)) }
 {
+    checker.base.effort.spend(checker.table.len() as u64 / 8);
     match find_callee(checker.table, name.as_slice()) {
         Some(Callee::Absent) => Ok(copy_known(&state.known)?),
         Some(Callee::Handed(shape)) => {

@@ -15,7 +15,8 @@ use std::alloc::{AllocError, Global};
 use std::mem;
 use tmpl_meaning::MissingKey;
 use tmpl_shape::{
-    Base, Cause, Shape, Visit, copy_name, copy_shape, either, has_name, visit_of, within,
+    Base, Cause, Shape, Visit, copy_counted, copy_name, copy_shape, either, has_name, visit_of,
+    within,
 };
 use tmpl_syntax::{Control, ControlNode, Node, NodeKind, Set};
 use tmpl_values::Bytes;
@@ -29,8 +30,8 @@ const MOST_VISITS: usize = 100_000;
 
 pub(crate) const MOST_ROUNDS: usize = 16;
 
-/// The most work that one search, one check or one survey takes.
-pub(crate) const MOST_EFFORT: u64 = 60_000_000;
+/// The most work that all searches and checks take, and again the survey of what they found to be too much.
+pub(crate) const MOST_EFFORT: u64 = 120_000_000;
 
 /// What a template is asked for: the set and the name in it, the shape of its data, the mode for missing keys or else each,
 /// and the templates that need not be there.
@@ -323,12 +324,22 @@ fn survey_template(
 
 /// Where the table has a template of this name.
 fn place(table: &[Entry], name: &[u8]) -> Option<usize> {
+    let mark = mark_of(name);
     for (place, entry) in table.iter().enumerate() {
-        if entry.name.as_slice() == name {
+        if entry.mark == mark && entry.name.as_slice() == name {
             return Some(place);
         }
     }
     None
+}
+
+/// A number of a name, which few others have.
+fn mark_of(name: &[u8]) -> u64 {
+    let mut mark: u64 = 0;
+    for byte in name {
+        mark = mark.wrapping_mul(31).wrapping_add(u64::from(*byte));
+    }
+    mark
 }
 
 /// The alternatives of the one that are not within the other. A definition that is not one of its alternatives by its name
@@ -345,7 +356,7 @@ fn part_beyond(base: &Base<'_>, shape: &Shape, other: &Shape) -> Result<Shape, A
     if is_within {
         return Ok(Shape::Never);
     }
-    copy_shape(base.alloc, shape)
+    copy_counted(base, shape)
 }
 
 /// The values of both. The alternatives of the first change sides, so that however many are added, one by one, each is
@@ -378,7 +389,7 @@ fn callee_of(base: &Base<'_>, set: &Set, name: &[u8], shape: &Shape) -> Result<C
     if set.get(name).is_none() {
         return Ok(Callee::Absent);
     }
-    Ok(Callee::Handed(copy_shape(base.alloc, shape)?))
+    Ok(Callee::Handed(copy_counted(base, shape)?))
 }
 
 /// Puts a template that is not in the table there. Gives the values for which it is yet to be gone over.
@@ -393,12 +404,13 @@ fn add_entry(
     let is_absent = matches!(callee, Callee::Absent);
     table.push(Entry {
         name: copy_name(base.alloc, name)?,
+        mark: mark_of(name),
         callee,
     })?;
     if is_absent {
         return Ok(Shape::Never);
     }
-    copy_shape(base.alloc, shape)
+    copy_counted(base, shape)
 }
 
 /// Adds values to those of an entry. Gives those of them that are new to it.
@@ -423,6 +435,7 @@ fn grow(
     table: &mut Vec<Entry>,
     call: &Call,
 ) -> Result<Shape, AllocError> {
+    base.effort.spend(table.len() as u64 / 8);
     let Some(place) = place(table.as_slice(), call.name.as_slice()) else {
         return add_entry(base, set, table, call.name.as_slice(), &call.shape);
     };
@@ -461,6 +474,9 @@ fn grow_all(
     waiting: &mut Vec<Call>,
 ) -> Result<(), AllocError> {
     for call in wanted {
+        if base.effort.is_spent() {
+            break;
+        }
         let more = grow(base, question.set, table, call)?;
         put_waiting(base.alloc, waiting, call.name.as_slice(), more)?;
     }
@@ -497,13 +513,13 @@ fn survey_all(
     Ok(found)
 }
 
-/// That it is not seen why a template may fail.
+/// That it is not seen why a template may fail, since that takes too much work.
 fn unknown_doubt(alloc: Global, name: &[u8]) -> Result<Vec<Doubt>, AllocError> {
     let mut doubts: Vec<Doubt> = Vec::new(alloc);
     doubts.push(Doubt {
         template: copy_name(alloc, name)?,
         line: 0,
-        cause: Cause::Command,
+        cause: Cause::TooComplex,
     })?;
     Ok(doubts)
 }
@@ -522,7 +538,7 @@ impl Search {
     /// Where the template that is asked for is yet to be gone over.
     pub(crate) fn new(base: &Base<'_>, question: &Question<'_>) -> Result<Search, AllocError> {
         let name = copy_name(base.alloc, question.name)?;
-        let shape = copy_shape(base.alloc, question.shape)?;
+        let shape = copy_counted(base, question.shape)?;
         let mut waiting: Vec<Call> = Vec::new(base.alloc);
         waiting.push(Call { name, shape })?;
         Ok(Search {
@@ -571,7 +587,6 @@ impl Search {
         base: &Base<'_>,
         question: &Question<'_>,
     ) -> Result<bool, AllocError> {
-        base.effort.renew(MOST_EFFORT);
         // by no table each call is one for which the table has less than it hands over
         let checker = Checker {
             base: *base,
@@ -612,7 +627,6 @@ impl Search {
         base: &Base<'_>,
         question: &Question<'_>,
     ) -> Result<Option<Vec<Doubt>>, AllocError> {
-        base.effort.renew(MOST_EFFORT);
         let Found {
             is_over,
             doubts,

@@ -20,6 +20,8 @@ pub(crate) enum Callee {
 #[derive(Drop)]
 pub(crate) struct Entry {
     pub(crate) name: Bytes,
+    /// What is computed of its name, by which others are passed over quickly.
+    pub(crate) mark: u64,
     pub(crate) callee: Callee,
 }
 

@@ -51,7 +51,7 @@ fn null_gone_by(base: &Base<'_>, steps: usize, shape: &Shape) -> Result<Shape, A
             if !has_kind(base, Kind::Blank, shape) {
                 return copy_counted(base, shape);
             }
-            match find(base.definitions, name.as_slice()) {
+            match find(base, name.as_slice()) {
                 Some(defined) => null_gone_by(base, fewer, defined),
                 None => either(base.alloc, copy_counted(base, shape)?, Shape::Nothings),
             }
@@ -144,7 +144,7 @@ fn refine_by(
                 refine_by(base, least, fewer, names, other)?,
             )
         }
-        Shape::Named(name) => match find(base.definitions, name.as_slice()) {
+        Shape::Named(name) => match find(base, name.as_slice()) {
             Some(defined) => refine_by(base, least, fewer, names, defined),
             None => copy_counted(base, shape),
         },

@@ -112,7 +112,7 @@ fn field_shape_by(
             let other = field_shape_by(base, fewer, mode, name, other)?;
             Ok(join(base, one, other)?)
         }
-        Shape::Named(defined) => match find(base.definitions, defined.as_slice()) {
+        Shape::Named(defined) => match find(base, defined.as_slice()) {
             Some(shape) => field_shape_by(base, fewer, mode, name, shape),
             None => Err(Trouble::may_fail(base.alloc, Cause::Command)),
         },
@@ -232,7 +232,7 @@ fn index_shape_by(
             let other = index_shape_by(base, fewer, key, other)?;
             Ok(join(base, one, other)?)
         }
-        Shape::Named(defined) => match find(base.definitions, defined.as_slice()) {
+        Shape::Named(defined) => match find(base, defined.as_slice()) {
             Some(shape) => index_shape_by(base, fewer, key, shape),
             None => Err(Trouble::may_fail(base.alloc, Cause::Command)),
         },

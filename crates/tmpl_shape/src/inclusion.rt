@@ -7,12 +7,14 @@ ghost use Rattle.tmpl_shape.specs.computed.Shapes.{fields_along, fields_within, 
 ghost use Rattle.tmpl_shape.specs.computed.Shapes.{plain_within, record_within, requires_all, shape_at, some_part, within, within_by};
 ghost use Rattle.tmpl_shape.specs.computed.View.{base_of, name_within, shape_seen};
 
-use crate::shape::{Base, Definition, Fields, Shape};
+use crate::shape::{Base, Fields, Shape};
 
-/// The shape of the first definition of a name.
-pub(crate) fn find<'s>(definitions: &'s [Definition], name: &[u8]) -> Option<&'s Shape>
-    ensures { shape_seen result ≡ defs_in definitions.now name.now }
+/// The shape of the first definition of a name, which is some work where there are many.
+pub(crate) fn find<'s>(base: &Base<'s>, name: &[u8]) -> Option<&'s Shape>
+    ensures { shape_seen result ≡ defs_in base.now.definitions.now name.now }
 {
+    let definitions = base.definitions;
+    base.effort.spend(definitions.len() as u64);
     for definition in definitions {
         if name == definition.name.as_slice() {
             return Some(&definition.shape);
@@ -133,7 +135,7 @@ fn name_within(base: &Base<'_>, names: usize, steps: usize, name: &[u8], other: 
     if names == 0 {
         return false;
     }
-    match find(base.definitions, name) {
+    match find(base, name) {
         Some(shape) => within_by(base, names - 1, steps, shape, other),
         None => false,
     }
@@ -165,7 +167,7 @@ fn some_part(
         rest = second;
     }
     match rest {
-        Shape::Named(name) => match find(base.definitions, name.as_slice()) {
+        Shape::Named(name) => match find(base, name.as_slice()) {
             Some(shape) => some_part(base, fewer, names, steps, one, shape),
             None => false,
         },

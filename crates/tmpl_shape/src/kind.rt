@@ -51,6 +51,7 @@ fn is_of_kind(kind: Kind, shape: &Shape) -> bool
 fn may_be(base: &Base<'_>, steps: usize, kind: Kind, shape: &Shape) -> bool
     ensures { result ≡ may_be (base_of base.now) steps kind (shape_of shape.now) }
 {
+    base.effort.spend(1);
     if steps == 0 {
         return true;
     }
@@ -60,7 +61,7 @@ fn may_be(base: &Base<'_>, steps: usize, kind: Kind, shape: &Shape) -> bool
         Shape::Anything => true,
         Shape::Either(one, other) => may_be(base, fewer, kind, one)
             || may_be(base, fewer, kind, other),
-        Shape::Named(name) => match find(base.definitions, name.as_slice()) {
+        Shape::Named(name) => match find(base, name.as_slice()) {
             Some(shape) => may_be(base, fewer, kind, shape),
             None => true,
         },

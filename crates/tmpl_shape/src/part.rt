@@ -71,7 +71,7 @@ fn part_shape_by(
             let other = part_shape_by(base, fewer, from, to, other)?;
             Ok(join(base, one, other)?)
         }
-        Shape::Named(name) => match find(base.definitions, name.as_slice()) {
+        Shape::Named(name) => match find(base, name.as_slice()) {
             Some(shape) => part_shape_by(base, fewer, from, to, shape),
             None => Err(Trouble::may_fail(base.alloc, Cause::Command)),
         },

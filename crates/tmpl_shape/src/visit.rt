@@ -78,7 +78,7 @@ fn visit_by(
             let other = visit_by(base, fewer, binding, other)?;
             Ok(both_visits(base, one, other)?)
         }
-        Shape::Named(name) => match find(base.definitions, name.as_slice()) {
+        Shape::Named(name) => match find(base, name.as_slice()) {
             Some(shape) => visit_by(base, fewer, binding, shape),
             None => Err(Trouble::may_fail(base.alloc, Cause::Command)),
         },
