@@ -1,5 +1,5 @@
 -- For `infer_from`: what is read of files, and what is told of them.
-use Rattle.std.proofs.Common.{◌≡◌, inl, inr, ◌++◌, ◌<◌, ◌+◌, ℕ, zero, suc, Bool, true, false, List, [], ◌∷◌, length, take, get_or, map, Option, Some, None, IfSome, Ok, ok_or, refl, sym, subst, ap, ◌∙◌, arith}
+use Rattle.std.proofs.Common.{◌≡◌, inl, inr, ◌++◌, ◌<◌, ◌+◌, ℕ, zero, suc, true, false, List, [], ◌∷◌, length, take, get_or, map, Option, Some, None, IfSome, Ok, ok_or, refl, sym, subst, ap, ◌∙◌, arith}
 use Rattle.std.proofs.Common.{Any}
 use Rattle.std.specs.List.{AllByRecursion}
 use Rattle.std.proofs.lemmas.List.{take_more}
@@ -9,12 +9,7 @@ use Rattle.serde_json.specs.declared.value.Value.{Value}
 use Rattle.tmpl_values.specs.Json.{tree_value, data_of, not_json, not_whole}
 use Rattle.tmpl_values.specs.Stage.{and_then}
 use Rattle.tmpl_values.specs.Value as value
-use Rattle.std.proofs.Common.{IsUtf8}
 use Rattle.std.specs.Borrow.{Bor}
-use Rattle.std.proofs.lemmas.Str.{is_utf8-from_IsUtf8, IsUtf8-from_is_utf8}
-use Rattle.std.specs.Str.{is_utf8}
-use Rattle.std.specs.Bool.{if◌then◌else◌}
-use Rattle.serde_json.specs.Read.{read}
 use Rattle.tmpl_json_schema.specs.Inferred.{Conforms}
 use Rattle.tmpl_json_schema.specs.Document.{ConformsTo, document_of, conforms_in}
 use Rattle.tmpl_report.specs.Finding.{Finding, has_error}

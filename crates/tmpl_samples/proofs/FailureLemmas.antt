@@ -1,14 +1,11 @@
 -- For `failures`, and the law.
-use Rattle.std.specs.Prelude.{if◌then◌else◌, ok_or, IsUtf8}
-use Rattle.std.specs.Str.{is_utf8}
-use Rattle.std.proofs.lemmas.Str.{is_utf8-from_IsUtf8, IsUtf8-from_is_utf8}
+use Rattle.std.specs.Prelude.{ok_or}
 use Rattle.serde_json.specs.Data.{Data}
-use Rattle.serde_json.specs.Read.{read}
 use Rattle.tmpl_values.specs.Json.{data_of, not_json, not_whole, tree_value}
 use Rattle.tmpl_values.specs.Stage.{and_then}
 use Rattle.tmpl_values.specs.Value.{Value}
 use Rattle.tmpl_json_schema.specs.Document.{document_of}
-use Rattle.std.proofs.Common.{◌≡◌, ◌++◌, ℕ, Bool, true, false, refl, Ok, None, List, [], ◌∷◌, Option, Some, IfSome, option_and_then, subst, sym, ap, ◌∙◌}
+use Rattle.std.proofs.Common.{◌≡◌, ◌++◌, ℕ, refl, Ok, None, List, [], ◌∷◌, Option, Some, IfSome, option_and_then, subst, sym, ap, ◌∙◌}
 use Rattle.tmpl_syntax.specs.Set.{tree_named}
 use Rattle.tmpl_meaning.specs.Meaning.{ran}
 use Rattle.tmpl_schema.specs.Safe.{MayEnd}

@@ -1,5 +1,5 @@
 -- What follows where a failure is right.
-use Rattle.std.specs.Prelude.{◌≡◌, ℕ, List, Option, Some}
+use Rattle.std.specs.Prelude.{Option}
 use Rattle.tmpl_meaning.specs.declared.missing_key.MissingKey.{MissingKey}
 use Rattle.tmpl_schema.specs.Safe.{Covers}
 use Rattle.tmpl_schema.specs.declared.failure.Doubt.{Doubt}

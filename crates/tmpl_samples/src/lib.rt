@@ -1,4 +1,4 @@
-//! Values of a JSON Schema for which a template fails, and a schema of samples.
+//! Values of a JSON Schema for which a template fails.
 #![tactic(auto)]
 
 mod failing;
