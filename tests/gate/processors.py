@@ -8,6 +8,7 @@ import threading
 
 SECONDS = 0.5  # between two looks
 KINDS = ("proof", "edits")
+PROVERS = ("rattle", "antt-kernel")  # the second checks a part for the first, of which it is a copy
 TICK = 1 / os.sysconf("SC_CLK_TCK")
 
 
@@ -50,7 +51,7 @@ class Watch:
             except OSError:
                 pass  # it has ended
         for process, (parent, name, started, seconds) in told.items():
-            if name != "rattle" or not self.is_ours(told, parent):
+            if name not in PROVERS or not self.is_ours(told, parent):
                 continue
             try:
                 if (process, started) not in self.works:

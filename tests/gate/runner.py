@@ -126,6 +126,7 @@ def prove(progress):
             progress.end_crate(found[1])
 
     came = run(PROOFS, os.environ, see)
+    progress.crates.clear()
     if not came[1]:
         proved.mark(begun)
     return came
