@@ -258,6 +258,10 @@ def words(folder, failures):
     for given, wanted in [(["--help"], 0), (["--version"], 0), ([], 2), (["--nosuch", "m"], 2), (["--format", "xml", "m"], 2),
                           (["nosuch"], 3), (["m"], 1), (["n"], 0), (["n", "nosuch", "m"], 3), (["--data", "nosuch", "n"], 3)]:
         hold(" ".join(given), "status", wanted, run(CHECK, given, folder)[0], failures)
+    for given, wanted in [(["--nosuch", "m"], 2), ([], 2)]:
+        with open("/dev/full", "wb") as full:
+            ended = subprocess.run([CHECK, *given], cwd=folder, stdout=subprocess.DEVNULL, stderr=full, timeout=SECONDS, check=False)
+        hold(" ".join(given), "status where errors cannot be written", wanted, ended.returncode, failures)
     write(folder, "over", '{{template "t"}}')
     hold("a template of another file", "lines", b"", run(CHECK, ["over", "n"], folder)[1], failures)
     hold("a name that is not there", "lines", b'over:1:1: warning: no file defines the template "x" of --name\n',

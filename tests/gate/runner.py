@@ -36,6 +36,7 @@ TESTS = {
     "edits": "gate.edits --apply",
     "tried": "gate.tried",
     "judges": "gate.judges",
+    "recipe": "gate.recipe",
     "believed": "gate.believed",
     "rendered": "check.rendered",
     "rendered-by-rattle": f"{BY_RATTLE} {sys.executable} -m tests.check.rendered",
@@ -58,7 +59,7 @@ RUNS = {
     "judges": programs.ALL,
     **dict.fromkeys(("calls", "kept", "lent_memory", "memory", "prefixes", "instructions"), ("tmpl", "tmpl_probe")),
     "host": ("tmpl_host", "tmpl_probe"),
-    **dict.fromkeys((PROOFS, "edits", "tried", "believed"), ()),
+    **dict.fromkeys((PROOFS, "edits", "tried", "believed", "recipe"), ()),
 }
 BY_MAKE = ("library", "ports", "web")  # these call make, so they run one after the other
 OVER_ROWS = ("rendered", "rendered-by-rattle", "problems", "verdicts")  # these take -k

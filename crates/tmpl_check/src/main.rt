@@ -1,4 +1,4 @@
-//! The command `tmpl-check`: says all that is wrong in template files and data, where, and what to write instead.
+//! The command `tmpl-check`: reports every error in template files and data, where it is, and what to write instead.
 #![tactic(auto)]
 
 ghost use Rattle.std.specs.Prelude.{◌≡◌, if◌then◌else◌};
@@ -56,8 +56,12 @@ fn run(rt: &HostRuntime) -> Result<u8, Stop> {
             write_all(rt, version_line(rt)?.as_str())?;
             Ok(0)
         }
+        // where nobody can be told, the status still says it
+        Err(error) if error.use_stderr() => {
+            let _ = error.print(rt);
+            Ok(2)
+        }
         Err(error) => match error.print(rt) {
-            Ok(()) if error.use_stderr() => Ok(2),
             Ok(()) => Ok(0),
             Err(_) => Err(Stop::WriteFailed),
         },

@@ -28,49 +28,49 @@ pub(crate) fn command<'a>(alloc: Global) -> Result<Command<'a>, AllocError> {
     let unlike_infer: [&'a str; 5] = ["data", "name", "schema", "missingkey", "stop"];
     Command::new(alloc, "tmpl-check")
         .version("0")
-        .about(
-            "Says all that is wrong in template files of tmpl, where, and what to write instead.",
-        )
+        .about("Reports every error in template files: where it is, and what to write instead.")
         .after_help(
-            "Status: 0 no errors, 1 errors, 2 words, 3 a file that can't be read, 6 a write failed, 7 want of memory.",
+            "Exit status: 0 no errors, 1 errors, 2 arguments refused, 3 a file cannot be read, 6 a write failed, 7 out of memory.",
         )
         .arg(option_arg(alloc, "data", "FILE").help(
-            "A file of JSON: says where it is wrong, and which numbers are not whole",
+            "Check a JSON file too: where it is wrong, and which numbers are not whole",
         ))?
-        .arg(option_arg(alloc, "name", "NAME").help("The template that is to be rendered"))?
+        .arg(option_arg(alloc, "name", "NAME").help(
+            "The template to render: report whether it is there, and what nothing calls",
+        ))?
         .arg(option_arg(alloc, "schema", "FILE").help(
-            "A JSON Schema: says where the template may fail over data of it",
+            "Report where the template may fail over data of this JSON Schema",
         ))?
         .arg(
             option_arg(alloc, "missingkey", "MODE")
                 .value_parser(MODES.as_slice())
-                .help("With --schema, for tmpl with this option alone, and not with each"),
+                .help("With --schema: check for this mode of tmpl alone, not for each"),
         )?
         .arg(
             option_arg(alloc, "stop", "NAME")
                 .action(ArgAction::Append)
                 .help(
-                    "With --schema, a template that need not be there: its call is meant to fail",
+                    "With --schema: a template that may be missing, since its call is meant to fail",
                 ),
         )?
         .arg(
             option_arg(alloc, "format", "FORMAT")
                 .value_parser(FORMATS.as_slice())
-                .help("How it is said: a line each, as JSON, or as SARIF 2.1.0"),
+                .help("The form of the output: a line for each finding, JSON, or SARIF 2.1.0"),
         )?
         .arg(
             Arg::new(alloc, "infer")
                 .long("infer")
                 .action(ArgAction::SetTrue)
                 .conflicts_with_all(unlike_infer.as_slice())?
-                .help("Prints a JSON Schema to which the files conform, which are data"),
+                .help("Print a JSON Schema to which these files of data conform"),
         )?
         .arg(
             Arg::new(alloc, "file")
                 .value_name("FILE")
                 .required(true)
                 .num_args(1..)
-                .help("The template files, in the order of tmpl"),
+                .help("The template files, in the order in which tmpl takes them"),
         )
 }
 
