@@ -7,7 +7,7 @@ import sys
 HERE = os.path.dirname(os.path.abspath(__file__))
 DOCS = f"{os.path.dirname(HERE)}/docs"
 PAGES = {"tmpl": "COMMAND.md", "tmpl-check": "CHECK.md"}
-HELP = {"tmpl": "the usage line", "tmpl-check": "the words and what they do"}
+HELP = {"tmpl": "the usage line", "tmpl-check": "the options and what they do"}
 OPTION = re.compile(r"\[(--[a-z]+)(?: ([A-Za-z|]+))?\]")
 
 

@@ -8,7 +8,7 @@ HERE = os.path.dirname(os.path.abspath(__file__))
 DOCS = f"{os.path.dirname(HERE)}/docs"
 PAGES = {
     "tmpl.1": ("COMMAND.md", "renders templates in the language of Go's text/template"),
-    "tmpl-check.1": ("CHECK.md", "says all that is wrong in templates of tmpl, where, and what to write instead"),
+    "tmpl-check.1": ("CHECK.md", "reports the errors in template files: where each is, and what to write instead"),
     "tmpl-language.7": ("LANGUAGE.md", "the language of the templates that tmpl renders"),
 }
 NAMES = {"COMMAND.md": "tmpl(1)", "CHECK.md": "tmpl-check(1)", "LANGUAGE.md": "tmpl-language(7)"}

@@ -101,8 +101,8 @@ def judge_root(folder, way, program, what):
 
 
 def judge_image(folder, way, program):
-    """The image from nothing of docs/CONTAINERS.md, as a folder, with the data as its standard input."""
-    with open(f"{harness.TOP}/docs/CONTAINERS.md", encoding="utf-8") as it:
+    """The image from nothing of docs/INSTALL.md, as a folder, with the data as its standard input."""
+    with open(f"{harness.TOP}/docs/INSTALL.md", encoding="utf-8") as it:
         lines = IMAGE.search(it.read())[1].splitlines()
     root = f"{folder}/image"
     os.makedirs(root)
@@ -115,7 +115,7 @@ def judge_image(folder, way, program):
             os.makedirs(f"{root}{rest}")
         elif kind == "ENTRYPOINT":
             got = ran(*way, root, *json.loads(rest), input=b'{"port": 80}')
-    return "the image of docs/CONTAINERS.md", 1, [] if got == (0, "listen 80;\n") else [f"    got {got}"]
+    return "the image of docs/INSTALL.md", 1, [] if got == (0, "listen 80;\n") else [f"    got {got}"]
 
 
 # ---- the library, and packages
