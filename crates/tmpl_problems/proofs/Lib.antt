@@ -1,3 +1,4 @@
+mod BeyondLemmas
 mod LineLemmas
 pub mod NotedLemmas
 pub mod ProgressLemmas

@@ -1,9 +1,10 @@
 //! The call that says all that is wrong in a file.
-ghost use Rattle.std.specs.Prelude.{◌≡◌, All, IfOk, length, map, take};
+ghost use Rattle.std.specs.Prelude.{◌≡◌, All, IfOk, [], false, length, map, take};
+ghost use Rattle.tmpl_syntax.specs.Fault.{reason_of};
 ghost use Rattle.tmpl_syntax.specs.View.{set_view};
 ghost use Rattle.tmpl_refusals.specs.Column.{IsPlace};
-ghost use Rattle.tmpl_refusals.specs.Examine.{Examined, IsLocated, refused_in};
-ghost use Rattle.tmpl_problems.specs.Checked.{refusal_in};
+ghost use Rattle.tmpl_refusals.specs.Examine.{Examined, IsLocated, is_unreadable, refused_in};
+ghost use Rattle.tmpl_problems.specs.Checked.{IsBeyond, has_unreadable, refusal_in};
 
 use crate::definitions::second_definition;
 use crate::explain::explain;
@@ -21,6 +22,7 @@ use tmpl_syntax::{NameHash, ParseKind, Set};
 /// # Errors
 ///
 /// Where memory was refused; the set is then as it was, or has the file's templates.
+#[tactic(auto, using(crate::proofs::BeyondLemmas::beyond_same))]
 pub fn check_file(
     alloc: Global,
     set: &mut Set,
@@ -31,6 +33,7 @@ pub fn check_file(
     ensures examined { IfOk result (λ p. Examined (set_view set.old) file.now bytes.now (set_view set.new)
         (map refused_in (map refusal_in p.refused.items))) }
     ensures located { IfOk result (λ p. All (IsLocated bytes.now) (map refusal_in p.refused.items)) }
+    ensures beyond { IfOk result IsBeyond }
 {
     let refusals = examine_file(alloc, hash, set, file, bytes)?;
     Ok(explain_all(alloc, hash, file, bytes, refusals.as_slice())?)
@@ -47,6 +50,7 @@ fn explain_all(
     requires { All (IsLocated bytes.now) refusals.now }
     ensures refused { IfOk result (λ p. map refused_in (map refusal_in p.refused.items) ≡ map refused_in refusals.now) }
     ensures located { IfOk result (λ p. All (IsLocated bytes.now) (map refusal_in p.refused.items)) }
+    ensures beyond { IfOk result (λ p. has_unreadable refusals.now ≡ false → p.beyond.items ≡ []) }
 {
     match kind_in(refusals) {
         None => Ok(alone(alloc, refusals, String::new(alloc))?),
@@ -114,7 +118,8 @@ fn place_refusal(bytes: &[u8], place: Place, refusal: Refusal) -> Refusal
 
 /// These refusals, of which the first has this detail.
 fn alone(alloc: Global, refusals: &[Refusal], detail: String) -> Result<Problems, AllocError>
-    ensures { IfOk result (λ p. map refusal_in p.refused.items ≡ refusals.now) }
+    ensures refused { IfOk result (λ p. map refusal_in p.refused.items ≡ refusals.now) }
+    ensures beyond { IfOk result (λ p. p.beyond.items ≡ []) }
 {
     let mut details = Vec::new(alloc);
     details.push(detail)?;
@@ -131,7 +136,8 @@ fn of_actions(
     bytes: &[u8],
     refusals: &[Refusal],
 ) -> Result<Problems, AllocError>
-    ensures { IfOk result (λ p. map refusal_in p.refused.items ≡ refusals.now) }
+    ensures refused { IfOk result (λ p. map refusal_in p.refused.items ≡ refusals.now) }
+    ensures beyond { IfOk result (λ p. has_unreadable refusals.now ≡ false → p.beyond.items ≡ []) }
 {
     let mut found = found_in(alloc, hash, bytes, refusals)?;
     let mut details = Vec::new(alloc);
@@ -143,8 +149,38 @@ fn of_actions(
     details.reverse();
     Ok(Problems {
         refused: with_details(alloc, refusals, &mut details)?,
-        beyond: beyond_of(alloc, bytes, found)?,
+        beyond: found_beyond(alloc, bytes, refusals, found)?,
     })
+}
+
+/// Whether one of these refusals is of an action that can't be read.
+fn has_unreadable(refusals: &[Refusal]) -> bool
+    ensures { result ≡ has_unreadable refusals.now }
+{
+    refusals.iter().any(|refusal| is_unreadable(refusal))
+}
+
+/// Whether a refusal is of an action that can't be read.
+fn is_unreadable(refusal: &Refusal) -> bool
+    ensures { result ≡ is_unreadable (reason_of refusal.now.refused.kind) }
+{
+    matches!(refusal.refused.kind, ParseKind::Unreadable)
+}
+
+/// What was found beyond the refusals of a file.
+fn found_beyond(
+    alloc: Global,
+    bytes: &[u8],
+    refusals: &[Refusal],
+    found: Vec<Problem>,
+) -> Result<Vec<Problem>, AllocError>
+    ensures { IfOk result (λ v. has_unreadable refusals.now ≡ false → v.items ≡ []) }
+{
+    if has_unreadable(refusals) {
+        beyond_of(alloc, bytes, found)
+    } else {
+        Ok(Vec::new(alloc))
+    }
 }
 
 /// What is wrong with the actions of a file that has these refusals, the last one first: as many as they, and then what
@@ -155,19 +191,16 @@ fn found_in(
     bytes: &[u8],
     refusals: &[Refusal],
 ) -> Result<Vec<Problem>, AllocError> {
-    match refusals {
-        [.., last] if matches!(last.refused.kind, ParseKind::Unreadable) => {
-            let readable = read_on(alloc, bytes)?;
-            let mut set = Set::with_hash(alloc, hash);
-            let told = examine_file(alloc, hash, &mut set, "", readable.bytes.as_slice())?;
-            let problems = explain(alloc, hash, readable.bytes.as_slice(), told.as_slice())?;
-            merge(alloc, readable.gaps, problems)
-        }
-        _ => {
-            let mut problems = explain(alloc, hash, bytes, refusals)?;
-            problems.reverse();
-            Ok(problems)
-        }
+    if has_unreadable(refusals) {
+        let readable = read_on(alloc, bytes)?;
+        let mut set = Set::with_hash(alloc, hash);
+        let told = examine_file(alloc, hash, &mut set, "", readable.bytes.as_slice())?;
+        let problems = explain(alloc, hash, readable.bytes.as_slice(), told.as_slice())?;
+        merge(alloc, readable.gaps, problems)
+    } else {
+        let mut problems = explain(alloc, hash, bytes, refusals)?;
+        problems.reverse();
+        Ok(problems)
     }
 }
 

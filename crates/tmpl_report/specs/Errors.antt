@@ -4,7 +4,7 @@ use Rattle.tmpl_syntax.specs.Set.{Template}
 use Rattle.tmpl_syntax.specs.declared.fault.ParseKind.{ParseKind}
 use Rattle.tmpl_syntax.specs.declared.fault.ParseKind.TheVariants as kind
 use Rattle.tmpl_refusals.specs.Examine.{Examined, IsLocated, refused_in}
-use Rattle.tmpl_problems.specs.Checked.{refusal_in}
+use Rattle.tmpl_problems.specs.Checked.{IsBeyond, refusal_in}
 use Rattle.tmpl_problems.specs.Line.{text_of}
 use Rattle.tmpl_problems.specs.declared.problem.Problem.{Problem}
 use Rattle.tmpl_problems.specs.declared.problem.Problems.{Problems}
@@ -51,11 +51,12 @@ abbrev pub AreAlone : Sources → Type 0
 AreAlone sources = (sources.data ≡ None) × (sources.schema ≡ None)
 
 -- these are the errors of a file, which makes the new set of the old one or is refused: all that is refused of it, in
--- order and at its places, and then what is found beyond, of which nothing is said
+-- order and at its places, and then, only where one of these is of an action that can't be read, what is found beyond, of
+-- which nothing else is said
 abbrev pub AreOfFile : List Template → Source → List Template → List Finding → Type 0
 AreOfFile old file new errors = (all : Problems) × (errors ≡ errors_of file.name.now all)
     × Examined old file.name.now file.bytes.items new (map refused_in (map refusal_in all.refused.items))
-    × All (IsLocated file.bytes.items) (map refusal_in all.refused.items)
+    × All (IsLocated file.bytes.items) (map refusal_in all.refused.items) × IsBeyond all
 
 -- these are the errors of files, one file after the other
 abbrev pub AreOfFiles : List Template → List Source → List Template → List Finding → Type 0

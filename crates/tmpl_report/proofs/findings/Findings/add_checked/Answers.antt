@@ -21,4 +21,4 @@ returns-clause-told c =
     let examined = subst (λ bytes. Examined (set_view c.args.set.now) name bytes (set_view c.check_file.new.set) (map refused_in (map refusal_in all.refused.items)))
     same c.in_ok-problems.ensures.examined in
     let located = subst (λ bytes. All (IsLocated bytes) (map refusal_in all.refused.items)) same c.in_ok-problems.ensures.located in
-    (errors_of name all, (all, refl, examined, located), c.in_ok-add_problems.ensures)
+    (errors_of name all, (all, refl, examined, located, c.in_ok-problems.ensures.beyond), c.in_ok-add_problems.ensures)
