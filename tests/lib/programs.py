@@ -37,7 +37,8 @@ def record_of(name):
 
 def uses():
     """The libraries of the repository that each crate names."""
-    lines = [it.partition("#")[0].partition(":") for path in (TOP, TESTS) for it in read(f"{path}/crates.txt").splitlines()]
+    lists = read(f"{TOP}/crates.txt") + read(f"{TESTS}/programs.txt")
+    lines = [it.partition("#")[0].partition(":") for it in lists.splitlines()]
     told = {crate.split()[0]: rest.split() for crate, _, rest in lines if crate.strip()}
     return {crate: [it for it in rest if it in told] for crate, rest in told.items()}
 
@@ -52,7 +53,7 @@ def folders_of(name):
 
 def sources(name):
     """What a program is made of, with the folders, so that a file which is gone counts too."""
-    found = [f"{TOP}/crates.txt", f"{TESTS}/crates.txt"] if name in OF_TESTS else [f"{TOP}/crates.txt"]
+    found = [f"{TOP}/crates.txt", f"{TESTS}/programs.txt"] if name in OF_TESTS else [f"{TOP}/crates.txt"]
     for folder in folders_of(name):
         for at, folders, files in os.walk(folder):
             folders.sort()
