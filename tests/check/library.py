@@ -190,6 +190,7 @@ def judge_check(call):
     if not refused:
         return f"{row.name}, checked", 1, [f"    it says {lines}"] if lines else []
     place, reason = re.fullmatch(r"tmpl: (.*:\d+): (.*)\n", row.err.decode("utf-8", "replace"), re.DOTALL).groups()
+    place = place.replace("\n", "\\n")  # a check writes a newline by its code
     is_right = lines and re.match(rf"{re.escape(place)}:\d+: error: {re.escape(reason)}(: |$)", "\n".join(lines))
     return f"{row.name}, checked", 1, [] if is_right else [f"    it says {lines}"]
 
