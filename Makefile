@@ -4,17 +4,19 @@ export PREFIX DESTDIR CRATE
 
 PROGRAM = crates/tmpl/out/tmpl
 CHECKER = crates/tmpl_check/out/tmpl_check
-# the engine as a C library: what is proved, and what is linked of it for others
-PROVED_LIBRARY = crates/tmpl_c/out/libtmpl_c.a
-STATIC_LIBRARY = bindings/out/libtmpl.a
-SHARED_LIBRARY = bindings/out/libtmpl.so
-SONAME = libtmpl.so.0
+# the engine as a C library: what is proved, and what is linked of it for others; with FOR_TESTS=1, for the tests alone, of what is compiled without proofs
+ENGINE = $(if $(FOR_TESTS),out/tests/lib/libtmpl_c.a,crates/tmpl_c/out/libtmpl_c.a)
+LIBRARIES = $(if $(FOR_TESTS),out/tests/lib,bindings/out)
+STATIC_LIBRARY = $(LIBRARIES)/libtmpl.a
+SHARED_LIBRARY = $(LIBRARIES)/libtmpl.so
+# its number grows where a host that was compiled before would call it wrongly, as where a struct of the header grows
+SONAME = libtmpl.so.1
 # what proofs and programs are made of, with the folders, so that a file which is gone counts too
 SOURCES = crates.txt HANDLES $(shell find $(wildcard crates/*/src crates/*/specs crates/*/proofs))
 OBJCOPY ?= objcopy
 QUOTES = $(addprefix examples/quotes/,quotes.tmpl data.tmpl texts.tmpl)
 # where packaging/ports.mk puts what is built for other places
-STATIC = packaging/out/static
+STATIC = $(if $(FOR_TESTS),out/tests/packages,packaging/out)/static
 ARM = packaging/out/aarch64
 WEB = packaging/out/web
 # what is copied, but for whole folders
@@ -69,15 +71,16 @@ edits:
 	@$(NEEDS_RT)
 	python3 -m tests.gate.edits $${CRATE:+"$$CRATE"}
 
-# times the program, the C library and what is built for other places beside others
+# times the program, the C library and what is built for other places beside others, and draws the plots of docs/SPEED.md
 bench: $(PROGRAM) $(CHECKER) lib
 	python3 packaging/unproved.py tmpl_probe
 	python3 -m tests.bench.bench
 	python3 -m tests.bench.bench_servers
 	python3 -m tests.bench.bench_ports
+	python3 -m tests.bench.plots
 
 # fuzzes the C library by coverage, 10,000,000 inputs, and holds what was kept against meaning.py; it needs clang with libFuzzer
-fuzz: $(PROGRAM) $(PROVED_LIBRARY)
+fuzz: $(PROGRAM) $(ENGINE)
 	python3 -m tests.fuzz.fuzz
 
 # renders random templates by the program and by Go's own text/template; it needs Go
@@ -110,8 +113,7 @@ install-lib: lib
 	install -D -m 755 $(SHARED_LIBRARY) "$$DESTDIR$$PREFIX/lib/$(SONAME)"
 	ln -sf $(SONAME) "$$DESTDIR$$PREFIX/lib/libtmpl.so"
 	install -d "$$DESTDIR$$PREFIX/lib/pkgconfig"
-	python3 -c 'import os, sys; sys.stdout.write(sys.stdin.read().replace("@PREFIX@", os.environ["PREFIX"]))' \
-		< bindings/c/tmpl.pc.in > "$$DESTDIR$$PREFIX/lib/pkgconfig/tmpl.pc"
+	python3 packaging/pages.py --pkg-config < bindings/c/tmpl.pc.in > "$$DESTDIR$$PREFIX/lib/pkgconfig/tmpl.pc"
 
 # removes what `make install` and `make install-lib` copied, and the folders that are empty then
 uninstall:
@@ -152,10 +154,15 @@ $(CHECKER): $(SOURCES)
 	cd crates/tmpl_check && rt run -- --help > /dev/null
 	@touch $@
 
-$(PROVED_LIBRARY): $(SOURCES)
+crates/tmpl_c/out/libtmpl_c.a: $(SOURCES)
 	@$(NEEDS_RT)
 	@echo "Proving the library: docs/CONTRIBUTING.md says how long that takes from a fresh clone; seconds where little changed .." >&2
 	cd crates/tmpl_c && rt lib >&2
+	@touch $@
+
+out/tests/lib/libtmpl_c.a: $(SOURCES)
+	@$(NEEDS_RT)
+	python3 packaging/unproved.py libtmpl_c.a
 	@touch $@
 
 # what of the library is C: the heap, the keys of its hashes, and the line that says which build it is
@@ -178,13 +185,13 @@ endef
 # the mark by which the system's loader refuses older processors than those for which the toolchain compiles
 $(SHARED_LIBRARY): private NEEDED_PROCESSOR = -Wl,-z,x86-64-v2
 
-$(STATIC_LIBRARY): $(PROVED_LIBRARY) $(LIBRARY_IN_C:%=bindings/c/%.c) $(addprefix bindings/c/,keys.h tmpl.h)
+$(STATIC_LIBRARY): $(ENGINE) $(LIBRARY_IN_C:%=bindings/c/%.c) $(addprefix bindings/c/,keys.h tmpl.h)
 	mkdir -p $(@D)
 	$(one_object)
 
 $(SHARED_LIBRARY): $(STATIC_LIBRARY) bindings/c/tmpl.map
 	$(shared_object)
-	ln -sf libtmpl.so bindings/out/$(SONAME)
+	ln -sf libtmpl.so $(@D)/$(SONAME)
 
 include packaging/ports.mk
 

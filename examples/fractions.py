@@ -1,23 +1,23 @@
-"""Writes the JSON of standard input with each number that is not whole as its text, as it stood: 9.90 becomes "9.90", 1e3 "1e3".
-Of the keys that are given as words all numbers become texts, so that a column is of one kind: `fractions.py price < in > out`."""
+"""Copies JSON from standard input to standard output, with each number that is not an integer as a string of its digits: 9.90 becomes
+"9.90", 1e3 "1e3". Under the keys that are named as arguments all numbers become strings: `fractions.py price < in > out`."""
 import json
 import sys
 
 
-class Whole(str):
-    """A whole number as it stood."""
+class Integer(str):
+    """The digits of an integer."""
 
 
-def told(value, as_text):
+def converted(value, to_string):
     if isinstance(value, dict):
-        return {key: told(it, as_text or key in sys.argv[1:]) for key, it in value.items()}
+        return {key: converted(it, to_string or key in sys.argv[1:]) for key, it in value.items()}
     if isinstance(value, list):
-        return [told(it, as_text) for it in value]
-    return int(value) if isinstance(value, Whole) and not as_text else value
+        return [converted(it, to_string) for it in value]
+    return int(value) if isinstance(value, Integer) and not to_string else value
 
 
 def refused(constant):
-    raise ValueError(f"{constant} is no number of JSON")
+    raise ValueError(f"{constant} is not JSON")
 
 
-print(json.dumps(told(json.load(sys.stdin, parse_float=str, parse_int=Whole, parse_constant=refused), False)))
+print(json.dumps(converted(json.load(sys.stdin, parse_float=str, parse_int=Integer, parse_constant=refused), False)))

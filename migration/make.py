@@ -3,7 +3,7 @@ gomplate, consul-template and Jinja what serves here. With `--check` it writes n
 
 In functions.json a tool has rows: what it has there (`there`) and what serves here (`here`), as the document has them; what stands there
 in backquotes and is no template (`other`); and what tmpl-check says of the functions of these names (`says`), where backquotes stand around
-what can be copied. tests/check/migration.py tries all of it."""
+what can be copied, with templates that have it, data, and what they give (`tries`). tests/check/migration.py tries all of it."""
 import json
 import os
 import re
@@ -22,7 +22,7 @@ struct Row {
     text: &'static str,
 }
 
-/// What to write in place of this function of %s, if something serves.
+/// What to write in place of this function of another tool, if something serves.
 pub(crate) fn instead_of(name: &[u8]) -> Option<&'static str> {
     text_in(%s.as_slice(), name)
 %s}
@@ -66,8 +66,7 @@ def code():
     given = {title.partition(",")[0]: [it for row in rows for it in row["says"]] for title, rows in tools().items()}
     given = {title: its for title, its in given.items() if its}
     names = [re.sub(r"\W", "_", title).upper() for title in given]
-    out = BEGINNING % (", ".join([*list(given)[:-1], "Helm"]) + f" or {list(given)[-1]}", names[0],
-                       "".join(f"        .or(text_in({name}.as_slice(), name))\n" for name in names[1:]))
+    out = BEGINNING % (names[0], "".join(f"        .or(text_in({name}.as_slice(), name))\n" for name in names[1:]))
     for name, (title, its) in zip(names, given.items()):
         out += f"\n/// Of {title}.\nstatic {name}: [Row; {len(its)}] = [\n"
         for it in its:

@@ -3,7 +3,8 @@ C library and its header where these are built, as the name says then. `make.py 
 programs, and those for aarch64 with their library; `make.py deb static` and `make.py deb aarch64` pack these programs as Debian
 packages, which then need no other. `make.py wheel` packs the binding for Python with the C library, and `make.py npm` that for JavaScript
 with the module of WebAssembly. Each has a bill of materials. All go to `packaging/out`, beside the file SHA256SUMS of them all, of which
-SHA256SUMS.asc may be a signature. They are named by the commit, the tars also by the logic that the program is proved with. `make dist`,
+SHA256SUMS.asc may be a signature; with FOR_TESTS=1 in the environment, what the tests pack goes to out/tests/packages. They are named by the
+version, the tars also by the logic that the program is proved with. `make dist`,
 `make deb`, `make wheel` and `make npm` call it once what they pack is built. The same tree gives the same bytes."""
 import base64
 import collections
@@ -25,7 +26,8 @@ import pages
 
 HERE = os.path.dirname(os.path.abspath(__file__))
 TOP = os.path.dirname(HERE)
-OUT = f"{HERE}/out"
+OUT = f"{TOP}/out/tests/packages" if pages.FOR_TESTS else f"{HERE}/out"
+LIBRARIES = f"{TOP}/out/tests/lib" if pages.FOR_TESTS else f"{TOP}/bindings/out"
 LIBC = "2.34"  # that the program which `make` builds needs
 OLDEST = 2, 17  # the oldest C library for which there are wheels
 PROGRAMS = ["tmpl", "tmpl-check"]
@@ -75,8 +77,7 @@ Tag: {tag}
 CHANGES = """\
 tmpl ({version}) unstable; urgency=medium
 
-  * Made of the commit that the version names; CHANGELOG.md beside this file
-    has what changed.
+  * CHANGELOG.md beside this file has what changed.
 
  -- {maker}  {date}
 """
@@ -86,9 +87,12 @@ def told(*words):
     return subprocess.run(words, cwd=TOP, stdout=subprocess.PIPE, check=True).stdout.decode().strip()
 
 
-def parted_version():
-    """The day, the number and the mark of a change, of which others make versions by their own rules."""
-    return re.fullmatch(r"0~git(\d+)\.([0-9a-f]+)(\+changed)?", pages.version()).groups()
+def version_by(form, mark):
+    """The version by the rules of others: that of a commit before the release has its day, its hash and the mark of a change."""
+    if pages.is_released():
+        return pages.number()
+    day, name, is_changed = pages.commit()
+    return pages.number() + form.format(day, name) + mark * is_changed
 
 
 def seconds():
@@ -162,7 +166,7 @@ def tar(port=None):
     """The tar."""
     is_whole = PORTS[port].has_library if port else has_library()
     system = PORTS[port].system if port else "x86_64-linux"
-    name = f"tmpl-{pages.version().replace('0~git', '')}-{pages.toolchain()[1]}-{system}{'-with-library' * is_whole}"
+    name = f"tmpl-{pages.version().replace('~', '-')}-{pages.toolchain()[1]}-{system}{'-with-library' * is_whole}"
     with tempfile.TemporaryDirectory() as room:
         place(room, f"/{name}", "/usr/local", port)
         if is_whole:
@@ -259,11 +263,10 @@ def platform_of(library):
 
 def wheel():
     """The binding for Python with the C library, as pip installs it."""
-    day, number, changed = parted_version()
-    name = f"0.dev{day}+{number}{'.changed' * bool(changed)}"
+    name = version_by(".dev{}+{}", ".changed")
     about = f"tmpl-{name}.dist-info"
     page = bytes_of(f"{TOP}/bindings/python/README.md")
-    library = bytes_of(f"{TOP}/bindings/out/libtmpl.so")
+    library = bytes_of(f"{LIBRARIES}/libtmpl.so")
     tag = f"py3-none-{platform_of(library)}"
     files = {
         "tmpl/__init__.py": bytes_of(f"{TOP}/bindings/python/tmpl.py"),
@@ -273,7 +276,7 @@ def wheel():
         f"{about}/WHEEL": WHEEL.format(tag=tag).encode(),
     }
     oldest = "{}.{}".format(*OLDEST)
-    files[f"{about}/sboms/tmpl.spdx.json"] = bill.bill(["tmpl_c"], f"{TOP}/bindings/out", ["libtmpl.so"], seconds(), oldest).encode()
+    files[f"{about}/sboms/tmpl.spdx.json"] = bill.bill(["tmpl_c"], LIBRARIES, ["libtmpl.so"], seconds(), oldest).encode()
     record = f"{about}/RECORD"
     files[record] = ("".join(recorded(*it) for it in files.items()) + f"{record},,\n").encode()
     path = f"{OUT}/tmpl-{name}-{tag}.whl"
@@ -290,9 +293,8 @@ def npm():
         for name in ("tmpl.mjs", "node.mjs", "tmpl.d.ts", "README.md"):
             shutil.copy(f"{source}/{name}", room)
         shutil.copy(f"{OUT}/web/tmpl.wasm", room)
-        day, number, changed = parted_version()
         about = json.loads(bytes_of(f"{source}/package.json"))
-        about["version"] = f"0.0.0-{day}.g{number}{'.changed' * bool(changed)}"
+        about["version"] = version_by("-{}.g{}", ".changed")
         with open(f"{room}/package.json", "w", encoding="utf-8") as it:
             json.dump(about, it, indent=2)
         words = ["npm", "pack", "--silent", "--offline", "--ignore-scripts", f"--cache={room}/.cache", f"--pack-destination={OUT}"]
@@ -305,7 +307,7 @@ def main(words):
     if words not in [["tar"], ["wheel"], ["npm"], *([kind, port] for kind in ("tar", "deb") for port in PORTS)]:
         sys.exit("usage: make.py tar | tar static|aarch64 | deb static|aarch64 | wheel | npm")
     if not shutil.which("git") or subprocess.run(["git", "rev-parse"], cwd=TOP, stderr=subprocess.DEVNULL, check=False).returncode:
-        sys.exit("packages are named by the commit: this is no checkout of Git, or Git is not there")
+        sys.exit("packages are named by the version and the commit: this is no checkout of Git, or Git is not there")
     os.makedirs(OUT, exist_ok=True)
     path = kinds[words[0]](*words[1:])
     add_up()

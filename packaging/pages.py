@@ -1,8 +1,8 @@
-"""Places the documents and the man pages as an installed program has them: `pages.py ROOT PREFIX`, where ROOT is the folder that stands
-for PREFIX, such as `$DESTDIR$PREFIX`. What they say of PREFIX, which is /usr/local in the repository, is said of this one. A link to
-what is not installed becomes its text, and the foot of each man page says from which commit and by which logic the program was made.
-`pages.py --build` prints this as one line, which is the file BUILD, and which `make install` also puts into both programs, as a section
-that is not loaded."""
+"""Places the documents and the man pages as an installed program has them: `pages.py ROOT PREFIX`, where ROOT is the folder that stands for
+PREFIX, such as `$DESTDIR$PREFIX`. What they say of PREFIX, which is /usr/local in the repository, is said of this one. A link to what is
+not installed becomes its text, and the foot of each man page has the version and the logic of the program. `pages.py --pkg-config` fills in
+what pkg-config reads, for $PREFIX. `pages.py --build` prints the version as one line, which is the file BUILD, and which `make install`
+also puts into both programs, as a section that is not loaded."""
 import glob
 import os
 import re
@@ -11,7 +11,8 @@ import sys
 
 HERE = os.path.dirname(os.path.abspath(__file__))
 TOP = os.path.dirname(HERE)
-DOCUMENTS = ["README.md", "CHANGELOG.md", "docs/*.md"]
+FOR_TESTS = bool(os.environ.get("FOR_TESTS"))  # what is built then is for the tests alone, and goes to out/tests
+DOCUMENTS = ["README.md", "CHANGELOG.md", "docs/*.md", "docs/*.svg", "docs/*.png"]
 FOLDERS = ["examples", "editors"]
 MANUALS = {"man/tmpl.1": "share/man/man1", "man/tmpl-check.1": "share/man/man1", "man/tmpl-language.7": "share/man/man7"}
 LINK = re.compile(r"\[((?:[^\[\]`]|`[^`]*`)*)\]\(([^()\s]+)\)")
@@ -26,11 +27,29 @@ def told(*words):
         return ""
 
 
-def version():
-    """The date and the number of the commit, and whether the tree is not just that one; nothing outside of a checkout."""
+def number():
+    """The number of the version: that of the first heading of CHANGELOG.md."""
+    with open(f"{TOP}/CHANGELOG.md", encoding="utf-8") as it:
+        return re.search(r"^## (\d+\.\d+\.\d+)\b", it.read(), re.MULTILINE)[1]
+
+
+def commit():
+    """The day and the hash of the commit, and whether the tree is not just that one; nothing outside of a checkout."""
     found = told("git", "log", "-1", "--format=%cd %h", "--date=format:%Y%m%d", "--abbrev=12").split()
-    is_changed = told("git", "status", "--porcelain", "--untracked-files=no")
-    return "0~git{}.{}".format(*found) + "+changed" * bool(is_changed) if found else ""
+    return (*found, bool(told("git", "status", "--porcelain", "--untracked-files=no"))) if found else None
+
+
+def is_released():
+    """Whether this is the commit of the tag of the version, unchanged."""
+    return f"v{number()}" in told("git", "tag", "--points-at", "HEAD").split() and not commit()[2]
+
+
+def version():
+    """The number of the version; before its tag with the day and the hash of the commit, by which Debian sorts it below the release."""
+    if is_released() or not commit():
+        return number()
+    day, name, is_changed = commit()
+    return f"{number()}~git{day}.{name}{'+changed' * is_changed}"
 
 
 def toolchain():
@@ -40,13 +59,15 @@ def toolchain():
 
 
 def footer():
-    return ", ".join(filter(None, [f"tmpl {version()}".strip(), f"logic {toolchain()[1]}" * bool(toolchain()[1])]))
+    return ", ".join(filter(None, [f"tmpl {version()}", f"logic {toolchain()[1]}" * bool(toolchain()[1])]))
 
 
 def build():
     kit, logic = toolchain()
     untold = "that is not told"
-    return f"tmpl {version() or 'of no commit'} proved by the logic {logic or untold} of {kit or f'a toolchain {untold}'}"
+    how = "for tests alone, beside" if FOR_TESTS else "proved by"
+    source = version() if commit() and not is_released() else f"{number()} of {f'commit {commit()[1]}' if commit() else 'no commit'}"
+    return f"tmpl {source} {how} the logic {logic or untold} of {kit or f'a toolchain {untold}'}"
 
 
 def files():
@@ -102,10 +123,12 @@ def place(root, prefix):
 def main(words):
     if words == ["--build"]:
         print(build())
+    elif words == ["--pkg-config"]:
+        sys.stdout.write(sys.stdin.read().replace("@PREFIX@", os.environ["PREFIX"]).replace("@VERSION@", number()))
     elif len(words) == 2:
         place(*words)
     else:
-        sys.exit("usage: pages.py ROOT PREFIX | --build")
+        sys.exit("usage: pages.py ROOT PREFIX | --build | --pkg-config")
 
 
 if __name__ == "__main__":

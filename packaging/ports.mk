@@ -7,6 +7,9 @@ NEEDS_ARM = command -v aarch64-linux-gnu-gcc > /dev/null || { echo "aarch64-linu
 and libc6-dev-arm64-cross" >&2; false; }
 NEEDS_WASM_OPT = command -v wasm-opt > /dev/null || { echo "wasm-opt is missing: install binaryen" >&2; false; }
 
+# the object of a program: it is compiled once more, for each processor; for the tests alone it is the one that the check of the program left
+OBJECT = $(if $(FOR_TESTS),cp crates/$(subst -,_,$(@F))/out/$(subst -,_,$(@F)).o $@.o,python3 packaging/build.py $(subst -,_,$(@F)) $@.o --cpu=x86-64)
+
 # links tmpl and tmpl-check statically, for each processor of x86-64, in packaging/out/static
 static: $(addprefix $(STATIC)/,$(PROGRAMS))
 
@@ -26,7 +29,7 @@ $(STATIC)/tmpl-check $(ARM)/tmpl-check: $(CHECKER)
 $(addprefix $(STATIC)/,$(PROGRAMS)): packaging/build.py
 	@$(NEEDS_RT)
 	mkdir -p $(@D)
-	python3 packaging/build.py $(subst -,_,$(@F)) $@.o --cpu=x86-64
+	$(OBJECT)
 	kit=$$(dirname "$$(rt doc)") && \
 		$(CC) -static -s -Wl,--gc-sections -o $@ $@.o "$$kit/c/libos_c.a" "$$kit/c/liblibc_c.a"
 
@@ -42,7 +45,7 @@ $(addprefix $(ARM)/,$(PROGRAMS)): packaging/build.py packaging/aarch64/os.c bind
 	python3 packaging/build.py $(subst -,_,$(@F)) $@.o $(FOR_ARM)
 	$(CC) -O2 -Wall -Wextra -static -s -Wl,--gc-sections -Wl,--wrap=main -o $@ $@.o packaging/aarch64/os.c bindings/c/heap.c
 
-$(ARM)/libtmpl_c.a: $(PROVED_LIBRARY) packaging/build.py
+$(ARM)/libtmpl_c.a: $(ENGINE) packaging/build.py
 	@$(NEEDS_RT)
 	@$(NEEDS_ARM)
 	mkdir -p $(@D)
@@ -54,7 +57,7 @@ $(ARM)/libtmpl.a: $(ARM)/libtmpl_c.a $(LIBRARY_IN_C:%=bindings/c/%.c) $(addprefi
 $(ARM)/libtmpl.so: $(ARM)/libtmpl.a bindings/c/tmpl.map
 	$(shared_object)
 
-$(WEB)/tmpl_c.bc: $(PROVED_LIBRARY) packaging/build.py
+$(WEB)/tmpl_c.bc: $(ENGINE) packaging/build.py
 	@$(NEEDS_RT)
 	mkdir -p $(@D)
 	python3 packaging/build.py --module tmpl_c $@

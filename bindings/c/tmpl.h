@@ -10,7 +10,7 @@
  *     tmpl_data_read      data, in the thread that renders them
  *     tmpl_render_text    the text, in memory of the library's own, which the next call uses again
  *
- * All that is wrong in template files, where, and what to write instead: tmpl_check.
+ * To report every error in template files, where it is, and what to write instead: tmpl_check.
  *
  * What may be done from which thread:
  *
@@ -24,7 +24,7 @@
  *   of sequential order.
  *
  * Strings have a size and no zero at their end. No pointer may be null, also where its size is 0: "" will do. No two pointers
- * of a call lead to the same memory, but that what is `const` may be lent twice, and to any number of threads.
+ * of a call lead to the same memory, but that what is `const` may be passed twice, and by any number of threads.
  *
  * Not to be called from a signal handler, nor from a forked child of a process with threads. A call may need 512 kB of stack.
  */
@@ -44,13 +44,13 @@ enum {
     TMPL_FAULT = 1,    /* the run stopped at a fault: `out` has the text before it */
     TMPL_NOT_TEXT = 2, /* the name of a file is not UTF-8: `out` is empty, as it is for 4 and 5 */
     TMPL_REFUSED = 4,  /* a template file is refused, or there is no template of the name */
-    TMPL_DATA = 5,     /* the data is not JSON, or a number of it is not whole or is out of range */
-    TMPL_FULL = 6,     /* the text does not fit: `out` has as much of it as there is room for, and `needed` is its size. Or it is
+    TMPL_DATA = 5,     /* the data is not JSON, or a number of it is no integer or is out of range */
+    TMPL_FULL = 6,     /* the text does not fit: `out` has it truncated to the capacity, and `needed` is its size. Or it is
                           longer than `output` of the settings: then `needed` is that, and its first bytes are there */
-    TMPL_MEMORY = 7    /* memory was refused: `out` has a beginning of the text */
+    TMPL_MEMORY = 7    /* out of memory: `out` has a prefix of the text */
 };
 
-/* A template file. Both its name and its bytes are lent for the call. */
+/* A template file. Both its name and its bytes are borrowed for the call. */
 typedef struct tmpl_file {
     const char *name;  /* its path, in UTF-8; the template of the file itself is named by what follows the last `/` */
     size_t name_size;  /* how many bytes the name has */
@@ -66,17 +66,17 @@ typedef struct tmpl_settings {
                             the values of its template */
     uint8_t missing_key; /* what a missing key gives: 0 default, 1 invalid, 2 zero, 3 error, as the option --missingkey */
     uint8_t print;       /* 1: print the set of templates, and run nothing; the name and the data are not looked at */
-    size_t output;       /* how many bytes of text a call may put out; 0: any number. Where there are more it stops, gives TMPL_FULL,
-                            and has put out exactly those that come first. It gathers no more than one byte more than these */
+    size_t output;       /* how many bytes of text a call may write; 0: any number. Where there are more it stops, gives TMPL_FULL,
+                            and has written exactly those that come first. It gathers no more than one byte more than these */
 } tmpl_settings;
 
-/* Memory for output that the caller lends. A call writes it from its first byte on. */
+/* A caller-provided buffer for output. A call writes it from its first byte on. */
 typedef struct tmpl_buffer {
-    char *bytes;   /* lent by the caller */
-    size_t size;   /* how many bytes are lent */
+    char *bytes;   /* the caller's memory */
+    size_t size;   /* how many bytes that is: the capacity */
     size_t taken;  /* set by the call: how many of them hold output */
     size_t needed; /* set by the call: how many bytes the output has. Where `needed` > `size` the first `size` are there.
-                      With TMPL_MEMORY: how many were put out before memory was refused */
+                      With TMPL_MEMORY: how many were written before memory ran out */
 } tmpl_buffer;
 
 /* Renders the template of this name of the files, with this data.
@@ -89,7 +89,7 @@ typedef struct tmpl_buffer {
  * out         takes the text
  * err         takes one line, with a newline, that says what went wrong; it is empty with TMPL_OK. Lines call the data `data`
  *
- * Gives one of the statuses above. The same arguments give the same text, line and status, unless memory is refused.
+ * Gives one of the statuses above. The same arguments give the same text, line and status, unless memory runs out.
  * The text is gathered in memory of the call's own, so that it can be counted, and then copied to `out`.
  *
  * `settings`, `files` and what they point to, `name` and `data` are only read. `out`, `err` and their memory lie apart from
@@ -118,10 +118,10 @@ typedef struct tmpl_text {
  * TMPL_MEMORY, and `err` takes the line that tmpl_render would say. Where it is not TMPL_OK the set is as it was. */
 uint8_t tmpl_set_add(tmpl_set *set, const tmpl_file *file, tmpl_buffer *err);
 
-/* Prints a set, as tmpl_render does with `print`. Gives TMPL_OK, or TMPL_MEMORY and a beginning of the text. */
+/* Prints a set, as tmpl_render does with `print`. Gives TMPL_OK, or TMPL_MEMORY and a prefix of the text. */
 uint8_t tmpl_set_print(tmpl_set *set, tmpl_text *text);
 
-/* Says all that is wrong in these files, added one after the other: in `text` a line for each mistake, as compilers write it,
+/* Reports every error in these files, added one after the other: in `text` a line for each, as compilers write it,
  * `FILE:LINE:COLUMN: error: REASON: DETAIL`, as tmpl-check writes it too. Lines and columns are from 1, columns by characters. A
  * file that is refused adds nothing to those after it. Gives TMPL_OK where nothing is wrong, TMPL_REFUSED where a file is
  * refused, TMPL_NOT_TEXT where the name of one is not UTF-8, or TMPL_MEMORY. But with TMPL_REFUSED `text` is empty. */
@@ -154,15 +154,15 @@ void tmpl_data_free(tmpl_data *data);
 
 /* Renders the template of this name of a program, with data that is kept, as tmpl_render does with the files and the data that
  * these were made of; `print` of the settings is not looked at. Text and line go to texts of the library's own, whatever their
- * size, so it gives TMPL_FULL for no text but one that is longer than `output` of the settings. With TMPL_MEMORY `text` has a beginning of the text, and `line` nothing. Program and data
- * are as they were then. */
+ * size, so it gives TMPL_FULL for no text but one that is longer than `output` of the settings. With TMPL_MEMORY `text`
+ * has a prefix of the text, and `line` nothing. Program and data are as they were then. */
 uint8_t tmpl_render_text(const tmpl_settings *settings, tmpl_program *program, tmpl_data *data, const char *name,
                          size_t name_size, tmpl_text *text, tmpl_text *line);
 
 /* Frees a text. It is empty then. */
 void tmpl_text_free(tmpl_text *text);
 
-/* The same render into memory that the caller lends. Where the text does not fit, it gives TMPL_FULL, and has to be made again. */
+/* The same render into a caller-provided buffer. Where the text does not fit, it gives TMPL_FULL, and has to be made again. */
 uint8_t tmpl_render_program(const tmpl_settings *settings, tmpl_program *program, tmpl_data *data, const char *name,
                             size_t name_size, tmpl_buffer *out, tmpl_buffer *err);
 
@@ -170,13 +170,14 @@ uint8_t tmpl_render_program(const tmpl_settings *settings, tmpl_program *program
 uint8_t tmpl_render_set(const tmpl_settings *settings, tmpl_set *set, tmpl_data *data, const char *name,
                         size_t name_size, tmpl_buffer *out, tmpl_buffer *err);
 
-/* From now on the calls of this thread may take at most this many bytes of memory together, beyond those that they give back;
- * 0: any number, as before the first such call. A call that needs more gives TMPL_MEMORY, as where the system has no more. The
- * count begins at 0 with each call of this one, and what is given back of memory that was taken before does not count. Blocks
- * count by the size that the allocator gives them. A thread that serves one request after the other calls this before each. */
+/* From now on the calls of this thread may hold at most this many bytes of memory that they take; 0: any number, as before the
+ * first such call. A call that needs more gives TMPL_MEMORY, as where the system has no more. Each call of this one begins to
+ * count at 0. A block counts by the size that the allocator gives it, whole where it grows, until it is given back. What was
+ * taken before this call, or by another thread, does not count, and giving it back makes no room; nor do the
+ * caller's own buffers. A thread that serves one request after the other calls this before each. */
 void tmpl_limit_memory(size_t bytes);
 
-/* Which build of the library this is: the commit of its source, and the logic and the toolchain of the proofs, as one line
+/* Which build of the library this is: its version, the commit of its source, and the logic and the toolchain of the proofs, as one line
  * that ends with a zero and is never freed. */
 const char *tmpl_version(void);
 

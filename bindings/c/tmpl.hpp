@@ -1,9 +1,11 @@
 // tmpl for C++17: template files that are parsed once and data that is read once, over tmpl.h. What does not end well is thrown:
-// `tmpl::error`, and `std::bad_alloc` where memory is refused. Any number of threads use one `templates` at the same time, and no render waits
-// for another; a `data` is used by one call at a time, so a thread has one of its own. One that was moved from is only destroyed or given another.
+// `tmpl::error`, and `std::bad_alloc` where memory runs out. Any number of threads use one `templates` at the same time, and no render waits
+// for another; nor do they change a `data`, which they share. One that was moved from is only destroyed or given another.
 #ifndef TMPL_HPP
 #define TMPL_HPP
 
+#include <algorithm>
+#include <cstdlib>
 #include <memory>
 #include <mutex>
 #include <new>
@@ -17,13 +19,40 @@
 
 namespace tmpl {
 
-/// A call that did not end well. `what()` is the line of the command.
-struct error : std::runtime_error {
-    int status;                        ///< TMPL_FAULT, TMPL_NOT_TEXT, TMPL_REFUSED, TMPL_DATA or TMPL_FULL
-    std::string text;                  ///< the text before the fault
-    std::vector<std::string> problems; ///< of a file that is refused, the lines that `check` gives of it
+/// What is wrong in a template file, and where.
+struct problem {
+    std::string file;            ///< its path, as a line shows it: control characters by their codes
+    unsigned long line, column; ///< from 1; columns count characters
+    std::string rule;            ///< as `tmpl-check --format json` names it
+    std::string text;            ///< the reason, as the command has it, what is wrong, and what to write instead where that is known
 
-    error(int status, const std::string &line, std::string text) : runtime_error(line), status(status), text(std::move(text)) {}
+    /// A line as compilers write it.
+    std::string str() const { return file + ":" + std::to_string(line) + ":" + std::to_string(column) + ": error: " + text; }
+};
+
+/// Template files: pairs of a path and what the file holds.
+using files = std::vector<std::pair<std::string_view, std::string_view>>;
+
+inline std::vector<problem> check(const files &files, std::size_t most = 1000);
+
+/// A call that did not end well. `what()` is the line of the command.
+class error : public std::runtime_error {
+    std::shared_ptr<const std::pair<std::string, std::string>> refused; // the file that is refused
+
+public:
+    int status;                ///< TMPL_FAULT, TMPL_NOT_TEXT, TMPL_REFUSED, TMPL_DATA or TMPL_FULL
+    std::string text;          ///< the text before the fault
+    std::string file;          ///< the path of the template file that the line names, where it names one ..
+    unsigned long line_number; ///< .. and the line there, from 1; else 0
+
+    error(int status, const std::string &line, std::string text);
+
+    /// Of a file that is refused, the first 1,000 of all that is wrong in it. They are looked for in each call.
+    std::vector<problem> problems() const { return refused ? check({{refused->first, refused->second}}) : std::vector<problem>(); }
+
+    void bear(std::string_view path, std::string_view bytes) {
+        refused = std::make_shared<const std::pair<std::string, std::string>>(path, bytes);
+    }
 };
 
 namespace inside {
@@ -32,9 +61,51 @@ namespace inside {
 inline const char *start(std::string_view it) { return it.data() != nullptr ? it.data() : ""; }
 inline std::string copied(const tmpl_text &it) { return it.size != 0 ? std::string(it.bytes, it.size) : std::string(); }
 
-inline void judge(int status, std::string line = {}, std::string text = {}) {
+inline void judge(int status, const std::string &line = {}, std::string text = {}) {
     if (status == TMPL_MEMORY) throw std::bad_alloc();
-    if (status != TMPL_OK) throw error(status, line.substr(0, line.size() - 1), std::move(text)); // without its newline
+    if (status != TMPL_OK) throw error(status, line.substr(0, line.find_last_not_of('\n') + 1), std::move(text));
+}
+
+// the number that ends just before this place, after a colon: where the colon stands, or npos
+inline std::size_t number_before(const std::string &line, std::size_t end, unsigned long &number) {
+    const std::size_t colon = end == 0 ? line.npos : line.find_last_not_of("0123456789", end - 1);
+    if (colon == line.npos || line[colon] != ':' || colon + 1 == end) return line.npos;
+    number = std::strtoul(line.c_str() + colon + 1, nullptr, 10);
+    return colon;
+}
+
+// the rules of tmpl-check, by the reason for which a file is refused
+inline const char *rule_of(std::string_view text) {
+    static const std::pair<std::string_view, const char *> rules[] = {
+        {"unclosed or unreadable action", "unreadable"},
+        {"action not understood", "not-understood"},
+        {"out of place", "out-of-place"},
+        {"undeclared variable", "undeclared-variable"},
+        {"file ends inside a control", "open-at-end"},
+        {"nested too deeply", "nested-too-deeply"},
+        {"file longer than 16777216 bytes", "too-long"},
+        {"second definition", "second-definition"},
+    };
+    for (const auto &[reason, rule] : rules) {
+        const std::string_view rest = text.substr(std::min(reason.size(), text.size()));
+        if (text.substr(0, reason.size()) == reason && (rest.empty() || rest.substr(0, 2) == ": ")) return rule;
+    }
+    return nullptr;
+}
+
+// a line of a check, taken apart: what looks like a place before this one is none
+inline problem problem_in(const std::string &line, std::size_t from) {
+    problem it{};
+    static const std::string mark = ": error: ";
+    for (std::size_t at = line.find(mark, from); at != line.npos; at = line.find(mark, at + 1)) {
+        const std::size_t column = number_before(line, at, it.column);
+        const std::size_t place = column == line.npos ? column : number_before(line, column, it.line);
+        it.text = line.substr(at + mark.size());
+        const char *rule = rule_of(it.text);
+        if (place == line.npos || rule == nullptr) continue;
+        return it.file = line.substr(0, place), it.rule = rule, it;
+    }
+    return problem{{}, 0, 0, {}, line};
 }
 
 // a call that says a line, which is made again with more memory where that does not fit
@@ -61,43 +132,84 @@ inline tmpl_file file(std::string_view path, std::string_view bytes) { return {s
 
 } // namespace inside
 
-/// All that is wrong in template files, pairs of a path and what the file holds, in a line each: `FILE:LINE:COLUMN: error: REASON: DETAIL`.
-inline std::vector<std::string> check(const std::vector<std::pair<std::string_view, std::string_view>> &files) {
+inline error::error(int status, const std::string &line, std::string text)
+    : runtime_error(line), status(status), text(std::move(text)), line_number(0) {
+    const std::string mark = status == TMPL_FAULT ? ": in \"" : ": ", first = "tmpl: ";
+    if (status != TMPL_FAULT && status != TMPL_REFUSED) return;
+    for (std::size_t at = line.rfind(mark); at != line.npos && at > first.size(); at = line.rfind(mark, at - 1)) {
+        const std::size_t place = inside::number_before(line, at, line_number);
+        const bool is_named = status == TMPL_REFUSED || line.find("\": ", at + mark.size()) != line.npos;
+        if (place == line.npos || place < first.size() || !is_named) continue;
+        file = line.substr(first.size(), place - first.size());
+        return;
+    }
+    line_number = 0;
+}
+
+/// The calls of the thread take at most this many bytes of memory together while it is there. They throw `std::bad_alloc` where they need more.
+class memory_limit {
+public:
+    explicit memory_limit(std::size_t bytes) { tmpl_limit_memory(bytes); }
+    memory_limit(const memory_limit &) = delete;
+    memory_limit &operator=(const memory_limit &) = delete;
+    ~memory_limit() { tmpl_limit_memory(0); }
+};
+
+/// All that is wrong in template files, with what to write instead where that is known: the first `most` of it.
+inline std::vector<problem> check(const files &files, std::size_t most) {
     std::vector<tmpl_file> lent;
     lent.reserve(files.size() + 1); // so that its pointer is not null
     for (const auto &[path, bytes] : files) lent.push_back(inside::file(path, bytes));
     inside::text text;
     const int status = tmpl_check(lent.data(), lent.size(), &text);
     if (status != TMPL_REFUSED) inside::judge(status, "tmpl: the name of a file is not UTF-8\n");
-    std::vector<std::string> lines;
-    const std::string all = inside::copied(text);
-    for (std::size_t from = 0, to; (to = all.find('\n', from)) != all.npos; from = to + 1) lines.push_back(all.substr(from, to - from));
-    return lines;
+    std::vector<problem> found;
+    const std::string_view all(text.bytes != nullptr ? text.bytes : "", text.size);
+    for (std::size_t from = 0, to; found.size() < most && (to = all.find('\n', from)) != all.npos; from = to + 1) {
+        const std::string line(all.substr(from, to - from));
+        std::size_t name = 0;
+        for (const auto &[path, bytes] : files) {
+            if (path.size() > name && line.compare(0, path.size(), path) == 0 && line[path.size()] == ':') name = path.size();
+        }
+        found.push_back(inside::problem_in(line, name));
+    }
+    return found;
 }
 
-/// One JSON value that is read once; without bytes there is no data, and dot is nothing.
+/// One JSON value that is read once; without bytes there is no data, and dot is nothing. Any number of threads render it at the same time.
 class data {
-    std::unique_ptr<inside::value> held{new inside::value};
+    struct kept {
+        std::mutex gate; // held while the handle is shared, and during no render
+        inside::value value;
+    };
+    std::unique_ptr<kept> held{new kept};
     friend class templates;
+
+    void share_with(tmpl_data *copy) const {
+        const std::lock_guard<std::mutex> lock(held->gate);
+        inside::judge(tmpl_data_share(&held->value, copy));
+    }
 
 public:
     explicit data(std::string_view json = "") {
-        inside::accept([&](tmpl_buffer *err) { return tmpl_data_read(held.get(), inside::start(json), json.size(), err); });
+        inside::accept([&](tmpl_buffer *err) { return tmpl_data_read(&held->value, inside::start(json), json.size(), err); });
     }
 
-    /// The same value once more, as for another thread. It is not copied.
-    data share() {
+    /// The same value once more. It is not copied.
+    data share() const {
         data copy;
-        inside::judge(tmpl_data_share(held.get(), copy.held.get()));
+        share_with(&copy.held->value);
         return copy;
     }
 };
 
 /// Template files that are parsed once, and rendered as often as you like.
 class templates {
+    static constexpr std::size_t kept_size = 1 << 20; // a text of more bytes is given back after its render
     // what one render at a time needs
     struct worker {
         inside::program program;
+        inside::value with;
         inside::text text, line;
         unsigned long version = 0;
     };
@@ -137,21 +249,25 @@ public:
         try {
             inside::accept([&](tmpl_buffer *err) { return tmpl_set_add(&held->set, &file, err); });
         } catch (error &it) {
-            if (it.status == TMPL_REFUSED) it.problems = check({{path, bytes}});
+            if (it.status == TMPL_REFUSED) it.bear(path, bytes);
             throw;
         }
         held->version++, held->idle.clear();
     }
 
     /// The text of the template of this name. All zeros are the default settings.
-    std::string render(std::string_view name, data &with, const tmpl_settings &how = {}) {
+    std::string render(std::string_view name, const data &with, const tmpl_settings &how = {}) {
         auto it = take();
+        if (how.print != 1) with.share_with(&it->with);
         const int status = how.print != 1
-            ? tmpl_render_text(&how, &it->program, with.held.get(), inside::start(name), name.size(), &it->text, &it->line)
+            ? tmpl_render_text(&how, &it->program, &it->with, inside::start(name), name.size(), &it->text, &it->line)
             : print(it->text);
+        tmpl_data_free(&it->with); // so that it goes with its last `data`
         std::string text = inside::copied(it->text), line = inside::copied(it->line);
+        if (status == TMPL_FULL) line = "tmpl: more than " + std::to_string(how.output) + " bytes of output";
+        if (text.size() > kept_size) tmpl_text_free(&it->text);
         give(std::move(it));
-        return inside::judge(status, std::move(line), text), text;
+        return inside::judge(status, line, text), text;
     }
 
 private:

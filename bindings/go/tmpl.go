@@ -6,23 +6,17 @@ package tmpl
 #cgo LDFLAGS: -L${SRCDIR}/../out -ltmpl -Wl,-rpath,${SRCDIR}/../out
 #include <stdlib.h>
 #include "tmpl.h"
-
-// A limit is that of a thread, and a goroutine may go on in another one after each call of C.
-static uint8_t render_limited(size_t memory, const tmpl_settings *settings, tmpl_program *program, tmpl_data *data, const char *name,
-                              size_t name_size, tmpl_text *text, tmpl_text *line) {
-    if (memory != 0) tmpl_limit_memory(memory);
-    uint8_t status = tmpl_render_text(settings, program, data, name, name_size, text, line);
-    if (memory != 0) tmpl_limit_memory(0);
-    return status;
-}
 */
 import "C"
 
 import (
 	"bytes"
 	"errors"
+	"fmt"
 	"io"
+	"regexp"
 	"runtime"
+	"strconv"
 	"strings"
 	"sync"
 	"unsafe"
@@ -48,32 +42,72 @@ type Options struct {
 	Depth      uint32
 	MissingKey uint8
 	Print      bool // print the set, and run nothing
-	Output     uint // how many bytes of text a render may put out: a text that is longer is status 6, with those that come first; 0 for any
-	Memory     uint // how many bytes of memory a run may take; 0 for any
+	Output     uint // how many bytes of text a render may write: a text that is longer is status 6, with those that come first; 0 for any
+	Memory     uint // how many bytes of memory the library may take to parse, to read data and to run; 0 for any
 }
 
-// Error says why a render did not end well: the status of the command, and its line without the newline. Where a file is refused,
-// Problems are the lines that Check gives of it.
+// Problem says what is wrong in a template file, and where.
+type Problem struct {
+	File         string // its path, as a line shows it: control characters by their codes
+	Line, Column int    // from 1; columns count characters
+	Rule         string // as `tmpl-check --format json` names it
+	Text         string // the reason, as the command has it, what is wrong, and what to write instead where that is known
+}
+
+// String gives a line as compilers write it.
+func (p Problem) String() string {
+	return fmt.Sprintf("%s:%d:%d: error: %s", p.File, p.Line, p.Column, p.Text)
+}
+
+// Error says why a render did not end well: the status of the command, and its line without the newline. Where the line names a place of a
+// template file, File and LineNumber, from 1, are that place.
 type Error struct {
-	Status   int
-	Line     string
-	Problems []string
+	Status     int
+	Line       string
+	File       string
+	LineNumber int
+	refused    *refusal
+}
+
+// refusal is the file that was refused, and what is wrong in it, once somebody asks.
+type refusal struct {
+	file     File
+	memory   uint
+	once     sync.Once
+	problems []Problem
+	err      error
 }
 
 func (e *Error) Error() string { return e.Line }
 
-// ErrMemory says that memory was refused.
+// Problems gives the first 1,000 of all that is wrong in the file that was refused, if one was. They are looked for at the first call, in the
+// memory that the refused call was allowed: it may give ErrMemory. The file is kept until then.
+func (e *Error) Problems() ([]Problem, error) {
+	if e.refused == nil {
+		return nil, nil
+	}
+	e.refused.once.Do(func() {
+		e.refused.problems, e.refused.err = Check([]File{e.refused.file}, CheckOptions{Memory: e.refused.memory})
+		e.refused.file = File{}
+	})
+	return e.refused.problems, e.refused.err
+}
+
+// ErrMemory says that an allocation failed.
 var ErrMemory = errors.New("tmpl: out of memory")
 
 const (
 	notAccepted = 4       // the status of a file that is refused
-	refused     = 7       // the status of refused memory
-	line        = 1 << 12 // bytes of a line that are lent first
+	stopped     = 1       // the status of a run that stopped
+	full        = 6       // the status of a text that is longer than its limit
+	refused     = 7       // the status for out of memory
+	most        = 1000    // problems of files where nothing else is said
+	line        = 1 << 12 // bytes of the first buffer for a line
 	kept        = 1 << 20 // a text of more bytes is given back after its render
 )
 
-// lent copies bytes to memory of C, which has at least one byte; it is given back by C.free.
-func lent(bytes []byte) *C.char {
+// copied gives bytes in memory of C, which has at least one byte; C.free frees it.
+func copied(bytes []byte) *C.char {
 	at := C.malloc(C.size_t(len(bytes) + 1))
 	copy(unsafe.Slice((*byte)(at), len(bytes)+1), bytes)
 	return (*C.char)(at)
@@ -88,14 +122,20 @@ func settingsOf(options Options) C.tmpl_settings {
 	return settings
 }
 
-// fileOf is a file in memory of C; freed gives it back.
+// fileOf is a file in memory of C; freed frees it.
 func fileOf(file File) C.tmpl_file {
-	return C.tmpl_file{name: lent([]byte(file.Name)), name_size: C.size_t(len(file.Name)), bytes: lent(file.Bytes), size: C.size_t(len(file.Bytes))}
+	return C.tmpl_file{name: copied([]byte(file.Name)), name_size: C.size_t(len(file.Name)), bytes: copied(file.Bytes), size: C.size_t(len(file.Bytes))}
 }
 
 func freed(file C.tmpl_file) {
 	C.free(unsafe.Pointer(file.name))
 	C.free(unsafe.Pointer(file.bytes))
+}
+
+// the place that a line of the command names, by its status
+var places = map[int]*regexp.Regexp{
+	notAccepted: regexp.MustCompile(`(?s)^tmpl: (.*):(\d+): `),
+	stopped:     regexp.MustCompile(`(?s)^tmpl: (.*):(\d+): in "(?:[^"\\]|\\.)*": `),
 }
 
 // ended is the error of a call that ended with this status and said this line.
@@ -106,12 +146,77 @@ func ended(status C.uint8_t, said []byte) error {
 	case refused:
 		return ErrMemory
 	}
-	return &Error{Status: int(status), Line: strings.TrimSuffix(string(said), "\n")}
+	err := &Error{Status: int(status), Line: strings.TrimSuffix(string(said), "\n")}
+	if pattern, is := places[err.Status]; is {
+		if place := pattern.FindStringSubmatch(err.Line); place != nil {
+			err.File = place[1]
+			err.LineNumber, _ = strconv.Atoi(place[2])
+		}
+	}
+	return err
 }
 
-// Check tells all that is wrong in template files, in a line each as compilers write it: FILE:LINE:COLUMN: error: REASON: DETAIL, with what
-// to write instead where that is known. There is none where all files are accepted, one after the other.
-func Check(files []File) ([]string, error) {
+// within makes calls that take at most this many bytes of memory together, or any number for 0. The limit is that of a thread, so no
+// other goroutine runs there meanwhile.
+func within(memory uint, call func() error) error {
+	if memory == 0 {
+		return call()
+	}
+	runtime.LockOSThread()
+	defer runtime.UnlockOSThread()
+	C.tmpl_limit_memory(C.size_t(memory))
+	defer C.tmpl_limit_memory(0)
+	return call()
+}
+
+// the rules of tmpl-check, by the reason for which a file is refused
+var rules = map[string]string{
+	"unclosed or unreadable action":   "unreadable",
+	"action not understood":           "not-understood",
+	"out of place":                    "out-of-place",
+	"undeclared variable":             "undeclared-variable",
+	"file ends inside a control":      "open-at-end",
+	"nested too deeply":               "nested-too-deeply",
+	"file longer than 16777216 bytes": "too-long",
+	"second definition":               "second-definition",
+}
+
+// problem is what follows the path in a line of a check
+var problem = func() *regexp.Regexp {
+	var reasons []string
+	for reason := range rules {
+		reasons = append(reasons, reason)
+	}
+	return regexp.MustCompile(`(?s):(\d+):(\d+): error: ((` + strings.Join(reasons, "|") + `)(?:: .*)?)$`)
+}()
+
+// problemOf takes a line of a check apart. What looks like a place in a name of these files is none.
+func problemOf(line string, files []File) Problem {
+	name := ""
+	for _, file := range files {
+		if len(file.Name) > len(name) && strings.HasPrefix(line, file.Name+":") {
+			name = file.Name
+		}
+	}
+	found := problem.FindStringSubmatchIndex(line[len(name):])
+	if found == nil {
+		return Problem{Text: line}
+	}
+	rest := line[len(name):]
+	row, _ := strconv.Atoi(rest[found[2]:found[3]])
+	column, _ := strconv.Atoi(rest[found[4]:found[5]])
+	return Problem{File: name + rest[:found[0]], Line: row, Column: column, Rule: rules[rest[found[8]:found[9]]], Text: rest[found[6]:found[7]]}
+}
+
+// CheckOptions say how much a check may do; the zero value asks for the defaults.
+type CheckOptions struct {
+	Most   int  // how many problems are given at most; 0 for 1,000
+	Memory uint // how many bytes of memory the library may take; 0 for any
+}
+
+// Check tells all that is wrong in template files, with what to write instead where that is known: the first options.Most of it. There is
+// nothing where all files are accepted, one after the other.
+func Check(files []File, options CheckOptions) ([]Problem, error) {
 	array := (*C.tmpl_file)(C.malloc(C.size_t(len(files)+1) * C.size_t(unsafe.Sizeof(C.tmpl_file{}))))
 	defer C.free(unsafe.Pointer(array))
 	for number, file := range files {
@@ -121,10 +226,22 @@ func Check(files []File) ([]string, error) {
 	}
 	var text C.tmpl_text
 	defer C.tmpl_text_free(&text)
-	if status := C.tmpl_check(array, C.size_t(len(files)), &text); status != notAccepted {
-		return nil, ended(status, []byte("tmpl: the name of a file is not UTF-8"))
+	err := within(options.Memory, func() error {
+		return ended(C.tmpl_check(array, C.size_t(len(files)), &text), []byte("tmpl: the name of a file is not UTF-8"))
+	})
+	if of, is := err.(*Error); !is || of.Status != notAccepted {
+		return nil, err
 	}
-	return strings.Split(strings.TrimSuffix(string(bytesOf(&text)), "\n"), "\n"), nil
+	if options.Most == 0 {
+		options.Most = most
+	}
+	var problems []Problem
+	for rest := bytesOf(&text); len(problems) < options.Most && len(rest) > 0; {
+		end := bytes.IndexByte(rest, '\n')
+		problems = append(problems, problemOf(string(rest[:end]), files))
+		rest = rest[end+1:]
+	}
+	return problems, nil
 }
 
 // accepted makes a call that says a line, and makes it again with more memory where the line does not fit.
@@ -150,12 +267,16 @@ func bytesOf(text *C.tmpl_text) []byte {
 func Render(w io.Writer, files []File, name string, data []byte, options Options) error {
 	var templates Templates
 	defer templates.Close()
-	for _, file := range files {
-		if err := templates.Add(file); err != nil {
-			return err
+	memory := options.Memory
+	options.Memory = 0
+	return within(memory, func() error {
+		for _, file := range files {
+			if err := templates.add(file, memory); err != nil {
+				return err
+			}
 		}
-	}
-	return templates.Execute(w, name, data, options)
+		return templates.Execute(w, name, data, options)
+	})
 }
 
 // Templates are template files that are parsed once. Any number of goroutines may use one at the same time, and no render waits for
@@ -189,7 +310,7 @@ func (w *worker) free() {
 }
 
 func (w *worker) readAnew(data []byte) error {
-	input := lent(data)
+	input := copied(data)
 	defer C.free(unsafe.Pointer(input))
 	w.isRead = false
 	err := accepted(func(err *C.tmpl_buffer) C.uint8_t { return C.tmpl_data_read(&w.data, input, C.size_t(len(data)), err) })
@@ -206,15 +327,18 @@ func (w *worker) execute(to io.Writer, name string, data []byte, options Options
 			return err
 		}
 	}
-	settings, template := settingsOf(options), lent([]byte(name))
+	settings, template := settingsOf(options), copied([]byte(name))
 	defer C.free(unsafe.Pointer(template))
-	status := C.render_limited(C.size_t(options.Memory), &settings, &w.program, &w.data, template, C.size_t(len(name)), &w.text, &w.line)
+	status := C.tmpl_render_text(&settings, &w.program, &w.data, template, C.size_t(len(name)), &w.text, &w.line)
 	_, err := to.Write(bytesOf(&w.text))
 	if w.text.size > kept {
 		C.tmpl_text_free(&w.text)
 	}
 	if err != nil {
 		return err
+	}
+	if status == full {
+		return ended(status, []byte(fmt.Sprintf("tmpl: more than %d bytes of output", options.Output)))
 	}
 	return ended(status, bytesOf(&w.line))
 }
@@ -238,6 +362,15 @@ func (t *Templates) open() {
 
 // Add adds the templates of a file, after those of earlier files. Where there is an error, an *Error, they are as they were.
 func (t *Templates) Add(file File) error {
+	return t.AddWithin(0, file)
+}
+
+// AddWithin does so in at most this many bytes of memory, or any number for 0. Where it needs more, the error is ErrMemory.
+func (t *Templates) AddWithin(memory uint, file File) error {
+	return within(memory, func() error { return t.add(file, memory) })
+}
+
+func (t *Templates) add(file File, memory uint) error {
 	t.mutex.Lock()
 	defer t.mutex.Unlock()
 	t.open()
@@ -247,7 +380,7 @@ func (t *Templates) Add(file File) error {
 	if err == nil {
 		t.renew()
 	} else if of, is := err.(*Error); is && of.Status == notAccepted {
-		of.Problems, _ = Check([]File{file})
+		of.refused = &refusal{file: File{Name: file.Name, Bytes: append([]byte(nil), file.Bytes...)}, memory: memory}
 	}
 	return err
 }
@@ -299,15 +432,17 @@ func (t *Templates) print(w io.Writer) error {
 
 // Execute writes the text of the template of this name to w, as Render does.
 func (t *Templates) Execute(w io.Writer, name string, data []byte, options Options) error {
-	if options.Print {
-		return t.print(w)
-	}
-	it, err := t.take()
-	if err != nil {
-		return err
-	}
-	defer t.give(it)
-	return it.execute(w, name, data, options)
+	return within(options.Memory, func() error {
+		if options.Print {
+			return t.print(w)
+		}
+		it, err := t.take()
+		if err != nil {
+			return err
+		}
+		defer t.give(it)
+		return it.execute(w, name, data, options)
+	})
 }
 
 // Close gives back what t keeps, at once. It has no templates then.

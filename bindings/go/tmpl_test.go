@@ -187,19 +187,46 @@ func TestFilesAddedMeanwhile(t *testing.T) {
 func TestCheck(t *testing.T) {
 	mistake := "1:1: error: action not understood: no function \"name\": write .name"
 	files := []File{{Name: "a", Bytes: []byte("{{name}}")}, {Name: "b", Bytes: []byte("text")}, {Name: "c", Bytes: []byte("{{name}}")}}
-	if lines, err := Check(files); err != nil || fmt.Sprint(lines) != fmt.Sprint([]string{"a:" + mistake, "c:" + mistake}) {
-		t.Error(lines, err)
+	if found, err := Check(files, CheckOptions{}); err != nil || fmt.Sprint(found) != fmt.Sprint([]string{"a:" + mistake, "c:" + mistake}) {
+		t.Error(found, err)
 	}
 	for _, right := range [][]File{files[1:2], nil} {
-		if lines, err := Check(right); err != nil || len(lines) != 0 {
-			t.Error(lines, err)
+		if found, err := Check(right, CheckOptions{}); err != nil || len(found) != 0 {
+			t.Error(found, err)
 		}
 	}
-	if _, err := Check([]File{{Name: "\xff"}}); err == nil || err.(*Error).Status != 2 {
+	if _, err := Check([]File{{Name: "\xff"}}, CheckOptions{}); err == nil || err.(*Error).Status != 2 {
 		t.Error(err)
 	}
+}
+
+func TestProblems(t *testing.T) {
 	var pages Templates
-	if err := pages.Add(files[0]); err == nil || fmt.Sprint(err.(*Error).Problems) != fmt.Sprint([]string{"a:" + mistake}) {
+	defer pages.Close()
+	name := "b:1:1: error: out of place: c"
+	err := pages.Add(File{Name: name, Bytes: []byte("\n {{name}}")})
+	of, is := err.(*Error)
+	if !is || of.File != name || of.LineNumber != 2 {
+		t.Fatal(err)
+	}
+	wanted := Problem{name, 2, 2, "not-understood", "action not understood: no function \"name\": write .name"}
+	for time := 0; time < 2; time++ {
+		if found, err := of.Problems(); err != nil || len(found) != 1 || found[0] != wanted {
+			t.Error(found, err)
+		}
+	}
+	many := File{Name: "m", Bytes: []byte(strings.Repeat("{{}}", 3000))}
+	if found, err := pages.Add(many).(*Error).Problems(); err != nil || len(found) != 1000 {
+		t.Error(len(found), err)
+	}
+	if found, err := Check([]File{many}, CheckOptions{Most: 7}); err != nil || len(found) != 7 {
+		t.Error(len(found), err)
+	}
+	if _, err := Check([]File{many}, CheckOptions{Memory: 10000}); err != ErrMemory {
+		t.Error(err)
+	}
+	err = Render(io.Discard, []File{{Name: "m", Bytes: []byte("{{range 1}}\n{{len .}}{{end}}")}}, "m", nil, Options{})
+	if of := err.(*Error); of.File != "m" || of.LineNumber != 2 {
 		t.Error(err)
 	}
 }
@@ -207,8 +234,21 @@ func TestCheck(t *testing.T) {
 func TestLimits(t *testing.T) {
 	files := []File{{Name: "m", Bytes: []byte("{{range 100000}}0123456789{{end}}")}}
 	var out strings.Builder
-	if err := Render(&out, files, "m", nil, Options{Output: 12}); err == nil || err.(*Error).Status != 6 || out.String() != "012345678901" {
+	if err := Render(&out, files, "m", nil, Options{Output: 12}); err == nil || err.(*Error).Status != 6 || err.Error() != "tmpl: more than 12 bytes of output" || out.String() != "012345678901" {
 		t.Error(out.String(), err)
+	}
+	numbers := []byte("[0" + strings.Repeat(",0", 500000) + "]")
+	if err := Render(io.Discard, []File{{Name: "m"}}, "m", numbers, Options{Memory: 100000}); err != ErrMemory {
+		t.Error("data of 1 MB in 100,000 bytes:", err)
+	}
+	parsed := []File{{Name: "m", Bytes: []byte(strings.Repeat("{{.}}", 50000))}}
+	if err := Render(io.Discard, parsed, "m", nil, Options{Memory: 100000}); err != ErrMemory {
+		t.Error("a file of 250 kB in 100,000 bytes:", err)
+	}
+	var pages Templates
+	defer pages.Close()
+	if err := pages.AddWithin(100000, parsed[0]); err != ErrMemory {
+		t.Error("a file of 250 kB in 100,000 bytes:", err)
 	}
 	if err := Render(&out, files, "m", nil, Options{Memory: 1 << 16}); err != ErrMemory {
 		t.Error(err)

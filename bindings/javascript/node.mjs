@@ -2,7 +2,7 @@
 import { readFile } from "node:fs/promises";
 import { load as loaded } from "./tmpl.mjs";
 
-export { MemoryError, TemplateError, TrapError } from "./tmpl.mjs";
+export { MemoryError, Problem, TemplateError, TrapError } from "./tmpl.mjs";
 
 export async function load(source = new URL("./tmpl.wasm", import.meta.url)) {
     return loaded(source instanceof URL && source.protocol === "file:" ? readFile(source) : source);

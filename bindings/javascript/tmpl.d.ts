@@ -4,7 +4,7 @@
 export type Bytes = string | Uint8Array;
 
 /** Template files: pairs of a path and what the file holds, in order, or an object or a Map of them. What a later file defines replaces
- * what an earlier one did. An object has keys that are whole numbers before all others, whatever the order in which it was written. */
+ * what an earlier one did. An object has keys that are integers before all others, whatever the order in which it was written. */
 export type Files = Iterable<readonly [path: Bytes, what: Bytes]> | Readonly<Record<string, Bytes>>;
 
 export interface Options {
@@ -14,14 +14,29 @@ export interface Options {
     depth?: number;
     /** How many steps a run may take, 1 to 2^62: 10,000,000 if left out, which is less than the 1,000,000,000 of the command. */
     steps?: number | bigint;
-    /** Puts out the printed set of templates, and runs none; the name and the data are not looked at. */
+    /** Prints the set of templates, and runs none; the name and the data are not looked at. */
     printed?: boolean;
-    /** How many bytes of text a render may put out: any number if left out or 0. A text that is longer is a TemplateError of status 6, with
+    /** How many bytes of text a render may write: any number if left out or 0. A text that is longer is a TemplateError of status 6, with
      * the bytes that come first. */
     output?: number;
-    /** How many bytes of memory a render of templates that are kept may take, beyond what it gives back: any number if left out or 0. Where
-     * it needs more it throws MemoryError. */
+    /** How many bytes of memory the module may take for it, to parse, to read data and to run: any number if left out or 0. Where it needs more
+     * it throws MemoryError. What was given as files, name and data does not count, nor does what is kept from before. */
     memory?: number;
+}
+
+/** What is wrong in a template file, and where. As a string it is a line as compilers write it, `FILE:LINE:COLUMN: error: TEXT`. */
+export class Problem {
+    /** The path of the file, as a line shows it: control characters by their codes. */
+    readonly file: string;
+    /** From 1, as columns, which count characters. */
+    readonly line: number;
+    readonly column: number;
+    /** The rule that is broken, as `tmpl-check --format json` names it. */
+    readonly rule: string;
+    /** The reason, as the command has it, what is wrong, and what to write instead where that is known. */
+    readonly text: string;
+    constructor(file: string, line: number, column: number, rule: string, text: string);
+    toString(): string;
 }
 
 /** A render that did not end well. Its message is its line. */
@@ -33,11 +48,16 @@ export class TemplateError extends Error {
     readonly line: string;
     /** The text before the fault. */
     readonly text: Uint8Array;
-    /** Of a file that is refused, the lines that `check` gives of it. */
-    readonly problems: readonly string[];
+    /** The path of the template file that the line names, where it names one. */
+    readonly file?: string;
+    /** The line in that file, from 1. */
+    readonly lineNumber?: number;
+    /** Of a file that is refused, the first 1,000 of all that is wrong in it. They are looked for when this is read first, in the memory that
+     * the refused call was allowed: it may throw MemoryError. The file is kept until then. */
+    readonly problems: readonly Problem[];
 }
 
-/** Memory was refused: the module's own, of 4 GiB at most, is at its end. What is kept stays as it was. */
+/** Out of memory: the module's own, of 4 GiB at most, is at its end. What is kept stays as it was. */
 export class MemoryError extends Error {
     readonly line: string;
 }
@@ -58,16 +78,16 @@ export interface Engine {
     render(files: Files, name?: Bytes, data?: unknown, options?: Options): string;
     /** The same as bytes. */
     renderBytes(files: Files, name?: Bytes, data?: unknown, options?: Options): Uint8Array;
-    /** All that is wrong in template files, in a line each as compilers write it: `FILE:LINE:COLUMN: error: REASON: DETAIL`, with what to write
-     * instead where that is known. There is none where all files are accepted, one after the other. */
-    check(files: Files): string[];
-    /** Templates that are parsed once, and rendered as often as you like. */
-    templates(files?: Files): Templates;
+    /** All that is wrong in template files, with what to write instead where that is known: the first `most` of them, 1,000 if that is left out
+     * or 0. There is none where all files are accepted, one after the other. */
+    check(files: Files, options?: { memory?: number; most?: number }): Problem[];
+    /** Templates that are parsed once, and rendered as often as you like. `memory` is that of each file, as where it is added. */
+    templates(files?: Files, options?: { memory?: number }): Templates;
 }
 
 export interface Templates {
-    /** Adds the templates of one more file, or throws and leaves them as they are. */
-    add(path: Bytes, what: Bytes): void;
+    /** Adds the templates of one more file, or throws and leaves them as they are. `memory` is what it may take for that. */
+    add(path: Bytes, what: Bytes, options?: { memory?: number }): void;
     /** As that of the engine, but that data is read anew only where its JSON is another than before. */
     render(name?: Bytes, data?: unknown, options?: Options): string;
     /** The same as bytes. */

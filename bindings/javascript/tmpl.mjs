@@ -1,21 +1,56 @@
 // Templates of the language of Go's text/template over data in JSON, by tmpl.wasm, which is looked for beside this file:
 // `(await load()).render(files, name, data)`. tmpl.d.ts says what each call takes and gives.
 
-const OK = 0, REFUSED = 4, FULL = 6, MEMORY = 7; // statuses of the C library, whose calls the module has
+const OK = 0, FAULT = 1, REFUSED = 4, FULL = 6, MEMORY = 7; // statuses of the C library, whose calls the module has
 const MISSING_KEY = { default: 0, invalid: 1, zero: 2, error: 3 };
-const STEPS = 10_000_000; // what a run may take where nothing is said of it
-const ROOM = 1 << 16; // bytes of text that are lent first
-const LINE = 1 << 12; // bytes of a line that are lent first
+const STEPS = 10_000_000; // the steps that a run may take by default
+const ROOM = 1 << 16; // bytes of the first buffer for text
+const LINE = 1 << 12; // bytes of the first buffer for a line
 const FILE = 32, SETTINGS = 24, BUFFER = 32, KEPT = 8, TEXT = 24; // bytes of the structs of tmpl.h, whose pointers have 64 bits
-const SET = 0, PROGRAM = 1, DATA = 2, OUT = 3, SAID = 4; // the parts of what templates keep
+const SET = 0, PROGRAM = 1, DATA = 2, OUT = 3, SAID_AT = 4; // the parts of what templates keep
+const MOST = 1000; // problems of files that are kept where nothing else is said
+const SAID = "tmpl: ", ERROR = ": error: "; // before what a line says
+// the rules of tmpl-check, by the reason for which a file is refused
+const RULES = {
+    "unclosed or unreadable action": "unreadable",
+    "action not understood": "not-understood",
+    "out of place": "out-of-place",
+    "undeclared variable": "undeclared-variable",
+    "file ends inside a control": "open-at-end",
+    "nested too deeply": "nested-too-deeply",
+    "file longer than 16777216 bytes": "too-long",
+    "second definition": "second-definition",
+};
 
 const encoder = new TextEncoder();
 const decoder = new TextDecoder("utf-8", { ignoreBOM: true });
 
+/** What is wrong in a template file, and where. */
+export class Problem {
+    constructor(file, line, column, rule, text) {
+        Object.assign(this, { file, line, column, rule, text });
+    }
+
+    toString() {
+        return `${this.file}:${this.line}:${this.column}: error: ${this.text}`;
+    }
+}
+
 export class TemplateError extends Error {
-    constructor(status, line, text, problems = []) {
+    #find; // finds the problems, where nobody asked for them yet
+    #problems = [];
+
+    constructor(status, line, text, find = undefined) {
         super(line);
-        Object.assign(this, { name: "TemplateError", status, line, text, problems });
+        Object.assign(this, { name: "TemplateError", status, line, text });
+        [this.file, this.lineNumber] = placeIn(status, line);
+        this.#find = find;
+    }
+
+    get problems() {
+        if (this.#find) this.#problems = this.#find();
+        this.#find = undefined;
+        return this.#problems;
     }
 }
 
@@ -65,72 +100,148 @@ function isSame(one, other) {
     return true;
 }
 
-/** The three words of the settings of tmpl.h. */
-function settingsOf({ missingKey = "default", depth = 1000, steps = STEPS, printed = false, output = 0 } = {}) {
+/** Refuses options that are not these. */
+function refuseOthers(options, known) {
+    for (const name of Object.keys(options)) if (!known.includes(name)) throw new TypeError(`there is no option ${name}`);
+}
+
+/** The option, an integer of bytes or of problems; 0 for any number. */
+function countOf(name, { [name]: count = 0 }) {
+    if (!Number.isSafeInteger(count) || count < 0) throw new RangeError(`${name} is ${count}`);
+    return count;
+}
+
+/** The three words of the settings of tmpl.h, and the bytes of memory. */
+function settingsOf(options = {}) {
+    refuseOthers(options, ["missingKey", "depth", "steps", "printed", "output", "memory"]);
+    const { missingKey = "default", depth = 1000, steps = STEPS, printed = false } = options;
     if (!Object.hasOwn(MISSING_KEY, missingKey)) throw new RangeError(`missingKey is ${missingKey}`);
-    if (!(depth >= 1 && depth <= 100_000)) throw new RangeError(`depth is ${depth}`);
-    if (!(steps >= 1 && steps <= 2n ** 62n)) throw new RangeError(`steps is ${steps}`);
-    if (!(output >= 0 && output <= Number.MAX_SAFE_INTEGER)) throw new RangeError(`output is ${output}`);
-    const flags = MISSING_KEY[missingKey] | (printed ? 1 << 8 : 0);
-    return [BigInt(steps), (BigInt(flags) << 32n) | BigInt(depth), BigInt(output)];
+    if (!(Number.isInteger(depth) && depth >= 1 && depth <= 100_000)) throw new RangeError(`depth is ${depth}`);
+    const isWhole = typeof steps === "bigint" || Number.isInteger(steps);
+    if (!(isWhole && steps >= 1 && steps <= 2n ** 62n)) throw new RangeError(`steps is ${steps}`);
+    const flags = MISSING_KEY[missingKey] | (printed ? 1 << 8 : 0), [output, memory] = [countOf("output", options), countOf("memory", options)];
+    return { words: [BigInt(steps), (BigInt(flags) << 32n) | BigInt(depth), BigInt(output)], output, memory };
+}
+
+// ---- what the module says, taken apart. Regular expressions may end the process where the stack is at its end, so there are none
+
+const isDigit = (letter) => letter >= "0" && letter <= "9";
+
+/** The number that ends just before this place, and where it begins; none without digits. */
+function numberBefore(text, end) {
+    let at = end;
+    while (at > 0 && isDigit(text[at - 1])) at--;
+    return at < end && text[at - 1] === ":" ? { number: Number(text.slice(at, end)), at: at - 1 } : undefined;
+}
+
+const chomped = (line) => (line.endsWith("\n") ? line.slice(0, -1) : line);
+
+/** The file and the number of the line that a line of the command names: of a run that stopped, in a template, or of a refused file. */
+function placeIn(status, line) {
+    const mark = status === FAULT ? ': in "' : ": ";
+    for (let at = line.lastIndexOf(mark); (status === FAULT || status === REFUSED) && at > 0; at = line.lastIndexOf(mark, at - 1)) {
+        const found = numberBefore(line, at);
+        const isNamed = status === REFUSED || line.includes('": ', at + mark.length);
+        if (found && isNamed && line.startsWith(SAID)) return [line.slice(SAID.length, found.at), found.number];
+    }
+    return [undefined, undefined];
+}
+
+/** The name of the rule that a text breaks, as tmpl-check has it; none where it begins with no reason. */
+function ruleOf(text) {
+    const reason = Object.keys(RULES).find((it) => text === it || text.startsWith(`${it}: `));
+    return reason && RULES[reason];
+}
+
+/** A line of a check, taken apart: at this mark, or at the first one that stands where one can. */
+function problemIn(line, from = 0) {
+    for (let at = line.indexOf(ERROR, from); at >= 0; at = line.indexOf(ERROR, at + 1)) {
+        const column = numberBefore(line, at), number = column && numberBefore(line, column.at);
+        const text = line.slice(at + ERROR.length), rule = ruleOf(text);
+        if (number && rule) return new Problem(line.slice(0, number.at), number.number, column.number, rule, text);
+    }
+    return new Problem("", 0, 0, "", line);
+}
+
+/** The same, where the names of the files are these: what looks like a place in the name of a file is none. */
+function problemOf(line, names) {
+    const name = names.filter((it) => line.startsWith(`${it}:`)).reduce((one, other) => (other.length > one.length ? other : one), "");
+    return problemIn(line, name.length);
 }
 
 // ---- the module
+
+/** Whether an error says how a call ended, so that the module is as it was. */
+const isAnswer = (error) => error instanceof TemplateError || error instanceof MemoryError;
 
 /** An instance of the module. What stops a call where it should not leaves the memory as it was then, so another one takes its place. */
 class Host {
     #module;
     #room = ROOM;
     #view = {};
+    #isInside = false; // whether a call of the instance began and did not end
 
     constructor(module) {
         this.#module = module;
+        this.#begin();
     }
 
-    instance() {
-        if (!this.exports) {
-            this.exports = new WebAssembly.Instance(this.#module).exports;
-            // names are hashed by keys that nobody can know, where the host has random numbers
-            const keys = globalThis.crypto?.getRandomValues(new BigUint64Array(2));
-            if (keys) this.exports.keys_set(...keys);
+    #begin() {
+        this.exports = undefined;
+        const { exports } = new WebAssembly.Instance(this.#module);
+        // names are hashed by keys that nobody can know, where the host has random numbers
+        const keys = globalThis.crypto?.getRandomValues(new BigUint64Array(2));
+        if (keys) exports.keys_set(...keys);
+        this.exports = exports;
+        this.#isInside = false;
+    }
+
+    /** Makes calls of the module, which take at most this many bytes of memory together, or any number for 0. Any error but an answer stopped
+     * them, as the end of the stack does. Then there may be no room for a call here, so that the next one sees it: nothing was noted. */
+    enter(memory, what) {
+        if (this.#isInside || !this.exports) this.#begin();
+        this.#isInside = true;
+        let came, answer;
+        try {
+            this.exports.tmpl_limit_memory(BigInt(memory));
+            came = what();
+        } catch (error) {
+            if (!isAnswer(error)) throw new TrapError(error);
+            answer = error;
         }
-        return this.exports;
+        this.exports.tmpl_limit_memory(0n);
+        this.#isInside = false;
+        if (answer) throw answer;
+        return came;
     }
 
     /** The memory, as bytes and as words of 64 bits. As it grows it becomes another one. */
     view() {
-        const { buffer } = this.instance().memory;
+        const { buffer } = this.exports.memory;
         if (this.#view.buffer !== buffer) this.#view = { buffer, bytes: new Uint8Array(buffer), words: new BigUint64Array(buffer) };
         return this.#view;
     }
 
-    /** Does what may throw errors of ours. Any other, as that the stack is at its end, is a trap. */
-    guarded(what) {
-        try {
-            return what();
-        } catch (cause) {
-            if ([TemplateError, MemoryError, TrapError].some((it) => cause instanceof it)) throw cause;
-            this.exports = undefined;
-            throw new TrapError(cause);
-        }
-    }
-
     call(name, ...words) {
-        return this.guarded(() => this.instance()[name](...words));
+        return this.exports[name](...words);
     }
 
-    /** Lends memory in parts of these sizes for one call. */
+    /** Borrows memory in parts of these sizes for one call. */
     lend(sizes, call) {
         const lent = new Lent(this, sizes);
+        let came;
         try {
-            return this.guarded(() => call(lent));
-        } finally {
-            lent.give();
+            came = call(lent);
+        } catch (error) {
+            if (isAnswer(error)) lent.give();
+            throw error;
         }
+        lent.give();
+        return came;
     }
 
     /** The text of a call that takes buffers for text and line. It is made again with more room where one of them does not fit. */
-    whole(call, size = 0) {
+    whole(call, size = 0, output = 0, find = undefined) {
         for (let room = Math.max(this.#room, size), lineRoom = LINE; ; ) {
             const [status, text, said] = this.lend([BUFFER, BUFFER, room, lineRoom], (lent) => {
                 lent.words(0, lent.at[2], room, 0, 0);
@@ -138,10 +249,10 @@ class Host {
                 return [call(lent.pointer(0), lent.pointer(1)), lent.taken(0, 2), lent.taken(1, 3)];
             });
             if (status === OK) return text.bytes;
-            const line = decoder.decode(said.bytes).replace(/\n$/, "");
+            const line = chomped(decoder.decode(said.bytes));
             if (status === MEMORY) throw new MemoryError(line);
             // a text that fits, and is not whole, is at the limit of the settings
-            if ((status !== FULL || text.needed <= room) && said.needed <= lineRoom) throw new TemplateError(status, line, text.bytes);
+            if ((status !== FULL || text.needed <= room) && said.needed <= lineRoom) throw errorOf(status, line, text.bytes, output, find);
             [room, lineRoom] = [Math.max(room, text.needed), Math.max(lineRoom, said.needed)];
             this.#room = room;
         }
@@ -162,7 +273,7 @@ class Lent {
         this.at = places.map((it) => Number(block) + it);
     }
 
-    /** Whether no trap was since. */
+    /** Whether its instance is the one that is called. */
     isThere() {
         return this.#host.exports === this.#exports;
     }
@@ -185,10 +296,15 @@ class Lent {
         for (let number = 0; number < words.length; number++) all[first + number] = BigInt(words[number]);
     }
 
-    /** What a text holds. */
-    text(part) {
+    /** What a text holds, until the next call. */
+    seen(part) {
         const { bytes, words } = this.#host.view(), first = this.at[part] / 8, begin = Number(words[first]);
-        return bytes.slice(begin, begin + Number(words[first + 1]));
+        return bytes.subarray(begin, begin + Number(words[first + 1]));
+    }
+
+    /** A copy of it. */
+    text(part) {
+        return this.seen(part).slice();
     }
 
     /** What a buffer over another part took, and how many bytes there were for it. */
@@ -200,81 +316,89 @@ class Lent {
 
 // ---- what others call
 
+/** How a call ended that did not end well. */
+function errorOf(status, line, text, output, find) {
+    const said = status === FULL ? `tmpl: more than ${output} bytes of output` : line;
+    return new TemplateError(status, said, text, status === REFUSED ? find : undefined);
+}
+
 class Engine {
     #host;
 
     constructor(host) {
         this.#host = host;
-        host.instance();
     }
 
     renderBytes(files, name, data, options) {
-        const pairs = pairsOf(files), settings = settingsOf(options), json = jsonOf(data);
+        const pairs = pairsOf(files), { words, output, memory } = settingsOf(options), json = jsonOf(data);
         const run = encoded(name ?? (pairs.length ? baseOf(pairs[0][0]) : ""));
         const texts = [run, json, ...pairs.flat()], sizes = texts.map((it) => it.length);
-        return this.#host.lend([SETTINGS, FILE * pairs.length, ...sizes], (lent) => {
+        const lent = (lent) => {
             const spans = sizes.map((size, number) => [lent.pointer(number + 2), BigInt(size)]);
             texts.forEach((it, number) => lent.put(number + 2, it));
-            lent.words(0, ...settings);
+            lent.words(0, ...words);
             lent.words(1, ...spans.slice(2).flat());
-            const words = [lent.pointer(0), lent.pointer(1), BigInt(pairs.length), ...spans[0], ...spans[1]];
-            const call = () => this.#host.whole((out, err) => this.#host.call("tmpl_render", ...words, out, err), 2 * json.length);
-            return withProblems(this.#host, pairs, call);
-        });
+            const given = [lent.pointer(0), lent.pointer(1), BigInt(pairs.length), ...spans[0], ...spans[1]];
+            const call = (out, err) => this.#host.call("tmpl_render", ...given, out, err);
+            return this.#host.whole(call, 2 * json.length, output, problemsIn(this.#host, pairs, memory));
+        };
+        return this.#host.enter(memory, () => this.#host.lend([SETTINGS, FILE * pairs.length, ...sizes], lent));
     }
 
     render(files, name, data, options) {
         return decoder.decode(this.renderBytes(files, name, data, options));
     }
 
-    templates(files = []) {
-        return new Templates(this.#host, files);
+    templates(files = [], options = {}) {
+        return new Templates(this.#host, files, options);
     }
 
-    check(files) {
-        return problemsOf(this.#host, pairsOf(files));
-    }
-}
-
-/** Does what may refuse one of these files; its error bears what is wrong in them. */
-function withProblems(host, pairs, call) {
-    try {
-        return call();
-    } catch (error) {
-        if (error instanceof TemplateError && error.status === REFUSED) error.problems = problemsOf(host, pairs);
-        throw error;
+    check(files, options = {}) {
+        refuseOthers(options, ["memory", "most"]);
+        return problemsOf(this.#host, pairsOf(files), countOf("memory", options), countOf("most", options) || MOST);
     }
 }
 
-/** How many bytes of them are taken: those of a file of millions of mistakes are more than a string can hold. */
-const MOST_SAID = 1 << 20;
+/** What finds the problems of files that are refused, once somebody asks for them: the bytes that the host gave are kept until then. */
+function problemsIn(host, pairs, memory) {
+    return () => problemsOf(host, pairs, memory, MOST);
+}
 
-/** The lines of all that is wrong in files. */
-function problemsOf(host, pairs) {
-    const parts = pairs.flat(), sizes = parts.map((it) => it.length);
-    return host.lend([TEXT, FILE * pairs.length, ...sizes], (lent) => {
+/** The first lines of a text of the module, up to a limit: those of a file with millions of errors are more than a string can hold. */
+function linesOf(bytes, most) {
+    const lines = [];
+    for (let at = 0, end; lines.length < most && (end = bytes.indexOf(10, at)) >= 0; at = end + 1) {
+        lines.push(decoder.decode(bytes.subarray(at, end)));
+    }
+    return lines;
+}
+
+/** The first problems of files, up to a limit. */
+function problemsOf(host, pairs, memory, most) {
+    const parts = pairs.flat(), sizes = parts.map((it) => it.length), names = pairs.map(([path]) => decoder.decode(path));
+    const lines = (lent) => {
         parts.forEach((it, number) => lent.put(number + 2, it));
         lent.words(0, 0, 0, 0);
         lent.words(1, ...sizes.flatMap((size, number) => [lent.pointer(number + 2), size]));
         const status = host.call("tmpl_check", lent.pointer(1), BigInt(pairs.length), lent.pointer(0));
-        const front = lent.text(0).subarray(0, MOST_SAID);
-        const said = decoder.decode(front.subarray(0, front.lastIndexOf(10) + 1));
+        const said = linesOf(lent.seen(0), most);
         host.call("tmpl_text_free", lent.pointer(0));
         if (status === MEMORY) throw new MemoryError("tmpl: out of memory");
         if (status !== OK && status !== REFUSED) throw new TemplateError(status, "tmpl: the name of a file is not UTF-8", new Uint8Array());
-        return said.split("\n").slice(0, -1);
-    });
+        return said;
+    };
+    return host.enter(memory, () => host.lend([TEXT, FILE * pairs.length, ...sizes], lines)).map((it) => problemOf(it, names));
 }
 
 /** Gives back what is kept for an object that nobody has any more. */
 const forgotten = new FinalizationRegistry((free) => free());
 
-/** Frees what templates keep, and what was lent for it. */
-const freeing = (host, lent) => () => {
+/** Frees what templates keep, and the memory for it. */
+function freeAll(host, lent) {
     if (!lent.isThere()) return;
     ["set", "program", "data", "text", "text"].forEach((kind, part) => host.call(`tmpl_${kind}_free`, lent.pointer(part)));
     lent.give();
-};
+}
 
 class Templates {
     #host;
@@ -284,40 +408,34 @@ class Templates {
     #files = [];
     #read; // the JSON of the data that is there, where it is known
 
-    constructor(host, files) {
+    constructor(host, files, options) {
         this.#host = host;
-        for (const it of pairsOf(files)) this.add(...it);
+        for (const it of pairsOf(files)) this.add(...it, options);
     }
 
-    add(path, what) {
-        const file = [encoded(path).slice(), encoded(what).slice()];
-        this.#settle();
-        this.#parse(this.#lent, file);
-        this.#files.push(file);
-        this.#isMade = false;
+    add(path, what, options = {}) {
+        refuseOthers(options, ["memory"]);
+        const file = [encoded(path).slice(), encoded(what).slice()], memory = countOf("memory", options);
+        this.#host.enter(0, () => this.#settle());
+        this.#host.enter(memory, () => {
+            this.#parse(this.#lent, file, memory);
+            this.#isMade = false;
+            this.#files.push(file);
+        });
     }
 
     renderBytes(name, data, options) {
-        const settings = settingsOf(options), json = jsonOf(data);
+        const { words, output, memory } = settingsOf(options), json = jsonOf(data);
         const run = encoded(name ?? (this.#files.length ? baseOf(this.#files[0][0]) : ""));
-        this.#settle();
         const at = (part) => this.#lent.pointer(part);
-        if (options?.printed) return this.#whole(this.#host.call("tmpl_set_print", at(SET), at(OUT)));
-        return this.#within(options?.memory ?? 0, () => this.#run(json, run, settings));
+        this.#host.enter(0, () => this.#settle());
+        return this.#host.enter(memory, () => {
+            if (options?.printed) return this.#whole(this.#host.call("tmpl_set_print", at(SET), at(OUT)), output);
+            return this.#run(json, run, words, output);
+        });
     }
 
-    /** Does what takes at most this many bytes of memory, or any number for 0. */
-    #within(memory, what) {
-        if (!(memory >= 0 && memory <= Number.MAX_SAFE_INTEGER)) throw new RangeError(`memory is ${memory}`);
-        this.#host.call("tmpl_limit_memory", BigInt(memory));
-        try {
-            return what();
-        } finally {
-            this.#host.call("tmpl_limit_memory", 0n);
-        }
-    }
-
-    #run(json, run, settings) {
+    #run(json, run, settings, output) {
         const at = (part) => this.#lent.pointer(part);
         this.#readAnew(json);
         if (!this.#isMade) this.#whole(this.#host.call("tmpl_program_make", at(SET), at(PROGRAM)));
@@ -325,17 +443,17 @@ class Templates {
         return this.#host.lend([SETTINGS, run.length], (lent) => {
             lent.words(0, ...settings);
             lent.put(1, run);
-            const words = [lent.pointer(0), at(PROGRAM), at(DATA), lent.pointer(1), BigInt(run.length), at(OUT), at(SAID)];
-            return this.#whole(this.#host.call("tmpl_render_text", ...words));
+            const words = [lent.pointer(0), at(PROGRAM), at(DATA), lent.pointer(1), BigInt(run.length), at(OUT), at(SAID_AT)];
+            return this.#whole(this.#host.call("tmpl_render_text", ...words), output);
         });
     }
 
     /** The text of a call that ended with this status, which was put into a text of the module's own. */
-    #whole(status) {
+    #whole(status, output) {
         if (status === MEMORY) throw new MemoryError("tmpl: out of memory");
         const text = this.#lent.text(OUT);
         if (status === OK) return text;
-        throw new TemplateError(status, decoder.decode(this.#lent.text(SAID)).replace(/\n$/, ""), text);
+        throw errorOf(status, chomped(decoder.decode(this.#lent.text(SAID_AT))), text, output);
     }
 
     render(name, data, options) {
@@ -351,25 +469,30 @@ class Templates {
     /** Has the files in the instance that there is: none was there before the first one, and a trap takes all. */
     #settle() {
         if (this.#lent?.isThere()) return;
-        const lent = new Lent(this.#host, [KEPT, KEPT, KEPT, TEXT, TEXT]), free = freeing(this.#host, lent);
+        const host = this.#host, lent = new Lent(host, [KEPT, KEPT, KEPT, TEXT, TEXT]);
+        const free = () => lent.isThere() && host.enter(0, () => freeAll(host, lent));
+        lent.words(SET, 0, 0, 0, 0, 0, 0, 0, 0, 0);
         try {
-            lent.words(SET, 0, 0, 0, 0, 0, 0, 0, 0, 0);
-            for (const it of this.#files) this.#parse(lent, it);
+            for (const it of this.#files) this.#parse(lent, it, 0);
         } catch (error) {
-            free();
+            if (isAnswer(error)) freeAll(host, lent);
             throw error;
         }
-        [this.#lent, this.#free, this.#read, this.#isMade] = [lent, free, new Uint8Array(), false];
         forgotten.unregister(this);
         forgotten.register(this, free, this);
+        this.#free = free;
+        this.#read = new Uint8Array();
+        this.#isMade = false;
+        this.#lent = lent;
     }
 
-    #parse(kept, [path, what]) {
+    #parse(kept, [path, what], memory) {
         this.#host.lend([FILE, path.length, what.length], (lent) => {
             lent.words(0, lent.at[1], path.length, lent.at[2], what.length);
             lent.put(1, path);
             lent.put(2, what);
-            withProblems(this.#host, [[path, what]], () => this.#told("tmpl_set_add", kept.pointer(SET), lent.pointer(0)));
+            const find = problemsIn(this.#host, [[path, what]], memory);
+            this.#told(find, "tmpl_set_add", kept.pointer(SET), lent.pointer(0));
         });
     }
 
@@ -379,13 +502,13 @@ class Templates {
         this.#read = undefined;
         this.#host.lend([json.length], (lent) => {
             lent.put(0, json);
-            this.#told("tmpl_data_read", this.#lent.pointer(DATA), lent.pointer(0), BigInt(json.length));
+            this.#told(undefined, "tmpl_data_read", this.#lent.pointer(DATA), lent.pointer(0), BigInt(json.length));
         });
         this.#read = json.slice();
     }
 
-    /** A call that puts out no text. */
-    #told(name, ...words) {
-        this.#host.whole((_, err) => this.#host.call(name, ...words, err));
+    /** A call without output. */
+    #told(find, name, ...words) {
+        this.#host.whole((_, err) => this.#host.call(name, ...words, err), 0, 0, find);
     }
 }

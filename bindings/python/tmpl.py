@@ -5,20 +5,40 @@ from __future__ import annotations
 import contextlib
 import ctypes
 import json
+import operator
 import os
 import re
 import threading
 from decimal import Decimal
-from typing import Any, Iterable, Iterator, List, Mapping, Optional, Sequence, Tuple, Union
+from typing import Any, Iterable, Iterator, List, Literal, Mapping, NamedTuple, Optional, Tuple, Union
+
+__version__ = "0.1.0"
 
 Text = Union[str, bytes]
+MissingKey = Literal["default", "invalid", "zero", "error"]
+Floats = Literal["refuse", "text"]
 Files = Union[Mapping[Text, Text], Iterable[Tuple[Text, Text]]]
 
 OK, FAULT, NOT_TEXT, REFUSED, DATA, FULL, MEMORY = 0, 1, 2, 4, 5, 6, 7
 MISSING_KEY = {"default": 0, "invalid": 1, "zero": 2, "error": 3}
-LINE = 1 << 12  # bytes of a line that are lent first
+LINE = 1 << 12  # bytes of the first buffer for a line
 KEPT = 1 << 20  # a text of more bytes is given back after its render
+MOST = 1000  # problems of files that are kept where nothing else is said
+PIECE = 1 << 16  # bytes of the lines of a check that are taken at once
 
+# the rules of tmpl-check, by the reason for which a file is refused
+RULES = {
+    "unclosed or unreadable action": "unreadable",
+    "action not understood": "not-understood",
+    "out of place": "out-of-place",
+    "undeclared variable": "undeclared-variable",
+    "file ends inside a control": "open-at-end",
+    "nested too deeply": "nested-too-deeply",
+    "file longer than 16777216 bytes": "too-long",
+    "second definition": "second-definition",
+}
+# what follows the path in a line of a check
+PROBLEM = re.compile(rf":(\d+):(\d+): error: (({'|'.join(RULES)})(?:: .*)?)$", re.DOTALL)
 
 # the place in a line: in a refused file, and in a run that stopped; a quoted name has no bare quote
 PLACES = {
@@ -29,22 +49,53 @@ ESCAPE = re.compile(r"\\(?:x([0-9a-f]{2})|u([0-9a-f]{4})|U([0-9a-f]{8})|(.))")
 LETTERS = {"a": "\a", "b": "\b", "f": "\f", "n": "\n", "r": "\r", "t": "\t", "v": "\v"}
 
 
+class Problem(NamedTuple):
+    """What is wrong in a template file, and where. `str` gives it as a line as compilers write it, `FILE:LINE:COLUMN: error: TEXT`."""
+
+    file: str  # its path, as a line shows it: control characters by their codes
+    line: int  # from 1, as columns, which count characters
+    column: int
+    rule: str  # as `tmpl-check --format json` names it
+    text: str  # the reason, as the command has it, what is wrong, and what to write instead where that is known
+
+    def __str__(self) -> str:
+        return f"{self.file}:{self.line}:{self.column}: error: {self.text}"
+
+
+def _problem(line, names):
+    """A line of a check, taken apart. What looks like a place in one of these names, which are those of the files, is none."""
+    name = max((it for it in names if line.startswith(f"{it}:")), key=len, default="")
+    found = PROBLEM.search(line, len(name))
+    return Problem(line[: found.start()], int(found[1]), int(found[2]), RULES[found[4]], found[3]) if found else Problem("", 0, 0, "", line)
+
+
 class TemplateError(Exception):
     """A render that did not end well: its `status` (FAULT, NOT_TEXT, REFUSED, DATA, FULL), the `line` that says why, and the `text` before
-    the fault. Where a file is refused, `problems` are the lines of all that is wrong in it, as `check` gives them. Where the line names a place of a template file, `file` and `line_number`, from 1, are that place, and for a FAULT `template`
+    the fault. Where the line names a place of a template file, `file` and `line_number`, from 1, are that place, and for a FAULT `template`
     is the name of the template that ran. Where a number of a Python value is refused, `where` is its place, as in `.prices.0`. What
     there is not is None."""
 
-    def __init__(self, status: int, line: str, text: bytes = b"", where: Optional[str] = None, problems: Sequence[str] = ()):
-        super().__init__(status, line, text, where, problems)  # so that it can be pickled
-        self.status, self.line, self.text, self.where, self.problems = status, line, text, where, list(problems)
+    def __init__(
+        self, status: int, line: str, text: bytes = b"", where: Optional[str] = None, refused: Tuple[Tuple[bytes, bytes], ...] = (), memory: int = 0
+    ):
+        super().__init__(status, line, text, where, refused, memory)  # so that it can be pickled
+        self.status, self.line, self.text, self.where, self._refused, self._memory = status, line, text, where, refused, memory
+        self._problems: Optional[List[Problem]] = None
         place = PLACES[status].match(line) if status in PLACES else None
         self.file: Optional[str] = place["file"] if place else None
         self.line_number: Optional[int] = int(place["number"]) if place else None
         self.template: Optional[str] = _unquoted(place["template"]) if place and status == FAULT else None
 
-    def __str__(self):
+    def __str__(self) -> str:
         return f"{self.line} ({self.where})" if self.where else self.line
+
+    @property
+    def problems(self) -> List[Problem]:
+        """Of a file that is refused, the first 1,000 of all that is wrong in it. They are looked for when this is read first, in the memory
+        that the refused call was allowed: it may raise MemoryError. The file is kept until then."""
+        if self._problems is None:
+            self._problems = check(self._refused, memory=self._memory) if self._refused else []
+        return self._problems
 
 
 def _unquoted(name):
@@ -91,7 +142,7 @@ class _Text(ctypes.Structure):
 
 def _library():
     beside = os.path.join(os.path.dirname(os.path.abspath(__file__)), "libtmpl.so")
-    it = ctypes.CDLL(os.environ.get("LIBTMPL") or (beside if os.path.exists(beside) else "libtmpl.so.0"))
+    it = ctypes.CDLL(os.environ.get("LIBTMPL") or (beside if os.path.exists(beside) else "libtmpl.so.1"))
     text = (ctypes.c_char_p, ctypes.c_size_t)
     buffers = (ctypes.POINTER(_Buffer), ctypes.POINTER(_Buffer))
     it.tmpl_render.restype = ctypes.c_uint8
@@ -123,13 +174,17 @@ def _library():
 _LIBRARY = _library()
 
 
-def _encoded(it):
-    return it.encode("utf-8", "surrogateescape") if isinstance(it, str) else bytes(it)
+def _encoded(it, what="a name"):
+    if isinstance(it, str):
+        return it.encode("utf-8", "surrogateescape")
+    if isinstance(it, (bytes, bytearray, memoryview)):
+        return bytes(it)
+    raise TypeError(f"{what} is a str or bytes, not {type(it).__name__}")
 
 
 def _json(data):
     """The bytes of the data: bytes as they are, nothing for None, and the JSON of anything else."""
-    return b"" if data is None else bytes(data) if isinstance(data, (bytes, bytearray)) else json.dumps(data).encode()
+    return b"" if data is None else bytes(data) if isinstance(data, (bytes, bytearray, memoryview)) else json.dumps(data).encode()
 
 
 def _value(data, floats):
@@ -159,12 +214,17 @@ def _refused_number(data, at=""):
 def _settings(missing_key, depth, steps, printed, output):
     if missing_key not in MISSING_KEY:
         raise ValueError(f"missing_key is one of {', '.join(map(repr, MISSING_KEY))}, not {missing_key!r}")
+    depth, steps = operator.index(depth), operator.index(steps)
     if not 0 <= depth < 1 << 32 or not 0 <= steps < 1 << 64:
         raise ValueError("depth is from 0 to 2^32 - 1, and steps from 0 to 2^64 - 1")
     return _Settings(steps, depth, MISSING_KEY[missing_key], bool(printed), _count("output", output))
 
 
 def _count(name, count):
+    try:
+        count = operator.index(count)
+    except TypeError:
+        raise TypeError(f"{name} is an int, not {type(count).__name__}") from None
     if not 0 <= count < 1 << 64:
         raise ValueError(f"{name} is from 0 to 2^64 - 1")
     return count
@@ -173,7 +233,8 @@ def _count(name, count):
 @contextlib.contextmanager
 def _memory_up_to(count):
     """What is called meanwhile takes at most this many bytes of memory together; any number for 0. The limit is that of the thread."""
-    if not _count("memory", count):
+    count = _count("memory", count)
+    if not count:
         yield
         return
     _LIBRARY.tmpl_limit_memory(count)
@@ -200,23 +261,36 @@ class _Lent:
 
 def _pairs(files):
     """The files, as bytes."""
-    return [(_encoded(path), _encoded(what)) for path, what in (files.items() if hasattr(files, "items") else files)]
+    return tuple((_encoded(path, "a path"), _encoded(what, "a file")) for path, what in (files.items() if hasattr(files, "items") else files))
 
 
 def _array(held):
     return (_File * max(len(held), 1))(*[_File(path, len(path), what, len(what)) for path, what in held])
 
 
-def check(files: Files) -> List[str]:
-    """All that is wrong in template files, in a line each as compilers write it: `FILE:LINE:COLUMN: error: REASON: DETAIL`, with what to
-    write instead where that is known. There is none where all files are accepted, one after the other. Raises TemplateError where the
+def _lines(text, most):
+    """The first lines of a text of the library, at most so many. The rest is not taken from it."""
+    lines, rest, at = [], b"", 0
+    while at < text.size and len(lines) < most:
+        piece = ctypes.string_at(text.bytes + at, min(PIECE, text.size - at))
+        at += len(piece)
+        *whole, rest = (rest + piece).split(b"\n")
+        lines += whole
+    return [it.decode("utf-8", "replace") for it in lines[:most]]
+
+
+def check(files: Files, *, memory: int = 0, most: int = MOST) -> List[Problem]:
+    """All that is wrong in template files, with what to write instead where that is known: the first `most` of them, found in at most
+    `memory` bytes, or any number for 0. There is none where all files are accepted, one after the other. Raises TemplateError where the
     name of a file is not UTF-8, and MemoryError."""
-    held, text = _pairs(files), _Text()
+    held, text, most = _pairs(files), _Text(), _count("most", most)
     try:
-        status = _LIBRARY.tmpl_check(_array(held), len(held), text)
+        with _memory_up_to(memory):
+            status = _LIBRARY.tmpl_check(_array(held), len(held), text)
         if status != REFUSED:
             _said(status, b"tmpl: the name of a file is not UTF-8" if status == NOT_TEXT else b"")
-        return text.copied().decode("utf-8", "replace").split("\n")[:-1]
+        names = [path.decode("utf-8", "replace") for path, _ in held]
+        return [_problem(it, names) for it in _lines(text, most)]
     finally:
         _LIBRARY.tmpl_text_free(text)
 
@@ -251,20 +325,33 @@ def _accepted(call, data=None):
         size = err.buffer.needed
 
 
-def render_bytes(files: Files, name: Optional[Text] = None, data: Any = None, **options: Any) -> bytes:
-    """What `render` gives, as bytes, which need be no text."""
-    with Templates(files) as templates:
-        return templates.render_bytes(name, data, **options)
+def render_bytes(
+    files: Files, name: Optional[Text] = None, data: Any = None, *, missing_key: MissingKey = "default", depth: int = 0, steps: int = 0,
+    printed: bool = False, floats: Floats = "refuse", output: int = 0, memory: int = 0,
+) -> bytes:
+    """What `render` gives, as bytes."""
+    with _memory_up_to(memory):
+        templates = Templates()
+        for path, what in _pairs(files):
+            templates._add(path, what, memory)
+        return templates.render_bytes(name, data, missing_key=missing_key, depth=depth, steps=steps, printed=printed, floats=floats, output=output)
 
 
-def render(files: Files, name: Optional[Text] = None, data: Any = None, **options: Any) -> str:
+def render(
+    files: Files, name: Optional[Text] = None, data: Any = None, *, missing_key: MissingKey = "default", depth: int = 0, steps: int = 0,
+    printed: bool = False, floats: Floats = "refuse", output: int = 0, memory: int = 0,
+) -> str:
     """The text of the template of this name: by default that of the first file.
 
-    `files` are pairs of a path and what the file holds, or a dict of them; `data` is JSON as bytes, None for no data, or a value that
-    json.dumps takes. Options: missing_key ("default", "invalid", "zero", "error"), depth, steps (0 for the defaults), printed=True
-    for the printed set, output and memory, the most bytes of text and of memory (0 for any number), and floats="text", by which a float and a Decimal of a value are the text that `str` gives; else a float is
-    refused. Raises TemplateError, MemoryError where memory is refused, and ValueError for an option that is none."""
-    return render_bytes(files, name, data, **options).decode("utf-8", "replace")
+    `files` are pairs of a path and what the file holds, or a dict of them; `data` is JSON as bytes, None for no data, Data, or a value that
+    json.dumps takes. Options: missing_key, what a missing key gives; depth, of calls of templates, and steps (0 for the defaults);
+    printed=True for the printed set; floats="text", by which a float and a Decimal of a value are the text that `str` gives, where else a
+    float is refused; output, the most bytes of text, and memory, the most that the library may take to parse, to read data and to run (0
+    for any number). Raises TemplateError, MemoryError where memory runs out, ValueError for an option out of its range, and TypeError
+    for what is of another type."""
+    return render_bytes(
+        files, name, data, missing_key=missing_key, depth=depth, steps=steps, printed=printed, floats=floats, output=output, memory=memory
+    ).decode("utf-8", "replace")
 
 
 def version() -> str:
@@ -272,7 +359,36 @@ def version() -> str:
     return _LIBRARY.tmpl_version().decode()
 
 
-__version__ = version().split()[1]
+class Data:
+    """Data that is read once, and rendered as often as you like, by any number of threads: `Data(value)`, with a value as that of
+    `render`. It never changes, so a copy is the object itself."""
+
+    def __new__(cls, *_: Any, **__: Any) -> Data:
+        self = super().__new__(cls)
+        self._kept, self._lock = _Kept(), threading.Lock()  # the lock of the handle, held while it is shared
+        return self
+
+    def __init__(self, value: Any = None, *, floats: Floats = "refuse", memory: int = 0):
+        value = _value(value, floats)
+        read = _json(value)
+        with self._lock, _memory_up_to(memory):
+            _accepted(lambda err: _LIBRARY.tmpl_data_read(self._kept, read, len(read), err), value)
+
+    def _share(self, kept):
+        with self._lock:
+            _said(_LIBRARY.tmpl_data_share(self._kept, kept), b"")
+
+    def __copy__(self) -> Data:
+        return self
+
+    def __deepcopy__(self, _: Any) -> Data:
+        return self
+
+    def __reduce_ex__(self, _: Any) -> Any:
+        raise TypeError("Data is not pickled: pass its JSON")
+
+    def __del__(self):
+        _LIBRARY.tmpl_data_free(self._kept)
 
 
 class _Worker:
@@ -283,17 +399,25 @@ class _Worker:
         self.version, self.read = version, None
         _said(_LIBRARY.tmpl_program_share(program, self.program), b"")
 
-    def render(self, name, read, settings, data):
-        """The text of a render. `read` is JSON, of the value `data`; what was read before is not read again."""
-        if read != self.read:
-            self.read = None
+    def take(self, read, data):
+        """Has this data: JSON, of the value `data`, or Data. What was read before is not read again."""
+        if read is self.read or (isinstance(read, bytes) and read == self.read):
+            return
+        self.read = None
+        if isinstance(read, Data):
+            read._share(self.data)
+        else:
             _accepted(lambda err: _LIBRARY.tmpl_data_read(self.data, read, len(read), err), data)
-            self.read = read
+        self.read = read
+
+    def render(self, name, read, settings, data):
+        """The text of a render. `read` is JSON, of the value `data`, or Data."""
+        self.take(read, data)
         status = _LIBRARY.tmpl_render_text(settings, self.program, self.data, name, len(name), self.text, self.line)
         text, line = self.text.copied(), self.line.copied()
         if self.text.size > KEPT:
             _LIBRARY.tmpl_text_free(self.text)
-        _said(status, line, text)
+        _said(status, b"tmpl: more than %d bytes of output" % settings.output if status == FULL else line, text)
         return text
 
     def __del__(self):
@@ -310,20 +434,32 @@ class Templates:
     Each thread that renders at the same time as others has handles of its own here, and data is read anew where its JSON differs from
     that which these read last. The memory is given back with the object, by `close`, or at the end of a `with`."""
 
-    def __init__(self, files: Files = ()):
+    def __new__(cls, *_: Any, **__: Any) -> Templates:
+        self = super().__new__(cls)  # what is freed is there also where a class of one's own has another __init__, or __init__ raises
         self._set, self._program, self._idle, self._version, self._made, self._first = _Kept(), _Kept(), [], 0, False, None
         self._lock = threading.Lock()  # of all that is here, but held during no render
-        for path, what in files.items() if hasattr(files, "items") else files:
-            self.add(path, what)
+        return self
 
-    def add(self, path: Text, what: Text) -> None:
-        """Adds the templates of one more file, or raises TemplateError and leaves them as they are."""
-        path, what = _encoded(path), _encoded(what)
+    def __init__(self, files: Files = (), *, memory: int = 0):
+        for path, what in _pairs(files):
+            self.add(path, what, memory=memory)
+
+    def __reduce_ex__(self, _: Any) -> Any:
+        raise TypeError("Templates are not copied: any number of threads use one object, and another process makes its own")
+
+    def add(self, path: Text, what: Text, *, memory: int = 0) -> None:
+        """Adds the templates of one more file, in at most `memory` bytes, or raises TemplateError and leaves them as they are."""
+        path, what = _encoded(path, "a path"), _encoded(what, "a file")
+        with _memory_up_to(memory):
+            self._add(path, what, memory)
+
+    def _add(self, path, what, memory):
         with self._lock:
             try:
                 _accepted(lambda err: _LIBRARY.tmpl_set_add(self._set, _File(path, len(path), what, len(what)), err))
             except TemplateError as error:
-                raise TemplateError(error.status, error.line, problems=check([(path, what)]) if error.status == REFUSED else ()) from None
+                refused = ((path, what),) if error.status == REFUSED else ()
+                raise TemplateError(error.status, error.line, refused=refused, memory=memory) from None
             self._first = path.rpartition(b"/")[2] if self._first is None else self._first
             self._renew()
 
@@ -350,31 +486,41 @@ class Templates:
             _LIBRARY.tmpl_text_free(text)
 
     def render_bytes(
-        self, name: Optional[Text] = None, data: Any = None, missing_key: str = "default", depth: int = 0, steps: int = 0,
-        printed: bool = False, floats: str = "refuse", output: int = 0, memory: int = 0,
+        self, name: Optional[Text] = None, data: Any = None, *, missing_key: MissingKey = "default", depth: int = 0, steps: int = 0,
+        printed: bool = False, floats: Floats = "refuse", output: int = 0, memory: int = 0,
     ) -> bytes:
         """What `render` gives, as bytes."""
         settings, data = _settings(missing_key, depth, steps, printed, output), _value(data, floats)
-        read = _json(data)
-        if printed:
-            with _memory_up_to(memory):
+        read, name = data if isinstance(data, Data) else _json(data), (self._first or b"") if name is None else _encoded(name)
+        with _memory_up_to(memory):
+            if printed:
                 return self._printed()
-        worker = self._worker()
-        try:
-            with _memory_up_to(memory):
-                return worker.render(_encoded((self._first or b"") if name is None else name), read, settings, data)
-        finally:
-            with self._lock:
-                if worker.version == self._version:
-                    self._idle.append(worker)
+            worker = self._worker()
+            try:
+                return worker.render(name, read, settings, data)
+            finally:
+                with self._lock:
+                    if worker.version == self._version:
+                        self._idle.append(worker)
 
-    def render(self, name: Optional[Text] = None, data: Any = None, **options: Any) -> str:
+    def render(
+        self, name: Optional[Text] = None, data: Any = None, *, missing_key: MissingKey = "default", depth: int = 0, steps: int = 0,
+        printed: bool = False, floats: Floats = "refuse", output: int = 0, memory: int = 0,
+    ) -> str:
         """The text of the template of this name: by default that of the first file. Options and errors are those of `render`."""
-        return self.render_bytes(name, data, **options).decode("utf-8", "replace")
+        return self.render_bytes(
+            name, data, missing_key=missing_key, depth=depth, steps=steps, printed=printed, floats=floats, output=output, memory=memory
+        ).decode("utf-8", "replace")
 
-    def render_many(self, name: Optional[Text], datas: Iterable[Any], **options: Any) -> Iterator[str]:
+    def render_many(
+        self, name: Optional[Text], datas: Iterable[Any], *, missing_key: MissingKey = "default", depth: int = 0, steps: int = 0,
+        printed: bool = False, floats: Floats = "refuse", output: int = 0, memory: int = 0,
+    ) -> Iterator[str]:
         """The text for each of these data, one after the other. The first that does not end well raises its error."""
-        return (self.render(name, data, **options) for data in datas)
+        for data in datas:
+            yield self.render(
+                name, data, missing_key=missing_key, depth=depth, steps=steps, printed=printed, floats=floats, output=output, memory=memory
+            )
 
     def close(self) -> None:
         """Frees templates and data. It has none then."""

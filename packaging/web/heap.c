@@ -7,6 +7,7 @@
 /* the compiler of the toolchain has no headers */
 typedef __SIZE_TYPE__ size_t;
 typedef __UINT8_TYPE__ uint8_t;
+typedef __UINT32_TYPE__ uint32_t;
 
 static_assert(sizeof(size_t) == 8, "compiled for memories of 64 bits, also where the module is then lowered to 32");
 
@@ -20,7 +21,8 @@ struct tried {
 };
 
 struct block {
-    size_t before;              /* the bytes of the block before it; 0 of the first */
+    uint32_t before;            /* the bytes of the block before it; 0 of the first. The memory has 4 GiB at most */
+    uint32_t number;            /* that of the limit under which it was lent; 0: there was none */
     size_t size;                /* its own, with these two words, and whether it is free */
     struct block *next, *other; /* its neighbours in its list, where it is free */
 };
@@ -38,8 +40,8 @@ static uint8_t *end;      /* of memory */
 static struct block *lists[LISTS];
 static size_t filled[LISTS / WORD]; /* a bit for each list that has a block */
 static char nothing;
-static size_t most;  /* bytes that may be taken from when the limit was set; 0: any number */
-static size_t taken; /* .. and those that were taken since and not given back */
+static uint32_t limits, number; /* how many limits were set, and the number of the one that there is; 0: none, and nothing is counted */
+static size_t most, taken;      /* how many bytes it allows, and how many blocks have that were taken under it and are there */
 
 static size_t rounded(size_t size) { return (size + 15) & ~(size_t)15; }
 
@@ -203,35 +205,44 @@ static void *resized(void *old, size_t kept, size_t size) {
     return to;
 }
 
-static struct tried told(void *at) { return (struct tried){at != nullptr, at != nullptr ? at : &nothing}; }
-
 /* ---- the limit */
 
-void tmpl_limit_memory(size_t bytes) { most = bytes, taken = 0; }
+void tmpl_limit_memory(size_t bytes) {
+    limits += limits + 1 == 0 ? 2 : 1; /* the numbers begin anew after 2^32, without 0 */
+    number = bytes != 0 ? limits : 0;
+    most = bytes, taken = 0;
+}
 
 static size_t lent(void *at) { return size_of(moved(at, -HEAD)) - HEAD; }
 
-/* The bytes that are taken without these, which may have been taken before the limit was set. */
-static size_t without(size_t bytes) { return taken > bytes ? taken - bytes : 0; }
+/* How many bytes of a block count. */
+static size_t counted(void *at) {
+    return number != 0 && ((struct block *)moved(at, -HEAD))->number == number ? lent(at) : 0;
+}
 
-static bool fits(size_t before, size_t size) { return most == 0 || (before <= most && size <= most - before); }
+/* Whether so many bytes fit beside these. */
+static bool fits(size_t beside, size_t size) { return number == 0 || (beside <= most && size <= most - beside); }
+
+/* A block that was got beside those that take so many bytes. */
+static struct tried told(void *at, size_t beside) {
+    if (at == nullptr) return (struct tried){false, &nothing};
+    moved(at, -HEAD)->number = number;
+    if (number != 0) taken = beside + lent(at);
+    return (struct tried){true, at};
+}
 
 struct tried rattle_alloc(size_t size, size_t align) {
     size = size != 0 ? size : align;
-    void *at = fits(taken, size) ? memory_take(size) : nullptr;
-    if (at != nullptr && most != 0) taken += lent(at);
-    return told(at);
+    return told(fits(taken, size) ? memory_take(size) : nullptr, taken);
 }
 
 struct tried rattle_realloc(void *old, size_t kept, size_t size, size_t align) {
+    size_t beside = taken - counted(old);
     size = size != 0 ? size : align;
-    size_t before = most != 0 ? without(lent(old)) : 0;
-    void *at = fits(before, size) ? resized(old, kept, size) : nullptr;
-    if (at != nullptr && most != 0) taken = before + lent(at);
-    return told(at);
+    return told(fits(beside, size) ? resized(old, kept, size) : nullptr, beside);
 }
 
 void rattle_dealloc(void *at) {
-    if (most != 0) taken = without(lent(at));
+    taken -= counted(at);
     memory_give(at);
 }

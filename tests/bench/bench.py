@@ -6,6 +6,7 @@ Each pair runs turn by turn, and of each the median is told. A factor is ours ov
 ctemplate are left out where they are not there; `--dry` only puts the table out."""
 import datetime
 import glob
+import importlib.util
 import json
 import os
 import platform
@@ -201,6 +202,9 @@ def rows(count):
     return listed(json.dumps({"id": it, "name": f"<name> & {it}", "ok": it % 2 == 0}).encode() for it in range(count))
 
 
+TABLE = [b"{{range .}}<tr><td>{{.id}}</td><td>{{.name}}</td><td>{{if .ok}}yes{{else}}no{{end}}</td></tr>\n{{end}}"]
+
+
 def tree(levels):
     """A tree with two branches at each level, as data."""
     return {"n": levels, "l": tree(levels - 1), "r": tree(levels - 1)} if levels else None
@@ -239,20 +243,19 @@ def renders(folder):
     accounts = write(f"{folder}/members", members(10_000_000))
     branches = write(f"{folder}/tree", [json.dumps(tree(14)).encode()])
     recursion = b'{{define "t"}}{{if .}}{{.n}}{{template "t" .l}}{{template "t" .r}}{{end}}{{end}}{{template "t" .}}'
-    cells = b"<tr><td>{{.id}}</td><td>{{.name}}</td><td>{{if .ok}}yes{{else}}no{{end}}</td></tr>\n"
     return (
         ("`examples/hello`", [b"Hello, {{.user.name}}!\n"], data, 0.4, 1),
         ("2 MiB of short actions", [b"{{.user.name}} has {{ .n }}.\n" * (2 * MIB // 29)], data, 0.4, 1),
         ("2 MB of lines of six actions", [SMALL_ACTIONS * (2_000_000 // len(SMALL_ACTIONS))], data, 0.4, 1),
         ("a range over 100,000 elements with an `if` inside", [b"{{range .}}{{if .}}{{.}},{{end}}{{end}}"], numbers, 0.4, 1),
         ("a range over a list of 1,000,000 elements", [b"{{range .}}{{.}}\n{{end}}"], million, 0.4, 1),
-        ("a table of 20,000 rows", [b"{{range .}}", cells, b"{{end}}"], table, 0.4, 1),
+        ("a table of 20,000 rows", TABLE, table, 0.4, 1),
         ("10,000 calls of `printf` and `len`", [b'{{printf "%5d" (len "ab")}}\n' * 10_000], data, 0.4, 1),
         ("a range of `printf`, 100,000 times", [b'{{range $i, $e := .}}{{printf "%5d %-10d|" $i $e}}{{end}}'], numbers, 0.4, 1),
         ("`printf` over 30,000 rows", [b'{{range .}}{{printf "%5d %s" .id .name}}\n{{end}}'], many, 0.4, 1),
         ("`html` and `urlquery` over 30,000 rows", [b"{{range .}}{{html .name}} {{urlquery .name}}\n{{end}}"], many, 0.4, 1),
         ("a tree of 16,383 nodes by recursion", [recursion], branches, 0.4, 1),
-        ("10 MB of JSON put as text", [b"{{.}}"], accounts, 0.4, 1),
+        ("10 MB of JSON printed", [b"{{.}}"], accounts, 0.4, 1),
         ("10 MB of JSON and a small template", [b"{{len .}}\n"], accounts, 0.6, 1.2),
         ("10,000 definitions and a call of each", definitions(10_000), data, 0.4, 1),
         ("18 levels of two calls each", doubling(18), data, 0.4, 1),
@@ -277,7 +280,7 @@ def bench_renders(figures, folder):
         figures.row("the geometric mean of these", "", "", statistics.geometric_mean(times))
     file = write(f"{folder}/template", [b"{{range 10000000}}{{.}}\n{{end}}"])
     (ours,) = medians(5, [harness.PROGRAM, "--steps", "100000000", file])
-    figures.row("a range over 10,000,000 whole numbers", f"{with_memory(ours)}, {ours[0] / 1e7 * 1e9:.0f} ns an element")
+    figures.row("a range over 10,000,000 integers", f"{with_memory(ours)}, {ours[0] / 1e7 * 1e9:.0f} ns an element")
 
 
 # ---- the program, part by part
@@ -332,7 +335,7 @@ def bench_growth(figures, folder):
     grow("calls of printf", (1_000, 2_500, 10_000), lambda size: [ours, write(f"{folder}/called", [b'{{printf "%5d" (len "ab")}}\n' * size])])
     grow("definitions", (1_000, 2_500, 10_000), lambda size: [ours, write(f"{folder}/defined", definitions(size))])
     grow("calls", (2**14, 2**16, 2**18), lambda size: [ours, write(f"{folder}/doubled", doubling(size.bit_length() - 1))])
-    grow("data put as text", (1_000_000, 2_500_000, 10_000_000),
+    grow("data printed", (1_000_000, 2_500_000, 10_000_000),
          lambda size: [ours, "--data", write(f"{folder}/accounts", members(size)), dot])
 
 
@@ -453,7 +456,10 @@ directory = "{CRATES}"
 
 
 def tera_renderer(folder):
-    """A program over Tera, a template engine in Rust, built of the sources of Debian's package; none where they or Cargo are not there."""
+    """A program over Tera, a template engine in Rust, built once of the sources of Debian's package; none where they or Cargo are not there."""
+    if os.path.exists(f"{folder}/rust_peer"):
+        program = f"{folder}/rust_peer/target/release/rust_peer"
+        return program if os.path.exists(program) else None
     if not shutil.which("cargo") or not glob.glob(f"{CRATES}/tera-*"):
         print("  Tera is left out: it needs Cargo and the package librust-tera-dev")
         return None
@@ -466,6 +472,32 @@ def tera_renderer(folder):
         print("  Tera is left out, since it could not be built:", *built.stderr.splitlines()[:1])
         return None
     return f"{at}/target/release/rust_peer"
+
+
+SIZES = (1_000, 10_000, 100_000, 1_000_000)
+ONE_BY_JINJA = """
+import json, sys
+import jinja2
+with open(sys.argv[1]) as template, open(sys.argv[2]) as data:
+    sys.stdout.write(jinja2.Environment().from_string(template.read()).render(data=json.load(data)))
+"""
+
+
+def bench_sizes(figures, folder):
+    """A table of more and more rows, by whole processes of each engine that is there."""
+    figures.part("As the work grows, by whole processes")
+    file, other = write(f"{folder}/template", TABLE), write(f"{folder}/other", [JINJA["a table of 20,000 rows"].encode()])
+    go, tera, floor = go_renderer(folder), tera_renderer(folder), held_by_all()
+    for size in SIZES:
+        held = write(f"{folder}/sized", rows(size))
+        runs = {"tmpl": [harness.PROGRAM, "--data", held, file]}
+        runs |= {"Go": [go, "render", file, held]} if go else {}
+        runs |= {"Tera": [tera, other, held]} if tera else {}
+        runs |= {"Jinja2": [sys.executable, "-c", ONE_BY_JINJA, other, held]} if importlib.util.find_spec("jinja2") else {}
+        told = dict(zip(runs, medians(15 if size <= 10_000 else 5, *runs.values())))
+        spelled = {who: with_memory(it, floor) for who, it in told.items()}
+        factors = (told["tmpl"][it] / told["Go"][it] if go else None for it in (0, 1))
+        figures.row(f"{size:,} rows", spelled.pop("tmpl"), "; ".join(f"{who} {it}" for who, it in spelled.items()), *factors)
 
 
 def cpp_renderer(folder):
@@ -628,7 +660,7 @@ def main(words):
         PEAK = f"{folder}/peak"
         subprocess.run(["cc", "-O2", f"{harness.TESTS}/bench/peak.c", "-o", PEAK], check=True)
         beside = peers(folder)
-        for bench in (bench_renders, bench_library, bench_program, bench_cut, bench_reading, bench_compiling, bench_calls, bench_data, bench_growth):
+        for bench in (bench_renders, bench_sizes, bench_library, bench_program, bench_cut, bench_reading, bench_compiling, bench_calls, bench_data, bench_growth):
             bench(figures, folder)
     lines = [head(beside), "", *figures.table()]
     if "--dry" in words:

@@ -72,7 +72,7 @@ def bench_names(rows, folder, speed):
     alike, _ = time_once(speed, folder, hostile.defining(hostile.alike(count)))
     others, _ = time_once(speed, folder, hostile.defining([b"%08d and the other tail." % it for it in range(count)]))
     came = f"{bench.shown(alike)}, other names {bench.shown(others)}"
-    rows.row("2.56 MB of definitions whose names a hash without a key does not tell apart", came, "at most 3 times other names", alike <= 3 * others)
+    rows.row("2.56 MB of definitions whose names collide in a hash without a key", came, "at most 3 times other names", alike <= 3 * others)
 
 
 def bench_shared(rows, folder, speed):
@@ -88,7 +88,7 @@ def bench_shared(rows, folder, speed):
 
 def bench_threads(rows, folder):
     wrong = int(said_by([compiled(folder, "servers"), "8", "20000"])[0])
-    rows.row("one program in 8 threads of C, each with data of its own", f"{wrong:,} of 160,000 texts wrong", "0", wrong == 0)
+    rows.row("one program in 8 threads of C, each with data of its own", f"{wrong:,} of 160,000 outputs wrong", "0", wrong == 0)
 
 
 SERVER = """
@@ -156,15 +156,15 @@ def bench_python(rows, folder, speed):
     wrong = of_python(SERVER)[0]
     rows.row("6,400 requests of 16 clients to a threaded web server in Python with one `Templates`", f"{wrong:,.0f} wrong answers", "0", wrong == 0)
     wrong = of_python(PLAIN)[0]
-    rows.row("the same `Templates` in 8 threads of Python", f"{wrong:,.0f} of 160,000 texts wrong", "0", wrong == 0)
+    rows.row("the same `Templates` in 8 threads of Python", f"{wrong:,.0f} of 160,000 outputs wrong", "0", wrong == 0)
     rises = of_python(FLAT)
     came = " and ".join(f"{it / 1024:.1f} MiB" for it in rises)
-    rows.row("how much more is held after 60 more texts of 15 MB in Python, without the cyclic collector, kept and not kept", came, "flat", max(rises) < 2 * 1024)
+    rows.row("how much more is held after 60 more outputs of 15 MB in Python, without the cyclic collector, kept and not kept", came, "flat", max(rises) < 2 * 1024)
     text = b"{{range 1000000}}0123456789{{end}}"
     by_python = of_python(ONCE, bench.write(f"{folder}/once", [text]))[0]
     by_c = int(said_by([speed, f"{folder}/once", bench.write(f"{folder}/none", [b"null"]), "1", "kept"])[0])
     came = f"{bench.shown(by_python / 1e9)}, by C {bench.shown(by_c / 1e9)}"
-    rows.row("a text of 10 MB by Python, which copies it once", came, "rendered once: less than 2 times C", by_python < 2 * by_c)
+    rows.row("an output of 10 MB by Python, which copies it once", came, "rendered once: less than 2 times C", by_python < 2 * by_c)
 
 
 ROOM = """
@@ -178,7 +178,7 @@ except tmpl.TemplateError as error:
 
 def bench_room(rows, folder):
     status, size, held = of_python(ROOM, bench.write(f"{folder}/lent", [LENT]))
-    came = f"status {status:.0f}, {size:,.0f} bytes, {held / 1024:.0f} MiB held by the process of Python"
+    came = f"it returns {status:.0f}, {size:,.0f} bytes, {held / 1024:.0f} MiB held by the process of Python"
     rows.row(f"a template of {len(LENT)} bytes that makes 1 GB, where the host allows 1,024 bytes", came, "what the host allows", (status, size) == (6, 1024) and held < 64 * 1024)
 
 
@@ -195,7 +195,7 @@ def bench_long(rows, folder):
     subprocess.run(["go", "build", "-o", "long", "."], cwd=home, env=environment, check=True)
     for count in LONG:
         written, said = said_by([f"{home}/long", str(count)])
-        rows.row(f"a text of {count / 1e8:.1f} GB by the binding for Go", f"{int(written):,} bytes", "whole", (int(written), said) == (10 * count, "<nil>"))
+        rows.row(f"an output of {count / 1e8:.1f} GB by the binding for Go", f"{int(written):,} bytes", "whole", (int(written), said) == (10 * count, "<nil>"))
 
 
 def main(words):

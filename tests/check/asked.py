@@ -13,7 +13,8 @@ from tests.check import library
 from tests.lib import harness
 
 sys.path.insert(0, f"{library.BINDINGS}/python")
-os.environ.setdefault("LIBTMPL", f"{library.OUT}/libtmpl.so")
+if "LIBTMPL" not in os.environ and library.choose():
+    os.environ["LIBTMPL"] = f"{library.OUT}/libtmpl.so"
 import tmpl
 
 library.tmpl = tmpl

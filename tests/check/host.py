@@ -1,5 +1,5 @@
-"""Runs tmpl_host, the program of docs/EMBEDDING.md for hosts in Rattle, and the probe over the cases that lie beside it, and compares what
-they put out."""
+"""Runs tmpl_host, the example of docs/EMBEDDING.md for hosts in Rattle, and the probe, and compares their output with the cases beside
+them."""
 import subprocess
 import sys
 

@@ -1,8 +1,8 @@
-"""What strangers choose must get its line and status, and cost little: files that do not end or are far too long, lines of
-many programs on one error stream, what nests as deep as it may on a small stack of the machine, what may call itself as deep as it may,
-and names that a known hash does not tell apart; the keys of the hash are drawn from the system; standard input that has no name which the
-system opens, as a socket; and what has many parts of a kind is checked against a schema on a small stack. TMPL=PATH and TMPL_CHECK=PATH name
-other builds."""
+"""Tries inputs that strangers choose: each must get its line and exit status, and cost little. They are files that do not end or are far
+too long, lines of many programs on one error stream, what nests as deep as it may on a small stack of the machine, what may call itself as
+deep as it may, and names that a known hash does not tell apart; the keys of the hash are drawn from the system; standard input that has no
+name which the system opens, as a socket; and what has many parts of a kind is checked against a schema on a small stack. TMPL=PATH and
+TMPL_CHECK=PATH name other builds."""
 import json
 import os
 import resource

@@ -1,6 +1,6 @@
-"""Lists the code of small templates by the probe, and compares it with lists
-written by hand, also with each allocation refused in turn; one of them is in docs/ARCHITECTURE.md. The proofs say which code is that of a tree; these lists show
-that what they say was meant. A jump is listed by the place where it ends. How many bytes code takes no proof says."""
+"""Lists the code of small templates by the probe, and compares it with lists written by hand. They are listed with each allocation refused
+in turn too; one of them is in docs/ARCHITECTURE.md. The proofs say which code is that of a tree; these lists show that what they say was
+meant. A jump is listed by the place where it ends. How many bytes code takes no proof says."""
 import os
 import re
 import subprocess

@@ -66,7 +66,7 @@ enum { ROWS = sizeof rows / sizeof *rows };
 static const struct row checked[] = {
     {"Hello, {{.name}}!", "", "", "", TMPL_OK, 0},
     {"a\n{{if name}}{{end}} {{end}}", "",
-     "t:2:1: error: action not understood: no function \"name\"\n"
+     "t:2:1: error: action not understood: no function \"name\": write .name\n"
      "t:2:20: error: out of place: \"end\" closes nothing: no if, with, range, define or block is open\n",
      "", TMPL_REFUSED, 0},
     {"{{define \"a\"}}x{{end}}{{define \"a\"}}y{{end}}", "", "t:1:23: error: second definition: second definition of \"a\", the first in line 1\n", "",
@@ -380,6 +380,36 @@ static void limit_memory(void) {
     judge(status == TMPL_OK, "a render without a limit", status);
 }
 
+enum { OLDER = 10 };
+
+/* How many of these data can be read under a limit, each in the place of what it has. */
+static int read_under(size_t limit, tmpl_data *data, const char *json, size_t size) {
+    char said[64];
+    tmpl_buffer err = {said, sizeof said, 0, 0};
+    int count = 0;
+    tmpl_limit_memory(limit);
+    while (count < OLDER && tmpl_data_read(data + count, json, size, &err) == TMPL_OK) count++;
+    tmpl_limit_memory(0);
+    return count;
+}
+
+/* What is given back of memory that was taken before the limit was set makes no room under it. */
+static void give_back_older(void) {
+    static char json[20001];
+    tmpl_data older[OLDER] = {0}, none[OLDER] = {0};
+    memset(json, ' ', sizeof json);
+    for (size_t i = 1; i < sizeof json; i += 2) json[i] = '1', json[i + 1] = ',';
+    json[0] = '[', json[sizeof json - 1] = ']';
+    judge(read_under(0, older, json, sizeof json) == OLDER, "data without a limit", 0);
+    size_t limit = 1 << 10;
+    while (read_under(limit, none, json, sizeof json) < 3) limit += limit / 4;
+    for (int i = 0; i < OLDER; i++) tmpl_data_free(none + i);
+    const int fresh = read_under(limit, none, json, sizeof json), again = read_under(limit, older, json, sizeof json);
+    judge(fresh >= 3 && fresh < OLDER, "data read under a limit", fresh);
+    judge(again == fresh, "data read under a limit in the place of older data", again);
+    for (int i = 0; i < OLDER; i++) tmpl_data_free(older + i), tmpl_data_free(none + i);
+}
+
 int main(int argc, char **argv) {
     (void)argv;
     long refusals = 0;
@@ -404,6 +434,7 @@ int main(int argc, char **argv) {
     }
     live = 0;
     limit_memory();
+    give_back_older();
     judge(live == 0, "blocks that stay of limited calls", live);
     for (int i = 0; i < (argc == 1 ? 1000 : 10) * ROWS; i++) {
         keep(rows + i % ROWS, sizeof told.out, sizeof told.line, &told);

@@ -1,6 +1,8 @@
 // Tries bindings/c/tmpl.hpp: prints what each call gives, a line each. tests/check/library.py knows what they are.
 #include "tmpl.hpp"
 
+#include <malloc.h>
+
 #include <atomic>
 #include <cstdio>
 #include <fstream>
@@ -70,12 +72,44 @@ int main(int argc, char **) {
         try {
             pages.add("n", "{{name}}");
         } catch (const tmpl::error &it) {
-            for (const std::string &line : it.problems) all += line + "|";
+            for (const tmpl::problem &problem : it.problems()) all += problem.str() + "|";
         }
         return all;
     });
     tell("no problems", [&] { return std::to_string(tmpl::check({{"m", "Hello, {{.name}}!"}}).size()); });
     tell("a short text", [&] { return pages.render("m", ada, short_text); });
+    tell("the parts of a problem", [&] {
+        const std::string odd = "b:1:1: error: out of place: c";
+        const auto found = tmpl::check({{"a", ""}, {odd, "\n {{if 1}}"}}).at(0);
+        return found.file + "|" + std::to_string(found.line) + "|" + std::to_string(found.column) + "|" + found.rule;
+    });
+    tell("the place of an error", [&] {
+        try {
+            pages.add("n", "\n{{name}}");
+        } catch (const tmpl::error &it) {
+            return it.file + "|" + std::to_string(it.line_number) + "|" + std::to_string(it.problems().at(0).line);
+        }
+        return std::string();
+    });
+    tell("many problems", [&] {
+        std::string many;
+        for (int i = 0; i < 1100; i++) many += "{{}}";
+        return std::to_string(tmpl::check({{"m", many}}).size()) + " " + std::to_string(tmpl::check({{"m", many}}, 7).size());
+    });
+    const tmpl::data constant(R"({"name": "a constant"})");
+    tell("data that is constant", [&] { return pages.render("m", constant); });
+    pages.add("large", "{{range 2000000}}0123456789{{end}}");
+    tell("little memory", [&] {
+        const tmpl::memory_limit limit(1 << 20);
+        return pages.render("large", none);
+    });
+    tell("a large text is given back", [&] {
+        malloc_trim(0);
+        const long before = resident();
+        pages.render("large", none);
+        malloc_trim(0);
+        return resident() - before < 8192 ? "it is" : "it stays";
+    });
     tell("no name of a file", [&] { return pages.add("\xff", ""), std::string(); });
     tell("no JSON", [&] { return tmpl::data("[1.5]"), std::string(); });
     const tmpl::templates moved = std::move(pages);

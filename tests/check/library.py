@@ -1,13 +1,15 @@
-"""Tries the engine as a C library, bindings/out/libtmpl.so and libtmpl.a, which `make lib` builds of what was proved. The rows of
-tests/rows that need no words and no files of the system go through one call each, by the Python wrapper, and through its `render_bytes`:
-text, line and status must be those of the row, but that lines call the data `data`. So must those of two renders of a set and data that
-are kept, and of a program that is kept, into lent memory. Rows with short texts and lines are called with room of each size.
-tests/check/library.c refuses each allocation of calls in turn, renders in eight threads at the same time, looks that memory stays flat, and runs
-under valgrind where that is there. The header is compiled as C and as C++, what is installed is used by
-pkg-config, the wheel for Python is unpacked and used, and the programs of docs/EMBEDDING.md and README.md for C and Python are run; so
-is examples/letters.py where Dask's scheduler is there. With --bindings it runs those for Go and Rust, and the tests of these two
-bindings, where Go and Cargo are installed, and nothing else."""
+"""Calls the C library by C, C++ and Python over the rows, in threads, and with each allocation refused in turn. The library is that in
+bindings/out, which `make lib` builds of what was proved, where it is up to date; else that in out/tests/lib, whose engine is compiled without
+proofs. Its first line says which. The rows of tests/rows that
+need no words and no files of the system go through one call each, by the Python wrapper, and through its `render_bytes`: text, line and
+status must be those of the row, but that lines call the data `data`. So must those of two renders of a set and data that are kept, and of a
+program that is kept, into lent memory. Rows with short texts and lines are called with room of each size. tests/check/library.c refuses
+each allocation of calls in turn, renders in eight threads at the same time, looks that memory stays flat, and runs under valgrind where
+that is there. The header is compiled as C and as C++, what is installed is used by pkg-config, the wheel for Python is unpacked and used,
+and the programs of docs/EMBEDDING.md and README.md for C and Python are run; so is examples/letters.py where Dask's scheduler is there.
+With --bindings it runs those for Go and Rust, and the tests of these two bindings, where Go and Cargo are installed, and nothing else."""
 import base64
+import copy
 import gc
 import hashlib
 import os
@@ -18,15 +20,17 @@ import shutil
 import subprocess
 import sys
 import tempfile
+import time
 import zipfile
 from concurrent.futures import ThreadPoolExecutor
 from decimal import Decimal
 
-from tests.lib import harness
+from tests.lib import harness, tools
 from tests.rows import problem_rows
 
 BINDINGS = f"{harness.TOP}/bindings"
-OUT = f"{BINDINGS}/out"
+OUT = f"{BINDINGS}/out"  # or what `choose` takes
+FOR_TESTS = f"{harness.TOP}/out/tests/lib"
 LEAST = 1400  # rows
 SIZES = 24  # bytes up to which texts and lines are called with room of each size
 LEAST_SIZES = 30900  # calls for that
@@ -48,6 +52,21 @@ def ran(*words, **how):
     """The status and all output of a program."""
     it = subprocess.run(words, stdin=subprocess.DEVNULL, stdout=subprocess.PIPE, stderr=subprocess.STDOUT, **how)
     return it.returncode, it.stdout.decode(errors="replace")
+
+
+def choose():
+    """Takes the library that `make lib` built, where it is up to date; else has one built for the tests alone. Whether there is one."""
+    global OUT
+    is_proved = "FOR_TESTS" not in os.environ and ran("make", "-q", "-C", harness.TOP, "lib")[0] == 0
+    if not is_proved:
+        os.environ["FOR_TESTS"], OUT = "1", FOR_TESTS
+        status, said = ran("make", "-s", "-C", harness.TOP, "lib")
+        if status:
+            print(said)
+            return False
+    how = "built of what was proved" if is_proved else "its engine is compiled without proofs"
+    print(f"the library in {os.path.relpath(OUT, harness.TOP)}: {how}", flush=True)
+    return True
 
 
 # ---- rows
@@ -171,13 +190,15 @@ def judge_limits(call):
         for limit in range(1, len(row.out) + 2):
             is_over = limit < len(row.out)
             wanted = (tmpl.FULL, row.out[:limit], b"tmpl: write failed\n") if is_over else (row.status, row.out, call.line)
+            by_wrapper = (*wanted[:2], b"tmpl: more than %d bytes of output\n" % limit if is_over else wanted[2])
             settings = tmpl._Settings(*call.settings, limit)
             status, out, err = tmpl.render_into(call.files, call.name, call.data, settings, len(row.out) + 1, 64 + len(call.line))
             got = [(status, out.output(), err.output())]
+            wrong += [f"    a limit of {limit}: {it}" for it in got if it != wanted]
             if not is_print:
                 status, text, line = came_of(lambda: templates.render_bytes(call.name, call.data, output=limit, **how))
                 got.append((status, text, f"{line}\n".encode() if line else b""))
-            wrong += [f"    a limit of {limit}: {it}" for it in got if it != wanted]
+                wrong += [f"    the wrapper, with a limit of {limit}: {got[1]}"] * (got[1] != by_wrapper)
             wrong += [f"    a limit of {limit}: it needs {out.buffer.needed}"] * (out.buffer.needed != min(limit, len(row.out)))
             count += len(got)
     return f"{row.name}, each limit", count, wrong
@@ -185,7 +206,7 @@ def judge_limits(call):
 
 def judge_check(call):
     """What is said of the files: something exactly where one is refused, and first the line and the reason of the row."""
-    row, lines = call.row, tmpl.check(call.files)
+    row, lines = call.row, list(map(str, tmpl.check(call.files)))
     refused = row.status == tmpl.REFUSED and not row.err.startswith(b"tmpl: no template")
     if not refused:
         return f"{row.name}, checked", 1, [f"    it says {lines}"] if lines else []
@@ -199,11 +220,11 @@ def judge_checks():
     """The files of problem_rows.py, whose lines were worked out by hand, and more than one file."""
     for title, text, lines in problem_rows.ROWS + problem_rows.FILES:
         wanted = [f"m:{line}" for line in lines if " error: " in f" {line}"]
-        got = tmpl.check({"m": text})
+        got = list(map(str, tmpl.check({"m": text})))
         yield f"checked: {title}", 1, [] if got == wanted else [f"    got {got}"]
     mistake = 'error: action not understood: no function "name": write .name'
     cases = [
-        ("each file is checked", lambda: tmpl.check([("a", "{{name}}"), ("b", "text"), ("c/d", "\n {{name}}")]), [f"a:1:1: {mistake}", f"c/d:2:2: {mistake}"]),
+        ("each file is checked", lambda: lines_of([("a", "{{name}}"), ("b", "text"), ("c/d", "\n {{name}}")]), [f"a:1:1: {mistake}", f"c/d:2:2: {mistake}"]),
         ("a file may define what another did", lambda: tmpl.check([("a", '{{define "t"}}{{end}}'), ("b", '{{define "t"}}{{end}}')]), []),
         ("no file", lambda: tmpl.check([]), []),
         ("a name that is no text after a refused file", lambda: tmpl.check([("a", "{{name}}"), (b"\xff", "")]),
@@ -217,13 +238,67 @@ def judge_checks():
         yield f"checked: {name}", 1, [] if got == wanted else [f"    got {got}"]
 
 
+def lines_of(files):
+    return [str(it) for it in tmpl.check(files)]
+
+
 def problems_of(files):
     """What the error of a render says of files, also after it went to another process."""
     try:
         tmpl.render(files)
     except tmpl.TemplateError as error:
-        return pickle.loads(pickle.dumps(error)).problems
+        return [str(it) for it in pickle.loads(pickle.dumps(error)).problems]
     return None
+
+
+MISTAKES = b"{{}}" * 300_000
+
+
+def problems_in(memory):
+    """How many problems the error of a file with many of them bears, that was refused under a limit."""
+    try:
+        tmpl.render({"m": MISTAKES}, memory=memory)
+    except tmpl.TemplateError as error:
+        return len(error.problems)
+
+
+def judge_problems():
+    """The parts of problems, and that they are looked for where somebody reads them, within the limit, and at most 1,000."""
+    hostile = "b:1:1: error: out of place: c"
+    calls = []
+    checked = tmpl.check
+    tmpl.check = lambda *words, **how: calls.append(words) or checked(*words, **how)
+    try:
+        try:
+            tmpl.render({"m": "{{"})
+        except tmpl.TemplateError as error:
+            before, count, after = len(calls), len(error.problems) + len(error.problems), len(calls)
+    finally:
+        tmpl.check = checked
+    cases = [
+        ("the parts", tmpl.check({"m": "\n {{name}}"}), [("m", 2, 2, "not-understood", 'action not understood: no function "name": write .name')]),
+        ("a path that looks like a place", [it[:4] for it in tmpl.check([("b", ""), (hostile, "{{")])], [(hostile, 1, 1, "unreadable")]),
+        ("a path with a newline", [it[:4] for it in tmpl.check({"a\nb": "{{if 1}}"})], [("a\\nb", 1, 9, "open-at-end")]),
+        ("not before they are read, and once", (before, count, after), (0, 2, 1)),
+        ("at most 1,000", problems_in(0), 1000),
+        ("as many as are asked for", len(tmpl.check({"m": MISTAKES}, most=7)), 7),
+        ("in little memory", raised(lambda: problems_in(1 << 20)), "MemoryError"),
+    ]
+    for name, got, wanted in cases:
+        yield f"problems: {name}", 1, [] if got == wanted else [f"    got {str(got)[:300]}"]
+    # each reason has the rule that tmpl-check has for it
+    rules = {}
+    for _, text, lines in problem_rows.ROWS:
+        if lines and " error: " in f" {lines[0]}":
+            rules |= {it.text.partition(": ")[0]: it.rule for it in tmpl.check({"m": text})}
+    with open(f"{harness.TOP}/crates/tmpl_problems/src/reason.rt", encoding="utf-8") as it:
+        kinds = dict(re.findall(r'ParseKind::(\w+) => "(.+)"', it.read()))
+    words = {"".join(word.capitalize() for word in rule.split("-")): reason for reason, rule in tmpl.RULES.items()}
+    named = {"NotAnAction": "NotUnderstood"}
+    of_kinds = {named.get(kind, kind): reason for kind, reason in kinds.items() if kind != "OutOfMemory"}
+    yield "problems: the rules", 1, [] if of_kinds == words else [f"    {of_kinds} {words}"]
+    few = len(set(rules)) < 6 or any(tmpl.RULES[reason] != rule for reason, rule in rules.items())
+    yield "problems: the rules of rows", len(rules), [f"    {rules}"] if few else []
 
 
 LARGE = {"m": "{{range 300000}}0123456789{{end}}"}  # 3,000,000 bytes
@@ -238,20 +313,26 @@ def judge_memory():
             ("without a limit", lambda: len(templates.render()), 3000000),
             ("with 1 MiB again, in the memory of the text", lambda: len(templates.render(memory=1 << 20)), "MemoryError"),
             ("a large value with 1 MiB", lambda: templates.render(data=["x" * (1 << 20)], memory=1 << 20), "MemoryError"),
-            ("few bytes with 1 MiB", lambda: came_of(lambda: templates.render_bytes(output=9, memory=1 << 20)), (6, b"012345678", "tmpl: write failed")),
+            ("few bytes with 1 MiB", lambda: came_of(lambda: templates.render_bytes(output=9, memory=1 << 20)), (6, b"012345678", "tmpl: more than 9 bytes of output")),
+            ("parsing with 1 MiB", lambda: tmpl.render({"m": "{{.}}" * 50_000}, memory=1 << 20), "MemoryError"),
+            ("parsing of what is kept with 1 MiB", lambda: tmpl.Templates({"m": "{{.}}" * 50_000}, memory=1 << 20), "MemoryError"),
+            ("one more file with 1 MiB", lambda: templates.add("n", "{{.}}" * 50_000, memory=1 << 20), "MemoryError"),
+            ("reading data with 1 MiB", lambda: tmpl.render({"m": ""}, data=[0] * 100_000, memory=1 << 20), "MemoryError"),
+            ("data that is kept with 1 MiB", lambda: tmpl.Data([0] * 100_000, memory=1 << 20), "MemoryError"),
+            ("checking with 1 MiB", lambda: tmpl.check({"m": MISTAKES}, memory=1 << 20), "MemoryError"),
+            ("all of a render together", lambda: tmpl.render({"m": "{{.}}" * 2_000 + "{{range 9999}}0123456789{{end}}"}, data=0, memory=300_000), "MemoryError"),
+            ("half a byte", lambda: templates.render(memory=1.5), ("TypeError", "memory is an int, not float", None)),
+            ("half a byte of text", lambda: templates.render(output=1.5), ("TypeError", "output is an int, not float", None)),
             ("no number of bytes", lambda: templates.render(memory=-1), ("ValueError", "memory is from 0 to 2^64 - 1", None)),
             ("no number of bytes of text", lambda: templates.render(output=1 << 64), ("ValueError", "output is from 0 to 2^64 - 1", None)),
         ]
         for name, call, wanted in cases:
-            try:
-                got = raised(call)
-            except MemoryError as error:
-                got = type(error).__name__
+            got = raised(call)
             yield f"a limit of memory: {name}", 1, [] if got == wanted else [f"    got {got}"]
     before = resource.getrusage(resource.RUSAGE_SELF).ru_maxrss
     got = came_of(lambda: tmpl.render_bytes({"m": "{{range 400000000}}0123456789{{end}}"}, output=1000))
     grown = resource.getrusage(resource.RUSAGE_SELF).ru_maxrss - before
-    wrong = [] if got == (6, b"0123456789" * 100, "tmpl: write failed") else [f"    got {got}"]
+    wrong = [] if got == (6, b"0123456789" * 100, "tmpl: more than 1000 bytes of output") else [f"    got {got}"]
     yield "a limit of the text bounds what is gathered", 1, wrong + [f"    it grew by {grown} kB"] * (grown > 4096)
 
 
@@ -370,8 +451,10 @@ def raised(call):
     """The error of a call: its kind, what it says, and where the data has a number that is refused."""
     try:
         return call()
-    except (tmpl.TemplateError, ValueError) as error:
+    except (tmpl.TemplateError, TypeError, ValueError) as error:
         return type(error).__name__, str(error), getattr(error, "where", None)
+    except MemoryError as error:
+        return type(error).__name__
 
 
 REFUSED_NUMBER = "tmpl: data: number not whole or out of range"
@@ -405,6 +488,62 @@ def judge_options():
         of_options.append((f"{name} {value}", lambda it={name: value}: tmpl.render(text, **it), ("ValueError", limits, None)))
     for name, got, wanted in [*cases, *((name, raised(call), wanted) for name, call, wanted in of_options)]:
         yield f"the wrapper: {name}", 1, [] if got == wanted else [f"    got {got}"]
+
+
+def subclassed():
+    """Templates of a class of one's own, whose __init__ calls none: it is empty, and can be filled and freed."""
+    own = type("Own", (tmpl.Templates,), {"__init__": lambda self, more: None})(5)
+    own.add("m", "{{.}}")
+    return own.render(data=7)
+
+
+def shared_data():
+    """Data that many threads render at the same time, that is copied, and that goes before its renders."""
+    data = tmpl.Data({"n": list(range(1000))})
+    with tmpl.Templates({"m": "{{len .n}} {{index .n 7}}"}) as templates, ThreadPoolExecutor(THREADS) as pool:
+        texts = set(pool.map(lambda _: templates.render(data=copy.deepcopy(copy.copy(data))), range(2000)))
+        del data
+        return texts, templates.render(data={"n": [0] * 8})
+
+
+def seconds_of(call, times):
+    before = time.process_time()
+    for _ in range(times):
+        call()
+    return (time.process_time() - before) / times
+
+
+def judge_objects():
+    """Copies, classes of one's own, values that are no text, and data that is kept."""
+    templates = tmpl.Templates({"m": "{{len .}}"})
+    large = ["x" * 30] * 20_000
+    kept = tmpl.Data(large)
+    dear, cheap = seconds_of(lambda: templates.render(data=large), 3), seconds_of(lambda: templates.render(data=kept), 30)
+    no_copy = "Templates are not copied: any number of threads use one object, and another process makes its own"
+    cases = [
+        ("copy", lambda: copy.copy(templates), ("TypeError", no_copy, None)),
+        ("deepcopy", lambda: copy.deepcopy([templates]), ("TypeError", no_copy, None)),
+        ("pickle", lambda: pickle.dumps(templates), ("TypeError", no_copy, None)),
+        ("what was not copied", lambda: templates.render(data=[1]), "1"),
+        ("a class of one's own", subclassed, "7"),
+        ("a number as a file", lambda: tmpl.render({"a": 5}), ("TypeError", "a file is a str or bytes, not int", None)),
+        ("a number as a file that is checked", lambda: tmpl.check({"a": 5}), ("TypeError", "a file is a str or bytes, not int", None)),
+        ("a number as a path", lambda: tmpl.render([(5, "")]), ("TypeError", "a path is a str or bytes, not int", None)),
+        ("a number as a name", lambda: templates.render(5), ("TypeError", "a name is a str or bytes, not int", None)),
+        ("an option that is not there", lambda: isinstance(raised(lambda: tmpl.render({"a": ""}, memroy=5)), tuple), True),
+        ("half a step", lambda: raised(lambda: tmpl.render({"a": ""}, steps=1.5))[0], "TypeError"),
+        ("data that is kept", lambda: templates.render(data=tmpl.Data([1, 2])), "2"),
+        ("data of a render of files", lambda: tmpl.render({"m": "{{.}}"}, data=tmpl.Data(b"7")), "7"),
+        ("floats of data that is kept", lambda: templates.render(data=tmpl.Data([0.5], floats="text")), "1"),
+        ("a float of data that is kept", lambda: tmpl.Data([0.5]), ("TemplateError", f"{REFUSED_NUMBER} (.0)", ".0")),
+        ("data of threads", shared_data, ({"1000 7"}, "8 0")),
+        ("data is pickled", lambda: raised(lambda: pickle.dumps(kept))[0], "TypeError"),
+        ("data that is kept is not read again", lambda: cheap * 20 < dear, True),
+    ]
+    for name, call, wanted in cases:
+        got = raised(call)
+        yield f"the wrapper: {name}", 1, [] if got == wanted else [f"    got {got}"]
+    print(f"data of 20,000 strings: {1000 * dear:.2f} ms a render as a list, {1000 * cheap:.3f} ms as Data")
 
 
 # files, data, and the file, the line and the template that an error names
@@ -493,11 +632,9 @@ def judge_c(folder):
     counts = re.search(r"^(\d+) cases, 0 failed$", said, re.MULTILINE)
     few = not counts or int(counts[1]) < LEAST_CASES
     yield "tests/check/library.c", int(counts[1]) if counts else 1, [f"    {said}"] if status or few else []
-    if shutil.which("valgrind"):
+    if not tools.lack("valgrind", "tests/check/library.c under it"):
         status, said = ran("valgrind", "-q", "--error-exitcode=9", "--leak-check=full", program, "few")
         yield "tests/check/library.c under valgrind", 1, [f"    {said}"] if status else []
-    else:
-        print("valgrind is not there")
 
 
 MISTAKES_IN_CPP = 'n:1:1: error: action not understood: no function "name": write .name|'
@@ -513,7 +650,13 @@ CALLS_IN_CPP = [
     'refused: 4 "tmpl: n:1: unclosed or unreadable action" after ""',
     f'problems: {len(MISTAKES_IN_CPP)} {MISTAKES_IN_CPP[:40]}',
     "no problems: 1 0",
-    'a short text: 6 "tmpl: write failed" after "Hello, Ad"',
+    'a short text: 6 "tmpl: more than 9 bytes of output" after "Hello, Ad"',
+    "the parts of a problem: 46 b:1:1: error: out of place: c|2|10|open-",
+    "the place of an error: 5 n|2|2",
+    "many problems: 6 1000 7",
+    "data that is constant: 18 Hello, a constant!",
+    "little memory: no memory",
+    "a large text is given back: 5 it is",
     'no name of a file: 2 "tmpl: arguments refused; see tmpl --help" after ""',
     'no JSON: 5 "tmpl: data: number not whole or out of range" after ""',
     "moved: 9 Ada again",
@@ -553,7 +696,7 @@ def judge_cpp(folder):
     lines = said.split("\n")
     wrong += [f"    got {got[:200]}" for got, wanted in zip(lines, CALLS_IN_CPP) if got != wanted]
     yield "tests/check/library.cc", len(CALLS_IN_CPP), wrong + [f"    {status}: {len(lines)} lines"] * ((status, len(lines)) != (0, len(CALLS_IN_CPP) + 2))
-    if shutil.which("valgrind") and not wrong:
+    if not wrong and not tools.lack("valgrind", "tests/check/library.cc under it"):
         status, said = ran("valgrind", "-q", "--error-exitcode=9", "--leak-check=full", program, "few")
         yield "tests/check/library.cc under valgrind", 1, [f"    {said}"] if status else []
 
@@ -589,9 +732,11 @@ def judge_header(folder):
             program, wrong = compiled(folder, f"{language}-{kind}", [*compiler, *WARNINGS], *flags, f"{folder}/{file}", *words)
             got = (1, "") if wrong else ran(program)
             yield f"the header in {language}, {kind}", 1, wrong or ([] if got == (0, "0 [1 2]\n") else [f"    got {got}"])
-    if shutil.which("pkg-config"):
+    if not tools.lack("pkg-config", "tmpl.pc"):
         environment = {**os.environ, "PKG_CONFIG_PATH": f"{root}/usr/lib/pkgconfig"}
         got = ran("pkg-config", "--cflags", "--libs", "--define-variable=prefix=/opt/x", "tmpl", env=environment)
+        modern = ran("pkg-config", "--modversion", "tmpl", env=environment)
+        yield "the version by pkg-config", 1, [] if modern == (0, f"{tmpl.__version__}\n") else [f"    got {modern}"]
         yield "pkg-config", 1, [] if got == (0, "-I/opt/x/include -L/opt/x/lib -ltmpl \n") or got == (0, "-I/opt/x/include -L/opt/x/lib -ltmpl\n") else [f"    got {got}"]
     status, said = ran("make", "-s", "-C", harness.TOP, "uninstall", f"DESTDIR={root}", "PREFIX=/usr")
     left = [name for _, folders, names in os.walk(root) for name in folders + names]
@@ -640,7 +785,8 @@ def judge_marks():
 def judge_version():
     """That the library says which build it is, with the logic of this toolchain."""
     logic = re.search(r"logic ([0-9a-f]+)", ran("rt", "version")[1])[1]
-    wanted = rf"tmpl (0~git\d+\.[0-9a-f]{{12}}(\+changed)?|of no commit) proved by the logic {logic} of \S.*"
+    how = "for tests alone, beside" if OUT == FOR_TESTS else "proved by"
+    wanted = rf"tmpl \d+\.\d+\.\d+(~git\d+\.[0-9a-f]{{12}}(\+changed)?| of (commit [0-9a-f]{{12}}|no commit)) {how} the logic {logic} of \S.*"
     said = tmpl.version()
     return "which build it is", 1, [] if re.fullmatch(wanted, said) else [f"    it says {said}"]
 
@@ -689,8 +835,7 @@ def with_dask():
 def letters_by_dask(folder):
     """Runs examples/letters.py, also with a worker that is killed: every letter must be there, once, and be that of the rules."""
     python = with_dask()
-    if not python:
-        print("examples/letters.py is left out, since Dask's scheduler is not there")
+    if tools.lack("distributed", "examples/letters.py", bool(python)):
         return
     wanted = b"".join(letter(it) for it in range(LETTERS))
     environment = {**os.environ, "LIBTMPL": f"{OUT}/libtmpl.so", "PYTHONPATH": f"{BINDINGS}/python"}
@@ -752,8 +897,7 @@ TOOLS = {"go": ("go", ["go", "test", "-race", "./..."]), "rust": ("cargo", ["car
 def judge_bindings(folder):
     """The tests and the programs of the bindings whose tools are installed."""
     for language, (tool, words) in TOOLS.items():
-        if not shutil.which(tool):
-            print(f"{tool} is not there, so the binding for {language} is not tried")
+        if tools.lack(tool, f"the binding for {language}"):
             continue
         home = f"{folder}/binding-{language}"
         shutil.copytree(f"{BINDINGS}/{language}", home, ignore=shutil.ignore_patterns("target"))
@@ -767,9 +911,7 @@ def judge_bindings(folder):
 
 def main(words):
     global tmpl
-    status, said = ran("make", "-s", "-C", harness.TOP, "lib")
-    if status:
-        print(said)
+    if not choose():
         return harness.closing(0, 1)
     with tempfile.TemporaryDirectory() as folder:
         if words == ["--bindings"]:
@@ -795,7 +937,7 @@ def main(words):
         told = harness.tally(map(judge_limits, [call for call in small if call.row.status in (tmpl.OK, tmpl.FAULT)]))
         failed += told[1] + harness.too_few("renders with a limit of the text", told[2], LEAST_LIMITS)
         passed += told[0]
-        results = [*judge_checks(), *judge_memory(), *judge_keys(folder), *judge_names(), *judge_refusals(), *judge_wrapper(), *judge_options(), *judge_c(folder), *judge_stack(folder), *judge_cpp(folder), *judge_header(folder)]
+        results = [*judge_checks(), *judge_problems(), *judge_objects(), *judge_memory(), *judge_keys(folder), *judge_names(), *judge_refusals(), *judge_wrapper(), *judge_options(), *judge_c(folder), *judge_stack(folder), *judge_cpp(folder), *judge_header(folder)]
         results += [judge_names_of(f"{OUT}/libtmpl.so"), judge_names_of(f"{OUT}/libtmpl.a"), judge_version(), judge_marks()]
         results += [judge_wheel(folder)]
         results += [judge_program(folder, *it) for it in programs() if it[0] in ("c", "cpp", "python")]

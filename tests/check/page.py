@@ -1,7 +1,8 @@
 """Tries the page that `make web` makes, in a Chromium without a window, from its file: the rows that are calls, of up to 64 kB; what is
 typed, file by file, and by keys alone; each example; the line of a fault and its mark; an endless template; 10 MB of data; a link, which
 another page opens; what is kept; that nothing is fetched or sent; that each control has a name; and that a narrow page needs no scrolling
-to the side. And it is loaded from a server. web.py calls it. `page.py FOLDER` draws the page there: light, dark, with a fault and on a phone."""
+to the side. And it is loaded from a server. web.py calls it. `page.py FOLDER` draws the page there: light, dark, with an example, with a
+fault and on a phone. Its page.png, in 64 colours, is docs/page.png."""
 import base64
 import functools
 import http.server
@@ -65,20 +66,26 @@ def as_json(call):
 
 OWN = ("file:", "blob:", "data:", "about:", "http://127.0.0.1:")  # addresses of the page and its parts
 REFUSED = "void ((globalThis.refused = []), addEventListener('securitypolicyviolation', (it) => refused.push(it.effectiveDirective)))"
-SENDERS = ["fetch", "Image", "WebSocket", "EventSource", "script", "iframe"]
-# tries to send something in one of these ways
+# ways to send something, each with the directive of the policy that refuses it
+SENDERS = {
+    **dict.fromkeys(("fetch", "WebSocket", "EventSource"), "connect-src"), "Image": "img-src", "script": "script-src-elem", "iframe": "frame-src",
+}
+# tries to send something in one of these ways: the directives that refused it, and whether it was sent. That it failed says nothing of the policy.
 SEND = """((how) => new Promise((end) => {
-    const done = { onload: () => end("sent"), onopen: () => end("sent"), onerror: () => end("refused") };
+    let wasSent = false;
+    refused.length = 0;
+    setTimeout(() => end(refused.join() + (wasSent ? ", and it was sent" : "")), 500);
+    const sent = () => (wasSent = true);
+    const done = { onload: sent, onopen: sent };
     const address = "https://example.org/?secret";
     try {
-        if (how === "fetch") fetch(address).then(done.onload, done.onerror);
+        if (how === "fetch") fetch(address).then(sent, () => 0);
         else if (how === "WebSocket") Object.assign(new WebSocket(address.replace("https", "wss")), done);
         else if (how === "EventSource") Object.assign(new EventSource(address), done);
         else if (how === "Image") Object.assign(new Image(), done, { src: address });
-        else document.body.append(Object.assign(document.createElement(how), how === "iframe" ? {} : done, { src: address }));
-        if (how === "iframe") setTimeout(() => end(refused.includes("frame-src") ? "refused" : "sent"), 500); // it loads a page of errors
+        else document.body.append(Object.assign(document.createElement(how), how === "iframe" ? {} : done, { src: address })); // a frame loads a page of errors
     } catch {
-        end("refused");
+        // a refusal is told of all the same
     }
 }))"""
 
@@ -289,8 +296,9 @@ def judge_policy(page):
     logged = [it["params"]["entry"] for it in told if it.get("method") == "Log.entryAdded"]
     wrong += [f"    it logged {it}" for it in logged if it["level"] == "error"]
     page.browser.value(f"{REFUSED}")
-    wrong += [f"    {it}: it is not refused" for it in SENDERS if page.browser.value(f"{SEND}({json.dumps(it)})") != "refused"]
-    wrong += page.is_so("new Set(refused).size >= 3")
+    for way, directive in SENDERS.items():
+        got = page.browser.value(f"{SEND}({json.dumps(way)})")
+        wrong += [] if got == directive else [f"    {way}: refused by {got or 'nothing'}, not by {directive}"]
     return "nothing is sent", len(SENDERS), wrong
 
 
@@ -342,6 +350,7 @@ def look(to):
         page.choose("example", "library")
         page.comes(next(it for it in harness.read_examples() if it.name.endswith("library")).out.decode())
         browser.look(f"{to}/example.png")
+        browser.look(f"{to}/page.png", width=1200, height=760)
         page.put("template", "{{range .}}\n{{if}}\n{{end}}")
         page.is_so("!document.getElementById('mark').hidden")
         for name, how in (("fault", {}), ("fault-dark", dark), ("fault-phone", phone)):

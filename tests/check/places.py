@@ -1,7 +1,7 @@
-"""Runs the built program over every short list of actions, and compares where and why each is refused with
-the rules told directly, by stretches of the list, as docs/LANGUAGE.md has them. Each action stands on a
-line of its own. Then it runs longer lists, whose lines were worked out by hand. `places.py N` goes up to lists of N
-actions, the longest of them of fewer kinds. TMPL=PATH names another build."""
+"""Runs the program over every short list of actions, and compares each refusal with the rules stated a second time. They are stated by
+stretches of the list, as docs/LANGUAGE.md has them, and share no code with the program. Each action stands on a line of its own. Then it
+runs longer lists, whose lines were worked out by hand. `places.py N` goes up to lists of N actions, the longest of them of fewer kinds.
+TMPL=PATH names another build."""
 import itertools
 import re
 import sys

@@ -1,10 +1,12 @@
-"""Tries the program and the C library in the places to which `make static` and `make aarch64` bring them. Each row of tests/rows goes
-through the static program, as rendered.py has it; some go through it on a processor that has nothing beyond the first x86-64. In a root without
-any other file it renders an example. What is for aarch64 runs by QEMU: the rows that are calls, and 20,000 changed ones, go through the
+"""Runs the rows through what `make static` and `make aarch64` build, and makes the packages twice. Each row of tests/rows goes through the
+static program, as rendered.py has it; some go through it on a processor that has nothing beyond the first x86-64. In a root without any
+other file it renders an example. What is for aarch64 runs by QEMU: the rows that are calls, and 20,000 changed ones, go through the
 library, by asked.c, where the text and the line of a changed one must be those of the library that is built here; the other rows, and every
 eighth of those, go through the program. With --long all of them do. The packages of both are made twice, and must have the same bytes.
 
-What needs a program that is not installed is left out, and counted."""
+What needs a program that is not installed is left out, with a line that says so. Where nothing is tried but the static programs, and those of
+`make static` are not up to date, they are linked of the objects that the check of the programs left: these are proved too, but for x86-64-v2,
+and stand in out/tests/packages."""
 import json
 import multiprocessing
 import os
@@ -14,14 +16,16 @@ import subprocess
 import sys
 import tempfile
 
-from tests.check import asked, rendered
-from tests.lib import harness
+from tests.check import rendered
+from tests.lib import harness, tools
 
 PORTS = f"{harness.TOP}/packaging/out"
+PORTS_FOR_TESTS = f"{harness.TOP}/out/tests/packages"
 CHANGED = 20_000
 SOME = 16  # each this many rows go through the static program on an old processor
 CALLS = 8  # each this many rows that are calls go through the program for aarch64
-LEAST = 1500  # rows of a program
+LEAST = 1500  # rows that there are
+LEAST_OLD, LEAST_ARM = LEAST // SOME, 300  # .. of these for an old processor, and for aarch64
 HELLO = f"{harness.TOP}/examples/hello"
 IMAGE = re.compile(r"^```dockerfile\n(FROM scratch\n.*?)^```$", re.MULTILINE | re.DOTALL)
 
@@ -52,15 +56,15 @@ def judge_row(row):
     return rendered.check(RUNNER, row)
 
 
-def judge_rows(what, program, rows):
-    """Rows through a program, in as many processes as there are processors."""
+def judge_rows(what, program, rows, least):
+    """Rows, of which there are at least so many, through a program, in as many processes as there are processors."""
     harness.PROGRAM = program
     with multiprocessing.get_context("fork").Pool(harness.processes(), start) as pool:
         wrong = [f"    {row.name}: {line}" for row, lines in zip(rows, pool.map(judge_row, rows, chunksize=8)) for line in lines]
         pool.close()
         pool.join()
     print(f"{len(rows)} rows went through {what}")
-    return what, len(rows), wrong
+    return what, len(rows), wrong + [f"    these are fewer than {least}"] * (len(rows) < least)
 
 
 def by_qemu(folder, name, machine, program, *flags):
@@ -123,6 +127,8 @@ def judge_image(folder, way, program):
 
 def judge_library(folder):
     """The library for aarch64, held to the rows and to what the one that is built here says."""
+    from tests.check import asked  # it takes the library that is built here
+
     calls = asked.of_rows()
     rows = asked.write(f"{folder}/rows", calls)
     changes = asked.write(f"{folder}/changes", asked.of_changes(calls, CHANGED))
@@ -162,48 +168,53 @@ def judge_packages(port):
 
 def of_arm(rows, is_long):
     """The rows that go through the program for aarch64."""
+    from tests.check import asked
+
     calls = {it.name for it in rows if asked.library.call_of(it)}
     some = {name for name in sorted(calls)[::CALLS]}
     return [it for it in rows if is_long or it.name in some or it.name not in calls]
 
 
-def parts(folder, skip, is_long):
-    """All results. What is left out is told to `skip`."""
+def is_tried(emulator, compiler):
+    """Whether what runs by this emulator is tried."""
+    has_compiler = not compiler or not tools.lack(compiler, "what is for aarch64, which is not built")
+    return has_compiler and not tools.lack(emulator, f"what it runs, {'for aarch64' if compiler else 'on the first x86-64'}")
+
+
+def parts(folder, is_old, is_arm, is_long):
+    """All results."""
     static, arm, rows, way = f"{PORTS}/static/tmpl", f"{PORTS}/aarch64/tmpl", harness.read_rows(), way_into_roots()
-    yield judge_rows("the static program", static, rows)
+    yield judge_rows("the static program", static, rows, LEAST)
     yield judge_packages("static")
-    if way:
+    if not tools.lack("chroot", "the programs in a root of their own, which may not be made", bool(way)):
         yield judge_root(folder, way, static, "the static program")
         yield judge_image(folder, way, static)
-    else:
-        skip("no program may be run in another root here")
-    if shutil.which("qemu-x86_64"):
+    if is_old:
         old = by_qemu(folder, "old", "qemu-x86_64", static, '-DCPU="qemu64"')
-        yield judge_rows("the static program, on the first x86-64", old, rows[::SOME])
-    else:
-        skip("qemu-x86_64 is not there, so no older processor was tried: install qemu-user")
-    if not shutil.which("aarch64-linux-gnu-gcc"):
-        skip("aarch64-linux-gnu-gcc is not there, so nothing was built for aarch64: install gcc-aarch64-linux-gnu and libc6-dev-arm64-cross")
-        return
-    if not shutil.which("qemu-aarch64"):
-        skip("qemu-aarch64 is not there, so what is for aarch64 was not run: install qemu-user")
-        return
-    yield judge_packages("aarch64")
-    yield judge_rows("the program for aarch64", by_qemu(folder, "arm", "qemu-aarch64", arm), of_arm(rows, is_long))
-    yield judge_library(folder)
+        yield judge_rows("the static program, on the first x86-64", old, rows[::SOME], LEAST_OLD)
+    if is_arm:
+        yield judge_packages("aarch64")
+        yield judge_rows("the program for aarch64", by_qemu(folder, "arm", "qemu-aarch64", arm), of_arm(rows, is_long), LEAST_ARM)
+        yield judge_library(folder)
+
+
+def build(is_old, is_arm):
+    """Has make build what is tried. Whether it did."""
+    global PORTS
+    is_proved = is_old or is_arm or ran("make", "-q", "-C", harness.TOP, "static")[0] == 0
+    if not is_proved:
+        os.environ["FOR_TESTS"], PORTS = "1", PORTS_FOR_TESTS
+    status, said = ran("make", "-s", "-C", harness.TOP, "static", *["aarch64", "lib"] * is_arm)
+    print("for each processor" if is_proved else "of the objects of the proved programs, for x86-64-v2", said * bool(status), sep="\n")
+    return not status
 
 
 def main(words):
-    targets = ["static", *["aarch64"] * bool(shutil.which("aarch64-linux-gnu-gcc")), "lib"]
-    status, said = ran("make", "-s", "-C", harness.TOP, *targets)
-    if status:
-        print(said)
+    is_old, is_arm = is_tried("qemu-x86_64", None), is_tried("qemu-aarch64", "aarch64-linux-gnu-gcc")
+    if not build(is_old, is_arm):
         return harness.closing(0, 1)
-    skipped = []
     with tempfile.TemporaryDirectory() as folder:
-        passed, failed, runs = harness.tally(parts(folder, skipped.append, words == ["--long"]))
-    failed += harness.too_few("cases were run", runs, LEAST)
-    print(*(f"skipped: {it}" for it in skipped), f"{len(skipped)} parts were skipped", sep="\n")
+        passed, failed, _ = harness.tally(parts(folder, is_old, is_arm, words == ["--long"]))
     return harness.closing(passed, failed)
 
 

@@ -1,12 +1,12 @@
-"""Reads every front of every template and data file of the rows and examples: its first n bytes, for each n, of files of up to 20,000
-bytes whole. Of longer ones, whose fronts are too many bytes (those of 16 MiB are 1.4e14), it reads the first 2,000, and where they have up
-to 1,048,576 bytes 16 that lie evenly after these, and the last 4 before the whole file. `prefixes.py --long` reads all those of files of up
-to 262,144 bytes, and these 20 of all longer ones, and `--some` those of each 16th file. They are read in memory, many in one process, by the probe. What a front comes
-to is told by meaning.py and reading.py, which share no code with the program: a template is refused at a line for a reason, or runs over
-the row's data to a text and an end; data is refused, or put out whole by `{{.}}`. That data of more than 1,000 bytes whose first bracket
-or quote is not closed by its last byte is no JSON is told without reading it. Of the fronts of a file of more than
-1,000 bytes that are accepted, of which meaning.py is slow to tell, it tells each 64th and the last, and none of those after the first
-2,000 of a file of more than 20,000; the others must be accepted."""
+"""Reads every prefix of every template and data file of the rows and examples. Of files of up to 20,000 bytes these are all; of longer
+ones, whose prefixes are too many bytes (those of 16 MiB are 1.4e14), it reads the first 2,000, and where they have up to 1,048,576 bytes 16
+that lie evenly after these, and the last 4 before the whole file. `prefixes.py --long` reads all those of files of up to 262,144 bytes, and
+these 20 of all longer ones, and `--some` those of each 16th file. They are read in memory, many in one process, by the probe. What a front
+comes to is told by meaning.py and reading.py, which share no code with the program: a template is refused at a line for a reason, or runs
+over the row's data to a text and an end; data is refused, or put out whole by `{{.}}`. That data of more than 1,000 bytes whose first
+bracket or quote is not closed by its last byte is no JSON is told without reading it. Of the fronts of a file of more than 1,000 bytes that
+are accepted, of which meaning.py is slow to tell, it tells each 64th and the last, and none of those after the first 2,000 of a file of
+more than 20,000; the others must be accepted."""
 import bisect
 import itertools
 import os

@@ -1,8 +1,7 @@
-"""Prints each set of the rows and examples and of random ones by `--print`. The bytes must be those that reading.py tells, which
-shares no code with the program, and where a set is refused, so must be the file, the line and the reason. Then what was printed
-is read: under the name of the first file it must be printed as the same bytes, and rendered with the same data to the same
-status and output, with a line that differs in where it says that the run stopped alone. `printing.py COUNT SEED` draws others.
-TMPL=PATH names another build."""
+"""Prints each set of the rows and examples, and random ones, by `--print`, and reads them again. The bytes must be those of reading.py,
+which shares no code with the program, and where a set is refused, so must be the file, the line and the reason. Then what was printed is
+read: under the name of the first file it must be printed as the same bytes, and rendered with the same data to the same status and output,
+with a line that differs in where it says that the run stopped alone. `printing.py COUNT SEED` draws others. TMPL=PATH names another build."""
 import json
 import os
 import re

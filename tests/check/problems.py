@@ -1,4 +1,4 @@
-"""Runs tmpl-check over files with what is wrong in them, worked out by hand, and holds it against tmpl on random files.
+"""Runs tmpl-check over files and data whose findings were worked out by hand, and compares it with tmpl on random files.
 
 The first error must be at the line and of the reason that tmpl tells, and there must be one exactly where tmpl refuses the file. What is
 put out as SARIF is held against the rules of its specification, which `sarif_faults` names by their sections.
@@ -7,12 +7,12 @@ import json
 import os
 import random
 import re
-import shutil
 import subprocess
 import sys
 import tempfile
 import urllib.parse
 
+from tests.lib import tools
 from tests.lib.harness import CHECKER as CHECK
 from tests.lib.harness import PROGRAM as TMPL
 from tests.lib.harness import ROWS as NAMED
@@ -22,6 +22,7 @@ from tests.rows.problem_rows import DATA, FILES, HIDDEN, ROWS
 LINE = re.compile(r"(.+?):([1-9][0-9]*):([1-9][0-9]*): (error|warning): (.*)")
 
 # what actions are drawn of: openings, parts, ends, good actions, and mistakes of each kind
+LEAST_REFUSED = 700  # allocations of four runs
 PIECES = ["{{if .a}}", "{{with $x := .a}}", "{{range $i, $e := .l}}", "{{else}}", "{{else if .b}}", "{{else with .b}}", "{{end}}", "{{end}}",
           "{{end}}", '{{define "t"}}', '{{block "b" .}}', '{{template "t" .}}', "{{break}}", "{{continue}}", "{{.a}}", "{{$x}}", "{{$x := 1}}",
           "{{$e}}", "{{$i = 2}}", "{{print 1 | len}}", "text", " \n ", "{{- .a -}}", "{{/* c */}}"]
@@ -207,8 +208,7 @@ def version(folder, failures):
     """`--version` says what `make install` writes into the program, and in a checkout that nothing is written there."""
     untold = b"tmpl-check of a checkout: make install writes into it which build it is\n"
     hold("--version", "in a checkout", (0, untold, b""), run(CHECK, ["--version"], folder), failures)
-    if not shutil.which("objcopy"):
-        print("objcopy is not there: no build is written into a copy of the program")
+    if tools.lack("objcopy", "a build that is written into a copy of the program"):
         return
     for given, told in [("tmpl 0~git1 proved by the logic 2 of kit-3\n", b"tmpl-check of tmpl 0~git1 proved by the logic 2 of kit-3\n"),
                         ("x" * 5000, b"tmpl-check of " + b"x" * 5000 + b"\n"), (b"\xff", untold)]:
@@ -262,6 +262,7 @@ def words(folder, failures):
         with open("/dev/full", "wb") as full:
             ended = subprocess.run([CHECK, *given], cwd=folder, stdout=subprocess.DEVNULL, stderr=full, timeout=SECONDS, check=False)
         hold(" ".join(given), "status where errors cannot be written", wanted, ended.returncode, failures)
+    hold("a folder", "error line", b"tmpl-check: .: can't be read: is a directory\n", run(CHECK, ["."], folder)[2], failures)
     write(folder, "over", '{{template "t"}}')
     hold("a template of another file", "lines", b"", run(CHECK, ["over", "n"], folder)[1], failures)
     hold("a name that is not there", "lines", b'over:1:1: warning: no file defines the template "x" of --name\n',
@@ -302,6 +303,7 @@ def refused_memory(folder, failures):
             if not was_there:
                 break
             total += 1
+    hold("allocations refused", f"at least {LEAST_REFUSED}", True, total >= LEAST_REFUSED, failures)
     print(f"allocations refused: {total}")
 
 

@@ -1,8 +1,8 @@
-"""Quotes texts by the templates of examples/quotes, and has each quote read by the real reader of its format: a shell, sqlite3,
-Python's csv, json and html.parser, and tomllib, PyYAML and nginx where they are there; for nginx and systemd also by their rules,
-written below. What is read must be the text again, to the byte. The texts are hostile: quotes, newlines, each byte, random ones,
-ill-formed ones where the format takes any bytes, and one of 600 kB, in a time that grows as its length. What has no quote must be
-refused with its reason. TMPL=PATH names another build."""
+"""Quotes hostile texts by the templates of examples/quotes, and has each quote read by a reader of its format. These are a shell, sqlite3,
+Python's csv, json and html.parser, and tomllib, PyYAML and nginx where they are there; for nginx and systemd also by their rules, written
+below. What is read must be the text again, to the byte. The texts are hostile: quotes, newlines, each byte, random ones, ill-formed ones
+where the format takes any bytes, and one of 600 kB, in a time that grows as its length. What has no quote must be refused with its reason.
+TMPL=PATH names another build."""
 import csv
 import html.parser
 import io
@@ -11,7 +11,6 @@ import os
 import random
 import re
 import resource
-import shutil
 import socket
 import sqlite3
 import subprocess
@@ -19,7 +18,7 @@ import sys
 import tempfile
 import time
 
-from tests.lib import harness
+from tests.lib import harness, tools
 
 try:
     import tomllib
@@ -259,7 +258,7 @@ def answered(path, number):
 
 def nginx_cases():
     """Texts that nginx itself reads as parameters and answers, where it is there: each at a place of its own."""
-    if not shutil.which("nginx"):
+    if tools.lack("nginx", "what it reads of quoted texts"):
         return
     them = [it for it in [*texts(), *ill_formed()] if not any((sign if isinstance(it, str) else sign.encode()) in it for sign in "\0$")]
     places = [b"location = /%d { return 200 %s; }" % (at, rendered("nginx", it)[1]) for at, it in enumerate(them)]
@@ -352,6 +351,8 @@ def main():
     global RUNNER
     if not harness.is_built():
         return harness.closing(0, 1)
+    for name in ("tomllib", "yaml"):
+        tools.lack(name, "what it reads of quoted texts")
     csv.field_size_limit(1 << 24)
     RUNNER = harness.Runner()
     for file in FILES:

@@ -1,8 +1,7 @@
-"""Draws random sets of templates with data and options, renders them by the built program, and compares the output, the errors
-and the status with what meaning.py tells, which shares no code with the program. Before that meaning.py is held against the rows:
-what it tells of each must be what was worked out by hand. Each kind of fault of the tables of docs/COMMAND.md must come, and half
-of the draws must be accepted and run. They are the same each time; `random_sets.py COUNT SEED` draws others, from this seed on. TMPL=PATH
-names another build."""
+"""Renders random sets of templates with data and options, and compares the result with the rules stated a second time. Those are
+meaning.py, which shares no code with the program. Before that meaning.py is held against the rows: what it tells of each must be what was
+worked out by hand. Each kind of fault of the tables of docs/COMMAND.md must come, and half of the draws must be accepted and run. They are
+the same each time; `random_sets.py COUNT SEED` draws others, from this seed on. TMPL=PATH names another build."""
 import collections
 import gc
 import json

@@ -1,5 +1,5 @@
-"""Runs the built program over each row of tests/rows and each example, and compares its output, its
-errors and its status. TMPL=PATH runs another build of the program."""
+"""Runs the program over each row of tests/rows and each example, and compares its output, its errors and its exit status. TMPL=PATH runs
+another build of the program."""
 import sys
 
 from tests.lib import harness

@@ -1,5 +1,6 @@
 /* How much stack the calls of the library take with the deepest inputs. `stack KB` makes each call in a thread whose stack has so many
-   kilobytes, of which each byte is marked before, and puts out a line for each: what it was, its status, and how many kilobytes it wrote to.
+   kilobytes, of which each byte is marked before, and puts out a line for each: what it was, its status, FAILED where that is not the one
+   that the rules give, and how many kilobytes it wrote to.
    A call that needs more ends the program. */
 #include "tmpl.h"
 #include <pthread.h>
@@ -53,10 +54,16 @@ static int free_all(const struct input *it) {
     return (void)it, TMPL_OK;
 }
 
+/* Each call, and which statuses of the whole it answers itself: where a file is refused the set stays empty, and where data is refused there
+   is none, so what is printed, made and freed is well, and a render then has no template or no data. */
 static const struct {
     const char *name;
     int (*call)(const struct input *it);
-} calls[] = {{"check", check}, {"add", add}, {"print", print}, {"make", make}, {"read", read_data}, {"render", render}, {"all", render_all}, {"free", free_all}};
+    unsigned answers;
+} calls[] = {
+    {"check", check, 1u << TMPL_REFUSED}, {"add", add, 1u << TMPL_REFUSED}, {"print", print, 0}, {"make", make, 0}, {"read", read_data, 1u << TMPL_DATA},
+    {"render", render, 1u << TMPL_REFUSED | 1u << TMPL_FAULT}, {"all", render_all, ~0u}, {"free", free_all, 0},
+};
 enum { CALLS = sizeof calls / sizeof *calls };
 
 struct job {
@@ -107,8 +114,8 @@ int main(int argc, char **argv) {
         for (int number = 0; number < CALLS; number++) {
             struct job job = {calls[number].call, inputs + i, -1};
             size_t used = used_by(&job, memory + PAGE, size);
-            int is_render = calls[number].call == render_all;
-            printf("%s of %s: %d%s, %zu kB\n", calls[number].name, inputs[i].name, job.status, is_render && job.status != inputs[i].status ? " FAILED" : "", used / 1024);
+            int wanted = calls[number].answers >> inputs[i].status & 1 ? inputs[i].status : TMPL_OK;
+            printf("%s of %s: %d%s, %zu kB\n", calls[number].name, inputs[i].name, job.status, job.status != wanted ? " FAILED" : "", used / 1024);
             fflush(stdout);
         }
     return 0;

@@ -1,8 +1,7 @@
-"""Runs the built program over what tables accept and make of each letter, byte and name, and compares that with the
-rules told directly, as docs/LANGUAGE.md has them: what stands after a backslash in strings and characters, each byte
-through `html`, `urlquery` and the quote, words that are a function's name but for a letter, actions of one byte and of
-two, each byte between quotes, numbers, actions that are none, and the calls of functions.py. It shares no code with the
-program. TMPL=PATH names another build."""
+"""Runs the program over each byte, escape, name and call of functions, and compares the output with the rules stated a second time. These
+are as docs/LANGUAGE.md has them: what stands after a backslash in strings and characters, each byte through `html`, `urlquery` and the
+quote, words that are a function's name but for a letter, actions of one byte and of two, each byte between quotes, numbers, actions that
+are none, and the calls of functions.py. It shares no code with the program. TMPL=PATH names another build."""
 import itertools
 import re
 import sys

@@ -1,12 +1,12 @@
-"""Has tmpl-check check templates against one schema, by each mode for missing keys, and compares the verdicts with those worked out by hand:
-the proof says that an accepted template never fails, and a check that refuses all would keep it. Then each accepted template is rendered over
-data of the schema, by each mode, and must end well, or at the call of `stop`; and each that is refused over data of the schema for which it
-fails.
+"""Has tmpl-check check templates against schemas, compares the verdicts with those worked out by hand, and renders what it accepts. First
+come templates over one schema, by each mode for missing keys: the proof says that an accepted template never fails, and a check that
+refuses all would keep it. Then each accepted template is rendered over data of the schema, by each mode, and must end well, or at the call
+of `stop`; and each that is refused over data of the schema for which it fails.
 
 Then it is held to rows over a JSON Schema each, and to random ones: a template that it accepts is rendered over values that conform, and
-none may fail; over each value that it shows tmpl must fail, at that line and as it is told, and the value must conform. Where it tells a line of
-the schema and that is mended, it must say the same no more. Schemas that it infers are held to rows and to random samples, which must
-conform. `verdicts.py SEED COUNT` draws others. Where the Python package jsonschema is installed, what conforms is held to it."""
+none may fail; over each value that it shows tmpl must fail, at that line and as it is told, and the value must conform. Where it tells a
+line of the schema and that is mended, it must say the same no more. Schemas that it infers are held to rows and to random samples, which
+must conform. `verdicts.py SEED COUNT` draws others. Where the Python package jsonschema is installed, what conforms is held to it."""
 import itertools
 import json
 import os
@@ -17,7 +17,7 @@ import subprocess
 import sys
 import tempfile
 
-from tests.lib import conforming, harness
+from tests.lib import conforming, harness, tools
 from tests.rows import schema_rows
 
 try:
@@ -60,9 +60,9 @@ DATA = [
 ]
 NOTE = re.compile(r"(t:[0-9]+:[0-9]+): note: fails (?:with --missingkey ([a-z]+) )?for (.*)")
 ABSENT = re.compile(r'(t:[0-9]+:[0-9]+: error: may fail: \.)([a-z]+) (may be absent: )(?:not in|no) "(required|properties)" (?:of|at) s:(?P<line>[0-9]+)\n')
-KIND = re.compile(r"(t:[0-9]+:[0-9]+: error: may fail: .* (?:of|over) )(null|a truth value|a number|a text|a list)(, which may come here) \(s:(?P<line>[0-9]+)\).*\n")
+KIND = re.compile(r"(t:[0-9]+:[0-9]+: error: may fail: .* (?:of|over) )(null|a boolean|a number|a text|a list)(, which may come here) \(s:(?P<line>[0-9]+)\).*\n")
 FEW = re.compile(r'(t:[0-9]+:[0-9]+: error: may fail: "([a-z]+)" may get a list of too few items: )(?:no )?"minItems" at s:(?P<line>[0-9]+)[; ].*("minItems": ([0-9]+)\n)')
-TYPES = {"null": ["null"], "a truth value": ["boolean"], "a number": ["integer", "number"], "a text": ["string"], "a list": ["array"]}
+TYPES = {"null": ["null"], "a boolean": ["boolean"], "a number": ["integer", "number"], "a text": ["string"], "a list": ["array"]}
 STOPPED = b': no template "stop"\n'
 # a template that never fails, and the modes by which it is accepted
 ACCEPTED = [
@@ -122,18 +122,23 @@ def write(folder, name, what):
         it.write(what if isinstance(what, str) else json.dumps(what))
 
 
-def said_of(folder, schema, template, words):
-    """The status of tmpl-check over a template and a schema, and the lines that it puts out, without warnings."""
+def on_small_stack():
+    resource.setrlimit(resource.RLIMIT_STACK, (schema_rows.STACK, schema_rows.STACK))
+
+
+def said_of(folder, schema, template, words, before=None):
+    """The status of tmpl-check over a template and a schema, and the lines that it puts out, without warnings. `before` is called in its process."""
     write(folder, "s", schema if isinstance(schema, str) else json.dumps(schema))
     write(folder, "t", template)
-    ended = subprocess.run([harness.CHECKER, "--schema", "s", *words, "t"], cwd=folder, capture_output=True, timeout=harness.SECONDS, check=False)
+    command = [harness.CHECKER, "--schema", "s", *words, "t"]
+    ended = subprocess.run(command, cwd=folder, capture_output=True, timeout=harness.SECONDS, check=False, preexec_fn=before)
     lines = (ended.stdout + ended.stderr).decode().splitlines(keepends=True)
     return ended.returncode, [line for line in lines if ": warning: " not in line]
 
 
-def checked(folder, schema, template, words):
+def checked(folder, schema, template, words, before=None):
     """The same as one text, without notes."""
-    status, lines = said_of(folder, schema, template, words)
+    status, lines = said_of(folder, schema, template, words, before)
     return status, "".join(line for line in lines if not NOTE.match(line))
 
 
@@ -195,17 +200,43 @@ def misread_results(folder):
             yield f"value of: {title}", 1, [] if is_valid(schema, value) else ["    it is not valid"]
 
 
+def loop_results(folder):
+    """Copy loops over a name: those that are accepted, and near ones that are refused and fail for their data."""
+    for title, template, words in schema_rows.LOOPS:
+        came = checked(folder, schema_rows.of({"name": schema_rows.TEXT}), template, words)
+        yield f"loop: {title}", 1, [] if came[0] == 0 and ": error: " not in came[1] else [f"    {came}, and not accepted"]
+    for title, template, name, kind in schema_rows.NEAR_LOOPS:
+        status, out = checked(folder, schema_rows.of({"name": kind}), template, [])
+        write(folder, "d", json.dumps({"name": name}))
+        ended = ran([harness.PROGRAM, "--data", "d", "t"], folder)
+        good = status == 1 and "error: may fail: " in out and ended.returncode == 1
+        yield f"near a loop: {title}", 1, [] if good else [f"    status {status}: {out}; {ended.returncode}"]
+
+
 def hostile_results(folder):
-    """Schemas and templates that lead to much work: each is checked within some seconds of a processor."""
+    """Schemas and templates that lead to much work, or have much inside one another: each is checked within some seconds of a processor, on a
+    small stack of the machine."""
     limited = [(row, schema_rows.SECONDS) for row in schema_rows.HOSTILE] + [(row, schema_rows.SOON) for row in schema_rows.BOUNDED]
     for (title, schema, template, words, said), most in limited:
         before = resource.getrusage(resource.RUSAGE_CHILDREN)
-        status, out = checked(folder, schema, template, words)
+        status, out = checked(folder, schema, template, words, on_small_stack)
         after = resource.getrusage(resource.RUSAGE_CHILDREN)
         seconds = after.ru_utime + after.ru_stime - before.ru_utime - before.ru_stime
         good = (status, out) == (0, "") if said is None else status == 1 and said in out
         yield f"hostile: {title}", 1, [] if good else [f"    status {status}: {out[:300]}, and not {said}"]
         yield f"time of: {title}", 1, [] if seconds < most else [f"    {seconds:.1f} seconds"]
+
+
+def beside_results(folder):
+    """A schema beside data: an error is told of each that is wrong, and of nothing else."""
+    for title, template, data, wanted in schema_rows.BESIDE:
+        write(folder, "s", schema_rows.BESIDE_SCHEMA)
+        write(folder, "t", template)
+        write(folder, "d", data)
+        came = ran([harness.CHECKER, "--schema", "s", "--data", "d", "t"], folder)
+        lines = [line for line in came.stdout.decode().splitlines() if ": note: " not in line]
+        good = came.returncode == (1 if wanted else 0) and len(lines) == len(wanted) and all(line.startswith(front) for line, front in zip(lines, wanted))
+        yield f"beside: {title}", 1, [] if good else [f"    {came.returncode} {lines}, and not {wanted}"]
 
 
 def example_results(folder):
@@ -275,7 +306,9 @@ def row_results():
             good = (came.returncode, came.stdout.decode(), came.stderr) == (0, wanted and f"s:{wanted}: no value conforms to this schema\n", b"")
             yield f"no values: {title}", 1, [] if good else [f"    {came}, and not {wanted}"]
         yield from misread_results(folder)
+        yield from loop_results(folder)
         yield from hostile_results(folder)
+        yield from beside_results(folder)
         yield from example_results(folder)
         yield from cookbook_results(folder)
         came = checked(folder, '{"type": "object",}', "text", [])
@@ -485,8 +518,7 @@ def main():
     if harness.ROWS:
         narrow()
         return harness.closing(*harness.tally(row_results())[:2])
-    if jsonschema is None:
-        print("what conforms is not held to the package jsonschema, which is not installed")
+    tools.lack("jsonschema", "what it says of data that conform")
     seed, count = map(int, sys.argv[1:3]) if len(sys.argv) > 2 else (1, 400)
     passed, failed, _ = harness.tally(
         itertools.chain(

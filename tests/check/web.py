@@ -1,34 +1,37 @@
-"""Tries the engine as a module of WebAssembly with its binding for JavaScript, in Node, as `make npm` packs them and npm installs them. The
-rows that are calls of the C library, and 20,000 changed ones, go through the module, and through templates that are kept: the text and
-the line of a changed one must be those of the library that is built here. web/binding.mjs tries the rest of the binding, and web/wide.c
-the arithmetic that is put in for the compiler. The program of docs/EMBEDDING.md for JavaScript is run, the types are tried where tsc is,
-and the package is made twice, and must have the same bytes. page.py tries the page, in Chromium.
+"""Calls the module of WebAssembly by its binding for JavaScript in Node, and tries the page. The rows that are calls of the C library, and
+20,000 changed ones, go through the module, and through templates that are kept: the text and the line of a changed one must be those of the
+library that is built here. web/binding.mjs tries the rest of the binding, and web/wide.c the arithmetic that is put in for the compiler.
+The program of docs/EMBEDDING.md for JavaScript is run, the types are tried where tsc is, and the package is made twice, and must have the
+same bytes. page.py tries the page, in Chromium.
 
-What needs a program that is not installed is left out, and counted."""
+What needs a program that is not installed is left out, with a line that says so."""
 import re
 import shutil
 import sys
 import tempfile
 
-from tests.check import asked, page
 from tests.check.ports import ran, written
-from tests.lib import chromium, harness
+from tests.lib import chromium, harness, tools
 
 WEB = f"{harness.TOP}/packaging/out/web"
 OURS = f"{harness.TESTS}/web"
 CHANGED = 20_000
 PROGRAM = re.compile(r"^```js\n(.*?)^```\n+```text\n(.*?)^```$", re.MULTILINE | re.DOTALL)
 TYPED = """
-import { load, MemoryError, TemplateError, type Engine, type Options } from "rilphong";
+import { load, MemoryError, Problem, TemplateError, type Engine, type Options } from "rilphong";
 const engine: Engine = await load(new URL("file:///tmpl.wasm"));
-const options: Options = { missingKey: "error", steps: 5n, printed: true };
+const options: Options = { missingKey: "error", steps: 5n, printed: true, output: 9, memory: 1 << 20 };
 const text: string = engine.render({ m: "{{.}}" }, "m", [1], options);
 const kept = engine.templates(new Map([["m", new Uint8Array()]]));
 const bytes: Uint8Array = kept.renderBytes();
 try { kept.add("m", text); } catch (error) {
-    if (error instanceof TemplateError) console.log(error.status === 4, error.line.length, error.text.length, bytes);
+    if (error instanceof TemplateError) console.log(error.status === 4, error.line.length, error.text.length, bytes, error.lineNumber);
     if (error instanceof MemoryError) console.log(error.line);
 }
+const problems: readonly Problem[] = engine.check({ m: text }, { most: 5, memory: 1 << 20 });
+console.log(problems.map((it) => `${it.file}:${it.line}:${it.column} ${it.rule} ${it.text}`));
+// @ts-expect-error
+engine.render({ m: "" }, "m", 1, { memroy: 5 });
 // @ts-expect-error
 engine.render({ m: 5 });
 // @ts-expect-error
@@ -68,6 +71,8 @@ def copied(folder):
 
 
 def judge_calls(folder, at):
+    from tests.check import asked  # it has the library built
+
     calls = asked.of_rows()
     rows = asked.write(f"{folder}/rows", calls)
     changes = asked.write(f"{folder}/changes", asked.of_changes(calls, CHANGED))
@@ -98,51 +103,44 @@ def judge_types(folder):
     return "the types", 1, [] if got == (0, "") else [f"    {got}"]
 
 
-def parts(folder, skip):
-    """All results. What is left out is told to `skip`."""
+def parts(folder):
+    """All results."""
     yield judge_wide(folder)
-    if not shutil.which("wasm-opt"):
-        skip("wasm-opt is not there, so no module was made: install binaryen")
+    if tools.lack("wasm-opt", "the module of WebAssembly, which is not made"):
         return
     status, said = ran("make", "-s", "-C", harness.TOP, "web", "lib")
     yield "make web", 1, [f"    {said}"] if status else []
     if status:
         return
-    if chromium.found():
+    if not tools.lack("chromium", "the page", bool(chromium.found())):
+        from tests.check import page
+
         yield from page.results(folder)
-    else:
-        skip("Chromium is not there, so the page was not tried: install chromium")
-    if shutil.which("node"):
-        yield from of_node(folder, skip)
-    else:
-        skip("node is not there, so the module was not run but in the page")
+    if not tools.lack("node", "the module but in the page"):
+        yield from of_node(folder)
 
 
-def of_node(folder, skip):
+def of_node(folder):
     """What Node makes of the package."""
-    if shutil.which("npm"):
+    if not tools.lack("npm", "the package for it"):
         at, wrong = installed(folder)
         yield "the package for npm", 2, wrong
         if wrong:
             return
     else:
         at = copied(folder)
-        skip("npm is not there, so nothing was packed for it")
     yield counted("the binding", *ran("node", f"{OURS}/binding.mjs", at))
     yield counted("the binding, stopped", *ran("node", "--stack-size=100", f"{OURS}/trap.mjs", at))
+    yield counted("the binding at the end of the stack", *ran("node", f"{OURS}/stack.mjs", at))
     yield judge_calls(folder, at)
     yield judge_program(folder)
-    if shutil.which("tsc"):
+    if not tools.lack("tsc", "the types"):
         yield judge_types(folder)
-    else:
-        skip("tsc is not there, so the types were not tried: install node-typescript")
 
 
 def main():
-    skipped = []
     with tempfile.TemporaryDirectory() as folder:
-        passed, failed, _ = harness.tally(parts(folder, skipped.append))
-    print(*(f"skipped: {it}" for it in skipped), f"{len(skipped)} parts were skipped", sep="\n")
+        passed, failed, _ = harness.tally(parts(folder))
     return harness.closing(passed, failed)
 
 

@@ -1,6 +1,6 @@
-"""Renders templates, data and words with small and large counts of everything that is counted: instructions, members, operands,
-definitions, variables, FILEs, bytes of made texts. What each comes to is worked out here. Then counts the allocations of some, the
-bytes that they ask for and the writes, at two sizes: twice as much may take little more than twice. Last comes what calls of
+"""Renders templates and data with small and large counts of each kind, and bounds memory and writes. The counts are of instructions,
+members, operands, definitions, variables, FILEs, bytes of made texts. What each comes to is worked out here. Then counts the allocations of
+some, the bytes that they ask for and the writes, at two sizes: twice as much may take little more than twice. Last comes what calls of
 templates make a run ask for. TMPL=PATH names another build."""
 import random
 import struct

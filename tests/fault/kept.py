@@ -1,6 +1,6 @@
-"""Calls the command over and over in one process, by the probe, for each way in which a call may end, and counts the blocks of
-memory that are left: every block that a call took is given back, and the process does not grow. So it is where an allocation
-of a call is refused, for each in turn."""
+"""Calls the command a thousand times in one process, for each way in which it may end, and counts the memory that is left. By the probe:
+every block that a call took is given back, and the process does not grow. So it is where an allocation of a call is refused, for each in
+turn."""
 import os
 import struct
 import subprocess

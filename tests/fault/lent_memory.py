@@ -1,7 +1,7 @@
-"""Runs compiled templates by the probe, which lends the function `run` a stack and a piece, and compares the text
-and how each run ended. First every row that comes to a run, over exactly as many cells as are enough, with pieces of some sizes,
-and over exactly the room of its set; and whether it takes memory where no function makes a text. Then templates by hand: rooms; sinks that take little a put, and
-that fail, where no put may follow the failed one; how many allocations a run makes, and each of them refused, over arrays."""
+"""Runs compiled templates over exactly as many cells as are enough, and compares the text and how each run ended. By the probe, first every
+row that comes to a run, over exactly as many cells as are enough, with pieces of some sizes, and over exactly the room of its set; and
+whether it takes memory where no function makes a text. Then templates by hand: rooms; sinks that take little a put, and that fail, where no
+put may follow the failed one; how many allocations a run makes, and each of them refused, over arrays."""
 import os
 import sys
 import tempfile

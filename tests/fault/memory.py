@@ -1,6 +1,6 @@
-"""Runs the command over sources and sinks in memory, and calls of the library one by one, by the probe. First sinks
-and sources that fail, by hand. Then each row over sinks that take 1, 3 and 4,096 bytes a put and fail at put N, N counting up until
-none fails, and over a source that fails at read N. Last calls, each with every allocation refused in turn."""
+"""Runs the command over sources and sinks that fail, and public calls with each allocation refused in turn. By the probe, first sinks and
+sources that fail, by hand. Then each row over sinks that take 1, 3 and 4,096 bytes a put and fail at put N, N counting up until none fails,
+and over a source that fails at read N. Last calls, each with every allocation refused in turn."""
 import os
 import subprocess
 import sys

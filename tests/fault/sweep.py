@@ -1,6 +1,6 @@
-"""Runs the built program over each small row, and each worked one, with its Nth allocation refused, for each N there is. Each run must answer
-as the row does, or put out nothing and end with status 7 and its line. So also the printing of each small set of the rows, which must come
-to what reading.py tells. TMPL=PATH names another build."""
+"""Runs the program over each small row with each of its allocations refused in turn. Each run must answer as the row does, or put out
+nothing and end with status 7 and its line. So also the printing of each small set of the rows, which must come to what reading.py tells.
+TMPL=PATH names another build."""
 import copy
 import os
 import subprocess

@@ -1,8 +1,8 @@
-"""Runs the built program over each row with writes that take 1, 3 or 4,096 bytes at most, and with each of these refused in turn, once
-and for good, by an error, by an interrupt, and by taking no byte; to its output, and to its errors. A short write must change nothing.
-After a refused write of output nothing may be put out but the line, with status 6; after one of errors nothing at all, and the status
-stays. Of a text of more than 65,536 bytes writes are refused by errors alone, and those of 1 byte once. Texts of more than 131,072 bytes,
-and those whose runs end with a hundred thousand templates inside one another, are put by 4,096 bytes. TMPL=PATH names another build.
+"""Runs the program over each row with short writes, and with each write refused in turn. A write takes 1, 3 or 4,096 bytes at most, and is
+refused once and for good, by an error, by an interrupt, and by taking no byte; to its output, and to its errors. A short write must change
+nothing. After a refused write of output nothing may be put out but the line, with status 6; after one of errors nothing at all, and the
+status stays. Of a text of more than 65,536 bytes writes are refused by errors alone, and those of 1 byte once. Texts of more than 131,072
+bytes, and those whose runs end with a hundred thousand templates inside one another, are put by 4,096 bytes. TMPL=PATH names another build.
 
 `writes.py --long` puts these by 3 bytes and by 1 as well, which takes half an hour, most of it to give the cells of those templates back
 after each refusal, and says of each how many writes were refused."""

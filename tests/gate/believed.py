@@ -1,9 +1,10 @@
-"""Looks at the definitions that a reader has to believe: those that the contracts of `tool` and of the C library come to by the names that
-they and these import. Specs outside `computed/` may import nothing from `proofs/`, of a library no type of the code that is not public, and
-from `computed/`, but in files of the name Laws, only what is of a type `One ..`: that there is one value of which a relation holds, and no
-other. Of such a definition the type is believed and the relation in it, and not how the value is found, which the checker looks at.
-docs/BELIEVED.md has to name the files of what is believed, and no others. Then the lines of it are counted, without blank lines,
-comments and imports, by crate. They may not be more than stand in MOST: a crate that needs more has to say so here."""
+"""Counts the definitions on which the contracts rest, and holds the trusted specification of docs/PROOFS.md against them. It follows the
+names in the contracts of `tool`, of the C library and of the check, then those in the definitions, and compares the files, and its lines by
+crate. They are counted without blank lines, comments and imports, so they change only where the page does.
+
+Specs outside `computed/` may import nothing from `proofs/`, of a library no type of the code that is not public, and from `computed/`, but
+in files of the name Laws, only what is of a type `One ..`: that there is one value of which a relation holds, and no other. Of such a
+definition the type is trusted and the relation in it, and not how the value is found, which the checker looks at."""
 import re
 import sys
 from pathlib import Path
@@ -11,37 +12,28 @@ from pathlib import Path
 from tests.lib import harness
 
 CRATES = Path(harness.TOP) / "crates"
-PAGE = Path(harness.TOP) / "docs" / "BELIEVED.md"
+PAGE = Path(harness.TOP) / "docs" / "PROOFS.md"
 # what the contract of `tool` stands on: it, and the traits of what it is given
 TOOL = (
     ("tmpl_tool", "src/command.rt", "pub fn tool"),
     ("tmpl_tool", "src/files/source.rt", "pub trait Source"),
     ("tmpl_meaning", "src/sink.rt", "pub trait Sink"),
 )
-# .. and that of the C library
-ROOTS = (
-    *TOOL,
-    ("tmpl_c", "src/lib.rt", 'pub extern "C" fn keyed_render('),
-    ("tmpl_c", "src/lib.rt", 'pub extern "C" fn keyed_set_add('),
-    ("tmpl_c", "src/lib.rt", 'pub extern "C" fn keyed_check('),
-    ("tmpl_c", "src/lib.rt", 'pub extern "C" fn tmpl_data_read('),
-    ("tmpl_c", "src/lib.rt", 'pub extern "C" fn tmpl_render_set('),
-    ("tmpl_c", "src/lib.rt", 'pub extern "C" fn tmpl_program_make('),
-    ("tmpl_c", "src/lib.rt", 'pub extern "C" fn tmpl_render_program('),
-    ("tmpl_c", "src/lib.rt", 'pub extern "C" fn tmpl_render_text('),
+# .. those of the C library
+LIBRARY = tuple(("tmpl_c", "src/lib.rt", f'pub extern "C" fn {name}(') for name in (
+    "keyed_render", "keyed_set_add", "keyed_check", "tmpl_data_read", "tmpl_data_share", "tmpl_render_set", "tmpl_set_print",
+    "tmpl_program_make", "tmpl_program_share", "tmpl_render_program", "tmpl_render_text",
+))
+# .. and those of what `tmpl-check` says
+CHECK = (
+    ("tmpl_syntax", "src/examine.rt", "pub fn examine_file"),
+    ("tmpl_json_schema", "src/check.rt", "pub fn check_document"),
+    ("tmpl_samples", "src/search.rt", "pub fn failures_of"),
+    ("tmpl_report", "src/findings.rt", "pub fn findings_of"),
+    ("tmpl_report", "src/infer.rt", "pub fn infer_from"),
 )
-# the lines of each crate that are believed, at most
-MOST = {
-    "tmpl_values": 160,
-    "tmpl_funcs": 225,
-    "tmpl_lex": 101,
-    "tmpl_grammar": 292,
-    "tmpl_syntax": 337,
-    "tmpl_meaning": 213,
-    "tmpl_tool": 220,
-    "tmpl_engine": 18,
-    "tmpl_c": 96,
-}
+# each group of contracts, as the page names it; a definition counts for the first group that comes to it
+GROUPS = {"tool": TOOL, "C library": LIBRARY, "check": CHECK}
 
 WORD = r"[^\s(){}.,;]+"
 BEGINS = re.compile(r"(abbrev|unfoldable|pub|data|record|mutual|module)\b|\S+ :( |$)")
@@ -210,38 +202,73 @@ def believed(specs, items):
     return blocks
 
 
-def wrong_page(files):
-    """What the page of believed files lacks, or names too much."""
-    named, crate = [], None
-    for line in PAGE.read_text(encoding="utf-8").splitlines():
-        if head := re.match(r"## .*`(tmpl\w*)`", line):
-            crate = head[1]
-        elif row := re.match(r"- `([\w/]+)`: ", line):
-            named.append((crate, row[1].replace("/", ".")))
-    lacks = [f"docs/BELIEVED.md lacks {module} of {crate}" for crate, module in sorted(files - set(named))]
-    return lacks + [f"docs/BELIEVED.md names {module} of {crate}" for crate, module in named if (crate, module) not in files]
+SECTION = "## The trusted specification\n"
+FILE = re.compile(r"`((?:[a-z]+/)?[A-Z]\w*(?:/[A-Z]\w*)*)`")
+
+
+def told_by_page():
+    """What the page says: the lines and definitions of each group, and of each crate its lines and files."""
+    text = PAGE.read_text(encoding="utf-8").partition(SECTION)[2].partition("\n## ")[0]
+    groups = {head: (number(lines), number(count)) for head, lines, count in re.findall(r"^\| `?([\w ]+)`? \| ([\d,]+) \| ([\d,]+) \|", text, re.MULTILINE)}
+    crates = {}
+    for item in re.split(r"\n(?=- |\n)", text):
+        if head := re.match(r"- `(tmpl\w*)`, (\d+) lines: ", item):
+            crates[head[1]] = int(head[2]), {it.replace("/", ".") for it in FILE.findall(item)}
+    return groups, crates
+
+
+def number(text):
+    return int(text.replace(",", ""))
+
+
+def wrong_page(groups, crates):
+    """Where the page is not of these groups and crates."""
+    said_groups, said_crates = told_by_page()
+    for name, (lines, count) in groups.items():
+        if said_groups.get(name) != (lines, count):
+            yield f"docs/PROOFS.md: `{name}` has {lines:,} lines of {count} definitions"
+    nothing = (0, set())
+    for crate in sorted(crates.keys() | said_crates.keys()):
+        (lines, files), (said_lines, said_files) = crates.get(crate, nothing), said_crates.get(crate, nothing)
+        if lines != said_lines:
+            yield f"docs/PROOFS.md: of {crate} {lines} lines are trusted, and not {said_lines}"
+        yield from (f"docs/PROOFS.md lacks {file} of {crate}" for file in sorted(files - said_files))
+        yield from (f"docs/PROOFS.md names {file} of {crate}" for file in sorted(said_files - files))
+
+
+def counted(specs):
+    """Of each group the lines and definitions that no group before it comes to, and of each crate all its lines and files."""
+    seen, groups, crates = set(), {}, {}
+    for name, items in GROUPS.items():
+        new = believed(specs, items) - seen
+        seen |= new
+        groups[name] = sum(len(specs[crate, module].lines_of(at)) for crate, module, at in new), len(new)
+    for crate, module, at in seen:
+        spec = specs[crate, module]
+        lines, files = crates.get(crate, (0, set()))
+        crates[crate] = lines + len(spec.lines_of(at)), files | (set() if spec.is_computed() else {module})
+    return seen, groups, crates
+
+
+def wrong_computed(specs, blocks):
+    """The definitions that are trusted as a whole, though they only compute; of the others of `computed/` it says that a type is."""
+    for crate, module, at in sorted(blocks):
+        spec = specs[crate, module]
+        if spec.is_computed() and is_only_one(spec.blocks[at]):
+            print(f"{crate}: of {module} only a type is trusted, {' '.join(spec.lines_of(at)[0].split()[2:])}")
+        elif spec.is_computed():
+            yield f"{crate}: {module} is trusted, by {spec.blocks[at][0]}"
 
 
 def main():
     specs = read_specs()
     wrong = [line for spec in specs.values() for line in wrong_imports(spec, specs)]
-    blocks = believed(specs, ROOTS)
-    wrong += wrong_page({(crate, module) for crate, module, _ in blocks if not specs[crate, module].is_computed()})
-    lines = {}
-    for crate, module, number in sorted(blocks):
-        spec = specs[crate, module]
-        lines[crate] = lines.get(crate, 0) + len(spec.lines_of(number))
-        if spec.is_computed():
-            print(f"{crate}: of {module} only a type is believed, {' '.join(spec.lines_of(number)[0].split()[2:])}")
-            if not is_only_one(spec.blocks[number]):
-                wrong.append(f"{crate}: {module} is believed, by {spec.blocks[number][0]}")
-    for crate, count in sorted(lines.items()):
-        print(f"{crate}: {count} lines are believed")
-        if count > MOST.get(crate, 0):
-            wrong.append(f"{crate}: {count} lines are believed, at most {MOST.get(crate, 0)} may be")
-    print(f"{sum(lines.values())} lines of {len(blocks)} definitions are believed")
-    of_tool = [specs[crate, module].lines_of(number) for crate, module, number in believed(specs, TOOL)]
-    print(f"{sum(map(len, of_tool))} lines of {len(of_tool)} definitions for the contract of `tool` alone")
+    blocks, groups, crates = counted(specs)
+    wrong += [*wrong_computed(specs, blocks), *wrong_page(groups, crates)]
+    for crate, (lines, files) in sorted(crates.items()):
+        print(f"{crate}: {lines} lines are trusted, in {len(files)} files")
+    for name, (lines, count) in groups.items():
+        print(f"{name}: {lines} lines of {count} definitions")
     for line in wrong:
         print(f"FAILED {line}")
     return harness.closing(max(0, len(specs) - len(wrong)), len(wrong))

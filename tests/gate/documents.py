@@ -1,7 +1,8 @@
-"""Runs what the documents show: the blocks `console` and `sh` of each document, in order, those below one heading `##` in one folder
-and one shell. In a block `console` a line that begins with `$ ` is a command, one with `> ` goes on with it, and the others are what it
-must put out, to its output and its errors. A block `sh` is pasted whole, and puts out what the block `text` after it says, or nothing
-where no such block follows. The program is `tmpl`, and `$QUOTES` the folder of the templates for quoting. TMPL=PATH names another build.
+"""Runs the commands of each document, compares the output with what it shows, and follows its links. It runs the blocks `console` and `sh`,
+in order, those below one heading `##` in one folder and one shell. In a block `console` a line that begins with `$ ` is a command, one with
+`> ` goes on with it, and the others are what it must put out, to its output and its errors. A block `sh` is pasted whole, and puts out what
+the block `text` after it says, or nothing where no such block follows. The program is `tmpl`, and `$QUOTES` the folder of the templates for
+quoting. TMPL=PATH names another build.
 
 A comment before a block says what else is done with it; a block without one that is neither fails:
 
@@ -25,7 +26,7 @@ import subprocess
 import sys
 import tempfile
 
-from tests.lib import harness
+from tests.lib import harness, tools
 
 LEAST = 80  # commands, where jq, yq and nginx are not there
 LEAST_SHOWN = 2  # files
@@ -166,7 +167,7 @@ def put_out(folder, said):
     os.makedirs(f"{folder}/share/tmpl")
     os.symlink(f"{folder}/quotes", f"{folder}/share/tmpl/quotes")  # where an installed program has them
     os.makedirs(f"{folder}/room")
-    shutil.copy(f"{harness.TOP}/examples/hello/hello.tmpl", f"{folder}/room")  # which docs/COMMAND.md shows
+    shutil.copy(f"{harness.TOP}/examples/fractions.py", f"{folder}/room")  # which docs/COOKBOOK.md calls
     script = "\n".join(f"{it}\nstatus=$?; printf '{MARK}%d\\n' $status; (exit $status)" for it in said)
     environment = {**os.environ, "PATH": f"{folder}/bin:{os.environ['PATH']}", "LC_ALL": "C.UTF-8", "HOME": folder}
     environment["QUOTES"] = f"{folder}/quotes"
@@ -188,8 +189,8 @@ def check(name, said):
         yield f"{name}: {command.splitlines()[0]}", 1, wrong
 
 
-# a link, outside of blocks and code, and what an address of the web begins with
-LINK = re.compile(r"(?<!\!)\[(?:[^\[\]]|\[[^\]]*\])*\]\(([^()\s]+)\)")
+# a link or an image, outside of blocks and code, and what an address of the web begins with
+LINK = re.compile(r"\[(?:[^\[\]]|\[[^\]]*\])*\]\(([^()\s]+)\)")
 ELSEWHERE = ("http://", "https://", "mailto:")
 
 
@@ -238,10 +239,7 @@ def main(words):
     results = []
     for document in documents():
         for heading, said, needed in sections(document):
-            missing = [it for it in dict.fromkeys(needed) if not is_there(it)]
-            if missing:
-                print(f"{document}, {heading}: left out, since {' and '.join(missing)} is not there")
-            else:
+            if not any([tools.lack(it, f"{document}, {heading}", is_there(it)) for it in dict.fromkeys(needed)]):
                 results += check(f"{document}, {heading}", said)
     passed, failed, runs = harness.tally(results)
     failed += harness.too_few("commands were run", runs, LEAST)

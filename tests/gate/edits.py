@@ -1,7 +1,7 @@
-"""Tries the edits crates/NAME/edits/*.edit: the prover must refuse each. This is done on a copy of the repository, where they take the
-place of those of must-fail/, over what earlier runs kept in out/. Those that change different functions are tried in one check, where
-each must be refused at its own function; those of which such checks do not settle this are tried alone, as the gate tries those of
-must-fail/.
+"""Tries the mutants crates/NAME/edits/*.edit, or by --apply, as the gate does, whether each still applies and compiles. The prover must
+refuse each. This is done on a copy of the repository, where they take the place of those of must-fail/, over what earlier runs kept in
+out/. Those that change different functions are tried in one check, where each must be refused at its own function; those of which such
+checks do not settle this are tried alone, as the gate tries those of must-fail/.
 
     edits.py [NAME..]     tries the edits of these crates, or of all whose source, definitions or edits have changed since they were all
                           refused; RT_JOBS=N takes N crates side by side, else one
@@ -9,9 +9,12 @@ must-fail/.
                           changed since, has the compiler's front end read those of edits/ over the libraries that `rt ci` left, so that
                           one which no longer compiles is found; those that change different functions are read together
 
-When all edits of a crate were refused, or read and found to compile, a checksum of its source and of its edits is written to
-tests/gate/edits.seen; when all were refused, one of its source, definitions and edits to tests/gate/edits.refused, with the day."""
+What was found is kept, by crate, beside a checksum of all that it rests on as that stood when the run began: of the crate's own files, of
+the definitions and signatures of the crates below, and of the toolchain. tests/gate/edits.seen says that all bodies of a crate compile;
+tests/gate/edits.refused that all were refused, each at a goal, with its name and the day. `--apply` names the crates whose record there is
+of another tree."""
 import datetime
+import functools
 import hashlib
 import os
 import re
@@ -22,16 +25,25 @@ import tempfile
 from concurrent.futures import ThreadPoolExecutor
 
 from tests.gate import proved
-from tests.lib import harness
+from tests.lib import harness, programs
 
 FOLDERS = ("edits", "must-fail")
 REFUSED = ": refused, as it must be"
-UNPROVED = "not proved$|no proof: expected"  # what a check says of a function that is refused for what stands in it
 FRONT_END = re.compile(r"^src/\S+ error.*$", re.MULTILINE)  # what it says where it does not take a file
+# the goal that a check names: in a file of answers, unless that only lacks what a body took away, or of one that it has to find an answer for
+ANSWERED = r"^(?:\./)?proofs/%s\S+: error: `([^`]+)`: (?!.*(?:has no |not in scope|was not admitted))"
+GOAL = re.compile(ANSWERED % "" + r"|^note: src/\S+: it is not proved that .*\(`([^`]+)`\)", re.MULTILINE)
+# where a function has no file of answers, since none of its goals wanted one, a check names the goals for which it finds none
+UNANSWERED = r"no proof: expected answers in \S+; `search` did not prove `([^`]+)`(?!.*; it calls)"
 SEEN = f"{harness.TESTS}/gate/edits.seen"
-READ_OF = ("src", "edits")  # what the front end reads
+READ_OF = ("src", "edits")  # what the front end reads of a crate
 REFUSED_AT = f"{harness.TESTS}/gate/edits.refused"
-TRIED_OF = ("src", "specs", "edits")  # on what a refusal rests, beside the crates below
+TRIED_OF = ("src", "specs", "proofs", "edits")  # what the prover reads of it
+HEADS = {
+    SEEN: "# Crates of whose wrong bodies (edits/) all compile, each with the checksum of what that rests on; tests/gate/edits.py writes this.\n",
+    REFUSED_AT: "# Crates of whose wrong bodies (edits/) all were refused, each with the checksum of what that rests on and the day, and below it the\n"
+    "# bodies, each with the goal at which it was refused; tests/gate/edits.py writes this.\n",
+}
 READ = "only=0 proved=0"  # what a check of no function says at its end
 
 
@@ -79,38 +91,40 @@ def apply(room, crates, kind):
 
 
 def attempt(room, name):
-    """Tries a crate's edits, and counts those that were refused and those that were not."""
+    """Tries a crate's edits: how many there are, and those that were refused, each with the goal, or with nothing where none is named."""
     crate = f"{room}/crates/{name}"
     wanted = edits_in(f"{crate}/must-fail")
-    if not wanted:
-        return 0, 0
-    left = unsettled(crate, name, wanted)
-    for edit in set(wanted) - set(left):
+    refused = settled(crate, name, wanted)
+    for edit in refused:
         os.remove(f"{crate}/must-fail/{edit}")
-    refused = len(wanted) - len(left)
-    print(f"{name}: {refused} refused in checks of several, {len(left)} to be tried alone", flush=True)
-    if not left:
-        return refused, 0
+    if not set(wanted) - set(refused):
+        return len(wanted), refused
+    print(f"{name}: {len(refused)} refused in checks of several, {len(wanted) - len(refused)} to be tried alone", flush=True)
     said = rt(room, "must-fail", name).splitlines()
     told = [it.partition(" ")[2] for it in said if it.startswith("rt: must-fail ")]
-    refused += sum(REFUSED in it for it in told)
+    for line in told:
+        edit, is_refused, why = line.removeprefix(f"must-fail {name}/").partition(REFUSED)
+        if is_refused:
+            refused[edit] = goal_in(why.removeprefix(": "))
     # where a library is not proved, no edit is tried
-    print(*([it.partition(" ")[2] for it in told] or said[-20:]), sep="\n", flush=True)
-    return refused, len(wanted) - refused
+    print(*(told or said[-20:]), sep="\n", flush=True)
+    return len(wanted), refused
 
 
-def unsettled(crate, name, edits):
-    """Those of a crate's edits that no check of several shows to be refused. Such a check judges no function that calls another which
-    is refused in it, so those that it leaves are tried once more together."""
+def settled(crate, name, edits):
+    """Those of a crate's edits that checks of several show to be refused, each with the goal. Such a check judges no function that calls
+    another which is refused in it, so those that it leaves are tried once more together."""
+    refused = {}
     if len(edits) < 2 or not is_proved(crate):
-        return edits
-    left = [it for it in edits if is_inside(crate, it)]
-    outside, refused = [it for it in edits if it not in left], edits
-    while refused:
-        groups = [it for it in parted(crate, left) if len(it) > 1]
-        refused = {edit for group in groups for edit in refused_at_once(crate, name, group)}
-        left = [it for it in left if it not in refused]
-    return outside + left
+        return refused
+    left, told = [it for it in edits if is_inside(crate, it)], edits
+    while told:
+        told = {}
+        for group in parted(crate, left):
+            told.update(refused_at_once(crate, name, group) if len(group) > 1 else {})
+        refused.update(told)
+        left = [it for it in left if it not in told]
+    return refused
 
 
 def is_proved(crate):
@@ -125,49 +139,100 @@ def is_proved(crate):
 
 
 def refused_at_once(crate, name, edits):
-    """Those of these edits at whose functions the prover refuses the crate with all of them."""
+    """Those of these edits at whose functions the prover refuses the crate with all of them, each with the goal."""
     said = said_with(crate, edits)
     if FRONT_END.search(said) and len(edits) > 1:
         half = len(edits) // 2
-        return refused_at_once(crate, name, edits[:half]) + refused_at_once(crate, name, edits[half:])
-    return [it for it in edits if is_refused(said, name, crate, it)]
+        return {**refused_at_once(crate, name, edits[:half]), **refused_at_once(crate, name, edits[half:])}
+    return {it: goal for it in edits if (goal := goal_of(said, name, crate, it))}
 
 
-def is_refused(said, name, crate, edit):
-    """Whether a check says that a function which an edit changes is not proved, by itself and not for one that it calls."""
-    return any(re.search(rf"^fn {name}::{re.escape(it)}: (?:{UNPROVED})", said, re.MULTILINE) for it in paths_of(crate, edit))
+def goal_in(text):
+    """The first goal that a check names there; nothing where it names none."""
+    found = GOAL.search(text)
+    return found and (found[1] or found[2])
 
 
-def checksum(name, folders):
-    """Of these folders of a crate."""
-    told = hashlib.sha256()
-    for folder in folders:
-        for place, folders, files in os.walk(f"{harness.TOP}/crates/{name}/{folder}"):
-            folders.sort()
+def goal_of(said, name, crate, edit):
+    """The goal at which a check refuses a function that an edit changes, by itself and not for one that it calls. What is said of a
+    function stands right before its own line, or names a file of its answers."""
+    for path in paths_of(crate, edit):
+        line = rf"^fn {name}::{re.escape(path)}: "
+        found = re.search(rf"((?:^(?!fn ).*\n)*){line}not proved$", said, re.MULTILINE)
+        own = path.replace("::", "/")
+        answered = re.search(ANSWERED % rf"(?:{re.escape(own)}|{re.escape(os.path.dirname(own))}/\+[^/]+)/", said, re.MULTILINE)
+        if found and (goal := goal_in(found[1]) or answered and answered[1]):
+            return goal
+        if unanswered := re.search(line + UNANSWERED, said, re.MULTILINE):
+            return unanswered[1]
+    return None
+
+
+@functools.lru_cache
+def toolchain():
+    """What the toolchain says of itself."""
+    return subprocess.run(["rt", "version"], stdout=subprocess.PIPE, check=True).stdout
+
+
+def checksum(top, name, folders):
+    """Of these folders of a crate below `top`, of the definitions and signatures of those that it uses, and of the toolchain."""
+    told = hashlib.sha256(toolchain())
+    parts = [(name, folder) for folder in folders] + [(it, folder) for it in crates_below(name) for folder in ("specs", "src")]
+    for crate, folder in parts:
+        for place, inside, files in os.walk(f"{top}/crates/{crate}/{folder}"):
+            inside.sort()
             for file in sorted(files):
-                with open(f"{place}/{file}", "rb") as it:
-                    told.update(os.path.relpath(f"{place}/{file}", harness.TOP).encode() + b"\0" + it.read() + b"\0")
+                text = read_file(f"{place}/{file}")
+                text = text if crate == name or folder != "src" else signatures(text)
+                told.update(f"{os.path.relpath(f'{place}/{file}', top)}\0{text}\0".encode())
     return told.hexdigest()
 
 
+def crates_below(name):
+    """The crates of the repository that a crate uses, itself or through others, by name."""
+    uses, found = programs.uses(), [name]
+    for it in found:
+        found += [other for other in uses[it] if other not in found]
+    return sorted(found[1:])
+
+
+def signatures(text):
+    """A file of code without the bodies of its functions."""
+    lines, indent, end = [], "", None
+    for line in text.splitlines():
+        if end is not None:
+            end = None if line == end else end
+            continue
+        lines.append(line)
+        begun = FUNCTION.match(line)
+        indent = begun[1] if begun else indent
+        if line == f"{indent}{{" or begun and line.endswith("{"):
+            end = f"{indent}}}"
+    return "\n".join(lines)
+
+
 def told_in(path):
-    """What stands there of each crate, by name: a checksum, and perhaps a day."""
-    if not os.path.exists(path):
-        return {}
-    with open(path, encoding="ascii") as it:
-        return {line.split()[0]: line.split()[1:] for line in it}
+    """What stands there, by crate: the words after its name, and the lines below it."""
+    told, name = {}, ""
+    for line in read_file(path).splitlines() if os.path.exists(path) else ():
+        if line.startswith("  "):
+            told[name][1].append(line)
+        elif not line.startswith("#"):
+            name, *words = line.split()
+            told[name] = words, []
+    return told
 
 
 def is_told(path, name, folders):
     """Whether the crate is now as it was when it was written down there."""
-    return told_in(path).get(name, [""])[0] == checksum(name, folders)
+    return told_in(path).get(name, [[""]])[0][0] == checksum(harness.TOP, name, folders)
 
 
-def record(path, names, folders, *more):
-    """Writes down how these crates are now."""
-    told = {**told_in(path), **{name: [checksum(name, folders), *more] for name in names}}
-    with open(path, "w", encoding="ascii") as it:
-        it.writelines(" ".join((name, *told[name])) + "\n" for name in sorted(told))
+def record(path, new):
+    """Writes down of these crates what is told: words, and lines below them."""
+    told = {**told_in(path), **new}
+    lines = [line for name in sorted(told) for line in (" ".join((name, *told[name][0])), *told[name][1])]
+    write_file(path, HEADS[path] + "".join(f"{it}\n" for it in lines))
 
 
 def changes_of(crate, edit):
@@ -326,10 +391,11 @@ def linked(source, to):
 
 
 def read_edits(name):
-    """Has the front end read the edits of a crate: how many it takes and how many not."""
+    """Has the front end read the edits of a crate: its checksum, and how many it takes and how many not."""
     with tempfile.TemporaryDirectory(prefix="edits-") as room:
         copied(room)
-        return read_edits_in(f"{room}/crates/{name}", name)
+        told = checksum(room, name, READ_OF)
+        return told, *read_edits_in(f"{room}/crates/{name}", name)
 
 
 def read_edits_in(crate, name):
@@ -345,11 +411,15 @@ def read_changed(crates):
     """Has the front end read the edits of those crates that changed since: how many it takes and how many not."""
     changed = [it for it in crates if edits_in(f"{harness.TOP}/crates/{it}/edits") and not is_told(SEEN, it, READ_OF)]
     with ThreadPoolExecutor(int(os.environ.get("RT_JOBS") or harness.processes())) as pool:
-        came = [(name, pool.submit(read_edits, name)) for name in changed]
-        for name, it in came:
-            if not it.result()[1]:
-                record(SEEN, [name], READ_OF)
-    return tuple(map(sum, zip((0, 0), *(it.result() for _, it in came))))
+        came = dict(zip(changed, pool.map(read_edits, changed)))
+    record(SEEN, {name: ([told], []) for name, (told, _, failed) in came.items() if not failed})
+    return tuple(map(sum, zip((0, 0), *(it[1:] for it in came.values()))))
+
+
+def tell_old(crates):
+    """Names the crates whose wrong bodies were not all tried as they stand here."""
+    old = [it for it in crates if edits_in(f"{harness.TOP}/crates/{it}/edits") and not is_told(REFUSED_AT, it, TRIED_OF)]
+    print(f"edits.refused is not of this tree for {len(old)} crates, which make edits tries: {' '.join(old) or 'none'}", flush=True)
 
 
 def attempt_all(room, every, crates):
@@ -364,6 +434,22 @@ def attempt_all(room, every, crates):
         return list(pool.map(lambda it: attempt(room, it), crates))
 
 
+def try_all(room, every, crates):
+    """Tries the edits of these crates, and writes down those of which all were refused: how many were, and how many were not."""
+    sums = {name: (checksum(room, name, TRIED_OF), checksum(room, name, READ_OF)) for name in crates}
+    bad = apply(room, crates, FOLDERS[0])[1]
+    day, came = datetime.date.today().isoformat(), dict(zip(crates, attempt_all(room, every, crates)))
+    for name, (count, refused) in came.items():
+        is_whole = count == len(edits_in(f"{harness.TOP}/crates/{name}/edits")) and all(refused.values())
+        if count and is_whole and count == len(refused):
+            lines = [f"  {edit.removesuffix('.edit')} {goal}" for edit, goal in sorted(refused.items())]
+            record(REFUSED_AT, {name: ([sums[name][0], day], lines)})
+            record(SEEN, {name: ([sums[name][1]], [])})
+        print(*(f"{name}/{edit}: refused, but at no goal" for edit, goal in refused.items() if not goal), sep="\n", end="")
+    print(f"\nBAD EDIT: {bad} can't be applied, as told at the start" if bad else "")
+    return sum(len(it) for _, it in came.values()), bad + sum(count - len(it) for count, it in came.values())
+
+
 def main(words):
     only_apply = words == ["--apply"]
     every = sorted(os.listdir(f"{harness.TOP}/crates"))
@@ -376,20 +462,11 @@ def main(words):
         shutil.copytree(f"{harness.TOP}/crates", f"{room}/crates", ignore=ignored, copy_function=copied_to)
         for name in ("crates.txt", "HANDLES"):
             shutil.copy(f"{harness.TOP}/{name}", room)
-        kinds = FOLDERS if only_apply else FOLDERS[:1]
-        counted = [apply(room, crates, it) for it in kinds]
-        if only_apply:
-            counted.append(read_changed(crates))
-        else:
-            bad = counted[0][1]
-            came = attempt_all(room, every, crates)
-            counted = [(0, bad), *came]
-            if bad:
-                print(f"BAD EDIT: {bad} can't be applied, as told at the start")
-            refused = [name for name, (passed, others) in zip(crates, came) if passed and not others]
-            record(SEEN, refused, READ_OF)
-            record(REFUSED_AT, refused, TRIED_OF, datetime.date.today().isoformat())
-    return harness.closing(*map(sum, zip(*counted)))
+        if not only_apply:
+            return harness.closing(*try_all(room, every, crates))
+        counted = [apply(room, crates, it) for it in FOLDERS]
+    tell_old(crates)
+    return harness.closing(*map(sum, zip(*counted, read_changed(crates))))
 
 
 if __name__ == "__main__":

@@ -1,23 +1,23 @@
-"""Holds what is made of the documents against them: the man pages, the completions and the usage line. The pages and the
-completions must be those that man/make.py and completions/make.py make; `man` must find nothing to warn of, where it is there;
-the program must put out the usage line of docs/COMMAND.md; the defaults and the limits of the definitions must be those that the
-documents say; and each shell that is there must offer the options of that line,
-the words of an option that takes one of several, and files. TMPL=PATH names another build."""
+"""Holds what is made of documents and lists against them: man pages, completions, the usage line, the graph of the crates, the picture of a
+run and the sentence over the plots. Each must be what its script makes; `man` must find nothing to warn of, where it is there; the program
+must print the usage line of docs/COMMAND.md; the defaults and the limits of the definitions must be those that the documents say; and each
+shell that is there must offer the options of that line, the words of an option that takes one of several, and files. TMPL=PATH names another
+build."""
 import json
 import os
 import re
 import shlex
-import shutil
 import subprocess
 import sys
 import tempfile
 
 from tests.fault import calls
-from tests.lib import harness, programs
+from tests.lib import harness, programs, tools
 from tests.oracle import meaning, table
 
-sys.path.insert(0, f"{harness.TOP}/completions")
+sys.path[:0] = [f"{harness.TOP}/completions", f"{harness.TOP}/packaging"]
 import make as completions
+import pages as packaged
 
 FILES = ["a.tmpl", "b.json"]  # in the folder in which the shells complete
 BASH = """
@@ -37,6 +37,21 @@ def output(*words, **how):
 def made():
     for folder in ("man", "completions", "migration"):
         yield f"what {folder}/make.py makes", (0, ""), output(sys.executable, f"{harness.TOP}/{folder}/make.py", "--check")
+    yield "what packaging/picture.py draws", (0, ""), output(sys.executable, f"{harness.TOP}/packaging/picture.py", harness.CHECKER, "--check")
+    yield "what tests/bench/plots.py writes", (0, ""), output(sys.executable, "-m", "tests.bench.plots", "--check", cwd=harness.TOP)
+    yield "docs/crates.svg", (0, ""), output(sys.executable, f"{harness.TOP}/packaging/graph.py", "--check")
+
+
+NUMBERED = (
+    ("bindings/rust/Cargo.toml", r'^version = "(.*)"$'), ("bindings/javascript/package.json", r'"version": "(.*)"'),
+    ("bindings/python/tmpl.py", r'^__version__ = "(.*)"$'),
+)
+
+
+def versions():
+    """The number of the version, which bindings have too."""
+    for path, pattern in NUMBERED:
+        yield f"the version in {path}", packaged.number(), re.search(pattern, programs.read(f"{harness.TOP}/{path}"), re.MULTILINE)[1]
 
 
 def usage():
@@ -103,7 +118,7 @@ def functions():
 
 
 def pages():
-    if not shutil.which("man"):
+    if tools.lack("man", "the warnings of the man pages"):
         return
     for name in ("tmpl.1", "tmpl-check.1", "tmpl-language.7"):
         page = f"{harness.TOP}/man/{name}"
@@ -194,7 +209,7 @@ def editors(folder):
     found = re.match(pattern["regexp"], refused.strip())
     parts = ("file", "line", "column", "severity", "message")
     yield "the problem matcher", ("bad.tmpl", "2", "1", "error", detail), found and tuple(found[pattern[it]] for it in parts)
-    if shutil.which("vim"):
+    if not tools.lack("vim", "what it finds by :make"):
         with open(f"{folder}/errors", "w", encoding="utf-8") as it:
             it.write("tmpl-check: out of memory\n")  # a line without a place
         with open(f"{folder}/script", "w", encoding="utf-8") as it:
@@ -212,9 +227,10 @@ def main():
             with open(f"{folder}/{name}", "w", encoding="utf-8"):
                 pass
         shells = {"bash": in_bash, "zsh": in_zsh, "fish": in_fish}
-        cases = [*made(), *usage(), *numbers(), *functions(), *pages()]
-        for shell in filter(shutil.which, shells):
-            cases += shells[shell](folder)
+        cases = [*made(), *versions(), *usage(), *numbers(), *functions(), *pages()]
+        for shell in shells:
+            if not tools.lack(shell, "its completions"):
+                cases += shells[shell](folder)
         cases += editors(folder)
     wrong = [[f"    got {got}", f"    wanted {wanted}"] if got != wanted else [] for _, wanted, got in cases]
     passed, failed, _ = harness.tally((name, 1, its) for (name, *_), its in zip(cases, wrong))

@@ -1,7 +1,8 @@
-"""Tests the tests: each is given programs that answer wrongly, and must not pass.
+"""Tests the tests: each must fail over programs that answer wrongly.
 
 One that only fails, one that does nothing and ends well, one that loses the last byte of its output, and one that adds a line to it. The
-last two are given to some tests alone, since they make two processes of each run."""
+last two are given to some tests alone, since they make two processes of each run. Tests that refuse memory or writes are run where
+nothing is refused."""
 import os
 import re
 import subprocess
@@ -20,7 +21,8 @@ JUDGED = {
 }
 ONLY_FAILS = ("check.printing", "check.quotes", "check.hostile", "check.places", "check.tables")  # that are long over any other
 FINELY = ("check.rendered", "check.problems", "check.migration", "gate.documents", "check.host")  # with the last two programs too
-SECONDS = 300
+REFUSING = ("fault.calls", "fault.kept", "fault.lent_memory", "fault.sweep", "fault.writes", "check.problems")  # by a shim
+SECONDS = 600
 
 
 def passes(test, name, program, more):
@@ -50,6 +52,7 @@ def main():
         for name in programs.ALL:
             subprocess.run(["cc", "-O1", f"{harness.TESTS}/shim/wrong.c", "-o", f"{folder}/{name}"], check=True)
         cases = [(test, name, *it) for test, name in JUDGED.items() for it in wrongs(test, name, folder)]
+        cases += [(test, "tmpl", "is refused nothing", programs.path("tmpl"), {"REFUSER": "idle.c"}) for test in REFUSING]
         with ThreadPoolExecutor(harness.processes()) as pool:
             came = list(pool.map(lambda it: passes(it[0], it[1], *it[3:]), cases))
     told = [(f"{test} with a {name} that {what}", 1, ["    it passes"] * is_wrong) for (test, name, what, *_), is_wrong in zip(cases, came)]

@@ -1,8 +1,9 @@
-"""Follows the recipe of docs/CONTRIBUTING.md for a function of templates: adds `starts` to a copy of the repository, by the changes of
-tests/recipe/starts.edit, and has the copy's program, built without proofs, pass its rows, the tables and what holds the lists of functions together.
+"""Follows the recipe of docs/CONTRIBUTING.md for a new function of templates, on a copy of the repository. It adds `starts`, by the changes
+of tests/recipe/starts.edit, and has the copy's program, built without proofs, pass its rows, the tables and what holds the lists of
+functions together.
 
-Before the changes to the tests are made the tables have to fail, since nothing says what the function gives. In the file a change is a line `old:`
-and a line `new:`, in which \\n stands for a newline; `old` occurs once in the file that the last line `file:` names."""
+Before the changes to the tests are made the tables have to fail, since nothing says what the function gives. In the file a change is a line
+`old:` and a line `new:`, in which \\n stands for a newline; `old` occurs once in the file that the last line `file:` names."""
 import os
 import re
 import shutil

@@ -7,10 +7,12 @@ and nowhere else.
     tests/run NAME..         these alone, by their names, over the newest builds; the name of a folder, as fault, is all of it
     tests/run -k TEXT ..     of tests over rows only the rows, and examples, whose names hold the text
     tests/run -j N ..        N checks and N processes side by side, in place of as many as there are processors
-    tests/run --list         the names, each with the first words of what it does
+    tests/run --list         the names, each with what it does
+    tests/run --self         the tests of the tests: each must fail over programs that answer wrongly
     tests/run --all --record writes what each part took to tests/gate/times.json, from which the times still to come are told
 
-Tests run side by side; those that call make run one after the other. The libraries that `rt ci` proved are marked for `rt lib`. Without RT_JOBS
+What a test leaves out for want of a tool is named at the end; with RILPHONG_TOOLS=all in the environment a run fails where one is missing that
+Debian has (tests/lib/tools.py). Tests run side by side; those that call make run one after the other. The libraries that `rt ci` proved are marked for `rt lib`. Without RT_JOBS
 `rt ci` gives a check the processors that no other waits for, so that the longest chain of crates ends sooner; with RT_JOBS=N it has N checks of
 one job each, which takes a quarter less of the processors' time."""
 import argparse
@@ -26,7 +28,7 @@ import time
 from concurrent.futures import ThreadPoolExecutor
 
 from tests.gate import processors, proved
-from tests.lib import harness, programs
+from tests.lib import harness, programs, tools
 
 PROOFS = "proofs"
 BY_RATTLE = f"env TMPL={harness.TOP}/crates/tmpl/out/tmpl.by-rattle"  # the program as the toolchain's other compiler builds it
@@ -38,20 +40,22 @@ TESTS = {
     "judges": "gate.judges",
     "recipe": "gate.recipe",
     "believed": "gate.believed",
+    "unused": "gate.unused",
     "rendered": "check.rendered",
     "rendered-by-rattle": f"{BY_RATTLE} {sys.executable} -m tests.check.rendered",
     **{name: f"check.{name}" for name in ("places", "tables", "prefixes", "printing", "random_sets")},
     **{name: f"fault.{name}" for name in ("calls", "kept", "lent_memory", "writes", "sweep", "memory", "counts")},
-    **{name: f"gate.{name}" for name in ("generated", "documents")},
+    **{name: f"gate.{name}" for name in ("generated", "documents", "wording")},
     **{name: f"check.{name}" for name in (
-        "instructions", "host", "hostile", "quotes", "library", "ports", "web", "problems", "migration", "verdicts",
+        "instructions", "host", "hostile", "quotes", "library", "ports", "web", "problems", "migration", "verdicts", "highlighting",
     )},
 }
 MODULE = re.compile(r"(gate|check|fault)\.\w+")
 # what `make test` runs, the longest first, with the words that make it shorter than in the gate
 QUICK = {
     **dict.fromkeys(("random_sets", "quotes", "printing", "verdicts", "problems", "hostile", "rendered", "places", "tables", "migration")),
-    **dict.fromkeys(("documents", "generated", "believed")), "prefixes": "--some", "instructions": None, "host": None,
+    "highlighting": None,
+    **dict.fromkeys(("documents", "generated", "wording", "believed", "unused")), "prefixes": "--some", "instructions": None, "host": None,
 }
 # the programs that a test runs, where these are not tmpl alone
 RUNS = {
@@ -59,7 +63,7 @@ RUNS = {
     "judges": programs.ALL,
     **dict.fromkeys(("calls", "kept", "lent_memory", "memory", "prefixes", "instructions"), ("tmpl", "tmpl_probe")),
     "host": ("tmpl_host", "tmpl_probe"),
-    **dict.fromkeys((PROOFS, "edits", "tried", "believed", "recipe"), ()),
+    **dict.fromkeys((PROOFS, "edits", "tried", "believed", "wording", "unused", "recipe", "highlighting"), ()),
 }
 BY_MAKE = ("library", "ports", "web")  # these call make, so they run one after the other
 OVER_ROWS = ("rendered", "rendered-by-rattle", "problems", "verdicts")  # these take -k
@@ -140,7 +144,7 @@ class Lanes:
         self.names, self.progress, self.environment, self.words = names, progress, environment, words
         self.pool = ThreadPoolExecutor(lanes)
         self.by_make, self.shown = threading.Lock(), threading.Lock()
-        self.built = {}
+        self.built, self.missing = {}, {}
 
     def build(self, needed):
         """Begins to build these programs without proofs."""
@@ -166,6 +170,8 @@ class Lanes:
         else:
             came = run(name, self.environment, lines.append, self.words.get(name))
         with self.shown:
+            for tool in dict.fromkeys(tools.missing_in(lines)):
+                self.missing.setdefault(tool, []).append(name)
             print(f"== {name}", *lines, sep="\n")
             print(f"-- {self.progress.end_test(name)}; {name} took {time.time() - begun:.0f} s on the clock", flush=True)
         return came
@@ -183,11 +189,11 @@ def chosen(names):
 
 
 def purpose(name):
-    """What a test does, by the first words of its script."""
+    """What a test does: the first sentence of its script."""
     module = next((it for it in command(name) if it.startswith("tests.")), None)
     if module is None:
-        return "The toolchain's gate: each proof from nothing, and each wrong body of must-fail/."
-    return re.match(r'"""(.*?[.:;])(\s|""")', programs.read(f"{harness.TOP}/{module.replace('.', '/')}.py"), re.DOTALL)[1].replace("\n", " ")
+        return "Proves each crate from nothing by `rt ci`, and tries each mutant of must-fail/."
+    return re.match(r'"""(.*?\.)(\s|""")', programs.read(f"{harness.TOP}/{module.replace('.', '/')}.py"), re.DOTALL)[1].replace("\n", " ")
 
 
 def asked():
@@ -199,8 +205,9 @@ def asked():
     parser.add_argument("--all", action="store_true", help="what `make prove` runs: the proofs, then all tests")
     parser.add_argument("--record", action="store_true", help="write down what each part took, for the times that later runs tell")
     parser.add_argument("--list", action="store_true", help="list the tests")
+    parser.add_argument("--self", action="store_true", help="run the tests of the tests")
     given = parser.parse_args()
-    given.names = chosen(given.names)
+    given.names = chosen(given.names + ["judges"] * given.self)
     unknown = [it for it in given.names if it not in TESTS]
     if unknown:
         parser.error(f"there is no test {unknown[0]}: --list lists them")
@@ -224,6 +231,17 @@ def choose_programs(names, is_quick):
         os.environ[programs.VARIABLES[name]] = path
         print(f"{name}: {programs.kind(path)}" + ", to be built now" * (name in missing), flush=True)
     return missing
+
+
+def told_missing(missing):
+    """Names the tools that tests lacked; how many of these are there to be installed, where they are asked for."""
+    told = ", ".join(f"{tool} ({', '.join(tests)})" for tool, tests in sorted(missing.items()))
+    print(f"left out for want of {len(missing)} tools: {told or 'none'}")
+    packages = sorted({tools.PACKAGES[it] for it in missing if it in tools.PACKAGES})
+    if os.environ.get("RILPHONG_TOOLS") != "all" or not packages:
+        return 0
+    print(f"FAILED RILPHONG_TOOLS=all asks for what is missing: apt install {' '.join(packages)}")
+    return len(packages)
 
 
 def told_table(came):
@@ -276,12 +294,13 @@ def main():
         print("== processors", *watch.table(), sep="\n")
     print("== in all")
     told_table(came)
+    lacking = told_missing(its.missing)
     if given.record:
         record(came, watch)
     print(f"{time.time() - begun:.0f} s on the clock, on {harness.processes()} processors")
     if is_quick:
         print("These tests ran the programs over rows, random templates and documents. Nothing was proved: `make prove` proves all of it.")
-    return harness.closing(sum(it[0] for it in came.values()), sum(it[1] for it in came.values()))
+    return harness.closing(sum(it[0] for it in came.values()), sum(it[1] for it in came.values()) + lacking)
 
 
 if __name__ == "__main__":

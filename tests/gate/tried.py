@@ -1,9 +1,10 @@
-"""Tries the wrong bodies that show the promises most plainly, and which are not in must-fail/: the prover must refuse each.
+"""Tries some sixty mutants of edits/ on every run of the gate: the prover must refuse each.
 
-`rt ci` proves a crate once more before it tries the first body of its must-fail/, so only two small crates have some there. Those that are
+`rt ci` proves a crate once more before it tries the first body of its must-fail/, so only one small crate has some there. Those that are
 named here are tried on a copy of the repository, over the libraries that `rt ci` left. Of a crate all are put in at once, and only the
-functions that they change are checked, with those that these call. A function that calls one which is refused is not judged, so the bodies that
-are left are put in once more without the others, over what that check proved, until no check refuses any. `make edits` tries all of edits/.
+functions that they change are checked, with those that these call: so a body is best at a function that calls few others. A function that
+calls one which is refused is not judged, so the bodies that are left are put in once more without the others, over what that check proved,
+until no check refuses any. `make edits` tries all of edits/.
 
     tried.py [CRATE..]     tries those of all crates, or of these; RT_JOBS=N takes N crates side by side, else as many as there are processors"""
 import os
@@ -19,25 +20,25 @@ from tests.lib import harness
 # by crate, the dearest first
 TRIED = {
     "tmpl_engine": (
-        "first_template_run break_leaves_dot_of_with break_undoes_an_assignment element_costs_no_step every_operand_looked_at fault_told_after_a_failed_write"
-        " no_else_part_below_one short_put_taken_as_whole stack_grown_where_no_text_is_made steps_spent_at_once text_before_fault_dropped"
+        "break_leaves_dot_of_with break_undoes_an_assignment element_costs_no_step every_operand_looked_at fault_told_after_a_failed_write"
+        " no_else_part_below_one short_put_taken_as_whole steps_spent_at_once text_before_fault_dropped variable_refused_for_memory"
         " write_failed_where_none_did"
     ),
-    "tmpl_code": "bound_of_calls_not_looked_at jump_one_short room_by_the_length_of_the_code text_of_the_first_template_alone",
+    "tmpl_code": "call_taken_for_a_text entry_of_another_name jump_one_short room_by_the_length_of_the_code weight_above_what_is_held",
     "tmpl_syntax": (
-        "action_right_after_a_brace adjacent_texts_joined blank_replaces_a_body first_part_seen_in_else later_action_named name_kept_after_end"
-        " refuses_every_file set_changed_after_fault"
+        "action_begins_a_byte_late action_right_after_a_brace adjacent_texts_joined blank_replaces_a_body first_part_seen_in_else"
+        " later_action_named name_kept_after_end one_refusal_left_out refuses_every_file second_definition_told_at_the_first set_half_changed"
     ),
     "tmpl_tool": "data_before_templates file_read_twice second_read_after_failed_read text_put_before_want_of_memory zero_after_failed_write",
     "tmpl_c": "full_buffer_as_done nothing_copied share_that_copies_nothing",
     "tmpl_funcs": "equal_looked_past pair_skipped space_beside_a_text",
     "tmpl_values": "map_printed_out_of_order map_visited_backwards number_visited_from_one",
+    "tmpl_loops": "a_body_that_sees_its_index",
     "tmpl_lex": "dash_is_a_left_marker left_marker_goes_past_a_comment vertical_tab_is_space",
-    "tmpl_data_problems": "fraction_accepted",
     "tmpl_grammar": "range_assigns octal_escape_past_a_byte",
     "tmpl_hints": "end_told_as_a_jump broken_byte_told_by_a_mark",
     "tmpl_json_schema": "second_type_left_out most_items_taken_for_least type_of_the_last_sample_only",
-    "tmpl_problems": "newline_as_it_is more_than_the_refusals one_brace_and_a_space_is_a_sign",
+    "tmpl_problems": "newline_as_it_is more_than_the_refusals one_brace_and_a_space_is_a_sign fraction_accepted",
     "tmpl_reasons": "line_and_column_exchanged key_without_quotes",
     "tmpl_report": "errors_only_where_all_are note_told_as_an_error",
     "tmpl_samples": "limit_told_for_a_doubt",
@@ -59,7 +60,7 @@ def refused_in(crate, name, left):
     for group in edits.parted(crate, left):
         paths = sorted({path for it in group for path in edits.paths_of(crate, it)})
         said = edits.said_with(crate, group, *(word for it in paths for word in ("--only", it)))
-        told += [it for it in group if edits.is_refused(said, name, crate, it)]
+        told += [it for it in group if edits.goal_of(said, name, crate, it)]
         if said.count("\n") < 3:
             print(f"{name}: {said}", flush=True)
     return told

@@ -9,6 +9,7 @@ TESTS = f"{TOP}/tests/programs"
 UNPROVED = f"{TOP}/out/unproved"
 OF_TESTS = ("tmpl_probe", "tmpl_host")
 ALL = ("tmpl", "tmpl-check", *OF_TESTS)
+LIBRARY = "libtmpl_c.a"  # the engine as a C library
 VARIABLES = {"tmpl": "TMPL", "tmpl-check": "TMPL_CHECK", "tmpl_probe": "TMPL_PROBE", "tmpl_host": "TMPL_HOST"}
 
 
@@ -18,7 +19,7 @@ def read(path):
 
 
 def crate_of(name):
-    return name.replace("-", "_")
+    return "tmpl_c" if name == LIBRARY else name.replace("-", "_")
 
 
 def proved(name):
@@ -27,7 +28,7 @@ def proved(name):
 
 
 def unproved(name):
-    return f"{UNPROVED}/bin/{name}"
+    return f"{TOP}/out/tests/lib/{name}" if name == LIBRARY else f"{UNPROVED}/bin/{name}"
 
 
 def record_of(name):
@@ -80,8 +81,8 @@ def is_proved(name):
 
 
 def is_current(name):
-    """Whether the unproved build of a program is there and up to date."""
-    return os.access(unproved(name), os.X_OK) and os.path.exists(record_of(name)) and read(record_of(name)) == checksum(name)
+    """Whether the unproved build of a program, or of the library, is there and up to date."""
+    return os.path.isfile(unproved(name)) and os.path.exists(record_of(name)) and read(record_of(name)) == checksum(name)
 
 
 def newest(name):

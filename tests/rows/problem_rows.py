@@ -4,6 +4,7 @@ NOT_UNDERSTOOD = "error: action not understood: "
 OUT_OF_PLACE = "error: out of place: "
 UNDECLARED = "error: undeclared variable: "
 OPEN = "error: file ends inside a control: "
+PIPED = ", and its lines with the indentation that they need: a template can't be piped"
 END = '"end" closes nothing: no if, with, range, define or block is open'
 
 ROWS = [
@@ -13,11 +14,31 @@ ROWS = [
     ("arithmetic", "{{.n | add 1}}", ["1:1: " + NOT_UNDERSTOOD + 'no function "add": there is no arithmetic: compute it in the data']),
     ("a comparison", '{{if .name == "Ada"}}x{{end}}', ["1:1: " + NOT_UNDERSTOOD + '"==" is no operand: write eq .name "Ada"']),
     ("a fraction", "{{1.5}}", ["1:1: " + NOT_UNDERSTOOD + "number 1.5 is not whole"]),
-    ("an include", '{{include "x" .}}', ["1:1: " + NOT_UNDERSTOOD + 'no function "include": write {{template "name" .}}']),
+    ("an include", '{{include "x" . | nindent 4}}', ["1:1: " + NOT_UNDERSTOOD + 'no function "include": write {{template "name" .}}' + PIPED]),
+    ("a value after if without its dot", "{{if name}}x{{end}}", ["1:1: " + NOT_UNDERSTOOD + 'no function "name": write .name']),
+    ("a value before a bar without its dot", "{{name | html}}", ["1:1: " + NOT_UNDERSTOOD + 'no function "name": write .name']),
+    ("a field of a name without its dot", "{{user.name}}", ["1:1: " + NOT_UNDERSTOOD + 'no function "user": write .user.name']),
+    ("an expression of GitHub Actions", "${{ matrix.os }}", ["1:2: " + NOT_UNDERSTOOD
+        + 'no function "matrix": to keep an expression of GitHub Actions write {{"${{ matrix.os }}"}}']),
+    ("a variable without its dollar", "{{x := .n}}", ["1:1: " + NOT_UNDERSTOOD + 'no function "x": a variable begins with "$": write $x']),
+    ("quotes that are not straight", "{{“Ada”}}", ["1:1: " + NOT_UNDERSTOOD
+        + 'no function "“Ada”": a string stands between straight quotes: write "Ada"']),
+    ("a string in single quotes", "{{'Ada'}}", ["1:1: " + NOT_UNDERSTOOD
+        + "'Ada' is no character: a string stands in double quotes: write \"Ada\""]),
+    ("two letters exchanged", '{{prinft "%d" .n}}', ["1:1: " + NOT_UNDERSTOOD + 'no function "prinft": write printf']),
+    ("a test of a list", '{{if has "a" .x}}x{{end}}', ["1:1: " + NOT_UNDERSTOOD + 'no function "has": write '
+        '{{range .x}}{{if eq . "a"}}{{$found = true}}{{end}}{{end}} after {{$found := false}}']),
+    ("a message of one's own", '{{fail "no"}}', ["1:1: " + NOT_UNDERSTOOD
+        + 'no function "fail": write {{template "message"}}, and the error line has its name']),
+    ("a left trim marker without its space", "{{-.name}}", ["1:1: " + UNREADABLE + 'a trim marker has a space after it: write "{{- "']),
+    ("a right trim marker without its space", "{{.name-}}", ["1:1: " + UNREADABLE + 'a trim marker has a space before it: write " -}}"']),
+    ("a comment after a space", "{{ /* c */ }}", ["1:1: " + UNREADABLE + 'a comment begins right after its "{{": write {{/* .. */}}']),
+    ("one brace at the end", "{{.name }", ["1:1: " + UNREADABLE + 'unexpected "}": an action ends with "}}"']),
     ("an index as a field", "{{.s.0}}", ["1:1: " + NOT_UNDERSTOOD + 'no field ".0": write index .s 0']),
-    ("a default", '{{.x | default "d"}}', ["1:1: " + NOT_UNDERSTOOD + 'no function "default": write or .x "d"']),
+    ("a default", '{{.x | default "d"}}', ["1:1: " + NOT_UNDERSTOOD + 'no function "default": write or (index . "x") "d"']),
     ("or as an operator", "{{if .a || .b}}x{{end}}", ["1:1: " + NOT_UNDERSTOOD + '"||" is no operand: write or .a .b']),
     ("and as an operator", "{{if .a && .b}}x{{end}}", ["1:1: " + UNREADABLE + '"&&" is no operand: write and .a .b']),
+    ("words for operands", "{{if tls && !http2}}x{{end}}", ["1:1: " + UNREADABLE + '"&&" is no operand: write and .tls (not .http2)']),
     ("not as an operator", "{{if !.a}}x{{end}}", ["1:1: " + UNREADABLE + 'unexpected "!": write not .a']),
     ("not equal", '{{if .a != "b"}}x{{end}}', ["1:1: " + UNREADABLE + '"!=" is no operand: write ne .a "b"']),
     ("less", "{{if .n<3}}x{{end}}", ["1:1: " + UNREADABLE + '"<" is no operand: write lt .n 3']),
@@ -43,8 +64,9 @@ ROWS = [
     # each kind of token
     ("no token", "{{ }}", ["1:1: " + NOT_UNDERSTOOD + "the action is empty"]),
     ("a number that is none", "{{08}}", ["1:1: " + NOT_UNDERSTOOD + "number 08 is out of range or has an 8 or 9 after a first 0"]),
-    ("a number with letters", "{{1x}}", ["1:1: " + NOT_UNDERSTOOD + "1x is no whole number"]),
-    ("a character of two", "{{'ab'}}", ["1:1: " + NOT_UNDERSTOOD + "'ab' is no constant: look at what stands after its \"\\\""]),
+    ("a number with letters", "{{1x}}", ["1:1: " + NOT_UNDERSTOOD + "1x is no integer"]),
+    ("a character of two", "{{'ab'}}", ["1:1: " + NOT_UNDERSTOOD
+        + "'ab' is no character: a string stands in double quotes: write \"ab\""]),
     ("a dot after a bar", "{{.x | .}}", ["1:1: " + NOT_UNDERSTOOD + '"." takes no value, so it may not stand after "|"']),
     ("a text after a bar", '{{.x | "a"}}', ["1:1: " + NOT_UNDERSTOOD + '""a"" takes no value, so it may not stand after "|"']),
     ("a bar with nothing after it", "{{.x |}}", ["1:1: " + NOT_UNDERSTOOD + '"|" stands between two commands']),
@@ -80,6 +102,11 @@ ROWS = [
      ["1:1: error: nested too deeply: at most 500 controls and blocks may be open, and 100 parentheses"]),
     ("a second definition", '{{define "t"}}a{{end}}\n\n {{define "t"}}b{{end}}',
      ['3:2: error: second definition: second definition of "t", the first in line 1']),
+    ("a second definition on the line of the first, after a blank one",
+     '{{define "t"}}{{end}}{{define "t"}}a{{end}} {{define "t"}}b{{end}}',
+     ['1:45: error: second definition: second definition of "t", the first in line 1']),
+    ("a second definition whose name has a backslash", r'{{define "t\\u"}}a{{end}} {{define "t\\u"}}b{{end}}',
+     ['1:27: error: second definition: second definition of "t\\u", the first in line 1']),
     # several, and where
     ("one mistake is one line", "{{if nofun .x}}{{range $i, $e := nofun .y}}{{$i}}{{$e}}{{break}}{{end}}{{else}}{{end}}", [
         "1:1: " + NOT_UNDERSTOOD + 'no function "nofun"', "1:16: " + NOT_UNDERSTOOD + 'no function "nofun"']),
@@ -109,7 +136,7 @@ ROWS = [
     ("columns in characters", "é☃{{name}}\t{{name}}", ["1:3: " + NOT_UNDERSTOOD + 'no function "name": write .name',
         "1:12: " + NOT_UNDERSTOOD + 'no function "name": write .name']),
     ("an action of several lines", "\n {{if\n  .x ==\n 1}}{{end}}", ["2:2: " + NOT_UNDERSTOOD + '"==" is no operand: write eq .x 1']),
-    ("what is left open after a refusal", "{{if nofun}}", ["1:1: " + NOT_UNDERSTOOD + 'no function "nofun"',
+    ("what is left open after a refusal", "{{if nofun}}", ["1:1: " + NOT_UNDERSTOOD + 'no function "nofun": write .nofun',
         "1:13: " + OPEN + '"if" of line 1 is open at the end of the file']),
     # warnings
     ("a template that no file has", '{{template "t"}}', ['1:1: warning: no file defines the template "t"']),
@@ -134,6 +161,8 @@ DATA = [
     ("no comma", '{"a": 1\n"b": 2}', ["2:1: " + JSON + '"," or "}" is wanted after an entry']),
     ("a text in single quotes", "{'a': 1}", ["1:2: " + JSON + "a key in double quotes is wanted"]),
     ("a comment", "// x\n1", ["1:1: " + JSON + "a value is wanted: JSON has no comments"]),
+    ("YAML", "a: 1\nb: 2\n", ["1:1: " + JSON + "a value is wanted: if this is YAML, make JSON of it first"]),
+    ("a byte order mark", "\ufeff{}", ["1:1: " + JSON + "a value is wanted, and no byte order mark before it"]),
     ("nothing", "", ["1:1: " + JSON + "a value is wanted, and the file ends"]),
     ("two values", "1 2", ["1:3: " + JSON + "the end is wanted after the value"]),
     ("a text that is not closed", '["a', ["1:4: " + JSON + "a text is not closed"]),
@@ -161,21 +190,21 @@ spec:
       {{- end }}
       containers:
         - name: {{ .Chart.Name | quote }}
-""", ["4:9: " + NOT_UNDERSTOOD + 'no function "include": write {{template "name" .}}',
-      "6:5: " + NOT_UNDERSTOOD + 'no function "include": write {{template "name" .}}',
-      "8:13: " + NOT_UNDERSTOOD + 'no function "default": write or .x "d"',
+""", ["4:9: " + NOT_UNDERSTOOD + 'no function "include": write {{template "name" .}}' + PIPED,
+      "6:5: " + NOT_UNDERSTOOD + 'no function "include": write {{template "name" .}}' + PIPED,
+      "8:13: " + NOT_UNDERSTOOD + 'no function "default": write or (index . "x") "d"',
       "13:9: " + NOT_UNDERSTOOD + 'no function "toYaml": write {{template "to json" .x}} of examples/quotes',
       "16:17: " + NOT_UNDERSTOOD
-      + 'no function "quote": write printf "%q" .x, or a template of examples/quotes for YAML, JSON or a shell']),
+      + 'no function "quote": write {{template "yaml" .x}} of examples/quotes, or json, sh, systemd or nginx by the format of the output']),
     ("Helm: names", """{{- define "shop.name" -}}
 {{- default .Chart.Name .Values.nameOverride | trunc 63 | trimSuffix "-" }}
 {{- end }}
 {{- if and .Values.ingress.enabled (not (hasKey .Values "host")) }}
 {{- fail "no host" }}
 {{- end }}
-""", ["2:1: " + NOT_UNDERSTOOD + 'no function "default": write or .x "d"',
+""", ["2:1: " + NOT_UNDERSTOOD + 'no function "default": write or (index . "x") "d"',
       "4:1: " + NOT_UNDERSTOOD + 'no function "hasKey": write ne (index .x "k") nil',
-      "5:1: " + NOT_UNDERSTOOD + 'no function "fail": use --missingkey error']),
+      "5:1: " + NOT_UNDERSTOOD + 'no function "fail": write {{template "message"}}, and the error line has its name']),
     ("Helm: ports by a sum", """{{- range $i := until (int .Values.count) }}
 port: {{ add 8000 $i }}
 {{- end }}
@@ -201,9 +230,9 @@ root {{ key "web/root" }};
 {{ for item in items }}
   {{ item.name }}: {{ item.price * 2 }}
 {{ endfor }}
-""", ["1:1: " + NOT_UNDERSTOOD + 'no function "title": change the text in the data',
+""", ["1:1: " + NOT_UNDERSTOOD + 'no function "title": change the string in the data',
       "2:1: " + NOT_UNDERSTOOD + 'no function "for": write {{range .list}}',
-      "3:3: " + NOT_UNDERSTOOD + 'no function "item"',
+      "3:3: " + NOT_UNDERSTOOD + 'no function "item": write .item.name',
       "3:20: " + UNREADABLE + 'unexpected "*": there is no arithmetic; compute it in the data',
       "4:1: " + NOT_UNDERSTOOD + 'no function "endfor": write {{end}}']),
     ("Handlebars: a list", """{{#each people}}

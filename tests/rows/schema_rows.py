@@ -461,8 +461,8 @@ UNREAD = [
     ("in a definition of earlier drafts", '{"definitions": {"a/b": {"x": 1}}}', '"x"', '/definitions/a~1b/x: the keyword "x" is not understood'),
     ("minimum of draft 4", '{"minimum": true}', '"minimum"', "/minimum: a number is wanted"),
     ("exclusive minimum of draft 4", '{"minimum": 1, "exclusiveMinimum": true}', '"exclusiveMinimum"', "/exclusiveMinimum: a number is wanted"),
-    ("a text for a count", '{"minLength": "1"}', '"minLength"', "/minLength: a whole number from 0 on is wanted"),
-    ("a count below zero", '{"minItems": -1}', '"minItems"', "/minItems: a whole number from 0 on is wanted"),
+    ("a text for a count", '{"minLength": "1"}', '"minLength"', "/minLength: an integer from 0 on is wanted"),
+    ("a count below zero", '{"minItems": -1}', '"minItems"', "/minItems: an integer from 0 on is wanted"),
     ("no such type", '{"type": "text"}', '"type"', '/type: no type "text"'),
     ("no such type in a list", '{"type": ["string", "text"]}', '"text"', '/type/1: no type "text"'),
     ("a type that is no text", '{"type": 1}', '"type"', "/type: the name of a type is wanted, or a list of them"),
@@ -534,7 +534,9 @@ COOKBOOK = [
      '"printf" may get what it refuses'),
     ("configmap.tmpl", of({"name": TEXT, "files": MAP_OF_TEXTS}), ["quotes.tmpl"], [], None),
     ("nginx.tmpl", of({"pid": TEXT, "sites": {"type": "array", "items": SITE}}), [], ["--stop", "nginx"], None),
-    ("nginx.tmpl", of({"pid": TEXT, "sites": {"type": "array", "items": SITE}}), ["quotes.tmpl"], [], '"index" may get what it refuses'),
+    ("nginx.tmpl", of({"pid": TEXT, "sites": {"type": "array", "items": SITE}}), ["quotes.tmpl"], [], 'there is no template "nginx has no parameter with a NUL"'),
+    ("nginx.tmpl", of({"pid": TEXT, "sites": {"type": "array", "items": SITE}}), ["quotes.tmpl"],
+     ["--stop", "nginx has no parameter with a NUL", "--stop", "nginx has no quote for a $"], None),
     ("app.tmpl", of({"description": TEXT, "greeting": TEXT, "title": TEXT}), [], ["--stop", "replace", "--stop", "systemd", "--stop", "systemd command"], None),
     ("compose.tmpl", of({"services": {"type": "object", "additionalProperties": SERVICE}}), ["quotes.tmpl"], ["--stop", "to json"], None),
     ("{{range .hosts}}{{.}}; {{end}}", of({"hosts": ITEMS}), [], [], None),
@@ -551,9 +553,58 @@ COOKBOOK = [
     ("<h1>{{html .title}}</h1>", of({"title": TEXT}), [], [], None),
 ]
 
-# schemas that are as large as may be, or lead to much work, with a template each, more words, and what is said; each is checked within SECONDS of a processor
+# copy loops over a text: what is done by the byte, and what stands instead of other parts of the loop
+BEGINS = "{{if $is_new}}{{$from = $i}}{{$is_new = false}}{{end}}"
+LAST = "{{if not $is_new}}{{slice $text $from}}{{end}}"
+
+
+def loop(steps, start="{{$text := .}}{{$from := 0}}{{$is_new := false}}", byte="{{$byte := index $text $i}}", begins=BEGINS, last=LAST):
+    """A template that calls a copy loop with a name."""
+    return '{{define "q"}}%s<{{range $i := len $text}}%s%s%s{{end}}%s>{{end}}{{template "q" .name}}' % (start, byte, begins, steps, last)
+
+
+WRITES = "{{if eq $byte 'a'}}{{slice $text $from $i}}A{{$is_new = true}}{{end}}"
+LOOPS = [
+    ("one byte", loop(WRITES), []),
+    ("other names", loop(WRITES).replace("$text", "$s").replace("$from", "$at").replace("$is_new", "$cut").replace("$byte", "$b"), []),
+    ("several ways", loop("{{if lt $byte 0x20}}{{slice $text $from $i}}{{$is_new = true}}{{if eq $byte 9}}\\t{{else if eq $byte 10}}\\n{{else}}{{printf \"\\\\x%02x\" $byte}}{{end}}"
+                          "{{else if or (eq $byte '<' '>') (ge $byte 0x80)}}{{slice $text $from $i}}&#{{$byte}};{{$is_new = true}}{{end}}"), []),
+    ("an if of nothing", loop("{{if eq $byte 0}}{{end}}"), []),
+    ("begun anew first", loop("{{if eq $byte 'a'}}{{$is_new = true}}{{slice $text $from $i}}A{{end}}"), []),
+    ("a stop", loop("{{if eq $byte 0}}{{template \"stop\"}}{{end}}"), ["--stop", "stop"]),
+]
+
+# near these, each with data for which it fails, and the type of its name
+NEAR_LOOPS = [
+    ("a stop that is not named", loop("{{if eq $byte 0}}{{template \"stop\"}}{{end}}"), "\0", TEXT),
+    ("one past the byte", loop("{{if eq $byte 'a'}}{{slice $text $from $i}}{{index $text 3}}{{$is_new = true}}{{end}}"), "a", TEXT),
+    ("cut backwards", loop("{{if eq $byte 'b'}}{{slice $text $i $from}}B{{$is_new = true}}{{end}}"), "ab", TEXT),
+    ("an else that fails", loop("{{if eq $byte 'a'}}{{slice $text $from $i}}A{{$is_new = true}}{{else}}{{index $text 9}}{{end}}"), "b", TEXT),
+    ("a value that no number has", loop("{{if eq $byte 'a'}}{{slice $text $from $i}}{{printf \"%s\" $byte}}{{$is_new = true}}{{end}}"), "a", TEXT),
+    ("a comparison with a text", loop("{{if eq $byte \"a\"}}{{slice $text $from $i}}A{{$is_new = true}}{{end}}"), "a", TEXT),
+    ("a number", loop(WRITES), 7, {"type": ["string", "integer"]}),
+    ("from one past the end", loop(WRITES, last="{{slice $text 1}}"), "", TEXT),
+    ("what stands behind", loop(WRITES, last=LAST + "{{index $text 9}}"), "a", TEXT),
+    ("an index where it began", loop(WRITES, begins=BEGINS + "{{index $text (print $i)}}"), "a", TEXT),
+]
+
+# a template and data, each of which is checked beside this schema, and how the lines begin that are told
+BESIDE_SCHEMA = of({"a": TEXT})
+BESIDE = [
+    ("both are accepted", "{{len .a}}", {"a": "x"}, []),
+    ("the template is refused", "{{len .b}}", {"a": "x"}, ["t:1:1: error: may fail: .b "]),
+    ("the data is refused", "{{len .a}}", '{"a":', ["d:1:6: error: not JSON: "]),
+    ("a number in the data is refused", "{{len .a}}", {"a": 1.5}, ["d:1:7: error: "]),
+    ("both are refused", "{{len .b}}", '{"a":', ["t:1:1: error: may fail: .b ", "d:1:6: error: not JSON: "]),
+    ("the data does not conform", "{{len .a}}", {"a": 7}, []),
+]
+
+# schemas that are as large as may be, or lead to much work, with a template each, more words, and what is said; each is checked within SECONDS of a processor,
+# on a stack of the machine of STACK bytes
 SECONDS = 20
+STACK = 512 << 10
 MANY = [f"name{number}" for number in range(9_900)]
+WORDS = tuple({"const": name} for name in MANY)
 WIDE = {"type": "object", "properties": {name: TEXT for name in MANY[:3_200]}, "required": MANY[:3_200], "additionalProperties": False}
 ASKS = "".join("{{if .%s}}{{len .%s}}{{else}}{{range .%s}}{{end}}{{end}}" % (name, name, name) for name in ("x", "y", "z"))
 LISTS = of({"x": ITEMS, "y": ITEMS, "z": ITEMS})
@@ -571,6 +622,18 @@ WALKS = ['{{define "w"}}{{.name}}{{%s .next}}{{template "w" .}}{{end}}{{end}}{{t
 HOSTILE = [
     ("9,900 names in one required", {"type": "object", "required": MANY, "properties": {"x": ITEMS, "y": ITEMS, "z": ITEMS}}, ASKS, DEFAULT, None),
     ("3,200 properties", {**WIDE, "properties": {**WIDE["properties"], **LISTS["properties"]}, "required": [*WIDE["required"], "x", "y", "z"]}, ASKS, [], None),
+    ("5,000 names in one required", {"type": "object", "required": MANY[:5_000]}, "{{if .name7}}x{{end}}", DEFAULT, None),
+    ("1,500 alternatives", {"anyOf": list(WORDS[:1_500])}, "{{if .}}{{print .}}{{end}}", [], None),
+    ("1,500 alternatives beside a type", {"type": "string", "anyOf": list(WORDS[:1_500])}, "{{if .}}{{print .}}{{end}}", [], None),
+    ("1,500 alternatives beside a type that none has", {"type": "object", "oneOf": list(WORDS[:1_500])}, "{{.x}}", [], None),
+    ("1,500 alternatives of a definition", {"$ref": "#/$defs/a", "$defs": {"a": {"anyOf": list(WORDS[:1_500])}}}, "x", [], "more than 1000 alternatives of one definition"),
+    ("5,000 alternatives", {"anyOf": [True] * 5_000}, "{{len .}}", [], "more than 1500 alternatives"),
+    ("5,000 alternatives beside a type", {"type": "string", "oneOf": [True] * 5_000}, "{{len .}}", [], "more than 1500 alternatives"),
+    ("5,000 alternatives in two lists", {"anyOf": [{"anyOf": [True] * 1_000}] * 5}, "{{len .}}", [], "more than 1500 alternatives"),
+    ("5,000 alternatives that are not looked at", {"type": "object", "properties": {}, "anyOf": [True] * 5_000}, "x", [], "more than 1500 alternatives"),
+    ("5,000 types", {"type": ["string"] * 5_000}, "{{len .}}", [], None),
+    ("9,900 constants", {"enum": MANY}, "{{len .}}", [], None),
+    ("9,900 constants, none of which is a map", {"enum": MANY}, "{{.x}}", DEFAULT, ".x of a text, which may come here"),
     ("500 properties in two orders", {"anyOf": [{**WIDE, "properties": {**{name: TEXT for name in names}, **LISTS["properties"]}, "required": [*names[:250], "x", "y", "z"]}
                                                   for names in (MANY[:500], MANY[499::-1])]}, ASKS, [], None),
     ("1,000 maps in a map, each of its own form", of({name: of({name: TEXT}) for name in MANY[:1_000]}), "{{range .}}{{if .}}x{{end}}{{end}}", [], None),

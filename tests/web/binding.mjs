@@ -5,7 +5,7 @@ import { pathToFileURL } from "node:url";
 import { isDeepStrictEqual } from "node:util";
 
 const address = (name) => pathToFileURL(`${process.argv[2]}/${name}`);
-const { load, TemplateError, MemoryError, TrapError } = await import(address("node.mjs"));
+const { load, Problem, TemplateError, MemoryError, TrapError } = await import(address("node.mjs"));
 const bytes = readFileSync(address("tmpl.wasm"));
 const engine = await load();
 let passed = 0, failed = 0;
@@ -58,8 +58,9 @@ tries("a text longer than the room for it", () => engine.render({ m: "{{range 30
 
 // ---- what is wrong in files
 
+const said = (problems) => problems.map(String);
 const mistake = 'error: action not understood: no function "name": write .name';
-tries("what is wrong in files", () => engine.check([["a", "{{name}}"], ["b", "text"], ["c", "\n{{name}}"]]), [`a:1:1: ${mistake}`, `c:2:1: ${mistake}`]);
+tries("what is wrong in files", () => said(engine.check([["a", "{{name}}"], ["b", "text"], ["c", "\n{{name}}"]])), [`a:1:1: ${mistake}`, `c:2:1: ${mistake}`]);
 tries("nothing is wrong in a file", () => engine.check(hello), []);
 tries("nothing is wrong in no file", () => engine.check([]), []);
 tries("the name of a file that is checked is no UTF-8", () => engine.check([[Uint8Array.of(0xff), ""]]), ["TemplateError", "tmpl: the name of a file is not UTF-8", 2, ""]);
@@ -70,21 +71,70 @@ const problemsOf = (call) => {
         return error.problems;
     }
 };
-check("what an error bears", problemsOf(() => engine.render({ a: "{{name}}" })), [`a:1:1: ${mistake}`]);
-check("what an error of what is kept bears", problemsOf(() => engine.templates({ a: "{{name}}" })), [`a:1:1: ${mistake}`]);
+const nameless1 = new Problem("a", 1, 1, "not-understood", 'action not understood: no function "name": write .name');
+check("what an error bears", problemsOf(() => engine.render({ a: "{{name}}" })), [nameless1]);
+check("what an error of what is kept bears", problemsOf(() => engine.templates({ a: "{{name}}" })), [nameless1]);
+check("a problem as a line", said([nameless1]), [`a:1:1: ${mistake}`]);
+const ofB = problemsOf(() => engine.render([["a", "{{if 1}}{{end}}"], ["b:1:1: error: out of place: c", "\n {{if 1}}"], ["c", "{{"]]));
+check("the parts of problems", ofB.map(({ file, line, column, rule }) => [file, line, column, rule]),
+    [["b:1:1: error: out of place: c", 2, 10, "open-at-end"], ["c", 1, 1, "unreadable"]]);
+const many = "{{".repeat(3000);
+check("at most 1,000 problems are kept", problemsOf(() => engine.render({ m: many.replaceAll("{{", "{{}}") })).length, 1000);
+check("as many problems as are asked for", engine.check({ m: "{{}}".repeat(30) }, { most: 7 }).length, 7);
+tries("problems in little memory", () => engine.check({ m: "{{}}".repeat(30000) }, { memory: 100_000 }), ["MemoryError", "tmpl: out of memory"]);
+
+/** The place that an error names. */
+const placeOf = (call) => {
+    try {
+        call();
+    } catch (error) {
+        return [error.file, error.lineNumber];
+    }
+};
+check("the place of a refusal", placeOf(() => engine.render({ m: "\n{{" })), ["m", 2]);
+check("the place of a fault", placeOf(() => engine.render({ 'd:7: in "q": /m': "{{range 1}}\n{{len .}}{{end}}" }, "m")), ['d:7: in "q": /m', 2]);
+check("the place of a fault that names a template", placeOf(() => engine.render({ m: '\n{{template "q:1: in "}}' })), ["m", 2]);
+check("an error without a place", placeOf(() => engine.render({ m: "" }, "n")), [undefined, undefined]);
 check("what any other error bears", problemsOf(() => engine.render({ m: "{{index . 7}}" }, "m", [1])), []);
 
 // ---- limits
 
-const digits = { m: "{{range 100000}}0123456789{{end}}" }, cut = ["TemplateError", "tmpl: write failed", 6, "012345678901"];
+const digits = { m: "{{range 100000}}0123456789{{end}}" }, cut = ["TemplateError", "tmpl: more than 12 bytes of output", 6, "012345678901"];
 tries("a limit of the text", () => engine.render(digits, "m", undefined, { output: 12 }), cut);
 tries("a limit of the text of what is kept", () => engine.templates(digits).render("m", undefined, { output: 12 }), cut);
 tries("a limit that is not reached", () => engine.render(hello, "hello.tmpl", ada, { output: 11 }), greeted);
 tries("a limit of memory", () => engine.templates(digits).render("m", undefined, { memory: 1 << 16 }), ["MemoryError", "tmpl: out of memory"]);
 tries("a limit of memory that is not reached", () => engine.templates(digits).render("m", undefined, { memory: 1 << 23 }).length, 1000000);
 
+tries("a limit of memory of a render of files", () => engine.render(digits, "m", undefined, { memory: 1 << 16 }), ["MemoryError", "tmpl: out of memory"]);
+tries("a limit of memory of reading data", () => engine.render({ m: "" }, "m", Array(20_000).fill(7), { memory: 1 << 16 }), ["MemoryError", "tmpl: out of memory"]);
+tries("a limit of memory of parsing", () => engine.render({ m: "{{.}}".repeat(20_000) }, "m", 1, { memory: 1 << 16 }), ["MemoryError", "tmpl: out of memory"]);
+tries("a limit of memory of files that are kept", () => engine.templates({ m: "{{.}}".repeat(20_000) }, { memory: 1 << 16 }), ["MemoryError", "tmpl: out of memory"]);
+tries("no limit after it", () => engine.templates({ m: "{{.}}".repeat(20_000) }).render("m", 1).length, 20_000);
+/** Whether a render ends in this memory, of templates that hold older data, or none. */
+function endsIn(memory, before) {
+    const kept = engine.templates({ m: "{{range 40000}}0123456789{{end}}", s: "" });
+    kept.render("s", before);
+    const came = cameOf(() => kept.render("m", Array(4000).fill("newer"), { memory }).length);
+    kept.close();
+    return came;
+}
+let least = 1 << 18;
+while (endsIn(least) !== 400_000) least += least >> 4;
+check("memory for a render beside older data", endsIn(least, Array(200_000).fill("older")), 400_000);
+const tooLittle = least - (least >> 4);
+check("older data that is given back makes no room", endsIn(tooLittle, Array(200_000).fill("older")), ["MemoryError", "tmpl: out of memory"]);
+
 // ---- options
 
+for (const [what, call] of Object.entries({
+    "a render": (options) => engine.render(hello, "hello.tmpl", ada, options), "a render of what is kept": (options) => engine.templates(hello).render("hello.tmpl", ada, options),
+    "templates": (options) => engine.templates(hello, options), "a check": (options) => engine.check(hello, options),
+})) {
+    tries(`an option that is not there, of ${what}`, () => call({ memroy: 5 }), ["TypeError", "there is no option memroy"]);
+    tries(`half a byte of memory, of ${what}`, () => call({ memory: 1.5 }), ["RangeError", "memory is 1.5"]);
+}
+tries("half a step", () => engine.render(hello, "hello.tmpl", ada, { steps: 1.5 }), ["RangeError", "steps is 1.5"]);
 const greet = (options) => () => engine.render(hello, "hello.tmpl", {}, options);
 tries("a missing key", greet({ missingKey: "error" }),
     ["TemplateError", 'tmpl: hello.tmpl:1: in "hello.tmpl": no entry for key "name"', 1, "Hello, "]);

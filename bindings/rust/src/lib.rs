@@ -96,20 +96,20 @@ impl fmt::Display for Error {
 
 impl std::error::Error for Error {}
 
-/// How much output lent memory holds, and how much there is.
+/// How much output a buffer holds, and how much there is.
 #[derive(Clone, Copy, Debug, PartialEq, Eq)]
 pub struct Extent {
     pub taken: usize,
     pub needed: usize,
 }
 
-/// Renders into lent memory: the status, and the extents of the text and of the line. No data is data of no bytes.
+/// Renders into a buffer: the status, and the extents of the text and of the line. No data is data of no bytes.
 pub fn render_into(
     files: &[(&str, &[u8])], name: &str, data: &[u8], settings: &Settings, out: &mut [u8], line: &mut [u8],
 ) -> (u8, Extent, Extent) {
     let array: Vec<RawFile> = files.iter().map(|(path, bytes)| raw_file(path, bytes)).collect();
     let (mut o, mut e) = (raw_buffer(out), raw_buffer(line));
-    // SAFETY: each pointer and size are those of one slice, which is lent for the call; `out` and `line` are lent to it alone.
+    // SAFETY: each pointer and size are those of one slice, which is borrowed for the call; `out` and `line` are borrowed by it alone.
     let status = unsafe {
         tmpl_render(settings, array.as_ptr(), array.len(), name.as_ptr(), name.len(), data.as_ptr(), data.len(), &mut o, &mut e)
     };
@@ -131,7 +131,7 @@ fn ended(status: u8, line: &[u8], text: Vec<u8>) -> Result<Vec<u8>, Error> {
 pub fn check(files: &[(&str, &[u8])]) -> Result<Vec<String>, Error> {
     let array: Vec<RawFile> = files.iter().map(|(path, bytes)| raw_file(path, bytes)).collect();
     let mut text = RawText::EMPTY;
-    // SAFETY: each pointer and size are those of one slice, which is lent for the call, and no other call has the handle.
+    // SAFETY: each pointer and size are those of one slice, which is borrowed for the call, and no other call has the handle.
     let status = unsafe { tmpl_check(array.as_ptr(), array.len(), &mut text) };
     if status != 4 {
         ended(status, b"tmpl: the name of a file is not UTF-8\n", Vec::new())?;
@@ -232,7 +232,7 @@ impl Worker {
         }
         self.read = None;
         let kept = &mut self.data;
-        // SAFETY: each pointer and size are those of one slice, which is lent for the call.
+        // SAFETY: each pointer and size are those of one slice, which is borrowed for the call.
         accepted(|err| unsafe { tmpl_data_read(kept, data.as_ptr(), data.len(), err) })?;
         self.read = Some(data.to_vec());
         Ok(())
@@ -240,7 +240,7 @@ impl Worker {
 
     fn render(&mut self, name: &str, data: &[u8], settings: &Settings) -> Result<Vec<u8>, Error> {
         self.read(data)?;
-        // SAFETY: the handles are four, no other call has them, and the name is lent for the call.
+        // SAFETY: the handles are four, no other call has them, and the name is borrowed for the call.
         let status = unsafe {
             tmpl_render_text(settings, &mut self.program, &mut self.data, name.as_ptr(), name.len(), &mut self.text, &mut self.line)
         };
@@ -322,7 +322,7 @@ impl Templates {
     pub fn add(&self, path: &str, bytes: &[u8]) -> Result<(), Error> {
         let mut kept = self.kept();
         let file = raw_file(path, bytes);
-        // SAFETY: the file is lent for the call.
+        // SAFETY: the file is borrowed for the call.
         accepted(|err| unsafe { tmpl_set_add(&mut kept.set, &file, err) }).map_err(|error| match error.status {
             4 => Error { problems: check(&[(path, bytes)]).unwrap_or_default(), ..error },
             _ => error,

@@ -13,8 +13,8 @@ use Rattle.tmpl_syntax.specs.Set.{Template}
 use Rattle.tmpl_syntax.specs.computed.Parse.{parsed}
 use Rattle.tmpl_syntax.specs.declared.refused.Refused.{Refused}
 use Rattle.tmpl_syntax.proofs.ReadingLemmas.{has-one-outcome, has-outcome}
-use Rattle.tmpl_refusals.specs.Examine.{Examined, refused_in}
-use Rattle.tmpl_problems.specs.Checked.{refusal_in}
+use Rattle.tmpl_syntax.specs.Examine.{Examined}
+use Rattle.tmpl_problems.specs.Checked.{refused_in}
 use Rattle.tmpl_problems.specs.declared.problem.Problem.{Problem}
 use Rattle.tmpl_tool.specs.Source.{Bytes}
 use Rattle.tmpl_c.specs.Lent.{each_added, pair_of, pairs_of}
@@ -62,11 +62,11 @@ module _ (code : ℕ) (old : List Template) (f : Bytes × Bytes) (fs : List (Byt
         some_refused r rs = rw (eqb-suc-zero (length rs)) refl
 
     -- .. with what is said of it
-    goes_on : (new : List Template) (problems : List Problem) (status : ℕ) → Examined old f.0 f.1 new (map refused_in (map refusal_in problems))
+    goes_on : (new : List Template) (problems : List Problem) (status : ℕ) → Examined old f.0 f.1 new (map refused_in problems)
         → status ≡ status_after code problems → status_from code old (f ∷ fs) ≡ status_from status new fs
     goes_on new problems status told is =
-        examined new (map refused_in (map refusal_in problems)) told
-        ∙ ap (λ (n : ℕ). status_from (if eqb n 0 then code else 4) new fs) (length-map (map refusal_in problems) refused_in ∙ length-map problems refusal_in)
+        examined new (map refused_in problems) told
+        ∙ ap (λ (n : ℕ). status_from (if eqb n 0 then code else 4) new fs) (length-map problems refused_in)
         ∙ ap (λ n. status_from n new fs) (sym is)
 
 -- the file at a place, and those after it
@@ -83,9 +83,9 @@ module _ (code : ℕ) (old : List Template) (files : List File) (i : ℕ) (d : F
       ∙ no_text code old (pair_of this) (pairs_of (drop (i + 1) files)) (false_from_ne_true _ (λ e. fails (IsUtf8-from_is_utf8 _ e)))
 
   pub goes_on_at : (name : Bytes) → name ≡ this.name.now → IsUtf8 this.name.now → (new : List Template) (problems : List Problem) (status : ℕ)
-      → Examined old name this.bytes.now new (map refused_in (map refusal_in problems)) → status ≡ status_after code problems
+      → Examined old name this.bytes.now new (map refused_in problems) → status ≡ status_after code problems
       → status_from code old (pairs_of (drop i files)) ≡ status_from status new (pairs_of (drop (i + 1) files))
   goes_on_at name same is new problems status told comes =
       ap (status_from code old) left
       ∙ goes_on code old (pair_of this) (pairs_of (drop (i + 1) files)) (is_utf8-from_IsUtf8 this.name.now is) new problems status
-      (subst (λ (n : Bytes). Examined old n this.bytes.now new (map refused_in (map refusal_in problems))) same told) comes
+      (subst (λ (n : Bytes). Examined old n this.bytes.now new (map refused_in problems)) same told) comes

@@ -9,9 +9,9 @@ use Rattle.tmpl_syntax.specs.Set.{Template}
 use Rattle.tmpl_tool.specs.Outcome.{Answer}
 use Rattle.tmpl_tool.specs.Source.{Bytes, Files}
 use Rattle.tmpl_tool.specs.Tool as tool
-use Rattle.tmpl_tool.specs.Tool.{Parse, Early, add_file, answer_of, asked_name, bad_words, data_found, data_in, load_each, named_run, no_read}
+use Rattle.tmpl_tool.specs.Tool.{Parse, Early, answer_of, data_found, load_each, named_run, no_read}
 use Rattle.tmpl_values.specs.Stage.{and_then}
-use Rattle.tmpl_tool.specs.Tool.{stop_answer, stop_if, with_file}
+use Rattle.tmpl_tool.specs.Tool.{stop_if, with_file}
 use Rattle.tmpl_tool.proofs.StageLemmas.{and_then-and_then}
 use Rattle.tmpl_c.specs.Laws.{AddsInTurn, AnswersAsCommand, AnswersButForName, LendsData, LendsFiles, Prints, RefusesName, Runs, SameBut, StopsAtData}
 use Rattle.tmpl_c.specs.Laws.{IsKeptAsBefore, IsKeptAsOffered, KeepsAsBefore, KeepsOffered, RendersAsKept, StopsAtFile, StopsAtTemplate}

@@ -16,7 +16,7 @@ use Rattle.tmpl_tool.specs.Inputs.{said_of}
 use Rattle.tmpl_tool.specs.Outcome.{Answer, Outcome, Says}
 use Rattle.tmpl_tool.specs.Source.{Bytes}
 use Rattle.tmpl_tool.specs.Tool as tool
-use Rattle.tmpl_tool.specs.Tool.{IsParse, Parse, Early, add_file, answer_of, named_run, only_text, stop_answer, stop_if}
+use Rattle.tmpl_tool.specs.Tool.{IsParse, Parse, Early, add_file, answer_of, named_run, only_text, stop_answer}
 use Rattle.tmpl_tool.specs.declared.stop.Stop.TheVariants as stop
 use Rattle.tmpl_tool.proofs.MessageLemmas.{nothing_out, nothing_put}
 use Rattle.tmpl_tool.proofs.ParseLemmas.{for_each}

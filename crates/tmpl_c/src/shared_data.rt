@@ -1,6 +1,5 @@
 //! Data that several handles keep.
 ghost use Rattle.std.specs.Prelude.{◌≡◌, IfOk};
-ghost use Rattle.tmpl_values.specs.View.{value_of};
 
 use std::alloc::{AllocError, Global};
 use std::sync::Arc;

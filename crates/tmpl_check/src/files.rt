@@ -57,8 +57,8 @@ pub(crate) fn load<'a>(
                 let _ = eprintln!(rt; "tmpl-check: {name}: no such file");
                 Ok(None)
             }
-            _ => {
-                let _ = eprintln!(rt; "tmpl-check: {name}: can't be read");
+            kind => {
+                let _ = eprintln!(rt; "tmpl-check: {name}: can't be read: {kind}");
                 Ok(None)
             }
         },

@@ -80,10 +80,6 @@ open_on (Some a) lay more t g h = let l = longer t in let after = h.0 in let bel
 abbrev Compiler : Type 0
 Compiler = held_compiler.Compiler
 
-pub still_open : (e : Option held_around.Around) (old mid : Compiler) → layout_of mid.scope ≡ layout_of old.scope → Ends (code_of old.code) (code_of mid.code)
-    → IsOpen e (code_of old.code) (layout_of old.scope) → IsOpen e (code_of mid.code) (layout_of mid.scope)
-still_open e old mid same on h = open_on e (layout_of old.scope) (layout_of mid.scope) on (omega (arith, ap length same)) h
-
 -- a part that is put after code which ends with the old one
 put_on : {P : NodesPart} {e : Option held_around.Around} (old : Compiler) {mid new : Compiler} → IsOpen e (code_of old.code) (layout_of old.scope)
     → Ends (code_of old.code) (code_of mid.code)

@@ -1,7 +1,7 @@
 //! What binds the value of a pipeline: headers to code, and their variables in scope.
 #![tactic(auto, using(crate::proofs::TailLemmas::ends))]
 
-ghost use Rattle.std.specs.Prelude.{◌≡◌, OnOk, None, ◌∷◌, option_map};
+ghost use Rattle.std.specs.Prelude.{◌≡◌, OnOk, None, option_map};
 ghost use Rattle.tmpl_grammar.specs.Need.{declared_count};
 ghost use Rattle.tmpl_grammar.specs.View.{binding_of, header_of, operand_of, pipeline_of};
 ghost use Rattle.tmpl_code.specs.Code as spec;

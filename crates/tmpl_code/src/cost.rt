@@ -1,5 +1,5 @@
 //! What pipelines cost: how many cells of a stack they need, and whether they make a text.
-ghost use Rattle.std.specs.Prelude.{◌≡◌, ◌+◌, ◌||◌, false, IfOk, max, option_map};
+ghost use Rattle.std.specs.Prelude.{◌+◌, ◌||◌, false, IfOk, max, option_map};
 ghost use Rattle.tmpl_code.specs.MakesText as texts;
 ghost use Rattle.tmpl_code.specs.computed.Surveyed.{Costs};
 ghost use Rattle.tmpl_grammar.specs.Need as needs;

@@ -1,6 +1,5 @@
 //! The heaviest of the templates that nodes call.
 ghost use Rattle.std.specs.Prelude.{◌≡◌, max};
-ghost use Rattle.tmpl_syntax.specs.Set.{number_of};
 ghost use Rattle.tmpl_syntax.specs.View.{node_of, nodes_in, set_view};
 ghost use Rattle.tmpl_code.specs.computed.Weights as spec;
 

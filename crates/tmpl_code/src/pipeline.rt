@@ -5,7 +5,6 @@ ghost use Rattle.std.specs.Prelude.{◌≡◌, ◌+◌, ◌^◌, ◌≤◌, ◌<
 ghost use Rattle.tmpl_funcs.specs.Func.{takes};
 ghost use Rattle.tmpl_grammar.specs.View.{commands_in, operand_of, operands_in, pipeline_of};
 ghost use Rattle.tmpl_code.specs.Code as spec;
-ghost use Rattle.tmpl_code.specs.Layout.{slot_named};
 ghost use Rattle.tmpl_code.specs.computed.Held.{CalledAt, Ends, Placed, code_of, after_decision, layout_of};
 
 use crate::code::Code;

@@ -1,6 +1,6 @@
 //! Runs over cells that are reserved, and filled only as calls go down: so a run that may go deep touches no more memory
 //! than it uses.
-ghost use Rattle.std.specs.Prelude.{◌≡◌, ◌+◌, ◌-◌, ◌<◌, ◌≤◌, ◌^◌, IfSome, get_or, length, option_map, slice_get, take};
+ghost use Rattle.std.specs.Prelude.{◌≡◌, ◌-◌, ◌<◌, ◌≤◌, ◌^◌, IfSome, get_or, length, option_map, slice_get, take};
 ghost use Rattle.std.specs.Prelude.{vec_capacity, vec_len, Ok};
 ghost use Rattle.tmpl_values.specs.View.{value_of};
 ghost use Rattle.tmpl_syntax.specs.View.{set_view};

@@ -1,5 +1,5 @@
 //! The run of a program, from the start of a template to its end.
-ghost use Rattle.std.specs.Prelude.{◌≡◌, ◌≢◌, Ok, Err, ◌+◌, ◌-◌, ◌<◌, ◌≤◌, ◌^◌, IfSome, [], false, get_or, length};
+ghost use Rattle.std.specs.Prelude.{◌≡◌, ◌≢◌, Ok, Err, ◌-◌, ◌<◌, ◌≤◌, ◌^◌, IfSome, [], false, get_or, length};
 ghost use Rattle.std.specs.Prelude.{option_map, slice_get};
 ghost use Rattle.tmpl_values.specs.View.{is_made, val_of, value_of};
 ghost use Rattle.tmpl_syntax.specs.View.{set_view};

@@ -1,5 +1,5 @@
 //! Variables.
-ghost use Rattle.std.specs.Prelude.{◌≡◌, ◌+◌, ◌<◌, ◌≤◌, ◌^◌, length};
+ghost use Rattle.std.specs.Prelude.{◌+◌, ◌<◌, ◌≤◌, ◌^◌, length};
 ghost use Rattle.tmpl_code.specs.Instruction as code;
 ghost use Rattle.tmpl_engine.specs.computed.Machines.{without_bytes};
 ghost use Rattle.tmpl_engine.specs.computed.Plain.{SteadyOr};

@@ -1,5 +1,5 @@
 //! A writer, such as standard output, as a sink.
-ghost use Rattle.std.specs.Prelude.{◌≡◌, true, None};
+ghost use Rattle.std.specs.Prelude.{◌≡◌, true};
 ghost use Rattle.std.specs.Io.KnownBytes.{Keeps};
 ghost use Rattle.tmpl_engine.specs.Writer.{known_if, write_result};
 ghost use Rattle.std.specs.Option.{is_some};

@@ -1,16 +1,14 @@
 -- For `add_form` and the lemmas of `printf`: a format is its first segment before the rest.
-use Rattle.std.proofs.Common.{◌≡◌, ◌∙◌, ℕ, zero, suc, ◌+◌, ◌-◌, ◌<◌, ◌==◌, Bool, true, false, cond, List, [], ◌∷◌, ◌++◌}
+use Rattle.std.proofs.Common.{◌≡◌, ◌∙◌, ℕ, zero, suc, ◌+◌, ◌-◌, ◌<◌, Bool, true, false, cond, List, [], ◌∷◌, ◌++◌}
 use Rattle.std.proofs.Common.{length, get_or, take, drop, Option, Some, None, option_map, option_and_then, refl, sym, ap}
-use Rattle.std.proofs.Common.{subst, arith, append_assoc, length-append}
+use Rattle.std.proofs.Common.{subst, arith, append_assoc}
 use Rattle.std.specs.List.{prefix_len, take_while}
 use Rattle.std.proofs.Math.Seq.{drop-append_seam}
-use Rattle.std.proofs.lemmas.Bool.{not-true}
 use Rattle.std.proofs.lemmas.List.{length-take}
 use Rattle.std.proofs.lemmas.List.Sums.{prefix_len-le-length}
 use Rattle.tmpl_values.specs.Value.{Value}
 use Rattle.tmpl_funcs.specs.printf.Form.{WrittenForm, Segment, literal, percent, form, form_of, is_plain}
 use Rattle.tmpl_funcs.specs.printf.Spelling.{form_bytes}
-use Rattle.std.specs.Option.{option_map_or}
 use Rattle.tmpl_funcs.specs.printf.Reading.{reading}
 use Rattle.tmpl_funcs.specs.computed.Scan.{form_at, first_segment, segments_read}
 use Rattle.tmpl_funcs.specs.computed.OneReading.{one_reading, read-first, first_segment-plain, first_segment-form}

@@ -1,8 +1,6 @@
 -- For the law `one_format_reading`: a format has one reading, and it can be read from left to right.
-use Rattle.std.proofs.Common.{◌≡◌, ◌∙◌, ℕ, List, Some, refl, sym}
+use Rattle.std.proofs.Common.{◌∙◌, ℕ, List, refl, sym}
 use Rattle.tmpl_funcs.specs.Laws.{ReadsSoundly, ReadsAll, HasOneReading, ReadsInOrder}
-use Rattle.tmpl_funcs.specs.printf.Form.{Segment}
-use Rattle.tmpl_funcs.specs.printf.Spelling.{IsReading}
 use Rattle.tmpl_funcs.specs.printf.Reading.{reading}
 use Rattle.tmpl_funcs.specs.computed.OneReading.{one_reading, reading-sound, reading-complete}
 

@@ -1,10 +1,10 @@
 -- The functions of templates as one table ("Functions").
 use Rattle.std.specs.Prelude.{ℕ, pos, Bool, true, false, not, ◌&&◌, nat_le, List, ◌∷◌, ◌++◌, map, flat_map, codes}
-use Rattle.std.specs.Prelude.{Some, None, option_map, ok_or, Result, Ok, Err, if◌then◌else◌}
+use Rattle.std.specs.Prelude.{option_map, ok_or, Ok, Err, if◌then◌else◌}
 use Rattle.std.specs.List.{join_with_byte}
 use Rattle.std.specs.Option.{option_map_or}
 use Rattle.std.specs.Str.{byte}
-use Rattle.tmpl_values.specs.Value.{Value, boolean, number, string}
+use Rattle.tmpl_values.specs.Value.{boolean, number, string}
 use Rattle.tmpl_values.specs.Compare.{is_nothing, equality, order}
 use Rattle.tmpl_values.specs.Item.{size_of}
 use Rattle.tmpl_values.specs.Text.{inner_text}

@@ -1,6 +1,5 @@
 //! The comparisons.
-ghost use Rattle.std.specs.Prelude.{◌≡◌};
-ghost use Rattle.tmpl_values.specs.Compare.{equality, order, IsCompared};
+ghost use Rattle.tmpl_values.specs.Compare.{order, IsCompared};
 ghost use Rattle.tmpl_values.specs.View.{val_of};
 ghost use Rattle.tmpl_funcs.specs.View.{values_of};
 ghost use Rattle.tmpl_funcs.specs.Answer.{IsBorrowed};

@@ -1,5 +1,5 @@
 //! `not` and `len`.
-ghost use Rattle.std.specs.Prelude.{◌≡◌, ok_or, option_map, pos};
+ghost use Rattle.std.specs.Prelude.{ok_or, option_map, pos};
 ghost use Rattle.tmpl_values.specs.Value.{number};
 ghost use Rattle.tmpl_funcs.specs.declared.fault.CallFault.TheVariants.{WrongKind};
 ghost use Rattle.tmpl_values.specs.View.{val_of};

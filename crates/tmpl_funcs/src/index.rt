@@ -4,7 +4,6 @@ ghost use Rattle.tmpl_values.specs.Elements.{values_of_items};
 ghost use Rattle.tmpl_values.specs.Field.{entry_at};
 ghost use Rattle.tmpl_values.specs.Value.{null, number};
 ghost use Rattle.tmpl_funcs.specs.declared.fault.CallFault.TheVariants.{WrongKind};
-ghost use Rattle.tmpl_values.specs.Item.{bytes_of};
 ghost use Rattle.tmpl_values.specs.View.{is_made, items_of, val_of};
 ghost use Rattle.tmpl_funcs.specs.View.{values_of};
 ghost use Rattle.tmpl_funcs.specs.Answer.{IsBorrowed};

@@ -1,5 +1,5 @@
 //! `print` and `println`.
-ghost use Rattle.std.specs.Prelude.{◌≡◌, ◌++◌, ◌∷◌, [], map, codes, OnOk};
+ghost use Rattle.std.specs.Prelude.{◌≡◌, ◌++◌, [], map, OnOk};
 ghost use Rattle.std.specs.List.{join_with_byte};
 ghost use Rattle.tmpl_values.specs.Text.{inner_text};
 ghost use Rattle.tmpl_values.specs.View.{val_of};

@@ -9,7 +9,7 @@ use Rattle.tmpl_lex.specs.Bytes.{is_space, is_name_byte, is_number_byte, BeginsN
 use Rattle.tmpl_lex.specs.Delimiter.{IsLeftMarker}
 use Rattle.tmpl_lex.specs.Piece.{Token}
 use Rattle.tmpl_lex.specs.Token as row
-use Rattle.tmpl_lex.specs.Token.{IsToken, IsQuoted, at_byte}
+use Rattle.tmpl_lex.specs.Token.{IsToken, at_byte}
 use Rattle.tmpl_grammar.specs.Print.{bytes_of, Spells, token, space}
 
 -- the token stands before these bytes

@@ -8,7 +8,7 @@ use Rattle.std.proofs.lemmas.Option.{IfSome_then}
 use Rattle.tmpl_lex.specs.declared.piece.TokenKind.{TokenKind}
 use Rattle.tmpl_lex.specs.Piece.{Token}
 use Rattle.tmpl_grammar.specs.Tree as tree
-use Rattle.tmpl_grammar.specs.Tree.{Operand, Operands, Pipeline, operands_from, commands_from}
+use Rattle.tmpl_grammar.specs.Tree.{Operand, Operands, operands_from, commands_from}
 use Rattle.tmpl_grammar.specs.Depth.{depth_of_pipeline, most_deep}
 use Rattle.tmpl_grammar.specs.computed.Depth.{deepest, limited_pipeline}
 use Rattle.tmpl_grammar.specs.computed.Limited.{without_contents, prune, pruned_step, pruned_steps, pruned_commands, limited_commands}

@@ -15,7 +15,6 @@ use Rattle.tmpl_grammar.proofs.PartsLemmas.{pipeline-whole, ChainParts, OperandP
 use Rattle.tmpl_grammar.specs.Header.{is_range, Then, IsVariable, IsSign, SpellsHeader}
 use Rattle.tmpl_grammar.specs.Constant.{IsConstant}
 use Rattle.tmpl_grammar.specs.Operand as operand
-use Rattle.tmpl_grammar.specs.Operand.{IsOperand}
 use Rattle.tmpl_grammar.specs.Constant as constant
 use Rattle.tmpl_grammar.specs.Print.{token, space, word, chain_tokens, operand_tokens, more_tokens, command_tokens, later_tokens, pipeline_tokens}
 use Rattle.tmpl_grammar.specs.Print.{header_tokens, action_tokens, binding_tokens, given_tokens}

@@ -10,14 +10,12 @@ use Rattle.tmpl_lex.specs.Piece.{Token}
 use Rattle.tmpl_grammar.specs.Token.{begins_name, name_in}
 use Rattle.tmpl_grammar.specs.Tree as tree
 use Rattle.tmpl_grammar.specs.Tree.{Operand, Operands, Pipeline, operands_from, commands_from}
-use Rattle.tmpl_grammar.specs.Constant as constant
-use Rattle.tmpl_grammar.specs.Constant.{IsConstant}
 use Rattle.tmpl_grammar.specs.Operand as operand
 use Rattle.tmpl_grammar.specs.Operand.{IsOperand}
 use Rattle.tmpl_grammar.specs.computed.Operand.{begins_later}
 use Rattle.tmpl_grammar.specs.computed.Operand.{operand_at}
 use Rattle.tmpl_grammar.specs.computed.Parser as parser
-use Rattle.tmpl_grammar.specs.computed.Parser.{Parser, Partial, with_last_operand, more_commands, may_stand, kept_if, with_field, linked_by, step, step_by}
+use Rattle.tmpl_grammar.specs.computed.Parser.{Parser, Partial, with_last_operand, more_commands, may_stand, with_field, step, step_by}
 use Rattle.tmpl_grammar.specs.computed.Parser.{steps, finished, finished_with, commands_after}
 use Rattle.tmpl_grammar.specs.Pipeline.{IsBlank, may_be_later, SpellsPipeline}
 use Rattle.tmpl_grammar.proofs.PartsLemmas.{is-one, pipeline-whole, ChainParts, ChainedParts, OperandParts, MoreParts, CommandParts, LaterParts, PipelineParts}

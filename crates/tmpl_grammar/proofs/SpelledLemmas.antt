@@ -11,7 +11,7 @@ use Rattle.tmpl_grammar.specs.Operand.{IsOperand}
 use Rattle.tmpl_grammar.specs.computed.Operand.{begins_later}
 use Rattle.tmpl_grammar.specs.computed.Operand.{operand_at}
 use Rattle.tmpl_grammar.specs.computed.Parser as parser
-use Rattle.tmpl_grammar.specs.computed.Parser.{Parser, Partial, with_last_operand, more_commands, close_pipeline, may_stand, kept_if, with_field, linked_by, step, step_by, steps}
+use Rattle.tmpl_grammar.specs.computed.Parser.{Parser, Partial, more_commands, close_pipeline, may_stand, with_field, step, step_by, steps}
 use Rattle.tmpl_grammar.specs.Pipeline.{IsBlank, may_be_later, SpellsPipeline}
 use Rattle.tmpl_grammar.proofs.PartsLemmas.{pipeline-parts, ChainParts, ChainedParts, OperandParts, MoreParts, CommandParts, LaterParts, PipelineParts}
 use Rattle.tmpl_grammar.proofs.IsOperandLemmas.{computes-operand}

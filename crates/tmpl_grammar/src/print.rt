@@ -3,9 +3,9 @@
 
 ghost use Rattle.std.specs.Prelude.{◌≡◌, ◌++◌, ◌∷◌, OnErr, OnOk, length, take};
 ghost use Rattle.tmpl_grammar.specs.Print.{action_tokens, bytes_of, chain_tokens, command_tokens};
-ghost use Rattle.tmpl_grammar.specs.Print.{given_tokens, header_tokens, later_tokens, more_tokens};
-ghost use Rattle.tmpl_grammar.specs.Print.{named_tokens, operand_tokens, pipeline_tokens, variable_token};
-ghost use Rattle.tmpl_grammar.specs.View.{commands_in, given_of, header_of, operand_of, operands_in, pipeline_of};
+ghost use Rattle.tmpl_grammar.specs.Print.{given_tokens, header_tokens};
+ghost use Rattle.tmpl_grammar.specs.Print.{named_tokens, operand_tokens, pipeline_tokens};
+ghost use Rattle.tmpl_grammar.specs.View.{commands_in, given_of, header_of, operand_of, operands_in};
 ghost use Rattle.tmpl_grammar.specs.View.{printed_of};
 ghost use Rattle.tmpl_grammar.specs.computed.Keyword.{spelling};
 ghost use Rattle.tmpl_grammar.specs.computed.Print.{unless};

@@ -149,7 +149,7 @@ pub(crate) fn is_keyword(word: &[u8]) -> bool {
 }
 
 /// Whether a word is a constant.
-fn is_constant(word: &[u8]) -> bool {
+pub(crate) fn is_constant(word: &[u8]) -> bool {
     word == b"true".as_slice() || word == b"false".as_slice() || word == b"nil".as_slice()
 }
 
@@ -308,24 +308,98 @@ fn flaw_text(alloc: Global, tokens: &[Token<'_>], at: (usize, Flaw)) -> Result<S
 /// What is said of a word that names no function.
 fn no_function(said: Sentence, tokens: &[Token<'_>], index: usize, word: &[u8]) -> Sentence {
     let said = said.say("no function ").quote(word);
+    if let Some(text) = straight(word) {
+        return said
+            .say(": a string stands between straight quotes: write \"")
+            .show(text)
+            .say("\"");
+    }
+    if is_bound(tokens, index) {
+        return said
+            .say(": a variable begins with \"$\": write $")
+            .show(word);
+    }
     if let Some(text) = instead_of(word) {
         return said.say(": ").say(text);
     }
     if let Some(name) = near(word) {
         return said.say(": write ").say(name);
     }
-    let alone = significant_before(tokens, index).is_none()
-        && significant_after(tokens, index).is_none();
+    name_text(said, tokens, index, word)
+}
+
+/// What is said of a word that names no function and is like none.
+fn name_text(said: Sentence, tokens: &[Token<'_>], index: usize, word: &[u8]) -> Sentence {
     let is_name = significant_before(tokens, index).is_some_and(|token| is_name_keyword(
         token.bytes,
     ));
     if is_name {
         said.say(": write ").quote(word)
-    } else if alone {
-        said.say(": write .").show(word)
+    } else if is_value_alone(tokens, index) {
+        show_chain(said.say(": write ."), tokens.get(index..))
     } else {
         said
     }
+}
+
+/// What stands in a word between quotes that are not straight, with which it begins.
+fn straight(word: &[u8]) -> Option<&[u8]> {
+    match word {
+        [
+            0xe2,
+            0x80,
+            0x98 | 0x99 | 0x9c | 0x9d,
+            text @ ..,
+            0xe2,
+            0x80,
+            0x98 | 0x99 | 0x9c | 0x9d,
+        ] => Some(text),
+        [0xe2, 0x80, 0x98 | 0x99 | 0x9c | 0x9d, text @ ..] => Some(text),
+        _ => None,
+    }
+}
+
+/// Whether a word is given a value, as a variable is.
+fn is_bound(tokens: &[Token<'_>], index: usize) -> bool {
+    match significant_after(tokens, index) {
+        Some(token) => matches!(token.kind, TokenKind::Declare | TokenKind::Assign),
+        None => false,
+    }
+}
+
+/// Whether a word is the first of an action or stands after a control, and no operand follows it.
+fn is_value_alone(tokens: &[Token<'_>], index: usize) -> bool {
+    let begins = match significant_before(tokens, index) {
+        None => true,
+        Some(token) => is_keyword(token.bytes),
+    };
+    begins && !has_operand(tokens.get(index..).unwrap_or(&[]))
+}
+
+/// Whether an operand follows the first of these tokens and the fields of it.
+fn has_operand(tokens: &[Token<'_>]) -> bool {
+    let mut is_apart = false;
+    for token in tokens.iter().skip(1) {
+        match token.kind {
+            TokenKind::Space => is_apart = true,
+            TokenKind::Pipe => return false,
+            TokenKind::Field if !is_apart => {}
+            _ => return true,
+        }
+    }
+    false
+}
+
+/// Shows the first of these tokens and the fields directly after it.
+fn show_chain(said: Sentence, tokens: Option<&[Token<'_>]>) -> Sentence {
+    let mut said = said;
+    for (count, token) in tokens.unwrap_or(&[]).iter().enumerate() {
+        if count > 0 && token.kind != TokenKind::Field {
+            return said;
+        }
+        said = said.show(token.bytes);
+    }
+    said
 }
 
 /// Whether a name in quotes stands after this word.
@@ -350,6 +424,11 @@ fn index_text(said: Sentence, tokens: &[Token<'_>], index: usize, bytes: &[u8]) 
 /// What is said of a constant that is none.
 fn constant_text(said: Sentence, bytes: &[u8]) -> Sentence {
     match bytes {
+        [b'\'', text @ .., b'\''] if !text.contains(&b'\\') => said
+            .show(bytes)
+            .say(" is no character: a string stands in double quotes: write \"")
+            .show(text)
+            .say("\""),
         [b'"' | b'`' | b'\'', ..] => said
             .show(bytes)
             .say(" is no constant: look at what stands after its \"\\\""),
@@ -365,7 +444,7 @@ fn constant_text(said: Sentence, bytes: &[u8]) -> Sentence {
                 .show(bytes)
                 .say(" is out of range or has an 8 or 9 after a first 0")
         }
-        _ => said.show(bytes).say(" is no whole number"),
+        _ => said.show(bytes).say(" is no integer"),
     }
 }
 

@@ -6,12 +6,13 @@ struct Row {
     text: &'static str,
 }
 
-/// What to write in place of this function of Sprig, gomplate, consul-template, Helm or Jinja, if something serves.
+/// What to write in place of this function of another tool, if something serves.
 pub(crate) fn instead_of(name: &[u8]) -> Option<&'static str> {
     text_in(SPRIG.as_slice(), name)
         .or(text_in(GOMPLATE.as_slice(), name))
         .or(text_in(CONSUL_TEMPLATE.as_slice(), name))
         .or(text_in(JINJA.as_slice(), name))
+        .or(text_in(GITHUB_ACTIONS.as_slice(), name))
 }
 
 /// The text of the row that has this name.
@@ -25,10 +26,10 @@ fn text_in(rows: &[Row], name: &[u8]) -> Option<&'static str> {
 }
 
 /// Of Sprig.
-static SPRIG: [Row; 46] = [
+static SPRIG: [Row; 52] = [
     Row {
         names: "default",
-        text: "write or .x \"d\"",
+        text: "write or (index . \"x\") \"d\"",
     },
     Row {
         names: "coalesce firstOf",
@@ -39,27 +40,39 @@ static SPRIG: [Row; 46] = [
         text: "write {{if P}}A{{else}}B{{end}}",
     },
     Row {
-        names: "required fail assert",
-        text: "use --missingkey error",
+        names: "required assert",
+        text: "use --missingkey error, or write {{if eq (index . \"x\") nil}}{{template \"no x\"}}{{end}}, and the error line has its name",
     },
     Row {
-        names: "empty isset exists",
-        text: "write not .x, or if .x",
+        names: "fail",
+        text: "write {{template \"message\"}}, and the error line has its name",
+    },
+    Row {
+        names: "empty",
+        text: "write not .x",
+    },
+    Row {
+        names: "isset exists defined",
+        text: "write ne (index . \"x\") nil",
     },
     Row {
         names: "quote",
-        text: "write printf \"%q\" .x, or a template of examples/quotes for YAML, JSON or a shell",
+        text: "write {{template \"yaml\" .x}} of examples/quotes, or json, sh, systemd or nginx by the format of the output",
     },
     Row {
         names: "squote",
         text: "write {{template \"sh\" .x}} of examples/quotes",
     },
     Row {
-        names: "toJson toJSON toPrettyJson toRawJson json jsonify tojson",
+        names: "toJson toJSON toPrettyJson toRawJson mustToJson mustToPrettyJson mustToRawJson json jsonify tojson",
         text: "write {{template \"to json\" .x}} of examples/quotes",
     },
     Row {
-        names: "toYaml toYAML toToml toTOML",
+        names: "js jsEscape",
+        text: "write {{template \"json\" .x}} of examples/quotes",
+    },
+    Row {
+        names: "toYaml toYAML mustToYaml toToml toTOML",
         text: "write {{template \"to json\" .x}} of examples/quotes",
     },
     Row {
@@ -88,7 +101,7 @@ static SPRIG: [Row; 46] = [
     },
     Row {
         names: "join",
-        text: "write {{template \"join\" .x}} of examples/quotes, or a range",
+        text: "write {{range $i, $e := .x}}{{if $i}}, {{end}}{{$e}}{{end}}",
     },
     Row {
         names: "trunc abbrev truncate",
@@ -104,22 +117,22 @@ static SPRIG: [Row; 46] = [
     },
     Row {
         names: "contains hasPrefix hasSuffix regexMatch matches startswith endswith in",
-        text: "put a truth value into the data",
+        text: "put a boolean into the data",
     },
     Row {
         names: "trimSuffix trimPrefix trimAll title toTitle capitalize",
-        text: "change the text in the data",
+        text: "change the string in the data",
     },
     Row {
         names: "regexReplaceAll",
-        text: "change the text in the data",
+        text: "change the string in the data",
     },
     Row {
         names: "split splitList splitn",
-        text: "split the text in the data",
+        text: "split the string in the data",
     },
     Row {
-        names: "list dict set merge mergeOverwrite tuple append prepend concat",
+        names: "list dict set merge mergeOverwrite tuple append prepend concat omit pick",
         text: "build the list or map in the data",
     },
     Row {
@@ -127,8 +140,12 @@ static SPRIG: [Row; 46] = [
         text: "write index .x \"k\"",
     },
     Row {
-        names: "hasKey has",
+        names: "hasKey",
         text: "write ne (index .x \"k\") nil",
+    },
+    Row {
+        names: "has",
+        text: "write {{range .x}}{{if eq . \"a\"}}{{$found = true}}{{end}}{{end}} after {{$found := false}}",
     },
     Row {
         names: "keys values items",
@@ -159,8 +176,16 @@ static SPRIG: [Row; 46] = [
         text: "write {{range 5}}",
     },
     Row {
-        names: "add add1 sub mul div mod addf subf mulf divf multiply divide subtract modulo seq",
+        names: "add sub sum avg mul div addf subf mulf divf multiply divide subtract seq",
         text: "there is no arithmetic: compute it in the data",
+    },
+    Row {
+        names: "add1 inc",
+        text: "there is no arithmetic: compute it in the data; to count write {{$n = print $n \".\"}} and {{len $n}} after {{$n := \"\"}}",
+    },
+    Row {
+        names: "mod modulo",
+        text: "there is no arithmetic: compute it in the data; for each second turn write {{$odd = not $odd}} after {{$odd := false}}",
     },
     Row {
         names: "max min",
@@ -183,7 +208,7 @@ static SPRIG: [Row; 46] = [
         text: "compute it in the data",
     },
     Row {
-        names: "sha256sum sha1sum sha256 md5 md5sum uuidv4 genPrivateKey randAlphaNum htpasswd",
+        names: "sha256sum sha1sum sha256 md5 md5sum uuidv4 genPrivateKey genCA genSignedCert genSelfSignedCert randAlphaNum randAlpha randNumeric derivePassword bcrypt htpasswd",
         text: "compute it in the data",
     },
     Row {
@@ -192,11 +217,11 @@ static SPRIG: [Row; 46] = [
     },
     Row {
         names: "include partial import embed",
-        text: "write {{template \"name\" .}}",
+        text: "write {{template \"name\" .}}, and its lines with the indentation that they need: a template can't be piped",
     },
     Row {
         names: "tpl",
-        text: "a text of the data is never a template",
+        text: "a string of the data is never a template",
     },
     Row {
         names: "lookup env",
@@ -251,7 +276,7 @@ static CONSUL_TEMPLATE: [Row; 6] = [
         text: "put it into the data: a run reads only the files of its command line",
     },
     Row {
-        names: "secret secrets",
+        names: "secret",
         text: "put it into the data: a run reads only the files of its command line",
     },
     Row {
@@ -273,7 +298,7 @@ static CONSUL_TEMPLATE: [Row; 6] = [
 ];
 
 /// Of Jinja.
-static JINJA: [Row; 15] = [
+static JINJA: [Row; 17] = [
     Row {
         names: "unless",
         text: "write {{if not .x}}",
@@ -307,6 +332,14 @@ static JINJA: [Row; 15] = [
         text: "write ne .a .b",
     },
     Row {
+        names: "any",
+        text: "write or .a .b",
+    },
+    Row {
+        names: "all every",
+        text: "write and .a .b",
+    },
+    Row {
         names: "extends super",
         text: "write {{block \"name\" .}} and define it in a later file",
     },
@@ -333,5 +366,17 @@ static JINJA: [Row; 15] = [
     Row {
         names: "echo put puts out write",
         text: "write print .x",
+    },
+];
+
+/// Of GitHub Actions.
+static GITHUB_ACTIONS: [Row; 2] = [
+    Row {
+        names: "matrix github secrets runner needs steps inputs vars strategy",
+        text: "to keep an expression of GitHub Actions write {{\"${{ matrix.os }}\"}}",
+    },
+    Row {
+        names: "hashFiles success failure always cancelled",
+        text: "to keep an expression of GitHub Actions write {{\"${{ always() }}\"}}",
     },
 ];

@@ -7,33 +7,47 @@ const NAMES: [&str; 29] = [
     "define", "template", "block", "true", "false",
 ];
 
-/// The name that is one edit away from this word: one byte more, less or other, or two neighbours exchanged.
+/// The name that is one edit away from this word: two neighbours exchanged, or else one byte more, less or other.
 pub(crate) fn near(word: &[u8]) -> Option<&'static str> {
     if word.len() < 3 {
         return None;
     }
-    for name in NAMES {
-        if is_near(word, name.as_bytes()) {
-            return Some(name);
-        }
-    }
-    None
+    let exchanged = NAMES
+        .iter()
+        .find(|name| has_exchanged(word, name.as_bytes()));
+    let near = exchanged.or(NAMES.iter().find(|name| is_near(word, name.as_bytes())));
+    near.copied()
 }
 
-/// Whether two words are one edit apart.
-fn is_near(word: &[u8], name: &[u8]) -> bool {
-    let front = word
-        .iter()
+/// How many bytes two words begin with alike.
+fn common(word: &[u8], name: &[u8]) -> usize {
+    word.iter()
         .zip(name)
         .take_while(|(left, right)| left == right)
-        .count();
-    let word = word.get(front..).unwrap_or(&[]);
-    let name = name.get(front..).unwrap_or(&[]);
-    match (word, name) {
-        ([_, left @ ..], [_, right @ ..]) if left == right => true,
-        ([_, left @ ..], right) if left == right => true,
-        (left, [_, right @ ..]) if left == right => true,
+        .count()
+}
+
+/// Whether two words differ in the order of two neighbours alone.
+fn has_exchanged(word: &[u8], name: &[u8]) -> bool {
+    let front = common(word, name);
+    match (rest(word, front), rest(name, front)) {
         ([a, b, left @ ..], [c, d, right @ ..]) => a == d && b == c && left == right,
         _ => false,
     }
+}
+
+/// Whether one word has one byte more, less or other than the other.
+fn is_near(word: &[u8], name: &[u8]) -> bool {
+    let front = common(word, name);
+    match (rest(word, front), rest(name, front)) {
+        ([_, left @ ..], [_, right @ ..]) if left == right => true,
+        ([_, left @ ..], right) if left == right => true,
+        (left, [_, right @ ..]) => left == right,
+        _ => false,
+    }
+}
+
+/// A word without this many bytes at its start.
+fn rest(word: &[u8], front: usize) -> &[u8] {
+    word.get(front..).unwrap_or(&[])
 }

@@ -1,6 +1,8 @@
 //! Operators of other languages, and the functions that serve here.
 
+use crate::detail::is_constant;
 use crate::sentence::Sentence;
+use tmpl_funcs::Func;
 use tmpl_lex::{Token, TokenKind};
 
 /// An operator, and the function in its place.
@@ -72,7 +74,7 @@ impl Operator {
     ) -> Sentence {
         let said = self.begin(said);
         let said = show_left(said, tokens, tokens.len()).say(" ");
-        said.show(first_word(after))
+        show_value(said, first_word(after))
     }
 
     /// What is said of it up to its operands.
@@ -88,9 +90,29 @@ impl Operator {
 pub(crate) fn show_left(said: Sentence, tokens: &[Token<'_>], index: usize) -> Sentence {
     let mut said = said;
     for token in operand_before(tokens, index) {
-        said = said.show(token.bytes);
+        said = match token.kind {
+            TokenKind::Word => show_name(said, token.bytes),
+            _ => said.show(token.bytes),
+        };
     }
     said
+}
+
+/// Shows what is written as an operand, in which a `!` may stand before it.
+fn show_value(said: Sentence, bytes: &[u8]) -> Sentence {
+    match bytes {
+        [b'!', rest @ ..] => show_name(said.say("(not "), rest).say(")"),
+        _ => show_name(said, bytes),
+    }
+}
+
+/// Shows a word; one that is no function and no constant as a field of dot.
+fn show_name(said: Sentence, word: &[u8]) -> Sentence {
+    match word {
+        [b'A'..=b'Z' | b'a'..=b'z' | b'_', ..]
+            if Func::named(word).is_none() && !is_constant(word) => said.say(".").show(word),
+        _ => said.show(word),
+    }
 }
 
 /// The tokens of the operand before the token of this number.

@@ -71,6 +71,12 @@ fn said_of(said: Sentence, tokens: &[Token<'_>], bytes: &[u8]) -> Sentence {
         [b'`', ..] => said.say("a text in backquotes is not closed"),
         [b'!', rest @ ..] => not_text(said, first_word(rest)),
         [b'[', ..] => said.say("unexpected \"[\": write index, as in index .list 0"),
+        [b'/', b'*', ..] => said.say("a comment begins right after its \"{{\": write {{/* .. */}}"),
+        [b'}', ..] => said.say("unexpected \"}\": an action ends with \"}}\""),
+        [b'-', b'}', b'}', ..] => said.say("a trim marker has a space before it: write \" -}}\""),
+        [b'-', ..] if tokens.len() == 0 => said.say(
+            "a trim marker has a space after it: write \"{{- \"",
+        ),
         [b'%', ..] => said.say(
             "unexpected \"%\": an action stands between \"{{\" and \"}}\" alone",
         ),

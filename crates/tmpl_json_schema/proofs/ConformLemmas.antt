@@ -9,7 +9,7 @@ use Rattle.std.proofs.Common.{length}
 use Rattle.serde_json.specs.declared.value.Value as tree
 use Rattle.serde_json.specs.View.{view, items_view}
 use Rattle.serde_json.proofs.Views.{get_member-put_other}
-use Rattle.tmpl_json_schema.specs.Inferred.{Conforms}
+use Rattle.tmpl_json_schema.specs.Inferred.{AreTexts, Conforms, EachInferred, HasInferred, IsInferred, NamesTypes}
 use Rattle.tmpl_json_schema.specs.computed.Inferred.{seen}
 use Rattle.std.specs.List.{AllByRecursion, cons_option}
 use Rattle.std.proofs.lemmas.Map.Text.{is_eq-slice_cmp}
@@ -305,38 +305,55 @@ depth-told levels maps t (Some i) None dt di dp = omega arith
 depth-told levels maps t None (Some (ps, ks)) dt di dp = let a = dp.nests in let b = shared-flat maps ks dp.required in omega arith
 depth-told levels maps t (Some i) (Some (ps, ks)) dt di dp = let a = dp.nests in let b = shared-flat maps ks dp.required in omega arith
 
+-- ---- which keywords it has
+
+texts-shared : (maps : List Members) (ks : Items) → AreSharedBy maps ks → AreTexts ks
+texts-shared maps no_items h = tt
+texts-shared maps (json.item d ks) h = ((h.0.0, h.0.1), texts-shared maps ks h.1)
+
+plain-told : (levels : ℕ) (maps : List Members) (t : Data) (i : Option Data) (p : Option (Members × Items)) → NamesTypes t → IfSome i IsInferred
+    → IfSome p (λ q. AreTold levels maps q.0 q.1) → HasInferred (told t i p)
+plain-told levels maps t None None type items props = (inr (inl (refl, type)), tt)
+plain-told levels maps t (Some i) None type items props = (inr (inr (inr (inl (refl, items)))), (inr (inl (refl, type)), tt))
+plain-told levels maps t None (Some (ps, ks)) type items props = (
+  inr (inr (inr (inr (refl, props.plain)))),
+  (inr (inr (inl (refl, texts-shared maps ks props.required))), (inr (inl (refl, type)), tt)),
+)
+plain-told levels maps t (Some i) (Some (ps, ks)) type items props = (
+  inr (inr (inr (inl (refl, items)))),
+  (inr (inr (inr (inr (refl, props.plain)))), (inr (inr (inl (refl, texts-shared maps ks props.required))), (inr (inl (refl, type)), tt))),
+)
+
 -- ---- the schema that `schema_of` makes
 
 abbrev pub IsTold : ℕ → List Data → Members → Type 0
-IsTold levels samples ms = EachValue (Fits (suc levels) (object ms)) samples × (depth (object ms) ≤ room levels)
+IsTold levels samples ms = EachValue (Fits (suc levels) (object ms)) samples × (depth (object ms) ≤ room levels) × HasInferred ms
 
 added : (levels : ℕ) (samples : List Data) (t : Data) (i : Option Data) (p : Option (Members × Items)) → EachValue IsInstance samples
-    → EachValue (λ v. IsOfType v t) samples → depth t ≤ 1
-    → IfSome i (λ d. EachValue (Fits (suc levels) d) (flat_map items_of_list samples) × (depth d ≤ room levels))
+    → EachValue (λ v. IsOfType v t) samples → depth t ≤ 1 → NamesTypes t
+    → IfSome i (λ d. EachValue (Fits (suc levels) d) (flat_map items_of_list samples) × (depth d ≤ room levels) × IsInferred d)
     → IfSome p (λ q. AreTold levels (filter_map as_object samples) q.0 q.1) → IsTold (suc levels) samples (told t i p)
-added levels samples t None p inst types flat items keys =
-    (told-fits levels samples t inst types None p tt keys, depth-told levels (filter_map as_object samples) t None p flat tt keys)
-added levels samples t (Some i) p inst types flat items keys =
-    (told-fits levels samples t inst types (Some i) p items.0 keys, depth-told levels (filter_map as_object samples) t (Some i) p flat items.1 keys)
+added levels samples t None p inst types flat named items keys = (
+  told-fits levels samples t inst types None p tt keys,
+  depth-told levels (filter_map as_object samples) t None p flat tt keys,
+  plain-told levels (filter_map as_object samples) t None p named tt keys,
+)
+added levels samples t (Some i) p inst types flat named items keys = (
+  told-fits levels samples t inst types (Some i) p items.0 keys,
+  depth-told levels (filter_map as_object samples) t (Some i) p flat items.1 keys,
+  plain-told levels (filter_map as_object samples) t (Some i) p named items.2 keys,
+)
 
 pub schema-told : (fewer levels : ℕ) (samples : List Data) (maps : List Members) (t : Data) (one two three : Members) → levels ≡ suc fewer
-    → maps ≡ filter_map as_object samples → one ≡ put (codes "type") t no_members → EachValue IsInstance samples → EachValue (λ v. IsOfType v t) samples → depth t ≤ 1
+    → maps ≡ filter_map as_object samples → one ≡ put (codes "type") t no_members → EachValue IsInstance samples → EachValue (λ v. IsOfType v t) samples → depth t ≤ 1 → NamesTypes t
     → AddsItems fewer samples one two → AddsProperties fewer maps two three → IsTold levels samples three
-schema-told fewer levels samples maps t one two three el em eo inst types flat items props = rw el (by items (subst (λ l. AddsProperties fewer l two three) em props))
+schema-told fewer levels samples maps t one two three el em eo inst types flat named items props = rw el (by items (subst (λ l. AddsProperties fewer l two three) em props))
   where
     by : AddsItems fewer samples one two → AddsProperties fewer (filter_map as_object samples) two three → IsTold (suc fewer) samples three
-    by (inl a) (inl b) = rw (b, a, eo) (added fewer samples t None None inst types flat tt tt)
-    by (inr a) (inl b) = let i = a.1 in rw (b, i, eo) (added fewer samples t (Some a.0) None inst types flat (a.2, a.3) tt)
-    by (inl a) (inr b) = let p = b.2 in rw (p, a, eo) (added fewer samples t None (Some (b.0, b.1)) inst types flat tt b.3)
-    by (inr a) (inr b) = let i = a.1 in let p = b.2 in rw (p, i, eo) (added fewer samples t (Some a.0) (Some (b.0, b.1)) inst types flat (a.2, a.3) b.3)
-
--- .. where nothing is told
-pub none-told : (levels : ℕ) (samples : List Data) (ms : Members) → ms ≡ no_members → EachValue IsInstance samples → IsTold levels samples ms
-none-told levels samples ms e inst = rw e (
-  all-from _ samples (λ s m. if-all _ (tree_value s) (λ v is root.
-      (if-some IsInstance (tree_value s) v (all-at (λ s. IfSome (tree_value s) IsInstance) s samples inst m) is, tt, λ _. (tt, λ _. tt, tt, tt, tt, tt, tt, tt, tt, tt)))),
-  omega arith,
-)
+    by (inl a) (inl b) = rw (b, a, eo) (added fewer samples t None None inst types flat named tt tt)
+    by (inr a) (inl b) = let i = a.1 in rw (b, i, eo) (added fewer samples t (Some a.0) None inst types flat named (a.2, a.3, a.4) tt)
+    by (inl a) (inr b) = let p = b.2 in rw (p, a, eo) (added fewer samples t None (Some (b.0, b.1)) inst types flat named tt b.3)
+    by (inr a) (inr b) = let i = a.1 in let p = b.2 in rw (p, i, eo) (added fewer samples t (Some a.0) (Some (b.0, b.1)) inst types flat named (a.2, a.3, a.4) b.3)
 
 -- ---- a document says by which draft it is one
 
@@ -371,6 +388,17 @@ each-conforms n d ms (s ∷ samples) h = (
   each-conforms n d ms samples h.1,
 )
 
+-- .. which is one of the keywords that are inferred
+pub inferred-draft : (d : Data) (ms : Members) → HasInferred ms → HasInferred (put (codes "$schema") d ms)
+inferred-draft d no_members h = (inl refl, tt)
+inferred-draft d (member l e ms) h = by (slice_cmp nat_cmp (codes "$schema") l) refl (inferred-draft d ms h.1)
+  where
+    by : (o : Ordering) → slice_cmp nat_cmp (codes "$schema") l ≡ o → HasInferred (put (codes "$schema") d ms)
+        → HasInferred (match_ordering o (member (codes "$schema") d (member l e ms)) (member l d ms) (member l e (put (codes "$schema") d ms)))
+    by Less is more = (inl refl, h)
+    by Equal is more = let eq : codes "$schema" ≡ l = (bytes_eq-Decides (codes "$schema") l).0 (sym (is_eq-slice_cmp (codes "$schema") l) ∙ ap is_eq is) in (inl (sym eq), h.1)
+    by Greater is more = (h.0, more)
+
 members_depth-pick : (o : Ordering) (a b c : Members) (n : ℕ) → members_depth a ≤ n → members_depth b ≤ n → members_depth c ≤ n → members_depth (match_ordering o a b c) ≤ n
 members_depth-pick Less a b c n p q r = p
 members_depth-pick Equal a b c n p q r = q
@@ -383,20 +411,25 @@ members_depth-put k d (member l e ms) n p q =
 
 -- ---- what is told of keys
 
+inferred-put : (k : List ℕ) (d : Data) (ps : Members) → IsInferred d → EachInferred ps → EachInferred (put k d ps)
+inferred-put k d no_members p h = (p, tt)
+inferred-put k d (member l e rest) p h = by (slice_cmp nat_cmp k l) (inferred-put k d rest p h.1)
+  where
+    by : (o : Ordering) → EachInferred (put k d rest) → EachInferred (match_ordering o (member k d (member l e rest)) (member l d rest) (member l e (put k d rest)))
+    by Less more = (p, h)
+    by Equal more = (p, h.1)
+    by Greater more = (h.0, more)
+
 -- what is told of one more key
 pub key-told : (levels : ℕ) (maps : List Members) (k : List ℕ) (d : Data) (ps : Members) (ks : Items) → AreTold levels maps ps ks
-    → EachValue (Fits (suc levels) d) (filter_map (get_member k) maps) → depth d ≤ room levels → AreTold levels maps (put k d ps) ks
-key-told levels maps k d ps ks h fits flat = record {
+    → EachValue (Fits (suc levels) d) (filter_map (get_member k) maps) → depth d ≤ room levels → IsInferred d → AreTold levels maps (put k d ps) ks
+key-told levels maps k d ps ks h fits flat plain = record {
   properties = put-one ps h.properties;
   required = h.required;
   nests = members_depth-put k d ps (room levels) flat h.nests;
+  plain = inferred-put k d ps plain h.plain;
 }
   where
-    pick : (o : Ordering) (a b c : Members) → ArePropertiesOf levels maps a → ArePropertiesOf levels maps b → ArePropertiesOf levels maps c → ArePropertiesOf levels maps (match_ordering o a b c)
-    pick Less a b c p q r = p
-    pick Equal a b c p q r = q
-    pick Greater a b c p q r = r
-
     same : (l : List ℕ) (e : Data) (rest : Members) (o : Ordering) → slice_cmp nat_cmp k l ≡ o → EachValue (Fits (suc levels) e) (filter_map (get_member l) maps) → ArePropertiesOf levels maps rest
         → ArePropertiesOf levels maps (put k d rest) → ArePropertiesOf levels maps (match_ordering o (member k d (member l e rest)) (member l d rest) (member l e (put k d rest)))
     same l e rest Less is here there more = (fits, (here, there))
@@ -439,4 +472,5 @@ required-told levels maps ps vs k v h is e = record {
   properties = h.properties;
   required = shared-more maps (items_view vs) vs k v refl is h.required (all-there (get_member k) maps e);
   nests = h.nests;
+  plain = h.plain;
 }

@@ -6,7 +6,7 @@ use Rattle.std.proofs.lemmas.Bool.{false≢true, and_parts}
 use Rattle.std.proofs.lemmas.Str.{is_utf8-from_IsUtf8, IsUtf8-from_is_utf8}
 use Rattle.std.proofs.lemmas.List.Elements.{All-head, All-tail}
 use Rattle.serde_json.specs.Data as json
-use Rattle.serde_json.specs.Data.{Data, Items, no_items, Members, no_members, member}
+use Rattle.serde_json.specs.Data.{Data, Items, no_items, Members}
 use Rattle.serde_json.specs.Find.{get, pointer}
 use Rattle.serde_json.specs.Read.{read}
 use Rattle.tmpl_values.specs.Value.{Value, Entries, no_entry, entry, nothing, null, boolean, number, string, sequence, mapping, item, no_item}

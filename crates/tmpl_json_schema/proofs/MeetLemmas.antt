@@ -18,11 +18,11 @@ use Rattle.serde_json.specs.declared.value.Value as tree
 use Rattle.serde_json.specs.declared.value.Value.{the_lemmas}
 use Rattle.serde_json.proofs.Views.{view-lookup}
 use Rattle.serde_json.specs.Data as json
-use Rattle.serde_json.specs.Data.{Data, null, boolean, number, string, array, object, unsigned, Items, no_items, Members, no_members, member}
+use Rattle.serde_json.specs.Data.{Data, null, boolean, number, string, array, object, unsigned, Members, no_members, member}
 use Rattle.serde_json.specs.Find.{as_i64, as_object, get, get_member}
 use Rattle.serde_json.specs.View.{view, items_view, members_view}
 use Rattle.tmpl_values.specs.Value as value
-use Rattle.tmpl_values.specs.Value.{Value, mapping, sequence, item, no_item, Entries, no_entry, entry}
+use Rattle.tmpl_values.specs.Value.{Value, mapping, sequence, item, Entries, entry}
 use Rattle.tmpl_values.specs.Elements.{values_of_items}
 use Rattle.tmpl_values.specs.Field.{entry_at}
 use Rattle.tmpl_values.specs.Json.{tree_value, tree_items, tree_entries}

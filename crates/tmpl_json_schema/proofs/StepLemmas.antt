@@ -1,23 +1,25 @@
 -- For the loops of `infer.rt`: what one more sample, item, map or type adds.
-use Rattle.std.proofs.Common.{◌≡◌, inl, inr, ◌<◌, ◌+◌, ◌++◌, ℕ, List, [], ◌∷◌, length, take, get_or, map, flat_map, filter_map, Option, Some, None, IfSome, option_map, String, Global, BTreeMap, refl, sym, subst, ap, ◌∙◌, arith}
-use Rattle.std.proofs.Common.{bytes_eq, zero, suc, ◌≤◌}
+use Rattle.std.proofs.Common.{◌≡◌, inl, inr, ◌<◌, ◌+◌, ◌++◌, ℕ, List, [], ◌∷◌, length, take, get_or, map, flat_map, filter_map, Option, Some, None, IfSome, String, Global, BTreeMap, refl, sym, subst, ap, ◌∙◌, arith}
+use Rattle.std.proofs.Common.{zero, suc, ◌≤◌}
 use Rattle.std.proofs.lemmas.Slice.Eq.{bytes_eq-Decides}
-use Rattle.std.proofs.Common.{true}
+use Rattle.std.proofs.Common.{true, false, Bool, ◌||◌, ◌⊎◌}
+use Rattle.std.proofs.lemmas.Bool.{false≢true}
 use Rattle.std.specs.Borrow.{Bor}
-use Rattle.std.specs.List.{AllByRecursion}
+use Rattle.std.specs.List.{AllByRecursion, list_any}
 use Rattle.std.proofs.lemmas.Grind.{flat_map-append}
 use Rattle.std.proofs.lemmas.List.{append-nil, map-append, take_more}
 use Rattle.std.proofs.lemmas.List.Elements.{filter_map-append}
 use Rattle.serde_json.specs.declared.value.Value.{Value}
 use Rattle.serde_json.specs.Data as json
 use Rattle.serde_json.specs.Data.{no_items, depth, items_depth, Data, null, boolean, number, string, array, object, Items, Members}
-use Rattle.serde_json.specs.Find.{as_array, as_str, as_object, get_member}
+use Rattle.serde_json.specs.Find.{as_array, as_object, get_member}
 use Rattle.serde_json.specs.View.{view, items_view, members_view}
 use Rattle.tmpl_values.specs.Value as value
-use Rattle.tmpl_values.specs.Value.{Entries, no_entry, entry, IsBelow, AreRising, mapping}
 use Rattle.tmpl_values.specs.Json.{tree_value}
 use Rattle.tmpl_json_schema.specs.Document.{IsNameOfType, IsOfType, SomeItem, type_of}
-use Rattle.tmpl_json_schema.specs.computed.Inferred.{seen, maps_seen, items_among, items_of_list, EachValue, IsOnlyOrList}
+use Rattle.tmpl_shape.proofs.ShapeLemmas.{or_cases}
+use Rattle.tmpl_json_schema.specs.Inferred.{AreDistinct, AreTexts, NamesTypes}
+use Rattle.tmpl_json_schema.specs.computed.Inferred.{seen, maps_seen, items_among, items_of_list, EachValue, IsOnlyOrList, is_text}
 
 abbrev Map : Type 0
 Map = BTreeMap (String Global) Value
@@ -39,9 +41,6 @@ all-more P [] x h p = (p, tt)
 all-more P (y ∷ xs) x h p = (h.0, all-more P xs x h.1 p)
 
 -- ---- maps
-
-abbrev members_in : Option (Bor Map) → Option Members
-members_in found = option_map (λ (m : Bor Map). members_view m.now.entries) found
 
 pub map-found : (maps : List (Bor Map)) (before : List Data) (d : Data) (m : Bor Map) → maps_seen maps ≡ filter_map as_object before
     → Some (members_view m.now.entries) ≡ as_object d → maps_seen (maps ++ m ∷ []) ≡ filter_map as_object (before ++ d ∷ [])
@@ -177,10 +176,56 @@ pub types-flat : (ds : Items) (t : Data) → IsOnlyOrList ds t → items_depth d
 types-flat ds t (inl e) flat = let h : items_depth (json.item t no_items) ≤ 0 = rw e at flat in omega arith
 types-flat ds t (inr e) flat = rw e (omega arith)
 
-pub text-is : (d : Data) (s t : List ℕ) → Some s ≡ as_str d → true ≡ bytes_eq s t → d ≡ string t
-text-is null s t is same = cc
-text-is (boolean b) s t is same = cc
-text-is (number n) s t is same = cc
-text-is (string u) s t is same = let e : s ≡ t = (bytes_eq-Decides s t).0 (sym same) in cc
-text-is (array ds) s t is same = cc
-text-is (object ms) s t is same = cc
+text-is : (t : List ℕ) (d : Data) → is_text t d ≡ true → d ≡ string t
+text-is t (string s) e = ap string ((bytes_eq-Decides s t).0 e)
+text-is t d e = absurd (false≢true e)
+
+is-text : (t : List ℕ) (d : Data) → d ≡ string t → is_text t d ≡ true
+is-text t d e = rw e ((bytes_eq-Decides t t).1 refl)
+
+-- one of these values is this text
+pub text-there : (t : List ℕ) (vs : List Value) → list_any (λ v. is_text t (view v)) vs ≡ true → SomeItem (λ d. d ≡ string t) (items_view vs)
+text-there t [] e = absurd (false≢true e)
+text-there t (v ∷ vs) e = elim (or_cases (is_text t (view v)) (list_any (λ v. is_text t (view v)) vs) e) [
+  | inl x ↦ inl (text-is t (view v) x)
+  | inr x ↦ inr (text-there t vs x)
+]
+
+-- .. or none is
+pub text-absent : (t : List ℕ) (vs : List Value) → list_any (λ v. is_text t (view v)) vs ≡ false → SomeItem (λ d. d ≡ string t) (items_view vs) → ⊥
+text-absent t [] e h = h
+text-absent t (v ∷ vs) e (inl is) =
+    let there : is_text t (view v) ≡ true = is-text t (view v) is in
+    false≢true (sym e ∙ ap (λ b. b || list_any (λ v. is_text t (view v)) vs) there)
+text-absent t (v ∷ vs) e (inr h) = text-absent t vs (rest (is_text t (view v)) e) h
+  where
+    rest : (b : Bool) → (b || list_any (λ v. is_text t (view v)) vs) ≡ false → list_any (λ v. is_text t (view v)) vs ≡ false
+    rest true e = absurd (false≢true (sym e))
+    rest false e = e
+
+-- ---- names, each of them once
+
+pub texts-more : (vs : List Value) (v : Value) (name : List ℕ) → AreTexts (items_view vs) → view v ≡ string name → AreTexts (items_view (vs ++ v ∷ []))
+texts-more [] v name h is = ((name, is), tt)
+texts-more (w ∷ vs) v name h is = (h.0, texts-more vs v name h.1 is)
+
+some-before : (P : Data → Type 0) (vs : List Value) (v : Value) → SomeItem P (items_view (vs ++ v ∷ [])) → SomeItem P (items_view vs) ⊎ P (view v)
+some-before P [] v (inl p) = inr p
+some-before P [] v (inr h) = absurd h
+some-before P (w ∷ vs) v (inl p) = inl (inl p)
+some-before P (w ∷ vs) v (inr h) = elim (some-before P vs v h) [ inl q ↦ inl (inr q) | inr p ↦ inr p ]
+
+pub distinct-more : (vs : List Value) (v : Value) (name : List ℕ) → AreDistinct (items_view vs) → view v ≡ string name
+    → (SomeItem (λ d. d ≡ string name) (items_view vs) → ⊥) → AreDistinct (items_view (vs ++ v ∷ []))
+distinct-more [] v name h is new = (λ none. none, tt)
+distinct-more (w ∷ vs) v name h is new = (
+  λ again. elim (some-before (λ other. other ≡ view w) vs v again) [ inl q ↦ h.0 q | inr e ↦ new (inl (sym e ∙ is)) ],
+  distinct-more vs v name h.1 is (λ there. new (inr there)),
+)
+
+pub types-named : (ds : Items) (t : Data) → IsOnlyOrList ds t → AreTexts ds → AreDistinct ds → NamesTypes t
+types-named ds t (inl e) texts apart = by t (rw e at texts)
+  where
+    by : (t : Data) → AreTexts (json.item t no_items) → NamesTypes t
+    by t h = let is = h.0.1 in rw is tt
+types-named ds t (inr e) texts apart = rw e (texts, apart)

@@ -1,7 +1,7 @@
 //! The drafts of JSON Schema that are read.
 ghost use Rattle.std.specs.Prelude.{◌≡◌, IfOk, Some};
 ghost use Rattle.serde_json.specs.View.{view};
-ghost use Rattle.tmpl_json_schema.specs.Document.{draft_in, draft_named, draft_of, has_const, is_since_2019, names_either};
+ghost use Rattle.tmpl_json_schema.specs.Document.{draft_in, draft_named, draft_of, has_const, is_since_2019};
 
 use crate::fault::{SchemaFault, refusal, refusal_of, under};
 use serde_json::Value;

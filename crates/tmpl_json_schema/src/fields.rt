@@ -2,7 +2,7 @@
 #![tactic(auto, using(tmpl_shape::proofs::ViewLemmas::parts))]
 
 ghost use Rattle.std.specs.Prelude.{◌≡◌, IfOk, Some};
-ghost use Rattle.std.specs.Option.{option_map, option_map_or};
+ghost use Rattle.std.specs.Option.{option_map};
 ghost use Rattle.serde_json.specs.View.{items_view, view};
 ghost use Rattle.tmpl_shape.specs.View.{fields_of, shape_of};
 ghost use Rattle.tmpl_json_schema.specs.computed.Reading.{fold, has_content, is_key, is_required, least_in, required_fields, required_in, shape_of_rest, with_required};
@@ -17,11 +17,14 @@ use tmpl_schema::{Fields, Shape, copy_shape, put_field};
 fn is_key(key: &[u8], names: &[Value]) -> bool
     ensures { result ≡ is_key key.now (items_view names.now) }
 {
-    match names {
-        [] => false,
-        [Value::String(first), rest @ ..] => key == first.as_str().as_bytes() || is_key(key, rest),
-        [_, rest @ ..] => is_key(key, rest),
+    for name in names {
+        if let Value::String(name) = name {
+            if key == name.as_str().as_bytes() {
+                return true;
+            }
+        }
     }
+    false
 }
 
 /// How many items a list has at least, where that is said.
@@ -83,34 +86,25 @@ fn with_required(
     Ok(put_field(alloc, key.as_str().as_bytes(), true, shape, fields)?)
 }
 
-/// The fields, with those that are always there, the first of which has this index.
+/// The fields, with those that are always there.
 fn all_required(
     alloc: Global,
     properties: Option<&Value>,
     rest: &Shape,
     fields: Fields,
-    index: usize,
     names: &[Value],
 ) -> Result<Fields, SchemaFault>
     ensures { IfOk result (λ fs. fold (with_required (option_map (λ v. view v.now) properties.entry)
         (shape_of rest.now)) (fields_of fields) (items_view names.now) ≡ Some (fields_of fs)) }
 {
-    match names {
-        [] => Ok(fields),
-        [first, others @ ..] => match with_required(alloc, properties, rest, fields, first) {
-            Ok(more) => {
-                all_required(
-                    alloc,
-                    properties,
-                    rest,
-                    more,
-                    index.saturating_add(1),
-                    others,
-                )
-            }
-            Err(fault) => Err(at_index(alloc, fault, index)),
-        },
+    let mut fields = fields;
+    for (index, name) in names.iter().enumerate() {
+        match with_required(alloc, properties, rest, fields, name) {
+            Ok(more) => fields = more,
+            Err(fault) => return Err(at_index(alloc, fault, index)),
+        }
     }
+    Ok(fields)
 }
 
 /// The fields that are always there, before the rest.
@@ -124,7 +118,7 @@ fn required_fields(
         (shape_of_rest (fields_of rest))) (fields_of rest) (items_view names.now) ≡ Some (fields_of fs)) }
 {
     let shape = shape_of_rest(alloc, &rest)?;
-    all_required(alloc, properties, &shape, rest, 0, names)
+    all_required(alloc, properties, &shape, rest, names)
 }
 
 /// The fields that are always there, before the rest.

@@ -1,14 +1,14 @@
 //! A schema of samples.
-ghost use Rattle.std.specs.Prelude.{◌≡◌, ◌≤◌, ◌++◌, true, suc, IfOk, IfSome, OnOk, map, flat_map, filter_map};
-ghost use Rattle.std.specs.List.{AllByRecursion};
-ghost use Rattle.serde_json.specs.Data.{string, object, depth};
+ghost use Rattle.std.specs.Prelude.{◌≡◌, ◌≤◌, ◌++◌, suc, IfOk, IfSome, OnOk, map, flat_map, filter_map};
+ghost use Rattle.std.specs.List.{AllByRecursion, list_any};
+ghost use Rattle.serde_json.specs.Data.{object, depth};
 ghost use Rattle.serde_json.specs.Find.{as_object, get_member};
 ghost use Rattle.serde_json.specs.Read.{max_depth};
 ghost use Rattle.serde_json.specs.View.{view, items_view, members_view};
 ghost use Rattle.tmpl_values.specs.Json.{tree_value};
-ghost use Rattle.tmpl_json_schema.specs.Document.{IsInstance, IsOfType, SomeItem, type_of as type_name};
-ghost use Rattle.tmpl_json_schema.specs.Inferred.{Conforms};
-ghost use Rattle.tmpl_json_schema.specs.computed.Inferred.{seen, maps_seen, items_of_list, EachValue, IsOnlyOrList};
+ghost use Rattle.tmpl_json_schema.specs.Document.{IsInstance, IsOfType, type_of as type_name};
+ghost use Rattle.tmpl_json_schema.specs.Inferred.{Conforms, HasInferred, IsInferred, NamesTypes};
+ghost use Rattle.tmpl_json_schema.specs.computed.Inferred.{seen, maps_seen, items_of_list, EachValue, IsOnlyOrList, is_text};
 ghost use Rattle.tmpl_json_schema.specs.computed.Inferred.{Fits, room, AddsItems, AreTold, AddsProperties};
 
 use crate::conform::count_keys;
@@ -44,18 +44,21 @@ fn type_of(value: &Value) -> &'static str
     }
 }
 
+/// Whether a value is this text.
+fn is_text(value: &Value, text: &str) -> bool
+    ensures { result ≡ is_text text.now (view value.now) }
+{
+    match value.as_str() {
+        Some(other) => other == text,
+        None => false,
+    }
+}
+
 /// Whether one of these values is this text.
 fn has_text(values: &[Value], text: &str) -> bool
-    ensures { result ≡ true → SomeItem (λ d. d ≡ string text.now) (items_view values.now) }
+    ensures { result ≡ list_any (λ value. is_text text.now (view value)) values.now }
 {
-    for value in values {
-        if let Some(other) = value.as_str()
-            && other == text
-        {
-            return true;
-        }
-    }
-    false
+    values.iter().any(|value| is_text(value, text))
 }
 
 /// The types of samples: one, or a list of them, each once.
@@ -63,6 +66,7 @@ fn types_of(alloc: Global, samples: &[&Value]) -> Result<Value, AllocError>
     ensures conform { IfOk result
         (λ types. EachValue (λ v. IsOfType v (view types)) (seen samples.now)) }
     ensures nests { IfOk result (λ types. depth (view types) ≤ 1) }
+    ensures plain { IfOk result (λ types. NamesTypes (view types)) }
 {
     let mut types: Vec<Value> = Vec::new(alloc);
     for sample in samples {
@@ -156,6 +160,7 @@ fn schema_of(
     ensures conform { IfOk result
         (λ schema. EachValue (Fits (suc levels) (object (members_view schema.entries))) (seen samples.now)) }
     ensures nests { IfOk result (λ schema. depth (object (members_view schema.entries)) ≤ room levels) }
+    ensures plain { IfOk result (λ schema. HasInferred (members_view schema.entries)) }
 {
     let mut schema: Map<String, Value> = Map::new(alloc);
     let maps = maps_in(alloc, samples)?;
@@ -261,12 +266,13 @@ fn add_key(
     put(&mut keys.properties, alloc, name, Value::Object(property))
 }
 
-/// A JSON Schema to which each of the samples conforms: their types, the properties of maps, of which those are
-/// required that each has, and the items of lists.
+/// A JSON Schema to which each of the samples conforms: their types, each of them once, the properties of maps, of which
+/// those are required that each has, and the items of lists. It has no other keywords but `$schema`.
 pub fn infer_schema(alloc: Global, samples: &[&Value]) -> Result<Value, AllocError>
     ensures conform { IfOk result
         (λ schema. AllByRecursion (λ sample. Conforms (view schema) (view sample.now)) samples.now) }
     ensures nests { IfOk result (λ schema. depth (view schema) ≤ max_depth) }
+    ensures plain { IfOk result (λ schema. IsInferred (view schema)) }
 {
     let mut schema = schema_of(alloc, LEVELS, samples)?;
     put(

@@ -82,7 +82,7 @@ fn note_of(name: &str) -> Keyword {
 fn wanted(keyword: Keyword, value: &Value) -> Option<&'static str> {
     match keyword {
         Keyword::Number if !value.is_number() => Some("a number is wanted"),
-        Keyword::Count if value.as_u64().is_none() => Some("a whole number from 0 on is wanted"),
+        Keyword::Count if value.as_u64().is_none() => Some("an integer from 0 on is wanted"),
         Keyword::Text | Keyword::NoteText | Keyword::Identity if !value.is_string() => {
             Some("a text is wanted")
         }

@@ -1,6 +1,5 @@
 //! Kinds of values, by `type`, `const` and `enum`.
 ghost use Rattle.std.specs.Prelude.{◌≡◌, IfOk, Some};
-ghost use Rattle.std.specs.Option.{option_map};
 ghost use Rattle.serde_json.specs.View.{items_view, view};
 ghost use Rattle.tmpl_json_schema.specs.computed.Reading.{both_kinds, const_in, constant_kind, either_kinds, enum_in, enum_kinds, every_kind};
 ghost use Rattle.tmpl_json_schema.specs.computed.Reading.{constant_with, fold, is_every_kind, kind_named, kind_with, kinds_in, no_kind, type_kinds, types_in};
@@ -149,22 +148,18 @@ fn kind_with(alloc: Global, kinds: Kinds, name: &Value) -> Result<Kinds, SchemaF
     }
 }
 
-/// The kinds, with those of types' names, the first of which has this index.
-fn kinds_with(
-    alloc: Global,
-    kinds: Kinds,
-    index: usize,
-    names: &[Value],
-) -> Result<Kinds, SchemaFault>
-    ensures { IfOk result (λ ks. fold kind_with kinds (items_view names.now) ≡ Some ks) }
+/// The kinds of types' names.
+fn kinds_with(alloc: Global, names: &[Value]) -> Result<Kinds, SchemaFault>
+    ensures { IfOk result (λ ks. fold kind_with no_kind (items_view names.now) ≡ Some ks) }
 {
-    match names {
-        [] => Ok(kinds),
-        [first, rest @ ..] => match kind_with(alloc, kinds, first) {
-            Ok(more) => kinds_with(alloc, more, index.saturating_add(1), rest),
-            Err(fault) => Err(at_index(alloc, fault, index)),
-        },
+    let mut kinds = no_kind();
+    for (index, name) in names.iter().enumerate() {
+        match kind_with(alloc, kinds, name) {
+            Ok(more) => kinds = more,
+            Err(fault) => return Err(at_index(alloc, fault, index)),
+        }
     }
+    Ok(kinds)
 }
 
 /// The kinds that `type` names.
@@ -176,7 +171,7 @@ fn type_kinds(alloc: Global, named: &Value) -> Result<Kinds, SchemaFault>
             Some(kind) => Ok(kind),
             None => Err(refusal_of(alloc, "no type ", word.as_str(), "")),
         },
-        Value::Array(names) => kinds_with(alloc, no_kind(), 0, names.as_slice()),
+        Value::Array(names) => kinds_with(alloc, names.as_slice()),
         _ => Err(refusal(alloc, "the name of a type is wanted, or a list of them")),
     }
 }
@@ -213,14 +208,15 @@ fn constant_kind(constant: &Value) -> Kinds
     }
 }
 
-/// The kinds, with those of constants.
-fn constants_with(kinds: Kinds, constants: &[Value]) -> Kinds
-    ensures { fold constant_with kinds (items_view constants.now) ≡ Some result }
+/// The kinds of constants.
+fn constants_with(constants: &[Value]) -> Kinds
+    ensures { fold constant_with no_kind (items_view constants.now) ≡ Some result }
 {
-    match constants {
-        [] => kinds,
-        [first, rest @ ..] => constants_with(either_kinds(kinds, constant_kind(first)), rest),
+    let mut kinds = no_kind();
+    for constant in constants {
+        kinds = either_kinds(kinds, constant_kind(constant));
     }
+    kinds
 }
 
 /// The kinds of the constants of `enum`.
@@ -228,7 +224,7 @@ fn enum_kinds(alloc: Global, constants: &Value) -> Result<Kinds, SchemaFault>
     ensures { IfOk result (λ ks. enum_kinds (view constants.now) ≡ Some ks) }
 {
     match constants {
-        Value::Array(constants) => Ok(constants_with(no_kind(), constants.as_slice())),
+        Value::Array(constants) => Ok(constants_with(constants.as_slice())),
         _ => Err(refusal(alloc, "a list of values is wanted")),
     }
 }

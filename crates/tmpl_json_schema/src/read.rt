@@ -2,7 +2,7 @@
 #![tactic(auto, using(tmpl_shape::proofs::ViewLemmas::parts))]
 
 ghost use Rattle.std.specs.Prelude.{◌≡◌, IfOk, OnOk, Some, codes, false};
-ghost use Rattle.std.specs.Option.{option_map, option_map_or};
+ghost use Rattle.std.specs.Option.{option_map};
 ghost use Rattle.serde_json.specs.View.{items_view, members_view, view};
 ghost use Rattle.tmpl_shape.specs.Shape.{never};
 ghost use Rattle.tmpl_shape.specs.View.{fields_of, shape_of};
@@ -20,6 +20,9 @@ use serde_json::{Map, Value};
 use std::alloc::Global;
 use tmpl_schema::{Fields, Shape, put_field};
 use tmpl_values::Bytes;
+
+/// The most alternatives that a shape may have: they are dropped one inside the other.
+const MOST_ALTERNATIVES: usize = 1_500;
 
 /// What is asked of a document while it is read: its draft, the pointers that a `$ref` may have, and the memory for shapes.
 #[derive(Clone, Copy)]
@@ -223,6 +226,17 @@ fn choice_shape(reader: &Reader<'_>, steps: usize, choices: &Value) -> Result<Sh
     }
 }
 
+/// How many alternatives there are that are no alternatives of others.
+fn count_alternatives(shape: &Shape) -> usize {
+    let mut count: usize = 1;
+    let mut rest = shape;
+    while let Shape::Either(one, other) = rest {
+        count = count.saturating_add(count_alternatives(one));
+        rest = other;
+    }
+    count
+}
+
 /// The shape of any of the schemas.
 #[cycle(read)]
 fn some_shape(reader: &Reader<'_>, steps: usize, choices: &[Value]) -> Result<Shape, SchemaFault>
@@ -231,11 +245,17 @@ fn some_shape(reader: &Reader<'_>, steps: usize, choices: &[Value]) -> Result<Sh
 {
     let mut shape = Shape::Never;
     let mut index: usize = 0;
+    let mut count: usize = 0;
     for choice in choices {
-        match shape_by(reader, steps, choice) {
-            Ok(one) => shape = or_shape(reader.alloc, one, shape)?,
+        let one = match shape_by(reader, steps, choice) {
+            Ok(one) => one,
             Err(fault) => return Err(at_index(reader.alloc, fault, index)),
+        };
+        count = count.saturating_add(count_alternatives(&one));
+        if count > MOST_ALTERNATIVES {
+            return Err(refusal(reader.alloc, "more than 1500 alternatives"));
         }
+        shape = or_shape(reader.alloc, one, shape)?;
         index = index.saturating_add(1);
     }
     Ok(shape)

@@ -202,24 +202,20 @@ fn add_alternatives(
     shape: &Shape,
     places: &mut Vec<usize>,
 ) -> Result<usize, AllocError> {
-    match shape {
-        Shape::Either(one, other) => {
-            let count = add_alternatives(definitions, one, places)?;
-            Ok(count.saturating_add(add_alternatives(definitions, other, places)?))
-        }
+    let mut count: usize = 0;
+    let mut rest = shape;
+    while let Shape::Either(one, other) = rest {
+        count = count.saturating_add(add_alternatives(definitions, one, places)?);
+        rest = other;
+    }
+    match rest {
         Shape::Named(name) => {
             if let Some(place) = place_of(definitions, name.as_slice()) {
                 places.push(place)?;
             }
-            Ok(0)
+            Ok(count)
         }
-        Shape::Never
-        | Shape::Nothings
-        | Shape::Nulls
-        | Shape::Truths
-        | Shape::Numbers
-        | Shape::Texts => Ok(1),
-        Shape::Anything | Shape::List { .. } | Shape::Record(_) => Ok(1),
+        _ => Ok(count.saturating_add(1)),
     }
 }
 

@@ -3,6 +3,7 @@
 
 ghost use Rattle.std.specs.Prelude.{◌≡◌, IfOk};
 ghost use Rattle.tmpl_shape.specs.View.{fields_of, shape_of};
+ghost use Rattle.tmpl_shape.specs.computed.Shapes.{gathered};
 ghost use Rattle.tmpl_json_schema.specs.computed.Reading.{by_kinds, if_kind, is_never, keep_kinds, or_if, or_shape, rest_of, shape_of_rest};
 
 use crate::kinds::Kinds;
@@ -75,6 +76,7 @@ fn if_kind(is_asked: bool, shape: Shape) -> Shape
 }
 
 /// Those of these kinds.
+#[cycle(keep)]
 pub(crate) fn kept(alloc: Global, kinds: Kinds, shape: Shape) -> Result<Shape, AllocError>
     ensures { IfOk result (λ s. shape_of s ≡ keep_kinds kinds (shape_of shape)) }
 {
@@ -88,12 +90,42 @@ pub(crate) fn kept(alloc: Global, kinds: Kinds, shape: Shape) -> Result<Shape, A
         Shape::List { least, items } => Ok(if_kind(kinds.list, Shape::List { least, items })),
         Shape::Record(fields) => Ok(if_kind(kinds.map, Shape::Record(fields))),
         Shape::Either(one, other) => {
-            let one = kept(alloc, kinds, Box::into_inner(one))?;
-            let other = kept(alloc, kinds, Box::into_inner(other))?;
-            or_shape(alloc, one, other)
+            kept_either(alloc, kinds, Box::into_inner(one), Box::into_inner(other))
         }
         Shape::Anything => Ok(Shape::Anything),
         Shape::Named(name) => Ok(Shape::Named(name)),
+    }
+}
+
+/// Those of these kinds among the values of the one and of the other, of whose alternatives each is looked at in turn.
+#[cycle(keep)]
+fn kept_either(alloc: Global, kinds: Kinds, one: Shape, other: Shape) -> Result<Shape, AllocError>
+    ensures { IfOk result (λ s. shape_of s ≡ or_shape (keep_kinds kinds (shape_of one)) (keep_kinds kinds (shape_of other))) }
+{
+    let mut back = either(alloc, kept(alloc, kinds, one)?, Shape::Never)?;
+    let mut rest = other;
+    while let Shape::Either(first, second) = rest {
+        back = either(alloc, kept(alloc, kinds, Box::into_inner(first))?, back)?;
+        rest = Box::into_inner(second);
+    }
+    let last = kept(alloc, kinds, rest)?;
+    or_all(alloc, back, last)
+}
+
+/// The values of any of the first, of which the last stands foremost, and of the second.
+fn or_all(alloc: Global, back: Shape, last: Shape) -> Result<Shape, AllocError>
+    ensures { IfOk result (λ all. shape_of all ≡ gathered or_shape (shape_of back) (shape_of last)) }
+{
+    let mut back = back;
+    let mut all = last;
+    loop {
+        match back {
+            Shape::Either(one, rest) => {
+                all = or_shape(alloc, Box::into_inner(one), all)?;
+                back = Box::into_inner(rest);
+            }
+            _ => return Ok(all),
+        }
     }
 }
 

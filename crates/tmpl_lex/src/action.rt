@@ -1,5 +1,5 @@
 //! What begins after a `{{`: a comment, an action, or neither.
-ghost use Rattle.std.specs.Prelude.{◌≡◌, ◌≤◌, IfOk, option_map, length};
+ghost use Rattle.std.specs.Prelude.{◌≡◌, IfOk, option_map};
 ghost use Rattle.tmpl_lex.specs.computed.Action as computed;
 ghost use Rattle.tmpl_lex.specs.computed.View.{end_of, inside_of, opened_of};
 

@@ -1,5 +1,5 @@
 //! The parts of a file, one after the other: a text, and what stands after it.
-ghost use Rattle.std.specs.Prelude.{◌≡◌, ◌≤◌, ◌<◌, ◌+◌, ◌^◌, ℕ, [], IfOk, List, None, Some, false, length, option_map};
+ghost use Rattle.std.specs.Prelude.{◌≡◌, ◌≤◌, ◌<◌, ◌+◌, ◌^◌, [], IfOk, List, None, Some, false, length, option_map};
 ghost use Rattle.tmpl_lex.specs.Begin.{BeginsBy};
 ghost use Rattle.tmpl_lex.specs.Part.{IsCutBy, IsLeft, IsLeftAfter, pieces_after, pieces_in};
 ghost use Rattle.tmpl_lex.specs.Place.{StandsAt};

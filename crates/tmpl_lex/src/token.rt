@@ -1,5 +1,5 @@
 //! The tokens of an action.
-ghost use Rattle.std.specs.Prelude.{◌≡◌, ◌≤◌, ◌∷◌, IfSome, length, option_map, take};
+ghost use Rattle.std.specs.Prelude.{◌≡◌, ◌≤◌, IfSome, length, option_map, take};
 ghost use Rattle.tmpl_lex.specs.View.{token_of};
 ghost use Rattle.tmpl_lex.specs.computed.Token as spec;
 ghost use Rattle.tmpl_lex.specs.computed.View.{begun_of};

@@ -19,9 +19,9 @@ use Rattle.tmpl_lex.specs.View.{token_of}
 use Rattle.tmpl_lex.specs.declared.part.AfterText.{AfterText}
 use Rattle.tmpl_lex.specs.declared.part.AfterText.TheVariants as variant
 use Rattle.tmpl_lex.specs.declared.piece.Token as held
-use Rattle.tmpl_refusals.proofs.LocateLemmas.{begins-within}
-use Rattle.tmpl_refusals.specs.Column.{IsPlace}
-use Rattle.tmpl_refusals.specs.declared.place.Place.{Place}
+use Rattle.tmpl_syntax.proofs.BeginLemmas.{begins-within}
+use Rattle.tmpl_syntax.specs.Column.{IsPlace}
+use Rattle.tmpl_syntax.specs.declared.column.Place.{Place}
 use Rattle.tmpl_problems.specs.Survey.{Declared, declared_from, declared_in, firsts, is_used, tokens_in, used_from}
 use Rattle.tmpl_problems.specs.Tokens.{declared_names, used_names}
 use Rattle.tmpl_problems.specs.computed.Adds.{ArePlaced, IsNoted, Passes, PassesAfter, mark, mark_each, note}

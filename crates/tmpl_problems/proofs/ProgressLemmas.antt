@@ -20,8 +20,8 @@ use Rattle.tmpl_lex.specs.declared.part.AfterText.TheVariants as variant
 use Rattle.tmpl_lex.specs.declared.part.Rest.{Rest}
 use Rattle.tmpl_lex.specs.declared.piece.Token as held
 use Rattle.tmpl_lex.proofs.CutLemmas.{IsPart, part-is}
-use Rattle.tmpl_refusals.specs.Column.{IsPlace}
-use Rattle.tmpl_refusals.specs.declared.place.Place.{Place}
+use Rattle.tmpl_syntax.specs.Column.{IsPlace}
+use Rattle.tmpl_syntax.specs.declared.column.Place.{Place}
 use Rattle.tmpl_problems.specs.Survey.{Declared, IsNamed, IsUnused, IsWarning, Tells, Warns, callers, declared_from, definers, firsts, is_unreadable, named_place, names_from, readable, suspicious, unused, used_from, warned_place}
 use Rattle.tmpl_problems.specs.Sign.{first_sign}
 use Rattle.tmpl_problems.specs.computed.Adds.{AddsAfter, AddsAll, AddsSign, AddsZip, ArePlaced, IsNoted, PassesAfter}

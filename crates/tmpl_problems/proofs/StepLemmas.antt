@@ -14,8 +14,8 @@ use Rattle.tmpl_lex.specs.View.{token_of}
 use Rattle.tmpl_lex.specs.declared.part.AfterText.{AfterText}
 use Rattle.tmpl_lex.specs.declared.part.AfterText.TheVariants as variant
 use Rattle.tmpl_lex.specs.declared.piece.Token as held
-use Rattle.tmpl_refusals.proofs.LocateLemmas.{begins-within}
-use Rattle.tmpl_refusals.specs.Column.{IsPlace}
+use Rattle.tmpl_syntax.proofs.BeginLemmas.{begins-within}
+use Rattle.tmpl_syntax.specs.Column.{IsPlace}
 use Rattle.tmpl_problems.specs.Survey.{IsNamed, IsWarning, named_place, names_from, suspicious, tokens_in}
 use Rattle.tmpl_problems.specs.Sign.{first_sign}
 use Rattle.tmpl_problems.specs.Tokens.{name_after}

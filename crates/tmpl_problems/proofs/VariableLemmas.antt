@@ -9,7 +9,7 @@ use Rattle.std.proofs.lemmas.List.Sums.{fold-append}
 use Rattle.std.proofs.lemmas.Option.{same_Some}
 use Rattle.tmpl_lex.specs.View.{token_of}
 use Rattle.tmpl_lex.specs.declared.piece.Token as held
-use Rattle.tmpl_refusals.specs.declared.place.Place.{Place}
+use Rattle.tmpl_syntax.specs.declared.column.Place.{Place}
 use Rattle.tmpl_problems.specs.Survey.{Declared, IsUnused, is_used}
 use Rattle.tmpl_problems.specs.Tokens.{declaration_len, names_of, variable_name}
 use Rattle.tmpl_problems.specs.computed.Adds.{AddsAll, AddsZip, IsNoted, mark, mark_each, note, note_each}

@@ -1,4 +1,5 @@
 pub mod Checked
+pub mod Judged
 pub mod Line
 pub mod Sign
 pub mod Survey

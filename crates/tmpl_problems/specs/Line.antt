@@ -36,12 +36,12 @@ reason_with reason detail = if length detail == 0 then reason else reason ++ cod
 
 -- what is wrong, without its place
 abbrev pub text_of : Problem → List ℕ
-text_of p = reason_with (words_for p.refusal.refused.kind) (string_bytes p.detail)
+text_of p = reason_with (words_for p.refused.kind) (string_bytes p.detail)
 
 -- these problems of a file, each in its line
 abbrev pub lines_for : List ℕ → List Problem → List ℕ
 lines_for file problems =
-    flat_map (λ p. line_of file (p.refusal.refused.line, p.refusal.column) (codes "error") (text_of p)) problems
+    flat_map (λ p. line_of file (p.refused.line, p.refused.column) (codes "error") (text_of p)) problems
 
 -- all of them: first what is refused
 abbrev pub all_lines : List ℕ → Problems → List ℕ

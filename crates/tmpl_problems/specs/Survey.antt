@@ -8,8 +8,8 @@ use Rattle.tmpl_lex.specs.Begin.{BeginsAt}
 use Rattle.tmpl_lex.specs.Cut.{Cuts}
 use Rattle.tmpl_lex.specs.Piece.{Token, Piece, text, action, unreadable}
 use Rattle.tmpl_lex.specs.Place.{StandsAt}
-use Rattle.tmpl_refusals.specs.Column.{IsPlace}
-use Rattle.tmpl_refusals.specs.declared.place.Place.{Place}
+use Rattle.tmpl_syntax.specs.Column.{IsPlace}
+use Rattle.tmpl_syntax.specs.declared.column.Place.{Place}
 use Rattle.tmpl_problems.specs.Sign.{first_sign}
 use Rattle.tmpl_problems.specs.Tokens.{declared_names, name_after, unused_words, used_names}
 use Rattle.tmpl_problems.specs.declared.survey.Named.{Named}

@@ -1,159 +1,157 @@
 //! What is wrong with what is refused, in words.
+ghost use Rattle.std.specs.Prelude.{◌≡◌, IfOk, map};
+ghost use Rattle.tmpl_lex.specs.Part.{IsLeft};
+ghost use Rattle.tmpl_problems.specs.Checked.{refused_in};
 
 use crate::problem::Problem;
-use crate::standing::Standing;
-use crate::variables::{all_names, declared_names, used_names};
 use std::alloc::{AllocError, Global};
+use tmpl_grammar::{Action, Control, Reading, read_action};
 use tmpl_hints::{
-    Opening, Role, detail_of, left_open, misplaced_text, role_of, role_unread, undeclared_text,
+    Open, Opening, Sentence, detail_of, left_open, misplaced_text, role_of, undeclared_text,
 };
-use tmpl_lex::{AfterText, Rest, Token, first_part};
-use tmpl_refusals::Refusal;
-use tmpl_syntax::{NameHash, ParseKind};
+use tmpl_lex::{Rest, Token, first_part};
+use tmpl_syntax::{About, ParseKind, Refused, base_name};
 
-/// These refusals of a file in its order, each with what is wrong.
+/// What is refused of a file, each with what is wrong.
 pub(crate) fn explain(
     alloc: Global,
-    hash: NameHash,
-    file: &[u8],
-    told: &[Refusal],
-) -> Result<Vec<Problem>, AllocError> {
-    let mut walk = Walk::new(alloc, hash);
-    let mut tokens = Vec::new(alloc);
-    let mut rest = Rest::of(file);
-    loop {
-        let part = first_part(file, rest, &mut tokens)?;
-        if let AfterText::Action(line) = part.after {
-            let refusal = next_at(told, &walk, part.opens);
-            walk.pass(line, tokens.as_slice(), refusal)?;
+    file: &str,
+    bytes: &[u8],
+    refusals: Vec<Refused>,
+) -> Result<Vec<Problem>, AllocError>
+    ensures { IfOk result (λ v. map refused_in v.items ≡ refusals.items) }
+{
+    let mut problems = Vec::new(alloc);
+    for refused in refusals {
+        let detail = detail(alloc, file, bytes, &refused)?;
+        problems.push(Problem { refused, detail })?;
+    }
+    Ok(problems)
+}
+
+/// What is wrong with this.
+fn detail(
+    alloc: Global,
+    file: &str,
+    bytes: &[u8],
+    refused: &Refused,
+) -> Result<String, AllocError> {
+    match refused.kind {
+        ParseKind::NotAnAction | ParseKind::OutOfPlace | ParseKind::SecondDefinition => {
+            let mut tokens = Vec::new(alloc);
+            first_part(bytes, rest_from(bytes, refused.start), &mut tokens)?;
+            detail_by(alloc, file, tokens.as_slice(), &refused.about)
         }
-        match part.rest {
-            Some(next) => rest = next,
-            None => return walk.finish(told),
-        }
+        ParseKind::TooLong => String::from_str(alloc, "a file has at most 16,777,216 bytes"),
+        ParseKind::NestedTooDeeply => String::from_str(
+            alloc,
+            "at most 500 controls and blocks may be open, and 100 parentheses",
+        ),
+        ParseKind::UndeclaredVariable
+        | ParseKind::OpenAtEnd
+        | ParseKind::Unreadable
+        | ParseKind::OutOfMemory => detail_about(alloc, &refused.about),
     }
 }
 
-/// The next refusal, if it is that of the action that begins there.
-fn next_at(told: &[Refusal], walk: &Walk<'_>, start: usize) -> Option<Refusal> {
-    match told.get(walk.problems.len()) {
-        Some(refusal) if refusal.start == start => Some(*refusal),
+/// What is left of a file from this byte on.
+fn rest_from(bytes: &[u8], start: usize) -> Rest<'_>
+    ensures { IsLeft bytes.now result }
+{
+    let (_, left) = bytes.split_at(start.min(bytes.len()));
+    Rest {
+        bytes: left,
+        line: 1,
+        trims: false,
+    }
+}
+
+/// What is wrong with an action of these tokens, of which this is known.
+fn detail_by(
+    alloc: Global,
+    file: &str,
+    tokens: &[Token<'_>],
+    about: &About,
+) -> Result<String, AllocError> {
+    match about {
+        About::Inside(open) => misplaced_text(alloc, role_of(tokens), open_in(*open)),
+        About::First(line) => second_detail(alloc, file, tokens, *line),
+        _ => detail_of(alloc, tokens),
+    }
+}
+
+/// What is said of a second definition in this file whose header has these tokens, and of which the first is on this
+/// line.
+fn second_detail(
+    alloc: Global,
+    file: &str,
+    tokens: &[Token<'_>],
+    first: u64,
+) -> Result<String, AllocError> {
+    let reading = read_action(alloc, tokens)?;
+    let name = match defined_name(&reading) {
+        Some(name) => name,
+        None => base_name(file),
+    };
+    second_text(alloc, name, first)
+}
+
+/// The name of the template that an action defines which is read so, if it does.
+fn defined_name(reading: &Reading) -> Option<&[u8]> {
+    match reading {
+        Reading::Read(action) => name_in(action),
         _ => None,
     }
 }
 
-/// A walk over the actions of a file: what stands where it is, and what is wrong so far.
-#[derive(Drop)]
-struct Walk<'b> {
-    alloc: Global,
-    standing: Standing<'b>,
-    problems: Vec<Problem>,
-}
-
-impl<'b> Walk<'b> {
-    /// No action yet.
-    fn new(alloc: Global, hash: NameHash) -> Walk<'b> {
-        Walk {
-            alloc,
-            standing: Standing::new(alloc, hash),
-            problems: Vec::new(alloc),
-        }
-    }
-
-    /// Passes an action on this line, and says what is wrong with it if it is refused so.
-    fn pass(
-        &mut self,
-        line: u64,
-        tokens: &[Token<'b>],
-        refusal: Option<Refusal>,
-    ) -> Result<(), AllocError> {
-        let role = role_of(tokens);
-        match refusal {
-            None => {
-                let names = declared_names(self.alloc, tokens)?;
-                self.standing.take_in(role, line, names.as_slice())
-            }
-            Some(refusal) => {
-                let kind = refusal.refused.kind;
-                let detail = self.detail(tokens, role, kind)?;
-                self.problems.push(Problem { refusal, detail })?;
-                let names = all_names(self.alloc, tokens)?;
-                self.standing
-                    .take_in(mend(role, kind, tokens), line, names.as_slice())
-            }
-        }
-    }
-
-    /// What is wrong with an action that is refused for this.
-    fn detail(
-        &self,
-        tokens: &[Token<'b>],
-        role: Role,
-        kind: ParseKind,
-    ) -> Result<String, AllocError> {
-        match kind {
-            ParseKind::NotAnAction => detail_of(self.alloc, tokens),
-            ParseKind::OutOfPlace => misplaced_text(self.alloc, role, self.standing.newest_open()),
-            ParseKind::UndeclaredVariable => match self.first_undeclared(tokens, role)? {
-                Some(name) => undeclared_text(self.alloc, name),
-                None => Ok(String::new(self.alloc)),
-            },
-            ParseKind::NestedTooDeeply => too_deep(self.alloc),
-            _ => Ok(String::new(self.alloc)),
-        }
-    }
-
-    /// The first name that an action uses and that is not in scope.
-    fn first_undeclared(
-        &self,
-        tokens: &[Token<'b>],
-        role: Role,
-    ) -> Result<Option<&'b [u8]>, AllocError> {
-        let names = used_names(self.alloc, tokens)?;
-        for name in names.as_slice() {
-            if !self.standing.knows(role, *name) {
-                return Ok(Some(*name));
-            }
-        }
-        Ok(None)
-    }
-
-    /// What is wrong in all, with what is open at the end, if that is the next of these refusals.
-    fn finish(self, told: &[Refusal]) -> Result<Vec<Problem>, AllocError> {
-        let Walk {
-            alloc,
-            standing,
-            mut problems,
-        } = self;
-        if let (Some(refusal), Some(open)) = (told.get(problems.len()), standing.newest_open()) {
-            if let ParseKind::OpenAtEnd = refusal.refused.kind {
-                problems.push(Problem {
-                    refusal: *refusal,
-                    detail: left_open(alloc, open, standing.depth())?,
-                })?;
-            }
-        }
-        Ok(problems)
+/// The name of the template that an action defines, if it does.
+fn name_in(action: &Action) -> Option<&[u8]> {
+    match action {
+        Action::Define(name) => Some(name.as_slice()),
+        Action::Block(name, _) => Some(name.as_slice()),
+        _ => None,
     }
 }
 
-/// What an action that does this and is refused for this counts as.
-fn mend(role: Role, kind: ParseKind, tokens: &[Token<'_>]) -> Role {
-    match (kind, role) {
-        (ParseKind::UndeclaredVariable, _) => role,
-        (ParseKind::OutOfPlace, Role::Open(Opening::Define)) => Role::Open(Opening::Block),
-        (ParseKind::OutOfPlace, _) => Role::Plain,
-        _ => match role_unread(tokens) {
-            Role::Open(Opening::Define) => Role::Open(Opening::Block),
-            other => other,
-        },
+/// What is wrong, of which this is known.
+fn detail_about(alloc: Global, about: &About) -> Result<String, AllocError> {
+    match about {
+        About::Name(name) => undeclared_text(alloc, name.as_slice()),
+        About::LeftOpen(open, count) => left_open(alloc, open_as(*open), *count),
+        _ => Ok(String::new(alloc)),
     }
 }
 
-/// What is said of too many levels or parentheses.
-fn too_deep(alloc: Global) -> Result<String, AllocError> {
-    String::from_str(
-        alloc,
-        "at most 500 controls and blocks may be open, and 100 parentheses",
-    )
+/// What is open, if anything is.
+fn open_in(open: Option<tmpl_syntax::Open>) -> Option<Open> {
+    Some(open_as(open?))
+}
+
+/// What is open.
+fn open_as(open: tmpl_syntax::Open) -> Open {
+    Open {
+        opening: opening_as(open.opening),
+        line: open.line,
+    }
+}
+
+/// What opens it.
+fn opening_as(opening: tmpl_syntax::Opening) -> Opening {
+    match opening {
+        tmpl_syntax::Opening::Control(Control::If) => Opening::If,
+        tmpl_syntax::Opening::Control(Control::With) => Opening::With,
+        tmpl_syntax::Opening::Control(Control::Range) => Opening::Range,
+        tmpl_syntax::Opening::Define => Opening::Define,
+        tmpl_syntax::Opening::Block => Opening::Block,
+    }
+}
+
+/// What is said of a second definition of this name, of which the first is on this line.
+fn second_text(alloc: Global, name: &[u8], first: u64) -> Result<String, AllocError> {
+    Sentence::new(alloc)
+        .say("second definition of ")
+        .quote(name)
+        .say(", the first in line ")
+        .count(first)
+        .finish()
 }

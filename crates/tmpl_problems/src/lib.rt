@@ -2,6 +2,7 @@
 #![tactic(auto)]
 
 mod check;
+mod data_check;
 mod definitions;
 mod explain;
 mod line;
@@ -10,11 +11,11 @@ mod problem;
 mod readable;
 mod reason;
 mod scan;
-mod standing;
 mod survey;
 mod variables;
 
 pub use check::check_file;
+pub use data_check::{DataProblem, DataReason, DataReport, check_data};
 pub use line::{Finding, problem_lines, problem_text, reason_text};
 pub use problem::{Problem, Problems};
 pub use reason::reason_words;

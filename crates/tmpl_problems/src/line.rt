@@ -133,7 +133,7 @@ pub fn problem_text(alloc: Global, problem: &Problem) -> Result<String, AllocErr
 {
     reason_text(
         alloc,
-        reason_words(problem.refusal.refused.kind),
+        reason_words(problem.refused.kind),
         problem.detail.as_str(),
     )
 }
@@ -161,7 +161,7 @@ fn push_problems(
         let text = problem_text(alloc, problem)?;
         Finding {
             file,
-            place: (problem.refusal.refused.line, problem.refusal.column),
+            place: (problem.refused.line, problem.refused.column),
             level: "error",
             text: text.as_str(),
         }

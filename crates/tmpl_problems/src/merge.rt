@@ -1,10 +1,9 @@
 //! What is wrong, by its place.
-ghost use Rattle.tmpl_refusals.specs.Column.{IsPlace};
 
 use crate::problem::Problem;
 use crate::scan::place_in;
 use std::alloc::{AllocError, Global};
-use tmpl_refusals::Place;
+use tmpl_syntax::Place;
 
 /// The actions that can't be read, and what is wrong where they can, in one list, the last one first. Of two at one
 /// place the former stays.
@@ -44,7 +43,7 @@ fn pop_last(gaps: &mut Vec<Problem>, others: &mut Vec<Problem>) -> Option<Proble
 
 /// Where the last begins.
 fn start_of_last(problems: &Vec<Problem>) -> Option<usize> {
-    Some(problems.last()?.refusal.start)
+    Some(problems.last()?.refused.start)
 }
 
 /// These, of which the last comes first, in their order in the file, with its lines and columns.
@@ -58,9 +57,9 @@ pub(crate) fn beyond_of(
     let mut place = Place::first();
     for _ in 0..reversed.len() {
         if let Some(mut problem) = reversed.pop() {
-            place = place_in(place, bytes, problem.refusal.start);
-            problem.refusal.refused.line = place.line;
-            problem.refusal.column = place.column;
+            place = place_in(place, bytes, problem.refused.start);
+            problem.refused.line = place.line;
+            problem.refused.column = place.column;
             beyond.push(problem)?;
         }
     }

@@ -1,11 +1,11 @@
 //! What is wrong in a file, and where.
 
-use tmpl_refusals::Refusal;
+use tmpl_syntax::Refused;
 
 /// A refusal, and what is wrong in words.
 #[derive(Debug, Drop)]
 pub struct Problem {
-    pub refusal: Refusal,
+    pub refused: Refused,
     /// What is wrong, and what to write instead; it may be empty.
     pub detail: String,
 }

@@ -1,15 +1,11 @@
 //! A file in which each action that can't be read is one that can, so that what stands after it is read too.
-ghost use Rattle.std.specs.Prelude.{◌≤◌, length};
-ghost use Rattle.tmpl_lex.specs.Part.{IsLeft};
-ghost use Rattle.tmpl_refusals.specs.Column.{IsPlace};
 
 use crate::problem::Problem;
 use crate::scan::{place_in, rest_after};
 use std::alloc::{AllocError, Global};
 use tmpl_hints::{Opening, Role, marker_len, role_named, unreadable};
 use tmpl_lex::{AfterText, Part, Rest, Token, first_part};
-use tmpl_refusals::{Place, Refusal};
-use tmpl_syntax::{ParseKind, Refused};
+use tmpl_syntax::{About, ParseKind, Place, Refused};
 
 /// As many bytes as a file has, which are the same but in actions that can't be read; and what is wrong with these.
 #[derive(Drop)]
@@ -139,14 +135,13 @@ impl Readable {
 /// What is wrong at the place of an action that can't be read and stands after this many pieces.
 fn gap_at(place: Place, count: usize, detail: String) -> Problem {
     Problem {
-        refusal: Refusal {
-            refused: Refused {
-                place: count,
-                line: place.line,
-                kind: ParseKind::Unreadable,
-            },
+        refused: Refused {
+            place: count,
             start: place.start,
+            line: place.line,
             column: place.column,
+            kind: ParseKind::Unreadable,
+            about: About::Nothing,
         },
         detail,
     }

@@ -1,12 +1,12 @@
 //! The actions of a file, also those after one that can't be read.
 ghost use Rattle.std.specs.Prelude.{◌≡◌, ◌≤◌, ◌<◌, ◌+◌, length};
 ghost use Rattle.tmpl_lex.specs.Part.{IsLeft, IsLeftAfter};
-ghost use Rattle.tmpl_refusals.specs.Column.{IsPlace};
+ghost use Rattle.tmpl_syntax.specs.Column.{IsPlace};
 ghost use Rattle.tmpl_problems.specs.computed.Follows.{IsRestAfter};
 
 use tmpl_hints::opens_comment;
 use tmpl_lex::{AfterText, Part, Rest};
-use tmpl_refusals::Place;
+use tmpl_syntax::Place;
 
 /// The place of this byte of a file, or of its end if it has fewer.
 pub(crate) fn place_in(place: Place, file: &[u8], start: usize) -> Place

@@ -1,12 +1,12 @@
 //! What is suspicious in a file, though it is not refused: names that nothing uses, and texts that look like actions.
 
-ghost use Rattle.std.specs.Prelude.{◌≡◌, ◌≤◌, ◌<◌, ◌==◌, ◌&&◌, ℕ, List, [], ◌∷◌, All, IfOk, IfSome, OnOk};
+ghost use Rattle.std.specs.Prelude.{◌≡◌, ◌<◌, ◌==◌, ◌&&◌, ℕ, List, [], ◌∷◌, IfOk, IfSome, OnOk};
 ghost use Rattle.std.specs.Prelude.{length, map, filter, not, option_map, string_bytes};
 ghost use Rattle.std.specs.List.{AllZip};
 ghost use Rattle.std.specs.Option.{option_copied};
 ghost use Rattle.tmpl_lex.specs.View.{token_of};
 ghost use Rattle.tmpl_lex.specs.Place.{StandsAt};
-ghost use Rattle.tmpl_refusals.specs.Column.{IsPlace};
+ghost use Rattle.tmpl_syntax.specs.Column.{IsPlace};
 ghost use Rattle.tmpl_problems.specs.Sign as sign;
 ghost use Rattle.tmpl_problems.specs.Tokens as token;
 ghost use Rattle.tmpl_problems.specs.Survey.{Declared, IsUnused, Names, Warns, callers, definers, is_used, named_place};
@@ -21,8 +21,7 @@ use indexmap::IndexMap;
 use std::alloc::{AllocError, Global};
 use tmpl_hints::Sentence;
 use tmpl_lex::{AfterText, Rest, Token, first_part};
-use tmpl_refusals::Place;
-use tmpl_syntax::NameHash;
+use tmpl_syntax::{NameHash, Place};
 
 /// What is suspicious at a place.
 #[derive(Debug, Drop)]

@@ -42,17 +42,6 @@ pub(crate) fn declared_names<'b>(
     all_names(alloc, front)
 }
 
-/// The names that an action uses or assigns.
-pub(crate) fn used_names<'b>(
-    alloc: Global,
-    tokens: &[Token<'b>],
-) -> Result<Vec<&'b [u8]>, AllocError>
-    ensures { IfOk result (λ v. map (λ name. name.now) v.items ≡ spec.used_names (map token_of tokens.now)) }
-{
-    let (_, rest) = tokens.split_at(declaration_len(tokens));
-    all_names(alloc, rest)
-}
-
 /// The names of the variables among tokens.
 pub(crate) fn all_names<'b>(
     alloc: Global,

@@ -1,14 +1,12 @@
 -- On places in a text.
-use Rattle.std.proofs.Common.{◌≡◌, ◌∙◌, ◌==◌, ◌≤◌, ◌<◌, ◌+◌, ◌-◌, ℕ, zero, suc, Bool, true, false, List, [], ◌∷◌, length, take, drop, slice_get, slice_range, get_or, map, IfSome, refl, sym, subst, ap, cond, arith}
-use Rattle.std.specs.List.{Contains, count_by, prefix_len}
-use Rattle.std.specs.Str.{byte}
+use Rattle.std.proofs.Common.{◌≡◌, ◌∙◌, ◌≤◌, ◌<◌, ◌+◌, ◌-◌, ℕ, zero, suc, Bool, true, false, List, [], ◌∷◌, length, take, drop, slice_get, slice_range, get_or, map, IfSome, refl, sym, subst, ap, cond, arith}
+use Rattle.std.specs.List.{Contains, prefix_len}
 use Rattle.std.proofs.Math.Seq.{take-length}
 use Rattle.std.proofs.lemmas.List.{get_or-map, length-drop, length-map}
 use Rattle.std.proofs.lemmas.List.Elements.{Contains-get_or}
-use Rattle.std.proofs.lemmas.List.Sums.{prefix_len-le-length, sum_by-take-le}
+use Rattle.std.proofs.lemmas.List.Sums.{prefix_len-le-length}
 use Rattle.std.proofs.lemmas.Option.{slice_get_past}
-use Rattle.tmpl_refusals.specs.Column.{line_at}
-use Rattle.tmpl_reasons.specs.Position.{IsLine, IsStart, is_space}
+use Rattle.tmpl_reasons.specs.Position.{IsStart, is_space}
 
 first_run : {X : Type 0} (p : X → Bool) (x : X) (xs : List X) → IfSome (slice_get xs (prefix_len p xs)) (λ y. p y ≡ false) → (b : Bool) → p x ≡ b
     → IfSome (slice_get (x ∷ xs) (cond b (1 + prefix_len p xs) 0)) (λ y. p y ≡ false)
@@ -48,12 +46,6 @@ start_after bytes start n h e =
 -- nor at the end
 pub at_end : (bytes : List ℕ) → IsStart bytes (length bytes)
 at_end bytes = record { within = omega arith; no_space = subst (λ o. IfSome o (λ b. is_space b ≡ false)) (sym (slice_get_past bytes (length bytes) (omega arith))) tt }
-
--- the line of a place is one of the text
-pub line_of_place : (bytes : List ℕ) (at : ℕ) → IsLine bytes (line_at bytes at)
-line_of_place bytes at =
-    let most : count_by (λ b. b == byte "\n") (take at bytes) ≤ count_by (λ b. b == byte "\n") bytes = sum_by-take-le (λ b. cond (b == byte "\n") 1 0) bytes at in
-    record { first = omega arith; last = omega arith }
 
 same_front : {X : Type 0} (n : ℕ) (xs : List X) → take (length (take n xs)) xs ≡ take n xs
 same_front zero [] = refl

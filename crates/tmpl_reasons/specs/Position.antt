@@ -4,7 +4,7 @@ use Rattle.std.specs.List.{Contains, prefix_len}
 use Rattle.std.specs.Str.{byte}
 use Rattle.std.specs.Str.Parse.{IsNumeral, without_leading_plus}
 use Rattle.tmpl_lex.specs.Text.{newlines}
-use Rattle.tmpl_refusals.specs.Column.{column_at, line_at}
+use Rattle.tmpl_syntax.specs.Column.{column_at, line_at}
 
 -- the text has a line of this number
 pub record IsLine (bytes : List ℕ) (line : ℕ) : Type 0 where

@@ -6,10 +6,10 @@ ghost use Rattle.std.specs.String.{string_bytes};
 ghost use Rattle.std.specs.Str.Parse.{IsNumeral, without_leading_plus};
 ghost use Rattle.tmpl_reasons.specs.Position as spec;
 ghost use Rattle.tmpl_reasons.specs.Position.{Begins, IsLine, IsNamed, IsPosition, IsKey, IsStart};
-ghost use Rattle.tmpl_refusals.specs.Column.{column_at, line_at};
+ghost use Rattle.tmpl_syntax.specs.Column.{column_at, line_at};
 
 use std::alloc::{AllocError, Global};
-use tmpl_refusals::Place;
+use tmpl_syntax::Place;
 
 /// The line and the column of a byte, or of the end.
 fn place_of(bytes: &[u8], start: usize) -> (u64, u64)

@@ -1,5 +1,5 @@
 //! Where a document lets through what may be a fault of a template.
-ghost use Rattle.std.specs.Prelude.{◌≡◌, Some, IfOk, IfSome};
+ghost use Rattle.std.specs.Prelude.{Some, IfOk, IfSome};
 ghost use Rattle.std.specs.List.{AllZip};
 ghost use Rattle.tmpl_reasons.specs.Reason.{IsReason, IsTold, absence, few, gap_by, gap_of, kind};
 
@@ -151,7 +151,7 @@ fn lets_kind(schema: &Value, kinds: Kinds, word: &str) -> Option<bool> {
     match word {
         "any value" => Some(lets_all(schema, kinds)),
         "null" => Some(kinds.null),
-        "a truth value" => Some(kinds.truth),
+        "a boolean" => Some(kinds.truth),
         "a number" => Some(kinds.number),
         "a text" => Some(kinds.text),
         "a list" => Some(kinds.list),

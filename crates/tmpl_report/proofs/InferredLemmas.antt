@@ -28,16 +28,6 @@ tree_there : (o : Option Data) (v : value.Value) → and_then (ok_or o not_json)
 tree_there None v e = cc
 tree_there (Some d) v e = (d, refl, whole (tree_value d) v e)
 
-pub sample-of : (file : Source) (v : value.Value) (sample : Value) → data_of file.bytes.items ≡ Ok v → Some (view sample) ≡ document_of file.bytes.items
-    → IsSampleOf file sample
-sample-of file v sample e is =
-    let t = tree_there (document_of file.bytes.items) v e in
-    let same : t.0 ≡ view sample = let f = t.1 in cc in
-    (v, e, subst (λ d. tree_value d ≡ Some v) same t.2)
-
-pub no-sample : {P : Type 0} (file : Source) (v : value.Value) → data_of file.bytes.items ≡ Ok v → None ≡ document_of file.bytes.items → P
-no-sample file v e is = let t = tree_there (document_of file.bytes.items) v e in let f = t.1 in cc
-
 -- ---- several files
 
 any-here : (P : Source → Type 0) (files : List Source) (file : Source) → P file → Any P (files ++ file ∷ [])

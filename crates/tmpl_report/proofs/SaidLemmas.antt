@@ -7,10 +7,6 @@ use Rattle.std.proofs.lemmas.List.{length-take-le, map-append, take_more}
 use Rattle.tmpl_hints.specs.Sentence.{Adds, Said}
 use Rattle.tmpl_report.specs.Json.{lines_between}
 
-pub adds_none : (a : Said) → Adds a a []
-adds_none None = tt
-adds_none (Some text) = ap Some (append-nil text)
-
 -- a whole text
 pub said_whole : (said : Said) (text bytes : List ℕ) → Adds (Some []) said bytes → said ≡ Some text → text ≡ bytes
 said_whole None text bytes a e = cc

@@ -3,8 +3,8 @@ use Rattle.std.specs.Prelude.{◌≡◌, ℕ, List, [], ◌∷◌, ◌++◌, All
 use Rattle.tmpl_syntax.specs.Set.{Template}
 use Rattle.tmpl_syntax.specs.declared.fault.ParseKind.{ParseKind}
 use Rattle.tmpl_syntax.specs.declared.fault.ParseKind.TheVariants as kind
-use Rattle.tmpl_refusals.specs.Examine.{Examined, IsLocated, refused_in}
-use Rattle.tmpl_problems.specs.Checked.{IsBeyond, refusal_in}
+use Rattle.tmpl_syntax.specs.Examine.{Examined, IsLocated}
+use Rattle.tmpl_problems.specs.Checked.{IsBeyond, refused_in}
 use Rattle.tmpl_problems.specs.Line.{text_of}
 use Rattle.tmpl_problems.specs.declared.problem.Problem.{Problem}
 use Rattle.tmpl_problems.specs.declared.problem.Problems.{Problems}
@@ -34,10 +34,10 @@ rule_for kind.OutOfMemory = codes "unreadable"
 abbrev pub error_of : List ℕ → Problem → Finding
 error_of file p = record {
   file = file;
-  line = p.refusal.refused.line;
-  column = p.refusal.column;
+  line = p.refused.line;
+  column = p.refused.column;
   level = Error;
-  rule = rule_for p.refusal.refused.kind;
+  rule = rule_for p.refused.kind;
   text = text_of p;
   note = None;
 }
@@ -55,8 +55,8 @@ AreAlone sources = (sources.data ≡ None) × (sources.schema ≡ None)
 -- which nothing else is said
 abbrev pub AreOfFile : List Template → Source → List Template → List Finding → Type 0
 AreOfFile old file new errors = (all : Problems) × (errors ≡ errors_of file.name.now all)
-    × Examined old file.name.now file.bytes.items new (map refused_in (map refusal_in all.refused.items))
-    × All (IsLocated file.bytes.items) (map refusal_in all.refused.items) × IsBeyond all
+    × Examined old file.name.now file.bytes.items new (map refused_in all.refused.items)
+    × All (IsLocated file.bytes.items) (map refused_in all.refused.items) × IsBeyond all
 
 -- these are the errors of files, one file after the other
 abbrev pub AreOfFiles : List Template → List Source → List Template → List Finding → Type 0

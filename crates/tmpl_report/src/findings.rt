@@ -25,11 +25,11 @@ use crate::{json, sarif, text};
 use indexmap::IndexSet;
 use std::alloc::{AllocError, Global};
 use std::marker::Model;
-use tmpl_data_problems::{DataProblem, DataReason, DataReport, check_data};
 use tmpl_hints::Sentence;
 use tmpl_json_schema::Refused;
 use tmpl_problems::{
-    Named, Problem, Problems, Survey, check_file, problem_text, reason_text, survey_file,
+    DataProblem, DataReason, DataReport, Named, Problem, Problems, Survey, check_data, check_file,
+    problem_text, reason_text, survey_file,
 };
 use tmpl_reasons::position_of;
 use tmpl_syntax::{NameHash, Set, base_name};
@@ -478,13 +478,13 @@ fn problem_entry<'a>(
 ) -> Result<Entry<'a>, AllocError>
     ensures { IfOk result (λ entry. entry ≡ error_of file.now problem.now) }
 {
-    let refusal = problem.refusal;
+    let refused = &problem.refused;
     Ok(Entry {
         file,
         level: Level::Error,
-        line: refusal.refused.line,
-        column: refusal.column,
-        rule: rule_of(refusal.refused.kind),
+        line: refused.line,
+        column: refused.column,
+        rule: rule_of(refused.kind),
         text: problem_text(alloc, problem)?,
         note: None,
     })

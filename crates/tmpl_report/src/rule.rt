@@ -3,7 +3,7 @@ ghost use Rattle.std.specs.Prelude.{◌≡◌, map};
 ghost use Rattle.tmpl_report.specs.Errors.{rule_for};
 ghost use Rattle.tmpl_report.specs.Rules.{rules};
 
-use tmpl_data_problems::DataReason;
+use tmpl_problems::DataReason;
 use tmpl_syntax::ParseKind;
 
 /// A rule: its name, in words with hyphens, and what it asks for.

@@ -3,7 +3,7 @@ use Rattle.std.proofs.Common.{◌≡◌, ℕ, true, false, List, [], ◌∷◌, 
 use Rattle.tmpl_grammar.specs.Tree.{Operand, dot, fields, variable, bool_constant, text_constant, nil, Operands, no_operand, operand, Pipeline, no_command, command, unbound, declare, assign, Header}
 use Rattle.tmpl_grammar.specs.declared.tree.Control.TheVariants as control
 use Rattle.tmpl_syntax.specs.Tree as tree
-use Rattle.tmpl_syntax.specs.Tree.{NodeKind, Nodes, text, action, control_node, break_node, continue_node, template_node}
+use Rattle.tmpl_syntax.specs.Tree.{NodeKind, Nodes, text, action, control_node, break_node, template_node}
 use Rattle.tmpl_meaning.specs.declared.missing_key.MissingKey.TheVariants as mode
 use Rattle.tmpl_shape.specs.Shape.{Shape, nulls, numbers, texts, anything, list_of, record_of, either, named, Defs, no_field, others, field}
 use Rattle.tmpl_schema.specs.computed.Check.{Table, handed, absent, is_safe, settle_soon}

@@ -1,5 +1,6 @@
 pub mod OriginLemmas
 pub mod VariableLemmas
+pub mod LoopLemmas
 pub mod RunLemmas
 pub mod SafeLemmas
 pub mod ViewLemmas

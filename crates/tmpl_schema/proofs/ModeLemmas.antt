@@ -1,7 +1,7 @@
 -- For the call `check_schema`: what is computed in the mode `error` is computed in each mode. The mode tells only what
 -- stands for a field that may be absent or is one of nothing, and there `error` gives nothing.
 use Rattle.std.proofs.Common.{◌≡◌, ◌+◌, ◌++◌, ℕ, zero, suc, Bool, true, false, List, [], ◌∷◌, Option, Some, None}
-use Rattle.std.proofs.Common.{IfSome, length, option_to_list, refl, sym, subst, if◌then◌else◌}
+use Rattle.std.proofs.Common.{inl, inr, IfSome, length, option_to_list, refl, sym, subst, if◌then◌else◌}
 use Rattle.std.proofs.lemmas.Bool.{false≢true}
 use Rattle.std.specs.Option.{option_map, option_map_or, option_and_then}
 use Rattle.std.specs.Str.{bytes_eq}
@@ -35,7 +35,7 @@ use Rattle.tmpl_schema.specs.computed.Check.{all_within, join_all, after_both, s
 use Rattle.tmpl_schema.specs.computed.Check.{leave_with, holds_loop, turn_known, in_body, in_other, at_start, is_safe}
 use Rattle.tmpl_schema.specs.computed.Check.{after_choice, after_range, after_control, after_call}
 use Rattle.tmpl_schema.specs.computed.Check.{after_node, after_nodes}
-use Rattle.tmpl_schema.specs.computed.Safe.{IsCallee, IsChecked, mode_for}
+use Rattle.tmpl_schema.specs.computed.Safe.{IsAccepted, IsCallee, IsChecked, mode_for}
 
 -- what the first gives the second gives too
 abbrev Keeps : {A : Type 0} → Option A → Option A → Type 0
@@ -269,7 +269,11 @@ module _ (base : Base) (m : MissingKey) (table : Table) where
   module _ (stops : List (List ℕ)) (set : List Template) where
     callee-keeps : (name : List ℕ) (c : Callee) → IsCallee base Error stops set table name c
         → IsCallee base m stops set table name c
-    callee-keeps name (handed s) h = (h.0, h.1, safe-keeps s h.0.nodes h.2)
+    callee-keeps name (handed s) h = (h.0, h.1, by h.2)
+      where
+        by : IsAccepted base Error stops set table s h.0 → IsAccepted base m stops set table s h.0
+        by (inl e) = inl (safe-keeps s h.0.nodes e)
+        by (inr e) = inr e
     callee-keeps name absent h = h
 
     pub checked-keeps : IsChecked base Error stops set table → IsChecked base m stops set table

@@ -1,10 +1,11 @@
 -- For the law `runs_safely`: where nodes are accepted, a run of them has no fault but those of steps and depth, and leaves the variables with the
 -- shapes that are computed.
-use Rattle.std.proofs.Common.{rules, ◌≡◌, ◌-◌, ◌≤◌, ◌||◌, ℕ, zero, suc, nat_eq, Bool, true, false, List, [], ◌∷◌, Option, Some, None, Result, Ok, Err, IfSome, length, refl, sym, subst, if◌then◌else◌}
+use Rattle.std.specs.Prelude.{◌++◌, Contains}
+use Rattle.std.proofs.Common.{inl, inr, rules, ◌≡◌, ◌-◌, ◌≤◌, ◌||◌, ℕ, zero, suc, nat_eq, Bool, true, false, List, [], ◌∷◌, Option, Some, None, Result, Ok, Err, IfSome, length, refl, sym, subst, if◌then◌else◌}
 use Rattle.std.proofs.lemmas.Bool.{false≢true}
 use Rattle.std.proofs.lemmas.Option.{cond_some, option_and_then_some}
 use Rattle.std.specs.Option.{option_and_then, option_map, option_map_or}
-use Rattle.tmpl_values.specs.Value.{Value, nothing}
+use Rattle.tmpl_values.specs.Value.{Value, nothing, string}
 use Rattle.tmpl_values.specs.Elements.{Element}
 use Rattle.tmpl_values.specs.Truth.{truth}
 use Rattle.tmpl_grammar.specs.Tree.{Pipeline, Binding, unbound, declare, assign, declare_pair, Header}
@@ -12,21 +13,25 @@ use Rattle.tmpl_grammar.specs.declared.tree.Control.{Control}
 use Rattle.tmpl_grammar.specs.declared.tree.Control.TheVariants as control
 use Rattle.tmpl_syntax.specs.Tree as tree
 use Rattle.tmpl_syntax.specs.Tree.{NodeKind, Nodes, Tree, text, action, control_node, break_node, continue_node, template_node}
-use Rattle.tmpl_syntax.specs.Set.{Template}
-use Rattle.tmpl_meaning.specs.Fault.{Cause}
+use Rattle.tmpl_syntax.specs.Set.{Template, tree_named}
+use Rattle.tmpl_meaning.specs.Fault.{Cause, no_template, steps_spent}
 use Rattle.tmpl_meaning.specs.Meaning.{Calls, End, Next, Rules, Run, Setting, broke, continued, calls_within, done, fault_of, faulted}
 use Rattle.tmpl_meaning.specs.Meaning.{meanings, scope, setting_of, show, spend, stepped, turns, elements_visited, with_bound, with_pipeline, with_value}
 use Rattle.tmpl_meaning.specs.Pipeline.{Environment, commands_value}
 use Rattle.tmpl_meaning.specs.declared.missing_key.MissingKey.{MissingKey}
 use Rattle.tmpl_meaning.proofs.PartLemmas.{controlled, handing, left_by, on_end, on_turn, one_of, over, run_called, scoped, spend_if, turn, uncalled, without_key}
-use Rattle.tmpl_shape.specs.Shape.{Shape, nothings, HasShape, Names}
+use Rattle.tmpl_shape.specs.Shape.{Shape, nothings, texts, HasShape, Names}
 use Rattle.tmpl_schema.specs.Safe.{MayEnd}
 use Rattle.tmpl_shape.specs.computed.Means.{Means}
 use Rattle.tmpl_shape.specs.computed.Shapes.{Base, within, fill, Visit, visit_of}
 use Rattle.tmpl_schema.specs.computed.Check.{Known, State, Callee, handed, absent, Table, Checked, last_of, all_within, join_all, if_within, after_both, settle_known, settle_soon, leave_with}
 use Rattle.tmpl_schema.specs.computed.Check.{holds_loop, dot_in, in_body, in_other, after_choice, in_turn, turn_known, after_range, after_call, after_control, after_node, after_nodes}
 use Rattle.tmpl_schema.specs.computed.Check.{Origin, pipeline_origin, pipeline_shape, narrow, bound_shapes, at_start, is_safe}
-use Rattle.tmpl_schema.specs.computed.Safe.{IsCallee, IsChecked}
+use Rattle.tmpl_schema.specs.computed.Safe.{IsAccepted, IsCallee, IsChecked}
+use Rattle.tmpl_loops.specs.Form.{Loop, Turn, stopped, turn_of}
+use Rattle.tmpl_loops.specs.Law.{EndsWith, IsLoop, IsTurn, MayFault, copied_by}
+use Rattle.tmpl_loops.proofs.CopyLemmas.{calls_copy}
+use Rattle.tmpl_schema.proofs.LoopLemmas.{found-loop}
 use Rattle.tmpl_shape.proofs.ShapeLemmas.{within-has}
 use Rattle.tmpl_shape.proofs.FieldLemmas.{Gives, Each, IsVisit, Visits, fill-has, visit-gives}
 use Rattle.tmpl_schema.proofs.VariableLemmas.{HasKnown, Fits, place, known-length, last-known, last-last, within-known, if_within-some, joined-left, both-known, bound-known}
@@ -435,13 +440,46 @@ module _ (base : Base) (N : Names) (means : Means base.defs N) (stops : List (Li
       where
         by : (c : Callee) → IsCallee base rules.missing_key stops set table name c → (CallsHave base N means stops) table (calls_within rules set depth)
             → (CalleeHas base N means stops) c (calls_within rules set (suc depth) name)
-        by (handed sh) x inner =
-            let s : Setting = setting_of rules (calls_within rules set depth) name x.0 in
-            let p = safe-some rules.missing_key table sh x.0.nodes x.2 in
-            subst (λ (o : Option Tree). (CallHas base N means stops) sh (run_called rules (calls_within rules set depth) name o)) (sym x.1)
-            (λ v has r.
-            let q : Run = record r { env = ([], v) ∷ [] } in
-            let y = meanings s x.0.nodes v q in
-            (refl, left-quiet base N means stops v p.0 y.1 y.0.env (nodes-end base N means stops v s table inner x.0.nodes None (at_start sh) p.0 p.1 v q (has, (refl, has, tt, at-root v), at-root v))))
+        by (handed sh) x inner = accepted x.2
+          where
+            accepted : IsAccepted base rules.missing_key stops set table sh x.0
+                → (CallHas base N means stops) sh (run_called rules (calls_within rules set depth) name (tree_named name set))
+            accepted (inl safe) =
+                let s : Setting = setting_of rules (calls_within rules set depth) name x.0 in
+                let p = safe-some rules.missing_key table sh x.0.nodes safe in
+                subst (λ (o : Option Tree). (CallHas base N means stops) sh (run_called rules (calls_within rules set depth) name o)) (sym x.1)
+                (λ v has r.
+                let q : Run = record r { env = ([], v) ∷ [] } in
+                let y = meanings s x.0.nodes v q in
+                (refl, left-quiet base N means stops v p.0 y.1 y.0.env (nodes-end base N means stops v s table inner x.0.nodes None (at_start sh) p.0 p.1 v q (has, (refl, has, tt, at-root v), at-root v))))
+            accepted (inr (texts_alone, loop)) =
+                let found = found-loop base N means set stops x.0 loop in
+                let call = calls_copy found.0 found.1 rules set stops depth name x.0 x.1 found.2 in
+                subst (λ (c : Result (Value → Next) Cause). (CallHas base N means stops) sh c) (sym call.1)
+                (λ v has r. over-text call.0 (λ bytes r. (call.2 bytes r).0) (λ bytes r. ends-quiet found.0 found.1 bytes found.2 (r.text ++ copied_by found.0 found.1 bytes)
+                (call.0 (string bytes) r).0 (call.0 (string bytes) r).1 (call.2 bytes r).1) v
+                ((within-has base N means) sh texts v texts_alone has) r)
+              where
+                over-text : (go : Value → Next) → ((bytes : List ℕ) (r : Run) → (go (string bytes) r).0.env ≡ r.env)
+                    → ((bytes : List ℕ) (r : Run) → (IsQuiet base N means stops) (go (string bytes) r).1) → (v : Value) → HasShape N texts v → (r : Run)
+                    → ((go v r).0.env ≡ r.env) × (IsQuiet base N means stops) (go v r).1
+                over-text go same quiet (string bytes) has r = (same bytes r, quiet bytes r)
+                over-text go same quiet _ has r = absurd has
+
+                stop-is : (c : Loop) (constants : Environment) → IsLoop set stops c constants x.0 → (b : ℕ) (name : List ℕ) → turn_of c constants b ≡ stopped name
+                    → Contains stops name
+                stop-is c constants is b name e = (subst (λ (t : Turn). IsTurn set stops t) e (is.turns b)).1
+
+                ends-quiet : (c : Loop) (constants : Environment) (bytes : List ℕ) → IsLoop set stops c constants x.0 → (t : List ℕ) (q : Run) (end : End)
+                    → EndsWith c constants bytes t q end → (IsQuiet base N means stops) end
+                ends-quiet c constants bytes is t q done e = tt
+                ends-quiet c constants bytes is t q (faulted f) e = may f.cause e
+                  where
+                    may : (cause : Cause) → MayFault c constants bytes cause → MayEnd stops cause
+                    may (steps_spent n) e = tt
+                    may (no_template name) e = stop-is c constants is e.1 name e.4
+                    may _ e = absurd e
+                ends-quiet c constants bytes is t q broke e = absurd e
+                ends-quiet c constants bytes is t q continued e = absurd e
         by absent x inner =
             subst (λ (o : Option Tree). (CalleeHas base N means stops) absent (run_called rules (calls_within rules set depth) name o)) (sym x.0) x.1

@@ -7,19 +7,20 @@ ghost use Rattle.tmpl_schema.specs.Safe.{NeverFails};
 ghost use Rattle.tmpl_schema.specs.declared.check.Refusal.TheVariants as refusal;
 ghost use Rattle.tmpl_shape.specs.View.{schema_of, shape_of};
 ghost use Rattle.tmpl_schema.specs.computed.Check.{is_safe};
-ghost use Rattle.tmpl_schema.specs.computed.Safe.{EachCallee, IsCallee, NeverFailsIn, mode_for};
+ghost use Rattle.tmpl_schema.specs.computed.Safe.{EachCallee, IsAccepted, IsCallee, NeverFailsIn, mode_for};
 ghost use Rattle.tmpl_shape.specs.computed.View.{base_of};
 ghost use Rattle.tmpl_schema.specs.computed.View.{callee_of, entries_of, table_of};
 
 use crate::failure::{Doubt, Failure};
+use crate::loops::check_loop;
 use crate::node::{Checker, after_nodes};
-use crate::room::first_crowded;
+use crate::room::{first_crowded, is_small};
 use crate::state::at_start;
 use crate::survey::{MOST_EFFORT, MOST_ROUNDS, Question, Search};
 use crate::table::{Callee, Entry};
 use std::alloc::{AllocError, Global};
 use tmpl_meaning::MissingKey;
-use tmpl_shape::{Base, Cause, Effort, Schema, Shape, null_gone};
+use tmpl_shape::{Base, Cause, Effort, Schema, Shape, null_gone, within};
 use tmpl_syntax::{Set, Tree};
 use tmpl_values::Bytes;
 
@@ -64,6 +65,27 @@ pub(crate) fn is_stop(stops: &[Bytes], name: &[u8]) -> bool
     }
 }
 
+/// Whether a template is accepted for values of this shape: by its nodes, or, for texts, as a copy loop.
+fn check_handed(
+    checker: &Checker<'_>,
+    set: &Set,
+    stops: &[Bytes],
+    shape: &Shape,
+    tree: &Tree,
+) -> Result<(), Failure>
+    ensures { OnOk result (IsAccepted (base_of checker.now.base) checker.now.mode stops.now (set_view set.now)
+        (table_of checker.now.table.now) (shape_of shape.now) (tree_of tree.now)) }
+{
+    if within(&checker.base, shape, &Shape::Texts) && is_small(tree.nodes.as_slice()) {
+        match check_loop(&checker.base, set, stops, tree.nodes.as_slice()) {
+            Ok(()) => return Ok(()),
+            Err(Failure::OutOfMemory) => return Err(Failure::OutOfMemory),
+            Err(_) => {}
+        }
+    }
+    check_tree(checker, shape, tree)
+}
+
 /// Whether what the table says of a template that is called is so.
 fn check_callee(
     checker: &Checker<'_>,
@@ -76,7 +98,7 @@ fn check_callee(
 {
     match &entry.callee {
         Callee::Handed(shape) => match set.get(entry.name.as_slice()) {
-            Some(tree) => match check_tree(checker, shape, tree) {
+            Some(tree) => match check_handed(checker, set, stops, shape, tree) {
                 Ok(()) => Ok(()),
                 Err(failure) => Err(failure),
             },

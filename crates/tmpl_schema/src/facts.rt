@@ -4,7 +4,7 @@
 ghost use Rattle.std.specs.Prelude.{◌≡◌, ◌^◌, ◌<◌, IfSome, false, true};
 ghost use Rattle.std.specs.Option.{option_and_then, option_map};
 ghost use Rattle.tmpl_grammar.specs.View.{commands_in, operand_of, operands_in};
-ghost use Rattle.tmpl_schema.specs.computed.Check.{bounds_of, call_counts, call_fact, call_place, command_call, constant_fact, count_of, counts_in, first_fact, group_counts, group_place, head_of, index_place, key_of, key_place};
+ghost use Rattle.tmpl_schema.specs.computed.Check.{bounds_of, call_fact, call_place, command_call, constant_fact, count_of, counts_in, first_fact, group_counts, group_place, head_of, index_place, key_of, key_place};
 ghost use Rattle.tmpl_schema.specs.computed.Check.{head_place, least_by, length_fact, mirrored, more_than, one_of, operand_counts, pair_fact, piped_fact, pipeline_call, pipeline_place, place_of, tells, tells_by, text_of, two_of};
 ghost use Rattle.tmpl_schema.specs.computed.View.{call_seen, fact_seen, head_seen, place_seen};
 ghost use Rattle.tmpl_shape.specs.computed.View.{key_seen, shape_seen};

@@ -6,6 +6,7 @@ mod facts;
 mod failure;
 mod known;
 mod laws;
+mod loops;
 mod node;
 mod origin;
 mod pipeline;

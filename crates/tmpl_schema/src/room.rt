@@ -23,9 +23,45 @@ const OPERAND: usize = 1_400;
 
 const FIELD: usize = 850;
 
+/// The most nodes of a template in which a loop is looked for.
+const MOST_NODES: usize = 200;
+
 /// The line of the first action for which there is no room, in nodes for which there is all of it.
 pub(crate) fn first_crowded(nodes: &[Node]) -> Option<u64> {
     crowded_in(nodes, ROOM)
+}
+
+/// Whether a template has so few nodes that a loop may be looked for in it, which goes down by each of them, and has room.
+pub(crate) fn is_small(nodes: &[Node]) -> bool {
+    left_in(nodes, MOST_NODES).is_some() && first_crowded(nodes).is_none()
+}
+
+/// How many nodes more there may be after these, if they are not too many.
+#[cycle(few)]
+fn left_in(nodes: &[Node], left: usize) -> Option<usize> {
+    let mut left = left;
+    for node in nodes {
+        left = left_at(node, left)?;
+    }
+    Some(left)
+}
+
+/// .. after a node.
+#[cycle(few)]
+fn left_at(node: &Node, left: usize) -> Option<usize> {
+    let left = left.checked_sub(1)?;
+    match &node.what {
+        NodeKind::Control(control) => left_inside(control, left),
+        NodeKind::Text(_) | NodeKind::Action(_) | NodeKind::Break => Some(left),
+        NodeKind::Continue | NodeKind::Template(_, _) => Some(left),
+    }
+}
+
+/// .. after the parts of a control.
+#[cycle(few)]
+fn left_inside(control: &ControlNode, left: usize) -> Option<usize> {
+    let left = left_in(control.body.as_slice(), left)?;
+    left_in(control.other.as_slice(), left)
 }
 
 /// The line of the first action for which there is no room, where this much is left.

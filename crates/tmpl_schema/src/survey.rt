@@ -6,6 +6,7 @@
 use crate::check::{Refusal, is_stop, mode_for};
 use crate::failure::{Doubt, Failure};
 use crate::known::{Known, after_both, bind, copy_known};
+use crate::loops::check_loop;
 use crate::node::{Checker, after_node, in_body, in_other, in_turn, settle_soon};
 use crate::pipeline::pipeline_shape;
 use crate::room::first_crowded;
@@ -18,7 +19,7 @@ use tmpl_shape::{
     Base, Cause, Shape, Visit, copy_counted, copy_name, copy_shape, either, has_name, visit_of,
     within,
 };
-use tmpl_syntax::{Control, ControlNode, Node, NodeKind, Set};
+use tmpl_syntax::{Control, ControlNode, Node, NodeKind, Set, Tree};
 use tmpl_values::Bytes;
 
 /// The most places that are told.
@@ -293,6 +294,32 @@ fn survey_range(
     survey_end(walk, state, &known, &other, line, found)
 }
 
+/// Whether a template is a copy loop over texts; of one that calls what is neither there nor a stop, that is told.
+fn survey_loop(
+    walk: &Walk<'_>,
+    shape: &Shape,
+    tree: &Tree,
+    found: &mut Found,
+) -> Result<bool, AllocError> {
+    let base = &walk.checker.base;
+    if !within(base, shape, &Shape::Texts) {
+        return Ok(false);
+    }
+    let question = walk.question;
+    match check_loop(base, question.set, question.stops, tree.nodes.as_slice()) {
+        Ok(()) => Ok(true),
+        Err(Failure::OutOfMemory) => Err(AllocError),
+        Err(Failure::MayFail(cause, line)) => match Box::into_inner(cause) {
+            Cause::NoTemplate(name) => {
+                found.add_doubt(walk, Cause::NoTemplate(name), line)?;
+                Ok(true)
+            }
+            _ => Ok(false),
+        },
+        Err(Failure::Wanted(_)) => Ok(false),
+    }
+}
+
 /// Goes over the template of a name, whose dot has the shape.
 fn survey_template(
     checker: &Checker<'_>,
@@ -310,6 +337,9 @@ fn survey_template(
         Some(tree) => {
             if let Some(line) = first_crowded(tree.nodes.as_slice()) {
                 return found.add_doubt(&walk, Cause::TooComplex, line);
+            }
+            if survey_loop(&walk, shape, tree, found)? {
+                return Ok(());
             }
             let start = at_start(&checker.base, shape)?;
             survey_nodes(&walk, None, start, tree.nodes.as_slice(), found)?;

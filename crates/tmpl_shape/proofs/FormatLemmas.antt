@@ -22,7 +22,7 @@ use Rattle.tmpl_funcs.specs.printf.Reading.{reading}
 use Rattle.tmpl_meaning.specs.Fault.{call_failed}
 use Rattle.tmpl_meaning.specs.Pipeline.{apply_function}
 use Rattle.tmpl_shape.specs.Shape as shape
-use Rattle.tmpl_shape.specs.Shape.{Shape, Names, HasShape}
+use Rattle.tmpl_shape.specs.Shape.{Shape, Names}
 use Rattle.tmpl_shape.specs.declared.kind.Kind.{Kind}
 use Rattle.tmpl_shape.specs.declared.kind.Kind.TheVariants.{Blank}
 use Rattle.tmpl_shape.specs.computed.Means.{Means}

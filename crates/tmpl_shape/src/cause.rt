@@ -74,7 +74,7 @@ pub(crate) fn kind_word(shape: &Shape) -> &'static str {
         Shape::Never => "no value",
         Shape::Nothings => "nothing",
         Shape::Nulls => "null",
-        Shape::Truths => "a truth value",
+        Shape::Truths => "a boolean",
         Shape::Numbers => "a number",
         Shape::Texts => "a text",
         Shape::Anything => "any value",

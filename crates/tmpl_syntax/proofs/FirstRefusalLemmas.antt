@@ -14,9 +14,9 @@ use Rattle.tmpl_syntax.specs.Language.{every_action}
 use Rattle.tmpl_syntax.specs.Laws.{FindsRefusal, IsOfItems}
 use Rattle.tmpl_syntax.specs.Parse.{AreRefused, IsRefusedBy}
 use Rattle.tmpl_syntax.specs.Place.Body.{IsFirstRefused, IsLeftOpen}
-use Rattle.tmpl_syntax.specs.Place.Role.{Role, role_of}
+use Rattle.tmpl_syntax.specs.Place.Role.{role_of}
 use Rattle.tmpl_syntax.specs.Refusals as law
-use Rattle.tmpl_syntax.specs.Refusals.{Site, Found, AreRefusals, HasRefusals, roles_in}
+use Rattle.tmpl_syntax.specs.Refusals.{Site, Found, AreRefusals, roles_in}
 use Rattle.tmpl_syntax.specs.computed.Refusals.{site_in, sites_in}
 use Rattle.tmpl_syntax.proofs.SiteLemmas.{no_other_sites}
 use Rattle.tmpl_syntax.specs.computed.Frames.{Verdict, fine, refused, left_open, Judged}

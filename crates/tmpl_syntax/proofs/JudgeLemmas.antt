@@ -15,7 +15,6 @@ use Rattle.tmpl_syntax.proofs.PlaceLemmas.{same-opening, one-last, even-here, le
 use Rattle.tmpl_syntax.proofs.ScopeLemmas.{to-scope, from-scope, at-place, at-place-back, else-sees, else-seen}
 use Rattle.tmpl_syntax.proofs.OpenStackLemmas.{Here, Stands, here-of, looped}
 use Rattle.tmpl_syntax.proofs.StepLemmas.{joins-own, joins-no-range}
-use Rattle.tmpl_syntax.specs.Place.Opening.{Opening}
 use Rattle.tmpl_syntax.specs.Place.Opening as opened
 use Rattle.tmpl_grammar.specs.declared.tree.Control.TheVariants.{Range}
 use Rattle.tmpl_syntax.specs.Place.Role.{Name, Names, plain, opener, else_part, closer, jump, nested, Role}

@@ -1,13 +1,13 @@
 -- For the lemmas of what items spell: the first items of a list spell nodes, and what is left after them.
-use Rattle.std.proofs.Common.{◌≡◌, ◌∙◌, ℕ, List, [], ◌∷◌, ◌++◌, Option, Some, refl, sym, ap, subst, append_assoc, append-nil}
+use Rattle.std.proofs.Common.{◌≡◌, ◌∙◌, ℕ, List, [], ◌∷◌, ◌++◌, Some, refl, sym, ap, subst, append_assoc, append-nil}
 use Rattle.tmpl_grammar.specs.Tree.{Pipeline, Header}
-use Rattle.tmpl_grammar.specs.Action.{pipeline_action, opening, plain_else, else_branch, end_action, break_action}
-use Rattle.tmpl_grammar.specs.Action.{continue_action, define_action, template_action, block_action, control_in}
+use Rattle.tmpl_grammar.specs.Action.{opening, plain_else, else_branch, end_action}
+use Rattle.tmpl_grammar.specs.Action.{define_action, block_action, control_in}
 use Rattle.tmpl_grammar.specs.declared.tree.Control.{Control}
 use Rattle.tmpl_grammar.specs.declared.action.Branch.{Branch}
-use Rattle.tmpl_syntax.specs.Tree.{NodeKind, Nodes, none, then, text, action, control_node, break_node, continue_node}
+use Rattle.tmpl_syntax.specs.Tree.{NodeKind, Nodes, none, then, control_node}
 use Rattle.tmpl_syntax.specs.Tree.{template_node, Definition}
-use Rattle.tmpl_syntax.specs.Item.{ItemKind, Item, item, text_item, action_item}
+use Rattle.tmpl_syntax.specs.Item.{ItemKind, Item, item, action_item}
 use Rattle.tmpl_syntax.specs.Spelling as spells
 use Rattle.tmpl_syntax.specs.Spelling.{definition, IsNode, Spells, SpellsBody, SpellsElse}
 

@@ -1,5 +1,8 @@
 pub mod AcceptedLemmas
+pub mod BeginLemmas
+pub mod BegunLemmas
 pub mod CheckLemmas
+pub mod ExamineLemmas
 pub mod FileLemmas
 pub mod FirstRefusalLemmas
 pub mod FormedExamples
@@ -25,6 +28,7 @@ pub mod RefusalExamples
 pub mod RefusalLemmas
 pub mod ScopeLemmas
 pub mod SecondLemmas
+pub mod SecondStartLemmas
 pub mod SetLemmas
 pub mod SiteLemmas
 pub mod SpellingLemmas

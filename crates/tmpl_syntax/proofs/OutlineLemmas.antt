@@ -1,5 +1,5 @@
 -- For `Set::outline`: templates without their nodes are those of a set, one by one, and have the same numbers.
-use Rattle.std.proofs.Common.{◌≡◌, ◌∙◌, ℕ, ◌+◌, suc, Bool, true, false, List, [], ◌∷◌, ◌++◌, None, refl, ap, sym, map, cond, Some, arith}
+use Rattle.std.proofs.Common.{◌≡◌, ◌∙◌, ℕ, ◌+◌, suc, List, [], ◌∷◌, ◌++◌, None, refl, ap, sym, map, cond, Some, arith}
 use Rattle.std.proofs.Common.{Option, length, nat_lt, not, slice_get, take}
 use Rattle.std.proofs.lemmas.List.{length-map, map-append}
 use Rattle.std.specs.List.{position_or_len}
@@ -8,7 +8,7 @@ use Rattle.std.proofs.lemmas.Option.{get_or_from_slice_get, slice_get_within}
 use Rattle.std.specs.Prelude.{find}
 use Rattle.std.specs.Option.{option_map}
 use Rattle.std.specs.Str.{bytes_eq}
-use Rattle.tmpl_syntax.specs.Kept.{AreKept, HaveOwnNames, IsKept, IsSet}
+use Rattle.tmpl_syntax.specs.Kept.{AreKept, HaveOwnNames, IsSet}
 use Rattle.tmpl_syntax.specs.Set.{Template, defined_each, number_of, without_nodes, tree_named}
 use Rattle.tmpl_syntax.specs.computed.Set.{has_name}
 use Rattle.tmpl_syntax.specs.View.{template_of}

@@ -288,13 +288,6 @@ levels-most {xs = xs} {i = i} (other {m = m} r never) le (level {k = k} {ks = ks
     (λ ge. let same : k ≡ m = omega arith in absurd (never (subst (λ q. IsLevel xs q i) same h)))
     (cases_lt k m)
 
-pub levels-unique : {xs : List Role} {i m n p : ℕ} → Levels xs i m n → Levels xs i m p → n ≡ p
-levels-unique no_level no_level = refl
-levels-unique (one r h) (one s g) = ap suc (levels-unique r s)
-levels-unique (one r h) (other s g) = absurd (g h)
-levels-unique (other r h) (one s g) = absurd (h g)
-levels-unique (other r h) (other s g) = levels-unique r s
-
 pub levels-move : {xs : List Role} {a m n : ℕ} → (b : ℕ) → ((k : ℕ) → k < m → IsLevel xs k a → IsLevel xs k b)
     → ((k : ℕ) → k < m → IsLevel xs k b → IsLevel xs k a) → Levels xs a m n → Levels xs b m n
 levels-move b to back no_level = no_level

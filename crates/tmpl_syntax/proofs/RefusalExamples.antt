@@ -1,12 +1,8 @@
 -- What is refused of lists of items, computed.
-use Rattle.std.proofs.Common.{◌≡◌, List, [], ◌∷◌, Some, None, refl, codes}
-use Rattle.tmpl_grammar.specs.declared.tree.Control.TheVariants.{If, Range}
-use Rattle.tmpl_grammar.specs.declared.action.Branch.TheVariants.{If as if_branch}
+use Rattle.std.proofs.Common.{◌≡◌, List, [], ◌∷◌, refl, codes}
 use Rattle.tmpl_syntax.specs.Fault as reason
-use Rattle.tmpl_syntax.specs.Fault.{Reason}
-use Rattle.tmpl_syntax.specs.Place.Opening as opened
 use Rattle.tmpl_syntax.specs.Place.Role as role
-use Rattle.tmpl_syntax.specs.Place.Role.{Name, Names, Role, plain, opener, else_part, closer, jump}
+use Rattle.tmpl_syntax.specs.Place.Role.{Name, Names, Role, plain, closer}
 use Rattle.tmpl_syntax.specs.Refusals.{Site, absent, by_word}
 use Rattle.tmpl_syntax.specs.computed.Refusals.{refusals_in}
 

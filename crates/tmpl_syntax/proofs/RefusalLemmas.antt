@@ -1,9 +1,9 @@
 -- For `refusals`: what is found in one pass is all that is refused of a list.
-use Rattle.std.proofs.Common.{◌≡◌, ◌∙◌, ℕ, ◌+◌, Bool, true, false, not, ◌&&◌, ◌||◌, List, [], ◌∷◌, ◌++◌, Option, Some, None, refl, sym, ap, subst}
-use Rattle.std.proofs.Common.{arith, append_assoc, append-nil, length, length-append, take, map, drop, get_or, ◌<◌, ◌≤◌}
+use Rattle.std.proofs.Common.{◌≡◌, ◌∙◌, ℕ, ◌+◌, Bool, true, false, List, [], ◌∷◌, ◌++◌, Option, Some, None, refl, sym, ap, subst}
+use Rattle.std.proofs.Common.{arith, append_assoc, append-nil, length, length-append, take, map, drop, get_or, ◌<◌}
 use Rattle.std.proofs.lemmas.List.{length-map, map-append, take-take, drop_all}
 use Rattle.std.proofs.lemmas.Option.{slice_get_read}
-use Rattle.tmpl_syntax.specs.declared.refused.Refused.{Refused}
+use Rattle.tmpl_syntax.specs.declared.found.Found as held_found
 use Rattle.tmpl_syntax.specs.declared.site.Site as held
 use Rattle.tmpl_syntax.proofs.SecondLemmas.{drop-next}
 use Rattle.tmpl_grammar.specs.declared.action.Branch.{Branch}
@@ -11,12 +11,12 @@ use Rattle.tmpl_syntax.specs.Fault as reason
 use Rattle.tmpl_syntax.specs.Fault.{Reason}
 use Rattle.tmpl_syntax.specs.Place.Role as role
 use Rattle.tmpl_syntax.specs.Place.Role.{Name, Names, Role, plain, opener, else_part, closer, jump, nested}
-use Rattle.tmpl_syntax.specs.Place.Body.{IsFirstRefused, IsFine, IsLeftOpen, names_in}
+use Rattle.tmpl_syntax.specs.Place.Body.{IsFirstRefused, names_in}
 use Rattle.tmpl_syntax.specs.Refusals as law
-use Rattle.tmpl_syntax.specs.Refusals.{Site, Found, AreRefusals, roles_in, mend, absent, Shown, show, refused_seen}
-use Rattle.tmpl_syntax.specs.computed.Frames.{Frame, Known, Verdict, fine, refused, left_open, Judged, top, with_inner, names_at, fault_at, first_fault}
+use Rattle.tmpl_syntax.specs.Refusals.{Site, Found, AreRefusals, roles_in, mend, absent, Shown, show}
+use Rattle.tmpl_syntax.specs.computed.Frames.{Frame, Known, Judged, top, with_inner, names_at, fault_at, first_fault}
 use Rattle.tmpl_syntax.specs.computed.Frames.{is_placed, is_too_deep, knows, frames_after, known_after, verdict_from, verdict_of, unless_fault, at_end, none_known}
-use Rattle.tmpl_syntax.specs.computed.Refusals.{place_decides, kept_if, site_of, State, fault_there, after, ask, names_left, by_mended, by_fault, step, found_at, found_open}
+use Rattle.tmpl_syntax.specs.computed.Refusals.{found_seen, place_decides, kept_if, site_of, State, fault_there, after, ask, names_left, by_mended, by_fault, step, found_at, found_open}
 use Rattle.tmpl_syntax.specs.computed.Refusals.{refusals_from, start, refusals_in}
 use Rattle.tmpl_syntax.proofs.VerdictLemmas.{judged-all}
 
@@ -57,10 +57,6 @@ ended last ys s r = by s.frames refl
 abbrev pub StaysBranch : Role → Role → Type 0
 StaysBranch (else_part (Some (b, p))) m = (q : List Name) × (m ≡ else_part (Some (b, record { declares = q; uses = [] })))
 StaysBranch x m = Unit {0}
-
--- .. and what is not there leaves all as it was
-after-absent : (s : State) → after absent s ≡ s
-after-absent s = refl
 
 record Alike (m : Role) (a s : State) : Type 0 where
   fault : fault_there m a ≡ fault_there m s
@@ -261,30 +257,30 @@ state-of : (s t : State) → s.frames ≡ t.frames → s.known ≡ t.known → s
 state-of s t e f = ap (λ (fs : List Frame). record { frames = fs; known = s.known }) e ∙ ap (λ (k : Known). record { frames = t.frames; known = k }) f
 
 pub found-past : (last place : ℕ) (sites : List held.Site) (x : held.Site) → place < length sites → x ≡ get_or sites place x
-    → (all : List Shown) (old new : List Refused) (s t : State)
-    → all ≡ map refused_seen old ++ map show (refusals_from last place s (map site_of (drop place sites)))
-    → map refused_seen new ≡ map refused_seen old ++ map show (found_at place (site_of x).line (step (site_of x) s).0)
+    → (all : List Shown) (old new : List held_found.Found) (s t : State)
+    → all ≡ map found_seen old ++ map show (refusals_from last place s (map site_of (drop place sites)))
+    → map found_seen new ≡ map found_seen old ++ map show (found_at place (site_of x).line (step (site_of x) s).0)
     → t.frames ≡ (step (site_of x) s).1.frames → t.known ≡ (step (site_of x) s).1.known
-    → all ≡ map refused_seen new ++ map show (refusals_from last (place + 1) t (map site_of (drop (place + 1) sites)))
+    → all ≡ map found_seen new ++ map show (refusals_from last (place + 1) t (map site_of (drop (place + 1) sites)))
 found-past last place sites x lt is all old new s t a n f k =
     let here = found_at place (site_of x).line (step (site_of x) s).0 in
     let later = refusals_from last (place + 1) (step (site_of x) s).1 (map site_of (drop (place + 1) sites)) in
-    a ∙ ap (λ ys. map refused_seen old ++ map show (refusals_from last place s (map site_of ys)))
+    a ∙ ap (λ ys. map found_seen old ++ map show (refusals_from last place s (map site_of ys)))
     (drop-next sites place x (slice_get_read sites (length sites) place x refl lt is))
-    ∙ ap (λ ys. map refused_seen old ++ ys) (map-append show here later)
-    ∙ sym (append_assoc (map refused_seen old) (map show here) (map show later))
+    ∙ ap (λ ys. map found_seen old ++ ys) (map-append show here later)
+    ∙ sym (append_assoc (map found_seen old) (map show here) (map show later))
     ∙ ap (λ ys. ys ++ map show later) (sym n)
-    ∙ ap (λ u. map refused_seen new ++ map show (refusals_from last (place + 1) u (map site_of (drop (place + 1) sites))))
+    ∙ ap (λ u. map found_seen new ++ map show (refusals_from last (place + 1) u (map site_of (drop (place + 1) sites))))
     (sym (state-of t (step (site_of x) s).1 f k))
 
-pub found-end : (last place : ℕ) (sites : List held.Site) → place ≡ length sites → (all : List Shown) (old new : List Refused) (s : State)
-    → all ≡ map refused_seen old ++ map show (refusals_from last place s (map site_of (drop place sites)))
-    → map refused_seen new ≡ map refused_seen old ++ map show (found_open (length sites) last s.frames)
-    → map refused_seen new ≡ all
-found-end last place sites le all old new s a n = n ∙ sym (a ∙ ap (λ ys. map refused_seen old ++ map show (refusals_from last place s (map site_of ys)))
-    (drop_all place sites (omega (arith, le))) ∙ ap (λ i. map refused_seen old ++ map show (found_open i last s.frames)) le)
+pub found-end : (last place : ℕ) (sites : List held.Site) → place ≡ length sites → (all : List Shown) (old new : List held_found.Found) (s : State)
+    → all ≡ map found_seen old ++ map show (refusals_from last place s (map site_of (drop place sites)))
+    → map found_seen new ≡ map found_seen old ++ map show (found_open (length sites) last s.frames)
+    → map found_seen new ≡ all
+found-end last place sites le all old new s a n = n ∙ sym (a ∙ ap (λ ys. map found_seen old ++ map show (refusals_from last place s (map site_of ys)))
+    (drop_all place sites (omega (arith, le))) ∙ ap (λ i. map found_seen old ++ map show (found_open i last s.frames)) le)
 
-pub found-start : (last : ℕ) (sites : List held.Site) (old : List Refused) (s : State) → old ≡ [] → s.frames ≡ [] → s.known ≡ none_known
-    → map show (refusals_in last (map site_of sites)) ≡ map refused_seen old ++ map show (refusals_from last 0 s (map site_of (drop 0 sites)))
+pub found-start : (last : ℕ) (sites : List held.Site) (old : List held_found.Found) (s : State) → old ≡ [] → s.frames ≡ [] → s.known ≡ none_known
+    → map show (refusals_in last (map site_of sites)) ≡ map found_seen old ++ map show (refusals_from last 0 s (map site_of (drop 0 sites)))
 unfolding refusals_in
 found-start last sites old s o f k = rw o (ap (λ t. map show (refusals_from last 0 t (map site_of sites))) (sym (state-of s start f k)))

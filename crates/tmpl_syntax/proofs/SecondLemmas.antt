@@ -14,6 +14,7 @@ use Rattle.std.proofs.lemmas.Option.{slice_get_read, slice_get_within, slice_get
 use Rattle.std.proofs.lemmas.Slice.Eq.{bytes_eq-Decides}
 use Rattle.tmpl_syntax.specs.Tree.{Definition}
 use Rattle.tmpl_syntax.specs.View.{nodes_in}
+use Rattle.tmpl_syntax.specs.computed.Begun.{definition_at}
 use Rattle.tmpl_syntax.specs.computed.View.{definition_of}
 use Rattle.tmpl_syntax.specs.declared.tree.Definition as held
 use Rattle.tmpl_syntax.specs.Place.Role.{Name}
@@ -184,31 +185,57 @@ second-some ds line s = simp (s.3, at-second s.0 s.1 s.2 (last-second s.0 s.1 s.
 pub drop-next : {A : Type 0} (xs : List A) (i : ℕ) (x : A) → slice_get xs i ≡ Some x → drop i xs ≡ x ∷ drop (i + 1) xs
 drop-next xs i x at = drop_more xs i x (slice_get_within xs i x at) ∙ ap (λ y. y ∷ drop (i + 1) xs) (get_or_from_slice_get xs i x x at)
 
-module _ (names : List Name) (held_ds : List held.Definition) (i : ℕ) (d : held.Definition) (lt : i < length held_ds) (is : d ≡ get_or held_ds i d) where
+module _ (f : held.Definition → Definition) (names : List Name) (held_ds : List held.Definition) (i : ℕ) (d : held.Definition) (lt : i < length held_ds)
+    (is : d ≡ get_or held_ds i d) where
   abbrev ds : List Definition
-  ds = map definition_of held_ds
+  ds = map f held_ds
 
   abbrev without : Option ℕ
   without = second_from names (drop (i + 1) ds)
 
   abbrev with_it : Option ℕ
-  with_it = second_from (names ++ d.name ∷ []) (drop (i + 1) ds)
+  with_it = second_from (names ++ (f d).name ∷ []) (drop (i + 1) ds)
 
   -- the definition at a place decides, or what stands after it
-  next : second_from names (drop i ds) ≡ second_if (is_blank (nodes_in d.nodes.items)) (is_known names d.name) d.line without with_it
+  next : second_from names (drop i ds) ≡ second_if (is_blank (f d).nodes) (is_known names (f d).name) (f d).line without with_it
   next =
-      let at : slice_get ds i ≡ Some (definition_of d) = slice_get-map definition_of held_ds i
-      ∙ ap (option_map definition_of) (slice_get_read held_ds (length held_ds) i d refl lt is) in
-      ap (second_from names) (drop-next ds i (definition_of d) at)
+      let at : slice_get ds i ≡ Some (f d) = slice_get-map f held_ds i ∙ ap (option_map f) (slice_get_read held_ds (length held_ds) i d refl lt is) in
+      ap (second_from names) (drop-next ds i (f d) at)
 
-  pub next-blank : is_blank (nodes_in d.nodes.items) ≡ true → second_from names (drop i ds) ≡ without
-  next-blank blank = next ∙ rw blank
+  blank-next : is_blank (f d).nodes ≡ true → second_from names (drop i ds) ≡ without
+  blank-next blank = next ∙ rw blank
 
-  pub next-known : is_blank (nodes_in d.nodes.items) ≡ false → is_known names d.name ≡ true → second_from names (drop i ds) ≡ Some d.line
-  next-known blank known = next ∙ rw (blank, known)
+  known-next : is_blank (f d).nodes ≡ false → is_known names (f d).name ≡ true → second_from names (drop i ds) ≡ Some (f d).line
+  known-next blank known = next ∙ rw (blank, known)
 
-  pub next-new : is_blank (nodes_in d.nodes.items) ≡ false → is_known names d.name ≡ false → second_from names (drop i ds) ≡ with_it
-  next-new blank known = next ∙ rw (blank, known)
+  new-next : is_blank (f d).nodes ≡ false → is_known names (f d).name ≡ false → second_from names (drop i ds) ≡ with_it
+  new-next blank known = next ∙ rw (blank, known)
+
+module _ (names : List Name) (held_ds : List held.Definition) (i : ℕ) (d : held.Definition) (lt : i < length held_ds) (is : d ≡ get_or held_ds i d) where
+  pub next-blank : is_blank (nodes_in d.nodes.items) ≡ true
+      → second_from names (drop i (map definition_of held_ds)) ≡ second_from names (drop (i + 1) (map definition_of held_ds))
+  next-blank blank = blank-next definition_of names held_ds i d lt is blank
+
+  pub next-known : is_blank (nodes_in d.nodes.items) ≡ false → is_known names d.name ≡ true
+      → second_from names (drop i (map definition_of held_ds)) ≡ Some d.line
+  next-known blank known = known-next definition_of names held_ds i d lt is blank known
+
+  pub next-new : is_blank (nodes_in d.nodes.items) ≡ false → is_known names d.name ≡ false
+      → second_from names (drop i (map definition_of held_ds)) ≡ second_from (names ++ d.name ∷ []) (drop (i + 1) (map definition_of held_ds))
+  next-new blank known = new-next definition_of names held_ds i d lt is blank known
+
+  -- .. and so where each has the byte at which it begins in place of its line
+  pub begun-blank : is_blank (nodes_in d.nodes.items) ≡ true
+      → second_from names (drop i (map definition_at held_ds)) ≡ second_from names (drop (i + 1) (map definition_at held_ds))
+  begun-blank blank = blank-next definition_at names held_ds i d lt is blank
+
+  pub begun-known : is_blank (nodes_in d.nodes.items) ≡ false → is_known names d.name ≡ true
+      → second_from names (drop i (map definition_at held_ds)) ≡ Some d.start
+  begun-known blank known = known-next definition_at names held_ds i d lt is blank known
+
+  pub begun-new : is_blank (nodes_in d.nodes.items) ≡ false → is_known names d.name ≡ false
+      → second_from names (drop i (map definition_at held_ds)) ≡ second_from (names ++ d.name ∷ []) (drop (i + 1) (map definition_at held_ds))
+  begun-new blank known = new-next definition_at names held_ds i d lt is blank known
 
 -- a single definition is no second one
 pub few-second : (ds : List Definition) → length ds < 2 → second_in ds ≡ None
@@ -221,4 +248,4 @@ few-second (d ∷ []) lt = by (is_blank d.nodes)
     by false = refl
 few-second (d ∷ e ∷ ds) lt = absurd (omega (arith, lt))
 
-pub ruleset seconds = (next-blank, next-known, next-new, few-second, length-map)
+pub ruleset seconds = (next-blank, next-known, next-new, begun-blank, begun-known, begun-new, few-second, length-map)

@@ -74,7 +74,7 @@ verdict-fine : (last : ℕ) (items : List Item) (v : Verdict) → by_verdict las
 verdict-fine last items fine e = refl
 verdict-fine last items _ e = absurd (cc)
 
-checked-verdict : (bytes : List ℕ) (items : List Item) → checked bytes items ≡ Ok tt → verdict_of (roles_of items) ≡ fine
+pub checked-verdict : (bytes : List ℕ) (items : List Item) → checked bytes items ≡ Ok tt → verdict_of (roles_of items) ≡ fine
 unfolding checked
 checked-verdict bytes items e = verdict-fine (last_line bytes) items (verdict_of (roles_of items)) e
 

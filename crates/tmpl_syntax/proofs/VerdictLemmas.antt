@@ -4,7 +4,7 @@ use Rattle.std.proofs.Common.{arith, ◌≡◌, ℕ, ◌<◌, ◌≤◌, List, l
 use Rattle.std.proofs.Common.{Option, Bool, ◌≢◌, ◌⊎◌, inl, inr, ap, sym, ◌∙◌}
 use Rattle.std.proofs.lemmas.Bool.{cases_order, cases_lt}
 use Rattle.std.proofs.lemmas.Option.{slice_get_within, slice_get-get_or}
-use Rattle.tmpl_syntax.specs.Fault.{Reason, in_turn}
+use Rattle.tmpl_syntax.specs.Fault.{Reason}
 use Rattle.tmpl_syntax.specs.Place.Body as body
 use Rattle.tmpl_syntax.specs.Place.Body.{IsBefore, IsFirstRefused, Applies, misplaced, undeclared, IsMisplaced, NoneRefused, names_in}
 use Rattle.tmpl_syntax.specs.computed.Frames.{Verdict, fine, refused, left_open, Judged}

@@ -1,8 +1,10 @@
+pub mod Begun
 pub mod Build
 pub mod Fault
 pub mod Frames
 pub mod Item
 pub mod Parse
+pub mod Past
 pub mod Print
 pub mod Refusals
 pub mod Set

@@ -4,9 +4,9 @@ ghost use Rattle.tmpl_grammar.specs.Action.{block_action};
 ghost use Rattle.tmpl_grammar.specs.View.{action_of, header_of, pipeline_of};
 ghost use Rattle.tmpl_syntax.specs.Item.{action_item, item};
 ghost use Rattle.tmpl_syntax.specs.Tree.{control_node};
-ghost use Rattle.tmpl_syntax.specs.View.{nodes_in};
 ghost use Rattle.tmpl_syntax.specs.computed.View.{definition_of, item_of, kind_of, level_of, parts_of};
 ghost use Rattle.tmpl_syntax.specs.computed.Parse.{all_from};
+ghost use Rattle.tmpl_syntax.specs.computed.Begun.{action_start, header_start, open_starts, starts_in, starts_of};
 ghost use Rattle.tmpl_syntax.specs.computed.Build as spec;
 
 use crate::item::{Item, ItemKind};
@@ -47,8 +47,9 @@ pub(crate) fn build(
     items: Vec<Item>,
     name: Bytes,
 ) -> Result<Vec<Definition>, AllocError>
-    ensures { IfOk result (λ v. map definition_of v.items
+    ensures definitions { IfOk result (λ v. map definition_of v.items
         ≡ all_from name (map item_of items.items)) }
+    ensures starts { IfOk result (λ v. starts_of v.items ≡ starts_in items.items ++ 0 ∷ []) }
 {
     let OpenParts {
         inner,
@@ -58,6 +59,7 @@ pub(crate) fn build(
     definitions.reverse();
     definitions.push(Definition {
         line: 1,
+        start: 0,
         name,
         nodes: in_order(inner.nodes),
     })?;
@@ -67,7 +69,8 @@ pub(crate) fn build(
 /// The parts from the first of these items on.
 #[tactic(auto, using(crate::proofs::ViewLemmas::nodes, crate::proofs::SpellingLemmas::lasts), unfolding(crate::specs::computed::View::parts_of))]
 fn parts_before(alloc: Global, items: Vec<Item>) -> Result<OpenParts, AllocError>
-    ensures { IfOk result (λ p. parts_of p ≡ spec.parts_before (map item_of items.items) spec.no_parts) }
+    ensures parts { IfOk result (λ p. parts_of p ≡ spec.parts_before (map item_of items.items) spec.no_parts) }
+    ensures starts { IfOk result (λ p. open_starts p ≡ starts_in items.items) }
 {
     let mut items = items;
     let mut parts = OpenParts {
@@ -117,13 +120,15 @@ fn in_order(nodes: Vec<Node>) -> Vec<Node>
 
 /// Puts an item before those that are after it.
 fn put(alloc: Global, parts: &mut OpenParts, item: Item) -> Result<(), AllocError>
-    ensures { IfOk result (λ u. parts_of parts.new ≡ spec.parts_with (item_of item) (parts_of parts.old)) }
+    ensures parts { IfOk result (λ u. parts_of parts.new ≡ spec.parts_with (item_of item) (parts_of parts.old)) }
+    ensures starts { IfOk result (λ u. open_starts parts.new
+        ≡ header_start item.what item.start ++ open_starts parts.old) }
 {
-    let Item { line, what } = item;
+    let Item { line, start, what } = item;
     match what {
         ItemKind::Text(text) => put_node(parts, line, NodeKind::Text(text)),
         ItemKind::Unreadable | ItemKind::Unread | ItemKind::TooDeep(_) => Ok(()),
-        ItemKind::Action(action) => put_action(alloc, parts, line, action),
+        ItemKind::Action(action) => put_action(alloc, parts, line, start, action),
     }
 }
 
@@ -132,10 +137,12 @@ fn put_action(
     alloc: Global,
     parts: &mut OpenParts,
     line: u64,
+    start: usize,
     action: Action,
 ) -> Result<(), AllocError>
-    ensures { IfOk result (λ u. parts_of parts.new
+    ensures parts { IfOk result (λ u. parts_of parts.new
         ≡ spec.parts_with (item line (action_item (action_of action))) (parts_of parts.old)) }
+    ensures starts { IfOk result (λ u. open_starts parts.new ≡ action_start action start ++ open_starts parts.old) }
 {
     match action {
         Action::Pipeline(header) => put_node(parts, line, NodeKind::Action(header)),
@@ -148,9 +155,9 @@ fn put_action(
         Action::End => end(alloc, parts),
         Action::Break => put_node(parts, line, NodeKind::Break),
         Action::Continue => put_node(parts, line, NodeKind::Continue),
-        Action::Define(name) => put_definition(alloc, parts, line, name),
+        Action::Define(name) => put_definition(alloc, parts, line, start, name),
         Action::Template(name, given) => put_node(parts, line, NodeKind::Template(name, given)),
-        Action::Block(name, pipeline) => put_block(alloc, parts, line, name, pipeline),
+        Action::Block(name, pipeline) => put_block(alloc, parts, line, start, name, pipeline),
     }
 }
 
@@ -160,14 +167,17 @@ fn put_definition(
     alloc: Global,
     parts: &mut OpenParts,
     line: u64,
+    start: usize,
     name: Bytes,
 ) -> Result<(), AllocError>
-    ensures { IfOk result (λ u. parts_of parts.new ≡ spec.definition_before line name (parts_of parts.old)) }
+    ensures parts { IfOk result (λ u. parts_of parts.new ≡ spec.definition_before line name (parts_of parts.old)) }
+    ensures starts { IfOk result (λ u. open_starts parts.new ≡ start ∷ open_starts parts.old) }
 {
     let around = outer(alloc, &mut parts.around);
     let inner = mem::replace(&mut parts.inner, around);
     parts.definitions.push(Definition {
         line,
+        start,
         name,
         nodes: in_order(inner.nodes),
     })?;
@@ -179,21 +189,24 @@ fn put_block(
     alloc: Global,
     parts: &mut OpenParts,
     line: u64,
+    start: usize,
     name: Bytes,
     pipeline: Pipeline,
 ) -> Result<(), AllocError>
-    ensures { IfOk result (λ u. parts_of parts.new
+    ensures parts { IfOk result (λ u. parts_of parts.new
         ≡ spec.parts_with (item line (action_item (block_action name (pipeline_of pipeline)))) (parts_of parts.old)) }
+    ensures starts { IfOk result (λ u. open_starts parts.new ≡ start ∷ open_starts parts.old) }
 {
     let called = Bytes::new(name.as_slice().to_vec(alloc)?);
-    put_definition(alloc, parts, line, name)?;
+    put_definition(alloc, parts, line, start, name)?;
     put_node(parts, line, NodeKind::Template(called, Some(pipeline)))
 }
 
 /// Puts a node before those of the innermost part.
 #[tactic(auto, using(crate::proofs::ViewLemmas::nodes), unfolding(crate::specs::computed::View::parts_of))]
 fn put_node(parts: &mut OpenParts, line: u64, what: NodeKind) -> Result<(), AllocError>
-    ensures { IfOk result (λ u. parts_of parts.new ≡ spec.put_before line (kind_of what) (parts_of parts.old)) }
+    ensures parts { IfOk result (λ u. parts_of parts.new ≡ spec.put_before line (kind_of what) (parts_of parts.old)) }
+    ensures definitions { OnOk result (parts.new.definitions ≡ parts.old.definitions) }
 {
     add_node(&mut parts.inner.nodes, Node { line, what })?;
     Ok(())
@@ -219,8 +232,9 @@ fn put_control(
     control: Control,
     header: Header,
 ) -> Result<(), AllocError>
-    ensures { IfOk result (λ u. parts_of parts.new
+    ensures parts { IfOk result (λ u. parts_of parts.new
         ≡ spec.control_before line control (header_of header) (parts_of parts.old)) }
+    ensures definitions { OnOk result (parts.new.definitions ≡ parts.old.definitions) }
 {
     let around = outer(alloc, &mut parts.around);
     let inner = mem::replace(&mut parts.inner, around);
@@ -262,7 +276,8 @@ fn outer(alloc: Global, around: &mut Vec<Level>) -> Level
 /// Begins a part before an else part.
 #[tactic(auto, using(crate::proofs::ViewLemmas::nodes), unfolding(crate::specs::computed::View::parts_of))]
 fn begin_else(alloc: Global, parts: &mut OpenParts)
-    ensures { parts_of parts.new ≡ spec.else_before (parts_of parts.old) }
+    ensures parts { parts_of parts.new ≡ spec.else_before (parts_of parts.old) }
+    ensures definitions { parts.new.definitions ≡ parts.old.definitions }
 {
     let nodes = mem::replace(&mut parts.inner.nodes, Vec::new(alloc));
     parts.inner.other = in_order(nodes);
@@ -277,8 +292,9 @@ fn begin_branch(
     branch: Branch,
     header: Header,
 ) -> Result<(), AllocError>
-    ensures { IfOk result (λ u. parts_of parts.new
+    ensures parts { IfOk result (λ u. parts_of parts.new
         ≡ spec.branch_before line branch (header_of header) (parts_of parts.old)) }
+    ensures definitions { OnOk result (parts.new.definitions ≡ parts.old.definitions) }
 {
     let inner = mem::replace(&mut parts.inner, Level::new(alloc));
     let what = control_kind(alloc, branch.control(), header, inner)?;
@@ -289,7 +305,8 @@ fn begin_branch(
 /// Begins a part before an `end`.
 #[tactic(auto, using(crate::proofs::ViewLemmas::nodes), unfolding(crate::specs::computed::View::parts_of))]
 fn end(alloc: Global, parts: &mut OpenParts) -> Result<(), AllocError>
-    ensures { IfOk result (λ u. parts_of parts.new ≡ spec.end_before (parts_of parts.old)) }
+    ensures parts { IfOk result (λ u. parts_of parts.new ≡ spec.end_before (parts_of parts.old)) }
+    ensures definitions { OnOk result (parts.new.definitions ≡ parts.old.definitions) }
 {
     let inner = mem::replace(&mut parts.inner, Level::new(alloc));
     parts.around.push(inner)?;

@@ -1,5 +1,8 @@
 //! Why a file is refused.
-ghost use Rattle.std.specs.Prelude.{◌≡◌, Some};
+ghost use Rattle.std.specs.Prelude.{◌≡◌, ℕ, List, Some};
+ghost use Rattle.tmpl_lex.specs.Begin.{BeginsAt};
+ghost use Rattle.tmpl_syntax.specs.Examine.{StartsAt};
+ghost use Rattle.tmpl_syntax.specs.computed.Begun.{IsSecondStart};
 ghost use Rattle.tmpl_syntax.specs.Fault.{reason_of};
 ghost use Rattle.tmpl_syntax.specs.computed.Fault.{of_action, out_of_memory};
 
@@ -55,7 +58,9 @@ pub(crate) enum Fault {
 impl Fault {
     /// The kind of the refusal that this fault makes.
     pub(crate) fn kind(self) -> ParseKind
-        ensures { reason_of result ≡ Some (of_action self) }
+        ensures reason { reason_of result ≡ Some (of_action self) }
+        ensures starts { (file : List ℕ) (place start : ℕ) → BeginsAt file place start → StartsAt file result place start }
+        ensures first { (file : List ℕ) (start : ℕ) → IsSecondStart file result start }
     {
         match self {
             Fault::Unreadable => ParseKind::Unreadable,
@@ -67,11 +72,15 @@ impl Fault {
     }
 }
 
-/// Why a file was refused, and the line, but not which file it was.
+/// Why a file was refused, and where, but not which file it was.
 #[derive(Clone, Copy)]
 pub(crate) struct Refusal {
     pub(crate) line: u64,
+    /// How many bytes of the file stand before what is refused.
+    pub(crate) start: usize,
     pub(crate) kind: ParseKind,
+    /// Of a second definition the line of the first of its name.
+    pub(crate) first: u64,
 }
 
 impl From<AllocError> for Refusal {
@@ -80,7 +89,9 @@ impl From<AllocError> for Refusal {
     fn from(_error: AllocError) -> Refusal {
         Refusal {
             line: 1,
+            start: 0,
             kind: ParseKind::OutOfMemory,
+            first: 0,
         }
     }
 }

@@ -3,7 +3,10 @@
 
 mod blank;
 mod build;
+mod column;
+mod examine;
 mod fault;
+mod found;
 mod item;
 mod laws;
 mod name_hash;
@@ -16,6 +19,8 @@ mod site;
 mod text;
 mod tree;
 
+pub use column::Place;
+pub use examine::examine_file;
 pub use fault::{ParseFault, ParseKind};
 pub use laws::{
     accepted_back, accepted_mended, bounded_need, cut_back, first_refusal, formed, more_branches,
@@ -23,8 +28,9 @@ pub use laws::{
 };
 pub use name_hash::NameHash;
 pub use parse::{MOST_BYTES, base_name, parse_file, parse_owned};
+pub use place::frame::{Open, Opening};
 pub use print::{print_set, print_tree};
-pub use refused::{Refused, refusals};
+pub use refused::{About, Refused};
 pub use set::{Names, Set};
 pub use text::Text;
 pub use tmpl_grammar::{

@@ -2,10 +2,11 @@
 ghost use Rattle.std.specs.Prelude.{◌≡◌, ◌≤◌, ◌==◌, IfOk, length, map, not};
 ghost use Rattle.std.specs.List.{suffix_len};
 ghost use Rattle.tmpl_syntax.specs.View.{hash_view, set_view, template_of};
+ghost use Rattle.tmpl_syntax.specs.computed.Begun.{AllFrom, IsBegun, StartsRight, definition_at};
 ghost use Rattle.tmpl_syntax.specs.computed.View.{definition_of, item_of};
 ghost use Rattle.tmpl_syntax.specs.Parse as spec;
 ghost use Rattle.tmpl_syntax.specs.Parse.{IsAsBefore, IsReading, template_in};
-ghost use Rattle.tmpl_syntax.specs.computed.Parse.{IsAdded, IsOnce, IsParse, items_of, with_file};
+ghost use Rattle.tmpl_syntax.specs.computed.Parse.{IsAdded, IsOnce, IsParse, IsReadingOf, IsSecondBegun, items_of, with_file};
 
 use crate::blank::is_blank;
 use crate::build::build;
@@ -26,7 +27,9 @@ pub const MOST_BYTES: usize = 16_777_216;
 /// The refusal of a file of more.
 const TOO_LONG: Refusal = Refusal {
     line: 1,
+    start: 0,
     kind: ParseKind::TooLong,
+    first: 0,
 };
 
 /// Adds the templates of a file to the set: those that it defines, by `define` and `block`, in the order of their
@@ -89,14 +92,29 @@ fn with_file(file: &str, added: Result<(), Refusal>) -> Result<(), ParseFault<'_
 {
     match added {
         Ok(()) => Ok(()),
-        Err(Refusal { line, kind }) => Err(ParseFault { file, line, kind }),
+        Err(Refusal { line, kind, .. }) => Err(ParseFault { file, line, kind }),
     }
+}
+
+/// Does what `parse_file` does, and says where what is refused begins.
+#[tactic(auto, using(crate::proofs::ExamineLemmas::reading_of))]
+pub(crate) fn read_file(
+    alloc: Global,
+    set: &mut Set,
+    file: &str,
+    bytes: &[u8],
+) -> Result<(), Refusal>
+    ensures reading { IsReadingOf (set_view set.old) file.now bytes.now (set_view set.new) result }
+    ensures starts { StartsRight bytes.now result }
+{
+    add_copy(alloc, set, file, bytes)
 }
 
 /// Adds the templates of a file to the set, and copies its bytes unless they are too many.
 #[tactic(auto, using(crate::proofs::FileLemmas::long))]
 fn add_copy(alloc: Global, set: &mut Set, file: &str, bytes: &[u8]) -> Result<(), Refusal>
     ensures added { IsAdded (set_view set.old) file.now bytes.now (set_view set.new) result }
+    ensures starts { StartsRight bytes.now result }
     ensures hash { hash_view set.new ≡ hash_view set.old }
 {
     if bytes.len() > MOST_BYTES {
@@ -109,6 +127,7 @@ fn add_copy(alloc: Global, set: &mut Set, file: &str, bytes: &[u8]) -> Result<()
 #[tactic(auto, using(crate::proofs::FileLemmas::long))]
 fn add_file(alloc: Global, set: &mut Set, file: &str, bytes: Vec<u8>) -> Result<(), Refusal>
     ensures added { IsAdded (set_view set.old) file.now bytes.items (set_view set.new) result }
+    ensures starts { StartsRight bytes.items result }
     ensures hash { hash_view set.new ≡ hash_view set.old }
 {
     if bytes.len() > MOST_BYTES {
@@ -136,8 +155,10 @@ fn add_items(
     bytes: &[u8],
 ) -> Result<(), Refusal>
     requires read { map item_of items.items ≡ items_of bytes.now }
+    requires begun { AllFrom (IsBegun bytes.now) 0 items.items }
     requires within { length bytes.now ≤ 16777216 }
     ensures added { IsAdded (set_view set.old) file.now bytes.now (set_view set.new) result }
+    ensures starts { StartsRight bytes.now result }
     ensures hash { hash_view set.new ≡ hash_view set.old }
 {
     let hash = set.name_hash();
@@ -153,7 +174,8 @@ fn add_items(
 /// those of the set are.
 #[tactic(auto, using(crate::proofs::SecondLemmas::seconds), unfolding(crate::specs::computed::Parse::second_in))]
 fn refuse_second(alloc: Global, hash: NameHash, definitions: &[Definition]) -> Result<(), Refusal>
-    ensures { IsOnce (map definition_of definitions.now) result }
+    ensures once { IsOnce (map definition_of definitions.now) result }
+    ensures begun { IsSecondBegun (map definition_at definitions.now) result }
 {
     if definitions.len() < 2 {
         return Ok(());
@@ -166,11 +188,23 @@ fn refuse_second(alloc: Global, hash: NameHash, definitions: &[Definition]) -> R
         if !names.insert(definition.name.as_slice())? {
             return Err(Refusal {
                 line: definition.line,
+                start: definition.start,
                 kind: ParseKind::SecondDefinition,
+                first: first_line(definitions, definition.name.as_slice()),
             });
         }
     }
     Ok(())
+}
+
+/// The line of the first definition of this name that is not blank.
+fn first_line(definitions: &[Definition], name: &[u8]) -> u64 {
+    for definition in definitions {
+        if definition.name.as_slice() == name && !is_blank(definition.nodes.as_slice()) {
+            return definition.line;
+        }
+    }
+    1
 }
 
 /// The definitions as templates in this file.

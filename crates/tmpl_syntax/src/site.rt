@@ -1,6 +1,6 @@
 //! The items of a file, each with what it counts as once it is refused.
-ghost use Rattle.std.specs.Prelude.{◌≡◌, ◌≤◌, ◌++◌, IfOk, OnOk, find, length, map, not, option_map};
-ghost use Rattle.std.specs.List.{filter_map};
+ghost use Rattle.std.specs.Prelude.{◌≡◌, ◌≤◌, ◌++◌, ℕ, IfOk, List, OnOk, length, map, not, option_map};
+ghost use Rattle.tmpl_lex.specs.Begin.{BeginsAt};
 ghost use Rattle.tmpl_lex.specs.Part.{pieces_after};
 ghost use Rattle.tmpl_lex.specs.Place.{StandsAt};
 ghost use Rattle.tmpl_lex.specs.Text.{text_piece};
@@ -8,12 +8,12 @@ ghost use Rattle.tmpl_lex.specs.View.{token_of};
 ghost use Rattle.tmpl_lex.specs.computed.Cut.{cut_of};
 ghost use Rattle.tmpl_grammar.specs.View.{action_of};
 ghost use Rattle.tmpl_syntax.specs.Refusals as spec;
+ghost use Rattle.tmpl_syntax.specs.computed.Begun.{AllFrom, BeginsThere, IsSited};
 ghost use Rattle.tmpl_syntax.specs.computed.Refusals.{site_in, sites_in};
-ghost use Rattle.tmpl_syntax.specs.computed.Refusals.{mend_kind, mend_of, site_of};
+ghost use Rattle.tmpl_syntax.specs.computed.Refusals.{mend_kind, site_of};
 ghost use Rattle.tmpl_syntax.specs.computed.Refusals.{names_held};
 ghost use Rattle.tmpl_syntax.specs.computed.View.{item_kind};
-ghost use Rattle.tmpl_syntax.specs.Item.{item};
-ghost use Rattle.tmpl_syntax.specs.Place.Role.{Names, role_of};
+ghost use Rattle.tmpl_syntax.specs.Place.Role.{Names};
 ghost use Rattle.tmpl_lex.specs.Piece.{action};
 
 use crate::item::{Item, ItemKind, item_read};
@@ -55,7 +55,8 @@ pub(crate) fn read_sites<'b>(
     contents: &'b Arc<Bytes>,
 ) -> Result<Vec<Site<'b>>, AllocError>
     requires { length contents.now.value ≤ 16777216 }
-    ensures { IfOk result (λ v. map site_of v.items ≡ sites_in (cut_of contents.now.value)) }
+    ensures sites { IfOk result (λ v. map site_of v.items ≡ sites_in (cut_of contents.now.value)) }
+    ensures begins { IfOk result (λ v. AllFrom (IsSited contents.now.value) 0 v.items) }
 {
     let file = contents.as_slice();
     let mut sites = Vec::new(alloc);
@@ -64,7 +65,7 @@ pub(crate) fn read_sites<'b>(
     loop {
         let part = first_part(file, rest, &mut tokens)?;
         push_text(alloc, contents, &mut sites, &part)?;
-        push_after(alloc, &mut sites, tokens.as_slice(), part.after)?;
+        push_after(alloc, &mut sites, tokens.as_slice(), part.after, part.opens)?;
         match part.rest {
             Some(next) => rest = next,
             None => return Ok(sites),
@@ -81,45 +82,50 @@ fn push_text<'b>(
 ) -> Result<(), AllocError>
     requires placed { StandsAt contents.now.value part.now.start part.now.text.now }
     requires within { length contents.now.value ≤ 16777216 }
-    ensures { OnOk result (map site_of sites.new.items
+    ensures sites { OnOk result (map site_of sites.new.items
         ≡ map site_of sites.old.items ++ sites_in (text_piece part.now.line part.now.text.now)) }
+    ensures begins { (file : List ℕ) → AllFrom (IsSited file) 0 sites.old.items
+        → OnOk result (AllFrom (IsSited file) 0 sites.new.items) }
 {
     if !part.text.is_empty() {
         let what = ItemKind::Text(Text::new(contents, part.start, part.text)?);
-        sites.push(text_site(alloc, part.line, what))?;
+        sites.push(text_site(alloc, part.line, part.start, what))?;
     }
     Ok(())
 }
 
-/// Adds what stands after a text, with these tokens, unless it is nothing.
+/// Adds what stands after a text, with these tokens and after this many bytes, unless it is nothing.
 fn push_after<'b>(
     alloc: Global,
     sites: &mut Vec<Site<'b>>,
     tokens: &[Token<'b>],
     after: AfterText,
+    start: usize,
 ) -> Result<(), AllocError>
-    ensures { OnOk result (map site_of sites.new.items
+    ensures sites { OnOk result (map site_of sites.new.items
         ≡ map site_of sites.old.items ++ sites_in (pieces_after tokens.now after)) }
+    ensures begins { (file : List ℕ) → BeginsThere file after (length sites.old.items) start
+        → AllFrom (IsSited file) 0 sites.old.items → OnOk result (AllFrom (IsSited file) 0 sites.new.items) }
 {
     match after {
         AfterText::Nothing => Ok(()),
-        AfterText::Action(line) => Ok(sites.push(action_site(alloc, line, tokens)?)?),
+        AfterText::Action(line) => Ok(sites.push(action_site(alloc, line, start, tokens)?)?),
         AfterText::Unreadable(line) => Ok(sites.push(text_site(
             alloc,
             line,
+            start,
             ItemKind::Unreadable,
         ))?),
     }
 }
 
 /// An item that counts as not there once it is refused.
-fn text_site<'b>(alloc: Global, line: u64, what: ItemKind) -> Site<'b>
-    ensures line { (site_of result).line ≡ line }
-    ensures role { (site_of result).role ≡ role_of (item line (item_kind what)) }
+fn text_site<'b>(alloc: Global, line: u64, start: usize, what: ItemKind) -> Site<'b>
+    ensures item { result.item ≡ record { line = line; start = start; what = what } }
     ensures mended { (site_of result).mended ≡ spec.absent }
 {
     Site {
-        item: Item { line, what },
+        item: Item { line, start, what },
         mend: Mend {
             kind: MendKind::Absent,
             names: Vec::new(alloc),
@@ -128,14 +134,21 @@ fn text_site<'b>(alloc: Global, line: u64, what: ItemKind) -> Site<'b>
 }
 
 /// The item of an action with these tokens.
-fn action_site<'b>(alloc: Global, line: u64, tokens: &[Token<'b>]) -> Result<Site<'b>, AllocError>
-    ensures { IfOk result (λ x. site_of x ≡ site_in (action line (map token_of tokens.now))) }
+fn action_site<'b>(
+    alloc: Global,
+    line: u64,
+    start: usize,
+    tokens: &[Token<'b>],
+) -> Result<Site<'b>, AllocError>
+    ensures site { IfOk result (λ x. site_of x ≡ site_in (action line (map token_of tokens.now))) }
+    ensures begins { IfOk result (λ x. (file : List ℕ) (place : ℕ) → BeginsAt file place start
+        → IsSited file place x) }
 {
     let what = item_read(read_action(alloc, tokens)?);
     let kind = kind_of(&what, tokens);
     let names = variables_in(alloc, tokens)?;
     Ok(Site {
-        item: Item { line, what },
+        item: Item { line, start, what },
         mend: Mend { kind, names },
     })
 }

@@ -57,6 +57,8 @@ pub struct Tree {
 pub(crate) struct Definition {
     /// That of its header, or 1 for the file's own template.
     pub(crate) line: u64,
+    /// How many bytes of the file stand before its header, and none before the file's own.
+    pub(crate) start: usize,
     pub(crate) name: Bytes,
     pub(crate) nodes: Vec<Node>,
 }

@@ -1,5 +1,5 @@
 //! What is put out of the templates: the printed set, or the text of a run.
-ghost use Rattle.std.specs.Prelude.{◌≡◌, ◌<◌, ◌^◌, ◌-◌, option_map};
+ghost use Rattle.std.specs.Prelude.{◌<◌, ◌^◌, ◌-◌, option_map};
 ghost use Rattle.tmpl_values.specs.View.{value_of};
 ghost use Rattle.tmpl_syntax.specs.View.{set_view};
 ghost use Rattle.tmpl_syntax.specs.Print.Printed.{printed_set};

@@ -1,6 +1,6 @@
 //! What clap's matches of the words ask for.
-ghost use Rattle.std.specs.Prelude.{◌≡◌, ◌≢◌, ◌≤◌, ◌<◌, ◌^◌, codes, option_map, map, unwrap_or, [], Some, IfOk, IfErr};
-ghost use Rattle.clap.specs.Words.{all_of, first_of, one_of, found_of, rows_of, kind_of};
+ghost use Rattle.std.specs.Prelude.{◌≡◌, ◌≢◌, ◌≤◌, ◌<◌, codes, option_map, map, unwrap_or, [], Some, IfOk};
+ghost use Rattle.clap.specs.Words.{all_of, first_of, found_of, rows_of, kind_of};
 ghost use Rattle.tmpl_tool.specs.computed.Words.{Parses};
 ghost use Rattle.tmpl_tool.specs.Request.{Asks};
 ghost use Rattle.tmpl_tool.specs.Words.{mode_named, number_in, words_request, wanted_in};

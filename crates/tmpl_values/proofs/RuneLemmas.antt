@@ -1,7 +1,7 @@
 -- For `first_char` and all that goes rune by rune: which rune stands at the front, and that runes joined are the text.
 use Rattle.std.proofs.Common.{◌≡◌, ◌∙◌, ℕ, zero, suc, ◌+◌, ◌-◌, ◌<◌, Bool, true, false, List, [], ◌∷◌, ◌++◌, length}
-use Rattle.std.proofs.Common.{take, refl, sym, ap, subst, arith, append-nil, append_assoc, drop, get_or, ◌≤◌}
-use Rattle.std.proofs.Common.{if◌then◌else◌, ◌&&◌, bytes_eq, length-append}
+use Rattle.std.proofs.Common.{take, refl, sym, ap, subst, arith, append_assoc, drop, get_or, ◌≤◌}
+use Rattle.std.proofs.Common.{length-append}
 use Rattle.std.specs.List.{flat_map}
 use Rattle.std.proofs.lemmas.List.{take-append-drop, length-take}
 use lib.Utf8.{scalar, scalars, next, scalar_cases}
@@ -12,10 +12,7 @@ use Rattle.std.proofs.lemmas.Bool.{and_parts}
 use Rattle.std.proofs.lemmas.Bool.Decides.{nat_tests}
 use Rattle.std.proofs.Common.{Option, Some, None, cond, nat_lt, min, ◌/◌, Fits, w8, ⊎_elim}
 use Rattle.std.specs.Char.{encode_utf8, len_utf8, IsScalar}
-use Rattle.std.specs.Str.{chars}
-use Rattle.std.proofs.Math.Seq.{take-append_seam}
-use Rattle.std.proofs.lemmas.Str.{chars-append, chars_past_char, chars-nil, IsUtf8-encode, length-encode, len_utf8_bounds}
-use Rattle.std.proofs.lemmas.Slice.Eq.{bytes_eq-Decides}
+use Rattle.std.proofs.lemmas.Str.{IsUtf8-encode, length-encode}
 use Rattle.tmpl_values.specs.Bytes.{AreBytes}
 use Rattle.tmpl_values.specs.Rune.{Rune, char, byte, bytes_in}
 use Rattle.tmpl_values.specs.computed.Rune.{first_rune, runes_read, runes_after, tail_len}

@@ -1,9 +1,8 @@
 -- For the law `one_list_of_runes` and all that goes rune by rune: the runes of a text are those that are read.
 use Rattle.std.proofs.Common.{◌≡◌, ℕ, suc, ◌<◌, List, [], ◌∷◌, length, drop, refl}
-use Rattle.std.specs.List.{flat_map}
 use Rattle.tmpl_values.specs.Bytes.{AreBytes}
 use Rattle.tmpl_values.specs.Laws.{HasTheseRunes, HasNoOtherRunes, AreReadInOrder, JoinsBack}
-use Rattle.tmpl_values.specs.Rune.{Rune, bytes_in}
+use Rattle.tmpl_values.specs.Rune.{Rune}
 use Rattle.tmpl_values.specs.Runes.{runes}
 use Rattle.tmpl_values.specs.computed.Rune.{first_rune, tail_len}
 use Rattle.tmpl_values.specs.computed.Runes.{one_list, read-first, read-nil}

@@ -1,8 +1,6 @@
 -- The laws of runes, that a text has one list of them, which can be read from left to right; and of data, that it is
 -- nested no deeper than `serde_json` reads, and that the keys of its mappings rise.
-use Rattle.std.specs.Prelude.{◌≡◌, ◌≤◌, ℕ, suc, max, true, List, [], ◌∷◌, ◌++◌, flat_map, Ok}
-use Rattle.std.specs.Char.{encode_utf8}
-use lib.Utf8.{scalar}
+use Rattle.std.specs.Prelude.{◌≡◌, ◌≤◌, ℕ, suc, max, List, [], flat_map, Ok}
 use Rattle.tmpl_values.specs.Json.{data_of}
 use Rattle.tmpl_values.specs.Rune.{Rune, bytes_in, HasRunes}
 use Rattle.tmpl_values.specs.Runes.{runes}

@@ -9,7 +9,7 @@ use Rattle.tmpl_lex.specs.Piece.{Token}
 pub use Rattle.tmpl_grammar.specs.Token.{name_in, begins_name}
 pub use Rattle.tmpl_grammar.specs.computed.Token.{is_white, is_blank, without_front, next}
 use Rattle.tmpl_grammar.specs.computed.Parser.{start, commands_after}
-use Rattle.tmpl_grammar.specs.Tree.{Operand, Operands, Pipeline, Binding, unbound}
+use Rattle.tmpl_grammar.specs.Tree.{Operand, Pipeline, Binding, unbound}
 use Rattle.tmpl_grammar.specs.Tree.{declare, assign, declare_pair, Header, commands_from}
 use Rattle.tmpl_grammar.specs.Header.{is_range}
 use Rattle.tmpl_grammar.specs.Printable.{may_bind}

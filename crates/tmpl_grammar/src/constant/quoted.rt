@@ -1,9 +1,8 @@
 //! What stands between quotes: strings, raw strings and characters ("String literals" and "Rune
 //! literals" in the specification of Go's language).
-ghost use Rattle.std.specs.Prelude.{◌≡◌, ◌≤◌, ◌<◌, ◌^◌, ◌+◌, ◌++◌, ◌∷◌};
+ghost use Rattle.std.specs.Prelude.{◌≡◌, ◌≤◌, ◌<◌, ◌+◌, ◌++◌, ◌∷◌};
 ghost use Rattle.std.specs.Prelude.{IfOk, IfSome, OnOk, length, option_and_then, option_map};
 ghost use Rattle.tmpl_values.specs.computed.Rune.{first_rune};
-ghost use Rattle.tmpl_grammar.specs.computed.Integer as numeral;
 ghost use Rattle.tmpl_values.specs.Rune.{bytes_in};
 ghost use Rattle.tmpl_grammar.specs.Constant.Quoted.{code_of};
 ghost use Rattle.tmpl_grammar.specs.computed.View.{rune_of, spelled_of};

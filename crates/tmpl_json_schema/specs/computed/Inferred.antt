@@ -3,16 +3,19 @@ use Rattle.std.specs.Prelude.{◌≡◌, ◌⊎◌, ◌≤◌, ◌+◌, ◌*◌,
 use Rattle.std.specs.Borrow.{Bor}
 use Rattle.std.specs.BTreeMap.{BTreeMap}
 use Rattle.std.specs.List.{AllByRecursion}
-use Rattle.std.specs.Prelude.{String, codes}
+use Rattle.std.specs.Prelude.{String, codes, Bool, false}
+use Rattle.std.specs.Option.{option_map_or}
+use Rattle.std.specs.Str.{bytes_eq}
 use Rattle.std.specs.declared.alloc.Global.{Global}
 use Rattle.serde_json.specs.declared.value.Value.{Value}
 use Rattle.serde_json.specs.Data as json
 use Rattle.serde_json.specs.Data.{Data, Items, Members, no_items, no_members, member, put, depth, members_depth}
-use Rattle.serde_json.specs.Find.{get_member}
+use Rattle.serde_json.specs.Find.{as_str, get_member}
 use Rattle.serde_json.specs.View.{view, members_view}
 use Rattle.tmpl_values.specs.Value as value
 use Rattle.tmpl_values.specs.Json.{tree_value}
 use Rattle.tmpl_json_schema.specs.Document.{conforms_in}
+use Rattle.tmpl_json_schema.specs.Inferred.{IsInferred, EachInferred}
 
 -- the data of samples
 abbrev pub seen : List (Bor Value) → List Data
@@ -35,6 +38,10 @@ items_of_list d = []
 abbrev pub EachValue : (value.Value → Type 0) → List Data → Type 0
 EachValue P samples = AllByRecursion (λ s. IfSome (tree_value s) P) samples
 
+-- it is this text
+abbrev pub is_text : List ℕ → Data → Bool
+is_text text d = option_map_or (λ other. bytes_eq other text) (as_str d) false
+
 -- the only one of these, or a list of them
 abbrev pub IsOnlyOrList : Items → Data → Type 0
 IsOnlyOrList ds d = (ds ≡ json.item d no_items) ⊎ (d ≡ json.array ds)
@@ -51,7 +58,7 @@ room levels = 2 * levels + 1
 abbrev pub AddsItems : ℕ → List Data → Members → Members → Type 0
 AddsItems levels samples old new = (new ≡ old)
     ⊎ ((d : Data) × (new ≡ put (codes "items") d old) × EachValue (Fits (suc levels) d) (flat_map items_of_list samples)
-    × (depth d ≤ room levels))
+    × (depth d ≤ room levels) × IsInferred d)
 
 -- these are schemas of what maps have under each key
 abbrev pub ArePropertiesOf : ℕ → List Members → Members → Type 0
@@ -70,6 +77,7 @@ pub record AreTold (levels : ℕ) (maps : List Members) (ps : Members) (ks : Ite
   pub properties : ArePropertiesOf levels maps ps
   pub required : AreSharedBy maps ks
   pub nests : members_depth ps ≤ room levels
+  pub plain : EachInferred ps
 
 -- .. or nothing
 abbrev pub AddsProperties : ℕ → List Members → Members → Members → Type 0

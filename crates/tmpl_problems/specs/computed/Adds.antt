@@ -10,8 +10,8 @@ use Rattle.tmpl_lex.specs.View.{token_of}
 use Rattle.tmpl_lex.specs.declared.part.AfterText.{AfterText}
 use Rattle.tmpl_lex.specs.declared.part.AfterText.TheVariants as variant
 use Rattle.tmpl_lex.specs.declared.piece.Token as held
-use Rattle.tmpl_refusals.specs.Column.{IsPlace}
-use Rattle.tmpl_refusals.specs.declared.place.Place.{Place}
+use Rattle.tmpl_syntax.specs.Column.{IsPlace}
+use Rattle.tmpl_syntax.specs.declared.column.Place.{Place}
 use Rattle.tmpl_problems.specs.declared.survey.Named.{Named}
 use Rattle.tmpl_problems.specs.declared.survey.Variable.{Variable}
 use Rattle.tmpl_problems.specs.declared.survey.Warning.{Warning}

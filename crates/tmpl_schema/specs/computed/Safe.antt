@@ -1,5 +1,5 @@
 -- The law that an accepted template has no fault but those that it may have.
-use Rattle.std.specs.Prelude.{◌≡◌, ℕ, true, List, [], ◌∷◌, Option, Some, None, IfSome, Contains, unwrap_or}
+use Rattle.std.specs.Prelude.{◌≡◌, ◌⊎◌, ℕ, true, List, [], ◌∷◌, Option, Some, None, IfSome, Contains, unwrap_or}
 use Rattle.std.specs.Option.{option_map_or}
 use Rattle.tmpl_values.specs.Value.{Value, nothing}
 use Rattle.tmpl_syntax.specs.Set.{Template, tree_named}
@@ -8,19 +8,25 @@ use Rattle.tmpl_meaning.specs.Meaning.{Rules, ran}
 use Rattle.tmpl_meaning.specs.Pipeline.{without_null}
 use Rattle.tmpl_meaning.specs.declared.missing_key.MissingKey.{MissingKey}
 use Rattle.tmpl_meaning.specs.declared.missing_key.MissingKey.TheVariants.{Error}
-use Rattle.tmpl_shape.specs.Shape.{Shape, HasShape, stands_for}
+use Rattle.tmpl_shape.specs.Shape.{Shape, HasShape, stands_for, texts}
 use Rattle.tmpl_schema.specs.Safe.{Covers, MayEnd}
-use Rattle.tmpl_shape.specs.computed.Shapes.{Base}
+use Rattle.tmpl_shape.specs.computed.Shapes.{Base, within}
 use Rattle.tmpl_schema.specs.computed.Check.{Callee, handed, absent, Table, is_safe}
+use Rattle.tmpl_schema.specs.computed.Loops.{IsFound}
 
 -- the mode in which a template is checked: the one that was asked for, or where each is, that in which least is given
 abbrev pub mode_for : Option MissingKey → MissingKey
 mode_for asked = unwrap_or asked Error
 
+-- a template is accepted for values of the shape: by its nodes, or, for texts, as a copy loop
+abbrev pub IsAccepted : Base → MissingKey → List (List ℕ) → List Template → Table → Shape → Tree → Type 0
+IsAccepted base m stops set table s t =
+    (is_safe base m table s t.nodes ≡ true) ⊎ ((within base s texts ≡ true) × IsFound base set stops t.nodes)
+
 -- a template that is called is in the set, and is accepted for values of its shape; or it is not, and its call is a stop
 abbrev pub IsCallee : Base → MissingKey → List (List ℕ) → List Template → Table → List ℕ → Callee → Type 0
 IsCallee base m stops set table name (handed s) =
-    (t : Tree) × (tree_named name set ≡ Some t) × (is_safe base m table s t.nodes ≡ true)
+    (t : Tree) × (tree_named name set ≡ Some t) × IsAccepted base m stops set table s t
 IsCallee base m stops set table name absent = (tree_named name set ≡ None) × Contains stops name
 
 -- .. and so each of the table

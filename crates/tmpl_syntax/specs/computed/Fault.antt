@@ -15,4 +15,4 @@ of_action fault.NestedTooDeeply = reason.nested_too_deeply
 of_action fault.UndeclaredVariable = reason.undeclared_variable
 
 abbrev pub out_of_memory : Refusal
-out_of_memory = record { line = 1; kind = kind.OutOfMemory }
+out_of_memory = record { line = 1; start = 0; kind = kind.OutOfMemory; first = 0 }

@@ -8,7 +8,7 @@ use Rattle.tmpl_syntax.specs.Tree.{Definition}
 use Rattle.tmpl_syntax.specs.Spelling.{definition}
 use Rattle.tmpl_syntax.specs.Item.{Item, item}
 pub use Rattle.tmpl_syntax.specs.Parse.{Refusal}
-use Rattle.tmpl_syntax.specs.Parse.{base_name, most_bytes, template_in}
+use Rattle.tmpl_syntax.specs.Parse.{Parses, ParsesUnless, base_name, most_bytes, template_in}
 use Rattle.tmpl_syntax.specs.Place.Role.{Name, roles_of}
 use Rattle.tmpl_syntax.specs.computed.Frames.{Verdict, fine, refused, left_open}
 use Rattle.tmpl_syntax.specs.Fault.{Reason, open_at_end, too_long, second_definition, reason_of}
@@ -113,6 +113,15 @@ abbrev pub IsChecked : List ℕ → List Item → Result (Unit {0}) held.Refusal
 IsChecked bytes items (Ok u) = checked bytes items ≡ Ok tt
 IsChecked bytes items (Err r) = IsRefusal (checked bytes items) r.line (reason_of r.kind)
 
+-- the same of definitions with where they begin in place of their lines; want of memory is at no place
+abbrev pub IsSecondFrom : Option ℕ → ℕ → Option Reason → Type 0
+IsSecondFrom second start None = Unit {0}
+IsSecondFrom second start (Some reason) = second ≡ Some start
+
+abbrev pub IsSecondBegun : List Definition → Result (Unit {0}) held.Refusal → Type 0
+IsSecondBegun ds (Ok u) = Unit {0}
+IsSecondBegun ds (Err r) = IsSecondFrom (second_in ds) r.start (reason_of r.kind)
+
 -- none of the definitions is a second one
 abbrev pub IsOnce : List Definition → Result (Unit {0}) held.Refusal → Type 0
 IsOnce ds (Ok u) = second_in ds ≡ None
@@ -122,3 +131,8 @@ IsOnce ds (Err r) = IsSecondAt (second_in ds) r.line (reason_of r.kind)
 abbrev pub IsAdded : List Template → List ℕ → List ℕ → List Template → Result (Unit {0}) held.Refusal → Type 0
 IsAdded old file bytes new (Ok u) = parsed old file bytes ≡ Ok new
 IsAdded old file bytes new (Err r) = (new ≡ old) × IsRefusal (parsed old file bytes) r.line (reason_of r.kind)
+
+-- what comes of a file, where it is not named
+abbrev pub IsReadingOf : List Template → List ℕ → List ℕ → List Template → Result (Unit {0}) held.Refusal → Type 0
+IsReadingOf old file bytes new (Ok u) = Parses old file bytes (Ok new)
+IsReadingOf old file bytes new (Err r) = (new ≡ old) × ParsesUnless old file bytes r.line (reason_of r.kind)

@@ -1,8 +1,8 @@
 -- All that is refused of a file, found in one pass.
-use Rattle.std.specs.Prelude.{◌≡◌, ℕ, ◌+◌, Bool, true, false, List, [], ◌∷◌, ◌++◌, Option, Some, None, map}
+use Rattle.std.specs.Prelude.{ℕ, ◌+◌, Bool, true, false, List, [], ◌∷◌, ◌++◌, Option, Some, None, map}
 use Rattle.std.specs.Borrow.{Bor}
 use Rattle.tmpl_syntax.specs.Fault as reason
-use Rattle.tmpl_syntax.specs.Fault.{Reason}
+use Rattle.tmpl_syntax.specs.Fault.{Reason, reason_of}
 use Rattle.tmpl_syntax.specs.Place.Role.{Name, Names, Role, plain, opener, else_part, closer}
 use Rattle.tmpl_syntax.specs.Place.Opening as opened
 use Rattle.tmpl_syntax.specs.Place.Role.{role_of}
@@ -11,9 +11,10 @@ use Rattle.tmpl_grammar.specs.computed.Reading.{reading_in}
 use Rattle.tmpl_syntax.specs.Item.{item}
 use Rattle.tmpl_syntax.specs.Place.Role as role
 use Rattle.tmpl_syntax.specs.computed.Item.{read_item}
-use Rattle.tmpl_syntax.specs.Refusals.{Site, Found, absent, mended_in}
+use Rattle.tmpl_syntax.specs.Refusals.{Site, Found, Shown, absent, mended_in}
 use Rattle.tmpl_syntax.specs.computed.Frames.{Frame, top, Known, with_inner, names_at, fault_at, frames_after, known_after, none_known}
 use Rattle.tmpl_syntax.specs.computed.View.{frames_in, item_of, scopes_of}
+use Rattle.tmpl_syntax.specs.declared.found.Found as held_found
 use Rattle.tmpl_syntax.specs.declared.place.frame.Frame as held_frame
 use Rattle.tmpl_syntax.specs.declared.place.scopes.Scopes.{Scopes}
 use Rattle.tmpl_syntax.specs.declared.site.Mend.{Mend}
@@ -38,6 +39,9 @@ mend_of m = mend_kind m.kind (names_held m.names.items)
 
 abbrev pub site_of : held_site.Site → Site
 site_of x = record { line = x.item.line; role = role_of (item_of x.item); mended = mend_of x.mend }
+
+abbrev pub found_seen : held_found.Found → Shown
+found_seen f = (f.place, f.line, reason_of f.kind)
 
 -- ---- the pieces of a file
 

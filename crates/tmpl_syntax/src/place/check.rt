@@ -1,5 +1,6 @@
 //! Whether the actions of a file stand where they may.
-ghost use Rattle.std.specs.Prelude.{◌≡◌, map};
+ghost use Rattle.std.specs.Prelude.{◌≡◌, ℕ, List, map};
+ghost use Rattle.tmpl_syntax.specs.computed.Begun.{StartsRight};
 ghost use Rattle.tmpl_syntax.specs.computed.View.{item_of};
 ghost use Rattle.tmpl_syntax.specs.computed.Parse as spec;
 ghost use Rattle.tmpl_syntax.specs.computed.Parse.{IsChecked};
@@ -22,7 +23,8 @@ pub(crate) fn check(
     items: &[Item],
     bytes: &[u8],
 ) -> Result<(), Refusal>
-    ensures { IsChecked bytes.now (map item_of items.now) result }
+    ensures checked { IsChecked bytes.now (map item_of items.now) result }
+    ensures starts { (file : List ℕ) → StartsRight file result }
 {
     let mut stack: Vec<Frame> = Vec::new(alloc);
     let mut scopes = Scopes::new(alloc, hash);
@@ -32,7 +34,9 @@ pub(crate) fn check(
         if let Some(fault) = fault_of(item, outside, &scopes.inner) {
             return Err(Refusal {
                 line: item.line,
+                start: item.start,
                 kind: fault.kind(),
+                first: 0,
             });
         }
         take_in(alloc, &mut stack, &mut scopes, item)?;
@@ -42,7 +46,9 @@ pub(crate) fn check(
     } else {
         Err(Refusal {
             line: last_line(bytes),
+            start: bytes.len(),
             kind: ParseKind::OpenAtEnd,
+            first: 0,
         })
     }
 }

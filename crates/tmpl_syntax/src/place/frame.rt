@@ -7,17 +7,26 @@ ghost use Rattle.tmpl_syntax.specs.computed.View.{opening_of};
 use tmpl_grammar::Control;
 
 /// What begins a part that an `end` closes.
-#[derive(Clone, Copy)]
-pub(crate) enum Opening {
+#[derive(Clone, Copy, Debug)]
+pub enum Opening {
     Control(Control),
     Define,
     Block,
+}
+
+/// What is open, and the line of what opens it.
+#[derive(Clone, Copy, Debug)]
+pub struct Open {
+    pub opening: Opening,
+    pub line: u64,
 }
 
 /// What is open, and what stands inside it.
 #[derive(Clone, Copy)]
 pub(crate) struct Frame {
     pub(crate) opening: Opening,
+    /// The line of what opens it.
+    pub(crate) line: u64,
     /// Whether a plain else of it came.
     pub(crate) has_else: bool,
     /// Whether a break may stand where it was opened.
@@ -28,6 +37,16 @@ pub(crate) struct Frame {
     pub(crate) start: usize,
     /// How many names an else part of it sees.
     pub(crate) part: usize,
+}
+
+impl Frame {
+    /// What is open.
+    pub(crate) fn open(self) -> Open {
+        Open {
+            opening: self.opening,
+            line: self.line,
+        }
+    }
 }
 
 impl Opening {

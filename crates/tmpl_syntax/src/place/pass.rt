@@ -1,6 +1,5 @@
 //! What stands after an item: the frames of what is open, and the names that are known.
-ghost use Rattle.std.specs.Prelude.{◌≡◌, ◌<◌, ◌++◌, [], ◌∷◌, ◌+◌, IfOk, option_map, is_some, true, false, Some, None};
-ghost use Rattle.std.specs.Prelude.{length};
+ghost use Rattle.std.specs.Prelude.{◌≡◌, ◌<◌, [], ◌∷◌, ◌+◌, IfOk, option_map, is_some, true, false, Some, None};
 ghost use Rattle.tmpl_grammar.specs.View.{action_of, binding_of, header_of};
 ghost use Rattle.tmpl_syntax.specs.computed.View.{frame_of, frames_in, item_of, known_names, scopes_of, opening_of};
 ghost use Rattle.tmpl_syntax.specs.Place.Role as role;
@@ -70,7 +69,7 @@ pub(super) fn take_in<'i>(
         ≡ known_after (role_of (item_of item.now)) (top (frames_in stack.old.items)) (scopes_of scopes.old)) }
 {
     match &item.what {
-        ItemKind::Action(action) => take_in_action(alloc, stack, scopes, action),
+        ItemKind::Action(action) => take_in_action(alloc, stack, scopes, item.line, action),
         _ => Ok(()),
     }
 }
@@ -81,6 +80,7 @@ fn take_in_action<'i>(
     alloc: Global,
     stack: &mut Vec<Frame>,
     scopes: &mut Scopes<'i>,
+    line: u64,
     action: &'i Action,
 ) -> Result<(), AllocError>
     requires { is_too_deep (act_of (action_of action.now)) (top (frames_in stack.old.items)) ≡ false }
@@ -91,7 +91,7 @@ fn take_in_action<'i>(
 {
     match action {
         Action::Pipeline(header) => declare(&mut scopes.inner, &header.binding),
-        Action::Open(control, header) => enter(stack, &mut scopes.inner, *control, header),
+        Action::Open(control, header) => { enter(stack, &mut scopes.inner, *control, line, header) }
         Action::Else => pass_else(stack, None, scopes.inner.len()),
         Action::ElseBranch(branch, header) => {
             declare(&mut scopes.inner, &header.binding)?;
@@ -101,8 +101,8 @@ fn take_in_action<'i>(
             leave(alloc, stack, scopes);
             Ok(())
         }
-        Action::Define(_) => enter_template(alloc, stack, scopes, Opening::Define),
-        Action::Block(_, _) => enter_template(alloc, stack, scopes, Opening::Block),
+        Action::Define(_) => enter_template(alloc, stack, scopes, Opening::Define, line),
+        Action::Block(_, _) => enter_template(alloc, stack, scopes, Opening::Block, line),
         Action::Break | Action::Continue | Action::Template(_, _) => Ok(()),
     }
 }
@@ -125,6 +125,7 @@ pub(super) fn enter_template(
     stack: &mut Vec<Frame>,
     scopes: &mut Scopes<'_>,
     opening: Opening,
+    line: u64,
 ) -> Result<(), AllocError>
     requires template { is_template (opening_of opening) ≡ true }
     requires levels { is_level (opening_of opening) ≡ true
@@ -139,6 +140,7 @@ pub(super) fn enter_template(
     scopes.enter(alloc)?;
     stack.push(Frame {
         opening,
+        line,
         has_else: false,
         around: is_in_loop(outside),
         levels: levels_in(outside) + opening.levels(),
@@ -171,6 +173,7 @@ fn enter<'i>(
     stack: &mut Vec<Frame>,
     names: &mut KnownNames<'i>,
     control: Control,
+    line: u64,
     header: &'i Header,
 ) -> Result<(), AllocError>
     requires { levels (top (frames_in stack.old.items)) < body.most_levels }
@@ -185,6 +188,7 @@ fn enter<'i>(
     declare(names, &header.binding)?;
     stack.push(Frame {
         opening: Opening::Control(control),
+        line,
         has_else: false,
         around: is_in_loop(outside),
         levels: levels_in(outside) + 1,

@@ -1,6 +1,6 @@
 //! The names that are known in the template of a place, and in those around it.
 ghost use Rattle.std.specs.Prelude.{◌≡◌, ◌∷◌, [], IfOk, true};
-ghost use Rattle.tmpl_syntax.specs.computed.View.{known_names, scopes_of};
+ghost use Rattle.tmpl_syntax.specs.computed.View.{scopes_of};
 ghost use Rattle.tmpl_syntax.specs.computed.Frames.{closed_if, none_known};
 
 use crate::name_hash::NameHash;

@@ -1,5 +1,5 @@
 //! The data, read and parsed.
-ghost use Rattle.std.specs.Prelude.{◌≡◌, ◌<◌, ◌^◌, ◌-◌, ◌∷◌, [], option_map, option_to_list, Some};
+ghost use Rattle.std.specs.Prelude.{◌<◌, ◌^◌, ◌-◌, ◌∷◌, [], option_map, option_to_list, Some};
 ghost use Rattle.tmpl_tool.specs.Tool.{data_found};
 ghost use Rattle.tmpl_values.specs.View.{value_of};
 ghost use Rattle.tmpl_tool.specs.Inputs.{ComesOfFiles, Counts};

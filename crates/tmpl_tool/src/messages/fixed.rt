@@ -1,5 +1,5 @@
 //! Memory of a fixed size as something that takes whole texts.
-ghost use Rattle.std.specs.Prelude.{◌≡◌, ◌≤◌, length, take, Some};
+ghost use Rattle.std.specs.Prelude.{◌≤◌, length, take, Some};
 
 use tmpl_values::Put;
 

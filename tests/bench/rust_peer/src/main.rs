@@ -1,6 +1,7 @@
-//! Renders a template by Tera, to compare with: `rust_peer TEMPLATE DATA COUNT [kept]` renders so often, and tells the least and the middle
-//! time of one render in nanoseconds and the bytes of its text, with the parse and the read of the data each time, or once. The template
-//! calls the data `data`.
+//! Renders a template by Tera, to compare with. `rust_peer TEMPLATE DATA` renders once, to standard output. `rust_peer TEMPLATE DATA COUNT
+//! [kept]` renders so often, and prints the least and the middle time of one render in nanoseconds and the bytes of its output, with the parse
+//! and the read of the data each time, or once. The template calls the data `data`.
+use std::io::Write;
 use std::time::Instant;
 use std::{env, error, fs};
 use tera::{Context, Tera};
@@ -26,8 +27,11 @@ fn read(data: &str) -> Outcome<Context> {
 fn main() -> Outcome<()> {
     let words: Vec<String> = env::args().collect();
     let (text, data) = (fs::read_to_string(&words[1])?, fs::read_to_string(&words[2])?);
-    let (count, is_kept) = (words[3].parse::<u32>()?, words.len() > 4);
     let (engine, context) = (parsed(&text)?, read(&data)?);
+    if words.len() == 3 {
+        return Ok(std::io::stdout().write_all(engine.render("m", &context)?.as_bytes())?);
+    }
+    let (count, is_kept) = (words[3].parse::<u32>()?, words.len() > 4);
     let (mut times, mut size) = (Vec::new(), 0);
     for _ in 0..TIMES {
         let start = Instant::now();

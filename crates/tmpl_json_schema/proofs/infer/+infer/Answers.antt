@@ -34,7 +34,7 @@ add_key-returns t c =
     ] in
     on_ok_weaker c.put.result (λ is.
     subst (λ (ms : Members). AreTold c.args.levels maps ms ks) (sym (is ∙ ap (λ x. put name x ps) (view-Object c.in_ok-property.property)))
-    (key-told c.args.levels maps name d ps ks told fits c.in_ok-property.ensures.nests)) c.put.ensures.ok
+    (key-told c.args.levels maps name d ps ks told fits c.in_ok-property.ensures.nests c.in_ok-property.ensures.plain)) c.put.ensures.ok
 
 whole : (t : ℕ) (c : goal.schema_of-After-drop-maps-2 t) → IsTold c.args.levels (seen c.args.samples.now) (members_view c.add_properties.new.schema.entries)
 whole t c =
@@ -44,13 +44,16 @@ whole t c =
     (members_view c.put.new.map.entries) (members_view c.add_items.new.schema.entries) (members_view c.add_properties.new.schema.entries) levels
     (ap maps_seen c.as_slice.ensures.value ∙ c.in_ok-maps.ensures.maps)
     (c.in_ok-put.ensures.ok ∙ ap (λ es. put (codes "type") (view types) (members_view es)) c.new-schema.ensures.empty)
-    c.in_ok-maps.ensures.instances c.in_ok-types_of.ensures.conform c.in_ok-types_of.ensures.nests c.in_ok-add_items.ensures c.in_ok-add_properties.ensures
+    c.in_ok-maps.ensures.instances c.in_ok-types_of.ensures.conform c.in_ok-types_of.ensures.nests c.in_ok-types_of.ensures.plain c.in_ok-add_items.ensures c.in_ok-add_properties.ensures
 
 pub schema_of-returns-clause-conform : goal.schema_of-returns-clause-conform
 schema_of-returns-clause-conform t c = (whole t c).0
 
 pub schema_of-returns-clause-nests : goal.schema_of-returns-clause-nests
 schema_of-returns-clause-nests t c = (whole t c).1
+
+pub schema_of-returns-clause-plain : goal.schema_of-returns-clause-plain
+schema_of-returns-clause-plain t c = (whole t c).2
 
 pub add_properties-returns : goal.add_properties-returns
 add_properties-returns t c =
@@ -76,4 +79,5 @@ add_items-returns t c =
       is ∙ ap (λ x. put (codes "items") x old) (view-Object told),
       subst (EachValue (Fits (suc c.args.levels) d)) (ap seen c.as_slice.ensures.value ∙ c.in_ok-items.ensures) c.in_ok-told.ensures.conform,
       c.in_ok-told.ensures.nests,
+      c.in_ok-told.ensures.plain,
     )) c.put.ensures.ok

@@ -6,8 +6,8 @@ use Rattle.serde_json.specs.Read.{max_depth}
 use Rattle.serde_json.specs.View.{view, members_view}
 use Rattle.serde_json.specs.declared.value.Value.{Value}
 use Rattle.serde_json.proofs.Views.{view-Object}
-use Rattle.tmpl_json_schema.specs.Inferred.{Conforms}
-use Rattle.tmpl_json_schema.proofs.ConformLemmas.{each-conforms, members_depth-put}
+use Rattle.tmpl_json_schema.specs.Inferred.{Conforms, IsInferred}
+use Rattle.tmpl_json_schema.proofs.ConformLemmas.{each-conforms, inferred-draft, members_depth-put}
 use Rattle.tmpl_json_schema.proofs.infer.infer_schema.Goals as goal
 
 pub returns-clause-conform : goal.returns-clause-conform
@@ -17,6 +17,11 @@ returns-clause-conform c =
     subst (λ (d : Data). AllByRecursion (λ (s : Bor Value). Conforms d (view s.now)) c.args.samples.now)
     (sym (view-Object c.put.new.map ∙ ap object c.in_ok-put.ensures.ok))
     (each-conforms (suc 40) draft schema c.args.samples.now c.in_ok-schema.ensures.conform)
+
+pub returns-clause-plain : goal.returns-clause-plain
+returns-clause-plain c =
+    subst IsInferred (sym (view-Object c.put.new.map ∙ ap object c.in_ok-put.ensures.ok))
+    (inferred-draft (view c.in_ok-try_from_str.field-0) (members_view c.in_ok-schema.schema.entries) c.in_ok-schema.ensures.plain)
 
 pub returns-clause-nests : goal.returns-clause-nests
 returns-clause-nests c =

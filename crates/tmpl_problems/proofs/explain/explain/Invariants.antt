@@ -1,9 +1,6 @@
-use Rattle.std.proofs.Common.{length}
-use Rattle.tmpl_lex.specs.Part.{IsLeft}
+use Rattle.std.proofs.Common.{◌≡◌, ◌++◌, map}
+use Rattle.tmpl_problems.specs.Checked.{refused_in}
 use Rattle.tmpl_problems.proofs.explain.explain.Given as goal
 
-abbrev pub invariant-loop-tokens : goal.invariant-loop-tokens
-invariant-loop-tokens l = IsLeft l.file l.rest
-
-abbrev pub decreases-loop-tokens : goal.decreases-loop-tokens
-decreases-loop-tokens l = length l.rest.bytes.now
+abbrev pub invariant-loop-refused : goal.invariant-loop-refused
+invariant-loop-refused l = map refused_in l.problems.items ++ l.refused-iterator.rest.items ≡ l.fn.refusals.items

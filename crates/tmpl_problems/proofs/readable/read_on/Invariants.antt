@@ -1,6 +1,6 @@
 use Rattle.std.proofs.Common.{length}
 use Rattle.tmpl_lex.specs.Part.{IsLeft}
-use Rattle.tmpl_refusals.specs.Column.{IsPlace}
+use Rattle.tmpl_syntax.specs.Column.{IsPlace}
 use Rattle.tmpl_problems.proofs.readable.read_on.Given as goal
 
 abbrev pub invariant-loop-tokens : goal.invariant-loop-tokens

@@ -1,7 +1,7 @@
 use Rattle.std.proofs.Common.{◌≡◌, [], sym, subst, Some, None}
 use Rattle.std.proofs.lemmas.Result.{IfOk-weaker}
 use Rattle.tmpl_problems.specs.Survey.{Names, Warns, IsNamed, IsUnused, callers, declared_from, definers, firsts, named_place, names_from, unused, used_from, warned_place}
-use Rattle.tmpl_refusals.specs.Column.{IsPlace}
+use Rattle.tmpl_syntax.specs.Column.{IsPlace}
 use Rattle.tmpl_problems.specs.Sign.{first_sign}
 use Rattle.tmpl_problems.specs.computed.Adds.{AddsAfter, AddsAll, AddsSign, AddsZip, PassesAfter}
 use Rattle.tmpl_problems.proofs.ProgressLemmas.{Done, Found, ok-both, progress-begins, progress-more, tells, warns-all}

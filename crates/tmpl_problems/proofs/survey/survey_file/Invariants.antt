@@ -1,6 +1,6 @@
 use Rattle.std.proofs.Common.{length}
 use Rattle.tmpl_lex.specs.Part.{IsLeft}
-use Rattle.tmpl_refusals.specs.Column.{IsPlace}
+use Rattle.tmpl_syntax.specs.Column.{IsPlace}
 use Rattle.tmpl_problems.proofs.ProgressLemmas.{Progress}
 use Rattle.tmpl_problems.proofs.survey.survey_file.Given as goal
 

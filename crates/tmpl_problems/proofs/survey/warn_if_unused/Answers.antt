@@ -1,6 +1,6 @@
 use Rattle.std.proofs.Common.{◌∙◌, [], ◌∷◌, ap, subst, sym}
 use Rattle.tmpl_lex.specs.Begin.{BeginsAt}
-use Rattle.tmpl_refusals.specs.Column.{IsPlace}
+use Rattle.tmpl_syntax.specs.Column.{IsPlace}
 use Rattle.tmpl_problems.specs.Survey.{warned_place}
 use Rattle.tmpl_problems.specs.Tokens.{unused_words}
 use Rattle.tmpl_problems.proofs.VariableLemmas.{adds-one}

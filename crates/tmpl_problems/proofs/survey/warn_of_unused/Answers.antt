@@ -1,5 +1,5 @@
 use Rattle.std.proofs.Common.{[], ◌∷◌, filter, not, subst, sym, arith}
-use Rattle.tmpl_refusals.specs.Column.{IsPlace}
+use Rattle.tmpl_syntax.specs.Column.{IsPlace}
 use Rattle.tmpl_problems.specs.Survey.{IsUnused, is_used, warned_place}
 use Rattle.tmpl_problems.specs.computed.Adds.{AddsAll, AddsZip}
 use Rattle.tmpl_problems.specs.declared.survey.Variable.{Variable}

@@ -1,7 +1,7 @@
 use Rattle.std.proofs.Common.{List, ℕ, filter, not, take}
 use Rattle.std.specs.List.{AllZip}
 use Rattle.tmpl_problems.specs.Survey.{Declared, IsUnused, is_used, warned_place}
-use Rattle.tmpl_refusals.specs.Column.{IsPlace}
+use Rattle.tmpl_syntax.specs.Column.{IsPlace}
 use Rattle.tmpl_problems.specs.computed.Adds.{AddsAll, AddsZip, ArePlaced, IsNoted}
 use Rattle.tmpl_problems.proofs.survey.warn_of_unused.Given as goal
 

@@ -1,7 +1,7 @@
 use Rattle.std.proofs.Common.{◌∙◌, ◌==◌, All, ap, map, refl, subst, sym}
 use Rattle.tmpl_syntax.specs.View.{set_view}
-use Rattle.tmpl_refusals.specs.Examine.{Examined, IsLocated, refused_in}
-use Rattle.tmpl_problems.specs.Checked.{refusal_in}
+use Rattle.tmpl_syntax.specs.Examine.{Examined, IsLocated}
+use Rattle.tmpl_problems.specs.Checked.{refused_in}
 use Rattle.tmpl_report.specs.Errors.{errors_of}
 use Rattle.tmpl_report.specs.Finding.{has_error}
 use Rattle.tmpl_report.proofs.ErrorLemmas.{error_added}
@@ -18,7 +18,7 @@ returns-clause-told c =
     let all = c.in_ok-problems.problems in
     let name = c.args.file.now.name.now in
     let same = c.as_slice.ensures.value in
-    let examined = subst (λ bytes. Examined (set_view c.args.set.now) name bytes (set_view c.check_file.new.set) (map refused_in (map refusal_in all.refused.items)))
+    let examined = subst (λ bytes. Examined (set_view c.args.set.now) name bytes (set_view c.check_file.new.set) (map refused_in all.refused.items))
     same c.in_ok-problems.ensures.examined in
-    let located = subst (λ bytes. All (IsLocated bytes) (map refusal_in all.refused.items)) same c.in_ok-problems.ensures.located in
+    let located = subst (λ bytes. All (IsLocated bytes) (map refused_in all.refused.items)) same c.in_ok-problems.ensures.located in
     (errors_of name all, (all, refl, examined, located, c.in_ok-problems.ensures.beyond), c.in_ok-add_problems.ensures)

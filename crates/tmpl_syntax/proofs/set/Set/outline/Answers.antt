@@ -1,6 +1,6 @@
-use Rattle.std.proofs.Common.{◌≡◌, ◌∙◌, List, ap, subst, sym, map}
+use Rattle.std.proofs.Common.{◌∙◌, subst, sym}
 use Rattle.tmpl_syntax.specs.Kept.{AreKept, IsSet}
-use Rattle.tmpl_syntax.specs.Set.{Template, defined_each}
+use Rattle.tmpl_syntax.specs.Set.{defined_each}
 use Rattle.tmpl_syntax.specs.View.{entries_view, set_view}
 use Rattle.tmpl_syntax.specs.declared.set.Set.{Set}
 use Rattle.tmpl_syntax.proofs.OutlineLemmas.{outline_each, outline_kept}

@@ -1,0 +1,12 @@
+pub mod ByteLemmas
+pub mod CopyLemmas
+pub mod EnvLemmas
+pub mod FindLemmas
+pub mod LoopLemmas
+pub mod RunLemmas
+pub mod StateLemmas
+pub mod StepLemmas
+pub mod TestLemmas
+pub mod TextLemmas
+pub mod ValueLemmas
+pub mod WeightLemmas

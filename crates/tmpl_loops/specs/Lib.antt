@@ -1,0 +1,3 @@
+pub mod Form
+pub mod Law
+pub mod computed

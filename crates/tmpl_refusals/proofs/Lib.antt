@@ -1,2 +1,0 @@
-pub mod ExamineLemmas
-pub mod LocateLemmas
