@@ -52,6 +52,7 @@ CALLS = [
 ]
 FULL = ["--data", "data", "m"]  # the words of calls whose output fails
 OUT_OF_MEMORY = 7  # the status of the probe where memory is refused outside the call
+QUIET = 50  # refused allocations that change nothing, before one that does: then nothing is refused at all
 REFUSED = [["--data", "data", "m"], ["--data", "data", "made"], ["--print", "m"], ["m", "twice"], ["--data", "bad", "m"]]
 
 
@@ -126,9 +127,8 @@ def judge_refused(shim, folder, words):
     """The same where one allocation is refused, for each of them. The call answers that memory was refused, or the probe ends so before
     it, up to the first number that is no allocation: then the call does what it ever does."""
     none, usual = often(folder, words, 0, shim).left, often(folder, words, 1, shim)
-    wrong, ends, number = [], 0, 0
-    while number < sweep.MOST:
-        number += 1
+    wrong, ends, quiet = [], 0, 0
+    for number in range(1, sweep.MOST):
         came = often(folder, words, 1, shim, number)
         if came.status == 0 and came.err.endswith(b"tmpl: out of memory\nstatus 7\n"):
             ends += 1
@@ -136,7 +136,8 @@ def judge_refused(shim, folder, words):
                 wrong.append(f"    with allocation {number} refused {came.left} blocks were left, {none} without the call")
         elif came.status != OUT_OF_MEMORY:
             wrong += [] if came[:2] == usual[:2] else [f"    with allocation {number} refused it came to {came.status}, {came.err[:100]!r}"]
-            if ends:
+            quiet += 1
+            if ends or quiet == QUIET:
                 break
     return f"tmpl {' '.join(words)}, refused", ends, wrong if ends > 9 else ["    hardly an allocation was refused"]
 

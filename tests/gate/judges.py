@@ -25,12 +25,16 @@ REFUSING = ("fault.calls", "fault.kept", "fault.lent_memory", "fault.sweep", "fa
 SECONDS = 600
 
 
-def passes(test, name, program, more):
-    """Whether a test passes over a program."""
-    environment = {**os.environ, programs.VARIABLES[name]: program, **more}
-    words = [sys.executable, "-m", f"tests.{test}"]
-    ran = subprocess.run(words, cwd=harness.TOP, env=environment, stdout=subprocess.PIPE, stderr=subprocess.STDOUT, timeout=SECONDS, text=True)
-    return ran.returncode == 0 and bool(re.search(r"^[1-9]\d* passed, 0 failed$", ran.stdout, re.MULTILINE))
+def complaint(test, name, program, more):
+    """What is wrong with a test over a program that answers wrongly: it passes, or does not end."""
+    environment = {**os.environ, programs.VARIABLES[name]: program, "STOPS": "1", **more}
+    how = {"cwd": harness.TOP, "env": environment, "stdin": subprocess.DEVNULL, "stdout": subprocess.PIPE, "stderr": subprocess.STDOUT, "text": True}
+    try:
+        ran = subprocess.run([sys.executable, "-m", f"tests.{test}"], timeout=SECONDS, **how)
+    except subprocess.TimeoutExpired:
+        return [f"    it has not ended after {SECONDS} seconds"]
+    is_passed = ran.returncode == 0 and re.search(r"^[1-9]\d* passed, 0 failed$", ran.stdout, re.MULTILINE)
+    return ["    it passes"] if is_passed else []
 
 
 def wrongs(test, name, folder):
@@ -54,8 +58,8 @@ def main():
         cases = [(test, name, *it) for test, name in JUDGED.items() for it in wrongs(test, name, folder)]
         cases += [(test, "tmpl", "is refused nothing", programs.path("tmpl"), {"REFUSER": "idle.c"}) for test in REFUSING]
         with ThreadPoolExecutor(harness.processes()) as pool:
-            came = list(pool.map(lambda it: passes(it[0], it[1], *it[3:]), cases))
-    told = [(f"{test} with a {name} that {what}", 1, ["    it passes"] * is_wrong) for (test, name, what, *_), is_wrong in zip(cases, came)]
+            came = list(pool.map(lambda it: complaint(it[0], it[1], *it[3:]), cases))
+    told = [(f"{test} with a {name} that {what}", 1, wrong) for (test, name, what, *_), wrong in zip(cases, came)]
     passed, failed, _ = harness.tally(told)
     return harness.closing(passed, failed)
 

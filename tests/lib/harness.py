@@ -19,6 +19,7 @@ TOP = os.path.dirname(TESTS)
 PROGRAM, CHECKER, PROBE, HOST = (programs.path(it) for it in programs.ALL)
 SECONDS = 60  # for one run
 ROWS = os.environ.get("ROWS", "")  # what the names of rows that are run have to hold
+STOPS = bool(os.environ.get("STOPS"))  # whether a test ends at its first failure, as judges.py wants it
 ENVIRONMENT = dict(os.environb)
 MEMORY = "/dev/shm" if os.access("/dev/shm", os.W_OK) else None  # where files of tests are best kept: some disks wait for each
 SET_PIPE_SIZE = 1031  # to fcntl
@@ -451,6 +452,8 @@ def tally(results):
         if wrong:
             print(f"FAILED {name}", *wrong, sep="\n")
         passed, failed, runs = passed + (not wrong), failed + bool(wrong), runs + count
+        if failed and STOPS:
+            break
     return passed, failed, runs
 
 
