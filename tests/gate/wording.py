@@ -6,7 +6,7 @@ blocks, man pages, the strings of `tmpl-check` and of the command, completions, 
 
 Words with an ordinary second use are not judged alone, but in phrases: `text` and `texts` (a template has texts and actions), `word` and
 `words` (a message has them), `status` (a call of the C library returns one, a process exits with one), `front` (in front of, a front end),
-`place`, `tell` and `it has`. What is in backquotes is a name, as the clause `told` is, and is not read."""
+`place`, `tell` and `it has`. What is in backquotes is a name, as the clause `matches_spec` is, and is not read."""
 import glob
 import os
 import re

@@ -4,7 +4,7 @@ use Rattle.std.specs.List.{list_all}
 use Rattle.std.specs.Str.{is_utf8}
 use Rattle.tmpl_tool.specs.Source.{Bytes}
 use Rattle.tmpl_tool.specs.Tool.{Parse}
-use Rattle.tmpl_c.specs.Lent.{each_added}
+use Rattle.tmpl_c.specs.Passed.{each_added}
 
 -- whether each file is accepted after those before it: 0, or else 4; and 2 where the name of one is no text
 abbrev pub check_status : Parse → List (Bytes × Bytes) → ℕ

@@ -47,13 +47,13 @@ Exact a room out line_room err code =
     Fills a.text room out × Fills (line_in room a) line_room err × (code ≡ status_in room a)
 
 -- of a beginning of these bytes
-abbrev pub FillsFront : Bytes → ℕ → Seen → Type 0
-FillsFront bytes room s = (front : Bytes) × (rest : Bytes) × (bytes ≡ front ++ rest) × Fills front room s
+abbrev pub FillsPrefix : Bytes → ℕ → Seen → Type 0
+FillsPrefix bytes room s = (front : Bytes) × (rest : Bytes) × (bytes ≡ front ++ rest) × Fills front room s
 
 -- memory was refused: a beginning of the text, and the line of that
 abbrev pub Refused : Answer → ℕ → Seen → ℕ → Seen → ℕ → Type 0
 Refused a room out line_room err code =
-    FillsFront a.text room out × Fills memory_line line_room err × (code ≡ 7)
+    FillsPrefix a.text room out × Fills memory_line line_room err × (code ≡ 7)
 
 -- the answer, as far as there is room for it, unless memory was refused
 abbrev pub Rendered : Answer → ℕ → Seen → ℕ → Seen → ℕ → Type 0

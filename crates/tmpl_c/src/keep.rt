@@ -7,14 +7,14 @@ ghost use Rattle.tmpl_tool.specs.Inputs.{said_of};
 ghost use Rattle.tmpl_tool.specs.Outcome.{memory_line};
 ghost use Rattle.tmpl_c.specs.Filled.{Fills};
 ghost use Rattle.tmpl_c.specs.Held.{Keeps, Replaces, templates_in, templates_run, value_in};
-ghost use Rattle.tmpl_c.specs.Lent.{data_lent, pair_of, with_lent};
+ghost use Rattle.tmpl_c.specs.Passed.{data_passed, pair_of, with_passed};
 ghost use Rattle.tmpl_c.specs.computed.Extents.{extent_seen};
 ghost use Rattle.tmpl_c.specs.computed.Load.{IsSaid, halt_seen};
 
 use crate::data_handle::DataHandle;
 use crate::gathered::Gathered;
-use crate::lent::File;
 use crate::load::{Halt, add_file, read_data, tell};
+use crate::passed::File;
 use crate::program_handle::ProgramHandle;
 use crate::render::{Extent, copy_to, say_refused};
 use crate::set_handle::SetHandle;
@@ -69,7 +69,7 @@ fn say(alloc: Global, why: &Halt<'_>, err: &mut [u8]) -> Said
 
 /// Adds the templates of a file to a set, or says why not.
 fn add_to(alloc: Global, engine: &mut Engine, file: &File<'_>, err: &mut [u8]) -> Said
-    ensures { Keeps (with_lent parsed (templates_of engine.old) (pair_of file.now)) (templates_of engine.old) (templates_of engine.new)
+    ensures { Keeps (with_passed parsed (templates_of engine.old) (pair_of file.now)) (templates_of engine.old) (templates_of engine.new)
         (length err.old) (extent_seen err.new result.line) result.status }
 {
     match add_file(alloc, engine, file) {
@@ -86,7 +86,7 @@ pub(crate) fn add(
     file: &File<'_>,
     err: &mut [u8],
 ) -> Said
-    ensures { Keeps (with_lent parsed (templates_in kept.old.held) (pair_of file.now))
+    ensures { Keeps (with_passed parsed (templates_in kept.old.held) (pair_of file.now))
         (templates_in kept.old.held) (templates_in kept.new.held)
         (length err.old) (extent_seen err.new result.line) result.status }
 {
@@ -113,7 +113,7 @@ fn keep_value(alloc: Global, kept: &mut DataHandle, value: Data) -> Result<(), A
 
 /// Keeps data, or says why not.
 pub(crate) fn read(alloc: Global, kept: &mut DataHandle, input: &[u8], err: &mut [u8]) -> Said
-    ensures { Keeps (data_lent (codes "data") input.now) (value_in kept.old.held) (value_in kept.new.held)
+    ensures { Keeps (data_passed (codes "data") input.now) (value_in kept.old.held) (value_in kept.new.held)
         (length err.old) (extent_seen err.new result.line) result.status }
 {
     match read_data(alloc, input) {

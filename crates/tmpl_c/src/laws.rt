@@ -1,8 +1,8 @@
 //! The laws of the library: its stages, and that it answers as the command does.
-ghost use Rattle.tmpl_c.specs.Laws.{AddsInTurn, AnswersAsCommand, AnswersButForName, HasDefaults, HoldsFront};
+ghost use Rattle.tmpl_c.specs.Laws.{AddsInTurn, AnswersAsCommand, AnswersButForName, HasDefaults, HoldsPrefix};
 ghost use Rattle.tmpl_c.specs.Laws.{HoldsWhole, KeepsAsBefore, KeepsLimit, KeepsOffered, Prints, RefusesName};
 ghost use Rattle.tmpl_c.specs.Laws.{RendersAsKept, ReplacesAsOffered, Runs, StopsAtData, StopsAtFile, StopsAtTemplate};
-ghost use Rattle.tmpl_c.specs.Laws.{TextHasStatus, TextHoldsFront, TextHoldsWhole};
+ghost use Rattle.tmpl_c.specs.Laws.{TextHasStatus, TextHoldsPrefix, TextHoldsWhole};
 
 use crate::gathered::Gathered;
 use crate::shared_data::SharedData;
@@ -45,7 +45,7 @@ pub fn kept()
 #[tactic(auto, using(crate::proofs::SeenLemmas::seen))]
 pub fn seen_by_caller()
     ensures whole { HoldsWhole }
-    ensures front { HoldsFront }
+    ensures prefix { HoldsPrefix }
     ensures defaults { HasDefaults }
     ensures limit { KeepsLimit }
 {}
@@ -56,7 +56,7 @@ pub fn seen_by_caller()
 #[tactic(auto, using(crate::proofs::SeenLemmas::texts))]
 pub fn text_seen_by_caller()
     ensures whole { TextHoldsWhole }
-    ensures front { TextHoldsFront }
+    ensures prefix { TextHoldsPrefix }
     ensures status { TextHasStatus }
     ensures replaces { ReplacesAsOffered }
 {}

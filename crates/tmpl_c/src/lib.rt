@@ -7,7 +7,7 @@ ghost use Rattle.tmpl_tool.specs.Tool.{IsParse, Parse, printed, stop_answer};
 ghost use Rattle.tmpl_c.specs.Checked.{Checks};
 ghost use Rattle.tmpl_c.specs.Filled.{Rendered, limit_text, room, buffer_seen};
 ghost use Rattle.tmpl_c.specs.Held.{Keeps, Replaces, held_answer, templates_in, templates_run, value_in};
-ghost use Rattle.tmpl_c.specs.Lent.{data_lent, pair_of, pairs_of, render_answer, rules_in, with_lent};
+ghost use Rattle.tmpl_c.specs.Passed.{data_passed, pair_of, pairs_of, render_answer, rules_in, with_passed};
 ghost use Rattle.tmpl_c.specs.Texts.{Holds, bytes_in};
 
 mod address;
@@ -19,9 +19,9 @@ mod held;
 mod keep;
 mod keys;
 mod laws;
-mod lent;
 mod load;
 mod loose;
+mod passed;
 mod program_handle;
 mod render;
 mod set_handle;
@@ -36,7 +36,7 @@ pub use data_handle::DataHandle;
 pub use gathered::Gathered;
 pub use keys::Keys;
 pub use laws::{as_command, crosses_threads, kept, seen_by_caller, stages, text_seen_by_caller};
-pub use lent::File;
+pub use passed::File;
 pub use program_handle::ProgramHandle;
 pub use set_handle::SetHandle;
 pub use settings::Settings;
@@ -67,7 +67,7 @@ pub extern "C" fn keyed_render(
     ensures outcome { (parse : Parse) → IsParse parse → Rendered (limit_text settings.now.output
         (render_answer parse (rules_in settings.now) (eqb settings.now.print 1) (pairs_of files.now) name.now input.now))
         (room out.old) (buffer_seen out.new) (room err.old) (buffer_seen err.new) result }
-    ensures lent { (out.new.bytes.ghost_name ≡ out.old.bytes.ghost_name)
+    ensures borrows { (out.new.bytes.ghost_name ≡ out.old.bytes.ghost_name)
         × (err.new.bytes.ghost_name ≡ err.old.bytes.ghost_name) }
 {
     let told = render::fill(
@@ -107,9 +107,9 @@ pub extern "C" fn keyed_set_add(
     file: &File<'_>,
     err: &mut Buffer<'_>,
 ) -> u8
-    ensures outcome { (parse : Parse) → IsParse parse → Keeps (with_lent parse (templates_in set.old.held) (pair_of file.now))
+    ensures outcome { (parse : Parse) → IsParse parse → Keeps (with_passed parse (templates_in set.old.held) (pair_of file.now))
         (templates_in set.old.held) (templates_in set.new.held) (room err.old) (buffer_seen err.new) result }
-    ensures lent { err.new.bytes.ghost_name ≡ err.old.bytes.ghost_name }
+    ensures borrows { err.new.bytes.ghost_name ≡ err.old.bytes.ghost_name }
 {
     let said = keep::add(alloc, keys.hash(), set, file, err.bytes);
     err.taken = said.line.taken;
@@ -134,9 +134,9 @@ pub extern "C" fn tmpl_data_read(
     input: &[u8],
     err: &mut Buffer<'_>,
 ) -> u8
-    ensures outcome { Keeps (data_lent (codes "data") input.now) (value_in kept.old.held) (value_in kept.new.held)
+    ensures outcome { Keeps (data_passed (codes "data") input.now) (value_in kept.old.held) (value_in kept.new.held)
         (room err.old) (buffer_seen err.new) result }
-    ensures lent { err.new.bytes.ghost_name ≡ err.old.bytes.ghost_name }
+    ensures borrows { err.new.bytes.ghost_name ≡ err.old.bytes.ghost_name }
 {
     let said = keep::read(alloc, kept, input, err.bytes);
     err.taken = said.line.taken;
@@ -178,7 +178,7 @@ pub extern "C" fn tmpl_render_set(
         (held_answer (rules_in settings.now) (eqb settings.now.print 1) (templates_in set.old.held) name.now
         (value_in kept.old.held)))
         (room out.old) (buffer_seen out.new) (room err.old) (buffer_seen err.new) result }
-    ensures lent { (out.new.bytes.ghost_name ≡ out.old.bytes.ghost_name)
+    ensures borrows { (out.new.bytes.ghost_name ≡ out.old.bytes.ghost_name)
         × (err.new.bytes.ghost_name ≡ err.old.bytes.ghost_name) }
     ensures set { set.new.held ≡ set.old.held }
     ensures kept { kept.new.held ≡ kept.old.held }
@@ -254,7 +254,7 @@ pub extern "C" fn tmpl_render_program(
     ensures outcome { Rendered (limit_text settings.now.output
         (held_answer (rules_in settings.now) false (templates_run program.old.held) name.now (value_in kept.old.held)))
         (room out.old) (buffer_seen out.new) (room err.old) (buffer_seen err.new) result }
-    ensures lent { (out.new.bytes.ghost_name ≡ out.old.bytes.ghost_name)
+    ensures borrows { (out.new.bytes.ghost_name ≡ out.old.bytes.ghost_name)
         × (err.new.bytes.ghost_name ≡ err.old.bytes.ghost_name) }
     ensures program { program.new.held ≡ program.old.held }
     ensures kept { kept.new.held ≡ kept.old.held }

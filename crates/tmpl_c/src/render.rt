@@ -8,14 +8,14 @@ ghost use Rattle.tmpl_engine.specs.View.{templates_of};
 ghost use Rattle.tmpl_tool.specs.Outcome.{Answer, Outcome, memory_line, write_line};
 ghost use Rattle.tmpl_tool.specs.Tool.{IsParse, Parse, answer_of, named_run};
 ghost use Rattle.tmpl_c.specs.Filled.{Fills, limit_text};
-ghost use Rattle.tmpl_c.specs.Lent.{pairs_of, render_answer, rules_in};
+ghost use Rattle.tmpl_c.specs.Passed.{pairs_of, render_answer, rules_in};
 ghost use Rattle.tmpl_c.specs.Texts.{Holds};
 ghost use Rattle.tmpl_c.specs.computed.Extents.{IsFilled, answer_by, extent_seen};
 ghost use Rattle.tmpl_c.specs.computed.Gathering.{told_of, nothing_put};
 
 use crate::gathered::Gathered;
-use crate::lent::File;
 use crate::load::{add_files, read_data, tell};
+use crate::passed::File;
 use crate::settings::{Settings, options_in};
 use std::alloc::Global;
 use tmpl_engine::{Engine, NameHash, RenderError, Renderer};

@@ -55,12 +55,12 @@ Once was is = (is ≡ was) ⊎ (is ≡ was + 1)
 
 -- what a call puts out, says and answers, and that each sink fails once at most
 pub record Gives (a : Answer) (out err : Sunk) (code : ℕ) : Type 0 where
-  pub counts : Counted out.before.failures out.after.failures code
-  pub cuts : Once err.before.failures err.after.failures
+  pub output_fails_once : Counted out.before.failures out.after.failures code
+  pub error_sink_fails_once : Once err.before.failures err.after.failures
   pub outcome : Outcome a out err code
 
 -- a line is said, which fails once at most, and the status is this one
 pub record EndsWith (status : ℕ) (text : Bytes) (err : Sunk) (given : ℕ) : Type 0 where
   pub code : given ≡ status
-  pub cuts : Once err.before.failures err.after.failures
+  pub error_sink_fails_once : Once err.before.failures err.after.failures
   pub line : Says text err

@@ -52,13 +52,13 @@ pub fn tool<S: Source, O: Sink, E: Sink>(
     requires source { S.failures source.old < 2 ^ 64 - 1 }
     requires out { (O.so_far out.old).failures < 2 ^ 64 - 1 }
     requires err { (E.so_far err.old).failures < 2 ^ 64 - 1 }
-    ensures reads { Once (S.failures source.old) (S.failures source.new) }
-    ensures counts { Counted (O.so_far out.old).failures (O.so_far out.new).failures result.code }
-    ensures cuts { Once (E.so_far err.old).failures (E.so_far err.new).failures }
-    ensures help { asks_help (map (λ word. string_bytes word) words.now) ≡ true → result.code ≢ 7 }
-    ensures unasked { EndsAtWords (map (λ word. string_bytes word) words.now) (source.new ≡ source.old)
+    ensures source_fails_once { Once (S.failures source.old) (S.failures source.new) }
+    ensures output_fails_once { Counted (O.so_far out.old).failures (O.so_far out.new).failures result.code }
+    ensures error_sink_fails_once { Once (E.so_far err.old).failures (E.so_far err.new).failures }
+    ensures help_needs_no_memory { asks_help (map (λ word. string_bytes word) words.now) ≡ true → result.code ≢ 7 }
+    ensures reads_nothing { EndsAtWords (map (λ word. string_bytes word) words.now) (source.new ≡ source.old)
         (sunk (O.so_far out.old) (O.so_far out.new)) (sunk (E.so_far err.old) (E.so_far err.new)) result.code }
-    ensures told { FollowsFiles (map (λ word. string_bytes word) words.now) (S.contents source.old) (record {
+    ensures matches_spec { FollowsFiles (map (λ word. string_bytes word) words.now) (S.contents source.old) (record {
       failed_before = S.failures source.old;
       failed_after = S.failures source.new;
       asked_before = S.asked source.old;
@@ -85,13 +85,13 @@ pub fn tool_keeping<S: Source, O: Sink, E: Sink>(
     requires source { S.failures source.old < 2 ^ 64 - 1 }
     requires out { (O.so_far out.old).failures < 2 ^ 64 - 1 }
     requires err { (E.so_far err.old).failures < 2 ^ 64 - 1 }
-    ensures reads { Once (S.failures source.old) (S.failures source.new) }
-    ensures counts { Counted (O.so_far out.old).failures (O.so_far out.new).failures result.status.code }
-    ensures cuts { Once (E.so_far err.old).failures (E.so_far err.new).failures }
-    ensures help { asks_help (map (λ word. string_bytes word) words.now) ≡ true → result.status.code ≢ 7 }
-    ensures unasked { EndsAtWords (map (λ word. string_bytes word) words.now) (source.new ≡ source.old)
+    ensures source_fails_once { Once (S.failures source.old) (S.failures source.new) }
+    ensures output_fails_once { Counted (O.so_far out.old).failures (O.so_far out.new).failures result.status.code }
+    ensures error_sink_fails_once { Once (E.so_far err.old).failures (E.so_far err.new).failures }
+    ensures help_needs_no_memory { asks_help (map (λ word. string_bytes word) words.now) ≡ true → result.status.code ≢ 7 }
+    ensures reads_nothing { EndsAtWords (map (λ word. string_bytes word) words.now) (source.new ≡ source.old)
         (sunk (O.so_far out.old) (O.so_far out.new)) (sunk (E.so_far err.old) (E.so_far err.new)) result.status.code }
-    ensures told { FollowsFiles (map (λ word. string_bytes word) words.now) (S.contents source.old) (record {
+    ensures matches_spec { FollowsFiles (map (λ word. string_bytes word) words.now) (S.contents source.old) (record {
       failed_before = S.failures source.old;
       failed_after = S.failures source.new;
       asked_before = S.asked source.old;

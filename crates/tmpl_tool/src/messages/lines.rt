@@ -86,8 +86,8 @@ fn reason_text(kind: ParseKind) -> Option<&'static str>
 fn refuse_template<E: Sink>(err: &mut E, fault: &ParseFault<'_>) -> Status
     requires { (E.so_far err.old).failures < 2 ^ 64 - 1 }
     ensures code { result.code ≡ (said_of (refusal_seen fault.now)).status }
-    ensures unlike { result.code ≢ 6 }
-    ensures cuts { Once (E.so_far err.old).failures (E.so_far err.new).failures }
+    ensures not_write_failure { result.code ≢ 6 }
+    ensures error_sink_fails_once { Once (E.so_far err.old).failures (E.so_far err.new).failures }
     ensures line { Says (said_of (refusal_seen fault.now)).line
         (sunk (E.so_far err.old) (E.so_far err.new)) }
 {
@@ -117,8 +117,8 @@ fn refuse_file<E: Sink>(err: &mut E, name: &str, why: &str, code: u8) -> Status
 pub fn refuse<E: Sink>(err: &mut E, stop: &Stop<'_>) -> Status
     requires { (E.so_far err.old).failures < 2 ^ 64 - 1 }
     ensures code { result.code ≡ (said_of (stop_seen stop.now)).status }
-    ensures unlike { result.code ≢ 6 }
-    ensures cuts { Once (E.so_far err.old).failures (E.so_far err.new).failures }
+    ensures not_write_failure { result.code ≢ 6 }
+    ensures error_sink_fails_once { Once (E.so_far err.old).failures (E.so_far err.new).failures }
     ensures line { Says (said_of (stop_seen stop.now)).line
         (sunk (E.so_far err.old) (E.so_far err.new)) }
 {
