@@ -37,7 +37,7 @@ StopsAtFile = (parse : Parse) (rules : Rules) (print : Bool) (name input : Bytes
     → is_utf8 f.0 ≡ true → (r : Refusal) → parse set f.0 f.1 ≡ Err r
     → render_answer parse rules print (before ++ f ∷ after) name input ≡ stop_answer (refused f.0 r)
 
--- where every file is accepted, a set that is to be printed is put out, with status 0, whatever name and data are
+-- where every file is accepted, a set that is to be printed is written, with status 0, whatever name and data are
 abbrev pub Prints : Type 0
 Prints = (parse : Parse) (rules : Rules) (files : List (Bytes × Bytes)) (name input : Bytes)
     → (set : List Template) → each_added parse [] files ≡ Ok set
@@ -68,7 +68,7 @@ Runs = (parse : Parse) (rules : Rules) (files : List (Bytes × Bytes)) (name inp
 
 -- ---- as the command
 
--- the files of these names, which are texts, are lent as they stand
+-- the files of these names, which are texts, are passed as they stand
 abbrev pub PassesFiles : Files → List Bytes → List (Bytes × Bytes) → Type 0
 PassesFiles files [] [] = Unit {0}
 PassesFiles files (name ∷ names) (f ∷ fs) =
@@ -140,7 +140,7 @@ abbrev pub HoldsWhole : Type 0
 HoldsWhole = (a : Answer) (room line_room : ℕ) (out err : Seen) → Rendered a room out line_room err 0
     → (take out.taken out.memory ≡ a.text) × (a.status ≡ 0)
 
--- with any status it holds a beginning of it
+-- with any status it holds a prefix of it
 abbrev pub HoldsPrefix : Type 0
 HoldsPrefix = (a : Answer) (room line_room : ℕ) (out err : Seen) (code : ℕ) → Rendered a room out line_room err code
     → (rest : Bytes) × (a.text ≡ take out.taken out.memory ++ rest)
@@ -161,7 +161,7 @@ abbrev pub TextHoldsWhole : Type 0
 TextHoldsWhole = (a : Answer) (text line : Bytes) → Holds a text line 0
     → (text ≡ a.text) × (line ≡ a.line) × (a.status ≡ 0)
 
--- with any status it is a beginning of it
+-- with any status it is a prefix of it
 abbrev pub TextHoldsPrefix : Type 0
 TextHoldsPrefix = (a : Answer) (text line : Bytes) (code : ℕ) → Holds a text line code
     → (rest : Bytes) × (a.text ≡ text ++ rest)

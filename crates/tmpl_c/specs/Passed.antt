@@ -1,4 +1,4 @@
--- The engine as one function of what the caller lends.
+-- The engine as one function of what the caller passes.
 use Rattle.std.specs.Prelude.{ℕ, Bool, not, List, [], ◌∷◌, Option, None, Result, Ok, codes, eqb, ltb, map}
 use Rattle.std.specs.Prelude.{if◌then◌else◌}
 use Rattle.std.specs.Str.{is_utf8}
@@ -15,7 +15,7 @@ use Rattle.tmpl_tool.specs.Tool.{stop_if}
 use Rattle.tmpl_c.specs.declared.passed.File.{File}
 use Rattle.tmpl_c.specs.declared.settings.Settings.{Settings}
 
--- ---- what is lent
+-- ---- what is passed
 
 -- a file as its name and its bytes
 abbrev pub pair_of : File → Bytes × Bytes

@@ -55,7 +55,7 @@ fn render_with(
     }
 }
 
-/// Renders what is kept into lent memory. It is taken out for that, and put back.
+/// Renders what is kept into the caller's buffers. It is taken out for that, and put back.
 pub(crate) fn render(
     alloc: Global,
     settings: &Settings,
@@ -164,7 +164,7 @@ fn run_program(
     }
 }
 
-/// Renders a program into lent memory.
+/// Renders a program into the caller's buffers.
 pub(crate) fn render_program(
     alloc: Global,
     settings: &Settings,

@@ -23,7 +23,7 @@ use std::alloc::{AllocError, Global};
 use tmpl_engine::{Engine, NameHash};
 use tmpl_values::Data;
 
-/// What is said of an offer.
+/// The message about an offer.
 #[derive(Clone, Copy, Debug)]
 pub(crate) struct Said {
     pub(crate) status: u8,
@@ -41,7 +41,7 @@ fn say_kept(err: &mut [u8]) -> Said
     }
 }
 
-/// Says that memory was refused.
+/// Says that memory ran out.
 fn say_no_memory(err: &mut [u8]) -> Said
     ensures line { Fills memory_line (length err.old) (extent_seen err.new result.line) }
     ensures status { result.status ≡ 7 }
@@ -102,7 +102,7 @@ pub(crate) fn add(
     said
 }
 
-/// Keeps a value. An error is want of memory, and leaves what was kept.
+/// Keeps a value. An error means that memory ran out, and leaves what was kept.
 fn keep_value(alloc: Global, kept: &mut DataHandle, value: Data) -> Result<(), AllocError>
     ensures new { IfOk result (λ u. value_in kept.new.held ≡ Some (value_of value)) }
     ensures old { IfErr result (λ e. kept.new.held ≡ kept.old.held) }
@@ -131,7 +131,7 @@ pub(crate) fn read(alloc: Global, kept: &mut DataHandle, input: &[u8], err: &mut
     }
 }
 
-/// The status of what was kept, or of want of memory.
+/// The status of what was kept, or of out of memory.
 fn status_of(kept: Result<(), AllocError>) -> u8
     ensures kept { IfOk kept (λ u. result ≡ 0) }
     ensures refused { IfErr kept (λ e. result ≡ 7) }
@@ -142,7 +142,7 @@ fn status_of(kept: Result<(), AllocError>) -> u8
     }
 }
 
-/// Keeps a program of what a set has now, and gives the status: 0, or 7 where memory was refused.
+/// Keeps a program of what a set has now, and gives the status: 0, or 7 where memory ran out.
 pub(crate) fn make_program(alloc: Global, set: &mut SetHandle, program: &mut ProgramHandle) -> u8
     ensures replaces { Replaces (templates_in set.old.held)
         (templates_run program.old.held) (templates_run program.new.held) result }

@@ -40,7 +40,7 @@ pub fn kept()
 {}
 
 /// The laws of what a caller sees of a render: with status 0 the memory holds the whole text, and with any status a
-/// beginning of it. Settings of all zeros are the options of a command that names none. Under a limit the text is the
+/// prefix of it. Settings of all zeros are the options of a command that names none. Under a limit the text is the
 /// bytes up to it.
 #[tactic(auto, using(crate::proofs::SeenLemmas::seen))]
 pub fn seen_by_caller()
@@ -51,7 +51,7 @@ pub fn seen_by_caller()
 {}
 
 /// The laws of what a caller sees of a text and of a handle that is made or shared: with status 0 the text is the whole
-/// text, and with any status a beginning of it; without a limit no status says that it does not fit. With status 0 the
+/// text, and with any status a prefix of it; without a limit no status says that it does not fit. With status 0 the
 /// handle has what was offered, and else what it had.
 #[tactic(auto, using(crate::proofs::SeenLemmas::texts))]
 pub fn text_seen_by_caller()

@@ -1,5 +1,5 @@
-//! The engine for C: one call over memory that the caller lends, and calls for sets, programs, data and texts that the
-//! caller keeps.
+//! The engine for C: one call over buffers that the caller provides, and calls for sets, programs, data and texts that
+//! the caller keeps.
 #![tactic(auto)]
 
 ghost use Rattle.std.specs.Prelude.{◌≡◌, [], None, codes, eqb, false};
@@ -50,7 +50,7 @@ pub use text_handle::TextHandle;
 /// The text goes to `out`, and where not all went well one line to `err`; of each as much as there is room for. Both
 /// buffers say how much they hold, and how many bytes there are in all. The status is that of the command: 0 done, 1 a
 /// fault of the run, 2 a file's name is not UTF-8, 4 a file is refused or no template has the name, 5 the data is
-/// refused, 6 the text has more bytes than there is room for or than the settings allow, 7 memory was refused.
+/// refused, 6 the text has more bytes than there is room for or than the settings allow, 7 memory ran out.
 ///
 /// C calls it as `tmpl_render`, with no keys, as it does the other calls that take keys.
 #[unsafe(no_mangle)]
@@ -87,9 +87,9 @@ pub extern "C" fn keyed_render(
     told.status
 }
 
-/// Says all that is wrong in files, added one after the other, in a text that the library owns: a line for each mistake,
-/// as compilers write it. A file that is refused adds nothing. The status is 0 where nothing is wrong, 4 where a file is
-/// refused, 2 where the name of one is not UTF-8, and 7 where memory was refused; but for 4 nothing is said.
+/// Says all that is wrong in files, added one after the other, in a text that the library owns: a line for each
+/// mistake, as compilers write it. A file that is refused adds nothing. The status is 0 where nothing is wrong, 4 where
+/// a file is refused, 2 where the name of one is not UTF-8, and 7 where memory ran out; but for 4 nothing is said.
 #[unsafe(no_mangle)]
 pub extern "C" fn keyed_check(alloc: Global, keys: &Keys, files: &[File<'_>], text: &mut Text) -> u8
     ensures { (parse : Parse) → IsParse parse → Checks parse (pairs_of files.now) (bytes_in text.new.held) result }
@@ -191,8 +191,8 @@ pub extern "C" fn tmpl_render_set(
     came.status
 }
 
-/// Prints a set into a text that the library owns. The status is 0, or 7 where memory was refused: then the text is a
-/// beginning of it.
+/// Prints a set into a text that the library owns. The status is 0, or 7 where memory ran out: then the text is a
+/// prefix of it.
 #[unsafe(no_mangle)]
 pub extern "C" fn tmpl_set_print(alloc: Global, set: &mut SetHandle, text: &mut Text) -> u8
     ensures outcome { Holds (stop_answer (printed (templates_in set.old.held))) (bytes_in text.new.held) [] result }

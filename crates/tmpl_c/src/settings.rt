@@ -18,7 +18,7 @@ pub struct Settings {
     pub missing_key: u8,
     /// 1 to print the set, and run nothing.
     pub print: u8,
-    /// How many bytes of text are put out at most; 0 for as many as there are.
+    /// How many bytes of text are written at most; 0 for as many as there are.
     pub output: usize,
 }
 

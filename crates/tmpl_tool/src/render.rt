@@ -1,4 +1,4 @@
-//! The template looked up and run, and its text put out.
+//! The template looked up and run, and its text written.
 ghost use Rattle.std.specs.Prelude.{◌≡◌, ◌≢◌, ◌<◌, ◌^◌, ◌-◌, List, Option, option_map};
 ghost use Rattle.std.specs.Option.{ok_or};
 ghost use Rattle.tmpl_values.specs.View.{value_of};
@@ -89,8 +89,8 @@ pub fn asked_name<'a>(request: &Request<'a>) -> &'a [u8]
 /// Looks the name up, and runs its template.
 ///
 /// The text goes to the output, up to the end or the fault of the run, and what else there is to say to the error sink,
-/// as one line. Where a write fails or memory is refused the output is a beginning of the text. It waits in the piece,
-/// of any size, until that is full.
+/// as one line. Where a write fails or memory runs out the output is a prefix of the text. It waits in the piece, of
+/// any size, until that is full.
 pub fn render_named<O: Sink, E: Sink>(
     alloc: Global,
     options: &Options,

@@ -29,6 +29,6 @@ answer_by settings set name value = held_answer (rules_in settings) (eqb setting
 abbrev pub run_by : Settings → List Template → Bytes → Option Value → Answer
 run_by settings set name value = held_answer (rules_in settings) false set name value
 
--- the templates of a program that is lent, if one is
+-- the templates of a program that is borrowed, if one is
 abbrev pub templates_borrowed : Option (Bor Renderer) → List Template
 templates_borrowed lent = templates_run (option_map (λ r. r.now) lent)
