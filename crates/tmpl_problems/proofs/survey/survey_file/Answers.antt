@@ -28,7 +28,7 @@ loop-tokens-preserved c =
       place = told.place;
       found = progress-more file c.loop-tokens.rest part.line part.start part.opens part.text.now part.after c.first_part.new.tokens.items part.rest
           (Some c.in-Some.next) e.cuts e.placed e.begins.0 e.begins.1 c.in-Some.ensures.follows old new
-          (subst (λ w. AddsSign file part.start (first_sign part.text.now) old.warnings w.items) (sym told.warnings) c.in_ok-place.ensures.told)
+          (subst (λ w. AddsSign file part.start (first_sign part.text.now) old.warnings w.items) (sym told.warnings) c.in_ok-place.ensures.adds_warning)
           (subst (λ ts. AddsAfter file part.opens definers ts part.after old.defined new.defined) c.as_slice.ensures.value told.defined)
           (subst (λ ts. AddsAfter file part.opens callers ts part.after old.called new.called) c.as_slice.ensures.value told.called) (subst (λ ts. PassesAfter file part.opens ts part.after old.variables new.variables) c.as_slice.ensures.value told.variables)
           c.loop-tokens.invariant.found;
@@ -50,7 +50,7 @@ done c =
     let old : Found = record { warnings = s.warnings.items; defined = s.defined.items; called = s.called.items; variables = s.variables.entries } in
     let new = found c in
     progress-more file c.loop-tokens.rest part.line part.start part.opens part.text.now part.after c.first_part.new.tokens.items part.rest None e.cuts e.placed e.begins.0
-    e.begins.1 c.in-None.ensures.follows old new (subst (λ w. AddsSign file part.start (first_sign part.text.now) old.warnings w.items) (sym told.warnings) c.in_ok-place.ensures.told)
+    e.begins.1 c.in-None.ensures.follows old new (subst (λ w. AddsSign file part.start (first_sign part.text.now) old.warnings w.items) (sym told.warnings) c.in_ok-place.ensures.adds_warning)
     (subst (λ ts. AddsAfter file part.opens definers ts part.after old.defined new.defined) c.as_slice.ensures.value told.defined)
     (subst (λ ts. AddsAfter file part.opens callers ts part.after old.called new.called) c.as_slice.ensures.value told.called)
     (subst (λ ts. PassesAfter file part.opens ts part.after old.variables new.variables) c.as_slice.ensures.value told.variables) c.loop-tokens.invariant.found
