@@ -1,0 +1,32 @@
+-- What the stages of a check over a schema answer.
+use Rattle.std.specs.Prelude.{◌≡◌, false, List, [], ◌∷◌, Option, Some, None, map, option_map}
+use Rattle.tmpl_report.specs.Safe.{asked_name}
+use Rattle.tmpl_report.specs.declared.source.Question as report
+use Rattle.tmpl_report.specs.declared.source.Source.{Source}
+use Rattle.tmpl_report.specs.declared.source.Sources.{Sources}
+use Rattle.tmpl_tool.specs.Source.{Bytes}
+use Rattle.tmpl_c.specs.Lent.{pair_of, pairs_of}
+use Rattle.tmpl_c.specs.Question.{mode_asked, stops_asked, first_name}
+use Rattle.tmpl_c.specs.declared.lent.File.{File}
+use Rattle.tmpl_c.specs.declared.lent.Question.{Question}
+use Rattle.tmpl_syntax.specs.Parse.{base_name}
+
+-- a file as its name and its bytes
+abbrev pub pair_in : Source → Bytes × Bytes
+pair_in s = (s.name.now, s.bytes.items)
+
+-- the sources are the files and the schema, and nothing is missing
+abbrev pub AreGiven : List File → Question → Sources → Type 0
+AreGiven files q sources = (map pair_in sources.templates.items ≡ pairs_of files) × (sources.data ≡ None)
+    × (option_map pair_in sources.schema ≡ Some (pair_of q.schema)) × (sources.is_short ≡ false)
+
+-- a name that is not empty
+abbrev pub name_named : Bytes → Option Bytes
+name_named [] = None
+name_named (b ∷ bs) = Some (b ∷ bs)
+
+-- the question is that of the caller
+abbrev pub IsAsked : List File → Question → report.Question → Type 0
+IsAsked files q asked = (option_map (λ first. base_name first.now) asked.first ≡ Some (first_name (pairs_of files)))
+    × (option_map (λ name. name.now) asked.name ≡ name_named q.name.now) × (asked.mode ≡ mode_asked q.mode)
+    × (map (λ stop. stop.now) asked.stops.items ≡ stops_asked q.stops.now)
