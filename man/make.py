@@ -115,7 +115,7 @@ def blocks(text):
                 yield kind, held
             fenced, kind, held = not fenced, None, []
         elif fenced:
-            held.append(line)
+            held.append(f"    {line}")
         elif line.startswith("<!-- "):
             continue  # it is for tests/gate/documents.py
         elif kind == "list" and line.startswith("  ") and line.strip():

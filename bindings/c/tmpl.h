@@ -87,7 +87,7 @@ typedef struct tmpl_buffer {
  * name        the template to run, any bytes: mostly the last part of a file's path
  * data        one JSON value; of size 0 there is no data, and dot is nothing
  * out         takes the text
- * err         takes one line, with a newline, that says what went wrong; it is empty with TMPL_OK. Lines call the data `data`
+ * err         takes one line, with a newline, on what went wrong; it is empty with TMPL_OK. Lines call the data `data`
  *
  * Gives one of the statuses above. The same arguments give the same text, line and status, unless memory runs out.
  * The text is gathered in memory of the call's own, so that it can be counted, and then copied to `out`.
@@ -115,7 +115,7 @@ typedef struct tmpl_text {
 } tmpl_text;
 
 /* Adds the templates of a file to a set, after those of earlier files. Gives TMPL_OK, TMPL_NOT_TEXT, TMPL_REFUSED or
- * TMPL_MEMORY, and `err` takes the line that tmpl_render would say. Where it is not TMPL_OK the set is as it was. */
+ * TMPL_MEMORY, and `err` takes the line that tmpl_render would give. Where it is not TMPL_OK the set is as it was. */
 uint8_t tmpl_set_add(tmpl_set *set, const tmpl_file *file, tmpl_buffer *err);
 
 /* Prints a set, as tmpl_render does with `print`. Gives TMPL_OK, or TMPL_MEMORY and a prefix of the text. */

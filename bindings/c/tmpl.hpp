@@ -1,6 +1,6 @@
-// tmpl for C++17: template files that are parsed once and data that is read once, over tmpl.h. What does not end well is thrown:
-// `tmpl::error`, and `std::bad_alloc` where memory runs out. Any number of threads use one `templates` at the same time, and no render waits
-// for another; nor do they change a `data`, which they share. One that was moved from is only destroyed or given another.
+// tmpl for C++17: template files that are parsed once and data that is read once, over tmpl.h. A call that fails throws `tmpl::error`, and
+// `std::bad_alloc` where memory runs out. Any number of threads may use one `templates` at the same time, and no render waits for another; nor
+// do they change a `data`, which they share. Only destroy what was moved from, or assign to it.
 #ifndef TMPL_HPP
 #define TMPL_HPP
 
@@ -19,7 +19,7 @@
 
 namespace tmpl {
 
-/// What is wrong in a template file, and where.
+/// An error in a template file, and where it is.
 struct problem {
     std::string file;            ///< its path, as a line shows it: control characters by their codes
     unsigned long line, column; ///< from 1; columns count characters
@@ -35,7 +35,7 @@ using files = std::vector<std::pair<std::string_view, std::string_view>>;
 
 inline std::vector<problem> check(const files &files, std::size_t most = 1000);
 
-/// A call that did not end well. `what()` is the line of the command.
+/// A call that failed. `what()` is the line of the command.
 class error : public std::runtime_error {
     std::shared_ptr<const std::pair<std::string, std::string>> refused; // the file that is refused
 
@@ -47,7 +47,7 @@ public:
 
     error(int status, const std::string &line, std::string text);
 
-    /// Of a file that is refused, the first 1,000 of all that is wrong in it. They are looked for in each call.
+    /// Of a file that is refused, its first 1,000 errors. Each call looks for them.
     std::vector<problem> problems() const { return refused ? check({{refused->first, refused->second}}) : std::vector<problem>(); }
 
     void bear(std::string_view path, std::string_view bytes) {
@@ -155,7 +155,7 @@ public:
     ~memory_limit() { tmpl_limit_memory(0); }
 };
 
-/// All that is wrong in template files, with what to write instead where that is known: the first `most` of it.
+/// The errors in template files, with what to write instead where that is known: the first `most` of them.
 inline std::vector<problem> check(const files &files, std::size_t most) {
     std::vector<tmpl_file> lent;
     lent.reserve(files.size() + 1); // so that its pointer is not null

@@ -46,7 +46,7 @@ type Options struct {
 	Memory     uint // how many bytes of memory the library may take to parse, to read data and to run; 0 for any
 }
 
-// Problem says what is wrong in a template file, and where.
+// Problem is an error in a template file, and where it is.
 type Problem struct {
 	File         string // its path, as a line shows it: control characters by their codes
 	Line, Column int    // from 1; columns count characters
@@ -59,7 +59,7 @@ func (p Problem) String() string {
 	return fmt.Sprintf("%s:%d:%d: error: %s", p.File, p.Line, p.Column, p.Text)
 }
 
-// Error says why a render did not end well: the status of the command, and its line without the newline. Where the line names a place of a
+// Error is a render that failed: the exit status of the command, and its line without the newline. Where the line names a place of a
 // template file, File and LineNumber, from 1, are that place.
 type Error struct {
 	Status     int
@@ -80,7 +80,7 @@ type refusal struct {
 
 func (e *Error) Error() string { return e.Line }
 
-// Problems gives the first 1,000 of all that is wrong in the file that was refused, if one was. They are looked for at the first call, in the
+// Problems gives the first 1,000 errors of the file that was refused, if one was. They are looked for at the first call, in the
 // memory that the refused call was allowed: it may give ErrMemory. The file is kept until then.
 func (e *Error) Problems() ([]Problem, error) {
 	if e.refused == nil {
@@ -214,8 +214,8 @@ type CheckOptions struct {
 	Memory uint // how many bytes of memory the library may take; 0 for any
 }
 
-// Check tells all that is wrong in template files, with what to write instead where that is known: the first options.Most of it. There is
-// nothing where all files are accepted, one after the other.
+// Check reports the errors in template files, with what to write instead where that is known: the first options.Most of them. There are none
+// where all files are accepted, one after the other.
 func Check(files []File, options CheckOptions) ([]Problem, error) {
 	array := (*C.tmpl_file)(C.malloc(C.size_t(len(files)+1) * C.size_t(unsafe.Sizeof(C.tmpl_file{}))))
 	defer C.free(unsafe.Pointer(array))
@@ -263,7 +263,7 @@ func bytesOf(text *C.tmpl_text) []byte {
 	return unsafe.Slice((*byte)(unsafe.Pointer(text.bytes)), int(text.size))
 }
 
-// Render writes the text of the template of this name to w. No data is data of no bytes. The error is an *Error, ErrMemory, or what w said.
+// Render writes the text of the template of this name to w. Without data pass no bytes. The error is an *Error, ErrMemory, or that of w.
 func Render(w io.Writer, files []File, name string, data []byte, options Options) error {
 	var templates Templates
 	defer templates.Close()

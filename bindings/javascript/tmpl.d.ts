@@ -1,6 +1,6 @@
 /** Templates of the language of Go's text/template over data in JSON. */
 
-/** A text, or bytes, which need be no text. */
+/** A string, or bytes, which need not be UTF-8. */
 export type Bytes = string | Uint8Array;
 
 /** Template files: pairs of a path and what the file holds, in order, or an object or a Map of them. What a later file defines replaces
@@ -24,7 +24,7 @@ export interface Options {
     memory?: number;
 }
 
-/** What is wrong in a template file, and where. As a string it is a line as compilers write it, `FILE:LINE:COLUMN: error: TEXT`. */
+/** An error in a template file, and where it is. As a string it is a line as compilers write it, `FILE:LINE:COLUMN: error: TEXT`. */
 export class Problem {
     /** The path of the file, as a line shows it: control characters by their codes. */
     readonly file: string;
@@ -39,7 +39,7 @@ export class Problem {
     toString(): string;
 }
 
-/** A render that did not end well. Its message is its line. */
+/** A render that failed. Its message is its line. */
 export class TemplateError extends Error {
     /** As of the command: 1 a fault of the run, 2 the name of a file that is not UTF-8, 4 a refused template file or no template of the
      * name, 5 refused data, 6 a text that is longer than `output`. */
@@ -52,7 +52,7 @@ export class TemplateError extends Error {
     readonly file?: string;
     /** The line in that file, from 1. */
     readonly lineNumber?: number;
-    /** Of a file that is refused, the first 1,000 of all that is wrong in it. They are looked for when this is read first, in the memory that
+    /** The first 1,000 errors of a file that is refused. They are looked for when this is read first, in the memory that
      * the refused call was allowed: it may throw MemoryError. The file is kept until then. */
     readonly problems: readonly Problem[];
 }
@@ -78,8 +78,8 @@ export interface Engine {
     render(files: Files, name?: Bytes, data?: unknown, options?: Options): string;
     /** The same as bytes. */
     renderBytes(files: Files, name?: Bytes, data?: unknown, options?: Options): Uint8Array;
-    /** All that is wrong in template files, with what to write instead where that is known: the first `most` of them, 1,000 if that is left out
-     * or 0. There is none where all files are accepted, one after the other. */
+    /** The errors in template files, with what to write instead where that is known: the first `most` of them, 1,000 if that is left out
+     * or 0. There are none where all files are accepted, one after the other. */
     check(files: Files, options?: { memory?: number; most?: number }): Problem[];
     /** Templates that are parsed once, and rendered as often as you like. `memory` is that of each file, as where it is added. */
     templates(files?: Files, options?: { memory?: number }): Templates;

@@ -50,7 +50,7 @@ LETTERS = {"a": "\a", "b": "\b", "f": "\f", "n": "\n", "r": "\r", "t": "\t", "v"
 
 
 class Problem(NamedTuple):
-    """What is wrong in a template file, and where. `str` gives it as a line as compilers write it, `FILE:LINE:COLUMN: error: TEXT`."""
+    """An error in a template file, and where it is. `str` gives it as a line as compilers write it, `FILE:LINE:COLUMN: error: TEXT`."""
 
     file: str  # its path, as a line shows it: control characters by their codes
     line: int  # from 1, as columns, which count characters
@@ -70,10 +70,10 @@ def _problem(line, names):
 
 
 class TemplateError(Exception):
-    """A render that did not end well: its `status` (FAULT, NOT_TEXT, REFUSED, DATA, FULL), the `line` that says why, and the `text` before
+    """A render that failed: its `status` (FAULT, NOT_TEXT, REFUSED, DATA, FULL), the `line` that says why, and the `text` before
     the fault. Where the line names a place of a template file, `file` and `line_number`, from 1, are that place, and for a FAULT `template`
     is the name of the template that ran. Where a number of a Python value is refused, `where` is its place, as in `.prices.0`. What
-    there is not is None."""
+    it does not have is None."""
 
     def __init__(
         self, status: int, line: str, text: bytes = b"", where: Optional[str] = None, refused: Tuple[Tuple[bytes, bytes], ...] = (), memory: int = 0
@@ -91,7 +91,7 @@ class TemplateError(Exception):
 
     @property
     def problems(self) -> List[Problem]:
-        """Of a file that is refused, the first 1,000 of all that is wrong in it. They are looked for when this is read first, in the memory
+        """The first 1,000 errors of a file that is refused. They are looked for when this is read first, in the memory
         that the refused call was allowed: it may raise MemoryError. The file is kept until then."""
         if self._problems is None:
             self._problems = check(self._refused, memory=self._memory) if self._refused else []
@@ -99,7 +99,7 @@ class TemplateError(Exception):
 
 
 def _unquoted(name):
-    """A name as it stood before it was quoted; bytes that are no UTF-8 are U+FFFD."""
+    """A name before it was quoted; bytes that are not UTF-8 become U+FFFD."""
 
     def code(it):
         byte, short, long, letter = it.groups()
@@ -188,14 +188,14 @@ def _json(data):
 
 
 def _value(data, floats):
-    """The data as that option has it."""
+    """The data by the option `floats`."""
     if floats not in ("refuse", "text"):
         raise ValueError(f"floats is 'refuse' or 'text', not {floats!r}")
     return _with_texts(data) if floats == "text" else data
 
 
 def _with_texts(data):
-    """The value with a text in the place of each float and each Decimal."""
+    """The value with a string in the place of each float and each Decimal."""
     if isinstance(data, (float, Decimal)):
         return str(data)
     if isinstance(data, dict):
@@ -204,7 +204,7 @@ def _with_texts(data):
 
 
 def _refused_number(data, at=""):
-    """The place of the first number of a value that is not whole or is out of range, or None."""
+    """The path of the first number of a value that is no integer or out of range, or None."""
     if isinstance(data, float) or (isinstance(data, int) and not -(1 << 63) <= data < 1 << 63):
         return at or "."
     held = data.items() if isinstance(data, dict) else enumerate(data) if isinstance(data, (list, tuple)) else ()
@@ -232,7 +232,7 @@ def _count(name, count):
 
 @contextlib.contextmanager
 def _memory_up_to(count):
-    """What is called meanwhile takes at most this many bytes of memory together; any number for 0. The limit is that of the thread."""
+    """Calls of this thread take at most this many bytes of memory together meanwhile; any number for 0."""
     count = _count("memory", count)
     if not count:
         yield
@@ -280,8 +280,8 @@ def _lines(text, most):
 
 
 def check(files: Files, *, memory: int = 0, most: int = MOST) -> List[Problem]:
-    """All that is wrong in template files, with what to write instead where that is known: the first `most` of them, found in at most
-    `memory` bytes, or any number for 0. There is none where all files are accepted, one after the other. Raises TemplateError where the
+    """The errors in template files, with what to write instead where that is known: the first `most` of them, found in at most `memory`
+    bytes, or any number for 0. There are none where all files are accepted, one after the other. Raises TemplateError where the
     name of a file is not UTF-8, and MemoryError."""
     held, text, most = _pairs(files), _Text(), _count("most", most)
     try:
@@ -306,7 +306,7 @@ def render_into(files, name, data, settings, size, line_size):
 
 
 def _said(status, line, text=b"", data=None):
-    """Raises what a call says that did not end well. `data` is the value that it read, if any."""
+    """Raises the error of a call that failed. `data` is the value that it read, if any."""
     line = line.decode("utf-8", "replace").rstrip("\n")
     if status == MEMORY:
         raise MemoryError(line or "tmpl: out of memory")

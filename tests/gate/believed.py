@@ -30,6 +30,7 @@ CHECK = (
     ("tmpl_json_schema", "src/check.rt", "pub fn check_document"),
     ("tmpl_samples", "src/search.rt", "pub fn failures_of"),
     ("tmpl_report", "src/findings.rt", "pub fn findings_of"),
+    ("tmpl_report", "src/findings.rt", "pub fn text"),
     ("tmpl_report", "src/infer.rt", "pub fn infer_from"),
 )
 # each group of contracts, as the page names it; a definition counts for the first group that comes to it
@@ -172,8 +173,9 @@ def references(spec, text):
 def roots(crate, file, item):
     """The definitions that the clauses of an item of the code name."""
     lines = (CRATES / crate / file).read_text(encoding="utf-8").splitlines()
-    start = next(number for number, line in enumerate(lines) if line.startswith(item))
-    end = next((number for number in range(start + 1, len(lines)) if lines[number] in ("{", "}")), len(lines))
+    start = next(number for number, line in enumerate(lines) if line.lstrip().startswith(item))
+    margin = lines[start][: len(lines[start]) - len(lines[start].lstrip())]
+    end = next((number for number in range(start + 1, len(lines)) if lines[number] in (f"{margin}{{", f"{margin}}}")), len(lines))
     text = "\n".join(lines[start:end])
     found = set()
     for line in lines:

@@ -8,7 +8,6 @@ A comment before a block says what else is done with it; a block without one tha
 
 - `<!-- needs: NAME .. -->` names programs. Where one is not there all blocks of that heading are left out, and it says so.
 - `<!-- save: NAME -->`: the block is a file, which is written under this name before what follows is run.
-- `<!-- file: PATH -->`: the block shows the whole of this file, and they must be equal; it is written under its base name too.
 - `<!-- tried by: PATH -->`: this test tries it, and what a block `text` directly after it says that it puts out.
 - `<!-- not run: WHY -->`: it is not run.
 
@@ -29,10 +28,9 @@ import tempfile
 from tests.lib import harness, tools
 
 LEAST = 80  # commands, where jq, yq and nginx are not there
-LEAST_SHOWN = 2  # files
 LEAST_LINKS = 205
 MARK = "\x1e"  # between what two commands put out
-COMMENT = re.compile(r"<!-- (needs|save|file|tried by|not run): (.*) -->")
+COMMENT = re.compile(r"<!-- (needs|save|tried by|not run): (.*) -->")
 DOCUMENTS = ["*.md", "docs/*.md", "*/README.md", "*/*/README.md"]
 # a block: its heading `##`, its line, its language, the comment before it as kind and text, and its own text
 Block = collections.namedtuple("Block", "heading line language kind said text")
@@ -111,8 +109,8 @@ def steps(its):
     """What is run of the blocks of a heading: commands, each with what it puts out."""
     found = []
     for it, how in its:
-        if it.kind in ("save", "file"):
-            found.append(written(os.path.basename(it.said), it.text))
+        if it.kind == "save":
+            found.append(written(it.said, it.text))
         elif how == "run, output":
             found[-1] = (found[-1][0], it.text)
         elif how.startswith("run"):
@@ -127,22 +125,6 @@ def sections(document):
         needed = [name for it, _ in its if it.kind == "needs" for name in it.said.split()]
         if any(how.startswith("run") for _, how in its):
             yield heading, steps(its), needed
-
-
-def differences(document, path, block):
-    """Where a block differs first from the file that it shows."""
-    pairs = itertools.zip_longest(block.splitlines(keepends=True), read(path).splitlines(keepends=True))
-    for number, (shown, held) in enumerate(pairs, 1):
-        if shown != held:
-            return [f"    {document} shows {path} otherwise, from its line {number} on", f"    shown {shown!r}", f"    held  {held!r}"]
-    return []
-
-
-def shown(document):
-    """The files that a document shows, each with how its block differs."""
-    for it in blocks(document):
-        if it.kind == "file":
-            yield f"{document}: {it.said}", 1, differences(document, it.said, it.text)
 
 
 def strays(document):
@@ -243,14 +225,12 @@ def main(words):
                 results += check(f"{document}, {heading}", said)
     passed, failed, runs = harness.tally(results)
     failed += harness.too_few("commands were run", runs, LEAST)
-    told = harness.tally([it for document in documents() for it in shown(document)])
-    failed += told[1] + harness.too_few("files were compared with what documents show of them", told[2], LEAST_SHOWN)
     handlings = harness.tally([it for document in documents() for it in strays(document)])
     linked = harness.tally(followed())
     failed += linked[1] + harness.too_few("links were followed", linked[2], LEAST_LINKS)
     others = sum(how.startswith("not run") for document in documents() for _, how in handled(document))
     print(f"{handlings[2]} blocks, {others} of them marked as not run")
-    return harness.closing(passed + told[0] + linked[0] + handlings[0], failed + handlings[1])
+    return harness.closing(passed + linked[0] + handlings[0], failed + handlings[1])
 
 
 if __name__ == "__main__":

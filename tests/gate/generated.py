@@ -67,7 +67,7 @@ NUMBERS = {
         "depth, by clap": (r'codes "depth"\) \(vp.Signed \(pos (\d+)\) \(pos (\d+)\)\)', ["least", "most"]),
         "steps, by clap": (r'codes "steps"\) \(vp.Unsigned (\d+) (\d+)\)', ["least", "most"]),
     },
-    "crates/tmpl_c/specs/Lent.antt": {
+    "crates/tmpl_c/specs/Passed.antt": {
         "depth": (r"depth_limit = limit (\d+) (\d+) s.depth", ["default", "most"]),
         "steps": (r"step_limit = limit (\d+) (\d+) s.steps", ["default", "most"]),
     },

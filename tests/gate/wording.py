@@ -1,12 +1,12 @@
 """Refuses words that only this project uses, in all that users read, and names the standard term for each. It reads documents without code and
 blocks, man pages, the strings of `tmpl-check` and of the command, completions, headers and bindings.
 
-    wording.py              all of these
-    wording.py --source     only lists what it finds in the comments of crates/*/src and crates/*/specs
+    wording.py              all of these, and the comments of src and specs of the crates in COMMENTED
+    wording.py --source     only lists what it finds in the comments of src and specs of all crates
 
 Words with an ordinary second use are not judged alone, but in phrases: `text` and `texts` (a template has texts and actions), `word` and
 `words` (a message has them), `status` (a call of the C library returns one, a process exits with one), `front` (in front of, a front end),
-`place`, `tell` and `it has`. What is in backquotes is a name, as the clause `told` is, and is not read."""
+`place`, `tell` and `it has`. What is in backquotes is a name, as the clause `matches_spec` is, and is not read."""
 import glob
 import os
 import re
@@ -46,12 +46,14 @@ TERMS = [(re.compile(pattern, re.IGNORECASE), write) for pattern, write in (
 )]
 # what stands all the same: files, what is found, and why
 EXCEPTIONS = (
-    ("docs/EMBEDDING.md bindings/", r"status [0-7]", "a call of the C library returns a status, which is no exit status"),
+    ("docs/EMBEDDING.md bindings/ crates/tmpl_c/", r"status [0-7]", "a call of the C library returns a status, which is no exit status"),
     ("crates/tmpl_hints/src/instead.rt", r"puts out", "names of functions of other tools, one after the other"),
 )
 # the crates whose strings are messages or help
 SPOKEN = ["tmpl_hints", "tmpl_problems", "tmpl_shape", "tmpl_schema", "tmpl_json_schema", "tmpl_reasons", "tmpl_samples",
           "tmpl_report", "tmpl_check", "tmpl_tool"]
+# .. and those whose comments are held to this too
+COMMENTED = ["tmpl_shape", "tmpl_loops", "tmpl_schema", "tmpl_reasons", "tmpl_tool", "tmpl_c"]
 # .. and of these the whole text, or comments and strings
 WHOLE = ["bindings/python/*.py", "completions/*"]
 BOUND = ["bindings/c/*.[ch]", "bindings/c/*.hpp", "bindings/go/tmpl.go", "bindings/rust/src/*.rs", "bindings/javascript/*.mjs", "bindings/javascript/*.ts"]
@@ -100,9 +102,9 @@ def texts():
         yield path, LEADER.sub(blank, only(SPEECH, read(path)))
 
 
-def comments():
-    """The comments of the code and of the definitions."""
-    for path in paths("crates/*/src/**/*.rt", "crates/*/specs/**/*.antt"):
+def comments(crates=("*",)):
+    """The comments of the code and of the definitions of crates."""
+    for path in paths(*(f"crates/{crate}/{part}" for crate in crates for part in ("src/**/*.rt", "specs/**/*.antt"))):
         yield path, LEADER.sub(blank, only(COMMENT, read(path)))
 
 
@@ -132,7 +134,7 @@ def main(words):
     if words == ["--source"]:
         print(*(line.strip() for path, text in comments() for line in wrong(path, text)), sep="\n")
         return 0
-    passed, failed, count = harness.tally((path, 1, wrong(path, text)) for path, text in texts())
+    passed, failed, count = harness.tally((path, 1, wrong(path, text)) for path, text in (*texts(), *comments(COMMENTED)))
     failed += harness.too_few("files were read", count, LEAST)
     return harness.closing(passed, failed)
 

@@ -526,19 +526,16 @@ EXAMPLES = [
 # that are read too, and more words; and what is said where one is refused. Without the files of quotes their templates are stops
 MAP_OF_TEXTS = {"type": "object", "additionalProperties": TEXT}
 SITE = of({"port": WHOLE, "hosts": ITEMS, "root": TEXT}, ["hosts", "root"])
-SERVICE = of({"image": TEXT, "ports": ITEMS}, ["image"])
 DEPLOYMENT = of({"app": TEXT, "image": TEXT, "version": TEXT, "replicas": WHOLE, "environment": MAP_OF_TEXTS}, ["app", "image", "version"])
 COOKBOOK = [
     ("deployment.tmpl", DEPLOYMENT, ["quotes.tmpl"], [], None),
     ("deployment.tmpl", {**DEPLOYMENT, "properties": {**DEPLOYMENT["properties"], "version": {"type": ["string", "integer"]}, "app": WHOLE}}, ["quotes.tmpl"], [],
      '"printf" may get what it refuses'),
-    ("configmap.tmpl", of({"name": TEXT, "files": MAP_OF_TEXTS}), ["quotes.tmpl"], [], None),
     ("nginx.tmpl", of({"pid": TEXT, "sites": {"type": "array", "items": SITE}}), [], ["--stop", "nginx"], None),
     ("nginx.tmpl", of({"pid": TEXT, "sites": {"type": "array", "items": SITE}}), ["quotes.tmpl"], [], 'there is no template "nginx has no parameter with a NUL"'),
     ("nginx.tmpl", of({"pid": TEXT, "sites": {"type": "array", "items": SITE}}), ["quotes.tmpl"],
      ["--stop", "nginx has no parameter with a NUL", "--stop", "nginx has no quote for a $"], None),
     ("app.tmpl", of({"description": TEXT, "greeting": TEXT, "title": TEXT}), [], ["--stop", "replace", "--stop", "systemd", "--stop", "systemd command"], None),
-    ("compose.tmpl", of({"services": {"type": "object", "additionalProperties": SERVICE}}), ["quotes.tmpl"], ["--stop", "to json"], None),
     ("{{range .hosts}}{{.}}; {{end}}", of({"hosts": ITEMS}), [], [], None),
     ("Hello, {{.GREETED}}!", of({"GREETED": TEXT}), [], [], None),
     ("Hello, {{.GREETED}}!", of({"GREETED": TEXT}, []), [], [], '.GREETED may be absent: not in "required" of s:1'),
@@ -546,7 +543,6 @@ COOKBOOK = [
     ("listen {{.port}};", of({"port": WHOLE}), [], [], None),
     ('{{if gt .port 65535}}{{template "a port is at most 65535"}}{{end}}port {{.port}}', of({"port": WHOLE}), [], ["--stop", "a port is at most 65535"], None),
     ('{{if gt .port 65535}}{{template "a port is at most 65535"}}{{end}}port {{.port}}', of({"port": WHOLE}), [], [], 'there is no template "a port is at most 65535"'),
-    ('{{index . "my-key" "0"}}', of({"my-key": of({"0": TEXT})}), [], [], None),
     ('{{range .rows}}{{.count}} at {{printf "%6s" .price}}; {{end}}', of({"rows": {"type": "array", "items": of({"price": TEXT, "count": WHOLE})}, "limit": TEXT}), [], [], None),
     ('{{range .rows}}{{.count}} at {{printf "%6s" .price}}; {{end}}', of({"rows": {"type": "array", "items": of({"price": {"type": ["string", "integer"]}, "count": WHOLE})}}), [], [],
      '"printf" may get what it refuses'),

@@ -78,8 +78,8 @@ fn raw_buffer(memory: &mut [u8]) -> RawBuffer {
     RawBuffer { bytes: memory.as_mut_ptr(), size: memory.len(), taken: 0, needed: 0 }
 }
 
-/// Why a render did not end well: the status of the command, its line, the text before a fault, and of a file that is refused the lines
-/// that `check` gives of it.
+/// A render that failed: the exit status of the command, its line, the text before a fault, and of a file that is refused the lines that
+/// `check` gives of it.
 #[derive(Clone, Debug, PartialEq, Eq)]
 pub struct Error {
     pub status: u8,
@@ -126,8 +126,8 @@ fn ended(status: u8, line: &[u8], text: Vec<u8>) -> Result<Vec<u8>, Error> {
     Err(Error { status, line, text, problems: Vec::new() })
 }
 
-/// All that is wrong in template files, in a line each as compilers write it: `FILE:LINE:COLUMN: error: REASON: DETAIL`, with what to write
-/// instead where that is known. There is none where all files are accepted, one after the other.
+/// The errors in template files, in a line each as compilers write it: `FILE:LINE:COLUMN: error: REASON: DETAIL`, with what to write
+/// instead where that is known. There are none where all files are accepted, one after the other.
 pub fn check(files: &[(&str, &[u8])]) -> Result<Vec<String>, Error> {
     let array: Vec<RawFile> = files.iter().map(|(path, bytes)| raw_file(path, bytes)).collect();
     let mut text = RawText::EMPTY;

@@ -17,9 +17,9 @@ use Rattle.tmpl_syntax.specs.Examine.{Examined}
 use Rattle.tmpl_problems.specs.Checked.{refused_in}
 use Rattle.tmpl_problems.specs.declared.problem.Problem.{Problem}
 use Rattle.tmpl_tool.specs.Source.{Bytes}
-use Rattle.tmpl_c.specs.Lent.{each_added, pair_of, pairs_of}
+use Rattle.tmpl_c.specs.Passed.{each_added, pair_of, pairs_of}
 use Rattle.tmpl_c.specs.computed.Load.{status_after}
-use Rattle.tmpl_c.specs.declared.lent.File.{File}
+use Rattle.tmpl_c.specs.declared.passed.File.{File}
 
 -- nothing is refused of a file, or something is
 pub none_after : {T : Type 0} (code n : ℕ) (mistakes : List T) → length mistakes ≡ n → true ≡ eqb n 0 → code ≡ status_after code mistakes

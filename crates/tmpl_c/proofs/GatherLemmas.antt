@@ -22,13 +22,13 @@ one : (n : ℕ) → n ≡ 0 + 1 → n ≢ 0
 one n e h = omega (arith, e, h)
 
 -- what was put begins the text
-outcome_front : (a : Answer) (all : Bytes) (f : ℕ) (err : Sunk) (code : ℕ) → Outcome a (sunk (holding [] 0) (holding all f)) err code
+outcome_prefix : (a : Answer) (all : Bytes) (f : ℕ) (err : Sunk) (code : ℕ) → Outcome a (sunk (holding [] 0) (holding all f)) err code
     → (rest : Bytes) × (a.text ≡ all ++ rest)
-outcome_front a all f err code (inl exact) = ([], sym (append-nil all ∙ some_same all a.text exact.0.bytes))
-outcome_front a all f err code (inr (inl cut)) =
+outcome_prefix a all f err code (inl exact) = ([], sym (append-nil all ∙ some_same all a.text exact.0.bytes))
+outcome_prefix a all f err code (inr (inl cut)) =
     let begins = cut.0.bytes in
     (begins.1, begins.2 ∙ ap (λ (xs : Bytes). xs ++ begins.1) (sym (some_same all begins.0 begins.3)))
-outcome_front a all f err code (inr (inr refused)) = from a.made_text refused.0
+outcome_prefix a all f err code (inr (inr refused)) = from a.made_text refused.0
   where
     nothing : (front rest : Bytes) → ◌≡◌ {A = Bytes} [] (front ++ rest) → front ≡ []
     nothing [] rest e = refl
@@ -55,8 +55,8 @@ module _ (a : Answer) (most : ℕ) where
   limited-within is = rw is refl
 
   -- what begins the text and is within the limit begins what the limit leaves of it
-  limited_front : (all rest : Bytes) → a.text ≡ all ++ rest → within most all ≡ true → (more : Bytes) × ((limit_text most a).text ≡ all ++ more)
-  limited_front all rest is begins = by (eqb most 0) refl (leb (length a.text) most) refl
+  limited_prefix : (all rest : Bytes) → a.text ≡ all ++ rest → within most all ≡ true → (more : Bytes) × ((limit_text most a).text ≡ all ++ more)
+  limited_prefix all rest is begins = by (eqb most 0) refl (leb (length a.text) most) refl
     where
       short : eqb most 0 ≡ false → length all ≤ most
       short any = let h : leb (length all) most ≡ true = rw any at begins in leb-true (length all) most h
@@ -92,8 +92,8 @@ module _ (a : Answer) (all line : Bytes) (f g code : ℕ) (o : Outcome a (sunk (
   -- memory was refused
   pub refused_holds : within most all ≡ true → (said : Bytes) → said ≡ [] → Holds (limit_text most a) all said 7
   refused_holds whole said none =
-      let front = outcome_front a all f _ code o in
-      let kept = limited_front a most all front.0 front.1 whole in inr (kept.0, kept.1, none, refl)
+      let front = outcome_prefix a all f _ code o in
+      let kept = limited_prefix a most all front.0 front.1 whole in inr (kept.0, kept.1, none, refl)
 
   -- it was not
   pub exact_holds : within most all ≡ true → (code ≢ 7) × (f ≡ 0) × (g ≡ 0) → Holds (limit_text most a) all line code
@@ -106,10 +106,10 @@ module _ (a : Answer) (all line : Bytes) (f g code : ℕ) (o : Outcome a (sunk (
   pub cut_holds : within most all ≡ false → (text said : Bytes) (status : ℕ) → text ≡ take most all
       → ((said ≡ write_line) × (status ≡ 6)) ⊎ ((said ≡ []) × (status ≡ 7)) → Holds (limit_text most a) text said status
   cut_holds past text said status cut (inl h) =
-      let front = outcome_front a all f _ code o in
+      let front = outcome_prefix a all f _ code o in
       let is = limited_past a most all front.0 front.1 past in inl (cut ∙ is.0, h.0 ∙ is.1, h.1 ∙ is.2)
   cut_holds past text said status cut (inr h) =
-      let front = outcome_front a all f _ code o in
+      let front = outcome_prefix a all f _ code o in
       let is = limited_past a most all front.0 front.1 past in
       inr ([], sym is.0 ∙ sym cut ∙ sym (append-nil text), h.0, h.1)
 

@@ -13,16 +13,16 @@ use Rattle.tmpl_tool.specs.Tool.{Parse, Early, answer_of, data_found, load_each,
 use Rattle.tmpl_values.specs.Stage.{and_then}
 use Rattle.tmpl_tool.specs.Tool.{stop_if, with_file}
 use Rattle.tmpl_tool.proofs.StageLemmas.{and_then-and_then}
-use Rattle.tmpl_c.specs.Laws.{AddsInTurn, AnswersAsCommand, AnswersButForName, LendsData, LendsFiles, Prints, RefusesName, Runs, SameBut, StopsAtData}
+use Rattle.tmpl_c.specs.Laws.{AddsInTurn, AnswersAsCommand, AnswersButForName, PassesData, PassesFiles, Prints, RefusesName, Runs, SameBut, StopsAtData}
 use Rattle.tmpl_c.specs.Laws.{IsKeptAsBefore, IsKeptAsOffered, KeepsAsBefore, KeepsOffered, RendersAsKept, StopsAtFile, StopsAtTemplate}
-use Rattle.tmpl_c.specs.Lent.{data_lent, each_added, with_lent}
+use Rattle.tmpl_c.specs.Passed.{data_passed, each_added, with_passed}
 
 -- the files before a file, and those from it on
 each_part : (parse : Parse) (set : List Template) (before rest : List (Bytes × Bytes))
     → each_added parse set (before ++ rest) ≡ and_then (each_added parse set before) (λ s. each_added parse s rest)
 each_part parse set [] rest = refl
 each_part parse set (f ∷ before) rest =
-    and_then-and_then (with_lent parse set f) (λ s. each_added parse s (before ++ rest)) (λ s. each_added parse s before) (λ s. each_added parse s rest)
+    and_then-and_then (with_passed parse set f) (λ s. each_added parse s (before ++ rest)) (λ s. each_added parse s before) (λ s. each_added parse s rest)
     (λ s. each_part parse s before rest)
 
 pub refuses_name : RefusesName
@@ -46,32 +46,32 @@ runs parse rules files name input set loads value found tree is = rw (loads, fou
 -- ---- as the command
 
 module _ (parse : Parse) (files : Files) where
-  one_lent : (set : List Template) (name : Bytes) (f : Bytes × Bytes) → f.0 ≡ name → is_utf8 f.0 ≡ true → files name ≡ Some f.1
-      → with_lent parse set f ≡ with_file parse files false set name
-  one_lent set name f same is has = rw (is, has, same) refl
+  one_passed : (set : List Template) (name : Bytes) (f : Bytes × Bytes) → f.0 ≡ name → is_utf8 f.0 ≡ true → files name ≡ Some f.1
+      → with_passed parse set f ≡ with_file parse files false set name
+  one_passed set name f same is has = rw (is, has, same) refl
 
-  each_lent : (k : ℕ) (set : List Template) (names : List Bytes) (lent : List (Bytes × Bytes)) → LendsFiles files names lent
+  each_passed : (k : ℕ) (set : List Template) (names : List Bytes) (lent : List (Bytes × Bytes)) → PassesFiles files names lent
       → each_added parse set lent ≡ load_each parse files no_read k set names
-  each_lent k set [] [] h = refl
-  each_lent k set (name ∷ names) (f ∷ fs) h = λ i. and_then (one_lent set name f h.0 h.1 h.2 i) (λ s. each_lent (suc k) s names fs h.3 i)
-  each_lent k set [] (f ∷ fs) h = absurd h
-  each_lent k set (name ∷ names) [] h = absurd h
+  each_passed k set [] [] h = refl
+  each_passed k set (name ∷ names) (f ∷ fs) h = λ i. and_then (one_passed set name f h.0 h.1 h.2 i) (λ s. each_passed (suc k) s names fs h.3 i)
+  each_passed k set [] (f ∷ fs) h = absurd h
+  each_passed k set (name ∷ names) [] h = absurd h
 
-  same_data : (o : Option Bytes) (called input : Bytes) → LendsData files o called input → data_lent called input ≡ data_found files false o
+  same_data : (o : Option Bytes) (called input : Bytes) → PassesData files o called input → data_passed called input ≡ data_found files false o
   same_data None called input h = rw h refl
   same_data (Some name) called [] h = absurd (h.2 refl)
   same_data (Some name) called (b ∷ bs) h = rw (h.0, h.1) refl
 
 pub answers_as_command : AnswersAsCommand
 answers_as_command parse words files w asked lent lends called input holds =
-    rw (asked, each_lent parse files 0 [] w.files lent lends, same_data parse files w.data_file called input holds) refl
+    rw (asked, each_passed parse files 0 [] w.files lent lends, same_data parse files w.data_file called input holds) refl
 
 pub answers_but_for_name : AnswersButForName
 answers_but_for_name one other parse rules print files name input = go input (each_added parse [] files) print
   where
     after : Bytes → Bytes → Result (List Template) Early → Bool → Answer
     after called input r p = answer_of (and_then r (λ set.
-        and_then (stop_if p (tool.printed set)) (λ u. and_then (data_lent called input) (λ v. named_run rules name set v))))
+        and_then (stop_if p (tool.printed set)) (λ u. and_then (data_passed called input) (λ v. named_run rules name set v))))
 
     Same : Answer → Answer → Type 0
     Same a b = (a.text ≡ b.text) × (a.status ≡ b.status) × SameBut one other a b
@@ -100,7 +100,7 @@ or_no_more (Ok s) = refl
 or_no_more (Err stop) = refl
 
 pub adds_in_turn : AddsInTurn
-adds_in_turn parse before f set loads = rw (each_part parse [] before (f ∷ []), loads) (or_no_more (with_lent parse set f))
+adds_in_turn parse before f set loads = rw (each_part parse [] before (f ∷ []), loads) (or_no_more (with_passed parse set f))
 
 as_offered : {T : Type 0} → IsKeptAsOffered T
 as_offered offered old new room err (inl h) = let same = h.0 in cc

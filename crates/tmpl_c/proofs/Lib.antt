@@ -4,6 +4,6 @@ mod HandleForms
 mod HandleLemmas
 mod HandleWalks
 mod LawLemmas
-mod LentLemmas
+mod PassedLemmas
 mod LooseLemmas
 mod SeenLemmas

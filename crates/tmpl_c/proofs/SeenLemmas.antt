@@ -13,8 +13,8 @@ use Rattle.tmpl_tool.specs.Tool.{answer_of, unnamed}
 use Rattle.tmpl_tool.specs.Source.{Bytes}
 use Rattle.tmpl_c.specs.Filled.{Fills, Seen, fits, limit_text}
 use Rattle.tmpl_c.specs.Held.{Replaces, held_answer}
-use Rattle.tmpl_c.specs.Laws.{HasDefaults, HoldsFront, HoldsWhole, IsTextStatus, KeepsLimit, ReplacesAsOffered}
-use Rattle.tmpl_c.specs.Laws.{TextHasStatus, TextHoldsFront, TextHoldsWhole}
+use Rattle.tmpl_c.specs.Laws.{HasDefaults, HoldsPrefix, HoldsWhole, IsTextStatus, KeepsLimit, ReplacesAsOffered}
+use Rattle.tmpl_c.specs.Laws.{TextHasStatus, TextHoldsPrefix, TextHoldsWhole}
 
 pub holds_whole : HoldsWhole
 holds_whole a room line_room out err (inl h) = by (fits room a) refl h.2
@@ -28,9 +28,9 @@ holds_whole a room line_room out err (inr h) = let wrong = h.2 in cc
 parts : (bytes : Bytes) (room : ℕ) (s : Seen) → Fills bytes room s → bytes ≡ take s.taken s.memory ++ drop room bytes
 parts bytes room s h = sym (take-append-drop room bytes) ∙ ap (λ (front : Bytes). front ++ drop room bytes) (sym h.0.memory)
 
-pub holds_front : HoldsFront
-holds_front a room line_room out err code (inl h) = (drop room a.text, parts a.text room out h.0)
-holds_front a room line_room out err code (inr ((front, rest, is, fills), line, status)) = (
+pub holds_prefix : HoldsPrefix
+holds_prefix a room line_room out err code (inl h) = (drop room a.text, parts a.text room out h.0)
+holds_prefix a room line_room out err code (inr ((front, rest, is, fills), line, status)) = (
   drop room front ++ rest,
   is ∙ ap (λ (bytes : Bytes). bytes ++ rest) (parts front room out fills) ∙ append_assoc (take out.taken out.memory) (drop room front) rest,
 )
@@ -55,9 +55,9 @@ pub text_whole : TextHoldsWhole
 text_whole a text line (inl h) = (h.0, h.1, sym h.2)
 text_whole a text line (inr h) = let wrong = h.3 in cc
 
-pub text_front : TextHoldsFront
-text_front a text line code (inl h) = ([], sym h.0 ∙ sym (append-nil text))
-text_front a text line code (inr h) = (h.0, h.1)
+pub text_prefix : TextHoldsPrefix
+text_prefix a text line code (inl h) = ([], sym h.0 ∙ sym (append-nil text))
+text_prefix a text line code (inr h) = (h.0, h.1)
 
 fault_status : (most : ℕ) (f : Option Fault) → IsTextStatus most (option_map_or (λ f. 1) f 0)
 fault_status most None = inl refl
@@ -95,4 +95,4 @@ replaces = (kept_offered, kept_before)
 
 pub ruleset seen = (holds_whole, has_defaults, keeps_limit)
 
-pub ruleset texts = (text_whole, text_front, text_status, replaces)
+pub ruleset texts = (text_whole, text_prefix, text_status, replaces)

@@ -1,10 +1,10 @@
--- What is seen of the lent memory and the status, where a call ends.
+-- What is seen of the caller's buffers and the status, where a call ends.
 use Rattle.std.specs.Prelude.{◌≡◌, ◌⊎◌, ◌++◌, ◌||◌, ℕ, Bool, eqb, leb, length, take, if◌then◌else◌}
 use Rattle.tmpl_tool.specs.Outcome.{Answer, memory_line, write_line}
 use Rattle.tmpl_tool.specs.Source.{Bytes}
 use Rattle.tmpl_c.specs.declared.buffer.Buffer.{Buffer}
 
--- an answer of whose text this many bytes are put out at most, or all for 0: where it has more, those that come first,
+-- an answer of whose text this many bytes are written at most, or all for 0: where it has more, those that come first,
 -- with the line and the status of a write that failed
 abbrev pub limit_text : ℕ → Answer → Answer
 limit_text most a = if eqb most 0 || leb (length a.text) most then a
@@ -27,7 +27,7 @@ pub record Shows (bytes : Bytes) (room : ℕ) (s : Seen) : Type 0 where
   pub taken : s.taken ≡ length (take room bytes)
   pub memory : take s.taken s.memory ≡ take room bytes
 
--- .. and how many they are is told
+-- .. and how many they are is stated
 abbrev pub Fills : Bytes → ℕ → Seen → Type 0
 Fills bytes room s = Shows bytes room s × (s.needed ≡ length bytes)
 
@@ -46,15 +46,15 @@ abbrev pub Exact : Answer → ℕ → Seen → ℕ → Seen → ℕ → Type 0
 Exact a room out line_room err code =
     Fills a.text room out × Fills (line_in room a) line_room err × (code ≡ status_in room a)
 
--- of a beginning of these bytes
-abbrev pub FillsFront : Bytes → ℕ → Seen → Type 0
-FillsFront bytes room s = (front : Bytes) × (rest : Bytes) × (bytes ≡ front ++ rest) × Fills front room s
+-- of a prefix of these bytes
+abbrev pub FillsPrefix : Bytes → ℕ → Seen → Type 0
+FillsPrefix bytes room s = (front : Bytes) × (rest : Bytes) × (bytes ≡ front ++ rest) × Fills front room s
 
--- memory was refused: a beginning of the text, and the line of that
+-- memory ran out: a prefix of the text, and the line of that
 abbrev pub Refused : Answer → ℕ → Seen → ℕ → Seen → ℕ → Type 0
 Refused a room out line_room err code =
-    FillsFront a.text room out × Fills memory_line line_room err × (code ≡ 7)
+    FillsPrefix a.text room out × Fills memory_line line_room err × (code ≡ 7)
 
--- the answer, as far as there is room for it, unless memory was refused
+-- the answer, truncated to the capacity of the buffer, unless memory ran out
 abbrev pub Rendered : Answer → ℕ → Seen → ℕ → Seen → ℕ → Type 0
 Rendered a room out line_room err code = Exact a room out line_room err code ⊎ Refused a room out line_room err code

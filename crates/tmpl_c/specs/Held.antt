@@ -41,7 +41,7 @@ abbrev pub Declined : {T : Type 0} → Result T Early → T → T → ℕ → Se
 Declined offered old new room err code = (stop : Early) × (offered ≡ Err stop) × (new ≡ old)
     × Fills (stop_answer stop).line room err × (code ≡ (stop_answer stop).status)
 
--- memory was refused, and what was kept before is kept
+-- memory ran out, and what was kept before is kept
 abbrev pub Unmade : {T : Type 0} → T → T → ℕ → Seen → ℕ → Type 0
 Unmade old new room err code = (new ≡ old) × Fills memory_line room err × (code ≡ 7)
 
@@ -50,7 +50,7 @@ abbrev pub Keeps : {T : Type 0} → Result T Early → T → T → ℕ → Seen 
 Keeps offered old new room err code =
     Accepted offered new room err code ⊎ (Declined offered old new room err code ⊎ Unmade old new room err code)
 
--- what was offered is kept, with status 0; or memory was refused, and what was kept before is
+-- what was offered is kept, with status 0; or memory ran out, and what was kept before is
 abbrev pub Replaces : {T : Type 0} → T → T → T → ℕ → Type 0
 Replaces offered old new code = ((new ≡ offered) × (code ≡ 0)) ⊎ ((new ≡ old) × (code ≡ 7))
 

@@ -15,7 +15,7 @@ use Rattle.tmpl_tool.specs.Tool.{run_answer, stop_answer, tool_answer, unnamed}
 use Rattle.tmpl_tool.specs.Words.{Wanted, wanted_in}
 use Rattle.tmpl_c.specs.Filled.{Rendered, Seen, limit_text}
 use Rattle.tmpl_c.specs.Held.{Keeps, Replaces, held_answer}
-use Rattle.tmpl_c.specs.Lent.{data_lent, each_added, lent_answer, render_answer, rules_in, with_lent}
+use Rattle.tmpl_c.specs.Passed.{data_passed, each_added, passed_answer, render_answer, rules_in, with_passed}
 use Rattle.tmpl_c.specs.Texts.{Holds}
 use Rattle.tmpl_c.specs.declared.settings.Settings.{Settings}
 
@@ -37,7 +37,7 @@ StopsAtFile = (parse : Parse) (rules : Rules) (print : Bool) (name input : Bytes
     → is_utf8 f.0 ≡ true → (r : Refusal) → parse set f.0 f.1 ≡ Err r
     → render_answer parse rules print (before ++ f ∷ after) name input ≡ stop_answer (refused f.0 r)
 
--- where every file is accepted, a set that is to be printed is put out, with status 0, whatever name and data are
+-- where every file is accepted, a set that is to be printed is written, with status 0, whatever name and data are
 abbrev pub Prints : Type 0
 Prints = (parse : Parse) (rules : Rules) (files : List (Bytes × Bytes)) (name input : Bytes)
     → (set : List Template) → each_added parse [] files ≡ Ok set
@@ -47,14 +47,14 @@ Prints = (parse : Parse) (rules : Rules) (files : List (Bytes × Bytes)) (name i
 abbrev pub StopsAtData : Type 0
 StopsAtData = (parse : Parse) (rules : Rules) (files : List (Bytes × Bytes)) (name input : Bytes)
     → (set : List Template) → each_added parse [] files ≡ Ok set
-    → (stop : Early) → data_lent (codes "data") input ≡ Err stop
+    → (stop : Early) → data_passed (codes "data") input ≡ Err stop
     → render_answer parse rules false files name input ≡ stop_answer stop
 
 -- then a name that no template has is, with status 4
 abbrev pub StopsAtTemplate : Type 0
 StopsAtTemplate = (parse : Parse) (rules : Rules) (files : List (Bytes × Bytes)) (name input : Bytes)
     → (set : List Template) → each_added parse [] files ≡ Ok set
-    → (value : Option Value) → data_lent (codes "data") input ≡ Ok value
+    → (value : Option Value) → data_passed (codes "data") input ≡ Ok value
     → tree_named name set ≡ None
     → render_answer parse rules false files name input ≡ stop_answer (unnamed name)
 
@@ -62,32 +62,32 @@ StopsAtTemplate = (parse : Parse) (rules : Rules) (files : List (Bytes × Bytes)
 abbrev pub Runs : Type 0
 Runs = (parse : Parse) (rules : Rules) (files : List (Bytes × Bytes)) (name input : Bytes)
     → (set : List Template) → each_added parse [] files ≡ Ok set
-    → (value : Option Value) → data_lent (codes "data") input ≡ Ok value
+    → (value : Option Value) → data_passed (codes "data") input ≡ Ok value
     → (tree : Tree) → tree_named name set ≡ Some tree
     → render_answer parse rules false files name input ≡ run_answer (ran rules set name tree value)
 
 -- ---- as the command
 
--- the files of these names, which are texts, are lent as they stand
-abbrev pub LendsFiles : Files → List Bytes → List (Bytes × Bytes) → Type 0
-LendsFiles files [] [] = Unit {0}
-LendsFiles files (name ∷ names) (f ∷ fs) =
-    (f.0 ≡ name) × (is_utf8 f.0 ≡ true) × (files name ≡ Some f.1) × LendsFiles files names fs
-LendsFiles files [] (f ∷ fs) = ⊥
-LendsFiles files (name ∷ names) [] = ⊥
+-- the files of these names, which are texts, are passed as they stand
+abbrev pub PassesFiles : Files → List Bytes → List (Bytes × Bytes) → Type 0
+PassesFiles files [] [] = Unit {0}
+PassesFiles files (name ∷ names) (f ∷ fs) =
+    (f.0 ≡ name) × (is_utf8 f.0 ≡ true) × (files name ≡ Some f.1) × PassesFiles files names fs
+PassesFiles files [] (f ∷ fs) = ⊥
+PassesFiles files (name ∷ names) [] = ⊥
 
 -- .. and so is the data, if a file of it is named, which may not be empty
-abbrev pub LendsData : Files → Option Bytes → Bytes → Bytes → Type 0
-LendsData files None called input = input ≡ []
-LendsData files (Some name) called input = (called ≡ name) × (files name ≡ Some input) × (input ≢ [])
+abbrev pub PassesData : Files → Option Bytes → Bytes → Bytes → Type 0
+PassesData files None called input = input ≡ []
+PassesData files (Some name) called input = (called ≡ name) × (files name ≡ Some input) × (input ≢ [])
 
 -- over the same files, data, options and name it is the answer of the command, where its lines call the data as the
 -- words do
 abbrev pub AnswersAsCommand : Type 0
 AnswersAsCommand = (parse : Parse) (words : List Bytes) (files : Files) (w : Wanted) → asked_by words ≡ Ok w
-    → (lent : List (Bytes × Bytes)) → LendsFiles files w.files lent
-    → (called input : Bytes) → LendsData files w.data_file called input
-    → lent_answer called parse w.rules w.print lent (asked_name w) input ≡ tool_answer parse words files no_read
+    → (lent : List (Bytes × Bytes)) → PassesFiles files w.files lent
+    → (called input : Bytes) → PassesData files w.data_file called input
+    → passed_answer called parse w.rules w.print lent (asked_name w) input ≡ tool_answer parse words files no_read
 
 -- the lines are the same, or data is refused, and they call it so and so
 abbrev pub SameBut : Bytes → Bytes → Answer → Answer → Type 0
@@ -97,8 +97,8 @@ SameBut one other a b = (a ≡ b)
 -- text and status do not depend on what lines call the data, and no line does but that of data that is refused
 abbrev pub AnswersButForName : Type 0
 AnswersButForName = (one other : Bytes) (parse : Parse) (rules : Rules) (print : Bool) (files : List (Bytes × Bytes))
-    (name input : Bytes) → let a = lent_answer one parse rules print files name input in
-    let b = lent_answer other parse rules print files name input in
+    (name input : Bytes) → let a = passed_answer one parse rules print files name input in
+    let b = passed_answer other parse rules print files name input in
     (a.text ≡ b.text) × (a.status ≡ b.status) × SameBut one other a b
 
 -- ---- what is kept
@@ -107,14 +107,14 @@ AnswersButForName = (one other : Bytes) (parse : Parse) (rules : Rules) (print :
 abbrev pub RendersAsKept : Type 0
 RendersAsKept = (parse : Parse) (rules : Rules) (print : Bool) (files : List (Bytes × Bytes)) (name input : Bytes)
     → (set : List Template) → each_added parse [] files ≡ Ok set
-    → (value : Option Value) → data_lent (codes "data") input ≡ Ok value
+    → (value : Option Value) → data_passed (codes "data") input ≡ Ok value
     → render_answer parse rules print files name input ≡ held_answer rules print set name value
 
 -- a file after files that are accepted gives the answer that it gives when it is added to the set of their templates
 abbrev pub AddsInTurn : Type 0
 AddsInTurn = (parse : Parse) (before : List (Bytes × Bytes)) (f : Bytes × Bytes)
     → (set : List Template) → each_added parse [] before ≡ Ok set
-    → each_added parse [] (before ++ f ∷ []) ≡ with_lent parse set f
+    → each_added parse [] (before ++ f ∷ []) ≡ with_passed parse set f
 
 -- with status 0 what was offered is what is kept
 abbrev pub IsKeptAsOffered : (T : Type 0) → Type 0
@@ -140,9 +140,9 @@ abbrev pub HoldsWhole : Type 0
 HoldsWhole = (a : Answer) (room line_room : ℕ) (out err : Seen) → Rendered a room out line_room err 0
     → (take out.taken out.memory ≡ a.text) × (a.status ≡ 0)
 
--- with any status it holds a beginning of it
-abbrev pub HoldsFront : Type 0
-HoldsFront = (a : Answer) (room line_room : ℕ) (out err : Seen) (code : ℕ) → Rendered a room out line_room err code
+-- with any status it holds a prefix of it
+abbrev pub HoldsPrefix : Type 0
+HoldsPrefix = (a : Answer) (room line_room : ℕ) (out err : Seen) (code : ℕ) → Rendered a room out line_room err code
     → (rest : Bytes) × (a.text ≡ take out.taken out.memory ++ rest)
 
 -- settings of all zeros are the options of a command whose words name none, and a limit of 0 is none
@@ -161,9 +161,9 @@ abbrev pub TextHoldsWhole : Type 0
 TextHoldsWhole = (a : Answer) (text line : Bytes) → Holds a text line 0
     → (text ≡ a.text) × (line ≡ a.line) × (a.status ≡ 0)
 
--- with any status it is a beginning of it
-abbrev pub TextHoldsFront : Type 0
-TextHoldsFront = (a : Answer) (text line : Bytes) (code : ℕ) → Holds a text line code
+-- with any status it is a prefix of it
+abbrev pub TextHoldsPrefix : Type 0
+TextHoldsPrefix = (a : Answer) (text line : Bytes) (code : ℕ) → Holds a text line code
     → (rest : Bytes) × (a.text ≡ text ++ rest)
 
 -- the status of a render into a text is 0, 1, 4 or 7, or 6 where it has a limit: without one none says that the text does

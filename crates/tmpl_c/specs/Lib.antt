@@ -2,7 +2,7 @@ pub mod computed
 pub mod Checked
 pub mod Filled
 pub mod Laws
-pub mod Lent
+pub mod Passed
 pub mod Question
 pub mod Handles
 pub mod Held

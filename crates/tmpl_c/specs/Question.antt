@@ -12,8 +12,8 @@ use Rattle.tmpl_report.specs.Told.{told}
 use Rattle.tmpl_report.specs.declared.findings.Format.{Format}
 use Rattle.tmpl_report.specs.declared.findings.Format.TheVariants.{Text, Json, Sarif}
 use Rattle.tmpl_tool.specs.Source.{Bytes}
-use Rattle.tmpl_c.specs.declared.lent.Name.{Name}
-use Rattle.tmpl_c.specs.declared.lent.Question.{Question}
+use Rattle.tmpl_c.specs.declared.passed.Name.{Name}
+use Rattle.tmpl_c.specs.declared.passed.Question.{Question}
 
 -- ---- the numbers of a question
 

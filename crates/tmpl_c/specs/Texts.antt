@@ -19,7 +19,7 @@ IsShown a size h = (size ≡ length (bytes_in h)) × IfSome h.held (λ g. a.at �
 abbrev pub HoldsAll : Answer → Bytes → Bytes → ℕ → Type 0
 HoldsAll a text line code = (text ≡ a.text) × (line ≡ a.line) × (code ≡ a.status)
 
--- memory was refused: a beginning of the text, and no line
+-- memory ran out: a prefix of the text, and no line
 abbrev pub HoldsBeginning : Answer → Bytes → Bytes → ℕ → Type 0
 HoldsBeginning a text line code = (rest : Bytes) × (a.text ≡ text ++ rest) × (line ≡ []) × (code ≡ 7)
 

@@ -1,6 +1,6 @@
 //! Memory for output.
 
-/// Memory that is lent for output. What it held before a call is overwritten from the first byte on.
+/// A buffer that the caller provides for output. What it held before a call is overwritten from the first byte on.
 #[repr(C)]
 pub struct Buffer<'a> {
     pub bytes: &'a mut [u8],

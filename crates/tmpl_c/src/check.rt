@@ -2,12 +2,12 @@
 ghost use Rattle.std.specs.Prelude.{◌≡◌, ◌≢◌, ◌⊎◌, [], IfOk};
 ghost use Rattle.tmpl_syntax.specs.computed.Parse.{parsed};
 ghost use Rattle.tmpl_c.specs.Checked.{check_status};
-ghost use Rattle.tmpl_c.specs.Lent.{pairs_of};
+ghost use Rattle.tmpl_c.specs.Passed.{pairs_of};
 ghost use Rattle.tmpl_c.specs.Texts.{bytes_in};
 ghost use Rattle.tmpl_c.specs.computed.Load.{status_after};
 
 use crate::gathered::Gathered;
-use crate::lent::File;
+use crate::passed::File;
 use crate::text::Text;
 use std::alloc::{AllocError, Global};
 use std::str;

@@ -72,7 +72,7 @@ impl DataHandle {
         drop(boxed(mem::replace(self, DataHandle::of(Loose::of(value))).open(alloc)));
     }
 
-    /// Keeps this, and frees what was kept. An error is want of memory, and leaves what was kept.
+    /// Keeps this, and frees what was kept. An error means that memory ran out, and leaves what was kept.
     pub(crate) fn keep(&mut self, alloc: Global, value: SharedData) -> Result<(), AllocError>
         ensures new { IfOk result (λ u. self.new.held ≡ Some value) }
         ensures old { IfErr result (λ e. self.new.held ≡ self.old.held) }

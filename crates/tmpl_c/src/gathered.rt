@@ -5,7 +5,7 @@ ghost use Rattle.tmpl_c.specs.computed.Gathering.{told_of, nothing_put};
 use std::alloc::Global;
 use tmpl_engine::{Sink, SinkFault};
 
-/// All that was put, in memory of its own: so a put fails only where memory is refused, or past the limit.
+/// All that was put, in memory of its own: so a put fails only where memory runs out, or past the limit.
 #[derive(Drop)]
 pub struct Gathered {
     pub(crate) bytes: Vec<u8>,

@@ -7,7 +7,7 @@ ghost use Rattle.tmpl_tool.specs.Tool.{printed, stop_answer};
 ghost use Rattle.tmpl_c.specs.Filled.{limit_text};
 ghost use Rattle.tmpl_c.specs.Held.{templates_in, templates_run, value_in};
 ghost use Rattle.tmpl_c.specs.Texts.{Holds, bytes_in};
-ghost use Rattle.tmpl_c.specs.computed.Extents.{IsFilled, answer_by, run_by, templates_lent};
+ghost use Rattle.tmpl_c.specs.computed.Extents.{IsFilled, answer_by, run_by, templates_borrowed};
 ghost use Rattle.tmpl_c.specs.computed.Gathering.{told_of, nothing_put};
 
 use crate::data_handle::DataHandle;
@@ -55,7 +55,7 @@ fn render_with(
     }
 }
 
-/// Renders what is kept into lent memory. It is taken out for that, and put back.
+/// Renders what is kept into the caller's buffers. It is taken out for that, and put back.
 pub(crate) fn render(
     alloc: Global,
     settings: &Settings,
@@ -93,7 +93,7 @@ fn run_with(
 ) -> u8
     requires out { out.old.failures < 2 ^ 64 - 1 }
     requires err { err.old.failures < 2 ^ 64 - 1 }
-    ensures { Outcome (run_by settings.now (templates_lent renderer.entry) name.now
+    ensures { Outcome (run_by settings.now (templates_borrowed renderer.entry) name.now
         (option_map (λ d. value_of d.now) «data».entry))
         (sunk (told_of out.old) (told_of out.new)) (sunk (told_of err.old) (told_of err.new)) result }
 {
@@ -164,7 +164,7 @@ fn run_program(
     }
 }
 
-/// Renders a program into lent memory.
+/// Renders a program into the caller's buffers.
 pub(crate) fn render_program(
     alloc: Global,
     settings: &Settings,

@@ -7,14 +7,14 @@ ghost use Rattle.tmpl_tool.specs.Inputs.{said_of};
 ghost use Rattle.tmpl_tool.specs.Outcome.{memory_line};
 ghost use Rattle.tmpl_c.specs.Filled.{Fills};
 ghost use Rattle.tmpl_c.specs.Held.{Keeps, Replaces, templates_in, templates_run, value_in};
-ghost use Rattle.tmpl_c.specs.Lent.{data_lent, pair_of, with_lent};
+ghost use Rattle.tmpl_c.specs.Passed.{data_passed, pair_of, with_passed};
 ghost use Rattle.tmpl_c.specs.computed.Extents.{extent_seen};
 ghost use Rattle.tmpl_c.specs.computed.Load.{IsSaid, halt_seen};
 
 use crate::data_handle::DataHandle;
 use crate::gathered::Gathered;
-use crate::lent::File;
 use crate::load::{Halt, add_file, read_data, tell};
+use crate::passed::File;
 use crate::program_handle::ProgramHandle;
 use crate::render::{Extent, copy_to, say_refused};
 use crate::set_handle::SetHandle;
@@ -23,7 +23,7 @@ use std::alloc::{AllocError, Global};
 use tmpl_engine::{Engine, NameHash};
 use tmpl_values::Data;
 
-/// What is said of an offer.
+/// The message about an offer.
 #[derive(Clone, Copy, Debug)]
 pub(crate) struct Said {
     pub(crate) status: u8,
@@ -41,7 +41,7 @@ fn say_kept(err: &mut [u8]) -> Said
     }
 }
 
-/// Says that memory was refused.
+/// Says that memory ran out.
 fn say_no_memory(err: &mut [u8]) -> Said
     ensures line { Fills memory_line (length err.old) (extent_seen err.new result.line) }
     ensures status { result.status ≡ 7 }
@@ -69,7 +69,7 @@ fn say(alloc: Global, why: &Halt<'_>, err: &mut [u8]) -> Said
 
 /// Adds the templates of a file to a set, or says why not.
 fn add_to(alloc: Global, engine: &mut Engine, file: &File<'_>, err: &mut [u8]) -> Said
-    ensures { Keeps (with_lent parsed (templates_of engine.old) (pair_of file.now)) (templates_of engine.old) (templates_of engine.new)
+    ensures { Keeps (with_passed parsed (templates_of engine.old) (pair_of file.now)) (templates_of engine.old) (templates_of engine.new)
         (length err.old) (extent_seen err.new result.line) result.status }
 {
     match add_file(alloc, engine, file) {
@@ -86,7 +86,7 @@ pub(crate) fn add(
     file: &File<'_>,
     err: &mut [u8],
 ) -> Said
-    ensures { Keeps (with_lent parsed (templates_in kept.old.held) (pair_of file.now))
+    ensures { Keeps (with_passed parsed (templates_in kept.old.held) (pair_of file.now))
         (templates_in kept.old.held) (templates_in kept.new.held)
         (length err.old) (extent_seen err.new result.line) result.status }
 {
@@ -102,7 +102,7 @@ pub(crate) fn add(
     said
 }
 
-/// Keeps a value. An error is want of memory, and leaves what was kept.
+/// Keeps a value. An error means that memory ran out, and leaves what was kept.
 fn keep_value(alloc: Global, kept: &mut DataHandle, value: Data) -> Result<(), AllocError>
     ensures new { IfOk result (λ u. value_in kept.new.held ≡ Some (value_of value)) }
     ensures old { IfErr result (λ e. kept.new.held ≡ kept.old.held) }
@@ -113,7 +113,7 @@ fn keep_value(alloc: Global, kept: &mut DataHandle, value: Data) -> Result<(), A
 
 /// Keeps data, or says why not.
 pub(crate) fn read(alloc: Global, kept: &mut DataHandle, input: &[u8], err: &mut [u8]) -> Said
-    ensures { Keeps (data_lent (codes "data") input.now) (value_in kept.old.held) (value_in kept.new.held)
+    ensures { Keeps (data_passed (codes "data") input.now) (value_in kept.old.held) (value_in kept.new.held)
         (length err.old) (extent_seen err.new result.line) result.status }
 {
     match read_data(alloc, input) {
@@ -131,7 +131,7 @@ pub(crate) fn read(alloc: Global, kept: &mut DataHandle, input: &[u8], err: &mut
     }
 }
 
-/// The status of what was kept, or of want of memory.
+/// The status of what was kept, or of out of memory.
 fn status_of(kept: Result<(), AllocError>) -> u8
     ensures kept { IfOk kept (λ u. result ≡ 0) }
     ensures refused { IfErr kept (λ e. result ≡ 7) }
@@ -142,7 +142,7 @@ fn status_of(kept: Result<(), AllocError>) -> u8
     }
 }
 
-/// Keeps a program of what a set has now, and gives the status: 0, or 7 where memory was refused.
+/// Keeps a program of what a set has now, and gives the status: 0, or 7 where memory ran out.
 pub(crate) fn make_program(alloc: Global, set: &mut SetHandle, program: &mut ProgramHandle) -> u8
     ensures replaces { Replaces (templates_in set.old.held)
         (templates_run program.old.held) (templates_run program.new.held) result }

@@ -1,8 +1,8 @@
 //! The laws of the library: its stages, and that it answers as the command does.
-ghost use Rattle.tmpl_c.specs.Laws.{AddsInTurn, AnswersAsCommand, AnswersButForName, HasDefaults, HoldsFront};
+ghost use Rattle.tmpl_c.specs.Laws.{AddsInTurn, AnswersAsCommand, AnswersButForName, HasDefaults, HoldsPrefix};
 ghost use Rattle.tmpl_c.specs.Laws.{HoldsWhole, KeepsAsBefore, KeepsLimit, KeepsOffered, Prints, RefusesName};
 ghost use Rattle.tmpl_c.specs.Laws.{RendersAsKept, ReplacesAsOffered, Runs, StopsAtData, StopsAtFile, StopsAtTemplate};
-ghost use Rattle.tmpl_c.specs.Laws.{TextHasStatus, TextHoldsFront, TextHoldsWhole};
+ghost use Rattle.tmpl_c.specs.Laws.{TextHasStatus, TextHoldsPrefix, TextHoldsWhole};
 
 use crate::gathered::Gathered;
 use crate::shared_data::SharedData;
@@ -40,23 +40,23 @@ pub fn kept()
 {}
 
 /// The laws of what a caller sees of a render: with status 0 the memory holds the whole text, and with any status a
-/// beginning of it. Settings of all zeros are the options of a command that names none. Under a limit the text is the
+/// prefix of it. Settings of all zeros are the options of a command that names none. Under a limit the text is the
 /// bytes up to it.
 #[tactic(auto, using(crate::proofs::SeenLemmas::seen))]
 pub fn seen_by_caller()
     ensures whole { HoldsWhole }
-    ensures front { HoldsFront }
+    ensures prefix { HoldsPrefix }
     ensures defaults { HasDefaults }
     ensures limit { KeepsLimit }
 {}
 
 /// The laws of what a caller sees of a text and of a handle that is made or shared: with status 0 the text is the whole
-/// text, and with any status a beginning of it; without a limit no status says that it does not fit. With status 0 the
+/// text, and with any status a prefix of it; without a limit no status says that it does not fit. With status 0 the
 /// handle has what was offered, and else what it had.
 #[tactic(auto, using(crate::proofs::SeenLemmas::texts))]
 pub fn text_seen_by_caller()
     ensures whole { TextHoldsWhole }
-    ensures front { TextHoldsFront }
+    ensures prefix { TextHoldsPrefix }
     ensures status { TextHasStatus }
     ensures replaces { ReplacesAsOffered }
 {}

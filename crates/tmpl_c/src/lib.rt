@@ -1,5 +1,5 @@
-//! The engine for C: one call over memory that the caller lends, and calls for sets, programs, data and texts that the
-//! caller keeps.
+//! The engine for C: one call over buffers that the caller provides, and calls for sets, programs, data and texts that
+//! the caller keeps.
 #![tactic(auto)]
 
 ghost use Rattle.std.specs.Prelude.{◌≡◌, [], None, codes, eqb, false};
@@ -7,7 +7,7 @@ ghost use Rattle.tmpl_tool.specs.Tool.{IsParse, Parse, printed, stop_answer};
 ghost use Rattle.tmpl_c.specs.Checked.{Checks};
 ghost use Rattle.tmpl_c.specs.Filled.{Rendered, limit_text, room, buffer_seen};
 ghost use Rattle.tmpl_c.specs.Held.{Keeps, Replaces, held_answer, templates_in, templates_run, value_in};
-ghost use Rattle.tmpl_c.specs.Lent.{data_lent, pair_of, pairs_of, render_answer, rules_in, with_lent};
+ghost use Rattle.tmpl_c.specs.Passed.{data_passed, pair_of, pairs_of, render_answer, rules_in, with_passed};
 ghost use Rattle.tmpl_c.specs.Question.{Answers};
 ghost use Rattle.tmpl_c.specs.Texts.{Holds, bytes_in};
 
@@ -20,9 +20,9 @@ mod held;
 mod keep;
 mod keys;
 mod laws;
-mod lent;
 mod load;
 mod loose;
+mod passed;
 mod program_handle;
 mod question;
 mod render;
@@ -38,7 +38,7 @@ pub use data_handle::DataHandle;
 pub use gathered::Gathered;
 pub use keys::Keys;
 pub use laws::{as_command, crosses_threads, kept, seen_by_caller, stages, text_seen_by_caller};
-pub use lent::{File, Name, Question};
+pub use passed::{File, Name, Question};
 pub use program_handle::ProgramHandle;
 pub use set_handle::SetHandle;
 pub use settings::Settings;
@@ -52,7 +52,7 @@ pub use text_handle::TextHandle;
 /// The text goes to `out`, and where not all went well one line to `err`; of each as much as there is room for. Both
 /// buffers say how much they hold, and how many bytes there are in all. The status is that of the command: 0 done, 1 a
 /// fault of the run, 2 a file's name is not UTF-8, 4 a file is refused or no template has the name, 5 the data is
-/// refused, 6 the text has more bytes than there is room for or than the settings allow, 7 memory was refused.
+/// refused, 6 the text has more bytes than there is room for or than the settings allow, 7 memory ran out.
 ///
 /// C calls it as `tmpl_render`, with no keys, as it does the other calls that take keys.
 #[unsafe(no_mangle)]
@@ -69,7 +69,7 @@ pub extern "C" fn keyed_render(
     ensures outcome { (parse : Parse) → IsParse parse → Rendered (limit_text settings.now.output
         (render_answer parse (rules_in settings.now) (eqb settings.now.print 1) (pairs_of files.now) name.now input.now))
         (room out.old) (buffer_seen out.new) (room err.old) (buffer_seen err.new) result }
-    ensures lent { (out.new.bytes.ghost_name ≡ out.old.bytes.ghost_name)
+    ensures borrows { (out.new.bytes.ghost_name ≡ out.old.bytes.ghost_name)
         × (err.new.bytes.ghost_name ≡ err.old.bytes.ghost_name) }
 {
     let told = render::fill(
@@ -89,9 +89,9 @@ pub extern "C" fn keyed_render(
     told.status
 }
 
-/// Says all that is wrong in files, added one after the other, in a text that the library owns: a line for each mistake,
-/// as compilers write it. A file that is refused adds nothing. The status is 0 where nothing is wrong, 4 where a file is
-/// refused, 2 where the name of one is not UTF-8, and 7 where memory was refused; but for 4 nothing is said.
+/// Says all that is wrong in files, added one after the other, in a text that the library owns: a line for each
+/// mistake, as compilers write it. A file that is refused adds nothing. The status is 0 where nothing is wrong, 4 where
+/// a file is refused, 2 where the name of one is not UTF-8, and 7 where memory ran out; but for 4 nothing is said.
 #[unsafe(no_mangle)]
 pub extern "C" fn keyed_check(alloc: Global, keys: &Keys, files: &[File<'_>], text: &mut Text) -> u8
     ensures { (parse : Parse) → IsParse parse → Checks parse (pairs_of files.now) (bytes_in text.new.held) result }
@@ -126,9 +126,9 @@ pub extern "C" fn keyed_set_add(
     file: &File<'_>,
     err: &mut Buffer<'_>,
 ) -> u8
-    ensures outcome { (parse : Parse) → IsParse parse → Keeps (with_lent parse (templates_in set.old.held) (pair_of file.now))
+    ensures outcome { (parse : Parse) → IsParse parse → Keeps (with_passed parse (templates_in set.old.held) (pair_of file.now))
         (templates_in set.old.held) (templates_in set.new.held) (room err.old) (buffer_seen err.new) result }
-    ensures lent { err.new.bytes.ghost_name ≡ err.old.bytes.ghost_name }
+    ensures borrows { err.new.bytes.ghost_name ≡ err.old.bytes.ghost_name }
 {
     let said = keep::add(alloc, keys.hash(), set, file, err.bytes);
     err.taken = said.line.taken;
@@ -153,9 +153,9 @@ pub extern "C" fn tmpl_data_read(
     input: &[u8],
     err: &mut Buffer<'_>,
 ) -> u8
-    ensures outcome { Keeps (data_lent (codes "data") input.now) (value_in kept.old.held) (value_in kept.new.held)
+    ensures outcome { Keeps (data_passed (codes "data") input.now) (value_in kept.old.held) (value_in kept.new.held)
         (room err.old) (buffer_seen err.new) result }
-    ensures lent { err.new.bytes.ghost_name ≡ err.old.bytes.ghost_name }
+    ensures borrows { err.new.bytes.ghost_name ≡ err.old.bytes.ghost_name }
 {
     let said = keep::read(alloc, kept, input, err.bytes);
     err.taken = said.line.taken;
@@ -197,7 +197,7 @@ pub extern "C" fn tmpl_render_set(
         (held_answer (rules_in settings.now) (eqb settings.now.print 1) (templates_in set.old.held) name.now
         (value_in kept.old.held)))
         (room out.old) (buffer_seen out.new) (room err.old) (buffer_seen err.new) result }
-    ensures lent { (out.new.bytes.ghost_name ≡ out.old.bytes.ghost_name)
+    ensures borrows { (out.new.bytes.ghost_name ≡ out.old.bytes.ghost_name)
         × (err.new.bytes.ghost_name ≡ err.old.bytes.ghost_name) }
     ensures set { set.new.held ≡ set.old.held }
     ensures kept { kept.new.held ≡ kept.old.held }
@@ -210,8 +210,8 @@ pub extern "C" fn tmpl_render_set(
     came.status
 }
 
-/// Prints a set into a text that the library owns. The status is 0, or 7 where memory was refused: then the text is a
-/// beginning of it.
+/// Prints a set into a text that the library owns. The status is 0, or 7 where memory ran out: then the text is a
+/// prefix of it.
 #[unsafe(no_mangle)]
 pub extern "C" fn tmpl_set_print(alloc: Global, set: &mut SetHandle, text: &mut Text) -> u8
     ensures outcome { Holds (stop_answer (printed (templates_in set.old.held))) (bytes_in text.new.held) [] result }
@@ -273,7 +273,7 @@ pub extern "C" fn tmpl_render_program(
     ensures outcome { Rendered (limit_text settings.now.output
         (held_answer (rules_in settings.now) false (templates_run program.old.held) name.now (value_in kept.old.held)))
         (room out.old) (buffer_seen out.new) (room err.old) (buffer_seen err.new) result }
-    ensures lent { (out.new.bytes.ghost_name ≡ out.old.bytes.ghost_name)
+    ensures borrows { (out.new.bytes.ghost_name ≡ out.old.bytes.ghost_name)
         × (err.new.bytes.ghost_name ≡ err.old.bytes.ghost_name) }
     ensures program { program.new.held ≡ program.old.held }
     ensures kept { kept.new.held ≡ kept.old.held }

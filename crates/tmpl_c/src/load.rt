@@ -6,12 +6,12 @@ ghost use Rattle.tmpl_meaning.specs.Sink.{sunk};
 ghost use Rattle.tmpl_engine.specs.View.{templates_of};
 ghost use Rattle.tmpl_tool.specs.Inputs.{said_of};
 ghost use Rattle.tmpl_tool.specs.Outcome.{Says};
-ghost use Rattle.tmpl_c.specs.Lent.{data_lent, each_added, pair_of, pairs_of, with_lent};
+ghost use Rattle.tmpl_c.specs.Passed.{data_passed, each_added, pair_of, pairs_of, with_passed};
 ghost use Rattle.tmpl_c.specs.computed.Gathering.{told_of};
 ghost use Rattle.tmpl_c.specs.computed.Load.{ComesTo, halt_seen};
 
 use crate::gathered::Gathered;
-use crate::lent::File;
+use crate::passed::File;
 use std::alloc::Global;
 use std::str;
 use tmpl_engine::Engine;
@@ -36,7 +36,7 @@ pub(crate) fn add_file<'a>(
     engine: &mut Engine,
     file: &'a File<'a>,
 ) -> Result<(), Halt<'a>>
-    ensures comes { ComesTo (λ u. templates_of engine.new) (with_lent parsed (templates_of engine.old) (pair_of file.entry.now))
+    ensures comes { ComesTo (λ u. templates_of engine.new) (with_passed parsed (templates_of engine.old) (pair_of file.entry.now))
         result }
     ensures kept { IfErr result (λ h. templates_of engine.new ≡ templates_of engine.old) }
 {
@@ -65,7 +65,7 @@ pub(crate) fn add_files<'a>(
 
 /// The data, or none where there are no bytes.
 pub(crate) fn read_data(alloc: Global, input: &[u8]) -> Result<Option<Data>, Halt<'static>>
-    ensures { ComesTo (option_map value_of) (data_lent (codes "data") input.now) result }
+    ensures { ComesTo (option_map value_of) (data_passed (codes "data") input.now) result }
 {
     if input.is_empty() {
         return Ok(None);

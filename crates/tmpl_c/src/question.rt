@@ -1,13 +1,13 @@
 //! A check of templates over all data of a JSON Schema.
 ghost use Rattle.std.specs.Prelude.{◌≡◌, ◌⊎◌, [], IfOk, map, option_map};
 ghost use Rattle.tmpl_syntax.specs.Parse.{base_name};
-ghost use Rattle.tmpl_c.specs.Lent.{pair_of, pairs_of};
+ghost use Rattle.tmpl_c.specs.Passed.{pair_of, pairs_of};
 ghost use Rattle.tmpl_c.specs.Question.{Answers, Reports, first_name, format_asked, mode_asked, stops_asked};
 ghost use Rattle.tmpl_c.specs.Texts.{bytes_in};
 ghost use Rattle.tmpl_c.specs.computed.Question.{AreGiven, IsAsked, name_named, pair_in};
 
 use crate::gathered::Gathered;
-use crate::lent::{File, Name, Question};
+use crate::passed::{File, Name, Question};
 use crate::text::Text;
 use std::alloc::{AllocError, Global};
 use std::str::from_utf8;

@@ -1,4 +1,4 @@
-//! A render into lent memory.
+//! A render into the caller's buffers.
 ghost use Rattle.std.specs.Prelude.{◌≡◌, ◌≢◌, ◌⊎◌, ◌<◌, ◌^◌, ◌-◌, ◌||◌, List, [], eqb, false, leb, length, option_map};
 ghost use Rattle.tmpl_values.specs.View.{value_of};
 ghost use Rattle.tmpl_syntax.specs.Set.{Template};
@@ -8,14 +8,14 @@ ghost use Rattle.tmpl_engine.specs.View.{templates_of};
 ghost use Rattle.tmpl_tool.specs.Outcome.{Answer, Outcome, memory_line, write_line};
 ghost use Rattle.tmpl_tool.specs.Tool.{IsParse, Parse, answer_of, named_run};
 ghost use Rattle.tmpl_c.specs.Filled.{Fills, limit_text};
-ghost use Rattle.tmpl_c.specs.Lent.{pairs_of, render_answer, rules_in};
+ghost use Rattle.tmpl_c.specs.Passed.{pairs_of, render_answer, rules_in};
 ghost use Rattle.tmpl_c.specs.Texts.{Holds};
 ghost use Rattle.tmpl_c.specs.computed.Extents.{IsFilled, answer_by, extent_seen};
 ghost use Rattle.tmpl_c.specs.computed.Gathering.{told_of, nothing_put};
 
 use crate::gathered::Gathered;
-use crate::lent::File;
 use crate::load::{add_files, read_data, tell};
+use crate::passed::File;
 use crate::settings::{Settings, options_in};
 use std::alloc::Global;
 use tmpl_engine::{Engine, NameHash, RenderError, Renderer};
@@ -28,10 +28,10 @@ pub(crate) const PIECE_SIZE: usize = 256;
 /// The line where the text does not fit.
 static FULL: &[u8] = b"tmpl: write failed\n";
 
-/// The line where memory was refused, which is there when none can be had.
+/// The line where memory ran out, which is there when none can be had.
 static REFUSED: &[u8] = b"tmpl: out of memory\n";
 
-/// How much output lent memory holds, and how much there is.
+/// How much output a buffer holds, and how much there is.
 #[derive(Clone, Copy, Debug)]
 pub(crate) struct Extent {
     pub(crate) taken: usize,
@@ -103,7 +103,7 @@ fn run_prepared(
     render_prepared(alloc, &options, prepared, name, data, piece, out, err).code
 }
 
-/// Whether memory was refused, by the status or by a sink.
+/// Whether memory ran out, by the status or by a sink.
 pub(crate) fn is_refused(code: u8, text: &Gathered, line: &Gathered) -> bool
     ensures { result ≡ false → (code ≢ 7) × (text.now.failures ≡ 0) × (line.now.failures ≡ 0) }
 {
@@ -128,8 +128,8 @@ fn say_limit(line: &mut Gathered) -> u8
     }
 }
 
-/// The status of a render whose text and line are gathered, and which may put out this many bytes: a text that is longer
-/// is cut. There is no line where memory was refused.
+/// The status of a render whose text and line are gathered, and which may write this many bytes: a text that is longer
+/// is cut. There is no line where memory ran out.
 pub(crate) fn settle(limit: usize, code: u8, text: &mut Gathered, line: &mut Gathered) -> u8
     ensures { (a : Answer) → Outcome a (sunk nothing_put (told_of text.old)) (sunk nothing_put (told_of line.old)) code
         → Holds (limit_text limit a) text.new.bytes.items line.new.bytes.items result }
@@ -157,21 +157,21 @@ pub(crate) fn copy_to(memory: &mut [u8], bytes: &[u8]) -> Extent
     }
 }
 
-/// Says in lent memory that a text does not fit.
+/// Says in the caller's buffers that a text does not fit.
 fn say_full(err: &mut [u8]) -> Extent
     ensures { Fills write_line (length err.old) (extent_seen err.new result) }
 {
     copy_to(err, FULL)
 }
 
-/// Says in lent memory that memory was refused.
+/// Says in the caller's buffers that memory ran out.
 pub(crate) fn say_refused(err: &mut [u8]) -> Extent
     ensures { Fills memory_line (length err.old) (extent_seen err.new result) }
 {
     copy_to(err, REFUSED)
 }
 
-/// Copies a text and a line to lent memory, and says why the text is not all there.
+/// Copies a text and a line to the caller's buffers, and says why the text is not all there.
 fn hand_over(code: u8, text: &[u8], line: &[u8], out: &mut [u8], err: &mut [u8]) -> Filled
     ensures { (a : Answer) → Holds a text.now line.now code → IsFilled a out.old out.new err.old err.new result }
 {
@@ -198,7 +198,8 @@ fn hand_over(code: u8, text: &[u8], line: &[u8], out: &mut [u8], err: &mut [u8])
     }
 }
 
-/// Copies what was gathered to lent memory, of the text this many bytes at most, and says why it is not all there.
+/// Copies what was gathered to the caller's buffers, of the text this many bytes at most, and says why it is not all
+/// there.
 pub(crate) fn finish(
     limit: usize,
     code: u8,
@@ -220,7 +221,7 @@ pub(crate) fn finish(
     )
 }
 
-/// Renders into lent memory, and says why the text is not all there.
+/// Renders into the caller's buffers, and says why the text is not all there.
 pub(crate) fn fill(
     alloc: Global,
     hash: NameHash,
@@ -267,7 +268,7 @@ fn render_held(
     run_prepared(alloc, settings, prepared, name, data, out, err)
 }
 
-/// Renders what is kept into lent memory, and says why the text is not all there.
+/// Renders what is kept into the caller's buffers, and says why the text is not all there.
 pub(crate) fn fill_held(
     alloc: Global,
     settings: &Settings,

@@ -1,7 +1,7 @@
 //! How a template is to be run.
 ghost use Rattle.std.specs.Prelude.{◌≡◌, ◌≤◌};
 ghost use Rattle.tmpl_meaning.specs.View.{rules_of};
-ghost use Rattle.tmpl_c.specs.Lent.{limit, mode_numbered, rules_in};
+ghost use Rattle.tmpl_c.specs.Passed.{limit, mode_numbered, rules_in};
 
 use tmpl_engine::{MissingKey, Options};
 use tmpl_tool::{DEFAULT_DEPTH, DEFAULT_STEPS, MOST_DEPTH, MOST_STEPS};
@@ -18,7 +18,7 @@ pub struct Settings {
     pub missing_key: u8,
     /// 1 to print the set, and run nothing.
     pub print: u8,
-    /// How many bytes of text are put out at most; 0 for as many as there are.
+    /// How many bytes of text are written at most; 0 for as many as there are.
     pub output: usize,
 }
 

@@ -12,7 +12,7 @@ pub struct SharedData {
 }
 
 impl SharedData {
-    /// Data of a first handle. An error is want of memory.
+    /// Data of a first handle. An error means that memory ran out.
     pub(crate) fn new(alloc: Global, data: Data) -> Result<SharedData, AllocError>
         ensures { IfOk result (λ s. s.data.value ≡ «data») }
     {

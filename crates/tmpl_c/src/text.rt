@@ -72,8 +72,8 @@ impl Text {
         drop(mem::replace(self, Text::of(value)).into_box(alloc));
     }
 
-    /// Takes out its memory, with nothing in it, or new memory, for a text of this limit. There is none where memory is
-    /// refused.
+    /// Takes out its memory, with nothing in it, or new memory, for a text of this limit. There is none where memory
+    /// runs out.
     pub(crate) fn take_empty(&mut self, alloc: Global, limit: usize) -> Option<Box<Gathered>>
         ensures empty { IfSome result (λ b. told_of b.value ≡ nothing_put) }
         ensures left { bytes_in self.new.held ≡ [] }

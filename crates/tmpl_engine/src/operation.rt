@@ -88,7 +88,7 @@ impl<'m, 'a> Machine<'m, 'a> {
         names: Names<'a>,
     ) -> Result<Val<'a>, Halt<'a>>
         ensures found { IsFound missing_key (names_seen names.entry) (val_of self.now.dot) result }
-        ensures spared { is_made self.now.dot ≡ false → SparedOr result (Unit {0}) }
+        ensures no_spurious_oom { is_made self.now.dot ≡ false → SparedOr result (Unit {0}) }
         ensures borrowed { is_made self.now.dot ≡ false → IsBorrowed result }
     {
         Ok(match names.spans {

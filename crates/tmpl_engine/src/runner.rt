@@ -176,7 +176,7 @@ pub fn run<'a, S: Sink>(
     ensures runs { let ts = set_view program.now.set.value in IfSome (slice_get ts entry.number) (λ t.
         IsRun (ran (rules_of options.now) ts t.0 t.1 (option_map (λ d. value_of d.now) «data».entry))
         (sunk (S.so_far out.old) (S.so_far out.new)) result) }
-    ensures spared { set_makes_text (set_view program.now.set.value) ≡ false → result ≢ Err RunError.OutOfMemory }
+    ensures no_spurious_oom { set_makes_text (set_view program.now.set.value) ≡ false → result ≢ Err RunError.OutOfMemory }
 {
     let parts = program.parts();
     let mut machine = Machine::start(alloc, parts, entry, data, options, cells);

@@ -24,7 +24,7 @@ impl<W: Write + Drop> WriterSink<W> {
     /// A sink over the writer, with no failure yet, that does not tell what it took.
     pub fn new(writer: W) -> WriterSink<W>
         ensures holds { result.writer ≡ writer }
-        ensures unfailed { result.failures ≡ 0 }
+        ensures no_failures { result.failures ≡ 0 }
     {
         WriterSink {
             writer,
@@ -37,8 +37,8 @@ impl<W: Write + Drop> WriterSink<W> {
     pub fn over(writer: W) -> WriterSink<W>
         requires known { is_some (W.contents writer) ≡ true }
         ensures holds { result.writer ≡ writer }
-        ensures tells { result.tells ≡ true }
-        ensures unfailed { result.failures ≡ 0 }
+        ensures states_contents { result.tells ≡ true }
+        ensures no_failures { result.failures ≡ 0 }
     {
         WriterSink {
             writer,
@@ -50,7 +50,7 @@ impl<W: Write + Drop> WriterSink<W> {
     /// Flushes the writer.
     pub fn flush(&mut self) -> Result<(), SinkFault>
         ensures bytes { Keeps (W.contents self.old.writer) (W.contents self.new.writer) }
-        ensures tells { self.new.tells ≡ self.old.tells }
+        ensures states_contents { self.new.tells ≡ self.old.tells }
         ensures failures { self.new.failures ≡ self.old.failures }
     {
         match self.writer.flush() {

@@ -251,7 +251,7 @@ fn pass_text(
 ) -> Result<Place, AllocError>
     requires place { IsPlace file.now place }
     requires stands { StandsAt file.now start text.now }
-    ensures told { OnOk result (AddsSign file.now start (sign.first_sign text.now)
+    ensures adds_warning { OnOk result (AddsSign file.now start (sign.first_sign text.now)
         warnings.old.items warnings.new.items) }
     ensures place { IfOk result (λ p. IsPlace file.now p) }
 {

@@ -1,4 +1,4 @@
--- Which reasons are told of which doubts.
+-- Which reasons are given for which alarms.
 use Rattle.std.specs.Prelude.{◌≡◌, ℕ, List, Option, Some, None, IfSome}
 use Rattle.tmpl_shape.specs.declared.cause.Cause.{Cause}
 use Rattle.tmpl_shape.specs.declared.cause.Cause.TheVariants as cause
@@ -12,7 +12,7 @@ use Rattle.tmpl_reasons.specs.Position.{IsLine}
 pub data Gap : Type 0 where
   absence kind few : Gap
 
--- what a cause speaks of; none of which no reason is told
+-- what a cause speaks of; none where there is no reason to give
 abbrev pub gap_of : Cause → Option Gap
 gap_of (cause.Absent name) = Some absence
 gap_of (cause.NoFields name word) = Some kind
@@ -35,6 +35,6 @@ pub record IsReason (bytes : List ℕ) (gap : Option Gap) (reason : Reason) : Ty
   pub why : Some (gap_by reason.why) ≡ gap
   pub line : IsLine bytes reason.line
 
--- what is told of a doubt, a reason or none
+-- what is found for an alarm, a reason or none
 abbrev pub IsTold : List ℕ → Doubt → Option Reason → Type 0
 IsTold bytes doubt told = IfSome told (IsReason bytes (gap_of doubt.cause))

@@ -1,4 +1,4 @@
-//! Where in a JSON Schema the reason for a doubt about a template stands, and where the parts of a JSON text stand.
+//! Where in a JSON Schema the reason for an alarm about a template stands, and where the parts of a JSON text stand.
 #![tactic(auto)]
 
 mod origin;

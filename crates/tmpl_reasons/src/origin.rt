@@ -16,7 +16,7 @@ const MOST_PLACES: usize = 64;
 /// How many references and alternatives are followed, one into the other.
 const LEVELS: usize = 50;
 
-/// Why it is not told where values come from.
+/// Why the provenance of values is not known.
 #[derive(Clone, Copy)]
 pub(crate) enum Lost {
     OutOfMemory,
@@ -182,7 +182,7 @@ impl<'d> Document<'d> {
         Ok(())
     }
 
-    /// The places that those of an origin stand for.
+    /// The places that those of a provenance stand for.
     pub(crate) fn plain(&self, origin: &Origin) -> Result<Origin, Lost> {
         let mut plain = Origin::new(self.alloc);
         plain.is_there = origin.is_there;

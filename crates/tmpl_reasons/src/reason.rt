@@ -39,8 +39,9 @@ pub struct Reason {
     pub line: u64,
 }
 
-/// For each doubt why what it speaks of may come, in a run of the template of this name over data of the document of
-/// these bytes, where one place of that alone lets it through; else none. The doubts are those that `check_document` gives.
+/// For each alarm why what it speaks of may come, in a run of the template of this name over data of the document of
+/// these bytes, where one place of that alone lets it through; else none. The alarms are those that `check_document`
+/// gives.
 pub fn reasons_of(
     alloc: Global,
     set: &Set,
@@ -61,7 +62,7 @@ pub fn reasons_of(
     Ok(reasons)
 }
 
-/// Why what the doubt speaks of may come, where it is told where that comes from.
+/// Why what the alarm speaks of may come, where its provenance is known.
 fn reason_for(
     document: Document<'_>,
     asked: Option<&Asked>,
@@ -146,7 +147,7 @@ fn why_absent(document: Document<'_>, place: &str, name: &str) -> Result<Option<
 }
 
 /// Whether a schema without alternatives and with these kinds lets values of the kind of this word through; none where
-/// that is not told.
+/// that is not known.
 fn lets_kind(schema: &Value, kinds: Kinds, word: &str) -> Option<bool> {
     match word {
         "any value" => Some(lets_all(schema, kinds)),

@@ -13,20 +13,20 @@ use tmpl_values::Bytes;
 /// How deep controls and parentheses nest that are looked into: more than a file may have.
 const LEVELS: usize = 1_000;
 
-/// How often templates are gone over, until what is handed to them settles.
+/// How often templates are visited, until what is passed to them reaches a fixpoint.
 const MOST_ROUNDS: usize = 12;
 
 /// The name by which dot is kept among the variables: none has it.
 const DOT: &[u8] = b".";
 
-/// A template, or a variable, and where its value comes from: none where that is not told.
+/// A template, or a variable, and where its value comes from: none where that is not known.
 #[derive(Drop)]
 pub(crate) struct Source<'w> {
     pub(crate) name: &'w [u8],
     pub(crate) origin: Option<Origin>,
 }
 
-/// Where the values come from of which a doubt speaks: none where that is not told.
+/// Where the values come from of which an alarm speaks: none where that is not known.
 #[derive(Drop)]
 pub(crate) struct Asked {
     pub(crate) origin: Option<Origin>,
@@ -38,13 +38,13 @@ struct Walk<'w> {
     document: Document<'w>,
     name: &'w [u8],
     doubts: &'w [Doubt],
-    /// For each doubt what is found.
+    /// For each alarm what is found.
     asked: Vec<Asked>,
     /// What is handed to templates that are called.
     handed: Vec<Source<'w>>,
     /// The variables in scope, and dot, the innermost last.
     scope: Vec<Source<'w>>,
-    /// The names of variables that are assigned: nothing is told of them.
+    /// The names of variables that are assigned: nothing is known of them.
     assigned: Vec<&'w [u8]>,
 }
 
@@ -59,7 +59,7 @@ fn copy_known(
     }
 }
 
-/// What is told, or none; an error is want of memory.
+/// What is found, or none; an error means that memory ran out.
 fn if_told(found: Result<Origin, Lost>) -> Result<Option<Origin>, AllocError> {
     match found {
         Ok(origin) => Ok(Some(origin)),
@@ -227,7 +227,7 @@ impl<'w> Walk<'w> {
         }
     }
 
-    /// Notes where a value comes from of which the doubt of this index speaks.
+    /// Notes where a value comes from of which the alarm of this index speaks.
     fn ask(&mut self, index: usize, found: Result<Origin, Lost>) -> Result<(), AllocError> {
         let found = if_told(found)?;
         if let Some(asked) = self.asked.get_mut(index) {
@@ -236,7 +236,7 @@ impl<'w> Walk<'w> {
         Ok(())
     }
 
-    /// Looks for what a doubt speaks of among the fields of a value.
+    /// Looks for what an alarm speaks of among the fields of a value.
     fn look_at(
         &mut self,
         index: usize,
@@ -307,7 +307,7 @@ impl<'w> Walk<'w> {
         }
     }
 
-    /// Looks for what a doubt speaks of in commands.
+    /// Looks for what an alarm speaks of in commands.
     #[cycle(look)]
     fn look_into(
         &mut self,
@@ -330,7 +330,7 @@ impl<'w> Walk<'w> {
         Ok(())
     }
 
-    /// Looks for what a doubt speaks of in an operand.
+    /// Looks for what an alarm speaks of in an operand.
     #[cycle(look)]
     fn look_operand(
         &mut self,
@@ -351,7 +351,7 @@ impl<'w> Walk<'w> {
         self.look_at(index, wanted, start, fields.as_slice())
     }
 
-    /// Looks for what the doubts speak of in the pipeline of an action of this line, which may be that of a range.
+    /// Looks for what the alarms speak of in the pipeline of an action of this line, which may be that of a range.
     fn look(&mut self, line: u64, commands: &[Command], is_range: bool) -> Result<(), AllocError> {
         let doubts = self.doubts;
         for (index, doubt) in doubts.iter().enumerate() {
@@ -391,7 +391,7 @@ impl<'w> Walk<'w> {
         }
     }
 
-    /// Goes over nodes, and forgets the variables that they declare.
+    /// Visits nodes, and forgets the variables that they declare.
     #[cycle(nodes)]
     fn nodes(&mut self, levels: usize, nodes: &'w [Node]) -> Result<(), AllocError> {
         if levels == 0 {
@@ -406,7 +406,7 @@ impl<'w> Walk<'w> {
         Ok(())
     }
 
-    /// Goes over a node.
+    /// Visits a node.
     #[cycle(nodes)]
     fn node(&mut self, levels: usize, node: &'w Node) -> Result<(), AllocError> {
         match &node.what {
@@ -444,7 +444,7 @@ impl<'w> Walk<'w> {
         if_told(self.pipeline(LEVELS, commands))
     }
 
-    /// Goes over a control.
+    /// Visits a control.
     #[cycle(nodes)]
     fn control(
         &mut self,
@@ -506,7 +506,7 @@ fn add_assigned<'w>(
     Ok(())
 }
 
-/// Goes over a template that is handed this. Gives what it hands to others.
+/// Visits a template that is passed this. Gives what it passes to others.
 fn walked<'w>(
     document: Document<'w>,
     doubts: &'w [Doubt],
@@ -548,7 +548,7 @@ fn hand<'w>(
     }
 }
 
-/// Goes over each template that is reached once. Gives whether more was found to be handed on.
+/// Visits each template that is reached once. Gives whether more was found to be passed.
 fn round<'w>(
     document: Document<'w>,
     set: &'w Set,
@@ -574,7 +574,7 @@ fn round<'w>(
     Ok(is_more)
 }
 
-/// For each doubt where the values come from of which it speaks, in a run of the template of this name.
+/// For each alarm where the values come from of which it speaks, in a run of the template of this name.
 pub(crate) fn asked_of<'w>(
     document: Document<'w>,
     set: &'w Set,

@@ -279,7 +279,7 @@ impl<'a> Findings<'a> {
         ensures accepted { IfOk result (λ accepted. accepted ≡ true
             → AreAccepted (set_view set.old) files.now (set_view set.new)) }
         ensures refused { IfOk result (λ accepted. accepted ≡ false → has_error self.new ≡ true) }
-        ensures told { OnOk result ((errors : List Finding)
+        ensures matches_spec { OnOk result ((errors : List Finding)
             × AreOfFiles (set_view set.old) files.now (set_view set.new) errors
             × (errors_in self.new ≡ errors_in self.old ++ errors)) }
     {
@@ -304,7 +304,7 @@ impl<'a> Findings<'a> {
         ensures accepted { IfOk result (λ accepted. accepted ≡ true
             → AreAccepted (set_view set.old) files.now (set_view set.new)) }
         ensures refused { IfOk result (λ accepted. accepted ≡ false → has_error self.new ≡ true) }
-        ensures told { OnOk result ((errors : List Finding)
+        ensures matches_spec { OnOk result ((errors : List Finding)
             × AreOfFiles (set_view set.old) files.now (set_view set.new) errors
             × (errors_in self.new ≡ errors_in self.old ++ errors)) }
     {
@@ -329,7 +329,7 @@ impl<'a> Findings<'a> {
         ensures accepted { IfOk result (λ accepted. accepted ≡ true
             → Parses (set_view set.old) file.now.name.now file.now.bytes.items (Ok (set_view set.new))) }
         ensures refused { IfOk result (λ accepted. accepted ≡ false → has_error self.new ≡ true) }
-        ensures told { OnOk result ((errors : List Finding)
+        ensures matches_spec { OnOk result ((errors : List Finding)
             × AreOfFile (set_view set.old) file.now (set_view set.new) errors × (self.new ≡ self.old ++ errors)) }
     {
         let problems = check_file(alloc, set, hash, file.name, file.bytes.as_slice())?;
@@ -360,7 +360,7 @@ impl<'a> Findings<'a> {
 
     /// Adds an error where none tells what is wrong. Each check tells one, but no clause of theirs says so.
     fn add_unseen(&mut self, alloc: Global, question: &Question<'a>) -> Result<(), AllocError>
-        ensures told { OnOk result (has_error self.new ≡ true) }
+        ensures has_error { OnOk result (has_error self.new ≡ true) }
         ensures kept { OnOk result (has_error self.old ≡ true → self.new ≡ self.old) }
     {
         if self.has_errors() {
@@ -395,7 +395,7 @@ impl<'a> Findings<'a> {
             → (value : Value) × (data_of «data».now.bytes.items ≡ Ok value)) }
         ensures refused { IfOk result (λ accepted. accepted ≡ false
             → (flaw : Flaw) × (data_of «data».now.bytes.items ≡ Err flaw)) }
-        ensures told { IfOk result (λ accepted. has_error self.new
+        ensures error_reported { IfOk result (λ accepted. has_error self.new
             ≡ (if accepted then has_error self.old else true)) }
     {
         let DataReport {
@@ -542,7 +542,7 @@ pub fn findings_of<'a>(
     sources: &Sources<'a>,
 ) -> Result<Findings<'a>, AllocError>
     ensures safe { IfOk result (λ found. has_error found ≡ false → IsSafe question.now sources.now) }
-    ensures told { IfOk result (λ found. AreAlone sources.now
+    ensures matches_spec { IfOk result (λ found. AreAlone sources.now
         → (set : List Template) × AreOfFiles [] sources.now.templates.items set (errors_in found)) }
 {
     let mut findings = Findings::new(alloc);
@@ -561,7 +561,7 @@ fn add_all<'a>(
     sources: &Sources<'a>,
 ) -> Result<bool, AllocError>
     ensures safe { IfOk result (λ safe. safe ≡ true → IsSafe question.now sources.now) }
-    ensures told { IfOk result (λ safe. AreAlone sources.now
+    ensures matches_spec { IfOk result (λ safe. AreAlone sources.now
         → (safe ≡ false → has_error findings.new ≡ true)
         × ((set : List Template) × (errors : List Finding) × AreOfFiles [] sources.now.templates.items set errors
         × (errors_in findings.new ≡ errors_in findings.old ++ errors))) }

@@ -27,10 +27,10 @@ use tmpl_values::Bytes;
 /// Why a template is not accepted.
 #[derive(Drop)]
 pub enum Refusal {
-    /// Want of memory.
+    /// Out of memory.
     OutOfMemory,
-    /// It may fail for a value of the schema, or it is not seen that it never does: at these places, of which at most 100
-    /// are told.
+    /// It may fail for a value of the schema, or it is not seen that it never does: at these places, of which at most
+    /// 100 are reported.
     MayFail(Vec<Doubt>),
 }
 
@@ -200,7 +200,7 @@ fn check_shape(base: &Base<'_>, question: &Question<'_>) -> Result<(), Refusal>
 ///
 /// # Errors
 ///
-/// `MayFail` where that is not seen, and `OutOfMemory` where memory is refused.
+/// `MayFail` where that is not seen, and `OutOfMemory` where memory runs out.
 pub fn check_schema(
     alloc: Global,
     set: &Set,

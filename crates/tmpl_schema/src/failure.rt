@@ -23,7 +23,7 @@ pub struct Doubt {
 /// Why nodes are not accepted.
 #[derive(Drop)]
 pub(crate) enum Failure {
-    /// Want of memory.
+    /// Out of memory.
     OutOfMemory,
     /// A fault may come, in the action of this line; 0 where it is that which is looked at.
     MayFail(Box<Cause>, u64),

@@ -105,7 +105,7 @@ pub(crate) fn variable_shape<'k>(name: &[u8], known: &'k Known) -> Option<&'k Sh
     }
 }
 
-/// The origin of the newest variable of a name.
+/// The provenance of the newest variable of a name.
 pub(crate) fn variable_origin<'k>(name: &[u8], known: &'k Known) -> Option<&'k [Bytes]>
     ensures { option_map (λ p. p.now) result ≡ variable_origin name.now (known_of known.now) }
 {
@@ -124,7 +124,7 @@ pub(crate) fn variable_origin<'k>(name: &[u8], known: &'k Known) -> Option<&'k [
     }
 }
 
-/// Where the newest variable of a name is assigned a value of this shape and origin.
+/// Where the newest variable of a name is assigned a value of this shape and provenance.
 fn assign(
     base: &Base<'_>,
     name: &[u8],
@@ -152,7 +152,7 @@ fn assign(
     }
 }
 
-/// Where variables take an element of this shape and origin, and its index or key.
+/// Where variables take an element of this shape and provenance, and its index or key.
 pub(crate) fn bind(
     base: &Base<'_>,
     binding: &Binding,
@@ -259,7 +259,7 @@ pub(crate) fn refine_variable(
     }
 }
 
-/// The values of an origin, where a chain from the data of the template is so.
+/// The values of a provenance, where a chain from the data of the template is so.
 pub(crate) fn refine_from(
     base: &Base<'_>,
     least: u64,

@@ -42,7 +42,7 @@ pub(crate) fn join_paths(
     Ok(names)
 }
 
-/// A copy of an origin.
+/// A copy of a provenance.
 pub(crate) fn copy_origin(
     alloc: Global,
     origin: &Option<Vec<Bytes>>,

@@ -63,7 +63,7 @@ pub(crate) fn at_start(base: &Base<'_>, shape: &Shape) -> Result<State, AllocErr
     })
 }
 
-/// The origin of the root of a place.
+/// The provenance of the root of a place.
 fn root_origin<'s>(state: &'s State, root: Option<&[u8]>) -> Option<&'s [Bytes]>
     ensures { option_map (λ p. p.now) result
         ≡ root_origin (state_of state.now) (option_map (λ name. name.now) root.entry) }
@@ -105,8 +105,8 @@ pub(crate) fn pipeline_origin(
     }
 }
 
-/// Where the value of a place of no known origin is neither nothing nor null, and has at least as many items if it is a
-/// list.
+/// Where the value of a place of no known provenance is neither nothing nor null, and has at least as many items if it
+/// is a list.
 fn narrow_root(
     base: &Base<'_>,
     least: u64,
@@ -131,7 +131,7 @@ fn narrow_root(
     }
 }
 
-/// Where what has this origin is so.
+/// Where what has this provenance is so.
 fn narrow_from(
     base: &Base<'_>,
     least: u64,
@@ -147,7 +147,7 @@ fn narrow_from(
     Ok(State { dot, origin, known })
 }
 
-/// Where the value of a place is so, and with it all that has its origin.
+/// Where the value of a place is so, and with it all that has its provenance.
 fn narrow_to(
     base: &Base<'_>,
     least: u64,

@@ -1,6 +1,6 @@
-//! The search for what is handed to templates that are called, and for each place at which a template may fail. It is in no
-//! contract: what it finds is checked once more, or is told in messages. Where an action may fail it is gone on as if the
-//! action gave no value at all, so that nothing more is said of it.
+//! The search for what is handed to templates that are called, and for each place at which a template may fail. It is
+//! in no contract: what it finds is checked once more, or is reported in messages. Where an action may fail the
+//! analysis continues as if the action gave no value at all, so that nothing more is reported of it.
 #![tactic(auto)]
 
 use crate::check::{Refusal, is_stop, mode_for};
@@ -22,11 +22,11 @@ use tmpl_shape::{
 use tmpl_syntax::{Control, ControlNode, Node, NodeKind, Set, Tree};
 use tmpl_values::Bytes;
 
-/// The most places that are told.
+/// The most places that are reported.
 const MOST_DOUBTS: usize = 100;
 
-/// The most times that templates are gone over, and how often each may be on the average: what is handed on settles in a few
-/// rounds, or is not followed.
+/// The most times that templates are visited, and how often each may be on the average: what is passed reaches a
+/// fixpoint in a few rounds, or is not followed.
 const MOST_VISITS: usize = 100_000;
 
 pub(crate) const MOST_ROUNDS: usize = 16;
@@ -51,11 +51,11 @@ struct Found {
     /// Whether it is given up, since no work is left.
     is_over: bool,
     doubts: Vec<Doubt>,
-    /// Calls for which the table has less than they hand over.
+    /// Calls for which the table has less than they pass.
     wanted: Vec<Call>,
 }
 
-/// The template that is gone over, by its name.
+/// The template that is visited, by its name.
 #[derive(Clone, Copy)]
 struct Walk<'w> {
     checker: &'w Checker<'w>,
@@ -105,7 +105,7 @@ impl Found {
         }
     }
 
-    /// Adds a doubt, if there is room for one more.
+    /// Adds an alarm, if there is room for one more.
     fn add_doubt(&mut self, walk: &Walk<'_>, cause: Cause, line: u64) -> Result<(), AllocError> {
         if self.doubts.len() < MOST_DOUBTS {
             let template = copy_name(walk.checker.base.alloc, walk.name)?;
@@ -119,7 +119,7 @@ impl Found {
     }
 }
 
-/// Goes over nodes, and gives what is known after them.
+/// Visits nodes, and gives what is known after them.
 #[cycle(survey)]
 #[tactic(auto, using(crate::proofs::NodeLemmas::lighter))]
 fn survey_nodes(
@@ -148,7 +148,7 @@ fn survey_nodes(
     Ok(state.known)
 }
 
-/// Goes over a node that has this trouble.
+/// Visits a node that has this trouble.
 #[cycle(survey)]
 fn survey_node(
     walk: &Walk<'_>,
@@ -179,7 +179,7 @@ fn survey_node(
     }
 }
 
-/// Goes over a control.
+/// Visits a control.
 #[cycle(survey)]
 fn survey_control(
     walk: &Walk<'_>,
@@ -205,7 +205,7 @@ fn survey_control(
     }
 }
 
-/// Goes over an `if` or a `with` whose value has the shape.
+/// Visits an `if` or a `with` whose value has the shape.
 #[cycle(survey)]
 fn survey_choice(
     walk: &Walk<'_>,
@@ -242,7 +242,7 @@ fn survey_end(
     }
 }
 
-/// Goes over a range over values of the shape.
+/// Visits a range over values of the shape.
 #[cycle(survey)]
 fn survey_range(
     walk: &Walk<'_>,
@@ -294,7 +294,7 @@ fn survey_range(
     survey_end(walk, state, &known, &other, line, found)
 }
 
-/// Whether a template is a copy loop over texts; of one that calls what is neither there nor a stop, that is told.
+/// Whether a template is a copy loop over texts; of one that calls what is neither there nor a stop, that is reported.
 fn survey_loop(
     walk: &Walk<'_>,
     shape: &Shape,
@@ -320,7 +320,7 @@ fn survey_loop(
     }
 }
 
-/// Goes over the template of a name, whose dot has the shape.
+/// Visits the template of a name, whose dot has the shape.
 fn survey_template(
     checker: &Checker<'_>,
     question: &Question<'_>,
@@ -422,7 +422,7 @@ fn callee_of(base: &Base<'_>, set: &Set, name: &[u8], shape: &Shape) -> Result<C
     Ok(Callee::Handed(copy_counted(base, shape)?))
 }
 
-/// Puts a template that is not in the table there. Gives the values for which it is yet to be gone over.
+/// Puts a template that is not in the table there. Gives the values for which it is yet to be visited.
 fn add_entry(
     base: &Base<'_>,
     set: &Set,
@@ -458,7 +458,7 @@ fn add_values(alloc: Global, held: &mut Shape, more: &Shape) -> Result<(), Alloc
     Ok(())
 }
 
-/// Puts a call into the table. Gives the values for which the template is yet to be gone over.
+/// Puts a call into the table. Gives the values for which the template is yet to be visited.
 fn grow(
     base: &Base<'_>,
     set: &Set,
@@ -480,7 +480,7 @@ fn grow(
     }
 }
 
-/// Has a template wait for values for which it is yet to be gone over, if there are any.
+/// Has a template wait for values for which it is yet to be visited, if there are any.
 fn put_waiting(
     alloc: Global,
     waiting: &mut Vec<Call>,
@@ -495,7 +495,7 @@ fn put_waiting(
     Ok(())
 }
 
-/// Puts calls into the table, and those templates that are yet to be gone over with them to those that wait.
+/// Puts calls into the table, and those templates that are yet to be visited with them to those that wait.
 fn grow_all(
     base: &Base<'_>,
     question: &Question<'_>,
@@ -513,7 +513,7 @@ fn grow_all(
     Ok(())
 }
 
-/// Goes over the template that is asked for, and over each of the table.
+/// Visits the template that is asked for, and each of the table.
 fn survey_all(
     base: &Base<'_>,
     question: &Question<'_>,
@@ -555,7 +555,7 @@ fn unknown_doubt(alloc: Global, name: &[u8]) -> Result<Vec<Doubt>, AllocError> {
 }
 
 /// The search for what is handed to templates that are called: the table of them, and calls of those that are yet to be
-/// gone over.
+/// visited.
 #[derive(Drop)]
 pub(crate) struct Search {
     pub(crate) table: Vec<Entry>,
@@ -565,7 +565,7 @@ pub(crate) struct Search {
 }
 
 impl Search {
-    /// Where the template that is asked for is yet to be gone over.
+    /// Where the template that is asked for is yet to be visited.
     pub(crate) fn new(base: &Base<'_>, question: &Question<'_>) -> Result<Search, AllocError> {
         let name = copy_name(base.alloc, question.name)?;
         let shape = copy_counted(base, question.shape)?;
@@ -578,7 +578,7 @@ impl Search {
         })
     }
 
-    /// Goes over the template of a call, and puts what it calls into the table.
+    /// Visits the template of a call, and puts what it calls into the table.
     fn visit(
         &mut self,
         checker: &Checker<'_>,
@@ -610,14 +610,15 @@ impl Search {
         grow_all(base, question, &mut self.table, wanted, &mut self.waiting)
     }
 
-    /// Goes over templates that wait, each for the values alone that are new to it, and over those that they call. Gives
-    /// whether none is left: what a template is handed settles in a few rounds for each definition, or is not followed.
+    /// Visits templates that wait, each for the values alone that are new to it, and those that they call. Gives
+    /// whether none is left: what a template is passed reaches a fixpoint in a few rounds for each definition, or is
+    /// not followed.
     pub(crate) fn spread(
         &mut self,
         base: &Base<'_>,
         question: &Question<'_>,
     ) -> Result<bool, AllocError> {
-        // by no table each call is one for which the table has less than it hands over
+        // by no table each call is one for which the table has less than it passes
         let checker = Checker {
             base: *base,
             mode: mode_for(question.asked),

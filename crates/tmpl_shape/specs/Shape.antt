@@ -94,7 +94,7 @@ stands_in defs (suc n) x v = IsOf (defs x) (λ s. HasShape (stands_in defs n) s 
 abbrev pub stands_for : Defs → Names
 stands_for defs x v = (n : ℕ) × stands_in defs n x v
 
--- what is said of a value: its shape, in which names stand for these
+-- what is known of a value: its shape, in which names stand for these
 pub record Schema : Type 0 where
   pub defs : Defs
   pub shape : Shape

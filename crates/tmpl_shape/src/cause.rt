@@ -35,7 +35,7 @@ pub enum Cause {
 /// Why no shape is given.
 #[derive(Drop)]
 pub enum Trouble {
-    /// Want of memory.
+    /// Out of memory.
     OutOfMemory,
     /// A fault may come, for this cause. It lies on the heap, so that what is handed back from each step takes little of
     /// the stack.

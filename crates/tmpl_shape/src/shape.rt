@@ -25,7 +25,7 @@ pub enum Shape {
     Nulls,
     /// `true` and `false`.
     Truths,
-    /// Whole numbers.
+    /// Integers.
     Numbers,
     /// Texts.
     Texts,
@@ -100,8 +100,8 @@ pub struct Definition {
     pub shape: Shape,
 }
 
-/// What is said of a value: its shape, in which names stand for the shapes of these definitions. The first definition of
-/// a name counts.
+/// What is known of a value: its shape, in which names stand for the shapes of these definitions. The first definition
+/// of a name counts.
 #[derive(Drop)]
 pub struct Schema {
     pub definitions: Vec<Definition>,

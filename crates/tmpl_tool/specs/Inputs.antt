@@ -37,7 +37,7 @@ inputs_reads parse files w fails = file_reads parse files fails 0 [] w.files
 abbrev pub inputs_seen : Inputs → List Template × Option Value
 inputs_seen inputs = (set_view inputs.set, option_map value_of inputs.data)
 
--- the refusal of a template file; one for want of memory is none
+-- the refusal of a template file; one for out of memory is none
 abbrev pub refusal_seen : ParseFault → Option Early
 refusal_seen f = option_map (λ why. refused f.file.now (f.line, why)) (reason_of f.kind)
 
@@ -49,7 +49,7 @@ stop_seen (stop.NotJson name) = Some (flawed name.now not_json)
 stop_seen (stop.NotWhole name) = Some (flawed name.now not_whole)
 stop_seen stop.OutOfMemory = None
 
--- what is said of a stop, or of want of memory
+-- the message of a stop, or of out of memory
 abbrev pub said_of : Option Early → Answer
 said_of None = record (only_line 7 []) { line = memory_line }
 said_of (Some s) = stop_answer s
@@ -64,13 +64,13 @@ StopsAt Made stage reads (Some (unread name)) =
     (k : ℕ) × (stage (nat_eq k) ≡ Err (unread name)) × Made (reads (nat_eq k))
 StopsAt Made stage reads (Some s) = (stage no_read ≡ Err s) × Made (reads no_read)
 
--- the answer is the result of a stage, or it is a stop of the stage, or memory was refused
+-- the answer is the result of a stage, or it is a stop of the stage, or memory ran out
 abbrev pub ComesOf : {T U : Type 0} → (List Bytes → Type 0) → (Failing → Result U Early) → (Failing → List Bytes)
     → (T → U) → Result T held.Stop → Type 0
 ComesOf Made stage reads seen (Ok t) = (stage no_read ≡ Ok (seen t)) × Made (reads no_read)
 ComesOf Made stage reads seen (Err s) = StopsAt Made stage reads (stop_seen s)
 
--- .. of the files that a source tells, which told before and tells after what it was asked for
+-- .. of the files that a source states, which stated before and states after what it was asked for
 abbrev pub ComesOfFiles : {T U : Type 0} → Option Files → Option (List Bytes) → Option (List Bytes)
     → (Files → Failing → Result U Early) → (Files → Failing → List Bytes) → (T → U) → Result T held.Stop → Type 0
 ComesOfFiles told before after stage reads seen r =

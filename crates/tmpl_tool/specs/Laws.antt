@@ -27,12 +27,12 @@ abbrev pub LiesAnywhere : Type 0
 LiesAnywhere = (modes : Modes) → HasModeNames modes → (words : List Text)
     → (fault_of (tool_app modes) words ≡ words_fault words) × (matches_of (tool_app modes) words ≡ words_rows words)
 
--- words that ask for help get the usage, with status 0
+-- arguments that ask for help get the usage, with exit status 0
 abbrev pub GivesHelp : Type 0
 GivesHelp = (parse : Parse) (words : List Bytes) (files : Files) (fails : Failing)
     → asks_help words ≡ true → tool_answer parse words files fails ≡ stop_answer help
 
--- all other words are taken, or get the line on arguments, with status 2
+-- all other arguments are taken, or get the line on arguments, with exit status 2
 abbrev pub RefusesWords : Type 0
 RefusesWords = (parse : Parse) (words : List Bytes) (files : Files) (fails : Failing)
     → asks_help words ≡ false → words_request words ≡ None → tool_answer parse words files fails ≡ stop_answer bad_words
@@ -55,7 +55,7 @@ StopsAtRead = (parse : Parse) (files : Files) (set : List Template) (name : Byte
 abbrev pub Load : Parse → List Bytes → Files → Failing → Wanted → List Template → Type 0
 Load parse words files fails w set = (asked_by words ≡ Ok w) × (load_each parse files fails 0 [] w.files ≡ Ok set)
 
--- then a set that is to be printed is put out, whatever the data, the name and the options of the run are
+-- then a set that is to be printed is written, whatever the data, the name and the options of the run are
 abbrev pub Prints : Type 0
 Prints = (parse : Parse) (words : List Bytes) (files : Files) (fails : Failing) (w : Wanted) (set : List Template)
     → Load parse words files fails w set → w.print ≡ true
@@ -92,13 +92,14 @@ Runs = (parse : Parse) (words : List Bytes) (files : Files) (fails : Failing) (w
     → (tree : Tree) → tree_named (asked_name w) set ≡ Some tree
     → tool_answer parse words files fails ≡ run_answer (ran w.rules set (asked_name w) tree input)
 
--- where the output fails, it took a beginning of the text, and the status is 6 with its line, whatever else went wrong
+-- where the output fails, it took a prefix of the text, and the exit status is 6 with its line, whatever else went
+-- wrong
 abbrev pub TellsFailedWrite : Type 0
 TellsFailedWrite = (a : Answer) (out err : Sunk) (code : ℕ) → Outcome a out err code
     → out.after.failures ≢ out.before.failures
     → (out.after.failures ≡ out.before.failures + 1) × Cut a.text out × (code ≡ 6) × Says write_line err
 
--- where the status is 7, memory was refused: the output took a beginning of the text, and nothing unless a text is made
+-- where the exit status is 7, memory ran out: the output took a prefix of the text, and nothing unless a text is made
 abbrev pub TellsRefusedMemory : Type 0
 TellsRefusedMemory =
     (parse : Parse) (words : List Bytes) (files : Files) (fails : Failing) (out err : Sunk) (code : ℕ)

@@ -5,9 +5,9 @@ use Rattle.tmpl_tool.specs.Source.{Bytes}
 
 -- the answer of the command
 pub record Answer : Type 0 where
-  -- what is put out
+  -- what is written
   pub text : Bytes
-  -- what is said on the error sink, nothing where all went well
+  -- what is written to the error sink, nothing where all went well
   pub line : Bytes
   pub status : ℕ
   -- it stopped at a read that failed
@@ -15,7 +15,7 @@ pub record Answer : Type 0 where
   -- it came to a run that makes text: one that calls a function which makes one, with all its arguments
   pub made_text : Bool
 
--- the whole of a line, or a beginning of it where the sink failed
+-- the whole of a line, or a prefix of it where the sink failed
 abbrev pub Says : Bytes → Sunk → Type 0
 Says text s = Whole text s ⊎ Cut text s
 
@@ -33,11 +33,11 @@ memory_line = line (codes "out of memory")
 abbrev pub Exact : Answer → Sunk → Sunk → ℕ → Type 0
 Exact a out err code = Whole a.text out × (code ≡ a.status) × Says a.line err
 
--- the output failed, once: a beginning of the text
+-- the output failed, once: a prefix of the text
 abbrev pub Unwritten : Answer → Sunk → Sunk → ℕ → Type 0
 Unwritten a out err code = Cut a.text out × (code ≡ 6) × Says write_line err
 
--- memory was refused: a beginning of the text, and nothing unless the command runs a template that makes text
+-- memory ran out: a prefix of the text, and nothing unless the command runs a template that makes text
 abbrev pub Refused : Answer → Sunk → Sunk → ℕ → Type 0
 Refused a out err code = Begun (if a.made_text then a.text else []) out × (code ≡ 7) × Says memory_line err
 
@@ -53,14 +53,14 @@ Counted was is code = ((is ≡ was) × (code ≢ 6)) ⊎ ((is ≡ was + 1) × (c
 abbrev pub Once : ℕ → ℕ → Type 0
 Once was is = (is ≡ was) ⊎ (is ≡ was + 1)
 
--- what a call puts out, says and answers, and that each sink fails once at most
+-- what a call prints, says and answers, and that each sink fails once at most
 pub record Gives (a : Answer) (out err : Sunk) (code : ℕ) : Type 0 where
-  pub counts : Counted out.before.failures out.after.failures code
-  pub cuts : Once err.before.failures err.after.failures
+  pub output_fails_once : Counted out.before.failures out.after.failures code
+  pub error_sink_fails_once : Once err.before.failures err.after.failures
   pub outcome : Outcome a out err code
 
 -- a line is said, which fails once at most, and the status is this one
 pub record EndsWith (status : ℕ) (text : Bytes) (err : Sunk) (given : ℕ) : Type 0 where
   pub code : given ≡ status
-  pub cuts : Once err.before.failures err.after.failures
+  pub error_sink_fails_once : Once err.before.failures err.after.failures
   pub line : Says text err

@@ -11,15 +11,16 @@ Bytes = List ℕ
 abbrev pub Files : Type 0
 Files = Bytes → Option Bytes
 
--- a read, with the count of failures before and after it: where the files are told, this one has these bytes, or is not
--- there
+-- a read, with the count of failures before and after it: where the contents of the files are stated, this one has
+-- these bytes, or is not there
 abbrev pub IsRead : {Z : Type 0} → Option Files → Bytes → ℕ → ℕ → Result (Vec ℕ Z) SourceFault → Type 0
 IsRead told name was is (Ok bytes) = (is ≡ was) × IfSome told (λ files. files name ≡ Some bytes.items)
 IsRead told name was is (Err fault.NotFound) = (is ≡ was) × IfSome told (λ files. files name ≡ None)
 IsRead told name was is (Err fault.Failed) = is ≡ was + 1
 IsRead told name was is (Err fault.OutOfMemory) = is ≡ was
 
--- where the files are told, this one begins with these bytes, and they are all of it or more than this many
+-- where the contents of the files are stated, this one begins with these bytes, and they are all of it or more than
+-- this many
 abbrev pub TellsFront : ℕ → Option Files → Bytes → Bytes → Type 0
 TellsFront most told name bytes = IfSome told (λ files.
     (rest : Bytes) × (files name ≡ Some (bytes ++ rest)) × ((rest ≡ []) ⊎ (most < length bytes)))
@@ -33,7 +34,7 @@ IsReadUpTo {Z} most told name was is (Err e) = IsRead {Z = Z} told name was is (
 abbrev pub Asked : Option (List Bytes) → Option (List Bytes) → List Bytes → Type 0
 Asked before after names = after ≡ option_map (λ asked. asked ++ names) before
 
--- a read asks for its name, but for one to which memory was refused
+-- a read asks for its name, but for one for which memory ran out
 abbrev pub Asks : {T : Type 0} → Option (List Bytes) → Bytes → Result T SourceFault → Option (List Bytes) → Type 0
 Asks before name (Err fault.OutOfMemory) after = Asked before after []
 Asks before name r after = Asked before after (name ∷ [])

@@ -1,4 +1,4 @@
--- The command as one function of the words and of the contents of files.
+-- The command as one function of the arguments and of the contents of files.
 use Rattle.std.specs.Prelude.{◌≡◌, ◌⊎◌, ◌+◌, ℕ, suc, nat_eq, Bool, true, false, List, [], ◌∷◌, ◌++◌, length, Option}
 use Rattle.std.specs.Prelude.{Some, None, Result, Ok, Err, codes, decimal, option_map, option_to_list, slice_get}
 use Rattle.std.specs.Prelude.{IfSome, unwrap_or, if◌then◌else◌}
@@ -58,11 +58,11 @@ abbrev pub usage : Bytes
 usage = codes "usage: tmpl [--data FILE] [--missingkey default|invalid|zero|error] [--name NAME] "
     ++ codes "[--depth N] [--steps N] [--print] FILE...\n"
 
--- a text is put out, and nothing went wrong
+-- a text is written, and nothing went wrong
 abbrev pub only_text : Bytes → Answer
 only_text text = record { text = text; line = []; status = 0; unread = false; made_text = false }
 
--- nothing is put out, and a line is said
+-- nothing is written, and a line is said
 abbrev pub only_line : ℕ → Bytes → Answer
 only_line status said = record { text = []; line = line said; status = status; unread = false; made_text = false }
 
@@ -102,7 +102,7 @@ answer_of (Err s) = stop_answer s
 abbrev pub stop_if : Bool → Early → Result (Unit {0}) Early
 stop_if stops s = if stops then Err s else Ok tt
 
--- what words ask for
+-- what arguments ask for
 abbrev pub asked_by : List Bytes → Result Wanted Early
 asked_by words = and_then (stop_if (asks_help words) help) (λ u. ok_or (words_request words) bad_words)
 
@@ -144,7 +144,7 @@ data_found files fails (Some name) = and_then (read_file files fails name) (data
 abbrev pub data_wanted : Wanted → Option Bytes
 data_wanted w = if w.print then None else w.data_file
 
--- the name of the template that words ask for, or else of the first FILE's own
+-- the name of the template that arguments ask for, or else of the first FILE's own
 abbrev pub asked_name : Wanted → Bytes
 asked_name w = unwrap_or w.name (option_map_or base_name (slice_get w.files 0) [])
 
@@ -179,7 +179,7 @@ tool_reads parse words files fails = option_map_or (λ w. file_reads parse files
 -- ---- what is observed
 
 -- of the source how many reads failed before the call and after it, and what was asked for till then, where that is
--- told; the sinks, and the status
+-- stated; the sinks, and the status
 pub record Observed : Type 0 where
   pub failed_before : ℕ
   pub failed_after : ℕ
@@ -189,11 +189,11 @@ pub record Observed : Type 0 where
   pub err : Sunk
   pub code : ℕ
 
--- the reads that were made are a beginning of these
+-- the reads that were made are a prefix of these
 abbrev pub MadeOf : (List Bytes → Type 0) → List Bytes → Type 0
 MadeOf Made names = (front : List Bytes) × (rest : List Bytes) × (front ++ rest ≡ names) × Made front
 
--- no read failed: these reads were made, or memory was refused, and a beginning of them was; and this comes of it
+-- no read failed: these reads were made, or memory ran out, and a prefix of them was; and this comes of it
 abbrev pub NoneFailed : List Bytes → Answer → Observed → Type 0
 NoneFailed reads answer o = (o.failed_after ≡ o.failed_before)
     × (Asked o.asked_before o.asked_after reads ⊎ ((o.code ≡ 7) × MadeOf (Asked o.asked_before o.asked_after) reads))
@@ -213,7 +213,7 @@ Follows reads answers o = NoneFailed (reads no_read) (answers no_read) o
 abbrev pub EndsAtWords : List Bytes → Type 0 → Sunk → Sunk → ℕ → Type 0
 EndsAtWords ws Kept out err code = IfSome (result_err (asked_by ws)) (λ s. Kept × Outcome (stop_answer s) out err code)
 
--- where what the files hold is told, the words and the files are
+-- where the contents of the files are stated, the arguments and the files are
 abbrev pub FollowsFiles : List Bytes → Option Files → Observed → Type 0
 FollowsFiles words contents o = (parse : Parse) → IsParse parse
     → IfSome contents (λ files. Follows (tool_reads parse words files) (tool_answer parse words files) o)

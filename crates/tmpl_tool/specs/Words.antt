@@ -1,4 +1,4 @@
--- What the words of a command line ask for, by clap's definition of a simple command.
+-- What the arguments of a command line ask for, by clap's definition of a simple command.
 use Rattle.std.specs.Prelude.{◌≡◌, ℕ, Bool, true, false, List, [], ◌∷◌, Option, Some, None, pos, map, codes}
 use Rattle.std.specs.Prelude.{fold, if◌then◌else◌, unwrap_or}
 use Rattle.std.specs.Borrow.{Bor}
@@ -101,6 +101,6 @@ words_fault words = fault_of (tool_app here) words
 unfoldable pub words_rows : List Text → List Row
 words_rows words = matches_of (tool_app here) words
 
--- what the words ask for, and nothing where they are refused
+-- what the arguments ask for, and nothing where they are refused
 abbrev pub words_request : List Text → Option Wanted
 words_request words = if is_empty (words_fault words) then Some (wanted_in (words_rows words)) else None

@@ -1,4 +1,4 @@
-//! What is put out of the templates: the printed set, or the text of a run.
+//! What is written of the templates: the printed set, or the text of a run.
 ghost use Rattle.std.specs.Prelude.{◌<◌, ◌^◌, ◌-◌, option_map};
 ghost use Rattle.tmpl_values.specs.View.{value_of};
 ghost use Rattle.tmpl_syntax.specs.View.{set_view};
@@ -34,7 +34,7 @@ pub fn print<O: Sink, E: Sink>(alloc: Global, set: &Set, out: &mut O, err: &mut 
 /// How many bytes of the output wait until they are written together.
 const PIECE_SIZE: usize = 4096;
 
-/// Prints the set where the words ask for that, and else runs the template that they ask for.
+/// Prints the set where the arguments ask for that, and else runs the template that they ask for.
 pub(crate) fn answer<O: Sink, E: Sink>(
     alloc: Global,
     request: &Request<'_>,

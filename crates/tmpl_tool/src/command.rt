@@ -22,7 +22,7 @@ use std::alloc::Global;
 use tmpl_engine::Sink;
 use tmpl_syntax::NameHash;
 
-/// What `--help` puts out.
+/// What `--help` prints.
 static USAGE: &[u8] =
     b"usage: tmpl [--data FILE] [--missingkey default|invalid|zero|error] [--name NAME] \
     [--depth N] [--steps N] [--print] FILE...\n";
@@ -37,11 +37,11 @@ pub struct Ended {
 
 /// The command `tmpl` over a source of files, an output and an error sink.
 ///
-/// What is put out, the line on the error sink and the status are one function of the words and of what the
-/// files hold. Where a write fails the output is a beginning of that text, and the status 6. Where memory is
-/// refused it is a beginning too, and nothing where no text is made, and the status 7. Words that ask for help
-/// or are refused read no file. One read is made for each FILE and then one for the data of a run, in order, up to
-/// where the command stops. All memory that the call takes it gives back.
+/// What is written, the line on the error sink and the status are one function of the arguments and of what the files
+/// hold. Where a write fails the output is a prefix of that text, and the exit status 6. Where memory runs out it is a
+/// prefix too, and nothing where no string is made, and the exit status 7. Arguments that ask for help or are refused
+/// read no file. One read is made for each FILE and then one for the data of a run, in order, up to where the command
+/// stops. All memory that the call takes it gives back.
 pub fn tool<S: Source, O: Sink, E: Sink>(
     alloc: Global,
     words: &[String],
@@ -52,13 +52,13 @@ pub fn tool<S: Source, O: Sink, E: Sink>(
     requires source { S.failures source.old < 2 ^ 64 - 1 }
     requires out { (O.so_far out.old).failures < 2 ^ 64 - 1 }
     requires err { (E.so_far err.old).failures < 2 ^ 64 - 1 }
-    ensures reads { Once (S.failures source.old) (S.failures source.new) }
-    ensures counts { Counted (O.so_far out.old).failures (O.so_far out.new).failures result.code }
-    ensures cuts { Once (E.so_far err.old).failures (E.so_far err.new).failures }
-    ensures help { asks_help (map (λ word. string_bytes word) words.now) ≡ true → result.code ≢ 7 }
-    ensures unasked { EndsAtWords (map (λ word. string_bytes word) words.now) (source.new ≡ source.old)
+    ensures source_fails_once { Once (S.failures source.old) (S.failures source.new) }
+    ensures output_fails_once { Counted (O.so_far out.old).failures (O.so_far out.new).failures result.code }
+    ensures error_sink_fails_once { Once (E.so_far err.old).failures (E.so_far err.new).failures }
+    ensures help_needs_no_memory { asks_help (map (λ word. string_bytes word) words.now) ≡ true → result.code ≢ 7 }
+    ensures reads_nothing { EndsAtWords (map (λ word. string_bytes word) words.now) (source.new ≡ source.old)
         (sunk (O.so_far out.old) (O.so_far out.new)) (sunk (E.so_far err.old) (E.so_far err.new)) result.code }
-    ensures told { FollowsFiles (map (λ word. string_bytes word) words.now) (S.contents source.old) (record {
+    ensures matches_spec { FollowsFiles (map (λ word. string_bytes word) words.now) (S.contents source.old) (record {
       failed_before = S.failures source.old;
       failed_after = S.failures source.new;
       asked_before = S.asked source.old;
@@ -72,8 +72,8 @@ pub fn tool<S: Source, O: Sink, E: Sink>(
 }
 
 /// Does what `tool` does, and hands back what was read in place of giving back its memory: a program that ends next can
-/// leave that to the system. The names of templates and of variables are hashed as it is told, which makes no
-/// difference to any answer.
+/// leave that to the system. The names of templates and of variables are hashed by the keys that it is given, which
+/// makes no difference to any answer.
 pub fn tool_keeping<S: Source, O: Sink, E: Sink>(
     alloc: Global,
     names: NameHash,
@@ -85,13 +85,13 @@ pub fn tool_keeping<S: Source, O: Sink, E: Sink>(
     requires source { S.failures source.old < 2 ^ 64 - 1 }
     requires out { (O.so_far out.old).failures < 2 ^ 64 - 1 }
     requires err { (E.so_far err.old).failures < 2 ^ 64 - 1 }
-    ensures reads { Once (S.failures source.old) (S.failures source.new) }
-    ensures counts { Counted (O.so_far out.old).failures (O.so_far out.new).failures result.status.code }
-    ensures cuts { Once (E.so_far err.old).failures (E.so_far err.new).failures }
-    ensures help { asks_help (map (λ word. string_bytes word) words.now) ≡ true → result.status.code ≢ 7 }
-    ensures unasked { EndsAtWords (map (λ word. string_bytes word) words.now) (source.new ≡ source.old)
+    ensures source_fails_once { Once (S.failures source.old) (S.failures source.new) }
+    ensures output_fails_once { Counted (O.so_far out.old).failures (O.so_far out.new).failures result.status.code }
+    ensures error_sink_fails_once { Once (E.so_far err.old).failures (E.so_far err.new).failures }
+    ensures help_needs_no_memory { asks_help (map (λ word. string_bytes word) words.now) ≡ true → result.status.code ≢ 7 }
+    ensures reads_nothing { EndsAtWords (map (λ word. string_bytes word) words.now) (source.new ≡ source.old)
         (sunk (O.so_far out.old) (O.so_far out.new)) (sunk (E.so_far err.old) (E.so_far err.new)) result.status.code }
-    ensures told { FollowsFiles (map (λ word. string_bytes word) words.now) (S.contents source.old) (record {
+    ensures matches_spec { FollowsFiles (map (λ word. string_bytes word) words.now) (S.contents source.old) (record {
       failed_before = S.failures source.old;
       failed_after = S.failures source.new;
       asked_before = S.asked source.old;

@@ -30,7 +30,7 @@ pub fn stages()
     ensures run { Runs }
 {}
 
-/// The laws of the ends that are not the function's, a write that failed and refused memory, and that all files are read
+/// The laws of the ends that are not the function's, a write that failed and out of memory, and that all files are read
 /// in any other.
 #[tactic(auto, using(crate::proofs::StageLemmas::ends))]
 pub fn ends()

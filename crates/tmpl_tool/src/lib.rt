@@ -1,5 +1,5 @@
-//! The command `tmpl` over any source of files and any two sinks: what its words ask for, the files, the run, and the
-//! lines and statuses with which it ends.
+//! The command `tmpl` over any source of files and any two sinks: what its arguments ask for, the files, the run, and
+//! the lines and statuses with which it ends.
 #![tactic(auto)]
 
 mod answer;

@@ -1,4 +1,4 @@
-//! The template looked up and run, and its text put out.
+//! The template looked up and run, and its text written.
 ghost use Rattle.std.specs.Prelude.{◌≡◌, ◌≢◌, ◌<◌, ◌^◌, ◌-◌, List, Option, option_map};
 ghost use Rattle.std.specs.Option.{ok_or};
 ghost use Rattle.tmpl_values.specs.View.{value_of};
@@ -27,7 +27,7 @@ pub(crate) fn put_out<O: Sink, E: Sink>(text: &[u8], out: &mut O, err: &mut E) -
     requires err { (E.so_far err.old).failures < 2 ^ 64 - 1 }
     ensures gives { Gives (only_text text.now)
         (sunk (O.so_far out.old) (O.so_far out.new)) (sunk (E.so_far err.old) (E.so_far err.new)) result.code }
-    ensures spared { result.code ≢ 7 }
+    ensures no_spurious_oom { result.code ≢ 7 }
 {
     match put_all(out, text) {
         Ok(()) => Status { code: 0 },
@@ -38,8 +38,8 @@ pub(crate) fn put_out<O: Sink, E: Sink>(text: &[u8], out: &mut O, err: &mut E) -
 /// Says on the error sink how a render of the template of this name ended, and gives its status.
 pub fn tell_end<E: Sink>(end: Result<(), RenderError<'_>>, name: &[u8], err: &mut E) -> Status
     requires { (E.so_far err.old).failures < 2 ^ 64 - 1 }
-    ensures cuts { Once (E.so_far err.old).failures (E.so_far err.new).failures }
-    ensures counts { (r : Option Ran) (before after : Told) → IsRender r (sunk before after) end.entry
+    ensures error_sink_fails_once { Once (E.so_far err.old).failures (E.so_far err.new).failures }
+    ensures output_fails_once { (r : Option Ran) (before after : Told) → IsRender r (sunk before after) end.entry
         → Counted before.failures after.failures result.code }
     ensures outcome { (r : Option Ran) (before after : Told) → IsRender r (sunk before after) end.entry
         → Outcome (answer_of (ok_or r (unnamed name.now)))
@@ -56,8 +56,8 @@ pub fn tell_end<E: Sink>(end: Result<(), RenderError<'_>>, name: &[u8], err: &mu
 /// Says why a render of the template of this name ended, and gives the status of that.
 fn tell_error<E: Sink>(error: RenderError<'_>, name: &[u8], err: &mut E) -> Status
     requires { (E.so_far err.old).failures < 2 ^ 64 - 1 }
-    ensures cuts { Once (E.so_far err.old).failures (E.so_far err.new).failures }
-    ensures counts { (r : Option Ran) (before after : Told) → IsRender r (sunk before after) (Err error.entry)
+    ensures error_sink_fails_once { Once (E.so_far err.old).failures (E.so_far err.new).failures }
+    ensures output_fails_once { (r : Option Ran) (before after : Told) → IsRender r (sunk before after) (Err error.entry)
         → Counted before.failures after.failures result.code }
     ensures outcome { (r : Option Ran) (before after : Told) → IsRender r (sunk before after) (Err error.entry)
         → Outcome (answer_of (ok_or r (unnamed name.now)))
@@ -89,8 +89,8 @@ pub fn asked_name<'a>(request: &Request<'a>) -> &'a [u8]
 /// Looks the name up, and runs its template.
 ///
 /// The text goes to the output, up to the end or the fault of the run, and what else there is to say to the error sink,
-/// as one line. Where a write fails or memory is refused the output is a beginning of the text. It waits in the piece,
-/// of any size, until that is full.
+/// as one line. Where a write fails or memory runs out the output is a prefix of the text. It waits in the piece, of
+/// any size, until that is full.
 pub fn render_named<O: Sink, E: Sink>(
     alloc: Global,
     options: &Options,

@@ -14,6 +14,6 @@ pub enum Stop<'a> {
     NotJson(&'a str),
     /// A number in the data of this file is not whole, or out of range.
     NotWhole(&'a str),
-    /// Memory was refused.
+    /// Memory ran out.
     OutOfMemory,
 }

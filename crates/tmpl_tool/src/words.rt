@@ -1,4 +1,4 @@
-//! What clap's matches of the words ask for.
+//! What clap's matches of the arguments ask for.
 ghost use Rattle.std.specs.Prelude.{◌≡◌, ◌≢◌, ◌≤◌, ◌<◌, codes, option_map, map, unwrap_or, [], Some, IfOk};
 ghost use Rattle.clap.specs.Words.{all_of, first_of, found_of, rows_of, kind_of};
 ghost use Rattle.tmpl_tool.specs.computed.Words.{Parses};
@@ -167,7 +167,7 @@ fn parse<'a>(alloc: Global, words: &'a [String]) -> Result<ArgMatches<'a>, Words
     }
 }
 
-/// What the words ask for. The first word is the program's name.
+/// What the arguments ask for. The first argument is the program's name.
 pub fn request_of<'a>(alloc: Global, words: &'a [String]) -> Result<Request<'a>, WordsFault>
     ensures { Asks (words_request (map (λ word. string_bytes word) words.entry.now)) result }
 {

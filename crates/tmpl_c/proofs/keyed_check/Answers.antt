@@ -1,7 +1,7 @@
 use Rattle.tmpl_tool.specs.Tool.{Parse}
 use Rattle.tmpl_tool.proofs.ParseLemmas.{for_each}
 use Rattle.tmpl_c.specs.Checked.{Checks}
-use Rattle.tmpl_c.specs.Lent.{pairs_of}
+use Rattle.tmpl_c.specs.Passed.{pairs_of}
 use Rattle.tmpl_c.specs.Texts.{bytes_in}
 use Rattle.tmpl_c.proofs.keyed_check.Goals as goal
 

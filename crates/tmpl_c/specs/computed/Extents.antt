@@ -8,7 +8,7 @@ use Rattle.tmpl_tool.specs.Source.{Bytes}
 use Rattle.tmpl_c.specs.Filled.{Rendered, Seen}
 use Rattle.tmpl_engine.specs.declared.rendering.Renderer.{Renderer}
 use Rattle.tmpl_c.specs.Held.{held_answer, templates_run}
-use Rattle.tmpl_c.specs.Lent.{rules_in}
+use Rattle.tmpl_c.specs.Passed.{rules_in}
 use Rattle.tmpl_c.specs.declared.render.Extent.{Extent}
 use Rattle.tmpl_c.specs.declared.render.Filled.{Filled}
 use Rattle.tmpl_c.specs.declared.settings.Settings.{Settings}
@@ -29,6 +29,6 @@ answer_by settings set name value = held_answer (rules_in settings) (eqb setting
 abbrev pub run_by : Settings → List Template → Bytes → Option Value → Answer
 run_by settings set name value = held_answer (rules_in settings) false set name value
 
--- the templates of a program that is lent, if one is
-abbrev pub templates_lent : Option (Bor Renderer) → List Template
-templates_lent lent = templates_run (option_map (λ r. r.now) lent)
+-- the templates of a program that is borrowed, if one is
+abbrev pub templates_borrowed : Option (Bor Renderer) → List Template
+templates_borrowed lent = templates_run (option_map (λ r. r.now) lent)

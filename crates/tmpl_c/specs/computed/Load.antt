@@ -11,12 +11,12 @@ abbrev pub halt_seen : Halt → Option Early
 halt_seen halt.NotText = Some bad_words
 halt_seen (halt.Stop s) = stop_seen s
 
--- the answer is the result of a stage, or its stop, or memory was refused
+-- the answer is the result of a stage, or its stop, or memory ran out
 abbrev pub ComesTo : {T U : Type 0} → (T → U) → Result U Early → Result T Halt → Type 0
 ComesTo seen stage (Ok t) = stage ≡ Ok (seen t)
 ComesTo seen stage (Err h) = IfSome (halt_seen h) (λ s. stage ≡ Err s)
 
--- a stop is said, or want of memory is
+-- the message of a stop, or of out of memory
 abbrev pub IsSaid : Answer → ℕ → Seen → ℕ → Type 0
 IsSaid a room err code = (Fills a.line room err × (code ≡ a.status)) ⊎ (Fills memory_line room err × (code ≡ 7))
 

@@ -5,10 +5,10 @@ use Rattle.tmpl_report.specs.declared.source.Question as report
 use Rattle.tmpl_report.specs.declared.source.Source.{Source}
 use Rattle.tmpl_report.specs.declared.source.Sources.{Sources}
 use Rattle.tmpl_tool.specs.Source.{Bytes}
-use Rattle.tmpl_c.specs.Lent.{pair_of, pairs_of}
+use Rattle.tmpl_c.specs.Passed.{pair_of, pairs_of}
 use Rattle.tmpl_c.specs.Question.{mode_asked, stops_asked, first_name}
-use Rattle.tmpl_c.specs.declared.lent.File.{File}
-use Rattle.tmpl_c.specs.declared.lent.Question.{Question}
+use Rattle.tmpl_c.specs.declared.passed.File.{File}
+use Rattle.tmpl_c.specs.declared.passed.Question.{Question}
 use Rattle.tmpl_syntax.specs.Parse.{base_name}
 
 -- a file as its name and its bytes

@@ -1,4 +1,4 @@
--- The check of a template against a shape, as a function that goes over the tree.
+-- The check of a template against a shape, as a function that visits the tree.
 use Rattle.std.specs.Prelude.{ℕ, zero, suc, pos, ◌+◌, ◌-◌, ◌==◌, nat_le, Bool, true, false, not, ◌&&◌, List, [], ◌∷◌, ◌++◌, length, drop}
 use Rattle.std.specs.Prelude.{Option, Some, None, option_to_list, unwrap_or, if◌then◌else◌}
 use Rattle.std.specs.Option.{option_map, option_map_or, option_and_then}
@@ -26,7 +26,7 @@ use Rattle.tmpl_shape.specs.computed.Formats.{printf_shape}
 abbrev pub Origin : Type 0
 Origin = Option (List (List ℕ))
 
--- the variables in scope, each with its shape and its origin, the newest first
+-- the variables in scope, each with its shape and its provenance, the newest first
 abbrev pub Known : Type 0
 Known = List (List ℕ × Shape × Origin)
 
@@ -246,7 +246,7 @@ is_path [] [] = true
 is_path (p ∷ ps) (n ∷ ns) = bytes_eq p n && is_path ps ns
 is_path ps ns = false
 
--- what is known of the second origin is known of the first
+-- what is known of the second provenance is known of the first
 abbrev pub origin_within : Origin → Origin → Bool
 origin_within o None = true
 origin_within None (Some ns) = false
@@ -256,7 +256,7 @@ origin_within (Some ps) (Some ns) = is_path ps ns
 abbrev pub join_origins : Origin → Origin → Origin
 join_origins o p = if origin_within o p then p else None
 
--- dot and its origin, and the variables
+-- dot and its provenance, and the variables
 pub record State : Type 0 where
   pub dot : Shape
   pub from : Origin
@@ -328,7 +328,7 @@ module _ (base : Base) where
   refine_variable least name ns (k ∷ ks) =
       if bytes_eq k.0 name then (k.0, refine base least ns k.1, k.2) ∷ ks else k ∷ refine_variable least name ns ks
 
-  -- the values of an origin, where this chain from the data of the template is so
+  -- the values of a provenance, where this chain from the data of the template is so
   abbrev pub refine_along : ℕ → List (List ℕ) → Shape → Option (List (List ℕ)) → Shape
   refine_along least ns s rest = option_map_or (λ ms. refine base least ms s) rest s
 
@@ -355,7 +355,7 @@ module _ (base : Base) where
   -- ---- pipelines
 
   -- what is known where the value of a place is neither nothing nor null, and has at least as many items if it is a list
-  -- .. of which no origin is known, or else of what has this one
+  -- .. of which no provenance is known, or else of what has this one
   abbrev pub narrow_root : ℕ → Place → State → State
   narrow_root least p k = option_map_or (λ name. record k { env = refine_variable least name p.path k.env })
       p.root (record k { dot = refine base least p.path k.dot })

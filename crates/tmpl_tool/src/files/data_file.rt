@@ -16,8 +16,8 @@ pub(crate) fn read_data<'a, S: Source>(
     name: Option<&'a str>,
 ) -> Result<Option<Data>, Stop<'a>>
     requires { S.failures source.old < 2 ^ 64 - 1 }
-    ensures counts { Counts (S.failures source.old) (S.failures source.new) result }
-    ensures reads { ComesOfFiles (S.contents source.old) (S.asked source.old) (S.asked source.new)
+    ensures failed_reads { Counts (S.failures source.old) (S.failures source.new) result }
+    ensures follows_files { ComesOfFiles (S.contents source.old) (S.asked source.old) (S.asked source.new)
         (λ files fails. data_found files (fails 0) (option_map (λ s. s.now) name.entry))
         (λ files fails. option_to_list (option_map (λ s. s.now) name.entry)) (option_map value_of) result }
 {
@@ -34,8 +34,8 @@ fn read_named<'a, S: Source>(
     name: &'a str,
 ) -> Result<Option<Data>, Stop<'a>>
     requires { S.failures source.old < 2 ^ 64 - 1 }
-    ensures counts { Counts (S.failures source.old) (S.failures source.new) result }
-    ensures reads { ComesOfFiles (S.contents source.old) (S.asked source.old) (S.asked source.new)
+    ensures failed_reads { Counts (S.failures source.old) (S.failures source.new) result }
+    ensures follows_files { ComesOfFiles (S.contents source.old) (S.asked source.old) (S.asked source.new)
         (λ files fails. data_found files (fails 0) (Some name.entry.now)) (λ files fails. name.entry.now ∷ [])
         (option_map value_of) result }
 {

@@ -31,8 +31,8 @@ pub fn read_inputs<'a, S: Source>(
     source: &mut S,
 ) -> Result<Inputs, Stop<'a>>
     requires { S.failures source.old < 2 ^ 64 - 1 }
-    ensures counts { Counts (S.failures source.old) (S.failures source.new) result }
-    ensures reads { (parse : Parse) → IsParse parse →
+    ensures failed_reads { Counts (S.failures source.old) (S.failures source.new) result }
+    ensures follows_files { (parse : Parse) → IsParse parse →
         ComesOfFiles (S.contents source.old) (S.asked source.old) (S.asked source.new)
         (λ files. inputs_of parse files (request_seen request.now)) (λ files. inputs_reads parse files (request_seen request.now))
         inputs_seen result }

@@ -19,7 +19,7 @@ pub(crate) fn load_files<'a, S: Source>(
 ) -> Result<(), Stop<'a>>
     requires { S.failures source.old < 2 ^ 64 - 1 }
     ensures contents { S.contents source.new ≡ S.contents source.old }
-    ensures counts { Counts (S.failures source.old) (S.failures source.new) result }
+    ensures failed_reads { Counts (S.failures source.old) (S.failures source.new) result }
     ensures loads { ComesOfFiles (S.contents source.old) (S.asked source.old) (S.asked source.new)
         (λ files fails. load_each parsed files fails 0 (set_view set.old) (map (λ s. s.now) names.now))
         (λ files fails. file_reads parsed files fails 0 (set_view set.old) (map (λ s. s.now) names.now))
@@ -41,7 +41,7 @@ fn load_file<'a, S: Source>(
 ) -> Result<(), Stop<'a>>
     requires { S.failures source.old < 2 ^ 64 - 1 }
     ensures contents { S.contents source.new ≡ S.contents source.old }
-    ensures counts { Counts (S.failures source.old) (S.failures source.new) result }
+    ensures failed_reads { Counts (S.failures source.old) (S.failures source.new) result }
     ensures loads { ComesOfFiles (S.contents source.old) (S.asked source.old) (S.asked source.new)
         (λ files fails. with_file parsed files (fails 0) (set_view set.old) name.entry.now)
         (λ files fails. name.entry.now ∷ []) (λ u. set_view set.new) result }

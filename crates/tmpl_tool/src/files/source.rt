@@ -13,13 +13,13 @@ pub enum SourceFault {
     /// It is there, and could not be read.
     #[error("read failed")]
     Failed,
-    /// Memory was refused.
+    /// Memory ran out.
     #[error("out of memory")]
     OutOfMemory,
 }
 
 /// Files by their names. What they hold may be untold, and so may which were asked for; the number of failed reads is
-/// always told.
+/// always stated.
 pub trait Source {
     ghost use Rattle.tmpl_tool.specs.Source.{Asks, IsRead, IsReadUpTo};
 
@@ -36,8 +36,8 @@ pub trait Source {
         ensures read { IsRead (contents self.old) name.now (failures self.old) (failures self.new) result }
         ensures asked { Asks (asked self.old) name.now result (asked self.new) };
 
-    /// The same, but of a file of more than `most` bytes it may be a beginning that is longer than that: who refuses
-    /// such a file need not have all of it, which may have no end.
+    /// The same, but of a file of more than `most` bytes it may be a prefix that is longer than that: who refuses such
+    /// a file need not have all of it, which may have no end.
     fn read_up_to(&mut self, alloc: Global, name: &str, most: u64) -> Result<Vec<u8>, SourceFault>
         requires { failures self.old < 2 ^ 64 - 1 }
         ensures contents { contents self.new ≡ contents self.old }

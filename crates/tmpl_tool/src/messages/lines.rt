@@ -48,7 +48,7 @@ pub fn write_failed<E: Sink>(err: &mut E) -> Status
     say(err, [Text("write failed")].as_slice(), 6)
 }
 
-/// Says that memory was refused.
+/// Says that memory ran out.
 pub fn out_of_memory<E: Sink>(err: &mut E) -> Status
     requires { (E.so_far err.old).failures < 2 ^ 64 - 1 }
     ensures { EndsWith 7 memory_line (sunk (E.so_far err.old) (E.so_far err.new)) result.code }
@@ -65,7 +65,7 @@ pub(crate) fn template_missing<E: Sink>(err: &mut E, name: &[u8]) -> Status
     say(err, [Text("no template "), Quoted(name)].as_slice(), 4)
 }
 
-/// Why a template file was refused, in words; none where memory was refused.
+/// Why a template file was refused, in words; none where memory ran out.
 fn reason_text(kind: ParseKind) -> Option<&'static str>
     ensures { option_map (λ text. text.now) result ≡ option_map reason_text (reason_of kind) }
 {
@@ -86,8 +86,8 @@ fn reason_text(kind: ParseKind) -> Option<&'static str>
 fn refuse_template<E: Sink>(err: &mut E, fault: &ParseFault<'_>) -> Status
     requires { (E.so_far err.old).failures < 2 ^ 64 - 1 }
     ensures code { result.code ≡ (said_of (refusal_seen fault.now)).status }
-    ensures unlike { result.code ≢ 6 }
-    ensures cuts { Once (E.so_far err.old).failures (E.so_far err.new).failures }
+    ensures not_write_failure { result.code ≢ 6 }
+    ensures error_sink_fails_once { Once (E.so_far err.old).failures (E.so_far err.new).failures }
     ensures line { Says (said_of (refusal_seen fault.now)).line
         (sunk (E.so_far err.old) (E.so_far err.new)) }
 {
@@ -117,8 +117,8 @@ fn refuse_file<E: Sink>(err: &mut E, name: &str, why: &str, code: u8) -> Status
 pub fn refuse<E: Sink>(err: &mut E, stop: &Stop<'_>) -> Status
     requires { (E.so_far err.old).failures < 2 ^ 64 - 1 }
     ensures code { result.code ≡ (said_of (stop_seen stop.now)).status }
-    ensures unlike { result.code ≢ 6 }
-    ensures cuts { Once (E.so_far err.old).failures (E.so_far err.new).failures }
+    ensures not_write_failure { result.code ≢ 6 }
+    ensures error_sink_fails_once { Once (E.so_far err.old).failures (E.so_far err.new).failures }
     ensures line { Says (said_of (stop_seen stop.now)).line
         (sunk (E.so_far err.old) (E.so_far err.new)) }
 {

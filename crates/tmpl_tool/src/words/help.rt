@@ -1,4 +1,4 @@
-//! The words that ask for help.
+//! The arguments that ask for help.
 ghost use Rattle.std.specs.Prelude.{◌≡◌, map};
 ghost use Rattle.std.specs.String.{string_bytes};
 ghost use Rattle.tmpl_tool.specs.Help.{asks_help, helps_in};

@@ -1,4 +1,4 @@
-//! What the words of the command line ask for.
+//! What the arguments of the command line ask for.
 ghost use Rattle.std.specs.Prelude.{◌≡◌};
 ghost use Rattle.tmpl_tool.specs.declared.words.request.WordsFault.TheVariants.{OutOfMemory};
 
@@ -6,7 +6,7 @@ use std::alloc::AllocError;
 use thiserror::Error;
 use tmpl_engine::Options;
 
-/// What the words ask for.
+/// What the arguments ask for.
 #[derive(Debug, Drop)]
 pub struct Request<'a> {
     /// The file that holds the data, if there is one.

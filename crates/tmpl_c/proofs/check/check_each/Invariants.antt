@@ -2,7 +2,7 @@ use Rattle.std.proofs.Common.{◌≡◌, drop}
 use Rattle.tmpl_syntax.specs.View.{set_view}
 use Rattle.tmpl_syntax.specs.computed.Parse.{parsed}
 use Rattle.tmpl_c.specs.Checked.{check_status}
-use Rattle.tmpl_c.specs.Lent.{pairs_of}
+use Rattle.tmpl_c.specs.Passed.{pairs_of}
 use Rattle.tmpl_c.proofs.CheckLemmas.{status_from}
 use Rattle.tmpl_c.proofs.check.check_each.Given as goal
 

@@ -8,8 +8,8 @@ use Rattle.tmpl_engine.specs.View.{templates_in}
 use Rattle.tmpl_engine.specs.declared.rendering.Renderer.{Renderer}
 use Rattle.tmpl_tool.specs.Outcome.{Outcome}
 use Rattle.tmpl_tool.specs.Tool.{answer_of, named_run}
-use Rattle.tmpl_c.specs.Lent.{rules_in}
-use Rattle.tmpl_c.specs.computed.Extents.{run_by, templates_lent}
+use Rattle.tmpl_c.specs.Passed.{rules_in}
+use Rattle.tmpl_c.specs.computed.Extents.{run_by, templates_borrowed}
 use Rattle.tmpl_c.specs.computed.Gathering.{told_of}
 use Rattle.tmpl_c.proofs.held.run_with.Goals as goal
 
@@ -19,7 +19,7 @@ returns-in-None c =
     let value = option_map (λ d. value_of d.now) c.args.data in
     let ran = ran_named (rules_in c.args.settings.now) [] c.args.name.now value in
     subst
-    (λ (lent : Option (Bor Renderer)). Outcome (run_by c.args.settings.now (templates_lent lent) c.args.name.now value) (sunk before before)
+    (λ (lent : Option (Bor Renderer)). Outcome (run_by c.args.settings.now (templates_borrowed lent) c.args.name.now value) (sunk before before)
     (sunk (told_of c.args.err.now) (told_of c.tell_end.new.err)) c.tell_end.result.code)
     (sym c.in-None.is)
     (c.tell_end.ensures.outcome ran before before (refl, (refl, refl)))
@@ -37,6 +37,6 @@ returns-in-Some c =
     (λ (rules : Rules). Outcome (answer_of (named_run rules c.args.name.now held value)) (sunk before after) err c.tell_end-in-Some.result.code)
     c.options_in-options.ensures said in
     subst
-    (λ (lent : Option (Bor Renderer)). Outcome (run_by c.args.settings.now (templates_lent lent) c.args.name.now value) (sunk before after) err
+    (λ (lent : Option (Bor Renderer)). Outcome (run_by c.args.settings.now (templates_borrowed lent) c.args.name.now value) (sunk before after) err
     c.tell_end-in-Some.result.code)
     (sym c.in-Some.is) ruled

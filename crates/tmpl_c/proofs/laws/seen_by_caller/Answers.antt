@@ -1,5 +1,5 @@
-use Rattle.tmpl_c.proofs.SeenLemmas.{holds_front}
+use Rattle.tmpl_c.proofs.SeenLemmas.{holds_prefix}
 use Rattle.tmpl_c.proofs.laws.seen_by_caller.Goals as goal
 
-pub returns-clause-front : goal.returns-clause-front
-returns-clause-front c = holds_front
+pub returns-clause-prefix : goal.returns-clause-prefix
+returns-clause-prefix c = holds_prefix

@@ -5,8 +5,8 @@ use Rattle.std.proofs.lemmas.Str.{IsUtf8-from_is_utf8}
 use Rattle.tmpl_engine.specs.View.{templates_of}
 use Rattle.tmpl_syntax.specs.Fault.{reason_of}
 use Rattle.tmpl_tool.specs.Source.{Bytes}
-use Rattle.tmpl_c.specs.Lent.{pair_of}
-use Rattle.tmpl_c.proofs.LentLemmas.{file_added, file_refused, text_added}
+use Rattle.tmpl_c.specs.Passed.{pair_of}
+use Rattle.tmpl_c.proofs.PassedLemmas.{file_added, file_refused, text_added}
 use Rattle.tmpl_c.proofs.load.add_file.Goals as goal
 
 pub returns-in_default : goal.returns-in_default

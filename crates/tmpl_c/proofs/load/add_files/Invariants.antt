@@ -1,7 +1,7 @@
 use Rattle.std.proofs.Common.{◌≡◌, drop}
 use Rattle.tmpl_engine.specs.View.{templates_of}
 use Rattle.tmpl_syntax.specs.computed.Parse.{parsed}
-use Rattle.tmpl_c.specs.Lent.{each_added, pairs_of}
+use Rattle.tmpl_c.specs.Passed.{each_added, pairs_of}
 use Rattle.tmpl_c.proofs.load.add_files.Given as goal
 
 -- whatever the files that are left come to, the files come to

@@ -1,5 +1,5 @@
 use Rattle.std.proofs.Common.{eqb}
-use Rattle.tmpl_c.specs.Lent.{pairs_of, render_answer, rules_in}
+use Rattle.tmpl_c.specs.Passed.{pairs_of, render_answer, rules_in}
 use Rattle.tmpl_c.proofs.GatherLemmas.{from_nothing}
 use Rattle.tmpl_c.proofs.render.fill.Goals as goal
 

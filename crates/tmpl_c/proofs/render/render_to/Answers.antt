@@ -9,7 +9,7 @@ use Rattle.tmpl_syntax.specs.Set.{Template}
 use Rattle.tmpl_tool.specs.Outcome.{Outcome}
 use Rattle.tmpl_tool.specs.Tool.{only_text}
 use Rattle.tmpl_c.specs.computed.Gathering.{told_of}
-use Rattle.tmpl_c.proofs.LentLemmas.{data_stops, file_stops, goes_on, printed_out}
+use Rattle.tmpl_c.proofs.PassedLemmas.{data_stops, file_stops, goes_on, printed_out}
 use Rattle.tmpl_c.proofs.render.render_to.Goals as goal
 
 pub returns-in-Err : goal.returns-in-Err

@@ -76,7 +76,7 @@ returns-clause-runs g c =
     (meant-so can (λ (r : Ran). IsRun r (sunk before after) c.close.result) input s c.start-machine.ensures.state
     (comes-to end before after (waiting c.close.new.piece) 0 grows 0 c.ended.result c.close.result mid came c.close.ensures.closed))
 
-pub returns-clause-spared : goal.returns-clause-spared
-returns-clause-spared g c =
+pub returns-clause-no_spurious_oom : goal.returns-clause-no_spurious_oom
+returns-clause-no_spurious_oom g c =
     spared (rules_of c.args.options.now) (set_view c.args.program.now.set.value) c.args.entry.number (option_map (λ d. value_of d.now) c.args.data)
     (sunk (g.S.Sink.so_far c.args.out.now) (g.S.Sink.so_far c.close.new.sink)) c.close.result c.requires.entry (returns-clause-runs g c)

@@ -3,8 +3,8 @@ use Rattle.tmpl_problems.specs.computed.Adds.{AddsSign}
 use Rattle.tmpl_problems.proofs.StepLemmas.{stands-within}
 use Rattle.tmpl_problems.proofs.survey.pass_text.Goals as goal
 
-pub returns-in_ok-push-in-Some-clause-told : goal.returns-in_ok-push-in-Some-clause-told
-returns-in_ok-push-in-Some-clause-told c =
+pub returns-in_ok-push-in-Some-clause-adds_warning : goal.returns-in_ok-push-in-Some-clause-adds_warning
+returns-in_ok-push-in-Some-clause-adds_warning c =
     let at = c.in-Some.sign.at in
     let within : c.args.start + at ≤ length c.args.file.now =
     stands-within c.args.file.now c.args.text.now c.args.start at c.requires.stands c.in-Some.ensures.within in

@@ -14,8 +14,8 @@ returns-in-Ok g c = λ ts prepared.
     let end = subst (λ ts. Renders c.args.options.now ts c.args.name.now c.args.data before after c.render_through-end.result) held
     c.render_through-end.ensures in
     record {
-      counts = c.tell_end.ensures.counts ran before after end;
-      cuts = c.tell_end.ensures.cuts;
+      output_fails_once = c.tell_end.ensures.output_fails_once ran before after end;
+      error_sink_fails_once = c.tell_end.ensures.error_sink_fails_once;
       outcome = c.tell_end.ensures.outcome ran before after end;
     }
 
@@ -25,7 +25,7 @@ returns-in-Err g c = λ ts prepared.
     let ran = ran_named (rules_of c.args.options.now) ts c.args.name.now (option_map (λ d. value_of d.now) c.args.data) in
     let end = subst (IsPrepared ts c.args.name.now) c.in-Err.is prepared c.args.options.now c.args.data before in
     record {
-      counts = c.tell_end-in-Err.ensures.counts ran before before end;
-      cuts = c.tell_end-in-Err.ensures.cuts;
+      output_fails_once = c.tell_end-in-Err.ensures.output_fails_once ran before before end;
+      error_sink_fails_once = c.tell_end-in-Err.ensures.error_sink_fails_once;
       outcome = c.tell_end-in-Err.ensures.outcome ran before before end;
     }

@@ -13,8 +13,8 @@ returns-clause-refused c = λ e.
     ap has_error c.in_ok-add_problems.ensures
     ∙ error_added c.args.self.now c.args.file.now.name.now all.refused.items all.beyond.items (sym (ap (λ n. n == 0) all.refused.ok.0) ∙ sym c.is_empty-accepted.ensures ∙ e)
 
-pub returns-clause-told : goal.returns-clause-told
-returns-clause-told c =
+pub returns-clause-matches_spec : goal.returns-clause-matches_spec
+returns-clause-matches_spec c =
     let all = c.in_ok-problems.problems in
     let name = c.args.file.now.name.now in
     let same = c.as_slice.ensures.value in

@@ -21,7 +21,7 @@ loop-file-preserved c =
     let parts : take (i + 1) all ≡ take i all ++ file ∷ [] =
     take_more all i file c.loop-file-test.true ∙ ap (λ (f : Source). take i all ++ f ∷ []) (sym c.file-item.is) in
     let before = c.loop-file.invariant in
-    let checked = c.in_ok-here.ensures.told in
+    let checked = c.in_ok-here.ensures.matches_spec in
     record {
       accepted = elim c.if-accepted.branch [
         | then-accepted w ↦

@@ -6,7 +6,7 @@ pub returns-clause-refused : goal.returns-clause-refused
 returns-clause-refused c = λ e.
     has_error-by c.add_asked.new.self c.add_each.new.self c.in_ok-add_asked.ensures ∙ c.in_ok-accepted.ensures.refused e
 
-pub returns-clause-told : goal.returns-clause-told
-returns-clause-told c =
-    let told = c.in_ok-accepted.ensures.told in
+pub returns-clause-matches_spec : goal.returns-clause-matches_spec
+returns-clause-matches_spec c =
+    let told = c.in_ok-accepted.ensures.matches_spec in
     (told.0, told.1, c.in_ok-add_asked.ensures ∙ told.2)

@@ -24,8 +24,8 @@ loads_as : (Made : List Bytes → Type 0) (files : Files) (old : List Template) 
     (λ u. set) r
 loads_as Made files old given names set r none same h = rw (none, same) at h
 
-pub returns-in_err-load_files-clause-reads : goal.returns-in_err-load_files-clause-reads
-returns-in_err-load_files-clause-reads g c =
+pub returns-in_err-load_files-clause-follows_files : goal.returns-in_err-load_files-clause-follows_files
+returns-in_err-load_files-clause-follows_files g c =
     let w = request_seen c.args.request.now in
     let Made = Asked (g.S.Source.asked c.args.source.now) (g.S.Source.asked c.load_files.new.source) in
     for_each (λ parse. IfSome (g.S.Source.contents c.args.source.now) (λ files. ComesOf Made (inputs_of parse files w) (inputs_reads parse files w) inputs_seen
@@ -37,8 +37,8 @@ returns-in_err-load_files-clause-reads g c =
     err_up (ComesOf Made (inputs_of parsed files w) (inputs_reads parsed files w) inputs_seen) c.from_residual.result _ c.from_residual.ensures.1
     (load_stops files w Made (stop_seen stop) stops)))
 
-pub returns-in_err-data-clause-reads : goal.returns-in_err-data-clause-reads
-returns-in_err-data-clause-reads g c =
+pub returns-in_err-data-clause-follows_files : goal.returns-in_err-data-clause-follows_files
+returns-in_err-data-clause-follows_files g c =
     let w = request_seen c.args.request.now in
     let before = g.S.Source.asked c.args.source.now in
     let between = g.S.Source.asked c.load_files.new.source in
@@ -50,13 +50,13 @@ returns-in_err-data-clause-reads g c =
     if_told _ (g.S.Source.contents c.args.source.now) (λ files told.
     let loads = loads_as (Asked before between) files _ _ _ set (Ok tt) c.with_hash-set.ensures.empty c.as_slice.ensures.value
     (of_told _ _ files told c.in_ok-load_files.ensures.loads) in
-    let stops = of_told _ _ files (c.in_ok-load_files.ensures.contents ∙ told) c.in_err-data.ensures.reads in
+    let stops = of_told _ _ files (c.in_ok-load_files.ensures.contents ∙ told) c.in_err-data.ensures.follows_files in
     err_up (ComesOf (Asked before after) (inputs_of parsed files w) (inputs_reads parsed files w) inputs_seen) c.from_residual-in_err-data.result _
     c.from_residual-in_err-data.ensures.1
     (data_stops files w before between after set loads.0 loads.1 (search rules) (stop_seen stop) stops)))
 
-pub returns-clause-reads : goal.returns-clause-reads
-returns-clause-reads g c parse is =
+pub returns-clause-follows_files : goal.returns-clause-follows_files
+returns-clause-follows_files g c parse is =
     let w = request_seen c.args.request.now in
     let set = set_view c.load_files.new.set in
     let input = option_map value_of c.in_ok-data.data in
@@ -66,13 +66,13 @@ returns-clause-reads g c parse is =
     if_told _ (g.S.Source.contents c.args.source.now) (λ files told.
     let loads = loads_as (Asked before between) files _ _ _ set (Ok tt) c.with_hash-set.ensures.empty c.as_slice.ensures.value
     (of_told _ _ files told c.in_ok-load_files.ensures.loads) in
-    let found = of_told _ _ files (c.in_ok-load_files.ensures.contents ∙ told) c.in_ok-data.ensures.reads in
+    let found = of_told _ _ files (c.in_ok-load_files.ensures.contents ∙ told) c.in_ok-data.ensures.follows_files in
     for_each (λ (p : Parse). (inputs_of p files w no_read ≡ Ok (set, input)) × Asked before after (inputs_reads p files w no_read))
     (nothing_stops files w before between after set loads.0 loads.1 (search rules) input found.0 found.1)
     parse is)
 
-pub returns-then-request-clause-reads : goal.returns-then-request-clause-reads
-returns-then-request-clause-reads g c parse is =
+pub returns-then-request-clause-follows_files : goal.returns-then-request-clause-follows_files
+returns-then-request-clause-follows_files g c parse is =
     let w = request_seen c.args.request.now in
     let set = set_view c.load_files.new.set in
     let before = g.S.Source.asked c.args.source.now in

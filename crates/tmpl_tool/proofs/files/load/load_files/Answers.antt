@@ -41,7 +41,7 @@ loop-name-preserved g c =
     let after = g.S.Source.asked c.load_file.new.source in
     record {
       contents = told.contents ∙ inv.contents;
-      failures = told.counts ∙ inv.failures;
+      failures = told.failed_reads ∙ inv.failures;
       hash = told.hash ∙ inv.hash;
       comes = if_told _ (g.S.Source.contents c.args.source.now) (λ files is.
           let loads = of_told _ _ files (inv.contents ∙ is) told.loads in

@@ -20,7 +20,7 @@ use Rattle.tmpl_tool.specs.Tool.{IsParse, Parse, Early, add_file, answer_of, nam
 use Rattle.tmpl_tool.specs.declared.stop.Stop.TheVariants as stop
 use Rattle.tmpl_tool.proofs.MessageLemmas.{nothing_out, nothing_put}
 use Rattle.tmpl_tool.proofs.ParseLemmas.{for_each}
-use Rattle.tmpl_c.specs.Lent.{data_lent, each_added, render_answer, with_lent}
+use Rattle.tmpl_c.specs.Passed.{data_passed, each_added, render_answer, with_passed}
 use Rattle.tmpl_c.specs.computed.Load.{halt_seen}
 use Rattle.tmpl_c.specs.declared.load.Halt.{Halt}
 use Rattle.tmpl_c.specs.declared.load.Halt.TheVariants as halt
@@ -28,16 +28,16 @@ use Rattle.tmpl_c.specs.declared.load.Halt.TheVariants as halt
 -- ---- one file
 
 -- a file whose name is a text
-pub text_added : (old : List Template) (f : Bytes × Bytes) (name : Bytes) → name ≡ f.0 → IsUtf8 f.0 → with_lent parsed old f ≡ add_file parsed old name f.1
+pub text_added : (old : List Template) (f : Bytes × Bytes) (name : Bytes) → name ≡ f.0 → IsUtf8 f.0 → with_passed parsed old f ≡ add_file parsed old name f.1
 text_added old f name same is = rw (is_utf8-from_IsUtf8 f.0 is, same) refl
 
 module _ (old : List Template) (f : Bytes × Bytes) (name : Bytes) where
-  pub file_added : (new : List Template) → with_lent parsed old f ≡ add_file parsed old name f.1 → parsed old name f.1 ≡ Ok new → with_lent parsed old f ≡ Ok new
+  pub file_added : (new : List Template) → with_passed parsed old f ≡ add_file parsed old name f.1 → parsed old name f.1 ≡ Ok new → with_passed parsed old f ≡ Ok new
   file_added new same is = same ∙ rw is refl
 
-  pub file_refused : (fault : ParseFault) (why : Option Reason) → fault.file.now ≡ name → with_lent parsed old f ≡ add_file parsed old name f.1
+  pub file_refused : (fault : ParseFault) (why : Option Reason) → fault.file.now ≡ name → with_passed parsed old f ≡ add_file parsed old name f.1
       → IsRefusal (parsed old name f.1) fault.line why
-      → IfSome (option_map (λ r. tool.refused fault.file.now (fault.line, r)) why) (λ s. with_lent parsed old f ≡ Err s)
+      → IfSome (option_map (λ r. tool.refused fault.file.now (fault.line, r)) why) (λ s. with_passed parsed old f ≡ Err s)
   file_refused fault None named same is = tt
   file_refused fault (Some r) named same is = same ∙ rw (is, named) refl
 
@@ -89,7 +89,7 @@ module _ (rules : Rules) (print : Bool) (files : List (Bytes × Bytes)) (name in
 
     module _ (runs : print ≡ false) where
       -- the data stops it
-      pub data_stops : (t : Told) (err : Sunk) (code : ℕ) (why : Halt) → IfSome (halt_seen why) (λ s. data_lent (codes "data") input ≡ Err s)
+      pub data_stops : (t : Told) (err : Sunk) (code : ℕ) (why : Halt) → IfSome (halt_seen why) (λ s. data_passed (codes "data") input ≡ Err s)
           → code ≡ (said_of (halt_seen why)).status → Says (said_of (halt_seen why)).line err
           → (parse : Parse) → IsParse parse → Outcome (render_answer parse rules print files name input) (sunk t t) err code
       data_stops t err code why h status says =
@@ -97,7 +97,7 @@ module _ (rules : Rules) (print : Bool) (files : List (Bytes × Bytes)) (name in
           (IfSome_then (halt_seen why) h (λ s e. let add_file = rw none at loads in rw (add_file, runs, e) refl)) status says)
 
       -- nothing stops it
-      pub goes_on : (out err : Sunk) (code : ℕ) (value found : Option Value) → data_lent (codes "data") input ≡ Ok value → found ≡ value
+      pub goes_on : (out err : Sunk) (code : ℕ) (value found : Option Value) → data_passed (codes "data") input ≡ Ok value → found ≡ value
           → Outcome (answer_of (named_run rules name set found)) out err code
           → (parse : Parse) → IsParse parse → Outcome (render_answer parse rules print files name input) out err code
       goes_on out err code value found is same h =

@@ -1,4 +1,4 @@
-//! What the caller lends.
+//! What the caller passes.
 
 /// A template file in memory.
 #[repr(C)]
