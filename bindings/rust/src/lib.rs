@@ -37,6 +37,23 @@ struct RawBuffer {
     needed: usize,
 }
 
+#[repr(C)]
+struct RawName {
+    bytes: *const u8,
+    size: usize,
+}
+
+#[repr(C)]
+struct RawQuestion {
+    schema: RawFile,
+    name: *const u8,
+    name_size: usize,
+    stops: *const RawName,
+    stop_count: usize,
+    mode: u8,
+    format: u8,
+}
+
 /// A set, a program, or data; null is an empty one.
 #[repr(C)]
 struct RawKept {
@@ -56,6 +73,7 @@ extern "C" {
     fn tmpl_render(settings: *const Settings, files: *const RawFile, file_count: usize, name: *const u8, name_size: usize,
         data: *const u8, data_size: usize, out: *mut RawBuffer, err: *mut RawBuffer) -> u8;
     fn tmpl_check(files: *const RawFile, file_count: usize, text: *mut RawText) -> u8;
+    fn tmpl_check_schema(files: *const RawFile, file_count: usize, question: *const RawQuestion, text: *mut RawText) -> u8;
     fn tmpl_limit_memory(bytes: usize);
     fn tmpl_set_add(set: *mut RawKept, file: *const RawFile, err: *mut RawBuffer) -> u8;
     fn tmpl_data_read(data: *mut RawKept, bytes: *const u8, size: usize, err: *mut RawBuffer) -> u8;
@@ -138,6 +156,65 @@ pub fn check(files: &[(&str, &[u8])]) -> Result<Vec<String>, Error> {
     }
     let lines = String::from_utf8_lossy(&text.to_vec()).into_owned();
     Ok(lines.split_terminator('\n').map(str::to_string).collect())
+}
+
+/// The form of findings.
+#[derive(Clone, Copy, Debug, Default, PartialEq, Eq)]
+pub enum Format {
+    /// A line for each finding, and one for its note, as compilers write them.
+    #[default]
+    Lines,
+    /// An object of JSON.
+    Json,
+    /// A log of SARIF 2.1.0.
+    Sarif,
+}
+
+/// What a template is asked over a JSON Schema.
+#[derive(Clone, Copy, Debug, Default)]
+pub struct Question<'a> {
+    pub schema: &'a [u8],
+    /// The name by which findings call the schema.
+    pub schema_name: &'a str,
+    /// The template that is rendered; the first file's own where it is empty.
+    pub name: &'a str,
+    /// Templates that may be missing, since a call of them is meant to fail.
+    pub stops: &'a [&'a str],
+    /// For which missing keys: 0 for each, or one more than a value of `Settings::missing_key`.
+    pub mode: u8,
+    pub format: Format,
+}
+
+/// What a check over a JSON Schema comes to.
+#[derive(Clone, Debug, PartialEq, Eq)]
+pub struct Verdict {
+    /// Whether there is no error: then the template fails over no data that conform, but by limits and stops.
+    pub is_safe: bool,
+    /// The findings, in the form that was asked for.
+    pub findings: String,
+}
+
+/// Reports what `tmpl-check` finds with `--schema`: every error in the files; where there is none, what of the schema is not understood; else
+/// each place at which the template may fail over data of the schema, with a counterexample where one is found; and warnings.
+pub fn check_schema(files: &[(&str, &[u8])], question: &Question<'_>) -> Result<Verdict, Error> {
+    let array: Vec<RawFile> = files.iter().map(|(path, bytes)| raw_file(path, bytes)).collect();
+    let stops: Vec<RawName> = question.stops.iter().map(|it| RawName { bytes: it.as_ptr(), size: it.len() }).collect();
+    let asked = RawQuestion {
+        schema: raw_file(question.schema_name, question.schema),
+        name: question.name.as_ptr(),
+        name_size: question.name.len(),
+        stops: stops.as_ptr(),
+        stop_count: stops.len(),
+        mode: question.mode,
+        format: question.format as u8,
+    };
+    let mut text = RawText::EMPTY;
+    // SAFETY: each pointer and size are those of one slice, which is borrowed for the call, and no other call has the handle.
+    let status = unsafe { tmpl_check_schema(array.as_ptr(), array.len(), &asked, &mut text) };
+    if status != 4 {
+        ended(status, b"tmpl: a name is not UTF-8\n", Vec::new())?;
+    }
+    Ok(Verdict { is_safe: status == 0, findings: String::from_utf8_lossy(&text.to_vec()).into_owned() })
 }
 
 /// Gives what this gives, while the library may take at most this many bytes of memory for this thread, beyond those that it gives back; where

@@ -134,6 +134,18 @@ fn files_added_meanwhile() {
 }
 
 #[test]
+fn checks_over_a_schema() {
+    let schema: &[u8] = br#"{"type": "object", "properties": {"a": {"type": "string"}}, "required": ["a"]}"#;
+    let question = tmpl::Question { schema, schema_name: "s", stops: &["stop"], ..Default::default() };
+    let safe = tmpl::check_schema(&[("m", b"{{if .a}}{{len .a}}{{else}}{{template `stop`}}{{end}}")], &question).unwrap();
+    assert!(safe.is_safe);
+    let unsafe_ = tmpl::check_schema(&[("m", b"{{len .b}}")], &question).unwrap();
+    assert!(!unsafe_.is_safe && unsafe_.findings.starts_with("m:1:7: error: may fail: .b may be absent: "), "{unsafe_:?}");
+    let json = tmpl::check_schema(&[("m", b"{{len .b}}")], &tmpl::Question { format: tmpl::Format::Json, ..question }).unwrap();
+    assert!(json.findings.starts_with("{\"problems\":[\n{\"file\":\"m\",\"line\":1,\"column\":7,\"level\":\"error\""), "{json:?}");
+}
+
+#[test]
 fn checks() {
     let mistake = "error: action not understood: no function \"name\": write .name";
     let files: &[(&str, &[u8])] = &[("a", b"{{name}}"), ("b", b"text"), ("c", b"\n{{name}}")];
