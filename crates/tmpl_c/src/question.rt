@@ -9,7 +9,7 @@ ghost use Rattle.tmpl_c.specs.computed.Question.{AreGiven, IsAsked, name_named, 
 use crate::gathered::Gathered;
 use crate::passed::{File, Name, Question};
 use crate::text::Text;
-use std::alloc::{AllocError, Global};
+use std::alloc::{AllocError, AllocFailed, Global};
 use std::str::from_utf8;
 use tmpl_engine::{MissingKey, NameHash};
 use tmpl_report::{self as report, Format, Source, Sources, findings_of};
@@ -23,6 +23,12 @@ enum Stop {
 
 impl From<AllocError> for Stop {
     fn from(_: AllocError) -> Stop {
+        Stop::OutOfMemory
+    }
+}
+
+impl<T: Drop> From<AllocFailed<T>> for Stop {
+    fn from(_: AllocFailed<T>) -> Stop {
         Stop::OutOfMemory
     }
 }
