@@ -1,6 +1,7 @@
 """Counts the definitions on which the contracts rest, and holds the trusted specification of docs/PROOFS.md against them. It follows the
 names in the contracts of `tool`, of the C library and of the check, then those in the definitions, and compares the files, and its lines by
-crate. They are counted without blank lines, comments and imports, so they change only where the page does.
+crate. They are counted without blank lines, comments and imports, so they change only where the page does. Each clause that the table of
+the crates names has to be one of its crate, or a part of the relation by which a clause is stated.
 
 Specs outside `computed/` may import nothing from `proofs/`, of a library no type of the code that is not public, and from `computed/`, but
 in files of the name Laws, only what is of a type `One ..`: that there is one value of which a relation holds, and no other. Of such a
@@ -238,6 +239,25 @@ def wrong_page(groups, crates):
         yield from (f"docs/PROOFS.md names {file} of {crate}" for file in sorted(said_files - files))
 
 
+ROW = re.compile(r"^\| (?:`(tmpl\w*)`)? ?\| [^|]+ \| .* \| ([^|]*) \|$", re.MULTILINE)
+
+
+def text_of(pattern):
+    return "\n".join(path.read_text(encoding="utf-8") for path in sorted(CRATES.glob(pattern)))
+
+
+def wrong_clauses():
+    """The names in the last column of the table of the crates that are no clause of the crate, and nothing that a clause is stated by."""
+    table = PAGE.read_text(encoding="utf-8").partition("\n## By crate\n")[2].partition("\n## ")[0]
+    stated, crate = text_of("*/specs/**/*.antt"), None
+    for named, cell in ROW.findall(table):
+        crate = named or crate
+        code = text_of(f"{crate}/src/**/*.rt")
+        for name in re.findall(r"`([a-z_0-9]+)`", cell):
+            if not re.search(rf"ensures {name} |fn {name}\b", code) and not re.search(rf"pub {name} :", stated):
+                yield f"docs/PROOFS.md: {crate} has no clause {name}"
+
+
 def counted(specs):
     """Of each group the lines and definitions that no group before it comes to, and of each crate all its lines and files."""
     seen, groups, crates = set(), {}, {}
@@ -266,7 +286,7 @@ def main():
     specs = read_specs()
     wrong = [line for spec in specs.values() for line in wrong_imports(spec, specs)]
     blocks, groups, crates = counted(specs)
-    wrong += [*wrong_computed(specs, blocks), *wrong_page(groups, crates)]
+    wrong += [*wrong_computed(specs, blocks), *wrong_page(groups, crates), *wrong_clauses()]
     for crate, (lines, files) in sorted(crates.items()):
         print(f"{crate}: {lines} lines are trusted, in {len(files)} files")
     for name, (lines, count) in groups.items():
