@@ -197,7 +197,7 @@ func TestCheckSchema(t *testing.T) {
 		t.Error(err)
 	}
 	found, err = CheckSchema([]File{{"m", []byte("{{len .b}}")}}, Question{Schema: schema})
-	if err != nil || len(found) != 1 || found[0].Line != 1 || found[0].Column != 7 || found[0].Level != "error" || found[0].Note == "" {
+	if err != nil || len(found) != 1 || found[0].Line != 1 || found[0].Column != 1 || found[0].Level != "error" || found[0].Note == "" {
 		t.Error(found, err)
 	}
 	if _, err := CheckSchema([]File{{"\xff", nil}}, Question{Schema: schema}); err == nil || err.(*Error).Status != 2 {

@@ -398,9 +398,9 @@ def judge_schemas(folder):
         ("a name that is no text", lambda: tmpl.check_schema({"m": ""}, required, b"\xff"), (2, b"", "tmpl: a name is not UTF-8")),
         ("a path that is no text", lambda: tmpl.check_schema({b"\xff": ""}, required), (2, b"", "tmpl: a name is not UTF-8")),
         ("a stop that is no text", lambda: tmpl.check_schema({"m": ""}, required, stops=[b"\xff"]), (2, b"", "tmpl: a name is not UTF-8")),
-        ("a schema that is no JSON", lambda: [it.rule for it in tmpl.check_schema({"m": ""}, "{")], ["schema-not-understood"]),
+        ("a schema that is no JSON", lambda: [it.rule for it in tmpl.check_schema({"m": ""}, "{")], ["not-json"]),
         ("a mode", lambda: tmpl.check_schema({"m": "{{print .a}}"}, schema, missing_key="default"), []),
-        ("each mode", lambda: [(it.file, it.line, it.column, it.level) for it in tmpl.check_schema({"m": "{{print .a}}"}, schema)], [("m", 1, 9, "error")]),
+        ("each mode", lambda: [(it.file, it.line, it.column, it.level) for it in tmpl.check_schema({"m": "{{print .a}}"}, schema)], [("m", 1, 1, "error")]),
     ]
     for name, call, wanted in cases:
         got = found_of(call)
@@ -714,7 +714,7 @@ CALLS_IN_CPP = [
     f'problems: {len(MISTAKES_IN_CPP)} {MISTAKES_IN_CPP[:40]}',
     "no problems: 1 0",
     'a short text: 6 "tmpl: more than 9 bytes of output" after "Hello, Ad"',
-    f"a check over a schema: 41 {('1||0|' + 'm:1:7: error: may fail: .b may be absent')[:40]}",
+    f"a check over a schema: 41 {('1||0|' + 'm:1:1: error: may fail: .b may be absent')[:40]}",
     "the parts of a problem: 46 b:1:1: error: out of place: c|2|10|open-",
     "the place of an error: 5 n|2|2",
     "many problems: 6 1000 7",

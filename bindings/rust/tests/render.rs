@@ -140,9 +140,9 @@ fn checks_over_a_schema() {
     let safe = tmpl::check_schema(&[("m", b"{{if .a}}{{len .a}}{{else}}{{template `stop`}}{{end}}")], &question).unwrap();
     assert!(safe.is_safe);
     let unsafe_ = tmpl::check_schema(&[("m", b"{{len .b}}")], &question).unwrap();
-    assert!(!unsafe_.is_safe && unsafe_.findings.starts_with("m:1:7: error: may fail: .b may be absent: "), "{unsafe_:?}");
+    assert!(!unsafe_.is_safe && unsafe_.findings.starts_with("m:1:1: error: may fail: .b may be absent: "), "{unsafe_:?}");
     let json = tmpl::check_schema(&[("m", b"{{len .b}}")], &tmpl::Question { format: tmpl::Format::Json, ..question }).unwrap();
-    assert!(json.findings.starts_with("{\"problems\":[\n{\"file\":\"m\",\"line\":1,\"column\":7,\"level\":\"error\""), "{json:?}");
+    assert!(json.findings.starts_with("{\"problems\":[\n{\"file\":\"m\",\"line\":1,\"column\":1,\"level\":\"error\""), "{json:?}");
 }
 
 #[test]
