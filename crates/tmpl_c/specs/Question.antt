@@ -1,5 +1,5 @@
 -- A check of templates over all data of a JSON Schema.
-use Rattle.std.specs.Prelude.{◌≡◌, ◌⊎◌, ℕ, false, List, [], ◌∷◌, Option, Some, None, Ok, eqb, map, if◌then◌else◌}
+use Rattle.std.specs.Prelude.{◌≡◌, ◌⊎◌, ℕ, false, List, [], ◌∷◌, Option, Some, None, Ok, eqb, length, map, if◌then◌else◌}
 use Rattle.serde_json.specs.Data.{Data}
 use Rattle.tmpl_syntax.specs.Parse.{Parses, base_name}
 use Rattle.tmpl_syntax.specs.Set.{Template}
@@ -27,14 +27,14 @@ format_asked n = if eqb n 1 then Json else (if eqb n 2 then Sarif else Text)
 
 -- ---- its names
 
--- the template that is rendered: the one that is named, else the own one of the first file
+-- the own template of the first file
 abbrev pub first_name : List (Bytes × Bytes) → Bytes
 first_name [] = []
 first_name (f ∷ fs) = base_name f.0
 
+-- the template that is rendered: that of the name, where it is not empty
 abbrev pub name_asked : Bytes → List (Bytes × Bytes) → Bytes
-name_asked [] files = first_name files
-name_asked (b ∷ bs) files = b ∷ bs
+name_asked name files = if eqb (length name) 0 then first_name files else name
 
 abbrev pub stops_asked : List Name → List Bytes
 stops_asked names = map (λ n. n.bytes.now) names

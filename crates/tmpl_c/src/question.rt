@@ -1,10 +1,10 @@
 //! A check of templates over all data of a JSON Schema.
-ghost use Rattle.std.specs.Prelude.{◌≡◌, ◌⊎◌, [], IfOk, map, option_map};
+ghost use Rattle.std.specs.Prelude.{◌≡◌, ◌⊎◌, [], IfOk, map};
 ghost use Rattle.tmpl_syntax.specs.Parse.{base_name};
 ghost use Rattle.tmpl_c.specs.Passed.{pair_of, pairs_of};
 ghost use Rattle.tmpl_c.specs.Question.{Answers, Reports, first_name, format_asked, mode_asked, stops_asked};
 ghost use Rattle.tmpl_c.specs.Texts.{bytes_in};
-ghost use Rattle.tmpl_c.specs.computed.Question.{AreGiven, IsAsked, name_named, pair_in};
+ghost use Rattle.tmpl_c.specs.computed.Question.{AreGiven, IsAsked, IsNamed, pair_in};
 
 use crate::gathered::Gathered;
 use crate::passed::{File, Name, Question};
@@ -128,7 +128,7 @@ fn sources_of<'a>(
 
 /// The name of the template that is rendered, where one is named.
 fn name_given<'a>(name: &'a [u8]) -> Result<Option<&'a str>, Stop>
-    ensures { IfOk result (λ given. option_map (λ text. text.now) given ≡ name_named name.now) }
+    ensures { IfOk result (λ given. IsNamed name.now given) }
 {
     if name.is_empty() {
         return Ok(None);

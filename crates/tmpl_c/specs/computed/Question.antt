@@ -1,6 +1,7 @@
 -- What the stages of a check over a schema answer.
-use Rattle.std.specs.Prelude.{◌≡◌, false, List, [], ◌∷◌, Option, Some, None, map, option_map}
-use Rattle.tmpl_report.specs.Safe.{asked_name}
+use Rattle.std.specs.Prelude.{◌≡◌, false, true, List, Option, Some, None, IfSome, eqb, is_some, length, map, option_map, if◌then◌else◌}
+use Rattle.std.specs.Borrow.{Bor}
+use Rattle.std.specs.Option.{option_map_or}
 use Rattle.tmpl_report.specs.declared.source.Question as report
 use Rattle.tmpl_report.specs.declared.source.Source.{Source}
 use Rattle.tmpl_report.specs.declared.source.Sources.{Sources}
@@ -20,13 +21,12 @@ abbrev pub AreGiven : List File → Question → Sources → Type 0
 AreGiven files q sources = (map pair_in sources.templates.items ≡ pairs_of files) × (sources.data ≡ None)
     × (option_map pair_in sources.schema ≡ Some (pair_of q.schema)) × (sources.is_short ≡ false)
 
--- a name that is not empty
-abbrev pub name_named : Bytes → Option Bytes
-name_named [] = None
-name_named (b ∷ bs) = Some (b ∷ bs)
+-- a name, where it is not empty, or else another one
+abbrev pub IsNamed : Bytes → Option (Bor Bytes) → Type 0
+IsNamed name given = (other : Bytes) → option_map_or (λ g. g.now) given other ≡ (if eqb (length name) 0 then other else name)
 
 -- the question is that of the caller
 abbrev pub IsAsked : List File → Question → report.Question → Type 0
-IsAsked files q asked = (option_map (λ first. base_name first.now) asked.first ≡ Some (first_name (pairs_of files)))
-    × (option_map (λ name. name.now) asked.name ≡ name_named q.name.now) × (asked.mode ≡ mode_asked q.mode)
+IsAsked files q asked = IfSome asked.first (λ first. base_name first.now ≡ first_name (pairs_of files)) × (is_some asked.first ≡ true)
+    × IsNamed q.name.now asked.name × (asked.mode ≡ mode_asked q.mode)
     × (map (λ stop. stop.now) asked.stops.items ≡ stops_asked q.stops.now)
