@@ -270,12 +270,12 @@ type Question struct {
 // Finding is what a check over a JSON Schema found, and where.
 type Finding struct {
 	File   string `json:"file"`
-	Line   int    `json:"line"`   // from 1, as columns, which count characters
+	Line   int    `json:"line"` // from 1, as columns, which count characters
 	Column int    `json:"column"`
-	Level  string `json:"level"`  // "error" or "warning"
+	Level  string `json:"level"` // "error" or "warning"
 	Rule   string `json:"rule"`
 	Text   string `json:"text"`
-	Note   string `json:"note"`   // a counterexample, where one is found
+	Note   string `json:"note"` // a counterexample, where one is found
 }
 
 // CheckSchema reports what tmpl-check finds with --schema: every error in the files; where there is none, what of the schema is not
