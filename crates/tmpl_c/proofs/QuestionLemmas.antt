@@ -1,5 +1,5 @@
 -- For `check_schema`: what the check of the sources accepts is what the caller asks for.
-use Rattle.std.proofs.Common.{◌≡◌, ◌∙◌, ℕ, ⊥, absurd, false, true, List, [], ◌∷◌, Option, None, Some, Ok, ap, length, map, refl, subst, sym}
+use Rattle.std.proofs.Common.{◌≡◌, ◌∙◌, ℕ, false, true, List, [], ◌∷◌, Option, None, Some, Ok, ap, length, map, refl, subst, sym}
 use Rattle.std.specs.Prelude.{IfSome, eqb, is_some, option_map, slice_get, if◌then◌else◌}
 use Rattle.std.specs.Borrow.{Bor}
 use Rattle.std.specs.Option.{option_map_or}
@@ -42,13 +42,15 @@ module _ (files : List File) (q : Question) (asked : report.Question) (sources :
       let by_mode = subst (λ m. NeverFailsOver document m (map (λ stop. stop.now) asked.stops.items) set (asked_name asked first.now)) mode safe in
       let by_stops = subst (λ ss. NeverFailsOver document (mode_asked q.mode) ss set (asked_name asked first.now)) stops by_mode in
       let by_name = subst (λ n. NeverFailsOver document (mode_asked q.mode) (stops_asked q.stops.now) set n)
-          (named asked.name q.name.now first.now (pairs_of files) name same) by_stops in
+      (named asked.name q.name.now first.now (pairs_of files) name same) by_stops in
       (document, ap document_of (sym bytes) ∙ reads, by_name)
 
   pub never-fails : AreGiven files q sources → IsAsked files q asked → IsSafe asked sources → NeverFails (pairs_of files) q
-  never-fails given is safe =
-      (safe.0, subst (λ ps. AreAdded [] ps safe.0) given.0 (added [] safe.0 sources.templates.items safe.1),
-      by sources.schema given.2 asked.first is.0 is.1 (safe.3 given.3))
+  never-fails given is safe = (
+    safe.0,
+    subst (λ ps. AreAdded [] ps safe.0) given.0 (added [] safe.0 sources.templates.items safe.1),
+    by sources.schema given.2 asked.first is.0 is.1 (safe.3 given.3),
+  )
     where
       by : (schema : Option Source) → option_map pair_in schema ≡ Some (pair_of q.schema) → (first : Option (Bor Bytes))
           → IfSome first (λ f. base_name f.now ≡ first_name (pairs_of files)) → is_some first ≡ true

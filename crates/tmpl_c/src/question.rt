@@ -1,6 +1,7 @@
 //! A check of templates over all data of a JSON Schema.
-ghost use Rattle.std.specs.Prelude.{◌≡◌, ◌⊎◌, [], IfOk, map};
+ghost use Rattle.std.specs.Prelude.{◌≡◌, ◌⊎◌, [], IfOk, map, if◌then◌else◌};
 ghost use Rattle.tmpl_syntax.specs.Parse.{base_name};
+ghost use Rattle.tmpl_report.specs.Finding.{has_error};
 ghost use Rattle.tmpl_c.specs.Passed.{pair_of, pairs_of};
 ghost use Rattle.tmpl_c.specs.Question.{Answers, Reports, first_name, format_asked, mode_asked, stops_asked};
 ghost use Rattle.tmpl_c.specs.Texts.{bytes_in};
@@ -12,7 +13,7 @@ use crate::text::Text;
 use std::alloc::{AllocError, AllocFailed, Global};
 use std::str::from_utf8;
 use tmpl_engine::{MissingKey, NameHash};
-use tmpl_report::{self as report, Format, Source, Sources, findings_of};
+use tmpl_report::{self as report, Findings, Format, Source, Sources, findings_of};
 
 /// Why there is no answer.
 enum Stop {
@@ -162,6 +163,13 @@ fn asked_of<'a>(
     })
 }
 
+/// The status of findings: 4 where one is an error.
+fn status_of(findings: &Findings<'_>) -> u8
+    ensures { result ≡ (if has_error findings.now then 4 else 0) }
+{
+    if findings.has_errors() { 4 } else { 0 }
+}
+
 /// Adds the findings to lines, which are empty. The status.
 fn report_into(
     alloc: Global,
@@ -178,7 +186,7 @@ fn report_into(
     let findings = findings_of(alloc, hash, &asked, &sources)?;
     let text = findings.text(alloc, format_asked(question.format))?;
     lines.bytes.extend_from_slice(text.as_bytes())?;
-    Ok(if findings.has_errors() { 4 } else { 0 })
+    Ok(status_of(&findings))
 }
 
 /// Puts the findings into a text of the library's own. The status.
