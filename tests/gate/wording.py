@@ -53,7 +53,7 @@ EXCEPTIONS = (
 SPOKEN = ["tmpl_hints", "tmpl_problems", "tmpl_shape", "tmpl_schema", "tmpl_json_schema", "tmpl_reasons", "tmpl_samples",
           "tmpl_report", "tmpl_check", "tmpl_tool"]
 # .. and those whose comments are held to this too
-COMMENTED = ["tmpl_shape", "tmpl_loops", "tmpl_schema", "tmpl_reasons", "tmpl_tool", "tmpl_c"]
+COMMENTED = ["tmpl_hints", "tmpl_shape", "tmpl_loops", "tmpl_schema", "tmpl_reasons", "tmpl_tool", "tmpl_c"]
 # .. and of these the whole text, or comments and strings
 WHOLE = ["bindings/python/*.py", "completions/*"]
 BOUND = ["bindings/c/*.[ch]", "bindings/c/*.hpp", "bindings/go/tmpl.go", "bindings/rust/src/*.rs", "bindings/javascript/*.mjs", "bindings/javascript/*.ts"]

@@ -658,6 +658,7 @@ BOUNDED = [
     ("80 forms beside what is asked for", of({"u": FORMS[80], "l": ITEMS}), "{{range .l}}{{if $.l}}{{.}}{{end}}{{end}}" * 20, [], None),
     ("600 forms beside what is asked for", of({"u": FORMS[600], "l": ITEMS}), "{{range .l}}{{if $.l}}{{.}}{{end}}{{end}}" * 20, [], None),
     ("20 ranges inside one another, each with a variable", of({"l": ITEMS}), INSIDE, [], COMPLEX),
+    ("500 controls inside one another", {}, "{{if .}}" * 500 + "{{%s1%s}}" % ("(" * 100, ")" * 100) + "{{end}}" * 500, [], COMPLEX),
     ("1,600 aliases and 1,600 guards", of({name: ITEMS for name in MANY[:1_600]}),
      ALIASES + "".join("{{if $x%d}}x{{end}}" % number for number in range(1_600)), [], COMPLEX),
     ("10,000 variables", of({"l": ITEMS}), "".join("{{$x%d := $.l}}" % number for number in range(10_000)), [], COMPLEX),

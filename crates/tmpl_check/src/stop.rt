@@ -1,11 +1,11 @@
-//! Why the command may end before all is told.
+//! Why the command may end before all is reported.
 
 ghost use Rattle.std.specs.Prelude.{◌≡◌};
 ghost use Rattle.tmpl_check.specs.declared.stop.Stop.TheVariants as stop;
 
 use std::alloc::{AllocError, AllocFailed};
 
-/// Why the command ends before all is told.
+/// Why the command ends before all is reported.
 #[derive(Clone, Copy)]
 pub(crate) enum Stop {
     OutOfMemory,

@@ -5,7 +5,7 @@ use Rattle.std.specs.List.{flat_map}
 use Rattle.std.specs.Str.{is_utf8}
 use Rattle.tmpl_values.specs.Quote.{hexes}
 
--- the text so far, or none where memory was refused for some part of it
+-- the text so far, or none where memory ran out for some part of it
 abbrev pub Said : Type 0
 Said = Option (List ℕ)
 

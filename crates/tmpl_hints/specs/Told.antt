@@ -1,4 +1,4 @@
--- What is said of an action that is empty or out of place, of a name that is not declared, and of what is left open.
+-- The messages about an action that is empty or out of place, a name that is not declared, and what is left open.
 use Rattle.std.specs.Prelude.{◌-◌, ℕ, nat_lt, Bool, true, false, List, [], ◌++◌, codes, decimal}
 use Rattle.std.specs.Prelude.{Option, Some, None, if◌then◌else◌}
 use Rattle.tmpl_hints.specs.declared.action.Open.{Open}
@@ -31,7 +31,7 @@ more_open depth = if nat_lt 1 depth then codes ", inside " ++ decimal (depth - 1
 abbrev pub left_open : Open → ℕ → List ℕ
 left_open part depth = open_at part ++ codes " at the end of the file" ++ more_open depth
 
--- what is open where an action stands, after what is said of the action
+-- what is open where an action stands, after the message about the action
 abbrev pub inside : Option Open → List ℕ
 inside None = []
 inside (Some part) = codes ": " ++ open_at part

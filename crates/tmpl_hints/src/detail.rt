@@ -277,7 +277,7 @@ fn find_unbalanced(tokens: &[Token<'_>]) -> Option<(usize, Flaw)> {
     }
 }
 
-/// What is said of a flaw.
+/// The message about a flaw.
 fn flaw_text(alloc: Global, tokens: &[Token<'_>], at: (usize, Flaw)) -> Result<String, AllocError> {
     let (index, flaw) = at;
     let bytes = match tokens.get(index) {
@@ -305,7 +305,7 @@ fn flaw_text(alloc: Global, tokens: &[Token<'_>], at: (usize, Flaw)) -> Result<S
     said.finish()
 }
 
-/// What is said of a word that names no function.
+/// The message about a word that names no function.
 fn no_function(said: Sentence, tokens: &[Token<'_>], index: usize, word: &[u8]) -> Sentence {
     let said = said.say("no function ").quote(word);
     if let Some(text) = straight(word) {
@@ -328,7 +328,7 @@ fn no_function(said: Sentence, tokens: &[Token<'_>], index: usize, word: &[u8]) 
     name_text(said, tokens, index, word)
 }
 
-/// What is said of a word that names no function and is like none.
+/// The message about a word that names no function and is like none.
 fn name_text(said: Sentence, tokens: &[Token<'_>], index: usize, word: &[u8]) -> Sentence {
     let is_name = significant_before(tokens, index).is_some_and(|token| is_name_keyword(
         token.bytes,
@@ -407,7 +407,7 @@ fn is_name_keyword(word: &[u8]) -> bool {
     word == b"template".as_slice() || word == b"define".as_slice() || word == b"block".as_slice()
 }
 
-/// What is said of a field whose name begins with a digit.
+/// The message about a field whose name begins with a digit.
 fn index_text(said: Sentence, tokens: &[Token<'_>], index: usize, bytes: &[u8]) -> Sentence {
     let said = said.say("no field ").quote(bytes).say(": write index ");
     let said = match before(tokens, index) {
@@ -421,7 +421,7 @@ fn index_text(said: Sentence, tokens: &[Token<'_>], index: usize, bytes: &[u8]) 
     }
 }
 
-/// What is said of a constant that is none.
+/// The message about a constant that is none.
 fn constant_text(said: Sentence, bytes: &[u8]) -> Sentence {
     match bytes {
         [b'\'', text @ .., b'\''] if !text.contains(&b'\\') => said
@@ -448,7 +448,7 @@ fn constant_text(said: Sentence, bytes: &[u8]) -> Sentence {
     }
 }
 
-/// What is said of an action in which each token alone may stand where it does.
+/// The message about an action in which each token alone may stand where it does.
 fn shape_text(said: Sentence, first: Token<'_>, tokens: &[Token<'_>]) -> Sentence {
     let word = first.bytes;
     let is_alone = significant(tokens, 1).is_none();
@@ -467,7 +467,7 @@ fn shape_text(said: Sentence, first: Token<'_>, tokens: &[Token<'_>]) -> Sentenc
     }
 }
 
-/// What is said of an action that is out of place.
+/// The message about an action that is out of place.
 pub fn misplaced_text(
     alloc: Global,
     role: Role,
@@ -512,7 +512,7 @@ fn open_text(said: Sentence, part: Open) -> Sentence
         .say(" is open")
 }
 
-/// What is said of an else that is out of place, without what is open there.
+/// The message about an else that is out of place, without what is open there.
 fn else_text(said: Sentence, outside: Option<Open>) -> Sentence
     ensures { Adds said result (spec.misplaced_else outside) }
 {
@@ -530,7 +530,7 @@ fn else_text(said: Sentence, outside: Option<Open>) -> Sentence
     }
 }
 
-/// What is said of a name that is not in scope.
+/// The message about a name that is not in scope.
 pub fn undeclared_text(alloc: Global, name: &[u8]) -> Result<String, AllocError>
     ensures { IfOk result (λ t. string_bytes t ≡ spec.undeclared name.now) }
 {
@@ -541,7 +541,7 @@ pub fn undeclared_text(alloc: Global, name: &[u8]) -> Result<String, AllocError>
         .finish()
 }
 
-/// What is said of what is open at the end of a file, in which this many parts are open.
+/// The message about what is open at the end of a file, in which this many parts are open.
 pub fn left_open(alloc: Global, part: Open, depth: usize) -> Result<String, AllocError>
     ensures { IfOk result (λ t. string_bytes t ≡ spec.left_open part depth) }
 {

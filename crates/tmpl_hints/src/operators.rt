@@ -58,14 +58,14 @@ fn sign(sign: &'static [u8], function: &'static str) -> Operator {
 }
 
 impl Operator {
-    /// What is said of it, where it begins with the token of this number.
+    /// The message about it, where it begins with the token of this number.
     pub(crate) fn text(self, said: Sentence, tokens: &[Token<'_>], index: usize) -> Sentence {
         let said = self.begin(said);
         let said = show_left(said, tokens, index).say(" ");
         show_right(said, tokens.get(index.saturating_add(2)..))
     }
 
-    /// What is said of it, where it is no token and stands after these and before these bytes.
+    /// The message about it, where it is no token and stands after these and before these bytes.
     pub(crate) fn text_between(
         self,
         said: Sentence,
@@ -77,7 +77,7 @@ impl Operator {
         show_value(said, first_word(after))
     }
 
-    /// What is said of it up to its operands.
+    /// The message about it, up to its operands.
     fn begin(self, said: Sentence) -> Sentence {
         said.quote(self.sign)
             .say(" is no operand: write ")

@@ -1,4 +1,4 @@
-//! What is said of a problem.
+//! The message about a problem.
 ghost use Rattle.std.specs.Prelude.{◌≡◌, ◌<◌, ◌++◌, [], Some, None, IfOk, OnErr, codes, string_bytes};
 ghost use Rattle.std.specs.Fmt.{decimal};
 ghost use Rattle.std.specs.Char.{encode_utf8};
@@ -14,7 +14,7 @@ use tmpl_values::digit;
 /// The most bytes of a piece of a file that are shown.
 const MOST_SHOWN: usize = 80;
 
-/// A text in the making. That memory is refused for a part of it is said once, at its end.
+/// A text in the making. That memory ran out for a part of it is answered once, at its end.
 #[derive(Drop)]
 pub struct Sentence {
     text: String,
@@ -133,7 +133,7 @@ impl Sentence {
     ///
     /// # Errors
     ///
-    /// Where memory was refused for some part of it.
+    /// Where memory ran out for some part of it.
     pub fn finish(self) -> Result<String, AllocError>
         ensures text { IfOk result (λ t. self ≡ Some (string_bytes t)) }
         ensures refused { OnErr result (self ≡ None) }

@@ -53,7 +53,7 @@ fn read_len(tokens: &[Token<'_>], after: &[u8]) -> usize {
     len
 }
 
-/// What is said of bytes with which no token begins.
+/// The message about bytes with which no token begins.
 fn said_of(said: Sentence, tokens: &[Token<'_>], bytes: &[u8]) -> Sentence {
     if let Some(operator) = operator_in(bytes) {
         let rest = bytes.get(operator.sign.len()..).unwrap_or(&[]);
@@ -97,7 +97,7 @@ fn said_of(said: Sentence, tokens: &[Token<'_>], bytes: &[u8]) -> Sentence {
     }
 }
 
-/// What is said of a `!` before this word.
+/// The message about a `!` before this word.
 fn not_text(said: Sentence, word: &[u8]) -> Sentence {
     let said = said.say("unexpected \"!\": write not ");
     if word.is_empty() {
@@ -112,7 +112,7 @@ fn ends_with_field(tokens: &[Token<'_>]) -> bool {
     matches!(tokens.last(), Some(token) if token.kind == TokenKind::Field)
 }
 
-/// What is said of a key with a `-` that is written as a field.
+/// The message about a key with a `-` that is written as a field.
 fn key_text(said: Sentence, tokens: &[Token<'_>], bytes: &[u8]) -> Sentence {
     let index = tokens.len().saturating_sub(1);
     let name = match tokens.last() {

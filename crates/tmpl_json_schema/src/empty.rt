@@ -108,7 +108,7 @@ fn check_part(alloc: Global, part: Part, value: &Value) -> Result<(), SchemaFaul
 ///
 /// # Errors
 ///
-/// Where memory is refused.
+/// Where memory runs out.
 pub fn part_without_values(alloc: Global, root: &Value) -> Result<Option<Refused>, AllocError> {
     let found = match root {
         Value::Bool(false) => Err(refusal(alloc, NO_VALUE)),

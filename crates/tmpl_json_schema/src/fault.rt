@@ -17,7 +17,7 @@ pub struct Refused {
 /// Why a schema is not read.
 #[derive(Drop)]
 pub enum SchemaFault {
-    /// Memory was refused.
+    /// Memory ran out.
     OutOfMemory,
     /// Something in it is not understood.
     Refused(Refused),

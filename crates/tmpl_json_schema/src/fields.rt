@@ -145,7 +145,7 @@ pub(crate) fn required_in(
     }
 }
 
-/// Whether something is said of fields and items.
+/// Whether there are keywords of fields and items.
 pub fn has_content(schema: &Value) -> bool
     ensures { result ≡ has_content (view schema.now) }
 {

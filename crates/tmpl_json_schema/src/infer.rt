@@ -15,13 +15,13 @@ use crate::conform::count_keys;
 use serde_json::{Map, Value, put};
 use std::alloc::{AllocError, Global};
 
-/// How many levels of samples are told: below them each value fits.
+/// How many levels of samples the schema has: below them each value fits.
 const LEVELS: usize = 40;
 
 /// The draft of JSON Schema.
 const DRAFT: &str = "https://json-schema.org/draft/2020-12/schema";
 
-/// What is told of the keys of maps.
+/// What is stated of the keys of maps.
 #[derive(Drop)]
 struct Keys {
     /// For each of them a schema of the values there.
@@ -174,7 +174,7 @@ fn schema_of(
     Ok(schema)
 }
 
-/// Adds what is said of the items of lists, if there are some.
+/// Adds what is stated of the items of lists, if there are some.
 #[cycle(infer)]
 fn add_items(
     alloc: Global,
@@ -193,7 +193,7 @@ fn add_items(
     put(schema, alloc, "items", Value::Object(told))
 }
 
-/// Adds what is said of the keys of maps, if there are some.
+/// Adds what is stated of the keys of maps, if there are some.
 #[cycle(infer)]
 fn add_properties(
     alloc: Global,
@@ -222,7 +222,7 @@ fn add_properties(
     put(schema, alloc, "required", Value::Array(required))
 }
 
-/// Adds what is told of the keys of one of the maps.
+/// Adds what is stated of the keys of one of the maps.
 #[cycle(infer)]
 fn add_keys(
     alloc: Global,
@@ -244,7 +244,7 @@ fn add_keys(
     Ok(())
 }
 
-/// Adds what is told of a key of maps.
+/// Adds what is stated of a key of maps.
 #[cycle(infer)]
 fn add_key(
     alloc: Global,

@@ -15,7 +15,7 @@ enum Keyword {
     Note,
     /// .. a text.
     NoteText,
-    /// .. a truth value.
+    /// .. a boolean.
     NoteTruth,
     /// Only narrows: by a number.
     Number,
@@ -23,7 +23,7 @@ enum Keyword {
     Count,
     /// .. by a text.
     Text,
-    /// .. by a truth value.
+    /// .. by a boolean.
     Truth,
     /// .. by an object.
     Object,

@@ -64,7 +64,7 @@ fn reference_shape(reader: &Reader<'_>, reference: &Value) -> Result<Shape, Sche
     }
 }
 
-/// The alternatives, where they are not beside what is said of fields and items.
+/// The alternatives, where they are not beside keywords of fields and items.
 pub fn choices_in(schema: &Value) -> Option<&Value>
     ensures { option_map (λ v. view v.now) result ≡ choices_in (view schema.now) }
 {
@@ -261,7 +261,7 @@ fn some_shape(reader: &Reader<'_>, steps: usize, choices: &[Value]) -> Result<Sh
     Ok(shape)
 }
 
-/// The shape of values of these kinds, by what is said of fields and items.
+/// The shape of values of these kinds, by the keywords of fields and items.
 #[cycle(read)]
 fn content_shape(
     reader: &Reader<'_>,

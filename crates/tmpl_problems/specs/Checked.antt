@@ -1,4 +1,4 @@
--- What is refused of a file, without what is said of it, and what is told beyond.
+-- What is refused of a file, without its message, and what is reported beyond.
 use Rattle.std.specs.Prelude.{◌≡◌, Bool, false, List, [], map}
 use Rattle.std.specs.List.{list_any}
 use Rattle.tmpl_syntax.specs.Fault.{reason_of}

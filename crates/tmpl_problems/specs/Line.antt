@@ -30,7 +30,7 @@ place_in_line place level = codes ":" ++ (decimal place.0 ++ (codes ":" ++ (deci
 abbrev pub line_of : List ℕ → ℕ × ℕ → List ℕ → List ℕ → List ℕ
 line_of file place level text = shown_in_line file ++ (place_in_line place level ++ (shown_in_line text ++ codes "\n"))
 
--- a reason, and what more is said of it, if anything is
+-- a reason, and a detail, if there is one
 abbrev pub reason_with : List ℕ → List ℕ → List ℕ
 reason_with reason detail = if length detail == 0 then reason else reason ++ codes ": " ++ detail
 

@@ -18,7 +18,7 @@ use tmpl_syntax::{NameHash, ParseKind, Refused, Set, examine_file};
 ///
 /// # Errors
 ///
-/// Where memory was refused; the set is then as it was, or has the file's templates.
+/// Where memory ran out; the set is then as it was, or has the file's templates.
 #[tactic(auto, using(crate::proofs::BeyondLemmas::beyond_same))]
 pub fn check_file(
     alloc: Global,

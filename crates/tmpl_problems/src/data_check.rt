@@ -54,7 +54,7 @@ impl DataReason {
 ///
 /// # Errors
 ///
-/// Where memory was refused.
+/// Where memory ran out.
 pub fn check_data(alloc: Global, bytes: &[u8]) -> Result<DataReport, AllocError>
     ensures { IfOk result (λ report. IsJudgedData bytes.now report.refused) }
 {

@@ -80,7 +80,7 @@ fn detail_by(
     }
 }
 
-/// What is said of a second definition in this file whose header has these tokens, and of which the first is on this
+/// The message about a second definition in this file whose header has these tokens, and of which the first is on this
 /// line.
 fn second_detail(
     alloc: Global,
@@ -146,7 +146,7 @@ fn opening_as(opening: tmpl_syntax::Opening) -> Opening {
     }
 }
 
-/// What is said of a second definition of this name, of which the first is on this line.
+/// The message about a second definition of this name, of which the first is on this line.
 fn second_text(alloc: Global, name: &[u8], first: u64) -> Result<String, AllocError> {
     Sentence::new(alloc)
         .say("second definition of ")

@@ -26,7 +26,7 @@ impl<'a> Finding<'a> {
     ///
     /// # Errors
     ///
-    /// Where memory was refused; a part of the line may then have been added.
+    /// Where memory ran out; a part of the line may then have been added.
     pub fn push_to(&self, out: &mut String) -> Result<(), AllocError>
         ensures { OnOk result (string_bytes out.new
             ≡ string_bytes out.old ++ line_of self.now.file.now self.now.place self.now.level.now self.now.text.now) }
@@ -115,7 +115,7 @@ fn push_digit(out: &mut String, n: u32) -> Result<(), AllocError>
     out.push(digit(n, false) as char)
 }
 
-/// A reason, and what more is said of it.
+/// A reason, and a detail.
 pub fn reason_text(alloc: Global, reason: &str, detail: &str) -> Result<String, AllocError>
     ensures { IfOk result (λ t. string_bytes t ≡ reason_with reason.now detail.now) }
 {

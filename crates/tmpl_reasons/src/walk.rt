@@ -10,8 +10,11 @@ use tmpl_syntax::{
 };
 use tmpl_values::Bytes;
 
-/// How deep controls and parentheses nest that are looked into: more than a file may have.
+/// How deep parentheses nest that are looked into: more than a file may have.
 const LEVELS: usize = 1_000;
+
+/// How deep controls nest that are visited, so that the stack suffices. Inside deeper ones no reason is found.
+const MOST_CONTROLS: usize = 200;
 
 /// How often templates are visited, until what is passed to them reaches a fixpoint.
 const MOST_ROUNDS: usize = 12;
@@ -516,7 +519,7 @@ fn walked<'w>(
 ) -> Result<Walk<'w>, AllocError> {
     let alloc = document.alloc;
     let mut assigned = Vec::new(alloc);
-    add_assigned(LEVELS, tree.nodes.as_slice(), &mut assigned)?;
+    add_assigned(MOST_CONTROLS, tree.nodes.as_slice(), &mut assigned)?;
     let mut walk = Walk {
         document,
         name: dot.name,
@@ -528,7 +531,7 @@ fn walked<'w>(
     };
     walk.declare(b"", &dot.origin)?;
     walk.declare(DOT, &dot.origin)?;
-    walk.nodes(LEVELS, tree.nodes.as_slice())?;
+    walk.nodes(MOST_CONTROLS, tree.nodes.as_slice())?;
     Ok(walk)
 }
 

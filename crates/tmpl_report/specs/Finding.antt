@@ -4,7 +4,7 @@ use Rattle.std.specs.List.{list_any}
 use Rattle.tmpl_report.specs.declared.entry.Level.{Level}
 use Rattle.tmpl_report.specs.Level.{is_error}
 
--- what is found at a place of a file, the rule that it breaks, and what else is said of it, if anything is
+-- what is found at a place of a file, the rule that it breaks, and a note, if there is one
 pub record Finding : Type 0 where
   pub file : List ℕ
   pub line : ℕ

@@ -14,7 +14,7 @@ members_of (m ∷ ms) = member m.0 m.1 (members_of ms)
 abbrev pub object_of : List (List ℕ × Data) → Data
 object_of ms = object (members_of ms)
 
--- what is found at one place, with what else is said of it if anything is
+-- what is found at one place, with a note if there is one
 abbrev pub item_of : Finding → Data
 item_of f = object_of ((codes "file", string f.file) ∷ (codes "line", number (unsigned f.line))
     ∷ (codes "column", number (unsigned f.column)) ∷ (codes "level", string (word_of f.level))

@@ -8,7 +8,7 @@ abbrev pub is_error : Level → Bool
 is_error Error = true
 is_error Warning = false
 
--- its word, as it is told
+-- its word, as it is printed
 abbrev pub word_of : Level → List ℕ
 word_of Error = codes "error"
 word_of Warning = codes "warning"

@@ -34,11 +34,11 @@ abbrev pub place_of : Finding → Data
 place_of f = object_of ((codes "artifactLocation", object_of ((codes "uri", string (uri_of f.file)) ∷ []))
     ∷ (codes "region", region_of f) ∷ [])
 
--- a list of that place alone, with what is said of it there, if anything is
+-- a list of that place alone, with a note there, if there is one
 abbrev pub locations_of : Finding → List (List ℕ × Data) → Data
 locations_of f said = array (item (object_of (said ++ (codes "physicalLocation", place_of f) ∷ [])) no_items)
 
--- what is found at one place, with what else is said of it if anything is
+-- what is found at one place, with a note if there is one
 abbrev pub result_of : Finding → Data
 result_of f = object_of ((codes "ruleId", string f.rule) ∷ (codes "level", string (word_of f.level))
     ∷ (codes "message", message_of f.text) ∷ (codes "locations", locations_of f [])

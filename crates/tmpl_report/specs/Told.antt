@@ -1,4 +1,4 @@
--- How what is found is told.
+-- How findings are printed.
 use Rattle.std.specs.Prelude.{ℕ, List, [], ◌++◌, flat_map, codes}
 use Rattle.std.specs.Option.{option_map_or}
 use Rattle.tmpl_problems.specs.Line.{line_of}
@@ -9,12 +9,12 @@ use Rattle.tmpl_report.specs.Json.{json_of}
 use Rattle.tmpl_report.specs.Level.{word_of}
 use Rattle.tmpl_report.specs.Sarif.{log_of}
 
--- a line on what is found, and one on what else is said of it
+-- a line for the finding, and one for the note
 abbrev pub lines_of : Finding → List ℕ
 lines_of f = line_of f.file (f.line, f.column) (word_of f.level) f.text
     ++ option_map_or (λ note. line_of f.file (f.line, f.column) (codes "note") note) f.note []
 
--- what is put out
+-- what is written
 abbrev pub told : Format → List Finding → List ℕ
 told Text found = flat_map lines_of found
 told Json found = json_of found

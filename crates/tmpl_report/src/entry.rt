@@ -41,7 +41,7 @@ pub(crate) struct Entry<'a> {
     pub(crate) column: u64,
     pub(crate) rule: Rule,
     pub(crate) text: String,
-    /// What else is said of it.
+    /// A note on it.
     pub(crate) note: Option<String>,
 }
 

@@ -54,7 +54,7 @@ fn say_item(alloc: Global, said: Sentence, entry: &Entry<'_>) -> Result<Sentence
     Ok(say_note(alloc, said, entry)?.say("}"))
 }
 
-/// Says what else is said of it, if anything is, as one more member.
+/// Writes the note, if there is one, as one more member.
 fn say_note(alloc: Global, said: Sentence, entry: &Entry<'_>) -> Result<Sentence, AllocError>
     ensures { IfOk result (λ s. Adds said s (option_map_or (λ note. codes ",\"note\":" ++ compact_text (string note))
         entry.now.note [])) }

@@ -92,7 +92,7 @@ fn say_message(alloc: Global, said: Sentence, text: &str) -> Result<Sentence, Al
     Ok(say_quoted(alloc, said.say("{\"text\":"), text)?.say("}"))
 }
 
-/// Says what else is said of it, if anything is, as one more property.
+/// Writes the note, if there is one, as one more property.
 fn say_note(alloc: Global, said: Sentence, entry: &Entry<'_>) -> Result<Sentence, AllocError>
     ensures { IfOk result (λ s. Adds said s (option_map_or (λ note. codes ",\"relatedLocations\":"
         ++ compact_text (locations_of entry.now ((codes "message", message_of note) ∷ []))) entry.now.note [])) }

@@ -54,7 +54,7 @@ Fits n schema v = (root : Data) → conforms_in root n schema v
 abbrev pub room : ℕ → ℕ
 room levels = 2 * levels + 1
 
--- what is told of items: a schema to which each conforms, or nothing
+-- the schema of items: one to which each conforms, or nothing
 abbrev pub AddsItems : ℕ → List Data → Members → Members → Type 0
 AddsItems levels samples old new = (new ≡ old)
     ⊎ ((d : Data) × (new ≡ put (codes "items") d old) × EachValue (Fits (suc levels) d) (flat_map items_of_list samples)
@@ -72,7 +72,7 @@ AreSharedBy maps no_items = Unit {0}
 AreSharedBy maps (json.item d ds) =
     ((k : List ℕ) × (d ≡ json.string k) × AllByRecursion (λ m. IsSome (get_member k m)) maps) × AreSharedBy maps ds
 
--- what is told of the keys of maps
+-- what is stated of the keys of maps
 pub record AreTold (levels : ℕ) (maps : List Members) (ps : Members) (ks : Items) : Type 0 where
   pub properties : ArePropertiesOf levels maps ps
   pub required : AreSharedBy maps ks

@@ -199,7 +199,7 @@ abbrev pub or_else : Option Data → Option Data → Option Data
 or_else None o = o
 or_else (Some d) o = Some d
 
--- the alternatives, where they are not beside what is said of fields and items
+-- the alternatives, where they are not beside keywords of fields and items
 abbrev pub choices_in : Data → Option Data
 choices_in d = if has_content d then None else or_else (get (codes "anyOf") d) (get (codes "oneOf") d)
 

@@ -27,7 +27,7 @@ AreSamplesOf [] [] = Unit {0}
 AreSamplesOf (file ∷ files) (sample ∷ samples) = IsSampleOf file sample × AreSamplesOf files samples
 AreSamplesOf files samples = ⊥
 
--- the files have samples, or one of them has no value and that is told
+-- the files have samples, or one of them has no value and that is reported
 abbrev pub AreRead : List Source → List Finding → List Value → Type 0
 AreRead files found samples = ((has_error found ≡ false) × AreSamplesOf files samples)
     ⊎ ((has_error found ≡ true) × Any HasNoValue files)
