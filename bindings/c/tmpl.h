@@ -10,7 +10,8 @@
  *     tmpl_data_read      data, in the thread that renders them
  *     tmpl_render_text    the text, in memory of the library's own, which the next call uses again
  *
- * To report every error in template files, where it is, and what to write instead: tmpl_check.
+ * To report every error in template files, where it is, and what to write instead: tmpl_check. To report where a template may fail over
+ * data of a JSON Schema, with counterexamples: tmpl_check_schema.
  *
  * What may be done from which thread:
  *
@@ -126,6 +127,30 @@ uint8_t tmpl_set_print(tmpl_set *set, tmpl_text *text);
  * file that is refused adds nothing to those after it. Gives TMPL_OK where nothing is wrong, TMPL_REFUSED where a file is
  * refused, TMPL_NOT_TEXT where the name of one is not UTF-8, or TMPL_MEMORY. But with TMPL_REFUSED `text` is empty. */
 uint8_t tmpl_check(const tmpl_file *files, size_t file_count, tmpl_text *text);
+
+/* The name of a template, any bytes that are UTF-8. It is borrowed for the call. */
+typedef struct tmpl_name {
+    const char *bytes;
+    size_t size;
+} tmpl_name;
+
+/* What tmpl_check_schema is asked. All that its pointers lead to is borrowed for the call. */
+typedef struct tmpl_question {
+    tmpl_file schema;       /* a JSON Schema, and the name by which findings call it */
+    const char *name;       /* the template that is rendered */
+    size_t name_size;       /* 0: the template that the first file itself is */
+    const tmpl_name *stops; /* templates that may be missing, since a call of them is meant to fail, as with the option --stop */
+    size_t stop_count;
+    uint8_t mode;           /* for which missing keys: 0 for each of the following, 1 default, 2 invalid, 3 zero, 4 error */
+    uint8_t format;         /* the form of the findings: 0 a line for each, 1 JSON, 2 SARIF 2.1.0, as tmpl-check writes them */
+} tmpl_question;
+
+/* Reports where the template may fail over data of a JSON Schema, as tmpl-check does with --schema: in `text` every error in the
+ * files; where there is none, what of the schema is not understood; else each place that may fail, with a counterexample where one is
+ * found; and warnings. Gives TMPL_OK where there is no error: then the template fails over no data that conform to the schema and that
+ * tmpl_data_read accepts, but by a limit of its settings or a stop. Gives TMPL_REFUSED where there is an error, TMPL_NOT_TEXT where a
+ * name is not UTF-8, or TMPL_MEMORY; with the last two `text` is empty. */
+uint8_t tmpl_check_schema(const tmpl_file *files, size_t file_count, const tmpl_question *question, tmpl_text *text);
 
 /* Frees a set. It is empty then. */
 void tmpl_set_free(tmpl_set *set);

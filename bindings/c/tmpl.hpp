@@ -176,6 +176,40 @@ inline std::vector<problem> check(const files &files, std::size_t most) {
     return found;
 }
 
+/// What a template is checked for: a JSON Schema, the name by which findings call it, the template that is rendered (the first file's own
+/// where it is empty), templates that may be missing, the mode (0 each, 1 default, 2 invalid, 3 zero, 4 error) and the form of the findings
+/// (0 lines, 1 JSON, 2 SARIF).
+struct question {
+    std::string_view schema;
+    std::string_view schema_name = "schema";
+    std::string_view name = "";
+    std::vector<std::string_view> stops = {};
+    int mode = 0;
+    int format = 0;
+};
+
+/// Whether a template never fails over data of a schema, but by limits and stops, and what was found.
+struct verdict {
+    bool is_safe;
+    std::string findings;
+};
+
+/// Checks a template over all data of a JSON Schema. Throws `error` where a name is not UTF-8.
+inline verdict check_schema(const files &files, const question &asked) {
+    std::vector<tmpl_file> passed;
+    passed.reserve(files.size() + 1);
+    for (const auto &[path, bytes] : files) passed.push_back(inside::file(path, bytes));
+    std::vector<tmpl_name> stops;
+    stops.reserve(asked.stops.size() + 1);
+    for (const auto &stop : asked.stops) stops.push_back({inside::start(stop), stop.size()});
+    const tmpl_question question{inside::file(asked.schema_name, asked.schema), inside::start(asked.name), asked.name.size(), stops.data(), stops.size(),
+                                 static_cast<std::uint8_t>(asked.mode), static_cast<std::uint8_t>(asked.format)};
+    inside::text text;
+    const int status = tmpl_check_schema(passed.data(), passed.size(), &question, &text);
+    if (status != TMPL_REFUSED) inside::judge(status, "tmpl: a name is not UTF-8\n");
+    return {status == TMPL_OK, std::string(text.bytes != nullptr ? text.bytes : "", text.size)};
+}
+
 /// One JSON value that is read once; without bytes there is no data, and dot is nothing. Any number of threads render it at the same time.
 class data {
     struct kept {

@@ -11,6 +11,7 @@ import "C"
 
 import (
 	"bytes"
+	"encoding/json"
 	"errors"
 	"fmt"
 	"io"
@@ -99,6 +100,7 @@ var ErrMemory = errors.New("tmpl: out of memory")
 const (
 	notAccepted = 4       // the status of a file that is refused
 	stopped     = 1       // the status of a run that stopped
+	asJSON      = 1       // the form of findings that is asked for
 	full        = 6       // the status of a text that is longer than its limit
 	refused     = 7       // the status for out of memory
 	most        = 1000    // problems of files where nothing else is said
@@ -214,16 +216,27 @@ type CheckOptions struct {
 	Memory uint // how many bytes of memory the library may take; 0 for any
 }
 
+// filesOf is an array of files in memory of C; freeFiles frees it.
+func filesOf(files []File) *C.tmpl_file {
+	array := (*C.tmpl_file)(C.malloc(C.size_t(len(files)+1) * C.size_t(unsafe.Sizeof(C.tmpl_file{}))))
+	for number, file := range files {
+		unsafe.Slice(array, len(files))[number] = fileOf(file)
+	}
+	return array
+}
+
+func freeFiles(array *C.tmpl_file, count int) {
+	for _, file := range unsafe.Slice(array, count) {
+		freed(file)
+	}
+	C.free(unsafe.Pointer(array))
+}
+
 // Check reports the errors in template files, with what to write instead where that is known: the first options.Most of them. There are none
 // where all files are accepted, one after the other.
 func Check(files []File, options CheckOptions) ([]Problem, error) {
-	array := (*C.tmpl_file)(C.malloc(C.size_t(len(files)+1) * C.size_t(unsafe.Sizeof(C.tmpl_file{}))))
-	defer C.free(unsafe.Pointer(array))
-	for number, file := range files {
-		held := fileOf(file)
-		defer freed(held)
-		unsafe.Slice(array, len(files))[number] = held
-	}
+	array := filesOf(files)
+	defer freeFiles(array, len(files))
 	var text C.tmpl_text
 	defer C.tmpl_text_free(&text)
 	err := within(options.Memory, func() error {
@@ -242,6 +255,64 @@ func Check(files []File, options CheckOptions) ([]Problem, error) {
 		rest = rest[end+1:]
 	}
 	return problems, nil
+}
+
+// Question is what a template is asked over a JSON Schema.
+type Question struct {
+	Schema     []byte
+	SchemaName string   // by which findings call it; "schema" where it is empty
+	Name       string   // the template that is rendered; the first file's own where it is empty
+	Stops      []string // templates that may be missing, since a call of them is meant to fail
+	Mode       uint8    // for which missing keys: 0 for each, or 1 more than a value of Options.MissingKey
+	Memory     uint     // how many bytes of memory the library may take; 0 for any
+}
+
+// Finding is what a check over a JSON Schema found, and where.
+type Finding struct {
+	File   string `json:"file"`
+	Line   int    `json:"line"` // from 1, as columns, which count characters
+	Column int    `json:"column"`
+	Level  string `json:"level"` // "error" or "warning"
+	Rule   string `json:"rule"`
+	Text   string `json:"text"`
+	Note   string `json:"note"` // a counterexample, where one is found
+}
+
+// CheckSchema reports what tmpl-check finds with --schema: every error in the files; where there is none, what of the schema is not
+// understood; else each place at which the template may fail over data of the schema; and warnings. Where none has the level "error", the
+// template fails over no data that conform, but by limits and stops.
+func CheckSchema(files []File, question Question) ([]Finding, error) {
+	array := filesOf(files)
+	defer freeFiles(array, len(files))
+	if question.SchemaName == "" {
+		question.SchemaName = "schema"
+	}
+	asked := (*C.tmpl_question)(C.calloc(1, C.size_t(unsafe.Sizeof(C.tmpl_question{}))))
+	defer C.free(unsafe.Pointer(asked))
+	asked.schema = fileOf(File{question.SchemaName, question.Schema})
+	defer freed(asked.schema)
+	asked.name, asked.name_size = copied([]byte(question.Name)), C.size_t(len(question.Name))
+	defer C.free(unsafe.Pointer(asked.name))
+	stops := (*C.tmpl_name)(C.malloc(C.size_t(len(question.Stops)+1) * C.size_t(unsafe.Sizeof(C.tmpl_name{}))))
+	defer C.free(unsafe.Pointer(stops))
+	for number, stop := range question.Stops {
+		name := copied([]byte(stop))
+		defer C.free(unsafe.Pointer(name))
+		unsafe.Slice(stops, len(question.Stops))[number] = C.tmpl_name{bytes: name, size: C.size_t(len(stop))}
+	}
+	asked.stops, asked.stop_count = stops, C.size_t(len(question.Stops))
+	asked.mode, asked.format = C.uint8_t(question.Mode), asJSON
+	var text C.tmpl_text
+	defer C.tmpl_text_free(&text)
+	err := within(question.Memory, func() error {
+		return ended(C.tmpl_check_schema(array, C.size_t(len(files)), asked, &text), []byte("tmpl: a name is not UTF-8"))
+	})
+	if of, is := err.(*Error); err != nil && (!is || of.Status != notAccepted) {
+		return nil, err
+	}
+	var found struct{ Problems []Finding }
+	err = json.Unmarshal(bytesOf(&text), &found)
+	return found.Problems, err
 }
 
 // accepted makes a call that says a line, and makes it again with more memory where the line does not fit.

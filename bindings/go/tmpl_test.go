@@ -184,6 +184,27 @@ func TestFilesAddedMeanwhile(t *testing.T) {
 	}
 }
 
+func TestCheckSchema(t *testing.T) {
+	schema := []byte(`{"type": "object", "properties": {"a": {"type": "string"}}, "required": ["a"]}`)
+	safe := []File{{"m", []byte("{{if .a}}{{len .a}}{{else}}{{template `stop`}}{{end}}")}}
+	found, err := CheckSchema(safe, Question{Schema: schema, Stops: []string{"stop"}})
+	for _, it := range found {
+		if it.Level == "error" {
+			t.Error(it)
+		}
+	}
+	if err != nil {
+		t.Error(err)
+	}
+	found, err = CheckSchema([]File{{"m", []byte("{{len .b}}")}}, Question{Schema: schema})
+	if err != nil || len(found) != 1 || found[0].Line != 1 || found[0].Column != 1 || found[0].Level != "error" || found[0].Note == "" {
+		t.Error(found, err)
+	}
+	if _, err := CheckSchema([]File{{"\xff", nil}}, Question{Schema: schema}); err == nil || err.(*Error).Status != 2 {
+		t.Error(err)
+	}
+}
+
 func TestCheck(t *testing.T) {
 	mistake := "1:1: error: action not understood: no function \"name\": write .name"
 	files := []File{{Name: "a", Bytes: []byte("{{name}}")}, {Name: "b", Bytes: []byte("text")}, {Name: "c", Bytes: []byte("{{name}}")}}

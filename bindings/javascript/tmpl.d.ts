@@ -39,6 +39,33 @@ export class Problem {
     toString(): string;
 }
 
+/** What a check over a JSON Schema found, and where. */
+export interface Finding {
+    readonly file: string;
+    /** From 1, as columns, which count characters. */
+    readonly line: number;
+    readonly column: number;
+    readonly level: "error" | "warning";
+    /** The rule, as `tmpl-check --format json` names it. */
+    readonly rule: string;
+    readonly text: string;
+    /** A counterexample, where one is found. */
+    readonly note?: string;
+}
+
+export interface SchemaOptions {
+    /** The template that is rendered: the first file's own if left out. */
+    name?: Bytes;
+    /** The one mode for missing keys that is asked for: each if left out. */
+    missingKey?: "default" | "invalid" | "zero" | "error";
+    /** Templates that may be missing, since a call of them is meant to fail. */
+    stops?: Iterable<Bytes>;
+    /** The name by which findings call the schema: `"schema"` if left out. */
+    schemaName?: Bytes;
+    /** How many bytes of memory the module may take: any number if left out or 0. */
+    memory?: number;
+}
+
 /** A render that failed. Its message is its line. */
 export class TemplateError extends Error {
     /** As of the command: 1 a fault of the run, 2 the name of a file that is not UTF-8, 4 a refused template file or no template of the
@@ -81,6 +108,10 @@ export interface Engine {
     /** The errors in template files, with what to write instead where that is known: the first `most` of them, 1,000 if that is left out
      * or 0. There are none where all files are accepted, one after the other. */
     check(files: Files, options?: { memory?: number; most?: number }): Problem[];
+    /** What `tmpl-check` finds with `--schema`: every error in the files; where there is none, what of the JSON Schema is not understood; else
+     * each place at which the template may fail over data of the schema; and warnings. Where none has the level `"error"`, the template fails
+     * over no data that conform, but by limits and stops. */
+    checkSchema(files: Files, schema: Bytes, options?: SchemaOptions): Finding[];
     /** Templates that are parsed once, and rendered as often as you like. `memory` is that of each file, as where it is added. */
     templates(files?: Files, options?: { memory?: number }): Templates;
 }

@@ -2,11 +2,12 @@
 // `(await load()).render(files, name, data)`. tmpl.d.ts says what each call takes and gives.
 
 const OK = 0, FAULT = 1, REFUSED = 4, FULL = 6, MEMORY = 7; // statuses of the C library, whose calls the module has
+const AS_JSON = 1; // the form of findings that is asked for
 const MISSING_KEY = { default: 0, invalid: 1, zero: 2, error: 3 };
 const STEPS = 10_000_000; // the steps that a run may take by default
 const ROOM = 1 << 16; // bytes of the first buffer for text
 const LINE = 1 << 12; // bytes of the first buffer for a line
-const FILE = 32, SETTINGS = 24, BUFFER = 32, KEPT = 8, TEXT = 24; // bytes of the structs of tmpl.h, whose pointers have 64 bits
+const FILE = 32, SETTINGS = 24, BUFFER = 32, KEPT = 8, TEXT = 24, NAME = 16, QUESTION = 72; // bytes of the structs of tmpl.h, whose pointers have 64 bits
 const SET = 0, PROGRAM = 1, DATA = 2, OUT = 3, SAID_AT = 4; // the parts of what templates keep
 const MOST = 1000; // problems of files that are kept where nothing else is said
 const SAID = "tmpl: ", ERROR = ": error: "; // before what a line says
@@ -357,6 +358,10 @@ class Engine {
         refuseOthers(options, ["memory", "most"]);
         return problemsOf(this.#host, pairsOf(files), countOf("memory", options), countOf("most", options) || MOST);
     }
+
+    checkSchema(files, schema, options = {}) {
+        return findingsOf(this.#host, pairsOf(files), schema, options);
+    }
 }
 
 /** What finds the problems of files that are refused, once somebody asks for them: the bytes that the host gave are kept until then. */
@@ -388,6 +393,31 @@ function problemsOf(host, pairs, memory, most) {
         return said;
     };
     return host.enter(memory, () => host.lend([TEXT, FILE * pairs.length, ...sizes], lines)).map((it) => problemOf(it, names));
+}
+
+/** What is found of templates over a JSON Schema. */
+function findingsOf(host, pairs, schema, options) {
+    refuseOthers(options, ["name", "missingKey", "stops", "schemaName", "memory"]);
+    const { name = "", missingKey, stops = [], schemaName = "schema" } = options;
+    if (missingKey !== undefined && !Object.hasOwn(MISSING_KEY, missingKey)) throw new RangeError(`missingKey is ${missingKey}`);
+    const mode = missingKey === undefined ? 0 : 1 + MISSING_KEY[missingKey];
+    const names = [...stops].map(encoded), parts = [...[schemaName, schema, name].map(encoded), ...names, ...pairs.flat()];
+    const found = (lent) => {
+        parts.forEach((it, number) => lent.put(number + 4, it));
+        const spans = parts.map((it, number) => [lent.pointer(number + 4), it.length]);
+        lent.words(0, 0, 0, 0);
+        lent.words(1, ...spans.slice(0, 3).flat(), lent.pointer(3), names.length, mode | (AS_JSON << 8));
+        lent.words(2, ...spans.slice(3 + names.length).flat());
+        lent.words(3, ...spans.slice(3, 3 + names.length).flat());
+        const status = host.call("tmpl_check_schema", lent.pointer(2), BigInt(pairs.length), lent.pointer(1), lent.pointer(0));
+        const said = decoder.decode(lent.seen(0));
+        host.call("tmpl_text_free", lent.pointer(0));
+        if (status === MEMORY) throw new MemoryError("tmpl: out of memory");
+        if (status !== OK && status !== REFUSED) throw new TemplateError(status, "tmpl: a name is not UTF-8", new Uint8Array());
+        return JSON.parse(said).problems;
+    };
+    const sizes = [TEXT, QUESTION, FILE * pairs.length, NAME * names.length, ...parts.map((it) => it.length)];
+    return host.enter(countOf("memory", options), () => host.lend(sizes, found));
 }
 
 /** Gives back what is kept for an object that nobody has any more. */

@@ -21,6 +21,7 @@ Files = Union[Mapping[Text, Text], Iterable[Tuple[Text, Text]]]
 
 OK, FAULT, NOT_TEXT, REFUSED, DATA, FULL, MEMORY = 0, 1, 2, 4, 5, 6, 7
 MISSING_KEY = {"default": 0, "invalid": 1, "zero": 2, "error": 3}
+JSON = 1  # the form of findings that is asked for
 LINE = 1 << 12  # bytes of the first buffer for a line
 KEPT = 1 << 20  # a text of more bytes is given back after its render
 MOST = 1000  # problems of files that are kept where nothing else is said
@@ -60,6 +61,21 @@ class Problem(NamedTuple):
 
     def __str__(self) -> str:
         return f"{self.file}:{self.line}:{self.column}: error: {self.text}"
+
+
+class Finding(NamedTuple):
+    """What a check over a JSON Schema found, and where. `str` gives it as a line as compilers write it."""
+
+    file: str
+    line: int  # from 1, as columns, which count characters
+    column: int
+    level: Literal["error", "warning"]
+    rule: str
+    text: str
+    note: str = ""  # a counterexample, where one is found
+
+    def __str__(self) -> str:
+        return f"{self.file}:{self.line}:{self.column}: {self.level}: {self.text}"
 
 
 def _problem(line, names):
@@ -114,6 +130,17 @@ class _File(ctypes.Structure):
     _fields_ = [("name", ctypes.c_char_p), ("name_size", ctypes.c_size_t), ("bytes", ctypes.c_char_p), ("size", ctypes.c_size_t)]
 
 
+class _Name(ctypes.Structure):
+    _fields_ = [("bytes", ctypes.c_char_p), ("size", ctypes.c_size_t)]
+
+
+class _Question(ctypes.Structure):
+    _fields_ = [
+        ("schema", _File), ("name", ctypes.c_char_p), ("name_size", ctypes.c_size_t), ("stops", ctypes.POINTER(_Name)), ("stop_count", ctypes.c_size_t),
+        ("mode", ctypes.c_uint8), ("format", ctypes.c_uint8),
+    ]
+
+
 class _Settings(ctypes.Structure):
     _fields_ = [
         ("steps", ctypes.c_uint64), ("depth", ctypes.c_uint32), ("missing_key", ctypes.c_uint8), ("print", ctypes.c_uint8),
@@ -150,6 +177,7 @@ def _library():
     kept, err, owned, settings = (ctypes.POINTER(it) for it in (_Kept, _Buffer, _Text, _Settings))
     calls = {
         "tmpl_check": [ctypes.POINTER(_File), ctypes.c_size_t, owned],
+        "tmpl_check_schema": [ctypes.POINTER(_File), ctypes.c_size_t, ctypes.POINTER(_Question), owned],
         "tmpl_set_add": [kept, ctypes.POINTER(_File), err],
         "tmpl_set_print": [kept, owned],
         "tmpl_program_make": [kept, kept],
@@ -182,6 +210,13 @@ def _encoded(it, what="a name"):
     raise TypeError(f"{what} is a str or bytes, not {type(it).__name__}")
 
 
+def _mode(missing_key):
+    """The number of a mode for missing keys."""
+    if missing_key not in MISSING_KEY:
+        raise ValueError(f"missing_key is one of {', '.join(map(repr, MISSING_KEY))}, not {missing_key!r}")
+    return MISSING_KEY[missing_key]
+
+
 def _json(data):
     """The bytes of the data: bytes as they are, nothing for None, and the JSON of anything else."""
     return b"" if data is None else bytes(data) if isinstance(data, (bytes, bytearray, memoryview)) else json.dumps(data).encode()
@@ -212,12 +247,10 @@ def _refused_number(data, at=""):
 
 
 def _settings(missing_key, depth, steps, printed, output):
-    if missing_key not in MISSING_KEY:
-        raise ValueError(f"missing_key is one of {', '.join(map(repr, MISSING_KEY))}, not {missing_key!r}")
     depth, steps = operator.index(depth), operator.index(steps)
     if not 0 <= depth < 1 << 32 or not 0 <= steps < 1 << 64:
         raise ValueError("depth is from 0 to 2^32 - 1, and steps from 0 to 2^64 - 1")
-    return _Settings(steps, depth, MISSING_KEY[missing_key], bool(printed), _count("output", output))
+    return _Settings(steps, depth, _mode(missing_key), bool(printed), _count("output", output))
 
 
 def _count(name, count):
@@ -291,6 +324,32 @@ def check(files: Files, *, memory: int = 0, most: int = MOST) -> List[Problem]:
             _said(status, b"tmpl: the name of a file is not UTF-8" if status == NOT_TEXT else b"")
         names = [path.decode("utf-8", "replace") for path, _ in held]
         return [_problem(it, names) for it in _lines(text, most)]
+    finally:
+        _LIBRARY.tmpl_text_free(text)
+
+
+def check_schema(
+    files: Files, schema: Text, name: Optional[Text] = None, *, missing_key: Optional[MissingKey] = None, stops: Iterable[Text] = (),
+    schema_name: Text = "schema", memory: int = 0,
+) -> List[Finding]:
+    """The findings of `tmpl-check --schema`: every error in the files; where there is none, what of the JSON Schema is not understood; else each
+    place at which the template may fail over data of the schema, with a counterexample as its note where one is found; and warnings. Where
+    none has the level "error", the template fails over no data that conform, but by limits and by `stops`: templates that may be missing, since
+    a call of them is meant to fail. `name` is the template that is rendered, by default the first file's own; `missing_key` is the one mode that
+    is asked for, by default each. Raises TemplateError where a name is not UTF-8, and MemoryError."""
+    held, text = _pairs(files), _Text()
+    about = _encoded(schema_name, "a name"), _encoded(schema, "a schema")
+    asked = _encoded(name or b"", "a name")
+    names = [_encoded(it, "a name") for it in stops]
+    array = (_Name * max(len(names), 1))(*[_Name(it, len(it)) for it in names])
+    mode = 0 if missing_key is None else 1 + _mode(missing_key)
+    question = _Question(_File(about[0], len(about[0]), about[1], len(about[1])), asked, len(asked), array, len(names), mode, JSON)
+    try:
+        with _memory_up_to(memory):
+            status = _LIBRARY.tmpl_check_schema(_array(held), len(held), question, text)
+        if status != REFUSED:
+            _said(status, b"tmpl: a name is not UTF-8" if status == NOT_TEXT else b"")
+        return [Finding(**it) for it in json.loads(text.copied())["problems"]]
     finally:
         _LIBRARY.tmpl_text_free(text)
 

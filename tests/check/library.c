@@ -76,6 +76,16 @@ static const struct row checked[] = {
 };
 enum { CHECKED = sizeof checked / sizeof *checked };
 
+/* What a check of a file over a schema says, which is the row's data. */
+static const struct row over_schema[] = {
+    {"{{len .a}}", "{\"type\":\"object\",\"properties\":{\"a\":{\"type\":\"string\"}},\"required\":[\"a\"]}", "", "", TMPL_OK, 0},
+    {"x\n {{.a}}", "{\"type\":\"object\",\"properties\":{\"a\":{\"type\":\"string\"}}}",
+     "t:2:2: error: may fail: .a may be absent: no \"required\" at s:1\n"
+     "t:2:2: note: fails with --missingkey error for {}: no entry for key \"a\"\n", "", TMPL_REFUSED, 0},
+    {"{{name}}", "{", "t:1:1: error: action not understood: no function \"name\": write .name\n", "", TMPL_REFUSED, 0},
+};
+enum { OVER_SCHEMA = sizeof over_schema / sizeof *over_schema };
+
 struct told {
     int status, is_lent, is_quiet; /* is_quiet: refused memory says no line */
     char out[256], line[128];
@@ -216,6 +226,19 @@ static void check(const struct row *row, size_t size, size_t line_size, struct t
     told->text = (tmpl_buffer){told->out, size, 0, 0}, told->said = (tmpl_buffer){told->line, line_size, 0, 0};
     told->is_quiet = 1, told->is_lent = 1;
     told->status = tmpl_check(files, 2, &text);
+    lend(&text, &told->text);
+    for (int i = 0; i < 2; i++) tmpl_text_free(&text), told->is_lent &= !text.size;
+}
+
+/* What a check over a schema says. */
+static void check_schema(const struct row *row, size_t size, size_t line_size, struct told *told) {
+    tmpl_file file = {"t", 1, row->template, strlen(row->template)};
+    tmpl_name stop = {"stop", 4};
+    tmpl_question question = {{"s", 1, row->data, strlen(row->data)}, "", 0, &stop, 1, 0, 0};
+    tmpl_text text = {0};
+    told->text = (tmpl_buffer){told->out, size, 0, 0}, told->said = (tmpl_buffer){told->line, line_size, 0, 0};
+    told->is_quiet = 1, told->is_lent = 1;
+    told->status = tmpl_check_schema(&file, 1, &question, &text);
     lend(&text, &told->text);
     for (int i = 0; i < 2; i++) tmpl_text_free(&text), told->is_lent &= !text.size;
 }
@@ -431,6 +454,11 @@ int main(int argc, char **argv) {
         check(checked + i, sizeof told.out, sizeof told.line, &told);
         judge(is_right(checked + i, &told), checked[i].template, -3);
         if (argc == 1) refusals += refuse_each(check, checked + i, sizeof told.out, sizeof told.line);
+    }
+    for (int i = 0; i < OVER_SCHEMA; i++) {
+        check_schema(over_schema + i, sizeof told.out, sizeof told.line, &told);
+        judge(is_right(over_schema + i, &told), over_schema[i].template, -4);
+        if (argc == 1) refusals += refuse_each(check_schema, over_schema + i, sizeof told.out, sizeof told.line);
     }
     live = 0;
     limit_memory();

@@ -78,6 +78,11 @@ int main(int argc, char **) {
     });
     tell("no problems", [&] { return std::to_string(tmpl::check({{"m", "Hello, {{.name}}!"}}).size()); });
     tell("a short text", [&] { return pages.render("m", ada, short_text); });
+    tell("a check over a schema", [&] {
+        const std::string schema = R"({"type": "object", "properties": {"a": {"type": "string"}}, "required": ["a"]})";
+        const auto safe = tmpl::check_schema({{"m", "{{len .a}}"}}, {schema}), unsafe = tmpl::check_schema({{"m", "{{len .b}}"}}, {schema});
+        return std::to_string(safe.is_safe) + "|" + safe.findings + "|" + std::to_string(unsafe.is_safe) + "|" + unsafe.findings.substr(0, 36);
+    });
     tell("the parts of a problem", [&] {
         const std::string odd = "b:1:1: error: out of place: c";
         const auto found = tmpl::check({{"a", ""}, {odd, "\n {{if 1}}"}}).at(0);

@@ -12,6 +12,7 @@ import base64
 import copy
 import gc
 import hashlib
+import json
 import os
 import pickle
 import re
@@ -26,7 +27,7 @@ from concurrent.futures import ThreadPoolExecutor
 from decimal import Decimal
 
 from tests.lib import harness, tools
-from tests.rows import problem_rows
+from tests.rows import problem_rows, schema_rows
 
 BINDINGS = f"{harness.TOP}/bindings"
 OUT = f"{BINDINGS}/out"  # or what `choose` takes
@@ -40,7 +41,7 @@ GUARD = b"\xa5" * 8  # after lent memory
 SWITCHES = {b"--data", b"--missingkey", b"--name", b"--depth", b"--steps"}
 BLOCK = re.compile(r"^```(c|cpp|python|go|rust)\n(.*?)^```\n+(?:It puts out\n+)?```text\n(.*?)^```$", re.MULTILINE | re.DOTALL)
 NAMES = [
-    *("tmpl_check", "tmpl_data_free", "tmpl_data_read", "tmpl_data_share", "tmpl_limit_memory", "tmpl_program_free", "tmpl_program_make"),
+    *("tmpl_check", "tmpl_check_schema", "tmpl_data_free", "tmpl_data_read", "tmpl_data_share", "tmpl_limit_memory", "tmpl_program_free", "tmpl_program_make"),
     *("tmpl_program_share", "tmpl_render"),
     *("tmpl_render_program", "tmpl_render_set", "tmpl_render_text", "tmpl_set_add", "tmpl_set_free", "tmpl_set_print", "tmpl_text_free"),
     "tmpl_version",
@@ -353,6 +354,68 @@ def judge_keys(folder):
         yield f"keys of {name}", 1, wrong + [f"    it drew {asked} bytes"] * (asked != 16 if not more else asked % 16 or not asked)
 
 
+def findings_of(template, schema, words, form):
+    """The status and the text of `tmpl_check_schema` over a template t and a schema s, by words of the command."""
+    given = {"--missingkey": [], "--stop": [], "--name": []}
+    for option, value in zip(words[::2], words[1::2]):
+        given[option].append(value.encode())
+    stops, name = given["--stop"], given["--name"][0] if given["--name"] else b""
+    mode = 1 + tmpl.MISSING_KEY[given["--missingkey"][0].decode()] if given["--missingkey"] else 0
+    array = (tmpl._Name * max(len(stops), 1))(*[tmpl._Name(it, len(it)) for it in stops])
+    about = tmpl._File(b"s", 1, schema, len(schema))
+    question, text = tmpl._Question(about, name, len(name), array, len(stops), mode, form), tmpl._Text()
+    try:
+        return tmpl._LIBRARY.tmpl_check_schema(tmpl._array(((b"t", template),)), 1, question, text), text.copied()
+    finally:
+        tmpl._LIBRARY.tmpl_text_free(text)
+
+
+def judge_schema(folder, title, schema, template, words):
+    """A row of a check over a schema: the library writes what the command writes, in each form."""
+    schema, wrong = (schema if isinstance(schema, str) else json.dumps(schema)).encode(), []
+    for name, what in (("s", schema), ("t", template.encode())):
+        with open(f"{folder}/{name}", "wb") as it:
+            it.write(what)
+    for form, option in enumerate(("text", "json", "sarif")):
+        ended = subprocess.run([harness.CHECKER, "--schema", "s", "--format", option, *words, "t"], cwd=folder, capture_output=True, check=False)
+        got = findings_of(template.encode(), schema, words, form)
+        wanted = {0: tmpl.OK, 1: tmpl.REFUSED}.get(ended.returncode), ended.stdout
+        wrong += [f"    as {option}: {harness.short(str(got))}, wanted {harness.short(str(wanted))}"] * (got != wanted)
+    return f"over a schema: {title}", 3, wrong
+
+
+def judge_schemas(folder):
+    """The check over a schema: the rows, and what else a caller may pass."""
+    for title, schema, template, words, *_ in schema_rows.ACCEPTED + schema_rows.REFUSED + schema_rows.SHOWN:
+        yield judge_schema(folder, title, schema, template, words)
+    schema = json.dumps({"type": "object", "additionalProperties": False, "properties": {"a": {"type": "string"}}})
+    required = json.dumps({"type": "object", "additionalProperties": False, "properties": {"a": {"type": "string"}}, "required": ["a"]})
+    cases = [
+        ("it never fails", lambda: tmpl.check_schema({"m": "{{len .a}}"}, required), []),
+        ("the template of a name", lambda: tmpl.check_schema({"m": '{{len .b}}{{define "d"}}{{len .a}}{{end}}'}, required, "d"), []),
+        ("a template that need not be there", lambda: tmpl.check_schema({"m": '{{template "x"}}'}, required, stops=["x"])[0].level, "warning"),
+        ("no files", lambda: [it.level for it in tmpl.check_schema({}, required)], ["error"]),
+        ("a name that is no text", lambda: tmpl.check_schema({"m": ""}, required, b"\xff"), (2, b"", "tmpl: a name is not UTF-8")),
+        ("a path that is no text", lambda: tmpl.check_schema({b"\xff": ""}, required), (2, b"", "tmpl: a name is not UTF-8")),
+        ("a stop that is no text", lambda: tmpl.check_schema({"m": ""}, required, stops=[b"\xff"]), (2, b"", "tmpl: a name is not UTF-8")),
+        ("a schema that is no JSON", lambda: [it.rule for it in tmpl.check_schema({"m": ""}, "{")], ["not-json"]),
+        ("a mode", lambda: tmpl.check_schema({"m": "{{print .a}}"}, schema, missing_key="default"), []),
+        ("each mode", lambda: [(it.file, it.line, it.column, it.level) for it in tmpl.check_schema({"m": "{{print .a}}"}, schema)], [("m", 1, 1, "error")]),
+    ]
+    for name, call, wanted in cases:
+        got = found_of(call)
+        yield f"over a schema: {name}", 1, [] if got == wanted else [f"    got {got}"]
+    yield "over a schema: little memory", 1, [] if raised(lambda: tmpl.check_schema({"m": "{{len .a}}" * 1000}, required, memory=10_000)) == "MemoryError" else ["    it is checked"]
+
+
+def found_of(call):
+    """What a call gives, or the status, text and line of its error."""
+    try:
+        return call()
+    except tmpl.TemplateError as error:
+        return error.status, error.text, error.line
+
+
 def judge_refusals():
     """What is refused leaves what was kept as it was, and what is freed is empty."""
     templates = tmpl.Templates({"a": "one {{.}}"})
@@ -651,6 +714,7 @@ CALLS_IN_CPP = [
     f'problems: {len(MISTAKES_IN_CPP)} {MISTAKES_IN_CPP[:40]}',
     "no problems: 1 0",
     'a short text: 6 "tmpl: more than 9 bytes of output" after "Hello, Ad"',
+    f"a check over a schema: 41 {('1||0|' + 'm:1:1: error: may fail: .b may be absent')[:40]}",
     "the parts of a problem: 46 b:1:1: error: out of place: c|2|10|open-",
     "the place of an error: 5 n|2|2",
     "many problems: 6 1000 7",
@@ -669,7 +733,7 @@ CALLS_IN_CPP = [
 
 
 STACK = 512  # kilobytes, as docs/EMBEDDING.md and tmpl.h say
-LEAST_STACKS = 88  # calls with the deepest inputs
+LEAST_STACKS = 99  # calls with the deepest inputs
 
 
 def judge_stack(folder):
@@ -937,7 +1001,7 @@ def main(words):
         told = harness.tally(map(judge_limits, [call for call in small if call.row.status in (tmpl.OK, tmpl.FAULT)]))
         failed += told[1] + harness.too_few("renders with a limit of the text", told[2], LEAST_LIMITS)
         passed += told[0]
-        results = [*judge_checks(), *judge_problems(), *judge_objects(), *judge_memory(), *judge_keys(folder), *judge_names(), *judge_refusals(), *judge_wrapper(), *judge_options(), *judge_c(folder), *judge_stack(folder), *judge_cpp(folder), *judge_header(folder)]
+        results = [*judge_checks(), *judge_problems(), *judge_objects(), *judge_memory(), *judge_keys(folder), *judge_schemas(folder), *judge_names(), *judge_refusals(), *judge_wrapper(), *judge_options(), *judge_c(folder), *judge_stack(folder), *judge_cpp(folder), *judge_header(folder)]
         results += [judge_names_of(f"{OUT}/libtmpl.so"), judge_names_of(f"{OUT}/libtmpl.a"), judge_version(), judge_marks()]
         results += [judge_wheel(folder)]
         results += [judge_program(folder, *it) for it in programs() if it[0] in ("c", "cpp", "python")]

@@ -40,6 +40,12 @@ static int print(const struct input *it) { return (void)it, tmpl_set_print(&set,
 static int make(const struct input *it) { return (void)it, tmpl_program_make(&set, &program); }
 static int read_data(const struct input *it) { return tmpl_data_read(&data, it->data, strlen(it->data), &err); }
 static int check(const struct input *it) { return tmpl_check(&(tmpl_file){"t", 1, it->file, strlen(it->file)}, 1, &text); }
+/* An alarm is as good an answer as none, and so is a file that is refused. */
+static int check_schema(const struct input *it) {
+    const tmpl_question question = {{"s", 1, "{}", 2}, "", 0, &(tmpl_name){"x", 1}, 1, 0, 0};
+    int status = tmpl_check_schema(&(tmpl_file){"t", 1, it->file, strlen(it->file)}, 1, &question, &text);
+    return status == TMPL_REFUSED ? TMPL_OK : status;
+}
 static int render(const struct input *it) {
     return (void)it, tmpl_render_text(&(tmpl_settings){.depth = DEPTH}, &program, &data, "t", 1, &text, &line);
 }
@@ -61,7 +67,7 @@ static const struct {
     int (*call)(const struct input *it);
     unsigned answers;
 } calls[] = {
-    {"check", check, 1u << TMPL_REFUSED}, {"add", add, 1u << TMPL_REFUSED}, {"print", print, 0}, {"make", make, 0}, {"read", read_data, 1u << TMPL_DATA},
+    {"check", check, 1u << TMPL_REFUSED}, {"check over a schema", check_schema, 0}, {"add", add, 1u << TMPL_REFUSED}, {"print", print, 0}, {"make", make, 0}, {"read", read_data, 1u << TMPL_DATA},
     {"render", render, 1u << TMPL_REFUSED | 1u << TMPL_FAULT}, {"all", render_all, ~0u}, {"free", free_all, 0},
 };
 enum { CALLS = sizeof calls / sizeof *calls };

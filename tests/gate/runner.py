@@ -59,7 +59,7 @@ QUICK = {
 }
 # the programs that a test runs, where these are not tmpl alone
 RUNS = {
-    **dict.fromkeys(("problems", "migration", "verdicts", "documents", "generated", "hostile"), ("tmpl", "tmpl-check")),
+    **dict.fromkeys(("problems", "migration", "verdicts", "documents", "generated", "hostile", "library"), ("tmpl", "tmpl-check")),
     "judges": programs.ALL,
     **dict.fromkeys(("calls", "kept", "lent_memory", "memory", "prefixes", "instructions"), ("tmpl", "tmpl_probe")),
     "host": ("tmpl_host", "tmpl_probe"),

@@ -30,7 +30,7 @@ TRIED = {
         " later_action_named name_kept_after_end one_refusal_left_out refuses_every_file second_definition_told_at_the_first set_half_changed"
     ),
     "tmpl_tool": "data_before_templates file_read_twice second_read_after_failed_read text_put_before_want_of_memory zero_after_failed_write",
-    "tmpl_c": "full_buffer_as_done nothing_copied share_that_copies_nothing",
+    "tmpl_c": "error_over_a_schema_forgiven full_buffer_as_done nothing_copied question_of_another_mode share_that_copies_nothing",
     "tmpl_funcs": "equal_looked_past pair_skipped space_beside_a_text",
     "tmpl_values": "map_printed_out_of_order map_visited_backwards number_visited_from_one",
     "tmpl_loops": "a_body_that_sees_its_index",

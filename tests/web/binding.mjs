@@ -62,6 +62,11 @@ const said = (problems) => problems.map(String);
 const mistake = 'error: action not understood: no function "name": write .name';
 tries("what is wrong in files", () => said(engine.check([["a", "{{name}}"], ["b", "text"], ["c", "\n{{name}}"]])), [`a:1:1: ${mistake}`, `c:2:1: ${mistake}`]);
 tries("nothing is wrong in a file", () => engine.check(hello), []);
+const required = JSON.stringify({ type: "object", properties: { a: { type: "string" } }, required: ["a"] });
+const placesOf = (found) => found.map((it) => `${it.file}:${it.line}:${it.column}: ${it.level}`);
+tries("a template that never fails over a schema", () => engine.checkSchema({ m: "{{len .a}}" }, required), []);
+tries("one that may fail", () => placesOf(engine.checkSchema({ m: "{{len .b}}" }, required, { stops: ["x"], name: "m" })), ["m:1:1: error"]);
+tries("a name over a schema is no UTF-8", () => engine.checkSchema([[Uint8Array.of(0xff), ""]], required), ["TemplateError", "tmpl: a name is not UTF-8", 2, ""]);
 tries("nothing is wrong in no file", () => engine.check([]), []);
 tries("the name of a file that is checked is no UTF-8", () => engine.check([[Uint8Array.of(0xff), ""]]), ["TemplateError", "tmpl: the name of a file is not UTF-8", 2, ""]);
 const problemsOf = (call) => {

@@ -37,6 +37,23 @@ struct RawBuffer {
     needed: usize,
 }
 
+#[repr(C)]
+struct RawName {
+    bytes: *const u8,
+    size: usize,
+}
+
+#[repr(C)]
+struct RawQuestion {
+    schema: RawFile,
+    name: *const u8,
+    name_size: usize,
+    stops: *const RawName,
+    stop_count: usize,
+    mode: u8,
+    format: u8,
+}
+
 /// A set, a program, or data; null is an empty one.
 #[repr(C)]
 struct RawKept {
@@ -56,6 +73,7 @@ extern "C" {
     fn tmpl_render(settings: *const Settings, files: *const RawFile, file_count: usize, name: *const u8, name_size: usize,
         data: *const u8, data_size: usize, out: *mut RawBuffer, err: *mut RawBuffer) -> u8;
     fn tmpl_check(files: *const RawFile, file_count: usize, text: *mut RawText) -> u8;
+    fn tmpl_check_schema(files: *const RawFile, file_count: usize, question: *const RawQuestion, text: *mut RawText) -> u8;
     fn tmpl_limit_memory(bytes: usize);
     fn tmpl_set_add(set: *mut RawKept, file: *const RawFile, err: *mut RawBuffer) -> u8;
     fn tmpl_data_read(data: *mut RawKept, bytes: *const u8, size: usize, err: *mut RawBuffer) -> u8;
@@ -78,14 +96,101 @@ fn raw_buffer(memory: &mut [u8]) -> RawBuffer {
     RawBuffer { bytes: memory.as_mut_ptr(), size: memory.len(), taken: 0, needed: 0 }
 }
 
-/// A render that failed: the exit status of the command, its line, the text before a fault, and of a file that is refused the lines that
-/// `check` gives of it.
+/// How many problems of a file are kept where nothing else is said.
+pub const MOST: usize = 1_000;
+
+/// The rules of `tmpl-check`, by the reason for which a file is refused.
+const RULES: [(&str, &str); 8] = [
+    ("unclosed or unreadable action", "unreadable"),
+    ("action not understood", "not-understood"),
+    ("out of place", "out-of-place"),
+    ("undeclared variable", "undeclared-variable"),
+    ("file ends inside a control", "open-at-end"),
+    ("nested too deeply", "nested-too-deeply"),
+    ("file longer than 16777216 bytes", "too-long"),
+    ("second definition", "second-definition"),
+];
+
+/// An error in a template file, and where it is. It displays as a line as compilers write it: `FILE:LINE:COLUMN: error: TEXT`.
+#[derive(Clone, Debug, PartialEq, Eq)]
+pub struct Problem {
+    /// The path of the file, as a line shows it: control characters by their codes.
+    pub file: String,
+    /// From 1, as columns, which count characters.
+    pub line: u64,
+    pub column: u64,
+    /// As `tmpl-check --format json` names it.
+    pub rule: &'static str,
+    /// The reason, as the command has it, what is wrong, and what to write instead where that is known.
+    pub text: String,
+}
+
+impl fmt::Display for Problem {
+    fn fmt(&self, f: &mut fmt::Formatter<'_>) -> fmt::Result {
+        write!(f, "{}:{}:{}: error: {}", self.file, self.line, self.column, self.text)
+    }
+}
+
+/// The number at the end of a text, after a colon, and what stands before that.
+fn number_at_end(text: &str) -> Option<(&str, u64)> {
+    let (before, digits) = text.rsplit_once(':')?;
+    let is_number = !digits.is_empty() && digits.bytes().all(|it| it.is_ascii_digit());
+    is_number.then_some(())?;
+    Some((before, digits.parse().ok()?))
+}
+
+/// The rule of a reason, with or without what is wrong after it.
+fn rule_of(text: &str) -> Option<&'static str> {
+    let is_of = |reason: &str| text.strip_prefix(reason).is_some_and(|rest| rest.is_empty() || rest.starts_with(": "));
+    RULES.iter().find(|(reason, _)| is_of(reason)).map(|(_, rule)| *rule)
+}
+
+/// A line of a check of these files, taken apart. What looks like a place in a name of one of them is none.
+fn problem_in(line: &str, files: &[(&str, &[u8])]) -> Problem {
+    let starts = |name: &&str| line.strip_prefix(*name).is_some_and(|rest| rest.starts_with(':'));
+    let from = files.iter().map(|(path, _)| *path).filter(starts).map(str::len).max().unwrap_or(0);
+    let parts = |at: usize| {
+        let text = &line[at + ": error: ".len()..];
+        let (before, column) = number_at_end(&line[..at])?;
+        let (file, number) = number_at_end(before)?;
+        Some(Problem { file: file.to_string(), line: number, column, rule: rule_of(text)?, text: text.to_string() })
+    };
+    let marks = line[from..].match_indices(": error: ").map(|(at, _)| from + at);
+    marks.filter(|at| line.is_char_boundary(*at)).find_map(parts).unwrap_or(Problem { file: String::new(), line: 0, column: 0, rule: "", text: line.to_string() })
+}
+
+/// A render that failed: the exit status of the command, its line, and the text before a fault.
 #[derive(Clone, Debug, PartialEq, Eq)]
 pub struct Error {
     pub status: u8,
     pub line: String,
     pub text: Vec<u8>,
-    pub problems: Vec<String>,
+    /// The file that was refused.
+    refused: Option<(String, Vec<u8>)>,
+}
+
+impl Error {
+    /// The first 1,000 errors of the file that was refused, if one was. They are looked for at each call; the file is kept until then.
+    pub fn problems(&self) -> Vec<Problem> {
+        match &self.refused {
+            Some((path, bytes)) => check(&[(path, bytes)], MOST).unwrap_or_default(),
+            None => Vec::new(),
+        }
+    }
+
+    /// The path of the template file that the line names, and the line in it, from 1, where it names one.
+    pub fn place(&self) -> Option<(&str, u64)> {
+        let said = self.line.strip_prefix("tmpl: ")?;
+        let mark = match self.status {
+            1 => ": in \"",
+            4 => ": ",
+            _ => return None,
+        };
+        said.rmatch_indices(mark).find_map(|(at, _)| {
+            let is_place = self.status == 4 || said[at + mark.len()..].contains("\": ");
+            is_place.then(|| number_at_end(&said[..at])).flatten()
+        })
+    }
 }
 
 impl fmt::Display for Error {
@@ -123,12 +228,12 @@ fn ended(status: u8, line: &[u8], text: Vec<u8>) -> Result<Vec<u8>, Error> {
         7 => "tmpl: out of memory\n".to_string(),
         _ => String::from_utf8_lossy(line).into_owned(),
     };
-    Err(Error { status, line, text, problems: Vec::new() })
+    Err(Error { status, line, text, refused: None })
 }
 
-/// The errors in template files, in a line each as compilers write it: `FILE:LINE:COLUMN: error: REASON: DETAIL`, with what to write
-/// instead where that is known. There are none where all files are accepted, one after the other.
-pub fn check(files: &[(&str, &[u8])]) -> Result<Vec<String>, Error> {
+/// The errors in template files, with what to write instead where that is known: the first `most` of them. There are none where all files
+/// are accepted, one after the other.
+pub fn check(files: &[(&str, &[u8])], most: usize) -> Result<Vec<Problem>, Error> {
     let array: Vec<RawFile> = files.iter().map(|(path, bytes)| raw_file(path, bytes)).collect();
     let mut text = RawText::EMPTY;
     // SAFETY: each pointer and size are those of one slice, which is borrowed for the call, and no other call has the handle.
@@ -136,8 +241,67 @@ pub fn check(files: &[(&str, &[u8])]) -> Result<Vec<String>, Error> {
     if status != 4 {
         ended(status, b"tmpl: the name of a file is not UTF-8\n", Vec::new())?;
     }
-    let lines = String::from_utf8_lossy(&text.to_vec()).into_owned();
-    Ok(lines.split_terminator('\n').map(str::to_string).collect())
+    let lines = String::from_utf8_lossy(text.as_slice());
+    Ok(lines.split_terminator('\n').take(most).map(|line| problem_in(line, files)).collect())
+}
+
+/// The form of findings.
+#[derive(Clone, Copy, Debug, Default, PartialEq, Eq)]
+pub enum Format {
+    /// A line for each finding, and one for its note, as compilers write them.
+    #[default]
+    Lines,
+    /// An object of JSON.
+    Json,
+    /// A log of SARIF 2.1.0.
+    Sarif,
+}
+
+/// What a template is asked over a JSON Schema.
+#[derive(Clone, Copy, Debug, Default)]
+pub struct Question<'a> {
+    pub schema: &'a [u8],
+    /// The name by which findings call the schema.
+    pub schema_name: &'a str,
+    /// The template that is rendered; the first file's own where it is empty.
+    pub name: &'a str,
+    /// Templates that may be missing, since a call of them is meant to fail.
+    pub stops: &'a [&'a str],
+    /// For which missing keys: 0 for each, or one more than a value of `Settings::missing_key`.
+    pub mode: u8,
+    pub format: Format,
+}
+
+/// What a check over a JSON Schema comes to.
+#[derive(Clone, Debug, PartialEq, Eq)]
+pub struct Verdict {
+    /// Whether there is no error: then the template fails over no data that conform, but by limits and stops.
+    pub is_safe: bool,
+    /// The findings, in the form that was asked for.
+    pub findings: String,
+}
+
+/// Reports what `tmpl-check` finds with `--schema`: every error in the files; where there is none, what of the schema is not understood; else
+/// each place at which the template may fail over data of the schema, with a counterexample where one is found; and warnings.
+pub fn check_schema(files: &[(&str, &[u8])], question: &Question<'_>) -> Result<Verdict, Error> {
+    let array: Vec<RawFile> = files.iter().map(|(path, bytes)| raw_file(path, bytes)).collect();
+    let stops: Vec<RawName> = question.stops.iter().map(|it| RawName { bytes: it.as_ptr(), size: it.len() }).collect();
+    let asked = RawQuestion {
+        schema: raw_file(question.schema_name, question.schema),
+        name: question.name.as_ptr(),
+        name_size: question.name.len(),
+        stops: stops.as_ptr(),
+        stop_count: stops.len(),
+        mode: question.mode,
+        format: question.format as u8,
+    };
+    let mut text = RawText::EMPTY;
+    // SAFETY: each pointer and size are those of one slice, which is borrowed for the call, and no other call has the handle.
+    let status = unsafe { tmpl_check_schema(array.as_ptr(), array.len(), &asked, &mut text) };
+    if status != 4 {
+        ended(status, b"tmpl: a name is not UTF-8\n", Vec::new())?;
+    }
+    Ok(Verdict { is_safe: status == 0, findings: String::from_utf8_lossy(&text.to_vec()).into_owned() })
 }
 
 /// Gives what this gives, while the library may take at most this many bytes of memory for this thread, beyond those that it gives back; where
@@ -186,12 +350,16 @@ impl RawKept {
 impl RawText {
     const EMPTY: RawText = RawText { bytes: std::ptr::null(), size: 0, held: std::ptr::null_mut() };
 
-    fn to_vec(&self) -> Vec<u8> {
+    fn as_slice(&self) -> &[u8] {
         match self.size {
-            0 => Vec::new(),
-            // SAFETY: the library has that many bytes there until its next call.
-            size => unsafe { std::slice::from_raw_parts(self.bytes, size) }.to_vec(),
+            0 => &[],
+            // SAFETY: the library has that many bytes there until its next call, which takes the text by `&mut`.
+            size => unsafe { std::slice::from_raw_parts(self.bytes, size) },
         }
+    }
+
+    fn to_vec(&self) -> Vec<u8> {
+        self.as_slice().to_vec()
     }
 }
 
@@ -248,7 +416,10 @@ impl Worker {
         if text.len() > KEPT {
             self.text = RawText::EMPTY;
         }
-        ended(status, &self.line.to_vec(), text)
+        match status {
+            6 => ended(status, format!("tmpl: more than {} bytes of output\n", settings.output).as_bytes(), text),
+            _ => ended(status, self.line.as_slice(), text),
+        }
     }
 }
 
@@ -324,7 +495,7 @@ impl Templates {
         let file = raw_file(path, bytes);
         // SAFETY: the file is borrowed for the call.
         accepted(|err| unsafe { tmpl_set_add(&mut kept.set, &file, err) }).map_err(|error| match error.status {
-            4 => Error { problems: check(&[(path, bytes)]).unwrap_or_default(), ..error },
+            4 => Error { refused: Some((path.to_string(), bytes.to_vec())), ..error },
             _ => error,
         })?;
         kept.idle.clear();

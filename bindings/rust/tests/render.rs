@@ -134,15 +134,35 @@ fn files_added_meanwhile() {
 }
 
 #[test]
+fn checks_over_a_schema() {
+    let schema: &[u8] = br#"{"type": "object", "properties": {"a": {"type": "string"}}, "required": ["a"]}"#;
+    let question = tmpl::Question { schema, schema_name: "s", stops: &["stop"], ..Default::default() };
+    let safe = tmpl::check_schema(&[("m", b"{{if .a}}{{len .a}}{{else}}{{template `stop`}}{{end}}")], &question).unwrap();
+    assert!(safe.is_safe);
+    let unsafe_ = tmpl::check_schema(&[("m", b"{{len .b}}")], &question).unwrap();
+    assert!(!unsafe_.is_safe && unsafe_.findings.starts_with("m:1:1: error: may fail: .b may be absent: "), "{unsafe_:?}");
+    let json = tmpl::check_schema(&[("m", b"{{len .b}}")], &tmpl::Question { format: tmpl::Format::Json, ..question }).unwrap();
+    assert!(json.findings.starts_with("{\"problems\":[\n{\"file\":\"m\",\"line\":1,\"column\":1,\"level\":\"error\""), "{json:?}");
+}
+
+#[test]
 fn checks() {
     let mistake = "error: action not understood: no function \"name\": write .name";
     let files: &[(&str, &[u8])] = &[("a", b"{{name}}"), ("b", b"text"), ("c", b"\n{{name}}")];
-    assert_eq!(tmpl::check(files).unwrap(), [format!("a:1:1: {mistake}"), format!("c:2:1: {mistake}")]);
-    assert_eq!(tmpl::check(&files[1..2]), Ok(Vec::new()));
-    assert_eq!(tmpl::check(&[]), Ok(Vec::new()));
+    let lines = |found: Vec<tmpl::Problem>| found.iter().map(|it| it.to_string()).collect::<Vec<_>>();
+    assert_eq!(lines(tmpl::check(files, tmpl::MOST).unwrap()), [format!("a:1:1: {mistake}"), format!("c:2:1: {mistake}")]);
+    assert_eq!(tmpl::check(files, 1).unwrap().len(), 1);
+    assert_eq!(tmpl::check(&files[1..2], tmpl::MOST), Ok(Vec::new()));
+    assert_eq!(tmpl::check(&[], tmpl::MOST), Ok(Vec::new()));
+    let odd = "b:1:1: error: out of place: c";
+    let found = tmpl::check(&[("a", b""), (odd, b"\n {{if 1}}")], tmpl::MOST).unwrap().remove(0);
+    assert_eq!((found.file.as_str(), found.line, found.rule), (odd, 2, "open-at-end"));
     let error = render(files, "a", b"", &Settings::default()).unwrap_err();
-    assert_eq!((error.status, error.problems), (4, vec![format!("a:1:1: {mistake}")]));
-    assert_eq!(render(&files[1..2], "z", b"", &Settings::default()).unwrap_err().problems, Vec::<String>::new());
+    assert_eq!((error.status, error.place(), lines(error.problems())), (4, Some(("a", 1)), vec![format!("a:1:1: {mistake}")]));
+    let none = render(&files[1..2], "z", b"", &Settings::default()).unwrap_err();
+    assert_eq!((none.place(), none.problems()), (None, Vec::new()));
+    let fault = render(&[("p:1: q", b"\n{{len 1}}")], "p:1: q", b"", &Settings::default()).unwrap_err();
+    assert_eq!((fault.status, fault.place()), (1, Some(("p:1: q", 2))));
 }
 
 #[test]
@@ -150,7 +170,7 @@ fn keeps_limits() {
     let files: &[(&str, &[u8])] = &[("m", b"{{range 100000}}0123456789{{end}}")];
     let settings = Settings { output: 12, ..Settings::default() };
     let error = render(files, "m", b"", &settings).unwrap_err();
-    assert_eq!((error.status, error.text), (6, b"012345678901".to_vec()));
+    assert_eq!((error.status, error.line.as_str(), error.text), (6, "tmpl: more than 12 bytes of output\n", b"012345678901".to_vec()));
     let run = || render(files, "m", b"", &Settings::default());
     assert_eq!(tmpl::with_memory(1 << 16, run).unwrap_err().status, 7);
     assert_eq!(tmpl::with_memory(1 << 23, run).unwrap().len(), 1_000_000);

@@ -5,5 +5,6 @@ mod HandleLemmas
 mod HandleWalks
 mod LawLemmas
 mod PassedLemmas
+mod QuestionLemmas
 mod LooseLemmas
 mod SeenLemmas

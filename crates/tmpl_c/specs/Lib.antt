@@ -3,6 +3,7 @@ pub mod Checked
 pub mod Filled
 pub mod Laws
 pub mod Passed
+pub mod Question
 pub mod Handles
 pub mod Held
 pub mod Texts

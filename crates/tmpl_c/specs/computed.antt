@@ -2,3 +2,4 @@
 pub mod Extents
 pub mod Gathering
 pub mod Load
+pub mod Question

@@ -8,6 +8,7 @@ ghost use Rattle.tmpl_c.specs.Checked.{Checks};
 ghost use Rattle.tmpl_c.specs.Filled.{Rendered, limit_text, room, buffer_seen};
 ghost use Rattle.tmpl_c.specs.Held.{Keeps, Replaces, held_answer, templates_in, templates_run, value_in};
 ghost use Rattle.tmpl_c.specs.Passed.{data_passed, pair_of, pairs_of, render_answer, rules_in, with_passed};
+ghost use Rattle.tmpl_c.specs.Question.{Answers};
 ghost use Rattle.tmpl_c.specs.Texts.{Holds, bytes_in};
 
 mod address;
@@ -23,6 +24,7 @@ mod load;
 mod loose;
 mod passed;
 mod program_handle;
+mod question;
 mod render;
 mod set_handle;
 mod settings;
@@ -36,7 +38,7 @@ pub use data_handle::DataHandle;
 pub use gathered::Gathered;
 pub use keys::Keys;
 pub use laws::{as_command, crosses_threads, kept, seen_by_caller, stages, text_seen_by_caller};
-pub use passed::File;
+pub use passed::{File, Name, Question};
 pub use program_handle::ProgramHandle;
 pub use set_handle::SetHandle;
 pub use settings::Settings;
@@ -95,6 +97,23 @@ pub extern "C" fn keyed_check(alloc: Global, keys: &Keys, files: &[File<'_>], te
     ensures { (parse : Parse) → IsParse parse → Checks parse (pairs_of files.now) (bytes_in text.new.held) result }
 {
     check::check_files(alloc, keys.hash(), files, text)
+}
+
+/// Reports where a template may fail over data of a JSON Schema, in a text that the library owns, as `tmpl-check` does:
+/// every error in the files, or else in the schema, or else each alarm, with a counterexample where one is found. With
+/// status 0 there is no error, and the template never fails, but by its limits and its stops. The status is 4 where there
+/// is an error, 2 where a name is not UTF-8, and 7 where memory ran out; of the last two the text is empty.
+#[unsafe(no_mangle)]
+pub extern "C" fn keyed_check_schema(
+    alloc: Global,
+    keys: &Keys,
+    files: &[File<'_>],
+    question: &Question<'_>,
+    text: &mut Text,
+) -> u8
+    ensures { Answers (pairs_of files.now) question.now (bytes_in text.new.held) result }
+{
+    question::check_schema(alloc, keys.hash(), files, question, text)
 }
 
 /// Adds the templates of a file to a set that the caller keeps, or says why not: with status 0 nothing is said, and
