@@ -1,4 +1,4 @@
-//! The search for what is handed to templates that are called, and for each place at which a template may fail. It is
+//! The search for what is passed to templates that are called, and for each place at which a template may fail. It is
 //! in no contract: what it finds is checked once more, or is reported in messages. Where an action may fail the
 //! analysis continues as if the action gave no value at all, so that nothing more is reported of it.
 #![tactic(auto)]
