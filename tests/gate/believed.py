@@ -34,8 +34,10 @@ CHECK = (
     ("tmpl_report", "src/findings.rt", "pub fn text"),
     ("tmpl_report", "src/infer.rt", "pub fn infer_from"),
 )
+# .. and the same check for C
+IN_C = (("tmpl_c", "src/lib.rt", 'pub extern "C" fn keyed_check_schema('),)
 # each group of contracts, as the page names it; a definition counts for the first group that comes to it
-GROUPS = {"tool": TOOL, "C library": LIBRARY, "check": CHECK}
+GROUPS = {"tool": TOOL, "C library": LIBRARY, "check": CHECK, "check in C": IN_C}
 
 WORD = r"[^\s(){}.,;]+"
 BEGINS = re.compile(r"(abbrev|unfoldable|pub|data|record|mutual|module)\b|\S+ :( |$)")

@@ -1,12 +1,12 @@
 -- For `check_schema`: what the check of the sources accepts is what the caller asks for.
-use Rattle.std.proofs.Common.{◌≡◌, ◌∙◌, ℕ, false, true, List, [], ◌∷◌, Option, None, Some, Ok, ap, length, map, refl, subst, sym}
+use Rattle.std.proofs.Common.{◌≡◌, ◌∙◌, false, true, List, [], ◌∷◌, Option, None, Some, ap, length, map, refl, subst, sym}
 use Rattle.std.specs.Prelude.{IfSome, eqb, is_some, option_map, slice_get, if◌then◌else◌}
 use Rattle.std.specs.Borrow.{Bor}
 use Rattle.std.specs.Option.{option_map_or}
 use Rattle.serde_json.specs.Data.{Data}
-use Rattle.tmpl_syntax.specs.Parse.{Parses, base_name}
+use Rattle.tmpl_syntax.specs.Parse.{base_name}
 use Rattle.tmpl_syntax.specs.Set.{Template}
-use Rattle.tmpl_report.specs.Safe.{AreAccepted, IsSafe, IsSafeOver, asked_name}
+use Rattle.tmpl_report.specs.Safe.{AreAccepted, IsSafe, asked_name}
 use Rattle.tmpl_report.specs.declared.source.Question as report
 use Rattle.tmpl_report.specs.declared.source.Source.{Source}
 use Rattle.tmpl_report.specs.declared.source.Sources.{Sources}
@@ -71,17 +71,6 @@ module _ (files : List File) (q : Question) (asked : report.Question) (sources :
         where
           one : Some (pair_in schema) ≡ Some (pair_of q.schema) → pair_in schema ≡ pair_of q.schema
           one e = cc
-
--- the first file
-pub first-of : (files : List File) (f : File) → slice_get files 0 ≡ Some f → base_name f.name.now ≡ first_name (pairs_of files)
-first-of [] f e = absurd (none e)
-  where
-    none : ◌≡◌ {A = Option File} None (Some f) → ⊥
-    none e = cc
-first-of (g ∷ gs) f e = ap (λ (x : File). base_name x.name.now) (sym (one e))
-  where
-    one : ◌≡◌ {A = Option File} (Some g) (Some f) → g ≡ f
-    one e = cc
 
 pub no-first : (files : List File) → slice_get files 0 ≡ None → [] ≡ first_name (pairs_of files)
 no-first [] e = refl
