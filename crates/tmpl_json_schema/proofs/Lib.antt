@@ -6,3 +6,4 @@ pub mod SafeLemmas
 pub mod StepLemmas
 pub mod ConformLemmas
 pub mod MeetLemmas
+pub mod KnownLemmas

@@ -7,10 +7,12 @@ ghost use Rattle.tmpl_values.specs.Value.{Value as DataValue};
 ghost use Rattle.tmpl_shape.specs.Shape.{Fits};
 ghost use Rattle.tmpl_shape.specs.View.{defs_in, schema_of};
 ghost use Rattle.tmpl_json_schema.specs.Document.{IsOfSchema, document_of, draft_of};
+ghost use Rattle.tmpl_json_schema.specs.Keywords.{IsKnown};
 ghost use Rattle.tmpl_json_schema.specs.computed.Defined.{IsDefinition, are_defined};
 
 use crate::draft::draft_of;
 use crate::fault::{SchemaFault, refusal, refusal_of};
+use crate::known::is_known;
 use crate::read::{Reader, shape_by};
 use crate::reference::{MOST_DEFINITIONS, fragment_of, is_listed, pointed};
 use serde_json::Value;
@@ -374,9 +376,14 @@ fn schema_in(alloc: Global, levels: usize, root: &Value) -> Result<Schema, Schem
 /// `OutOfMemory` where memory is refused.
 pub fn read_schema(alloc: Global, root: &Value) -> Result<Schema, SchemaFault>
     ensures draft { OnOk result (IsSome (draft_of (view root.now))) }
+    ensures keywords { OnOk result (IsKnown (view root.now)) }
     ensures fits { IfOk result (λ s. (v : DataValue) → IsOfSchema (view root.now) v → Fits (schema_of s) v) }
 {
-    schema_in(alloc, LEVELS, root)
+    let schema = schema_in(alloc, LEVELS, root)?;
+    if !is_known(LEVELS, root) {
+        return Err(refusal(alloc, "a keyword is not understood"));
+    }
+    Ok(schema)
 }
 
 /// The JSON value that a file is, if it is one.

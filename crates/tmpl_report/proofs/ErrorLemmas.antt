@@ -1,13 +1,25 @@
--- For `findings_of`: the errors among what is found, and those of one more file.
-use Rattle.std.proofs.Common.{◌≡◌, ◌∙◌, ◌++◌, ◌||◌, ◌==◌, Bool, true, false, ℕ, List, [], ◌∷◌, ap, append-nil, append_assoc, cond, length, map, refl, sym}
+-- For `findings_of`: the errors among what is found, those of one more file, and those of data.
+use Rattle.std.proofs.Common.{◌≡◌, ◌∙◌, ◌++◌, ◌||◌, Bool, true, false, ℕ, List, [], ◌∷◌, Option, Some, None, Ok, IfSome, ap, append-nil, append_assoc, cond, if◌then◌else◌, is_none, map, not, refl, sym}
+use Rattle.std.specs.List.{AllByRecursion}
 use Rattle.std.proofs.lemmas.List.Elements.{filter-append}
+use Rattle.tmpl_values.specs.Json.{data_of}
+use Rattle.tmpl_values.specs.Value.{Value}
 use Rattle.tmpl_syntax.specs.Set.{Template}
+use Rattle.tmpl_syntax.specs.Examine.{Examined}
+use Rattle.tmpl_syntax.specs.Parse.{Parses}
+use Rattle.tmpl_problems.specs.Checked.{refused_in}
+use Rattle.tmpl_problems.specs.Judged.{IsJudgedData}
+use Rattle.tmpl_problems.specs.declared.data_check.DataReason.{DataReason}
 use Rattle.tmpl_problems.specs.declared.problem.Problem.{Problem}
 use Rattle.tmpl_problems.specs.declared.problem.Problems.{Problems}
 use Rattle.tmpl_report.specs.declared.source.Source.{Source}
-use Rattle.tmpl_report.specs.Errors.{AreOfFile, AreOfFiles, error_of, errors_in, errors_of}
+use Rattle.tmpl_report.specs.declared.entry.Level.{Level}
+use Rattle.tmpl_report.specs.declared.entry.Level.TheVariants.{Error, Warning}
+use Rattle.tmpl_report.specs.Errors.{AreOfData, AreOfFile, AreOfFiles, AreOfReason, IsOfReason, MayBeOfSchema, error_of, errors_in, errors_of}
 use Rattle.tmpl_report.specs.Finding.{Finding, has_error}
 use Rattle.tmpl_report.specs.Level.{is_error}
+use Rattle.tmpl_report.specs.Safe.{AreAccepted}
+use Rattle.tmpl_report.specs.computed.Entries.{AddsOfReason, HasMore}
 
 pub errors_in-append : (xs ys : List Finding) → errors_in (xs ++ ys) ≡ errors_in xs ++ errors_in ys
 errors_in-append xs ys = filter-append (λ f. is_error f.level) xs ys
@@ -44,11 +56,6 @@ or-true : (b : Bool) → (b || true) ≡ true
 or-true true = refl
 or-true false = refl
 
-pub error_added : (old : List Finding) (file : List ℕ) (ps qs : List Problem) → (length ps == 0) ≡ false
-    → has_error (old ++ (map (error_of file) ps ++ map (error_of file) qs)) ≡ true
-error_added old file [] qs h = cc
-error_added old file (p ∷ ps) qs h = has_error-append old (map (error_of file) (p ∷ ps) ++ map (error_of file) qs) ∙ or-true (has_error old)
-
 all_errors : (file : List ℕ) (ps : List Problem) → errors_in (map (error_of file) ps) ≡ map (error_of file) ps
 all_errors file [] = refl
 all_errors file (p ∷ ps) = ap (λ xs. error_of file p ∷ xs) (all_errors file ps)
@@ -73,3 +80,158 @@ pub told_more : (before after : List Finding) (old new : List Template) (file : 
 told_more before after old new file here p e =
     ap errors_in e ∙ errors_in-append before here
     ∙ ap (λ xs. errors_in before ++ xs) (ap errors_in p.1 ∙ errors_in-errors_of file.name.now p.0 ∙ sym p.1)
+
+-- ---- more errors
+
+found-in : (xs : List Finding) → has_error (errors_in xs) ≡ has_error xs
+found-in [] = refl
+found-in (x ∷ xs) = by (is_error x.level) refl (found-in xs)
+  where
+    by : (b : Bool) → is_error x.level ≡ b → has_error (errors_in xs) ≡ has_error xs
+        → has_error (cond b (x ∷ errors_in xs) (errors_in xs)) ≡ (b || has_error xs)
+    by true e r = ap (λ b. b || has_error (errors_in xs)) e
+    by false e r = r
+
+pub more-none : (xs : List Finding) → HasMore xs xs
+more-none xs = ([], sym (append-nil (errors_in xs)))
+
+pub more-same : (old new : List Finding) → errors_in new ≡ errors_in old → HasMore old new
+more-same old new e = ([], e ∙ sym (append-nil (errors_in old)))
+
+pub more-added : (old new here : List Finding) → new ≡ old ++ here → HasMore old new
+more-added old new here e = (errors_in here, ap errors_in e ∙ errors_in-append old here)
+
+pub more-then : (old mid new : List Finding) → HasMore old mid → HasMore mid new → HasMore old new
+more-then old mid new a b = (a.0 ++ b.0, b.1 ∙ ap (λ xs. xs ++ b.0) a.1 ∙ append_assoc (errors_in old) a.0 b.0)
+
+left-false : (a b : Bool) → (a || b) ≡ false → a ≡ false
+left-false true b e = cc
+left-false false b e = refl
+
+right-false : (a b : Bool) → (a || b) ≡ false → b ≡ false
+right-false true b e = cc
+right-false false b e = e
+
+none-of : (old new more : List Finding) → errors_in new ≡ errors_in old ++ more → has_error new ≡ false → (has_error old || has_error more) ≡ false
+none-of old new more e h =
+    ap (λ b. b || has_error more) (sym (found-in old)) ∙ sym (has_error-append (errors_in old) more) ∙ ap has_error (sym e) ∙ found-in new ∙ h
+
+pub none-before : (old new more : List Finding) → errors_in new ≡ errors_in old ++ more → has_error new ≡ false → has_error old ≡ false
+none-before old new more e h = left-false (has_error old) (has_error more) (none-of old new more e h)
+
+pub none-after : (old new more : List Finding) → errors_in new ≡ errors_in old ++ more → has_error new ≡ false → has_error more ≡ false
+none-after old new more e h = right-false (has_error old) (has_error more) (none-of old new more e h)
+
+-- ---- files without errors
+
+file-accepted : (old : List Template) (file : Source) (new : List Template) (errors : List Finding) → AreOfFile old file new errors
+    → has_error errors ≡ false → Parses old file.name.now file.bytes.items (Ok new)
+file-accepted old file new errors p h = by p.0.refused.items refl h p.2
+  where
+    by : (ps : List Problem) → p.0.refused.items ≡ ps → has_error errors ≡ false → Examined old file.name.now file.bytes.items new (map refused_in ps)
+        → Parses old file.name.now file.bytes.items (Ok new)
+    by [] e none x = x
+    by (q ∷ qs) e none x =
+        let some : has_error errors ≡ true = ap has_error p.1
+        ∙ ap (λ ps. has_error (map (error_of file.name.now) ps ++ map (error_of file.name.now) p.0.beyond.items)) e in cc
+
+pub files-accepted : (old : List Template) (files : List Source) (new : List Template) (errors : List Finding) → AreOfFiles old files new errors
+    → has_error errors ≡ false → AreAccepted old files new
+files-accepted old [] new errors a h = a.0
+files-accepted old (file ∷ files) new errors a h =
+    let none : (has_error a.1 || has_error a.2) ≡ false = sym (has_error-append a.1 a.2) ∙ ap has_error (sym a.3) ∙ h in (
+      a.0,
+      file-accepted old file a.0 a.1 a.4 (left-false (has_error a.1) (has_error a.2) none),
+      files-accepted a.0 files new a.2 a.5 (right-false (has_error a.1) (has_error a.2) none),
+    )
+
+-- ---- errors of a schema
+
+pub none-of-schema : (schema : Option Source) (before : List Finding) → MayBeOfSchema schema before []
+none-of-schema None before = refl
+none-of-schema (Some file) before = λ e. refl
+
+pub some-of-schema : (schema : Option Source) (before errors : List Finding) → is_none schema ≡ false → has_error before ≡ false → MayBeOfSchema schema before errors
+some-of-schema None before errors e h = cc
+some-of-schema (Some file) before errors e h = λ some. cc
+
+pub may-be : (schema : Option Source) (before firsts errors : List Finding) → errors_in before ≡ firsts → MayBeOfSchema schema before errors
+    → MayBeOfSchema schema firsts errors
+may-be None before firsts errors e h = h
+may-be (Some file) before firsts errors e h = λ some. h (sym (found-in before) ∙ ap has_error e ∙ some)
+
+-- ---- errors of data
+
+all-more : (P : Finding → Type 0) (xs : List Finding) (x : Finding) → AllByRecursion P xs → P x → AllByRecursion P (xs ++ x ∷ [])
+all-more P [] x h p = (p, tt)
+all-more P (y ∷ ys) x h p = (h.0, all-more P ys x h.1 p)
+
+pub reason-first : (file : List ℕ) (why : DataReason) (old new : List Finding) (f : Finding) → IsOfReason file why f → new ≡ old ++ f ∷ []
+    → AddsOfReason file why old new
+reason-first file why old new f h e = (f ∷ [], (ap (λ l. is_error l || false) h.1, (h, tt)), e)
+
+pub reason-more : (file : List ℕ) (why : DataReason) (old mid new : List Finding) (f : Finding) → AddsOfReason file why old mid → IsOfReason file why f
+    → new ≡ mid ++ f ∷ [] → AddsOfReason file why old new
+reason-more file why old mid new f a h e = (
+  a.0 ++ f ∷ [],
+  (error_stays a.0 (f ∷ []) a.1.0, all-more (IsOfReason file why) a.0 f a.1.1 h),
+  e ∙ ap (λ xs. xs ++ f ∷ []) a.2 ∙ append_assoc old a.0 (f ∷ []),
+)
+
+of-reason-errors : (file : List ℕ) (why : DataReason) (fs : List Finding) → AllByRecursion (IsOfReason file why) fs → errors_in fs ≡ fs
+of-reason-errors file why [] h = refl
+of-reason-errors file why (f ∷ fs) h = by f.level h.0.1 (of-reason-errors file why fs h.1)
+  where
+    by : (l : Level) → l ≡ Error → errors_in fs ≡ fs → cond (is_error l) (f ∷ errors_in fs) (errors_in fs) ≡ f ∷ fs
+    by Error e r = ap (λ xs. f ∷ xs) r
+    by Warning e r = cc
+
+of-reason-in : (file : List ℕ) (why : Option DataReason) (errors : List Finding) → AreOfReason file why errors → errors_in errors ≡ errors
+of-reason-in file None errors h = ap errors_in h ∙ sym h
+of-reason-in file (Some why) errors h = of-reason-errors file why errors h.1
+
+pub data-told : (old mid new : List Finding) (file : List ℕ) (why : Option DataReason) (errors : List Finding) → AreOfReason file why errors
+    → mid ≡ old ++ errors → errors_in new ≡ errors_in mid → errors_in new ≡ errors_in old ++ errors
+data-told old mid new file why errors h a w =
+    w ∙ ap errors_in a ∙ errors_in-append old errors ∙ ap (λ xs. errors_in old ++ xs) (of-reason-in file why errors h)
+
+or-false : (b : Bool) → (b || false) ≡ b
+or-false true = refl
+or-false false = refl
+
+pub data-found : (old mid new : List Finding) (file : List ℕ) (why : Option DataReason) (errors : List Finding) (accepted : Bool)
+    → AreOfReason file why errors → mid ≡ old ++ errors → errors_in new ≡ errors_in mid → accepted ≡ is_none why
+    → has_error new ≡ (if accepted then has_error old else true)
+data-found old mid new file why errors accepted h a w e =
+    has_error-by new mid w ∙ ap has_error a ∙ has_error-append old errors ∙ by why h accepted e
+  where
+    by : (o : Option DataReason) → AreOfReason file o errors → (b : Bool) → b ≡ is_none o
+        → (has_error old || has_error errors) ≡ (if b then has_error old else true)
+    by None h true e = ap (λ xs. has_error old || has_error xs) h ∙ or-false (has_error old)
+    by None h false e = cc
+    by (Some w) h true e = cc
+    by (Some w) h false e = ap (λ b. has_error old || b) h.0 ∙ or-true (has_error old)
+
+pub data-valued : (o : Option Source) (errors : List Finding) → AreOfData o errors → has_error errors ≡ false
+    → IfSome o (λ (d : Source). (value : Value) × (data_of d.bytes.items ≡ Ok value))
+data-valued None errors a h = tt
+data-valued (Some file) errors a h = by a.0 a.1 a.2 h
+  where
+    by : (o : Option DataReason) → IsJudgedData file.bytes.items o → AreOfReason file.name.now o errors → has_error errors ≡ false
+        → (value : Value) × (data_of file.bytes.items ≡ Ok value)
+    by None j r none = j
+    by (Some w) j r none = let some = r.0 in cc
+
+-- ---- where no schema is given
+
+pub none-given : (P : Source → Type 0) (o : Option Source) → is_none o ≡ true → IfSome o P
+none-given P None e = tt
+none-given P (Some file) e = cc
+
+pub turned : (b c : Bool) → b ≡ not c → c ≡ not b
+turned true true e = cc
+turned true false e = refl
+turned false true e = refl
+turned false false e = cc
+
+pub ruleset more = (more-none, more-same)

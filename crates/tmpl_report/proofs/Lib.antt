@@ -1,4 +1,3 @@
-pub mod AcceptedLemmas
 pub mod ErrorLemmas
 pub mod InferredLemmas
 pub mod ItemLemmas

@@ -1,17 +1,21 @@
--- Which errors are told of template files.
-use Rattle.std.specs.Prelude.{◌≡◌, ℕ, List, [], ◌∷◌, ◌++◌, All, None, codes, filter, map}
+-- Which errors are told of template files and of data.
+use Rattle.std.specs.Prelude.{◌≡◌, ℕ, true, List, [], ◌∷◌, ◌++◌, All, Option, Some, None, codes, filter, map}
+use Rattle.std.specs.List.{AllByRecursion}
 use Rattle.tmpl_syntax.specs.Set.{Template}
 use Rattle.tmpl_syntax.specs.declared.fault.ParseKind.{ParseKind}
 use Rattle.tmpl_syntax.specs.declared.fault.ParseKind.TheVariants as kind
 use Rattle.tmpl_syntax.specs.Examine.{Examined, IsLocated}
 use Rattle.tmpl_problems.specs.Checked.{IsBeyond, refused_in}
-use Rattle.tmpl_problems.specs.Line.{text_of}
+use Rattle.tmpl_problems.specs.Judged.{IsJudgedData, words_for}
+use Rattle.tmpl_problems.specs.Line.{reason_with, text_of}
+use Rattle.tmpl_problems.specs.declared.data_check.DataReason.{DataReason}
+use Rattle.tmpl_problems.specs.declared.data_check.DataReason.TheVariants as reason
 use Rattle.tmpl_problems.specs.declared.problem.Problem.{Problem}
 use Rattle.tmpl_problems.specs.declared.problem.Problems.{Problems}
 use Rattle.tmpl_report.specs.declared.entry.Level.TheVariants.{Error}
 use Rattle.tmpl_report.specs.declared.source.Source.{Source}
 use Rattle.tmpl_report.specs.declared.source.Sources.{Sources}
-use Rattle.tmpl_report.specs.Finding.{Finding}
+use Rattle.tmpl_report.specs.Finding.{Finding, has_error}
 use Rattle.tmpl_report.specs.Level.{is_error}
 
 -- the errors among these
@@ -46,10 +50,6 @@ error_of file p = record {
 abbrev pub errors_of : List ℕ → Problems → List Finding
 errors_of file all = map (error_of file) all.refused.items ++ map (error_of file) all.beyond.items
 
--- template files are given, and neither data nor a schema
-abbrev pub AreAlone : Sources → Type 0
-AreAlone sources = (sources.data ≡ None) × (sources.schema ≡ None)
-
 -- these are the errors of a file, which makes the new set of the old one or is refused: all that is refused of it, in
 -- order and at its places, and then, only where one of these is of an action that can't be read, what is found beyond, of
 -- which nothing else is said
@@ -63,3 +63,35 @@ abbrev pub AreOfFiles : List Template → List Source → List Template → List
 AreOfFiles old [] new errors = (new ≡ old) × (errors ≡ [])
 AreOfFiles old (file ∷ files) new errors = (next : List Template) × (here more : List Finding) × (errors ≡ here ++ more)
     × AreOfFile old file next here × AreOfFiles next files new more
+
+-- the rule that data breaks which is refused for this reason
+abbrev pub data_rule_for : DataReason → List ℕ
+data_rule_for reason.NotJson = codes "not-json"
+data_rule_for reason.NotWhole = codes "number-not-whole"
+
+-- an error of data of this file, which is refused for this reason; at which places, and what more is said, is left open
+abbrev pub IsOfReason : List ℕ → DataReason → Finding → Type 0
+IsOfReason file why f = (f.file ≡ file) × (f.level ≡ Error) × (f.rule ≡ data_rule_for why)
+    × ((detail : List ℕ) × (f.text ≡ reason_with (words_for why) detail))
+
+-- these are the errors of data that is refused for this reason, or for none
+abbrev pub AreOfReason : List ℕ → Option DataReason → List Finding → Type 0
+AreOfReason file None errors = errors ≡ []
+AreOfReason file (Some why) errors = (has_error errors ≡ true) × AllByRecursion (IsOfReason file why) errors
+
+-- these are the errors of the data, if there is some: none exactly where it has a value
+abbrev pub AreOfData : Option Source → List Finding → Type 0
+AreOfData None errors = errors ≡ []
+AreOfData (Some file) errors =
+    (why : Option DataReason) × IsJudgedData file.bytes.items why × AreOfReason file.name.now why errors
+
+-- of a schema there are errors only where one is given and no template file has one
+abbrev pub MayBeOfSchema : Option Source → List Finding → List Finding → Type 0
+MayBeOfSchema None before errors = errors ≡ []
+MayBeOfSchema (Some file) before errors = has_error before ≡ true → errors ≡ []
+
+-- these are all errors: those of the template files, those of the schema, and those of the data
+abbrev pub AreErrors : Sources → List Finding → Type 0
+AreErrors sources errors = (set : List Template) × (of_files of_schema of_data : List Finding)
+    × (errors ≡ of_files ++ of_schema ++ of_data) × AreOfFiles [] sources.templates.items set of_files
+    × MayBeOfSchema sources.schema of_files of_schema × AreOfData sources.data of_data

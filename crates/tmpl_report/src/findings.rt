@@ -1,18 +1,17 @@
 //! What is found.
-ghost use Rattle.std.specs.Prelude.{◌≡◌, List, [], ◌∷◌, ◌++◌, false, true, IfOk, Ok, Err, OnOk, if◌then◌else◌};
+ghost use Rattle.std.specs.Prelude.{◌≡◌, List, [], ◌∷◌, ◌++◌, false, true, IfOk, Ok, Err, OnOk, Some, if◌then◌else◌};
 ghost use Rattle.std.specs.Prelude.{map, string_bytes};
 ghost use Rattle.std.specs.List.{list_any};
 ghost use Rattle.tmpl_values.specs.Json.{data_of, Flaw};
 ghost use Rattle.tmpl_values.specs.Value.{Value};
-ghost use Rattle.tmpl_syntax.specs.Parse.{Parses};
-ghost use Rattle.tmpl_syntax.specs.Set.{Template};
 ghost use Rattle.tmpl_syntax.specs.View.{set_view};
-ghost use Rattle.tmpl_report.specs.Errors.{AreAlone, AreOfFile, AreOfFiles, error_of, errors_in, errors_of};
+ghost use Rattle.tmpl_report.specs.Errors.{AreErrors, AreOfData, AreOfFile, AreOfFiles, AreOfReason, IsOfReason};
+ghost use Rattle.tmpl_report.specs.Errors.{error_of, errors_in, errors_of};
 ghost use Rattle.tmpl_report.specs.Finding.{Finding, has_error};
 ghost use Rattle.tmpl_report.specs.Level.{is_error};
-ghost use Rattle.tmpl_report.specs.Safe.{AreAccepted, HasValue, IsSafe};
+ghost use Rattle.tmpl_report.specs.Safe.{IsSafe};
 ghost use Rattle.tmpl_report.specs.Told.{told};
-ghost use Rattle.tmpl_report.specs.computed.Entries.{is_same, warning_of};
+ghost use Rattle.tmpl_report.specs.computed.Entries.{AddsOfReason, HasMore, is_same, warning_of};
 
 use crate::entry::{Entry, Level};
 use crate::rule::{
@@ -110,13 +109,15 @@ impl<'a> Findings<'a> {
 
     /// Adds what is found, unless the same was found before.
     pub(crate) fn add_once(&mut self, entry: Entry<'a>) -> Result<(), AllocError>
-        ensures { OnOk result (self.new ≡ (if list_any (λ other. is_same other entry.entry) self.old
+        ensures added { OnOk result (self.new ≡ (if list_any (λ other. is_same other entry.entry) self.old
             then self.old else self.old ++ entry.entry ∷ [])) }
+        ensures more { OnOk result (HasMore self.old self.new) }
     {
         if has_same(self.entries.as_slice(), &entry) {
             return Ok(());
         }
-        self.add(entry)
+        self.add(entry)?;
+        Ok(())
     }
 
     /// Adds what is wrong in a file: first what is refused.
@@ -267,7 +268,7 @@ impl<'a> Findings<'a> {
         self.warn(first, (1, 1), NO_SUCH_TEMPLATE, text)
     }
 
-    /// Adds what is found in template files, and their templates to the set. Whether all are accepted.
+    /// Adds what is found in template files, and their templates to the set.
     fn add_files(
         &mut self,
         alloc: Global,
@@ -275,19 +276,16 @@ impl<'a> Findings<'a> {
         question: &Question<'a>,
         files: &[Source<'a>],
         set: &mut Set,
-    ) -> Result<bool, AllocError>
-        ensures accepted { IfOk result (λ accepted. accepted ≡ true
-            → AreAccepted (set_view set.old) files.now (set_view set.new)) }
-        ensures refused { IfOk result (λ accepted. accepted ≡ false → has_error self.new ≡ true) }
-        ensures matches_spec { OnOk result ((errors : List Finding)
+    ) -> Result<(), AllocError>
+        ensures { OnOk result ((errors : List Finding)
             × AreOfFiles (set_view set.old) files.now (set_view set.new) errors
             × (errors_in self.new ≡ errors_in self.old ++ errors)) }
     {
         let surveys = survey_all(alloc, hash, files)?;
         let templates = templates_in(alloc, hash, files, surveys.as_slice())?;
-        let accepted = self.add_each(alloc, hash, question.name, files, surveys, &templates, set)?;
+        self.add_each(alloc, hash, question.name, files, surveys, &templates, set)?;
         self.add_asked(alloc, question, &templates)?;
-        Ok(accepted)
+        Ok(())
     }
 
     /// The same of each file and its survey.
@@ -300,42 +298,33 @@ impl<'a> Findings<'a> {
         surveys: Vec<Survey<'_>>,
         templates: &Templates<'_>,
         set: &mut Set,
-    ) -> Result<bool, AllocError>
-        ensures accepted { IfOk result (λ accepted. accepted ≡ true
-            → AreAccepted (set_view set.old) files.now (set_view set.new)) }
-        ensures refused { IfOk result (λ accepted. accepted ≡ false → has_error self.new ≡ true) }
-        ensures matches_spec { OnOk result ((errors : List Finding)
+    ) -> Result<(), AllocError>
+        ensures { OnOk result ((errors : List Finding)
             × AreOfFiles (set_view set.old) files.now (set_view set.new) errors
             × (errors_in self.new ≡ errors_in self.old ++ errors)) }
     {
         let mut surveys = surveys.into_iter();
-        let mut accepted = true;
         for file in files {
-            let here = self.add_checked(alloc, hash, file, &mut *set)?;
-            accepted = accepted && here;
+            self.add_checked(alloc, hash, file, &mut *set)?;
             self.add_surveyed(alloc, file.name, asked, surveys.next(), templates)?;
         }
-        Ok(accepted)
+        Ok(())
     }
 
-    /// Adds what is wrong in a file, and its templates to the set. Whether it is accepted.
+    /// Adds what is wrong in a file, and its templates to the set.
     fn add_checked(
         &mut self,
         alloc: Global,
         hash: NameHash,
         file: &Source<'a>,
         set: &mut Set,
-    ) -> Result<bool, AllocError>
-        ensures accepted { IfOk result (λ accepted. accepted ≡ true
-            → Parses (set_view set.old) file.now.name.now file.now.bytes.items (Ok (set_view set.new))) }
-        ensures refused { IfOk result (λ accepted. accepted ≡ false → has_error self.new ≡ true) }
-        ensures matches_spec { OnOk result ((errors : List Finding)
+    ) -> Result<(), AllocError>
+        ensures { OnOk result ((errors : List Finding)
             × AreOfFile (set_view set.old) file.now (set_view set.new) errors × (self.new ≡ self.old ++ errors)) }
     {
         let problems = check_file(alloc, set, hash, file.name, file.bytes.as_slice())?;
-        let accepted = problems.refused.is_empty();
         self.add_problems(alloc, file.name, &problems)?;
-        Ok(accepted)
+        Ok(())
     }
 
     /// Adds what the survey of a file has.
@@ -359,33 +348,49 @@ impl<'a> Findings<'a> {
     }
 
     /// Adds an error where none tells what is wrong. Each check tells one, but no clause of theirs says so.
-    fn add_unseen(&mut self, alloc: Global, question: &Question<'a>) -> Result<(), AllocError>
-        ensures has_error { OnOk result (has_error self.new ≡ true) }
+    pub(crate) fn add_unseen(
+        &mut self,
+        alloc: Global,
+        question: &Question<'a>,
+    ) -> Result<(), AllocError>
+        ensures found { OnOk result (has_error self.new ≡ true) }
         ensures kept { OnOk result (has_error self.old ≡ true → self.new ≡ self.old) }
+        ensures more { OnOk result (HasMore self.old self.new) }
     {
         if self.has_errors() {
             return Ok(());
         }
         let entry = unseen_entry(alloc, question.first.unwrap_or(""))?;
-        self.add(entry)
+        self.add(entry)?;
+        Ok(())
     }
 
-    /// Adds an error.
-    fn add_error(&mut self, entry: Entry<'a>) -> Result<(), AllocError>
-        requires { is_error entry.level ≡ true }
-        ensures { OnOk result (has_error self.new ≡ true) }
+    /// Adds what is wrong in a schema that is not read, and that it is, if nothing else tells it.
+    pub(crate) fn add_unread(
+        &mut self,
+        alloc: Global,
+        question: &Question<'a>,
+        schema: &Source<'a>,
+    ) -> Result<(), AllocError>
+        ensures found { OnOk result (has_error self.new ≡ true) }
+        ensures more { OnOk result (HasMore self.old self.new) }
     {
-        self.add(entry)
+        self.add_data(alloc, schema)?;
+        self.add_unseen(alloc, question)?;
+        Ok(())
     }
 
-    /// Adds what is wrong in the data, if there is some. Whether it has a value then.
-    fn add_given(&mut self, alloc: Global, sources: &Sources<'a>) -> Result<bool, AllocError>
-        ensures accepted { IfOk result (λ accepted. accepted ≡ true → HasValue sources.now) }
-        ensures alone { IfOk result (λ accepted. AreAlone sources.now → (accepted ≡ true) × (self.new ≡ self.old)) }
+    /// Adds what is wrong in the data, if there is some.
+    fn add_given(&mut self, alloc: Global, sources: &Sources<'a>) -> Result<(), AllocError>
+        ensures { OnOk result ((errors : List Finding) × AreOfData sources.now.«data» errors
+            × (errors_in self.new ≡ errors_in self.old ++ errors)) }
     {
         match &sources.data {
-            Some(data) => self.add_data(alloc, data),
-            None => Ok(true),
+            Some(data) => {
+                self.add_data(alloc, data)?;
+                Ok(())
+            }
+            None => Ok(()),
         }
     }
 
@@ -395,30 +400,54 @@ impl<'a> Findings<'a> {
             → (value : Value) × (data_of «data».now.bytes.items ≡ Ok value)) }
         ensures refused { IfOk result (λ accepted. accepted ≡ false
             → (flaw : Flaw) × (data_of «data».now.bytes.items ≡ Err flaw)) }
-        ensures error_reported { IfOk result (λ accepted. has_error self.new
+        ensures found { IfOk result (λ accepted. has_error self.new
             ≡ (if accepted then has_error self.old else true)) }
+        ensures matches_spec { OnOk result ((errors : List Finding) × AreOfData (Some «data».now) errors
+            × (errors_in self.new ≡ errors_in self.old ++ errors)) }
     {
-        let DataReport {
-            refused,
-            problems,
-            warnings,
-        } = check_data(alloc, data.bytes.as_slice())?;
-        let accepted = refused.is_none();
-        if let Some(reason) = refused {
-            self.add_data_problems(alloc, data.name, reason, problems)?;
+        let report = check_data(alloc, data.bytes.as_slice())?;
+        let accepted = report.refused.is_none();
+        self.add_reason(alloc, data.name, report.refused, report.problems)?;
+        self.warn_of_keys(data.name, report.warnings)?;
+        Ok(accepted)
+    }
+
+    /// Adds the places at which data is wrong that is refused for this reason, if it is.
+    fn add_reason(
+        &mut self,
+        alloc: Global,
+        file: &'a str,
+        reason: Option<DataReason>,
+        problems: Vec<DataProblem>,
+    ) -> Result<(), AllocError>
+        ensures { OnOk result ((errors : List Finding) × AreOfReason file.now reason errors
+            × (self.new ≡ self.old ++ errors)) }
+    {
+        match reason {
+            Some(reason) => {
+                self.add_data_problems(alloc, file, reason, problems)?;
+                Ok(())
+            }
+            None => Ok(()),
         }
+    }
+
+    /// Warns of the keys that stand twice in data.
+    fn warn_of_keys(&mut self, file: &'a str, warnings: Vec<DataProblem>) -> Result<(), AllocError>
+        ensures { OnOk result (errors_in self.new ≡ errors_in self.old) }
+    {
         for warning in warnings.into_iter() {
             self.warn(
-                data.name,
+                file,
                 (warning.line, warning.column),
                 KEY_GIVEN_TWICE,
                 warning.text,
             )?;
         }
-        Ok(accepted)
+        Ok(())
     }
 
-    /// Adds the places at which data is wrong that is refused for this reason.
+    /// Adds the places at which data is wrong that is refused for this reason; one, where none is known.
     fn add_data_problems(
         &mut self,
         alloc: Global,
@@ -426,40 +455,48 @@ impl<'a> Findings<'a> {
         reason: DataReason,
         problems: Vec<DataProblem>,
     ) -> Result<(), AllocError>
-        ensures { OnOk result (has_error self.new ≡ true) }
+        ensures { OnOk result (AddsOfReason file.now reason self.old self.new) }
     {
         let mut problems = problems.into_iter();
-        let Some(first) = problems.next() else {
-            let text = String::from_str(alloc, reason.words())?;
-            return self.add_error(data_entry(file, reason, (1, 1), text));
-        };
-        self.add_data_problem(alloc, file, reason, first)?;
+        self.add_data_problem(alloc, file, reason, problems.next())?;
         for problem in problems {
-            self.add_data_problem(alloc, file, reason, problem)?;
+            self.add_data_problem(alloc, file, reason, Some(problem))?;
         }
         Ok(())
     }
 
-    /// Adds a place at which data is wrong.
+    /// Adds that data is wrong, at a place if one is known.
     fn add_data_problem(
         &mut self,
         alloc: Global,
         file: &'a str,
         reason: DataReason,
-        problem: DataProblem,
+        problem: Option<DataProblem>,
     ) -> Result<(), AllocError>
-        ensures { OnOk result (has_error self.new ≡ true) }
+        ensures { OnOk result ((f : Finding) × IsOfReason file.now reason f × (self.new ≡ self.old ++ f ∷ [])) }
     {
-        let text = reason_text(alloc, reason.words(), problem.text.as_str())?;
-        self.add_error(data_entry(file, reason, (problem.line, problem.column), text))
+        let (place, detail) = match &problem {
+            Some(found) => ((found.line, found.column), found.text.as_str()),
+            None => ((1, 1), ""),
+        };
+        let entry = data_entry(alloc, file, reason, place, detail)?;
+        self.add(entry)?;
+        Ok(())
     }
 }
 
 /// Something wrong in data.
-fn data_entry<'a>(file: &'a str, reason: DataReason, place: (u64, u64), text: String) -> Entry<'a>
-    ensures { is_error result.level ≡ true }
+fn data_entry<'a>(
+    alloc: Global,
+    file: &'a str,
+    reason: DataReason,
+    place: (u64, u64),
+    detail: &str,
+) -> Result<Entry<'a>, AllocError>
+    ensures { IfOk result (λ entry. IsOfReason file.now reason entry) }
 {
-    Entry {
+    let text = reason_text(alloc, reason.words(), detail)?;
+    Ok(Entry {
         file,
         level: Level::Error,
         line: place.0,
@@ -467,7 +504,7 @@ fn data_entry<'a>(file: &'a str, reason: DataReason, place: (u64, u64), text: St
         rule: data_rule_of(reason),
         text,
         note: None,
-    }
+    })
 }
 
 /// Something wrong in a file.
@@ -525,12 +562,14 @@ fn unseen_entry<'a>(alloc: Global, file: &'a str) -> Result<Entry<'a>, AllocErro
     })
 }
 
-/// What is found in template files, in the order of the files, and then in data: errors, and what is suspicious. Where
-/// all files are accepted, the template that is asked for is checked against the schema. Names are hashed as is said.
+/// What is found in template files, in the order of the files, in the schema, and then in data: errors, and what is
+/// suspicious. Where all files are accepted, the template that is asked for is checked against the schema. Names are
+/// hashed as is said.
 ///
-/// Where neither data nor a schema is given, the errors are, file by file, all that is refused of it, as `check_file`
-/// says it, and what is found beyond. Where no error is found all files are accepted, the data has a value, and, where
-/// no file is missing, no data of the schema makes the template fail, as `check_document` says it.
+/// The errors are, file by file, all that is refused of it, as `check_file` says it, and what is found beyond; then
+/// those of the schema, of which there are none where none is given or a file has an error; then those of the data, of
+/// which there are none exactly where it has a value. Where no error is found all files are accepted, the data has a
+/// value, and, where no file is missing, no data of the schema makes the template fail, as `check_document` says it.
 ///
 /// # Errors
 ///
@@ -542,40 +581,15 @@ pub fn findings_of<'a>(
     sources: &Sources<'a>,
 ) -> Result<Findings<'a>, AllocError>
     ensures safe { IfOk result (λ found. has_error found ≡ false → IsSafe question.now sources.now) }
-    ensures matches_spec { IfOk result (λ found. AreAlone sources.now
-        → (set : List Template) × AreOfFiles [] sources.now.templates.items set (errors_in found)) }
+    ensures matches_spec { IfOk result (λ found. AreErrors sources.now (errors_in found)) }
 {
     let mut findings = Findings::new(alloc);
-    if !add_all(alloc, hash, &mut findings, question, sources)? {
-        findings.add_unseen(alloc, question)?;
-    }
-    Ok(findings)
-}
-
-/// Adds all that is found. Whether it is seen that nothing is wrong.
-fn add_all<'a>(
-    alloc: Global,
-    hash: NameHash,
-    findings: &mut Findings<'a>,
-    question: &Question<'a>,
-    sources: &Sources<'a>,
-) -> Result<bool, AllocError>
-    ensures safe { IfOk result (λ safe. safe ≡ true → IsSafe question.now sources.now) }
-    ensures matches_spec { IfOk result (λ safe. AreAlone sources.now
-        → (safe ≡ false → has_error findings.new ≡ true)
-        × ((set : List Template) × (errors : List Finding) × AreOfFiles [] sources.now.templates.items set errors
-        × (errors_in findings.new ≡ errors_in findings.old ++ errors))) }
-{
     let mut set = Set::with_hash(alloc, hash);
     let files = sources.templates.as_slice();
-    let accepted = findings.add_files(alloc, hash, question, files, &mut set)?;
-    let safe = add_schema(alloc, &mut *findings, &set, question, sources)?;
-    let judged = findings.add_given(alloc, sources)?;
-    if accepted && safe {
-        Ok(judged)
-    } else {
-        Ok(false)
-    }
+    findings.add_files(alloc, hash, question, files, &mut set)?;
+    add_schema(alloc, &mut findings, &set, question, sources)?;
+    findings.add_given(alloc, sources)?;
+    Ok(findings)
 }
 
 /// The surveys of files.

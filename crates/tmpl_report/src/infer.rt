@@ -4,7 +4,7 @@ ghost use Rattle.std.specs.List.{AllByRecursion};
 ghost use Rattle.serde_json.specs.View.{view};
 ghost use Rattle.tmpl_values.specs.Json.{tree_value};
 ghost use Rattle.tmpl_json_schema.specs.Document.{ConformsTo};
-ghost use Rattle.tmpl_report.specs.Inferred.{IsInferred};
+ghost use Rattle.tmpl_report.specs.Inferred.{IsInferred, IsSchemaInferred};
 ghost use Rattle.tmpl_report.specs.computed.Inferred.{AddsSample};
 
 use crate::findings::Findings;
@@ -40,8 +40,9 @@ pub fn infer_from<'a>(alloc: Global, files: &[Source<'a>]) -> Result<Inferred<'a
 
 /// The text of a schema of samples.
 fn schema_text(alloc: Global, samples: &[Value]) -> Result<String, AllocError>
-    ensures { IfOk result (λ text. AllByRecursion
+    ensures conform { IfOk result (λ text. AllByRecursion
         (λ sample. IfSome (tree_value (view sample)) (ConformsTo (string_bytes text))) samples.now) }
+    ensures inferred { IfOk result (λ text. IsSchemaInferred (string_bytes text)) }
 {
     let lent = references_to(alloc, samples)?;
     let schema = infer_schema(alloc, lent.as_slice())?;

@@ -1,6 +1,6 @@
 //! The rules that what is found breaks.
 ghost use Rattle.std.specs.Prelude.{◌≡◌, map};
-ghost use Rattle.tmpl_report.specs.Errors.{rule_for};
+ghost use Rattle.tmpl_report.specs.Errors.{data_rule_for, rule_for};
 ghost use Rattle.tmpl_report.specs.Rules.{rules};
 
 use tmpl_problems::DataReason;
@@ -140,7 +140,9 @@ pub(crate) fn rule_of(kind: ParseKind) -> Rule
 }
 
 /// The rule that data breaks which is refused for this reason.
-pub(crate) fn data_rule_of(reason: DataReason) -> Rule {
+pub(crate) fn data_rule_of(reason: DataReason) -> Rule
+    ensures { result.id.now ≡ data_rule_for reason }
+{
     match reason {
         DataReason::NotJson => NOT_JSON,
         DataReason::NotWhole => NUMBER_NOT_WHOLE,

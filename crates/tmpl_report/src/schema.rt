@@ -1,8 +1,10 @@
 //! Whether a template never fails over the data of a schema, and where it may.
-ghost use Rattle.std.specs.Prelude.{◌≡◌, false, IfOk, map, true};
+ghost use Rattle.std.specs.Prelude.{◌≡◌, ◌++◌, List, false, IfOk, OnOk, map};
 ghost use Rattle.tmpl_syntax.specs.View.{set_view};
-ghost use Rattle.tmpl_report.specs.Errors.{AreAlone};
+ghost use Rattle.tmpl_report.specs.Errors.{MayBeOfSchema, errors_in};
+ghost use Rattle.tmpl_report.specs.Finding.{Finding, has_error};
 ghost use Rattle.tmpl_report.specs.Safe.{IsSafeOver, asked_name};
+ghost use Rattle.tmpl_report.specs.computed.Entries.{HasMore};
 
 use crate::entry::{Entry, Level};
 use crate::findings::Findings;
@@ -23,30 +25,50 @@ use tmpl_schema::{Cause, Doubt, Refusal};
 use tmpl_syntax::{Set, base_name};
 use tmpl_values::Bytes;
 
-/// Adds what is said of the template that is asked for over data of the schema, once the files are accepted. Whether it
-/// is seen that it never fails, or is not asked.
+/// Adds what is said of the template that is asked for over data of the schema, once the files are accepted.
 pub(crate) fn add_schema<'a>(
     alloc: Global,
     findings: &mut Findings<'a>,
     set: &Set,
     question: &Question<'a>,
     sources: &Sources<'a>,
-) -> Result<bool, AllocError>
-    ensures safe { IfOk result (λ safe. safe ≡ true → sources.now.is_short ≡ false
+) -> Result<(), AllocError>
+    ensures safe { OnOk result (has_error findings.new ≡ false → sources.now.is_short ≡ false
         → IsSafeOver question.now sources.now (set_view set.now)) }
-    ensures alone { IfOk result (λ safe. AreAlone sources.now → (safe ≡ true) × (findings.new ≡ findings.old)) }
+    ensures matches_spec { OnOk result ((errors : List Finding) × MayBeOfSchema sources.now.schema findings.old errors
+        × (errors_in findings.new ≡ errors_in findings.old ++ errors)) }
 {
-    let Some(schema) = &sources.schema else {
-        return Ok(true);
-    };
-    let Some(first) = question.first else {
-        return Ok(true);
-    };
-    if sources.is_short {
-        return Ok(true);
+    if sources.schema.is_none() {
+        return Ok(());
     }
     if findings.has_errors() {
-        return Ok(false);
+        return Ok(());
+    }
+    add_judged(alloc, findings, set, question, sources)?;
+    Ok(())
+}
+
+/// The same, whether or not a file has an error.
+#[tactic(auto, using(crate::proofs::ErrorLemmas::more))]
+fn add_judged<'a>(
+    alloc: Global,
+    findings: &mut Findings<'a>,
+    set: &Set,
+    question: &Question<'a>,
+    sources: &Sources<'a>,
+) -> Result<(), AllocError>
+    ensures safe { OnOk result (has_error findings.new ≡ false → sources.now.is_short ≡ false
+        → IsSafeOver question.now sources.now (set_view set.now)) }
+    ensures more { OnOk result (HasMore findings.old findings.new) }
+{
+    let Some(schema) = &sources.schema else {
+        return Ok(());
+    };
+    let Some(first) = question.first else {
+        return Ok(());
+    };
+    if sources.is_short {
+        return Ok(());
     }
     let render = Render {
         set,
@@ -58,8 +80,8 @@ pub(crate) fn add_schema<'a>(
     };
     let stops = names_of(alloc, question.stops.as_slice())?;
     let Some(document) = read_document(alloc, schema.bytes.as_slice())? else {
-        findings.add_data(alloc, schema)?;
-        return Ok(false);
+        findings.add_unread(alloc, question, schema)?;
+        return Ok(());
     };
     match check_document(
         alloc,
@@ -70,15 +92,29 @@ pub(crate) fn add_schema<'a>(
         stops.as_slice(),
     ) {
         Ok(()) => {
-            if let Some(part) = part_without_values(alloc, &document)? {
-                findings.warn_of_part(alloc, schema, &part)?;
-            }
-            Ok(true)
+            warn_without_values(alloc, findings, schema, &document)?;
+            Ok(())
         }
         Err(fault) => {
-            render.add_fault(alloc, findings, &document, stops.as_slice(), fault)?;
-            Ok(false)
+            render.add_fault(alloc, &mut *findings, &document, stops.as_slice(), fault)?;
+            findings.add_unseen(alloc, question)?;
+            Ok(())
         }
+    }
+}
+
+/// Warns of a part of a schema to which no value conforms, if one is found.
+fn warn_without_values<'a>(
+    alloc: Global,
+    findings: &mut Findings<'a>,
+    schema: &Source<'a>,
+    document: &Value,
+) -> Result<(), AllocError>
+    ensures { OnOk result (errors_in findings.new ≡ errors_in findings.old) }
+{
+    match part_without_values(alloc, document)? {
+        Some(part) => findings.warn_of_part(alloc, schema, &part),
+        None => Ok(()),
     }
 }
 
@@ -113,20 +149,20 @@ impl<'a> Render<'a, '_> {
         document: &Value,
         stops: &[Bytes],
         fault: CheckFault,
-    ) -> Result<(), AllocError> {
+    ) -> Result<(), AllocError>
+        ensures { OnOk result (HasMore findings.old findings.new) }
+    {
         match fault {
             CheckFault::Schema(SchemaFault::Refused(refused)) => {
-                findings
-                    .entries
-                    .push(schema_entry(alloc, self.schema, &refused)?)?;
+                let entry = schema_entry(alloc, self.schema, &refused)?;
+                findings.add_once(entry)
             }
             CheckFault::Template(Refusal::MayFail(doubts)) => {
-                self.add_doubts(alloc, findings, document, stops, doubts.as_slice())?;
+                self.add_doubts(alloc, findings, document, stops, doubts.as_slice())
             }
-            CheckFault::Schema(SchemaFault::OutOfMemory) => return Err(AllocError),
-            CheckFault::Template(Refusal::OutOfMemory) => return Err(AllocError),
+            CheckFault::Schema(SchemaFault::OutOfMemory) => Err(AllocError),
+            CheckFault::Template(Refusal::OutOfMemory) => Err(AllocError),
         }
-        Ok(())
     }
 
     /// Adds each place at which the template may fail, with the reason in the schema and a value for which it does, where
@@ -138,7 +174,9 @@ impl<'a> Render<'a, '_> {
         document: &Value,
         stops: &[Bytes],
         doubts: &[Doubt],
-    ) -> Result<(), AllocError> {
+    ) -> Result<(), AllocError>
+        ensures { OnOk result (HasMore findings.old findings.new) }
+    {
         let Render {
             set,
             first,

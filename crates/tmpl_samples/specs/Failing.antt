@@ -2,6 +2,7 @@
 -- that was doubted.
 use Rattle.std.specs.Prelude.{◌≡◌, ℕ, Bool, true, false, List, [], ◌∷◌, Option, Some, Ok, IfSome}
 use Rattle.std.specs.Prelude.{option_and_then, string_bytes}
+use Rattle.std.specs.Str.{IsUtf8}
 use Rattle.serde_json.specs.Data.{Data}
 use Rattle.tmpl_values.specs.Json.{data_of}
 use Rattle.tmpl_values.specs.Value.{Value}
@@ -9,6 +10,7 @@ use Rattle.tmpl_syntax.specs.Set.{Template, tree_named}
 use Rattle.tmpl_meaning.specs.Fault.{Cause, Fault, lacks_entry, lacks_field, call_failed, not_a_range, not_a_function, nil_command, no_template}
 use Rattle.tmpl_meaning.specs.Meaning.{Rules, ran}
 use Rattle.tmpl_meaning.specs.declared.missing_key.MissingKey.{MissingKey}
+use Rattle.tmpl_engine.specs.Reason.{cause_text}
 use Rattle.tmpl_shape.specs.declared.cause.Cause as doubted
 use Rattle.tmpl_shape.specs.declared.cause.Cause.TheVariants as doubted_for
 use Rattle.tmpl_schema.specs.Safe.{MayEnd}
@@ -59,13 +61,15 @@ pub record Asked : Type 0 where
   pub schema : Data
 
 -- the data of the failure have a value, which conforms to the schema, and the run over it has the fault that was
--- doubted, which is none that is allowed; the failure says whether it comes by one mode alone
+-- doubted, which is none that is allowed; the failure says whether it comes by one mode alone, and what `tmpl` says of
+-- it, unless that is no UTF-8
 abbrev pub IsRight : Asked → Doubt → Failure → Type 0
 IsRight asked doubt failure = (value : Value) × (fault : Fault)
     × (data_of (string_bytes failure.data) ≡ Ok value) × IsOfSchema asked.schema value
     × (fault_over asked.rules asked.set asked.name value ≡ Some fault)
     × IsDoubted doubt fault × ¬ (MayEnd asked.stops fault.cause)
     × (failure.is_strict ≡ is_no_entry fault.cause)
+    × (IsUtf8 (cause_text fault.cause) → string_bytes failure.said ≡ cause_text fault.cause)
 
 -- there is one entry for each of these doubts, and a failure that is given is right of the doubt at its place
 abbrev pub AreRight : Asked → List Doubt → List (Option Failure) → Type 0

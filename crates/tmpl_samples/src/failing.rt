@@ -266,7 +266,9 @@ impl Question<'_> {
         ensures { IfOk result (λ found. IfSome found (λ failure. (failure.data ≡ text)
             × IsDoubted doubt.now (fault_seen fault.now)
             × ¬ (MayEnd self.now.stops.now (fault_seen fault.now).cause)
-            × (failure.is_strict ≡ is_no_entry (fault_seen fault.now).cause))) }
+            × (failure.is_strict ≡ is_no_entry (fault_seen fault.now).cause)
+            × (IsUtf8 (cause_text (fault_seen fault.now).cause)
+            → string_bytes failure.said ≡ cause_text (fault_seen fault.now).cause))) }
     {
         if !is_doubted(doubt, fault, self.stops) {
             return Ok(None);

@@ -1,7 +1,9 @@
--- For private contracts: what two findings have in common, and a warning.
-use Rattle.std.specs.Prelude.{ℕ, ◌==◌, ◌&&◌, Bool, List, None}
+-- For private contracts: what two findings have in common, a warning, and what is added.
+use Rattle.std.specs.Prelude.{◌≡◌, ℕ, ◌==◌, ◌&&◌, ◌++◌, Bool, List, Some, None}
 use Rattle.std.specs.Str.{bytes_eq}
 use Rattle.tmpl_report.specs.declared.entry.Level.TheVariants.{Warning}
+use Rattle.tmpl_problems.specs.declared.data_check.DataReason.{DataReason}
+use Rattle.tmpl_report.specs.Errors.{AreOfReason, errors_in}
 use Rattle.tmpl_report.specs.Finding.{Finding}
 
 -- they say the same of the same place
@@ -11,3 +13,11 @@ is_same f g = (bytes_eq f.file g.file && (f.line == g.line && f.column == g.colu
 abbrev pub warning_of : List ℕ → ℕ × ℕ → List ℕ → List ℕ → Finding
 warning_of file place rule text =
     record { file = file; line = place.0; column = place.1; level = Warning; rule = rule; text = text; note = None }
+
+-- errors may have been added
+abbrev pub HasMore : List Finding → List Finding → Type 0
+HasMore old new = (more : List Finding) × (errors_in new ≡ errors_in old ++ more)
+
+-- errors of data are added, which is refused for this reason
+abbrev pub AddsOfReason : List ℕ → DataReason → List Finding → List Finding → Type 0
+AddsOfReason file why old new = (errors : List Finding) × AreOfReason file (Some why) errors × (new ≡ old ++ errors)

@@ -26,6 +26,8 @@ pub returns : goal.returns
 returns c =
     let files = c.args.files.now in
     let all : take c.loop-file.file-index files ≡ files = take_all c.loop-file.file-index files c.loop-file-test.false in
-    let are_read = subst (λ fs. AreRead fs c.loop-file.findings c.loop-file.samples.items) all c.loop-file.invariant in
-    files-conform (string_bytes c.in_ok-text.text) files c.loop-file.findings c.loop-file.samples.items are_read (sym c.has_errors.ensures ∙ c.if-has_errors.false)
-    (subst (AllByRecursion (λ s. IfSome (tree_value (view s)) (ConformsTo (string_bytes c.in_ok-text.text)))) c.as_slice.ensures.value c.in_ok-text.ensures)
+    let are_read = subst (λ fs. AreRead fs c.loop-file.findings c.loop-file.samples.items) all c.loop-file.invariant in (
+      files-conform (string_bytes c.in_ok-text.text) files c.loop-file.findings c.loop-file.samples.items are_read (sym c.has_errors.ensures ∙ c.if-has_errors.false)
+          (subst (AllByRecursion (λ s. IfSome (tree_value (view s)) (ConformsTo (string_bytes c.in_ok-text.text)))) c.as_slice.ensures.value c.in_ok-text.ensures.conform),
+      c.in_ok-text.ensures.inferred,
+    )

@@ -10,8 +10,15 @@ use Rattle.tmpl_json_schema.proofs.DocumentLemmas.{document-read}
 use Rattle.tmpl_report.proofs.InferredLemmas.{samples-told}
 use Rattle.tmpl_report.proofs.infer.schema_text.Goals as goal
 
-pub returns : goal.returns
-returns c =
+pub returns-clause-inferred : goal.returns-clause-inferred
+returns-clause-inferred c =
+    let text = string_bytes c.in_ok-text.text in
+    let root = view c.in_ok-schema.schema in
+    let is_text : IsUtf8 text = subst IsUtf8 c.as_str-shown.ensures.value c.as_str-shown.utf8 in
+    (root, document-read text root is_text (c.in_ok-text.ensures.reads_back c.in_ok-schema.ensures.nests), c.in_ok-schema.ensures.plain)
+
+pub returns-clause-conform : goal.returns-clause-conform
+returns-clause-conform c =
     let text = string_bytes c.in_ok-text.text in
     let root = view c.in_ok-schema.schema in
     let is_text : IsUtf8 text = subst IsUtf8 c.as_str-shown.ensures.value c.as_str-shown.utf8 in

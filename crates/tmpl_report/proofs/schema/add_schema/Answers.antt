@@ -1,12 +1,24 @@
-use Rattle.std.proofs.Common.{◌∙◌, ap, map, sym}
-use Rattle.std.specs.Option.{option_map}
-use Rattle.serde_json.specs.View.{view}
-use Rattle.tmpl_syntax.specs.View.{set_view}
-use Rattle.tmpl_report.proofs.SafeLemmas.{safe-over}
+use Rattle.std.proofs.Common.{◌∙◌, [], append-nil, sym}
+use Rattle.tmpl_report.specs.Errors.{errors_in}
+use Rattle.tmpl_report.proofs.ErrorLemmas.{none-given, none-of-schema, some-of-schema, turned}
 use Rattle.tmpl_report.proofs.schema.add_schema.Goals as goal
 
-pub returns-in-Ok-clause-safe : goal.returns-in-Ok-clause-safe
-returns-in-Ok-clause-safe c = λ t short. safe-over c.args.question.now c.args.sources.now (set_view c.args.set.now) c.in-Some.schema c.in-Some-first.first _ _ _ _
-    c.in-Some.is c.in-Some-first.is (sym (ap (option_map view) c.in-Some-2.is) ∙ c.in_ok-document.ensures) c.as_slice-2.ensures.value
-    (c.as_slice-3.ensures.value ∙ c.in_ok-stops.ensures ∙ ap (map (λ name. name.now)) c.as_slice.ensures.value)
-    c.asked_name.ensures c.in-Ok.ensures
+pub returns-then-is_none-clause-safe : goal.returns-then-is_none-clause-safe
+returns-then-is_none-clause-safe c = λ none short. none-given _ c.args.sources.now.schema (sym (turned _ _ c.is_none.ensures) ∙ c.if-is_none.true)
+
+pub returns-then-is_none-clause-matches_spec : goal.returns-then-is_none-clause-matches_spec
+returns-then-is_none-clause-matches_spec c =
+    ([], none-of-schema c.args.sources.now.schema c.args.findings.now, sym (append-nil (errors_in c.args.findings.now)))
+
+pub returns-then-has_errors-clause-matches_spec : goal.returns-then-has_errors-clause-matches_spec
+returns-then-has_errors-clause-matches_spec c =
+    ([], none-of-schema c.args.sources.now.schema c.args.findings.now, sym (append-nil (errors_in c.args.findings.now)))
+
+pub returns-clause-matches_spec : goal.returns-clause-matches_spec
+returns-clause-matches_spec c =
+    let more = c.in_ok-add_judged.ensures.more in (
+      more.0,
+      some-of-schema c.args.sources.now.schema c.args.findings.now more.0 (sym (turned _ _ c.is_none.ensures) ∙ c.if-is_none.false)
+          (sym c.has_errors.ensures ∙ c.if-has_errors.false),
+      more.1,
+    )

@@ -1,6 +1,5 @@
-use Rattle.std.proofs.Common.{◌≡◌, true}
-use Rattle.tmpl_report.specs.Finding.{has_error}
+use Rattle.tmpl_report.specs.computed.Entries.{AddsOfReason}
 use Rattle.tmpl_report.proofs.findings.Findings.add_data_problems.Given as goal
 
 abbrev pub invariant-loop-problem : goal.invariant-loop-problem
-invariant-loop-problem l = has_error l.self ≡ true
+invariant-loop-problem l = AddsOfReason l.file l.reason l.fn.self l.self

@@ -1,14 +1,10 @@
-use Rattle.std.proofs.Common.{◌≡◌, ◌++◌, List, false, take, true}
+use Rattle.std.proofs.Common.{◌≡◌, ◌++◌, List, take}
 use Rattle.tmpl_syntax.specs.View.{set_view}
 use Rattle.tmpl_report.specs.Errors.{AreOfFiles, errors_in}
-use Rattle.tmpl_report.specs.Finding.{Finding, has_error}
-use Rattle.tmpl_report.specs.Safe.{AreAccepted}
+use Rattle.tmpl_report.specs.Finding.{Finding}
 use Rattle.tmpl_report.proofs.findings.Findings.add_each.Given as goal
 
 abbrev pub invariant-loop-file : goal.invariant-loop-file
-invariant-loop-file l = record {
-  accepted : l.accepted ≡ true → AreAccepted (set_view l.initial.set) (take l.file-index l.files) (set_view l.set);
-  refused : l.accepted ≡ false → has_error l.self ≡ true;
-  told : (errors : List Finding) × AreOfFiles (set_view l.initial.set) (take l.file-index l.files) (set_view l.set) errors
-      × (errors_in l.self ≡ errors_in l.initial.self ++ errors);
-}
+invariant-loop-file l = (errors : List Finding)
+    × AreOfFiles (set_view l.initial.set) (take l.file-index l.files) (set_view l.set) errors
+    × (errors_in l.self ≡ errors_in l.initial.self ++ errors)
