@@ -373,7 +373,7 @@ fn schema_in(alloc: Global, levels: usize, root: &Value) -> Result<Schema, Schem
 /// # Errors
 ///
 /// `Refused` where a keyword in it is not one that is understood, or what stands under it is not what it wants, and
-/// `OutOfMemory` where memory is refused.
+/// `OutOfMemory` where memory runs out.
 pub fn read_schema(alloc: Global, root: &Value) -> Result<Schema, SchemaFault>
     ensures draft { OnOk result (IsSome (draft_of (view root.now))) }
     ensures keywords { OnOk result (IsKnown (view root.now)) }
@@ -390,7 +390,7 @@ pub fn read_schema(alloc: Global, root: &Value) -> Result<Schema, SchemaFault>
 ///
 /// # Errors
 ///
-/// Where memory is refused.
+/// Where memory runs out.
 pub fn read_document(alloc: Global, bytes: &[u8]) -> Result<Option<Value>, AllocError>
     ensures { IfOk result (λ root. option_map view root ≡ document_of bytes.now) }
 {

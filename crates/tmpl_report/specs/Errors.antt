@@ -1,4 +1,4 @@
--- Which errors are told of template files and of data.
+-- Which errors are reported of template files and of data.
 use Rattle.std.specs.Prelude.{◌≡◌, ℕ, true, List, [], ◌∷◌, ◌++◌, All, Option, Some, None, codes, filter, map}
 use Rattle.std.specs.List.{AllByRecursion}
 use Rattle.tmpl_syntax.specs.Set.{Template}
@@ -22,7 +22,7 @@ use Rattle.tmpl_report.specs.Level.{is_error}
 abbrev pub errors_in : List Finding → List Finding
 errors_in found = filter (λ f. is_error f.level) found
 
--- the rule that a file breaks which is refused for this reason; want of memory is told otherwise
+-- the rule that a file breaks which is refused for this reason; out of memory is an error of its own
 abbrev pub rule_for : ParseKind → List ℕ
 rule_for kind.Unreadable = codes "unreadable"
 rule_for kind.NotAnAction = codes "not-understood"

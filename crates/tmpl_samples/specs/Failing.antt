@@ -1,5 +1,5 @@
 -- What it is that a failure is right: its data conform to the schema, and a run of the template over them has the fault
--- that was doubted.
+-- that the alarm names.
 use Rattle.std.specs.Prelude.{◌≡◌, ℕ, Bool, true, false, List, [], ◌∷◌, Option, Some, Ok, IfSome}
 use Rattle.std.specs.Prelude.{option_and_then, string_bytes}
 use Rattle.std.specs.Str.{IsUtf8}
@@ -27,7 +27,7 @@ abbrev pub fault_over : Rules → List Template → List ℕ → Value → Optio
 fault_over rules set name value =
     option_and_then (λ tree. (ran rules set name tree (Some value)).fault) (tree_named name set)
 
--- a run that stops for this is what a doubt for that speaks of; no limit of the run is
+-- a run that stops for this is what an alarm for that speaks of; no limit of the run is
 abbrev pub Speaks : doubted.Cause → Cause → Type 0
 Speaks (doubted_for.Absent name) (lacks_entry field) = field ≡ name
 Speaks (doubted_for.Absent name) (lacks_field field) = field ≡ name
@@ -42,7 +42,7 @@ Speaks doubted_for.Command not_a_function = Unit {0}
 Speaks doubted_for.Command nil_command = Unit {0}
 Speaks doubt cause = ⊥
 
--- the fault is the one that was doubted: at that line, in that template, and what the doubt speaks of
+-- the fault is the one that the alarm names: at that line, in that template, and what the alarm speaks of
 abbrev pub IsDoubted : Doubt → Fault → Type 0
 IsDoubted doubt fault = (fault.line ≡ doubt.line) × (fault.template ≡ doubt.template) × Speaks doubt.cause fault.cause
 
@@ -60,8 +60,8 @@ pub record Asked : Type 0 where
   pub name : List ℕ
   pub schema : Data
 
--- the data of the failure have a value, which conforms to the schema, and the run over it has the fault that was
--- doubted, which is none that is allowed; the failure says whether it comes by one mode alone, and what `tmpl` says of
+-- the data of the failure have a value, which conforms to the schema, and the run over it has the fault that the alarm
+-- names, which is none that is allowed; the failure says whether it comes by one mode alone, and what `tmpl` says of
 -- it, unless that is no UTF-8
 abbrev pub IsRight : Asked → Doubt → Failure → Type 0
 IsRight asked doubt failure = (value : Value) × (fault : Fault)
@@ -71,7 +71,7 @@ IsRight asked doubt failure = (value : Value) × (fault : Fault)
     × (failure.is_strict ≡ is_no_entry fault.cause)
     × (IsUtf8 (cause_text fault.cause) → string_bytes failure.said ≡ cause_text fault.cause)
 
--- there is one entry for each of these doubts, and a failure that is given is right of the doubt at its place
+-- there is one entry for each of these alarms, and a failure that is given is right of the alarm at its place
 abbrev pub AreRight : Asked → List Doubt → List (Option Failure) → Type 0
 AreRight asked [] [] = Unit {0}
 AreRight asked (doubt ∷ doubts) (found ∷ rest) = IfSome found (IsRight asked doubt) × AreRight asked doubts rest

@@ -1,5 +1,5 @@
-//! Failures: over which data of a schema the template fails at the place of a doubt. Whatever a search finds, a failure is
-//! told by a check and a render of the data that it shows.
+//! Failures: over which data of a schema the template fails at the place of an alarm. Whatever a search finds, a
+//! failure is decided by a check and a render of the data that it has.
 ghost use Rattle.std.specs.Prelude.{◌≡◌, Contains, Err, IfOk, IfSome, Ok, Some, string_bytes, false, true};
 ghost use Rattle.std.specs.Str.{IsUtf8};
 ghost use Rattle.serde_json.specs.View.{view};
@@ -32,7 +32,7 @@ const STEPS: u64 = 20_000;
 
 const DEPTH: u32 = 50;
 
-/// The most bytes that a render puts out.
+/// The most bytes that a render writes.
 pub(crate) const MOST_TEXT: usize = 1_000_000;
 
 /// The most bytes of a value that is shown.
@@ -69,7 +69,7 @@ pub(crate) struct Nowhere {
 }
 
 impl Nowhere {
-    /// One that takes as much as a render puts out.
+    /// One that takes as much as a render writes.
     pub(crate) fn new() -> Nowhere
         ensures { result.failures ≡ 0 }
     {
@@ -132,7 +132,7 @@ fn is_caused(cause: &Cause, kind: &RunFaultKind<'_>, stops: &[Bytes]) -> bool
     }
 }
 
-/// Whether a fault is at the place of a doubt, and what it speaks of.
+/// Whether a fault is at the place of an alarm, and what it speaks of.
 pub(crate) fn is_doubted(doubt: &Doubt, fault: &RunFault<'_>, stops: &[Bytes]) -> bool
     ensures doubted { result ≡ true → IsDoubted doubt.now (fault_seen fault.now) }
     ensures not_allowed { result ≡ true → ¬ (MayEnd stops.now (fault_seen fault.now).cause) }
@@ -192,7 +192,7 @@ impl Question<'_> {
         }
     }
 
-    /// The failure of each doubt for the value that was found for it, where that makes the template fail there.
+    /// The failure of each alarm for the value that was found for it, where that makes the template fail there.
     pub(crate) fn failures(
         &self,
         values: Vec<Option<Value>>,
@@ -208,8 +208,8 @@ impl Question<'_> {
         Ok(failures)
     }
 
-    /// The failure of a doubt for a value, if there is one, its text is short, it conforms to the schema, and it makes the
-    /// template fail there.
+    /// The failure of an alarm for a value, if there is one, its text is short, it conforms to the schema, and it makes
+    /// the template fail there.
     fn failure(&self, doubt: &Doubt, value: Option<Value>) -> Result<Option<Failure>, AllocError>
         ensures { IfOk result (λ found. IfSome found (IsRight (asked_in self.now) doubt.now)) }
     {
@@ -239,7 +239,7 @@ impl Question<'_> {
         }
     }
 
-    /// The failure of a doubt for the data that this text is, if they make the template fail there.
+    /// The failure of an alarm for the data that this text is, if they make the template fail there.
     fn failure_over(
         &self,
         doubt: &Doubt,
@@ -256,7 +256,7 @@ impl Question<'_> {
         }
     }
 
-    /// The failure of a doubt for the data of this text, if it speaks of the fault over them.
+    /// The failure of an alarm for the data of this text, if it speaks of the fault over them.
     fn failure_by(
         &self,
         doubt: &Doubt,
