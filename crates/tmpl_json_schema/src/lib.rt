@@ -11,6 +11,7 @@ mod fields;
 mod infer;
 mod keyword;
 mod kinds;
+mod pattern;
 mod read;
 mod reference;
 mod schema;
