@@ -1,5 +1,6 @@
 pub mod AcceptedLemmas
 pub mod ErrorLemmas
+pub mod FailingLemmas
 pub mod InferredLemmas
 pub mod ItemLemmas
 pub mod LogLemmas
