@@ -8,7 +8,7 @@ HERE = os.path.dirname(os.path.abspath(__file__))
 DOCS = f"{os.path.dirname(HERE)}/docs"
 PAGES = {"tmpl": "COMMAND.md", "tmpl-check": "CHECK.md"}
 HELP = {"tmpl": "the usage line", "tmpl-check": "the options and what they do"}
-OPTION = re.compile(r"\[(--[a-z]+)(?: ([A-Za-z|]+))?\]")
+OPTION = re.compile(r"\[(--[a-z-]+)(?: ([A-Za-z|]+))?\]")
 
 
 def usage(program="tmpl"):
@@ -25,7 +25,7 @@ def options(program="tmpl"):
 def said(program):
     """What each option says, in few words, of the table of options."""
     with open(f"{DOCS}/{PAGES[program]}", encoding="utf-8") as it:
-        rows = re.findall(r"^\| `(--[a-z]+)[^`]*` \| (.*?) \|", it.read(), re.MULTILINE)
+        rows = re.findall(r"^\| `(--[a-z-]+)[^`]*` \| (.*?) \|", it.read(), re.MULTILINE)
     bare = {name: re.sub(r"none: |`|\[|\]\([^)]*\)", "", about) for name, about in rows}
     return {name: re.split("[;:,(]", about)[0].strip() for name, about in bare.items()}
 

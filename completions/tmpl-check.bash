@@ -18,10 +18,11 @@ _tmpl_check() {
     --schema) compopt -o filenames 2>/dev/null; mapfile -t COMPREPLY < <(compgen -f -- "$word"); return ;;
     --missingkey) mapfile -t COMPREPLY < <(compgen -W "default invalid zero error" -- "$word"); return ;;
     --stop) :; return ;;
+    --library) compopt -o filenames 2>/dev/null; mapfile -t COMPREPLY < <(compgen -f -- "$word"); return ;;
     --format) mapfile -t COMPREPLY < <(compgen -W "text json sarif" -- "$word"); return ;;
     esac
     if [[ $word == -* ]]; then
-        mapfile -t COMPREPLY < <(compgen -W "--data --name --schema --missingkey --stop --format --infer --help" -- "$word")
+        mapfile -t COMPREPLY < <(compgen -W "--data --name --schema --missingkey --stop --no-counterexamples --library --strict --format --infer --help" -- "$word")
     else
         compopt -o filenames 2>/dev/null
         mapfile -t COMPREPLY < <(compgen -f -- "$word")

@@ -17,7 +17,7 @@ from tests.lib.harness import CHECKER as CHECK
 from tests.lib.harness import PROGRAM as TMPL
 from tests.lib.harness import ROWS as NAMED
 from tests.lib.harness import SECONDS, build_shim, closing, is_built
-from tests.rows.problem_rows import DATA, FILES, HIDDEN, ROWS
+from tests.rows.problem_rows import DATA, FAILING, FAILING_DATA, FILES, HIDDEN, ROWS
 
 LINE = re.compile(r"(.+?):([1-9][0-9]*):([1-9][0-9]*): (error|warning): (.*)")
 
@@ -81,6 +81,22 @@ def hidden(folder, failures):
             hold(title, f"lines of {shown}", (0, "".join(f"{shown}:{line}\n" for line in lines), b""), (status, out.decode(), err), failures)
             out = run(CHECK, ["--format", "json", file], folder)[1]
             hold(title, f"JSON of {shown}", [(file, it) for it in texts], [(it["file"], it["text"]) for it in json.loads(out)["problems"]], failures)
+
+
+def failing(folder, failures):
+    """Commands that always fail: what is said of each, that tmpl fails over data, and that what is written instead does not."""
+    write(folder, "d", json.dumps(FAILING_DATA))
+    for title, command, said, cure in named(FAILING):
+        write(folder, "m", "{{" + command + "}}")
+        said += f": write {cure}" * bool(cure)
+        out = run(CHECK, ["m"], folder)[1].decode()
+        hold(title, "line", f"m:1:1: warning: always fails: {said}\n", out, failures)
+        hold(title, "statuses of tmpl-check", (0, 1), (run(CHECK, ["m"], folder)[0], run(CHECK, ["--strict", "m"], folder)[0]), failures)
+        hold(title, "status of tmpl", 1, run(TMPL, ["--data", "d", "m"], folder)[0], failures)
+        if cure:
+            write(folder, "m", "{{" + cure + "}}")
+            hold(title, "what it says to write, checked", b"", run(CHECK, ["m"], folder)[1], failures)
+            hold(title, "what it says to write, rendered", 0, run(TMPL, ["--data", "d", "m"], folder)[0], failures)
 
 
 def forms(folder, words, title, lines, failures):
@@ -192,6 +208,8 @@ def notes(folder, failures):
     said = 'may fail: .a may be absent: no "required" at s:1'
     note = 'fails for {}: no entry for key "a"'
     given = ["--schema", "s", "--missingkey", "error"]
+    out = run(CHECK, [*given, "--no-counterexamples", "m"], folder)[1].decode()
+    hold("no note", "lines", f"m:1:1: error: {said}\n", out, failures)
     out = run(CHECK, [*given, "m"], folder)[1].decode()
     hold("note", "lines", f"m:1:1: error: {said}\nm:1:1: note: {note}\n", out, failures)
     (told,) = json.loads(run(CHECK, [*given, "--format", "json", "m"], folder)[1])["problems"]
@@ -272,6 +290,11 @@ def words(folder, failures):
                           (["--infer", "--data", "i", "i"], 2), (["--infer", "--schema", "i", "i"], 2), (["--infer", "--name", "i", "i"], 2),
                           (["--infer", "--missingkey", "zero", "i"], 2), (["--infer", "--stop", "i", "i"], 2), (["--infer", "--format", "json", "i"], 0)]:
         hold(" ".join(given), "status", wanted, run(CHECK, given, folder)[0], failures)
+    for given, wanted in [(["--strict", "n"], 0), (["--strict", "over"], 1), (["--library", "n", "over"], 0), (["--library", "m", "over"], 1),
+                          (["--library", "nosuch", "over"], 3), (["--infer", "--strict", "i"], 2), (["--infer", "--library", "n", "i"], 2)]:
+        hold(" ".join(given), "status", wanted, run(CHECK, given, folder)[0], failures)
+    write(folder, "lib", '{{define "t"}}{{template "gone"}}{{$x := len 5}}}}{{end}}')
+    hold("a library", "lines", b"", run(CHECK, ["--library", "lib", "--name", "over", "over"], folder)[1], failures)
     write(folder, "unused", '{{define "u"}}{{end}}')
     hold("a definition that nothing calls", "lines", b'unused:1:1: warning: the template "u" is never called\n',
          run(CHECK, ["--name", "n", "n", "unused"], folder)[1], failures)
@@ -315,9 +338,10 @@ def main():
     failures = []
     with tempfile.TemporaryDirectory(dir="/dev/shm" if os.access("/dev/shm", os.W_OK) else None) as folder:
         rows(folder, failures)
+        failing(folder, failures)
         if NAMED:
             print(*failures, sep="\n", end="\n" * bool(failures))
-            return closing(len(named(ROWS + FILES + DATA)) - len(failures), len(failures))
+            return closing(len(named(ROWS + FILES + DATA + FAILING)) - len(failures), len(failures))
         hidden(folder, failures)
         words(folder, failures)
         uris(folder, failures)
@@ -327,7 +351,7 @@ def main():
         draws(folder, count, seed, failures)
     for failure in failures[:20]:
         print(failure)
-    passed = len(ROWS) + len(FILES) + len(DATA) + 4 * len(HIDDEN) + count - len(failures)
+    passed = len(ROWS) + len(FILES) + len(DATA) + len(FAILING) + 4 * len(HIDDEN) + count - len(failures)
     return closing(max(passed, 0), len(failures))
 
 

@@ -130,17 +130,17 @@ def by_command(quoted):
 
 # the reader of each quote, whether the format takes any bytes, and what it says of a NUL, if it has none
 QUOTES = {
-    "sh": (by_shell, True, "a shell has no word with a NUL"),
-    "env": (by_assignment, True, "an environment has no NUL"),
-    "sql": (by_sqlite, False, "SQL has no string with a NUL"),
+    "sh": (by_shell, True, "stop: a shell has no word with a NUL"),
+    "env": (by_assignment, True, "stop: an environment has no NUL"),
+    "sql": (by_sqlite, False, "stop: SQL has no string with a NUL"),
     "csv": (by_csv if sys.version_info >= (3, 11) else None, True, None),
     "json": (by_json, False, None),
     "to json": (by_json, False, None),
     "toml": (by_toml if tomllib else None, False, None),
     "yaml": (by_yaml if yaml else None, False, None),
-    "nginx": (by_nginx, True, "nginx has no parameter with a NUL"),
-    "systemd": (by_systemd, True, "systemd has no word with a NUL"),
-    "systemd command": (by_command, True, "systemd has no word with a NUL"),
+    "nginx": (by_nginx, True, "stop: nginx has no parameter with a NUL"),
+    "systemd": (by_systemd, True, "stop: systemd has no word with a NUL"),
+    "systemd command": (by_command, True, "stop: systemd has no word with a NUL"),
     "attribute": (by_html, False, None),
 }
 # what each other template makes of a text, and what is put before the text
@@ -175,16 +175,16 @@ FORMS = [
 ]
 # what has no meaning, and the reason
 WRONG = {
-    "repeat wants a number, a colon and a text": ["", "a", "4", ":a", "-4:a", "a:b"],
-    "indent wants a number, a colon and a text": ["", "a", "4", ":a", "-4:a", "a:b"],
-    "replace wants /old/new/ and a text": ["", "/", "/a/b"],
-    "default wants /other/ and a text": ["", "/", "/a"],
-    "in turn wants |STEP|..|| and a text": ["", "|", "|upper", "|upper|", "|replace|a||", "|trunc||", "|default|a|b"],
-    "in turn quotes as its last step alone": ["|sh|upper||a", "|sh|sh||a"],
-    "in turn knows no such step": ["|shout||a", "| upper||a"],
+    "stop: repeat wants a number, a colon and a text": ["", "a", "4", ":a", "-4:a", "a:b"],
+    "stop: indent wants a number, a colon and a text": ["", "a", "4", ":a", "-4:a", "a:b"],
+    "stop: replace wants /old/new/ and a text": ["", "/", "/a/b"],
+    "stop: default wants /other/ and a text": ["", "/", "/a"],
+    "stop: in turn wants |STEP|..|| and a text": ["", "|", "|upper", "|upper|", "|replace|a||", "|trunc||", "|default|a|b"],
+    "stop: in turn quotes as its last step alone": ["|sh|upper||a", "|sh|sh||a"],
+    "stop: in turn knows no such step": ["|shout||a", "| upper||a"],
 }
 # the template of a reason that does not begin with its name
-NAMED = {why: "in turn" for why in WRONG if why.startswith("in turn")}
+NAMED = {why: "in turn" for why in WRONG if why.startswith("stop: in turn")}
 
 
 def rendered(name, text):
@@ -226,7 +226,7 @@ def cases():
         for text in [*texts(), *(ill_formed() if takes_all else [])] * bool(reader):
             has = lambda sign: (sign in text) if isinstance(text, str) else sign.encode() in text
             if no_nul and has("\0") or name == "nginx" and has("$"):
-                reasons = [no_nul] * has("\0") + ["nginx has no quote for a $"] * (name == "nginx" and has("$"))
+                reasons = [no_nul] * has("\0") + ["stop: nginx has no quote for a $"] * (name == "nginx" and has("$"))
                 yield name, text, lambda got, reasons=reasons: any(fault(why)(got) for why in reasons)
             else:
                 yield name, text, is_read(name, text)
@@ -239,7 +239,7 @@ def cases():
         yield name, text, gives(made)
     for why, them in WRONG.items():
         for text in them:
-            yield NAMED.get(why, why.partition(" ")[0]), text, fault(why)
+            yield NAMED.get(why, why.split()[1]), text, fault(why)
 
 
 NGINX = b"""daemon off; master_process off; pid pid; error_log stderr crit; events {}

@@ -25,6 +25,8 @@ try:
 except ImportError:
     jsonschema = None
 
+# of a processor, of a check that fails: it takes a tenth of that
+MOST_SECONDS = 6
 MODES = ("default", "invalid", "zero", "error")
 LEAF = {"name": "leaf", "items": []}
 TREE = {"name": "root", "items": [LEAF, {"name": "", "items": [LEAF]}]}
@@ -290,6 +292,8 @@ def row_results():
             good = (status, lines) == (1, [f"t:{line}\n" for line in wanted])
             yield f"shown: {title}", 1, [] if good else [f"    {status} {lines}, and not {wanted}"]
             yield f"value for: {title}", 1, list(note_faults(folder, read_schema(schema), words, lines))
+        yield from timed_row(folder)
+        yield from pattern_rows(folder)
         yield from inferred_rows(folder)
         for title, schema, template, words, lines in schema_rows.SEVERAL:
             came = checked(folder, schema, template, words)
@@ -336,6 +340,36 @@ def inferred_faults(folder, samples, out):
     for sample in samples:
         if not conforming.conforms(schema, schema, sample) or jsonschema and not is_valid(schema, sample):
             yield f"    {json.dumps(sample)} does not conform to {out}"
+
+
+def timed_row(folder):
+    """A check that fails of a template of 70 lines, each run of which takes thousands of steps, with and without the search."""
+    names = [f"f{number}" for number in range(100)]
+    schema = {"type": "object", "required": ["kind"], "additionalProperties": False,
+              "properties": {**{name: {"type": "integer"} for name in names}, "kind": {"enum": list(range(60))}}}
+    template = "{{range 9000}}{{end}}{{$k := .kind}}" + "\n".join(
+        f'{{{{if eq $k {number}}}}}{{{{with index . "f{number}"}}}}{{{{len .}}}}{{{{end}}}}{{{{end}}}}' for number in range(60)) + "\n" * 10
+    for words in ([], ["--no-counterexamples"]):
+        before = resource.getrusage(resource.RUSAGE_CHILDREN).ru_utime
+        status, lines = said_of(folder, schema, template, words)
+        took = resource.getrusage(resource.RUSAGE_CHILDREN).ru_utime - before
+        notes = any(NOTE.match(line) for line in lines)
+        good = status == 1 and took < MOST_SECONDS and notes == (not words)
+        yield f"time of a check that fails {words}", 1, [] if good else [f"    {status}, {took} s, notes {notes}"]
+
+
+def pattern_rows(folder):
+    """What is drawn of patterns: the text that stands there, in which the pattern is found."""
+    for pattern, wanted in schema_rows.PATTERNS:
+        schema = schema_rows.of({"a": {"type": "string", "pattern": pattern}})
+        _, lines = said_of(folder, schema, "{{range .a}}{{end}}", [])
+        notes = [NOTE.match(line)[3] for line in lines if NOTE.match(line)]
+        data = None if wanted is None else json.dumps({"a": wanted}, separators=(",", ":"), ensure_ascii=False)
+        came = [note[: len(data)] if data else note for note in notes]
+        faults = [] if came == [data] * (wanted is not None) else [f"    {notes}, and not {data}"]
+        if wanted is not None and not re.search(pattern, wanted):
+            faults.append(f"    {wanted!r} does not have it")
+        yield f"a text of the pattern {pattern!r}", 1, faults
 
 
 def inferred_rows(folder):

@@ -7,6 +7,13 @@ OPEN = "error: file ends inside a control: "
 PIPED = ", and its lines with the indentation that they need: a template can't be piped"
 END = '"end" closes nothing: no if, with, range, define or block is open'
 
+
+
+def undeclared(name):
+    """What is said of a variable that is not declared."""
+    return f'variable "${name}" is not declared: write {{{{${name} := VALUE}}}} before it, in the same part or around it'
+
+
 ROWS = [
     ("nothing wrong", "{{if .x}}{{.y}}{{end}}", []),
     # as people write them who come from other tools
@@ -25,11 +32,15 @@ ROWS = [
         + 'no function "“Ada”": a string stands between straight quotes: write "Ada"']),
     ("a string in single quotes", "{{'Ada'}}", ["1:1: " + NOT_UNDERSTOOD
         + "'Ada' is no character: a string stands in double quotes: write \"Ada\""]),
+    ("a string between a straight quote and a curly one", "{{\"Ada\u201d}}", ["1:1: " + UNREADABLE
+        + 'a string stands between straight quotes, as "Ada"']),
+    ("a comment of HTML", "{{!-- c --}}", ["1:1: " + UNREADABLE + 'a comment stands between "{{/*" and "*/}}"']),
+    ("an assignment without a declaration", "{{$y = 3}}", ["1:1: " + UNDECLARED + undeclared("y")]),
     ("two letters exchanged", '{{prinft "%d" .n}}', ["1:1: " + NOT_UNDERSTOOD + 'no function "prinft": write printf']),
     ("a test of a list", '{{if has "a" .x}}x{{end}}', ["1:1: " + NOT_UNDERSTOOD + 'no function "has": write '
         '{{range .x}}{{if eq . "a"}}{{$found = true}}{{end}}{{end}} after {{$found := false}}']),
     ("a message of one's own", '{{fail "no"}}', ["1:1: " + NOT_UNDERSTOOD
-        + 'no function "fail": write {{template "message"}}, and the error line has its name']),
+        + 'no function "fail": write {{template "stop: message"}}, and the error line has its name']),
     ("a left trim marker without its space", "{{-.name}}", ["1:1: " + UNREADABLE + 'a trim marker has a space after it: write "{{- "']),
     ("a right trim marker without its space", "{{.name-}}", ["1:1: " + UNREADABLE + 'a trim marker has a space before it: write " -}}"']),
     ("a comment after a space", "{{ /* c */ }}", ["1:1: " + UNREADABLE + 'a comment begins right after its "{{": write {{/* .. */}}']),
@@ -91,11 +102,17 @@ ROWS = [
     ("an end of nothing", "{{end}}", ["1:1: " + OUT_OF_PLACE + END]),
     ("an else of nothing", "{{else}}", ["1:1: " + OUT_OF_PLACE + '"else" belongs to no if, with or range']),
     ("a second else", "{{if .x}}\n{{else}}{{else}}{{end}}", ["2:9: " + OUT_OF_PLACE
-        + 'a second "else", or one with another control than that which is open: "if" of line 1 is open']),
+        + 'a second "else": a part has one, which comes last: "if" of line 1 is open']),
+    ("an else if after the else", "{{if .x}}a{{else}}b{{else if .y}}c{{end}}", ["1:20: " + OUT_OF_PLACE
+        + 'a second "else": a part has one, which comes last: "if" of line 1 is open']),
+    ("an else if in a with", "{{with .x}}a{{else if .y}}b{{end}}", ["1:13: " + OUT_OF_PLACE
+        + '"else if" stands in an if alone: write {{else}}{{if P}}..{{end}}: "with" of line 1 is open']),
+    ("an else with in a range", "{{range .x}}a{{else with .y}}b{{end}}", ["1:14: " + OUT_OF_PLACE
+        + '"else with" stands in a with alone: write {{else}}{{with P}}..{{end}}: "range" of line 1 is open']),
     ("a break in no range", "{{if .x}}{{break}}{{end}}", ["1:10: " + OUT_OF_PLACE + "break and continue stand in the body of a range"]),
     ("a define inside", '{{if .x}}{{define "t"}}a{{end}}{{end}}', ["1:10: " + OUT_OF_PLACE
         + 'a define stands in no other part: "if" of line 1 is open']),
-    ("a variable", "{{$q}}", ["1:1: " + UNDECLARED + 'variable "$q" is not declared']),
+    ("a variable", "{{$q}}", ["1:1: " + UNDECLARED + undeclared("q")]),
     ("an if that is open", "a\n{{if .x}}\nb\n", ["4:1: " + OPEN + '"if" of line 2 is open at the end of the file']),
     ("two that are open", "{{range .x}}{{with .y}}", ["1:24: " + OPEN + '"with" of line 1 is open at the end of the file, inside 1 more']),
     ("parentheses that nest too deep", "{{" + "(" * 101 + "1" + ")" * 101 + "}}",
@@ -127,9 +144,9 @@ ROWS = [
     ("two that can't be read, and one that can", "é{{.a !}}{{nofun 1}}{{'a}}", [
         "1:2: " + UNREADABLE + 'unexpected "!": write not .x', "1:10: " + NOT_UNDERSTOOD + 'no function "nofun"',
         "1:21: " + UNREADABLE + "a character in quotes is not closed in its line; a text stands in double quotes"]),
-    ("a variable of a part that ended", "{{if $y := .a}}{{$y}}{{end}}{{$y}}", ["1:29: " + UNDECLARED + 'variable "$y" is not declared']),
+    ("a variable of a part that ended", "{{if $y := .a}}{{$y}}{{end}}{{$y}}", ["1:29: " + UNDECLARED + undeclared("y")]),
     ("a variable of the part before an else", "{{if .a}}{{$y := 1}}{{$y}}{{else if $y}}{{end}}",
-     ["1:27: " + UNDECLARED + 'variable "$y" is not declared']),
+     ["1:27: " + UNDECLARED + undeclared("y")]),
     ("before a trim marker", " \n  {{- name}}", ["2:3: " + NOT_UNDERSTOOD + 'no function "name": write .name']),
     ("after a comment", "{{/* {{ */}}{{name}}", ["1:13: " + NOT_UNDERSTOOD + 'no function "name": write .name']),
     ("after a text like an action", '{{"{{"}}{{name}}', ["1:9: " + NOT_UNDERSTOOD + 'no function "name": write .name']),
@@ -143,7 +160,43 @@ ROWS = [
     ("a variable that nothing uses", "{{$x := 1}}", ['1:1: warning: variable "$x" is never used']),
     ("a key that nothing uses", "{{range $i, $e := .}}{{$e}}{{end}}", []),
     ("a text like an action", "a{ {.x}}", ['1:2: warning: "{ {" begins no action: it is text']),
+    ("an action of Jinja", "a\n {% if x %}b{% endif %}", ['2:2: warning: "{%" begins no action: write {{']),
+    ("a byte order mark", "\ufeffa{{.x}}", ["1:1: warning: a byte order mark is text: save the file without it"]),
+    ("a template that is meant to be missing", '{{template "stop: no name"}}{{template "stop"}}', ['1:29: warning: no file defines the template "stop"']),
+    ("an action that always fails in a part", "a\n{{if .a and .b}}x{{end}}", ["2:1: warning: always fails: \"and\" stands among arguments: write and .a .b"]),
+    ("two commands of an action that always fail", "{{len 5 | len 6}}", ['1:1: warning: always fails: "len" refuses 5']),
     ("the end of an action that is none", "a\n b}}", ['2:3: warning: "}}" closes no action: it is text']),
+]
+
+# commands that fail at each run that gets to them: a title, the command, what is said of it, and what it says to write, which is the same over
+# the data that comes first
+AMONG = '"{}" stands among arguments'
+FAILING_DATA = {"a": "x", "b": "", "n": 7, "list": [1, 2], "m": {"k": "v"}}
+FAILING = [
+    ("and between two", ".a and .b", AMONG.format("and"), "and .a .b"),
+    ("or between two", ".a or .b", AMONG.format("or"), "or .a .b"),
+    ("and and or", ".a and .b or .n", AMONG.format("and"), "or (and .a .b) .n"),
+    ("or between two comparisons", 'eq .a "x" or eq .b "y"', AMONG.format("or"), 'or (eq .a "x") (eq .b "y")'),
+    ("and between two comparisons", 'eq .a "x" and ne .b "y"', AMONG.format("and"), 'and (eq .a "x") (ne .b "y")'),
+    ("a comparison after a not", 'not eq .a "x"', '"not" takes 1 argument and has 3', 'not (eq .a "x")'),
+    ("two that are negated", "not .a and not .b", '"not" takes 1 argument and has 4', "and (not .a) (not .b)"),
+    ("equal between two", '.a eq "x"', AMONG.format("eq"), 'eq .a "x"'),
+    ("not equal between two", '.a ne "x"', AMONG.format("ne"), 'ne .a "x"'),
+    ("a length before a comparison", "len .list gt 1", '"len" takes 1 argument and has 3', "gt (len .list) 1"),
+    ("a function without parentheses", "print len .list", AMONG.format("len"), "print (len .list)"),
+    ("in parentheses", 'and .a (.b eq "x")', AMONG.format("eq"), 'eq .b "x"'),
+    ("of several strings", 'eq .a "x" or "y"', AMONG.format("or"), None),
+    ("too many arguments", "len .a .b", '"len" takes 1 argument and has 2', None),
+    ("too few arguments", "eq .a", '"eq" takes 2 or more arguments and has 1', None),
+    ("a value that is piped is an argument", ".a | len .b", '"len" takes 1 argument and has 2', None),
+    ("no argument", "len", '"len" takes 1 argument and has none', None),
+    ("four parts", "slice .a 1 2 3", '"slice" takes 1 to 3 arguments and has 4', None),
+    ("two numbers of two", "lt .n", '"lt" takes 2 arguments and has 1', None),
+    ("a constant without a length", "len 5", '"len" refuses 5', None),
+    ("constants that can't be compared", 'lt 1 "x"', '"lt" refuses 1 "x"', None),
+    ("an argument of a field", '.a "x"', '".a" is no function, and has an argument', None),
+    ("a pipe into a field", ".a | .b", 'nothing can be piped to ".b", which is no function', None),
+    ("nil alone", "nil", '"nil" is no command', None),
 ]
 
 JSON = "error: not JSON: "
@@ -204,7 +257,7 @@ spec:
 {{- end }}
 """, ["2:1: " + NOT_UNDERSTOOD + 'no function "default": write or (index . "x") "d"',
       "4:1: " + NOT_UNDERSTOOD + 'no function "hasKey": write ne (index .x "k") nil',
-      "5:1: " + NOT_UNDERSTOOD + 'no function "fail": write {{template "message"}}, and the error line has its name']),
+      "5:1: " + NOT_UNDERSTOOD + 'no function "fail": write {{template "stop: message"}}, and the error line has its name']),
     ("Helm: ports by a sum", """{{- range $i := until (int .Values.count) }}
 port: {{ add 8000 $i }}
 {{- end }}
@@ -261,7 +314,7 @@ root {{ key "web/root" }};
       "1:19: " + NOT_UNDERSTOOD + "number 1.5 is not whole",
       "2:1: " + NOT_UNDERSTOOD + '"==" is no operand: write eq .name "Ada"',
       "2:22: " + NOT_UNDERSTOOD + 'no function "add": there is no arithmetic: compute it in the data',
-      "4:1: " + UNDECLARED + 'variable "$total" is not declared']),
+      "4:1: " + UNDECLARED + undeclared("total")]),
     ("a part that is not closed", """{{define "row"}}
 <td>{{.}}</td>
 {{if .x}}

@@ -383,8 +383,14 @@ SHOWN = [
      ["1:13: error: may fail: .b of a number, which may come here and has no fields", '1:13: note: fails for {"a":5}: no field "b" here']),
     ("a constant", of({"a": {"enum": ["x", None]}}), "{{len .a}}", [],
      ['1:1: error: may fail: "len" may get what it refuses', '1:1: note: fails for {"a":null}: len: wrong kind of argument']),
-    ("a pattern is not met", of({"a": {"type": "string", "pattern": "^x"}}), "{{range .a}}{{end}}", [],
+    ("a pattern", of({"a": {"type": "string", "pattern": "^x"}}), "{{range .a}}{{end}}", [],
+     ["1:1: error: may fail: a range over a text, which may come here (s:1)", '1:1: note: fails for {"a":"x"}: can\'t range over this value']),
+    ("a pattern that is not read", of({"a": {"type": "string", "pattern": "^(?=x)"}}), "{{range .a}}{{end}}", [],
      ["1:1: error: may fail: a range over a text, which may come here (s:1)"]),
+    ("a pattern and a length", of({"a": {"type": "string", "pattern": "^[b-d]+$", "minLength": 4}}), "{{range .a}}{{end}}", [],
+     ["1:1: error: may fail: a range over a text, which may come here (s:1)", '1:1: note: fails for {"a":"bbbb"}: can\'t range over this value']),
+    ("a pattern beside what fails", of({"a": {"type": "string", "pattern": "^v[0-9]+$"}, "b": WHOLE}), "{{.a}}{{range $i, $e := .b}}{{end}}", [],
+     ["1:7: error: may fail: a range over a number, which may come here (s:1)", '1:7: note: fails for {"a":"v0","b":1}: can\'t range over this value']),
     ("a pattern of what may be left out", of({"a": {"type": "string", "pattern": "^x"}}, []), "{{.a}}", [],
      ['1:1: error: may fail: .a may be absent: not in "required" of s:1', '1:1: note: fails with --missingkey error for {}: no entry for key "a"']),
     ("a text of its format", of({"a": {"type": "string", "format": "date"}}), "{{range .a}}{{end}}", [],
@@ -398,6 +404,15 @@ SHOWN = [
     ("a template that is not there", of({}), '{{template "u"}}', [], ['1:1: error: may fail: there is no template "u"', '1:1: note: fails for {}: no template "u"']),
     ("a range over two variables", of({"a": WHOLE}), "{{range $i, $e := .a}}{{end}}", [],
      ["1:1: error: may fail: a range over a number, which may come here (s:1)", '1:1: note: fails for {"a":1}: can\'t range over this value']),
+]
+
+# patterns, and the text of each that a counterexample has; none where it is not read. Python's `re` finds the pattern in the text too
+PATTERNS = [
+    ("^x", "x"), ("x+y", "xy"), ("^[b-d]{2}$", "bb"), ("^[0-9]{3}-[0-9]{4}$", "000-0000"), (r"^v\d+\.\d+$", "v0.0"), ("^(foo|bar)$", "foo"),
+    ("^(?:b|c)d?$", "b"), ("^[^/]b$", "ab"), ("^[^a-z]$", "0"), ("^[b-z0-9]([-b-z0-9]*[b-z0-9])?$", "b"), ("^#[0-9A-Fa-f]{6}$", "#000000"),
+    (r"^[\w.-]+@b\.org$", "a@b.org"), ("^(b{2,3}){2}$", "bbbb"), ("^b*$|^c$", ""), (r"^\$b\{c\}$", "$b{c}"), ("^[]-]$", None), ("^b(?=c)", None),
+    (r"^\bb", None), ("^b{2", None), ("^(b", None), ("b)", None), ("[b", None), ("^é$", None), ("b^c", None), ("b$c", None), ("^(?P<n>b)", None),
+    ("(" * 9 + "b" + ")" * 9, None), ("^b{200}$", None),
 ]
 
 # samples, and the schema that is inferred of them but for `$schema`; and what is said of files that are no data
@@ -532,17 +547,17 @@ COOKBOOK = [
     ("deployment.tmpl", {**DEPLOYMENT, "properties": {**DEPLOYMENT["properties"], "version": {"type": ["string", "integer"]}, "app": WHOLE}}, ["quotes.tmpl"], [],
      '"printf" may get what it refuses'),
     ("nginx.tmpl", of({"pid": TEXT, "sites": {"type": "array", "items": SITE}}), [], ["--stop", "nginx"], None),
-    ("nginx.tmpl", of({"pid": TEXT, "sites": {"type": "array", "items": SITE}}), ["quotes.tmpl"], [], 'there is no template "nginx has no parameter with a NUL"'),
+    ("nginx.tmpl", of({"pid": TEXT, "sites": {"type": "array", "items": SITE}}), ["quotes.tmpl"], [], 'there is no template "stop: nginx has no parameter with a NUL"'),
     ("nginx.tmpl", of({"pid": TEXT, "sites": {"type": "array", "items": SITE}}), ["quotes.tmpl"],
-     ["--stop", "nginx has no parameter with a NUL", "--stop", "nginx has no quote for a $"], None),
+     ["--stop", "stop: nginx has no parameter with a NUL", "--stop", "stop: nginx has no quote for a $"], None),
     ("app.tmpl", of({"description": TEXT, "greeting": TEXT, "title": TEXT}), [], ["--stop", "replace", "--stop", "systemd", "--stop", "systemd command"], None),
     ("{{range .hosts}}{{.}}; {{end}}", of({"hosts": ITEMS}), [], [], None),
     ("Hello, {{.GREETED}}!", of({"GREETED": TEXT}), [], [], None),
     ("Hello, {{.GREETED}}!", of({"GREETED": TEXT}, []), [], [], '.GREETED may be absent: not in "required" of s:1'),
     ("{{.port}} {{.tls.on}} {{.tls.versions}}", of({"port": WHOLE, "tls": of({"on": {"type": "boolean"}, "versions": ITEMS})}), [], [], None),
     ("listen {{.port}};", of({"port": WHOLE}), [], [], None),
-    ('{{if gt .port 65535}}{{template "a port is at most 65535"}}{{end}}port {{.port}}', of({"port": WHOLE}), [], ["--stop", "a port is at most 65535"], None),
-    ('{{if gt .port 65535}}{{template "a port is at most 65535"}}{{end}}port {{.port}}', of({"port": WHOLE}), [], [], 'there is no template "a port is at most 65535"'),
+    ('{{if gt .port 65535}}{{template "stop: a port is at most 65535"}}{{end}}port {{.port}}', of({"port": WHOLE}), [], ["--stop", "stop: a port is at most 65535"], None),
+    ('{{if gt .port 65535}}{{template "stop: a port is at most 65535"}}{{end}}port {{.port}}', of({"port": WHOLE}), [], [], 'there is no template "stop: a port is at most 65535"'),
     ('{{range .rows}}{{.count}} at {{printf "%6s" .price}}; {{end}}', of({"rows": {"type": "array", "items": of({"price": TEXT, "count": WHOLE})}, "limit": TEXT}), [], [], None),
     ('{{range .rows}}{{.count}} at {{printf "%6s" .price}}; {{end}}', of({"rows": {"type": "array", "items": of({"price": {"type": ["string", "integer"]}, "count": WHOLE})}}), [], [],
      '"printf" may get what it refuses'),

@@ -22,12 +22,8 @@ pub(crate) fn load_all<'a>(rt: &HostRuntime, request: &Request<'a>) -> Result<So
         schema: None,
         is_short: false,
     };
-    for name in request.files.as_slice() {
-        match load(rt, *name, MOST_READ)? {
-            Some(loaded) => all.templates.push(loaded)?,
-            None => all.is_short = true,
-        }
-    }
+    load_templates(rt, request.files.as_slice(), false, &mut all)?;
+    load_templates(rt, request.libraries.as_slice(), true, &mut all)?;
     if let Some(name) = request.data_file {
         all.data = load(rt, name, u64::MAX)?;
         if all.data.is_none() {
@@ -43,6 +39,25 @@ pub(crate) fn load_all<'a>(rt: &HostRuntime, request: &Request<'a>) -> Result<So
     Ok(all)
 }
 
+/// Reads template files, and says of each that can't be read why.
+fn load_templates<'a>(
+    rt: &HostRuntime,
+    names: &[&'a str],
+    is_library: bool,
+    all: &mut Sources<'a>,
+) -> Result<(), Stop> {
+    for name in names {
+        match load(rt, *name, MOST_READ)? {
+            Some(loaded) => all.templates.push(Source {
+                is_library,
+                ..loaded
+            })?,
+            None => all.is_short = true,
+        }
+    }
+    Ok(())
+}
+
 /// Reads a file; none where that can't be done, which is said.
 pub(crate) fn load<'a>(
     rt: &HostRuntime,
@@ -50,7 +65,11 @@ pub(crate) fn load<'a>(
     most: u64,
 ) -> Result<Option<Source<'a>>, Stop> {
     match read_front(rt, name, most) {
-        Ok(bytes) => Ok(Some(Source { name, bytes })),
+        Ok(bytes) => Ok(Some(Source {
+            name,
+            bytes,
+            is_library: false,
+        })),
         Err(error) => match error.kind() {
             ErrorKind::OutOfMemory => Err(Stop::OutOfMemory),
             ErrorKind::NotFound => {

@@ -1,7 +1,7 @@
 //! The command `tmpl-check`: reports every error in template files and data, where it is, and what to write instead.
 #![tactic(auto)]
 
-ghost use Rattle.std.specs.Prelude.{◌≡◌, if◌then◌else◌};
+ghost use Rattle.std.specs.Prelude.{◌≡◌, ◌==◌, ◌&&◌, ◌||◌, if◌then◌else◌, length, not};
 ghost use Rattle.tmpl_report.specs.Finding.{has_error};
 
 mod build;
@@ -76,17 +76,18 @@ fn check(rt: &HostRuntime, request: &Request<'_>) -> Result<u8, Stop> {
     let sources = load_all(rt, request)?;
     let findings = findings_of(rt.alloc(), name_hash(rt), &request.question, &sources)?;
     put_out(rt, request.format, &findings)?;
-    Ok(status_of(&sources, &findings))
+    Ok(status_of(&sources, &findings, request.is_strict))
 }
 
-/// The status: 3 where a file could not be read, else 1 where errors are found, else 0.
-fn status_of(sources: &Sources<'_>, findings: &Findings<'_>) -> u8
-    ensures { result
-        ≡ (if sources.now.is_short then 3 else (if has_error findings.now then 1 else 0)) }
+/// The status: 3 where a file could not be read, else 1 where errors are found, or anything where that is asked for,
+/// else 0.
+fn status_of(sources: &Sources<'_>, findings: &Findings<'_>, is_strict: bool) -> u8
+    ensures { result ≡ (if sources.now.is_short then 3
+        else (if has_error findings.now || (is_strict && not (length findings.now == 0)) then 1 else 0)) }
 {
     if sources.is_short {
         3
-    } else if findings.has_errors() {
+    } else if findings.has_errors() || (is_strict && !findings.is_empty()) {
         1
     } else {
         0

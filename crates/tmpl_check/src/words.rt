@@ -18,14 +18,27 @@ pub(crate) struct Request<'a> {
     pub(crate) schema_file: Option<&'a str>,
     pub(crate) question: Question<'a>,
     pub(crate) format: Format,
+    /// Whether warnings count as errors for the exit status.
+    pub(crate) is_strict: bool,
     /// Whether a schema of the files is asked for.
     pub(crate) is_to_infer: bool,
     pub(crate) files: Vec<&'a str>,
+    /// Template files in which nothing is warned of; they come after the others.
+    pub(crate) libraries: Vec<&'a str>,
 }
 
 /// The command line.
 pub(crate) fn command<'a>(alloc: Global) -> Result<Command<'a>, AllocError> {
-    let unlike_infer: [&'a str; 5] = ["data", "name", "schema", "missingkey", "stop"];
+    let unlike_infer: [&'a str; 8] = [
+        "data",
+        "name",
+        "schema",
+        "missingkey",
+        "stop",
+        "library",
+        "strict",
+        "no-counterexamples",
+    ];
     Command::new(alloc, "tmpl-check")
         .version("0")
         .about("Reports every error in template files: where it is, and what to write instead.")
@@ -53,15 +66,22 @@ pub(crate) fn command<'a>(alloc: Global) -> Result<Command<'a>, AllocError> {
                     "With --schema: a template that may be missing, since its call is meant to fail",
                 ),
         )?
+        .arg(flag_arg(alloc, "no-counterexamples").help(
+            "With --schema: don't search for counterexamples",
+        ))?
+        .arg(
+            option_arg(alloc, "library", "FILE")
+                .action(ArgAction::Append)
+                .help("A template file after the others, in which only errors are reported"),
+        )?
+        .arg(flag_arg(alloc, "strict").help("Make the exit status 1 if there are warnings, too"))?
         .arg(
             option_arg(alloc, "format", "FORMAT")
                 .value_parser(FORMATS.as_slice())
                 .help("The form of the output: a line for each finding, JSON, or SARIF 2.1.0"),
         )?
         .arg(
-            Arg::new(alloc, "infer")
-                .long("infer")
-                .action(ArgAction::SetTrue)
+            flag_arg(alloc, "infer")
                 .conflicts_with_all(unlike_infer.as_slice())?
                 .help("Print a JSON Schema to which these files of data conform"),
         )?
@@ -82,19 +102,29 @@ fn option_arg<'a>(alloc: Global, id: &'a str, value: &'a str) -> Arg<'a> {
         .action(ArgAction::Set)
 }
 
+/// An option without a value.
+fn flag_arg<'a>(alloc: Global, id: &'a str) -> Arg<'a> {
+    Arg::new(alloc, id).long(id).action(ArgAction::SetTrue)
+}
+
+/// The values of an option or an argument that may come more than once.
+fn values_of<'a>(
+    alloc: Global,
+    matches: &ArgMatches<'a>,
+    id: &str,
+) -> Result<Vec<&'a str>, AllocError> {
+    match matches.get_strs(id) {
+        Some(given) => Ok(given.iter().copied().collect(alloc)?),
+        None => Ok(Vec::new(alloc)),
+    }
+}
+
 /// What matches ask for.
 pub(crate) fn request_of<'a>(
     alloc: Global,
     matches: &ArgMatches<'a>,
 ) -> Result<Request<'a>, AllocError> {
-    let files: Vec<&'a str> = match matches.get_strs("file") {
-        Some(given) => given.iter().copied().collect(alloc)?,
-        None => Vec::new(alloc),
-    };
-    let stops = match matches.get_strs("stop") {
-        Some(given) => given.iter().copied().collect(alloc)?,
-        None => Vec::new(alloc),
-    };
+    let files = values_of(alloc, matches, "file")?;
     Ok(Request {
         data_file: matches.get_str("data"),
         schema_file: matches.get_str("schema"),
@@ -102,10 +132,13 @@ pub(crate) fn request_of<'a>(
             first: files.first().copied(),
             name: matches.get_str("name"),
             mode: mode_named(matches.get_str("missingkey")),
-            stops,
+            stops: values_of(alloc, matches, "stop")?,
+            is_searched: !matches.get_flag("no-counterexamples"),
         },
         format: format_named(matches.get_str("format")),
+        is_strict: matches.get_flag("strict"),
         is_to_infer: matches.get_flag("infer"),
+        libraries: values_of(alloc, matches, "library")?,
         files,
     })
 }

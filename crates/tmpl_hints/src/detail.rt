@@ -11,7 +11,7 @@ use crate::operators::{Operator, operator_at, show_left};
 use crate::sentence::Sentence;
 use std::alloc::{AllocError, Global};
 use tmpl_funcs::Func;
-use tmpl_grammar::{Reading, read_action};
+use tmpl_grammar::{Branch, Reading, read_action};
 use tmpl_lex::{Token, TokenKind};
 
 /// What is wrong with an action whose tokens have no reading.
@@ -485,7 +485,7 @@ pub fn misplaced_text(
             said.say("a define stands in no other part"),
             outside,
         ),
-        Role::Else(_) => inside_text(else_text(said, outside), outside),
+        Role::Else(branch) => inside_text(else_text(said, branch, outside), outside),
         _ => said,
     };
     said.finish()
@@ -513,20 +513,28 @@ fn open_text(said: Sentence, part: Open) -> Sentence
 }
 
 /// The message about an else that is out of place, without what is open there.
-fn else_text(said: Sentence, outside: Option<Open>) -> Sentence
-    ensures { Adds said result (spec.misplaced_else outside) }
+fn else_text(said: Sentence, branch: Option<Branch>, outside: Option<Open>) -> Sentence
+    ensures { Adds said result (spec.misplaced_else branch outside) }
 {
     match outside {
-        None
-        | Some(
-            Open {
-                opening: Opening::Define | Opening::Block,
-                ..
-            },
-        ) => said.say("\"else\" belongs to no if, with or range"),
-        Some(_) => said.say(
-            "a second \"else\", or one with another control than that which is open",
-        ),
+        None => said.say("\"else\" belongs to no if, with or range"),
+        Some(part) => said.say(else_words(branch, part.opening)),
+    }
+}
+
+/// What is said of an else that is out of place where this is open.
+fn else_words(branch: Option<Branch>, opening: Opening) -> &'static str
+    ensures { result.now ≡ spec.else_in branch opening }
+{
+    match (branch, opening) {
+        (_, Opening::Define | Opening::Block) => "\"else\" belongs to no if, with or range",
+        (Some(Branch::If), Opening::With | Opening::Range) => {
+            "\"else if\" stands in an if alone: write {{else}}{{if P}}..{{end}}"
+        }
+        (Some(Branch::With), Opening::If | Opening::Range) => {
+            "\"else with\" stands in a with alone: write {{else}}{{with P}}..{{end}}"
+        }
+        _ => "a second \"else\": a part has one, which comes last",
     }
 }
 
@@ -537,7 +545,9 @@ pub fn undeclared_text(alloc: Global, name: &[u8]) -> Result<String, AllocError>
     Sentence::new(alloc)
         .say("variable \"$")
         .show(name)
-        .say("\" is not declared")
+        .say("\" is not declared: write {{$")
+        .show(name)
+        .say(" := VALUE}} before it, in the same part or around it")
         .finish()
 }
 

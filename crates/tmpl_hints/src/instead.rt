@@ -45,7 +45,7 @@ static SPRIG: [Row; 52] = [
     },
     Row {
         names: "fail",
-        text: "write {{template \"message\"}}, and the error line has its name",
+        text: "write {{template \"stop: message\"}}, and the error line has its name",
     },
     Row {
         names: "empty",

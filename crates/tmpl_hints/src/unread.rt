@@ -62,6 +62,9 @@ fn said_of(said: Sentence, tokens: &[Token<'_>], bytes: &[u8]) -> Sentence {
     match bytes {
         [] => said.say("\"{{\" is not closed by \"}}\""),
         [b'{', b'{', ..] => said.say("\"{{\" inside an action: is \"}}\" missing before it?"),
+        [b'"', rest @ ..] if ends_curly(rest) => said.say(
+            "a string stands between straight quotes, as \"Ada\"",
+        ),
         [b'"', ..] => said.say(
             "a text in quotes is not closed in its line; one of several lines stands in backquotes",
         ),
@@ -69,6 +72,9 @@ fn said_of(said: Sentence, tokens: &[Token<'_>], bytes: &[u8]) -> Sentence {
             "a character in quotes is not closed in its line; a text stands in double quotes",
         ),
         [b'`', ..] => said.say("a text in backquotes is not closed"),
+        [b'!', b'-', b'-', ..] | [b'#', b' ', ..] => said.say(
+            "a comment stands between \"{{/*\" and \"*/}}\"",
+        ),
         [b'!', rest @ ..] => not_text(said, first_word(rest)),
         [b'[', ..] => said.say("unexpected \"[\": write index, as in index .list 0"),
         [b'/', b'*', ..] => said.say("a comment begins right after its \"{{\": write {{/* .. */}}"),
@@ -95,6 +101,18 @@ fn said_of(said: Sentence, tokens: &[Token<'_>], bytes: &[u8]) -> Sentence {
         [b'&', ..] => said.say("unexpected \"&\": write and"),
         _ => said.say("unexpected ").quote(first_byte(bytes)),
     }
+}
+
+/// Whether a curly quote comes in a line before its `}}`.
+fn ends_curly(bytes: &[u8]) -> bool {
+    for window in bytes.windows(3) {
+        match window {
+            [b'\n', ..] | [b'}', b'}', _] => return false,
+            [0xE2, 0x80, 0x9C | 0x9D] => return true,
+            _ => {}
+        }
+    }
+    false
 }
 
 /// The message about a `!` before this word.

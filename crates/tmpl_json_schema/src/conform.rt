@@ -1,4 +1,5 @@
-//! Whether a value conforms to a schema, by all its keywords. Where that is not seen, as of a `pattern`, it does not.
+//! Whether a value conforms to a schema, by all its keywords. Where that is not seen, as of most texts of a `pattern`, it
+//! does not.
 ghost use Rattle.std.specs.Prelude.{◌≡◌, ◌<◌, ◌≤◌, Bool, IfSome, Some, codes, true};
 ghost use Rattle.percent_encoding.specs.Percent.{percent_decode};
 ghost use Rattle.serde_json.specs.Data.{object};
@@ -11,6 +12,7 @@ ghost use Rattle.tmpl_json_schema.specs.Document.{HasType, IsConstant, IsOfType,
 ghost use Rattle.tmpl_json_schema.specs.Document.{in_properties, refer};
 ghost use Rattle.tmpl_json_schema.specs.computed.Conformed.{AreApart, IsAtLeast, Meets, MeetsEach, MeetsOfKind};
 
+use crate::pattern::is_of_pattern;
 use serde_json::{Map, Number, Value};
 use std::str::from_utf8;
 
@@ -401,7 +403,9 @@ fn meets_of_text(keyword: &str, rule: &Value, text: &str) -> bool {
     match keyword {
         "minLength" => is_at_least(text.chars().count(), rule),
         "maxLength" => is_at_most(text.chars().count(), rule),
-        "pattern" => false,
+        "pattern" => rule
+            .as_str()
+            .is_some_and(|pattern| is_of_pattern(pattern, text)),
         "format" => match rule.as_str().and_then(text_of_format) {
             Some(sample) => text == sample,
             None => true,

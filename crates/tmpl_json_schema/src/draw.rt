@@ -2,9 +2,11 @@
 
 use crate::conform::{LEVELS, conforms, is_excluded, is_property, referred, text_of_format};
 use crate::fields::{least_in, requires_key};
+use crate::pattern::{REPEATS, text_of_pattern};
 use crate::read::choices_in;
 use serde_json::{Map, Value};
 use std::alloc::{AllocError, Global};
+use std::str::from_utf8;
 
 /// After how many references, one into the other, what may be left out is, and after how many no value is made.
 const FEW_REFERENCES: usize = 1;
@@ -234,14 +236,29 @@ impl<'d> Draw<'d> {
         self.one_of(schema, values)
     }
 
-    /// A text: a short one, or one of the least length, or of a format.
+    /// A text: a short one, or one of the least length, of a format or of a pattern.
     fn of_text(&mut self, schema: &Value) -> Result<Option<Value>, AllocError> {
         let mut values: Vec<Value> = Vec::new(self.alloc);
         for text in ["a", "", least_text(schema), format_text(schema)] {
             values.push(Value::try_from_str(self.alloc, text)?)?;
         }
+        self.add_of_pattern(schema, &mut values)?;
         values.dedup();
         self.one_of(schema, values)
+    }
+
+    /// Adds texts of the pattern of a schema, if it has one that is read.
+    fn add_of_pattern(&self, schema: &Value, values: &mut Vec<Value>) -> Result<(), AllocError> {
+        let Some(Value::String(pattern)) = schema.get("pattern") else {
+            return Ok(());
+        };
+        for repeats in REPEATS {
+            if let Some(text) = text_of_pattern(pattern.as_str(), repeats) {
+                let text = from_utf8(text.as_bytes()).unwrap_or("");
+                values.push(Value::try_from_str(self.alloc, text)?)?;
+            }
+        }
+        Ok(())
     }
 
     /// A list: usually of one item, or of as many as there have to be.

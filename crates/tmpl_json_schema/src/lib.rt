@@ -12,6 +12,7 @@ mod infer;
 mod keyword;
 mod kinds;
 mod known;
+mod pattern;
 mod read;
 mod reference;
 mod schema;

@@ -1,3 +1,4 @@
+mod FailingLemmas
 mod BeyondLemmas
 mod LineLemmas
 pub mod NotedLemmas

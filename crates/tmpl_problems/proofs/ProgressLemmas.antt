@@ -24,13 +24,14 @@ use Rattle.tmpl_syntax.specs.Column.{IsPlace}
 use Rattle.tmpl_syntax.specs.declared.column.Place.{Place}
 use Rattle.tmpl_problems.specs.Survey.{Declared, IsNamed, IsUnused, IsWarning, Tells, Warns, callers, declared_from, definers, firsts, is_unreadable, named_place, names_from, readable, suspicious, unused, used_from, warned_place}
 use Rattle.tmpl_problems.specs.Sign.{first_sign}
-use Rattle.tmpl_problems.specs.computed.Adds.{AddsAfter, AddsAll, AddsSign, AddsZip, ArePlaced, IsNoted, PassesAfter}
+use Rattle.tmpl_problems.specs.computed.Adds.{AddsAfter, AddsAll, AddsSign, AddsZip, ArePlaced, FailsAfter, IsNoted, PassesAfter}
+use Rattle.tmpl_problems.specs.computed.Failing.{IsFailing, failing_from}
 use Rattle.tmpl_problems.specs.computed.Follows.{IsRestAfter}
 use Rattle.tmpl_problems.specs.declared.survey.Named.{Named}
 use Rattle.tmpl_problems.specs.declared.survey.Variable.{Variable}
 use Rattle.tmpl_problems.specs.declared.survey.Warning.{Warning}
 use Rattle.tmpl_problems.proofs.NotedLemmas.{AreNoted, action-noted, after-keeps, noted-placed, text-declares, text-uses}
-use Rattle.tmpl_problems.proofs.StepLemmas.{adds-all, adds-zip, after-adds, after-placed, nothing-adds, names-append, names-text, sign-adds, suspicious-append, suspicious-after}
+use Rattle.tmpl_problems.proofs.StepLemmas.{action-fails, adds-all, adds-zip, after-adds, after-placed, failing-append, failing-text, fails-placed, nothing-adds, nothing-fails, names-append, names-text, sign-adds, suspicious-append, suspicious-after}
 
 -- ---- any rest is cut into some pieces
 
@@ -117,6 +118,14 @@ names-adds file opens k words ts variant.Nothing old new e b a = nothing-adds fi
 names-adds file opens k words ts (variant.Action line) old new e b a = after-adds file opens old new words ts line k b a
 names-adds file opens k words ts (variant.Unreadable line) old new e b a = absurd (cc)
 
+failing-adds : (file : List ℕ) (opens k : ℕ) (ts : List held.Token) (after : AfterText) (old new : List Warning)
+    → list_any is_unreadable (pieces_after ts after) ≡ false → BeginsThere file after k opens → FailsAfter file opens ts after old new
+    → AddsZip (IsFailing file) (failing_from k (pieces_after ts after)) old new
+unfolding BeginsThere
+failing-adds file opens k ts variant.Nothing old new e b a = nothing-fails file opens old new ts k a
+failing-adds file opens k ts (variant.Action line) old new e b a = action-fails file opens old new ts line k b a
+failing-adds file opens k ts (variant.Unreadable line) old new e b a = absurd (cc)
+
 noted-after : (file : List ℕ) (opens : ℕ) (ps : List Piece) (ts : List held.Token) (after : AfterText) (old new : List (Bor (List ℕ) × Variable))
     → list_any is_unreadable (pieces_after ts after) ≡ false → BeginsThere file after (length ps) opens → PassesAfter file opens ts after old new
     → AreNoted file ps old → AreNoted file (ps ++ pieces_after ts after) new
@@ -175,9 +184,11 @@ tells {A = A} {B = B} things R place file pieces found cut begins exact = go (li
 
 -- ---- what is found so far
 
--- warnings of texts, the names of templates that are defined and called, and the variables that are noted
+-- warnings of texts, the actions that fail, the names of templates that are defined and called, and the variables that are
+-- noted
 pub record Found : Type 0 where
   pub warnings : List Warning
+  pub failing : List Warning
   pub defined : List Named
   pub called : List Named
   pub variables : List (Bor (List ℕ) × Variable)
@@ -185,12 +196,14 @@ pub record Found : Type 0 where
 module _ (file : List ℕ) where
   pub record Exact (pieces : List Piece) (f : Found) : Type 0 where
     pub warnings : AllZip (IsWarning file) (suspicious pieces) f.warnings
+    pub failing : AllZip (IsFailing file) (failing_from 0 pieces) f.failing
     pub defined : AllZip (IsNamed file) (names_from definers 0 pieces) f.defined
     pub called : AllZip (IsNamed file) (names_from callers 0 pieces) f.called
     pub variables : AllZip (IsNoted file (used_from 0 pieces)) (firsts [] (declared_from 0 pieces)) f.variables
 
   pub record Begun (pieces : List Piece) (f : Found) : Type 0 where
     pub warnings : BeginsWith (IsWarning file) (λ w. IsPlace file (warned_place w)) (suspicious pieces) f.warnings
+    pub failing : BeginsWith (IsFailing file) (λ w. IsPlace file (warned_place w)) (failing_from 0 pieces) f.failing
     pub defined : BeginsWith (IsNamed file) (λ n. IsPlace file (named_place n)) (names_from definers 0 pieces) f.defined
     pub called : BeginsWith (IsNamed file) (λ n. IsPlace file (named_place n)) (names_from callers 0 pieces) f.called
     pub variables : ArePlaced file f.variables
@@ -198,6 +211,7 @@ module _ (file : List ℕ) where
   begun-exact : (pieces : List Piece) (f : Found) → Exact pieces f → Begun pieces f
   begun-exact pieces f x = record {
     warnings = begins-exact (IsWarning file) (λ w. IsPlace file (warned_place w)) (suspicious pieces) f.warnings x.warnings;
+    failing = begins-exact (IsFailing file) (λ w. IsPlace file (warned_place w)) (failing_from 0 pieces) f.failing x.failing;
     defined = begins-exact (IsNamed file) (λ n. IsPlace file (named_place n)) (names_from definers 0 pieces) f.defined x.defined;
     called = begins-exact (IsNamed file) (λ n. IsPlace file (named_place n)) (names_from callers 0 pieces) f.called x.called;
     variables = noted-placed file (used_from 0 pieces) (firsts [] (declared_from 0 pieces)) f.variables x.variables;
@@ -221,14 +235,14 @@ module _ (file : List ℕ) where
     past : (d : Done f) → list_any is_unreadable d.pieces ≡ true → Progress rest f
 
   pub progress-begins : (rest : Rest) (f : Found) → rest.bytes.now ≡ file → rest.line ≡ 1 → rest.trims ≡ false
-      → f.warnings ≡ [] → f.defined ≡ [] → f.called ≡ [] → f.variables ≡ [] → Progress rest f
-  progress-begins rest f b l t w d c v =
+      → f.warnings ≡ [] → f.failing ≡ [] → f.defined ≡ [] → f.called ≡ [] → f.variables ≡ [] → Progress rest f
+  progress-begins rest f b l t w g d c v =
       let start : length file - length rest.bytes.now ≡ 0 = omega (arith, ap length b) in
       within [] (record {
         cuts = λ more cuts. simp (b, l, t) at cuts;
         begins = λ n at p. subst (λ k. BeginsAt file k at) (omega arith) (rw (start, t, l, b) at p);
         readable = refl;
-      }) (record { warnings = rw w tt; defined = rw d tt; called = rw c tt; variables = rw v tt })
+      }) (record { warnings = rw w tt; failing = rw g tt; defined = rw d tt; called = rw c tt; variables = rw v tt })
 
   -- ---- a part
 
@@ -237,7 +251,7 @@ module _ (file : List ℕ) where
       (begins-after : BeginsAfter file rest after (length (text_piece line text)) opens)
       (begins-further : BeginsFurther file rest (length (text_piece line text ++ pieces_after ts after)) beyond) (follows : IsRestAfter after beyond next)
       (old new : Found) (warns : AddsSign file start (first_sign text) old.warnings new.warnings)
-      (defines : AddsAfter file opens definers ts after old.defined new.defined) (calls : AddsAfter file opens callers ts after old.called new.called)
+      (fails : FailsAfter file opens ts after old.failing new.failing) (defines : AddsAfter file opens definers ts after old.defined new.defined) (calls : AddsAfter file opens callers ts after old.called new.called)
       (passes : PassesAfter file opens ts after old.variables new.variables) where
     abbrev own : List Piece
     own = text_piece line text
@@ -252,6 +266,8 @@ module _ (file : List ℕ) where
     placed-more pieces b = record {
       warnings = begins-more (IsWarning file) (λ w. IsPlace file (warned_place w)) (suspicious pieces) old.warnings new.warnings b.warnings
           (adds-all (IsWarning file) (λ w. IsPlace file (warned_place w)) (λ s w is. is.place) (suspicious own) old.warnings new.warnings warned);
+      failing = begins-more (IsFailing file) (λ w. IsPlace file (warned_place w)) (failing_from 0 pieces) old.failing new.failing b.failing
+          (fails-placed file opens old.failing new.failing ts after fails);
       defined = begins-more (IsNamed file) (λ n. IsPlace file (named_place n)) (names_from definers 0 pieces) old.defined new.defined b.defined
           (after-placed file opens old.defined new.defined definers ts after defines);
       called = begins-more (IsNamed file) (λ n. IsPlace file (named_place n)) (names_from callers 0 pieces) old.called new.called b.called
@@ -278,6 +294,13 @@ module _ (file : List ℕ) where
           ∙ ap (λ l. l ++ names_from words (0 + length pieces + length own) (pieces_after ts after)) (names-text words (0 + length pieces) line text)
           ∙ ap (λ k. names_from words k (pieces_after ts after)) (omega arith))
 
+      failing-here : failing_from 0 (pieces ++ here) ≡ failing_from 0 pieces ++ failing_from (length pieces + length own) (pieces_after ts after)
+      failing-here =
+          failing-append 0 pieces here
+          ∙ ap (λ l. failing_from 0 pieces ++ l) (failing-append (0 + length pieces) own (pieces_after ts after)
+          ∙ ap (λ l. l ++ failing_from (0 + length pieces + length own) (pieces_after ts after)) (failing-text (0 + length pieces) line text)
+          ∙ ap (λ k. failing_from k (pieces_after ts after)) (omega arith))
+
       signs-here : suspicious (pieces ++ here) ≡ suspicious pieces ++ suspicious own
       signs-here = suspicious-append pieces here
           ∙ ap (λ l. suspicious pieces ++ l) (suspicious-append own (pieces_after ts after)
@@ -293,6 +316,8 @@ module _ (file : List ℕ) where
           let k = length pieces + length own in record {
             warnings = adds-zip (IsWarning file) (suspicious (pieces ++ here)) (suspicious pieces) (suspicious own) old.warnings new.warnings signs-here
                 x.warnings warned;
+            failing = adds-zip (IsFailing file) (failing_from 0 (pieces ++ here)) (failing_from 0 pieces) (failing_from k (pieces_after ts after))
+                old.failing new.failing failing-here x.failing (failing-adds file opens k ts after old.failing new.failing e there fails);
             defined = adds-zip (IsNamed file) (names_from definers 0 (pieces ++ here)) (names_from definers 0 pieces) (names_from definers k (pieces_after ts after))
                 old.defined new.defined (names-here definers) x.defined (names-adds file opens k definers ts after old.defined new.defined e there defines);
             called = adds-zip (IsNamed file) (names_from callers 0 (pieces ++ here)) (names_from callers 0 pieces) (names_from callers k (pieces_after ts after))
@@ -327,11 +352,17 @@ module _ (file : List ℕ) where
       names-own words = sym (names-append words 0 pieces own ∙ ap (λ l. names_from words 0 pieces ++ l) (names-text words (0 + length pieces) line text)
           ∙ append-nil (names_from words 0 pieces))
 
+      failing-own : failing_from 0 pieces ≡ failing_from 0 (pieces ++ own)
+      failing-own = sym (failing-append 0 pieces own ∙ ap (λ l. failing_from 0 pieces ++ l) (failing-text (0 + length pieces) line text)
+          ∙ append-nil (failing_from 0 pieces))
+
       turned : Begun (pieces ++ own) new
       turned = record {
         warnings = begins-exact (IsWarning file) (λ w. IsPlace file (warned_place w)) (suspicious (pieces ++ own)) new.warnings
             (adds-zip (IsWarning file) (suspicious (pieces ++ own)) (suspicious pieces) (suspicious own) old.warnings new.warnings (suspicious-append pieces own)
             x.warnings warned);
+        failing = subst (λ xs. BeginsWith (IsFailing file) (λ w. IsPlace file (warned_place w)) xs new.failing) failing-own
+            (placed-more pieces (begun-exact pieces old x)).failing;
         defined = subst (λ xs. BeginsWith (IsNamed file) (λ n. IsPlace file (named_place n)) xs new.defined) (names-own definers)
             (placed-more pieces (begun-exact pieces old x)).defined;
         called = subst (λ xs. BeginsWith (IsNamed file) (λ n. IsPlace file (named_place n)) xs new.called) (names-own callers)

@@ -1,8 +1,9 @@
 -- What one part of a file adds to what is found.
-use Rattle.std.proofs.Common.{arith, ◌≡◌, ◌∙◌, ◌≤◌, ◌<◌, ◌+◌, ℕ, List, [], ◌∷◌, ◌++◌, Option, Some, None, All, refl, sym, ap, subst, length, map}
+use Rattle.std.proofs.Common.{arith, ◌≡◌, ◌∙◌, ◌≤◌, ◌<◌, ◌+◌, ℕ, Bool, true, false, List, [], ◌∷◌, ◌++◌, Option, Some, None, All, refl, sym, ap, subst, length, map}
 use Rattle.std.proofs.Common.{length-append}
 use Rattle.std.specs.List.{AllZip, cons_option, enumerate_from, filter_map}
 use Rattle.std.specs.Option.{option_map}
+use Rattle.std.specs.Prelude.{if◌then◌else◌}
 use Rattle.std.proofs.lemmas.List.{append-nil}
 use Rattle.std.proofs.lemmas.List.Elements.{All-cons, All-nil, filter_map-append}
 use Rattle.tmpl_lex.specs.Begin.{BeginsAt}
@@ -14,12 +15,14 @@ use Rattle.tmpl_lex.specs.View.{token_of}
 use Rattle.tmpl_lex.specs.declared.part.AfterText.{AfterText}
 use Rattle.tmpl_lex.specs.declared.part.AfterText.TheVariants as variant
 use Rattle.tmpl_lex.specs.declared.piece.Token as held
+use Rattle.tmpl_grammar.specs.computed.Reading.{action_in}
 use Rattle.tmpl_syntax.proofs.BeginLemmas.{begins-within}
 use Rattle.tmpl_syntax.specs.Column.{IsPlace}
-use Rattle.tmpl_problems.specs.Survey.{IsNamed, IsWarning, named_place, names_from, suspicious, tokens_in}
+use Rattle.tmpl_problems.specs.computed.Failing.{IsFailing, failing_from, has_failing}
+use Rattle.tmpl_problems.specs.Survey.{IsNamed, IsWarning, named_place, names_from, suspicious, tokens_in, warned_place}
 use Rattle.tmpl_problems.specs.Sign.{first_sign}
 use Rattle.tmpl_problems.specs.Tokens.{name_after}
-use Rattle.tmpl_problems.specs.computed.Adds.{AddsAfter, AddsAll, AddsName, AddsSign, AddsZip}
+use Rattle.tmpl_problems.specs.computed.Adds.{AddsAfter, AddsAll, AddsFailing, AddsName, AddsSign, AddsZip, FailsAfter}
 use Rattle.tmpl_problems.specs.declared.survey.Named.{Named}
 use Rattle.tmpl_problems.specs.declared.survey.Warning.{Warning}
 
@@ -99,6 +102,49 @@ module _ (file : List ℕ) (opens : ℕ) (old new : List Named) where
   after-placed words ts variant.Nothing a = record { more = []; added = a ∙ sym (append-nil old); all = All-nil (λ n. IsPlace file (named_place n)) }
   after-placed words ts (variant.Action line) a = name-placed (name_after words (map token_of ts)) a
   after-placed words ts (variant.Unreadable line) a = name-placed (name_after words (map token_of ts)) a
+
+-- ---- actions that fail
+
+pub failing-append : (n : ℕ) (ps qs : List Piece) → failing_from n (ps ++ qs) ≡ failing_from n ps ++ failing_from (n + length ps) qs
+failing-append n ps qs =
+    ap (filter_map (λ (p : ℕ × Piece). if has_failing (tokens_in p.1) then Some p.0 else None)) (enumerate-append n ps qs)
+    ∙ filter_map-append (λ (p : ℕ × Piece). if has_failing (tokens_in p.1) then Some p.0 else None) (enumerate_from n ps) (enumerate_from (n + length ps) qs)
+
+pub failing-text : (n line : ℕ) (bytes : List ℕ) → failing_from n (text_piece line bytes) ≡ []
+unfolding action_in
+failing-text n line [] = refl
+failing-text n line (b ∷ bytes) = refl
+
+module _ (file : List ℕ) (opens : ℕ) (old new : List Warning) where
+  failing-adds : (k : ℕ) → BeginsAt file k opens → (b : Bool) → AddsFailing file opens b old new
+      → AddsZip (IsFailing file) (cons_option (if b then Some k else None) []) old new
+  failing-adds k b false a = record { more = []; added = a ∙ sym (append-nil old); told = tt }
+  failing-adds k b true a = record {
+    more = a.one ∷ [];
+    added = a.added;
+    told = (record { begins = subst (λ at. BeginsAt file k at) (sym (a.start (begins-within file k opens b))) b; place = a.place }, tt);
+  }
+
+  failing-placed : (b : Bool) → AddsFailing file opens b old new → AddsAll (λ w. IsPlace file (warned_place w)) old new
+  failing-placed false a = record { more = []; added = a ∙ sym (append-nil old); all = All-nil (λ w. IsPlace file (warned_place w)) }
+  failing-placed true a = record {
+    more = a.one ∷ [];
+    added = a.added;
+    all = All-cons (λ w. IsPlace file (warned_place w)) a.one [] a.place (All-nil (λ w. IsPlace file (warned_place w)));
+  }
+
+  pub action-fails : (ts : List held.Token) (line k : ℕ) → BeginsAt file k opens → FailsAfter file opens ts (variant.Action line) old new
+      → AddsZip (IsFailing file) (failing_from k (pieces_after ts (variant.Action line))) old new
+  action-fails ts line k b a = failing-adds k b (has_failing (map token_of ts)) a
+
+  pub nothing-fails : (ts : List held.Token) (k : ℕ) → FailsAfter file opens ts variant.Nothing old new
+      → AddsZip (IsFailing file) (failing_from k (pieces_after ts variant.Nothing)) old new
+  nothing-fails ts k a = record { more = []; added = a ∙ sym (append-nil old); told = tt }
+
+  pub fails-placed : (ts : List held.Token) (after : AfterText) → FailsAfter file opens ts after old new → AddsAll (λ w. IsPlace file (warned_place w)) old new
+  fails-placed ts variant.Nothing a = record { more = []; added = a ∙ sym (append-nil old); all = All-nil (λ w. IsPlace file (warned_place w)) }
+  fails-placed ts (variant.Action line) a = failing-placed (has_failing (map token_of ts)) a
+  fails-placed ts (variant.Unreadable line) a = failing-placed (has_failing (map token_of ts)) a
 
 -- ---- signs
 

@@ -1,5 +1,6 @@
 pub mod Checked
 pub mod Judged
+pub mod Failing
 pub mod Line
 pub mod Sign
 pub mod Survey

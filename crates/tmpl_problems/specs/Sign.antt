@@ -1,12 +1,14 @@
--- What looks like an end of an action in a text: our own rule.
+-- What looks like an end of an action in a text, and the mark that some editors put at the front of a file: our own rule.
 use Rattle.std.specs.Prelude.{ℕ, nat_eq, List, [], ◌∷◌, length, drop, find, slice_get, codes, Option, option_map}
 use Rattle.std.specs.List.{filter_map, range_with_len, starts_with}
 
--- what looks like an end of an action in a text, with what is said of it
+-- what is found in a text, with what is said of it
 abbrev pub signs : List (List ℕ × List ℕ)
 signs =
     (codes "}}", codes "\"}}\" closes no action: it is text")
-    ∷ (codes "{ {", codes "\"{ {\" begins no action: it is text") ∷ []
+    ∷ (codes "{ {", codes "\"{ {\" begins no action: it is text")
+    ∷ (codes "{%", codes "\"{%\" begins no action: write {{")
+    ∷ (239 ∷ 187 ∷ 191 ∷ [], codes "a byte order mark is text: save the file without it") ∷ []
 
 -- what is said of the sign that stands in a text after this many bytes, if one does
 abbrev pub sign_at : List ℕ → ℕ → Option (List ℕ)

@@ -2,9 +2,11 @@
 #![tactic(auto)]
 
 mod check;
+mod cure;
 mod data_check;
 mod definitions;
 mod explain;
+mod failing;
 mod line;
 mod merge;
 mod problem;

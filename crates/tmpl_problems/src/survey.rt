@@ -1,24 +1,29 @@
-//! What is suspicious in a file, though it is not refused: names that nothing uses, and texts that look like actions.
+//! What is suspicious in a file, though it is not refused: names that nothing uses, texts that look like actions, and
+//! actions that fail at each run that gets to them.
 
 ghost use Rattle.std.specs.Prelude.{◌≡◌, ◌<◌, ◌==◌, ◌&&◌, ℕ, List, [], ◌∷◌, IfOk, IfSome, OnOk};
-ghost use Rattle.std.specs.Prelude.{length, map, filter, not, option_map, string_bytes};
+ghost use Rattle.std.specs.Prelude.{is_some, length, map, filter, not, option_map, string_bytes};
 ghost use Rattle.std.specs.List.{AllZip};
 ghost use Rattle.std.specs.Option.{option_copied};
 ghost use Rattle.tmpl_lex.specs.View.{token_of};
 ghost use Rattle.tmpl_lex.specs.Place.{StandsAt};
 ghost use Rattle.tmpl_syntax.specs.Column.{IsPlace};
+ghost use Rattle.tmpl_problems.specs.computed.Failing.{Fails, has_failing};
 ghost use Rattle.tmpl_problems.specs.Sign as sign;
 ghost use Rattle.tmpl_problems.specs.Tokens as token;
 ghost use Rattle.tmpl_problems.specs.Survey.{Declared, IsUnused, Names, Warns, callers, definers, is_used, named_place};
 ghost use Rattle.tmpl_problems.specs.Survey.{warned_place};
-ghost use Rattle.tmpl_problems.specs.computed.Adds.{AddsAfter, AddsAll, AddsName, AddsSign, AddsZip, ArePlaced, IsNoted};
-ghost use Rattle.tmpl_problems.specs.computed.Adds.{Notes, Passes, PassesAfter, mark, mark_each, note};
+ghost use Rattle.tmpl_problems.specs.computed.Adds.{AddsAfter, AddsAll, AddsFailing, AddsName, AddsSign, AddsZip};
+ghost use Rattle.tmpl_problems.specs.computed.Adds.{ArePlaced, FailsAfter, IsNoted, Notes, Passes, PassesAfter, mark, mark_each, note};
 
+use crate::cure::failing_text;
 use crate::definitions::name_after;
+use crate::failing::failing_in_reading;
 use crate::scan::{place_in, rest_after};
 use crate::variables::{declaration_len, declared_names, name_in};
 use indexmap::IndexMap;
 use std::alloc::{AllocError, Global};
+use tmpl_grammar::read_action;
 use tmpl_hints::Sentence;
 use tmpl_lex::{AfterText, Rest, Token, first_part};
 use tmpl_syntax::{NameHash, Place};
@@ -48,6 +53,8 @@ pub struct Named<'b> {
 #[derive(Debug, Drop)]
 pub struct Survey<'b> {
     pub warnings: Vec<Warning>,
+    /// The actions with a command that fails at each run that gets to it.
+    pub failing: Vec<Warning>,
     pub defined: Vec<Named<'b>>,
     pub called: Vec<Named<'b>>,
 }
@@ -67,6 +74,7 @@ type Variables<'b> = IndexMap<&'b [u8], Variable, NameHash>;
 struct Surveyor<'b> {
     alloc: Global,
     warnings: Vec<Warning>,
+    failing: Vec<Warning>,
     defined: Vec<Named<'b>>,
     called: Vec<Named<'b>>,
     variables: Variables<'b>,
@@ -81,6 +89,7 @@ pub fn survey_file<'b>(
     ensures defined { IfOk result (λ s. Names definers file.now s.defined.items) }
     ensures called { IfOk result (λ s. Names callers file.now s.called.items) }
     ensures warnings { IfOk result (λ s. Warns file.now s.warnings.items) }
+    ensures failing { IfOk result (λ s. Fails file.now s.failing.items) }
 {
     let mut surveyor = Surveyor::new(alloc, hash);
     let mut tokens = Vec::new(alloc);
@@ -108,6 +117,7 @@ impl<'b> Surveyor<'b> {
     /// Nothing yet.
     fn new(alloc: Global, hash: NameHash) -> Surveyor<'b>
         ensures warnings { result.warnings.items ≡ [] }
+        ensures failing { result.failing.items ≡ [] }
         ensures defined { result.defined.items ≡ [] }
         ensures called { result.called.items ≡ [] }
         ensures variables { result.variables.entries ≡ [] }
@@ -115,6 +125,7 @@ impl<'b> Surveyor<'b> {
         Surveyor {
             alloc,
             warnings: Vec::new(alloc),
+            failing: Vec::new(alloc),
             defined: Vec::new(alloc),
             called: Vec::new(alloc),
             variables: IndexMap::with_hasher(alloc, hash),
@@ -138,6 +149,8 @@ impl<'b> Surveyor<'b> {
             self.old.defined.items self.new.defined.items) }
         ensures called { OnOk result (AddsAfter file.now opens callers tokens.now after
             self.old.called.items self.new.called.items) }
+        ensures failing { OnOk result (FailsAfter file.now opens tokens.now after
+            self.old.failing.items self.new.failing.items) }
         ensures place { IfOk result (λ p. IsPlace file.now p) }
     {
         match after {
@@ -164,6 +177,8 @@ impl<'b> Surveyor<'b> {
             self.old.defined.items self.new.defined.items) }
         ensures called { OnOk result (AddsName file.now opens (token.name_after callers (map token_of tokens.now))
             self.old.called.items self.new.called.items) }
+        ensures failing { OnOk result (AddsFailing file.now opens (has_failing (map token_of tokens.now))
+            self.old.failing.items self.new.failing.items) }
         ensures place { IfOk result (λ p. IsPlace file.now p) }
     {
         let defined = name_after(tokens, &[b"define", b"block"]);
@@ -172,13 +187,14 @@ impl<'b> Surveyor<'b> {
         let place = pass_name(&mut self.called, file, place, opens, called)?;
         let place = declare(self.alloc, &mut self.variables, file, place, opens, tokens)?;
         use_variables(&mut self.variables, tokens);
-        Ok(place)
+        pass_failing(self.alloc, &mut self.failing, file, place, opens, tokens)
     }
 
     /// The survey, with the variables that nothing uses.
     fn finish(self) -> Result<Survey<'b>, AllocError>
         ensures defined { IfOk result (λ s. s.defined ≡ self.entry.defined) }
         ensures called { IfOk result (λ s. s.called ≡ self.entry.called) }
+        ensures failing { IfOk result (λ s. s.failing ≡ self.entry.failing) }
         ensures placed { (file : List ℕ) → ArePlaced file self.entry.variables.entries → IfOk result (λ s.
             AddsAll (λ w. IsPlace file (warned_place w)) self.entry.warnings.items s.warnings.items) }
         ensures unused { (file : List ℕ) (uses : List (ℕ × List ℕ)) (ds : List Declared)
@@ -188,6 +204,7 @@ impl<'b> Surveyor<'b> {
         let Surveyor {
             alloc,
             mut warnings,
+            failing,
             defined,
             called,
             variables,
@@ -195,6 +212,7 @@ impl<'b> Surveyor<'b> {
         warn_of_unused(alloc, &mut warnings, &variables)?;
         Ok(Survey {
             warnings,
+            failing,
             defined,
             called,
         })
@@ -294,6 +312,58 @@ fn pass_name<'b>(
         Some(name) => {
             let here = place_in(place, file, opens);
             found.push(named_at(name, here))?;
+            Ok(here)
+        }
+        None => Ok(place),
+    }
+}
+
+/// Warns of the action that opens there, if it has a command that fails at each run that gets to it. Says up to where
+/// columns were counted.
+fn pass_failing(
+    alloc: Global,
+    failing: &mut Vec<Warning>,
+    file: &[u8],
+    place: Place,
+    opens: usize,
+    tokens: &[Token<'_>],
+) -> Result<Place, AllocError>
+    requires { IsPlace file.now place }
+    ensures added { OnOk result (AddsFailing file.now opens (has_failing (map token_of tokens.now))
+        failing.old.items failing.new.items) }
+    ensures place { IfOk result (λ p. IsPlace file.now p) }
+{
+    let text = failing_words(alloc, tokens)?;
+    push_failing(failing, file, place, opens, text)
+}
+
+/// What is said of the action of these tokens, if it has a command that fails at each run that gets to it.
+fn failing_words(alloc: Global, tokens: &[Token<'_>]) -> Result<Option<String>, AllocError>
+    ensures { IfOk result (λ o. is_some o ≡ has_failing (map token_of tokens.now)) }
+{
+    let reading = read_action(alloc, tokens)?;
+    match failing_in_reading(alloc, &reading)? {
+        Some(found) => Ok(Some(failing_text(alloc, found)?)),
+        None => Ok(None),
+    }
+}
+
+/// Warns of the action that opens there by these words, if there are some. Says up to where columns were counted.
+fn push_failing(
+    failing: &mut Vec<Warning>,
+    file: &[u8],
+    place: Place,
+    opens: usize,
+    text: Option<String>,
+) -> Result<Place, AllocError>
+    requires { IsPlace file.now place }
+    ensures added { OnOk result (AddsFailing file.now opens (is_some text) failing.old.items failing.new.items) }
+    ensures place { IfOk result (λ p. IsPlace file.now p) }
+{
+    match text {
+        Some(text) => {
+            let here = place_in(place, file, opens);
+            failing.push(warning_at(here, text))?;
             Ok(here)
         }
         None => Ok(place),
@@ -421,6 +491,8 @@ fn sign_at(text: &[u8], at: usize) -> Option<&'static str>
     match text.get(at..)? {
         [b'}', b'}', ..] => Some("\"}}\" closes no action: it is text"),
         [b'{', b' ', b'{', ..] => Some("\"{ {\" begins no action: it is text"),
+        [b'{', b'%', ..] => Some("\"{%\" begins no action: write {{"),
+        [0xEF, 0xBB, 0xBF, ..] => Some("a byte order mark is text: save the file without it"),
         _ => None,
     }
 }

@@ -1,4 +1,5 @@
 pub mod ErrorLemmas
+pub mod FailingLemmas
 pub mod InferredLemmas
 pub mod ItemLemmas
 pub mod LogLemmas

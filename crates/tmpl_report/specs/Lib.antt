@@ -2,6 +2,7 @@ pub mod Errors
 pub mod Finding
 pub mod Inferred
 pub mod Json
+pub mod Laws
 pub mod Level
 pub mod Rules
 pub mod Safe

@@ -20,4 +20,5 @@ rules =
     ∷ (codes "key-given-twice", codes "An object of data has a key once.")
     ∷ (codes "schema-not-understood", codes "A schema has keywords that are known, each with a value that it takes.")
     ∷ (codes "schema-without-values", codes "To each part of a schema some value conforms.")
-    ∷ (codes "may-fail", codes "A template renders without a fault whatever data of the schema it is given.") ∷ []
+    ∷ (codes "may-fail", codes "A template renders without a fault whatever data of the schema it is given.")
+    ∷ (codes "always-fails", codes "A command does not fail whatever the data is.") ∷ []

@@ -1,6 +1,6 @@
 //! What is found.
-ghost use Rattle.std.specs.Prelude.{◌≡◌, List, [], ◌∷◌, ◌++◌, false, true, IfOk, Ok, Err, OnOk, Some, if◌then◌else◌};
-ghost use Rattle.std.specs.Prelude.{map, string_bytes};
+ghost use Rattle.std.specs.Prelude.{◌≡◌, List, [], ◌∷◌, ◌++◌, ◌==◌, false, true, IfOk, Ok, Err, OnOk, Some, if◌then◌else◌};
+ghost use Rattle.std.specs.Prelude.{length, map, string_bytes};
 ghost use Rattle.std.specs.List.{list_any};
 ghost use Rattle.tmpl_values.specs.Json.{data_of, Flaw};
 ghost use Rattle.tmpl_values.specs.Value.{Value};
@@ -15,8 +15,8 @@ ghost use Rattle.tmpl_report.specs.computed.Entries.{AddsOfReason, HasMore, is_s
 
 use crate::entry::{Entry, Level};
 use crate::rule::{
-    KEY_GIVEN_TWICE, MAY_FAIL, NEVER_CALLED, NO_SUCH_TEMPLATE, Rule, SCHEMA_WITHOUT_VALUES,
-    SUSPICIOUS, data_rule_of, rule_of,
+    ALWAYS_FAILS, KEY_GIVEN_TWICE, MAY_FAIL, NEVER_CALLED, NO_SUCH_TEMPLATE, Rule,
+    SCHEMA_WITHOUT_VALUES, SUSPICIOUS, data_rule_of, rule_of,
 };
 use crate::schema::{add_schema, part_text, say_name};
 use crate::source::{Question, Source, Sources};
@@ -27,11 +27,14 @@ use std::marker::Model;
 use tmpl_hints::Sentence;
 use tmpl_json_schema::Refused;
 use tmpl_problems::{
-    DataProblem, DataReason, DataReport, Named, Problem, Problems, Survey, check_data, check_file,
-    problem_text, reason_text, survey_file,
+    DataProblem, DataReason, DataReport, Named, Problem, Problems, Survey, Warning, check_data,
+    check_file, problem_text, reason_text, survey_file,
 };
 use tmpl_reasons::position_of;
 use tmpl_syntax::{NameHash, Set, base_name};
+
+/// How the name of a template begins that is not there so that its call ends the run.
+const STOP: &[u8] = b"stop: ";
 
 /// How what is found is told.
 #[derive(Clone, Copy)]
@@ -81,6 +84,13 @@ impl<'a> Findings<'a> {
         ensures { result ≡ has_error self.now }
     {
         has_error(self.entries.as_slice())
+    }
+
+    /// Whether there are none, and no warnings either.
+    pub fn is_empty(&self) -> bool
+        ensures { result ≡ (length self.now == 0) }
+    {
+        self.entries.is_empty()
     }
 
     /// The text that tells them, as it is put out.
@@ -173,7 +183,22 @@ impl<'a> Findings<'a> {
         })
     }
 
-    /// Adds what is suspicious in a file, and the names in it that no file has.
+    /// Adds warnings of a file by a rule.
+    fn add_warnings(
+        &mut self,
+        file: &'a str,
+        rule: Rule,
+        warnings: Vec<Warning>,
+    ) -> Result<(), AllocError>
+        ensures { OnOk result (errors_in self.new ≡ errors_in self.old) }
+    {
+        for warning in warnings.into_iter() {
+            self.warn(file, (warning.line, warning.column), rule, warning.text)?;
+        }
+        Ok(())
+    }
+
+    /// Adds what is suspicious in a file, the actions in it that always fail, and the names in it that no file has.
     fn add_survey(
         &mut self,
         alloc: Global,
@@ -185,19 +210,14 @@ impl<'a> Findings<'a> {
     {
         let Survey {
             warnings,
+            failing,
             called,
             ..
         } = survey;
-        for warning in warnings.into_iter() {
-            self.warn(
-                file,
-                (warning.line, warning.column),
-                SUSPICIOUS,
-                warning.text,
-            )?;
-        }
+        self.add_warnings(file, SUSPICIOUS, warnings)?;
+        self.add_warnings(file, ALWAYS_FAILS, failing)?;
         for call in called.as_slice() {
-            if !templates.defined.contains(call.name) {
+            if !templates.defined.contains(call.name) && !call.name.starts_with(STOP) {
                 let text = about(alloc, "no file defines the template ", call.name, "")?;
                 self.warn(file, (call.line, call.column), NO_SUCH_TEMPLATE, text)?;
             }
@@ -306,7 +326,7 @@ impl<'a> Findings<'a> {
         let mut surveys = surveys.into_iter();
         for file in files {
             self.add_checked(alloc, hash, file, &mut *set)?;
-            self.add_surveyed(alloc, file.name, asked, surveys.next(), templates)?;
+            self.add_surveyed(alloc, file, asked, surveys.next(), templates)?;
         }
         Ok(())
     }
@@ -327,11 +347,11 @@ impl<'a> Findings<'a> {
         Ok(())
     }
 
-    /// Adds what the survey of a file has.
+    /// Adds what the survey of a file has, unless it is one of others.
     fn add_surveyed(
         &mut self,
         alloc: Global,
-        file: &'a str,
+        file: &Source<'a>,
         asked: Option<&str>,
         survey: Option<Survey<'_>>,
         templates: &Templates<'_>,
@@ -341,10 +361,19 @@ impl<'a> Findings<'a> {
         let Some(survey) = survey else {
             return Ok(());
         };
-        if let Some(asked) = asked {
-            self.add_uncalled(alloc, file, asked, survey.defined.as_slice(), templates)?;
+        if file.is_library {
+            return Ok(());
         }
-        self.add_survey(alloc, file, survey, templates)
+        if let Some(asked) = asked {
+            self.add_uncalled(
+                alloc,
+                file.name,
+                asked,
+                survey.defined.as_slice(),
+                templates,
+            )?;
+        }
+        self.add_survey(alloc, file.name, survey, templates)
     }
 
     /// Adds an error where none tells what is wrong. Each check tells one, but no clause of theirs says so.

@@ -98,8 +98,13 @@ pub(crate) const MAY_FAIL: Rule = Rule {
     text: "A template renders without a fault whatever data of the schema it is given.",
 };
 
+pub(crate) const ALWAYS_FAILS: Rule = Rule {
+    id: "always-fails",
+    text: "A command does not fail whatever the data is.",
+};
+
 /// All rules, in the order in which they are told.
-pub(crate) fn all_rules() -> [Rule; 17]
+pub(crate) fn all_rules() -> [Rule; 18]
     ensures { map (λ rule. (rule.id.now, rule.text.now)) result ≡ rules }
 {
     [
@@ -120,6 +125,7 @@ pub(crate) fn all_rules() -> [Rule; 17]
         SCHEMA_NOT_UNDERSTOOD,
         SCHEMA_WITHOUT_VALUES,
         MAY_FAIL,
+        ALWAYS_FAILS,
     ]
 }
 

@@ -75,6 +75,7 @@ fn add_judged<'a>(
         first,
         name: asked_name(question, first),
         mode: question.mode,
+        is_searched: question.is_searched,
         sources,
         schema,
     };
@@ -136,6 +137,7 @@ struct Render<'a, 's> {
     first: &'a str,
     name: &'a [u8],
     mode: Option<MissingKey>,
+    is_searched: bool,
     sources: &'s Sources<'a>,
     schema: &'s Source<'a>,
 }
@@ -182,12 +184,17 @@ impl<'a> Render<'a, '_> {
             first,
             name,
             mode,
+            is_searched,
             sources,
             schema,
         } = *self;
         let bytes = schema.bytes.as_slice();
         let reasons = reasons_of(alloc, set, name, document, bytes, doubts)?;
-        let failures = failures_of(alloc, set, name, document, mode, stops, doubts)?;
+        let failures = if is_searched {
+            failures_of(alloc, set, name, document, mode, stops, doubts)?
+        } else {
+            Vec::new(alloc)
+        };
         for (index, doubt) in doubts.iter().enumerate() {
             let mut entry = doubt_entry(alloc, set, first, sources, doubt)?;
             let reason = reasons.get(index).and_then(Option::as_ref);

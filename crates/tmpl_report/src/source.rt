@@ -8,6 +8,8 @@ pub struct Source<'a> {
     /// Its path as it was given.
     pub name: &'a str,
     pub bytes: Vec<u8>,
+    /// Whether it is a template file of others, in which nothing is warned of.
+    pub is_library: bool,
 }
 
 /// The files that were read.
@@ -31,4 +33,6 @@ pub struct Question<'a> {
     pub mode: Option<MissingKey>,
     /// The names of templates that need not be there.
     pub stops: Vec<&'a str>,
+    /// Whether data are searched for over which the template fails.
+    pub is_searched: bool,
 }

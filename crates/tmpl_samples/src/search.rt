@@ -14,12 +14,17 @@ use tmpl_json_schema::{Draw, Flip, LEVELS, conforms};
 use tmpl_schema::{Cause, Doubt};
 use tmpl_values::Bytes;
 
-/// The most renders from one beginning, the most of making a value smaller, and the most bytes of all values for that.
+/// The most renders from one beginning, and the most bytes of all values that are rendered and of what is rendered.
 const MOST_TRIES: usize = 500;
 
+const MOST_SEARCHED: usize = 4_000_000;
+
+/// The most renders of making one value smaller and of making all values smaller, and the most bytes for all of that.
 const MOST_SMALLER: usize = 200;
 
-const MOST_SMALLER_BYTES: usize = 500_000;
+const MOST_ALL_SMALLER: usize = 1_000;
+
+const MOST_SMALLER_BYTES: usize = 1_000_000;
 
 /// The most parts of all values that are made.
 const MOST_WORK: usize = 50_000;
@@ -43,11 +48,13 @@ struct Case {
     size: usize,
 }
 
-/// How far a run comes, over how many bytes, and the number of the doubt that it shows to be right, if it shows one.
+/// How far a run comes, over how many bytes, how many it puts out, and the number of the doubt that it shows to be right,
+/// if it shows one.
 #[derive(Clone, Copy)]
 struct Outcome {
     progress: u64,
     size: usize,
+    text: usize,
     shown: Option<usize>,
 }
 
@@ -55,8 +62,34 @@ struct Outcome {
 const NO_RUN: Outcome = Outcome {
     progress: 0,
     size: 0,
+    text: 0,
     shown: None,
 };
+
+/// How many renders may still be made, and over how many bytes.
+#[derive(Clone, Copy)]
+struct Budget {
+    renders: usize,
+    bytes: usize,
+}
+
+impl Budget {
+    /// What is left after a render.
+    fn after(self, outcome: Outcome) -> Budget {
+        Budget {
+            renders: self.renders.saturating_sub(1),
+            bytes: self
+                .bytes
+                .saturating_sub(outcome.size)
+                .saturating_sub(outcome.text),
+        }
+    }
+
+    /// Whether nothing is left.
+    fn is_spent(self) -> bool {
+        self.renders == 0 || self.bytes == 0
+    }
+}
 
 /// Between how many was chosen at each point, and how far the run came.
 #[derive(Drop)]
@@ -70,7 +103,7 @@ struct Trial {
 struct Hunt {
     cases: Vec<Option<Case>>,
     missing: usize,
-    tries: usize,
+    budget: Budget,
     work: usize,
 }
 
@@ -99,17 +132,19 @@ impl Question<'_> {
         only: Option<usize>,
     ) -> Result<Outcome, AllocError> {
         let mut out = Nowhere::new();
-        match self.render(tree, &mut out) {
+        let ended = self.render(tree, &mut out);
+        let text = MOST_TEXT.saturating_sub(out.room);
+        match ended {
             Err(RenderError::Fault(fault)) => {
-                let text = MOST_TEXT.saturating_sub(out.room) as u64;
                 let line = if fault.template == self.name {
                     fault.line
                 } else {
                     0
                 };
                 Ok(Outcome {
-                    progress: line.saturating_mul(LINE).saturating_add(text),
+                    progress: line.saturating_mul(LINE).saturating_add(text as u64),
                     size,
+                    text,
                     shown: self.right_doubt(&fault, only),
                 })
             }
@@ -117,9 +152,14 @@ impl Question<'_> {
             Ok(()) => Ok(Outcome {
                 progress: END,
                 size,
+                text,
                 shown: None,
             }),
-            Err(RenderError::NoTemplate | RenderError::WriteFailed) => Ok(NO_RUN),
+            Err(RenderError::NoTemplate | RenderError::WriteFailed) => Ok(Outcome {
+                size,
+                text,
+                ..NO_RUN
+            }),
         }
     }
 
@@ -144,23 +184,24 @@ impl Question<'_> {
         let mut draw = Draw::new(self.alloc, self.root, is_lean, flips);
         let drawn = draw.whole()?;
         hunt.work = hunt.work.saturating_sub(draw.parts);
-        hunt.tries = hunt.tries.saturating_sub(1);
         let Draw { counts, .. } = draw;
         let Some(value) = drawn else {
+            hunt.budget = hunt.budget.after(NO_RUN);
             return Ok(Trial {
                 counts,
                 progress: 0,
             });
         };
-        let Outcome {
-            progress,
-            size,
-            shown,
-        } = self.outcome(&value, None)?;
-        if let Some(doubt) = shown {
+        let outcome = self.outcome(&value, None)?;
+        hunt.budget = hunt.budget.after(outcome);
+        if let Some(doubt) = outcome.shown {
+            let size = outcome.size;
             hunt.keep(doubt, Case { value, size });
         }
-        Ok(Trial { counts, progress })
+        Ok(Trial {
+            counts,
+            progress: outcome.progress,
+        })
     }
 
     /// Tries each other choice at each point beside these, and adds to them the one with which the template comes
@@ -221,12 +262,11 @@ impl Question<'_> {
     }
 
     /// The value of a doubt, made smaller as long as the template fails in the same way.
-    fn smaller(&self, index: usize, case: Case, room: &mut usize) -> Result<Value, AllocError> {
+    fn smaller(&self, index: usize, case: Case, budget: &mut Budget) -> Result<Value, AllocError> {
         let mut case = case;
         let mut part: usize = 1;
         for _ in 0..MOST_SMALLER {
-            *room = room.saturating_sub(case.size);
-            if *room == 0 {
+            if budget.is_spent() {
                 break;
             }
             let mut left = part;
@@ -234,8 +274,10 @@ impl Question<'_> {
             if left > 0 {
                 break;
             }
-            let Outcome { size, shown, .. } = self.outcome(&value, Some(index))?;
-            match shown {
+            let outcome = self.outcome(&value, Some(index))?;
+            *budget = budget.after(outcome);
+            let size = outcome.size;
+            match outcome.shown {
                 Some(_) => case = Case { value, size },
                 None => part = part.saturating_add(1),
             }
@@ -248,7 +290,7 @@ impl Question<'_> {
 impl Hunt {
     /// Whether each doubt has a value, or enough was done.
     fn is_done(&self) -> bool {
-        self.missing == 0 || self.tries == 0 || self.work == 0
+        self.missing == 0 || self.work == 0 || self.budget.is_spent()
     }
 
     /// Keeps a value for the doubt of this number, unless there is one.
@@ -275,7 +317,10 @@ fn new_hunt(question: &Question<'_>) -> Result<Hunt, AllocError> {
     Ok(Hunt {
         cases,
         missing,
-        tries: MOST_TRIES,
+        budget: Budget {
+            renders: MOST_TRIES,
+            bytes: MOST_SEARCHED,
+        },
         work: MOST_WORK,
     })
 }
@@ -284,14 +329,17 @@ fn new_hunt(question: &Question<'_>) -> Result<Hunt, AllocError> {
 fn values_found(question: &Question<'_>) -> Result<Vec<Option<Value>>, AllocError> {
     let mut hunt = new_hunt(question)?;
     question.climb(&mut hunt, true)?;
-    hunt.tries = MOST_TRIES;
+    hunt.budget.renders = MOST_TRIES;
     question.climb(&mut hunt, false)?;
     let Hunt { cases, .. } = hunt;
     let mut values = Vec::new(question.alloc);
-    let mut room = MOST_SMALLER_BYTES;
+    let mut budget = Budget {
+        renders: MOST_ALL_SMALLER,
+        bytes: MOST_SMALLER_BYTES,
+    };
     for (index, case) in cases.into_iter().enumerate() {
         values.push(match case {
-            Some(case) => Some(question.smaller(index, case, &mut room)?),
+            Some(case) => Some(question.smaller(index, case, &mut budget)?),
             None => None,
         })?;
     }

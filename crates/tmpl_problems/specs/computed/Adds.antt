@@ -1,5 +1,5 @@
 -- What a part of a file adds to what is found.
-use Rattle.std.specs.Prelude.{◌≡◌, ◌≤◌, ◌+◌, ◌==◌, ◌&&◌, ℕ, List, [], ◌∷◌, ◌++◌, length, map, fold, true}
+use Rattle.std.specs.Prelude.{◌≡◌, ◌≤◌, ◌+◌, ◌==◌, ◌&&◌, ℕ, Bool, List, [], ◌∷◌, ◌++◌, length, map, fold, true, false}
 use Rattle.std.specs.Prelude.{Option, Some, None, string_bytes, All, if◌then◌else◌}
 use Rattle.std.specs.List.{AllZip, enumerate_from, list_any}
 use Rattle.std.specs.Str.{bytes_eq}
@@ -15,6 +15,7 @@ use Rattle.tmpl_syntax.specs.declared.column.Place.{Place}
 use Rattle.tmpl_problems.specs.declared.survey.Named.{Named}
 use Rattle.tmpl_problems.specs.declared.survey.Variable.{Variable}
 use Rattle.tmpl_problems.specs.declared.survey.Warning.{Warning}
+use Rattle.tmpl_problems.specs.computed.Failing.{has_failing}
 use Rattle.tmpl_problems.specs.Survey.{Declared, is_used, named_place, warned_place}
 use Rattle.tmpl_problems.specs.Tokens.{declared_names, name_after, used_names}
 
@@ -35,6 +36,23 @@ AddsName file opens (Some name) old new = AddsOne file opens name old new
 abbrev pub AddsAfter : List ℕ → ℕ → List (List ℕ) → List held.Token → AfterText → List Named → List Named → Type 0
 AddsAfter file opens words ts variant.Nothing old new = new ≡ old
 AddsAfter file opens words ts other old new = AddsName file opens (name_after words (map token_of ts)) old new
+
+-- an action is added that fails, told there
+pub record AddsAction (file : List ℕ) (opens : ℕ) (old new : List Warning) : Type 0 where
+  pub one : Warning
+  pub added : new ≡ old ++ one ∷ []
+  pub start : opens ≤ length file → one.start ≡ opens
+  pub place : IsPlace file (warned_place one)
+
+-- .. if it does
+abbrev pub AddsFailing : List ℕ → ℕ → Bool → List Warning → List Warning → Type 0
+AddsFailing file opens false old new = new ≡ old
+AddsFailing file opens true old new = AddsAction file opens old new
+
+-- .. of that after a text
+abbrev pub FailsAfter : List ℕ → ℕ → List held.Token → AfterText → List Warning → List Warning → Type 0
+FailsAfter file opens ts variant.Nothing old new = new ≡ old
+FailsAfter file opens ts other old new = AddsFailing file opens (has_failing (map token_of ts)) old new
 
 -- a warning of a sign is added, told there
 pub record AddsWarning (file : List ℕ) (start : ℕ) (at : ℕ × List ℕ) (old new : List Warning) : Type 0 where

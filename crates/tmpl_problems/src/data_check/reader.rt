@@ -336,6 +336,9 @@ impl<'b> Reader<'b> {
             .take_while(|b| matches!(**b, b'-' | b'+' | b'.' | b'e' | b'E' | b'0'..=b'9'))
             .count();
         let text = rest.get(..count).unwrap_or(&[]);
+        if self.at == 0 && text.starts_with(b"---") {
+            return self.stop("a value is wanted: if this is YAML, make JSON of it first");
+        }
         if let Some(flaw) = number_flaw(text) {
             self.pass(flaw);
             return self.stop("this is no number of JSON");

@@ -8,7 +8,7 @@ abbrev pub invariant-loop-tokens : goal.invariant-loop-tokens
 invariant-loop-tokens l = record {
   left : IsLeft l.file l.rest;
   place : IsPlace l.file l.place;
-  found : Progress l.file l.rest (record { warnings = l.surveyor.warnings.items; defined = l.surveyor.defined.items; called = l.surveyor.called.items; variables = l.surveyor.variables.entries });
+  found : Progress l.file l.rest (record { warnings = l.surveyor.warnings.items; failing = l.surveyor.failing.items; defined = l.surveyor.defined.items; called = l.surveyor.called.items; variables = l.surveyor.variables.entries });
 }
 
 abbrev pub decreases-loop-tokens : goal.decreases-loop-tokens

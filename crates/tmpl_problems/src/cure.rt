@@ -1,0 +1,358 @@
+//! What is wrong with a command that fails at each run that gets to it, in words, and what to write instead.
+
+use crate::failing::{Failing, failing_in_reading};
+use std::alloc::{AllocError, Global};
+use std::str::from_utf8;
+use tmpl_funcs::Func;
+use tmpl_grammar::{Command, Operand, Reading, read_action};
+use tmpl_hints::Sentence;
+use tmpl_lex::{Rest, first_part};
+use tmpl_values::{Bytes, Val, add_quote, add_text};
+
+/// The most operands of a command that is written anew, the most parentheses that are added around one another, and the
+/// most bytes of what is written.
+const MOST_OPERANDS: usize = 30;
+
+const MOST_LEVELS: u64 = 8;
+
+const MOST_BYTES: usize = 200;
+
+/// What is said of what fails at each run that gets to it.
+pub(crate) fn failing_text(alloc: Global, failing: Failing<'_>) -> Result<String, AllocError> {
+    let said = Sentence::new(alloc).say("always fails: ");
+    match failing {
+        Failing::Command(operands, is_piped) => {
+            let said = say_command(alloc, said, operands, is_piped)?;
+            if is_piped {
+                said.finish()
+            } else {
+                say_cure(alloc, said, operands)?.finish()
+            }
+        }
+        Failing::Argument(operands, func) => {
+            let said = say_misplaced(said, func);
+            say_cure(alloc, said, operands)?.finish()
+        }
+    }
+}
+
+/// Says what is wrong with a command.
+fn say_command(
+    alloc: Global,
+    said: Sentence,
+    operands: &[Operand],
+    is_piped: bool,
+) -> Result<Sentence, AllocError> {
+    match operands {
+        [Operand::Function(func), arguments @ ..] => {
+            let count = arguments.len() as u64 + if is_piped { 1 } else { 0 };
+            if func.takes(count) {
+                return say_refused(alloc, said, *func, arguments);
+            }
+            Ok(say_counts(said, *func, count))
+        }
+        [Operand::Nil] if !is_piped => Ok(said.say("\"nil\" is no command")),
+        [first] => {
+            let mut text = Vec::new(alloc);
+            print_operand(first, &mut text)?;
+            let said = said.say("nothing can be piped to ").quote(text.as_slice());
+            Ok(said.say(", which is no function"))
+        }
+        [first, rest @ ..] => say_no_function(alloc, said, first, rest),
+        [] => Ok(said),
+    }
+}
+
+/// Says that a command begins with what is no function.
+fn say_no_function(
+    alloc: Global,
+    said: Sentence,
+    first: &Operand,
+    rest: &[Operand],
+) -> Result<Sentence, AllocError> {
+    for operand in rest {
+        if let Operand::Function(func) = operand {
+            return Ok(say_misplaced(said, *func));
+        }
+    }
+    let mut text = Vec::new(alloc);
+    print_operand(first, &mut text)?;
+    Ok(
+        said.quote(text.as_slice())
+            .say(" is no function, and has an argument"),
+    )
+}
+
+/// Says that a function stands after its first argument, or without parentheses around it and its own.
+fn say_misplaced(said: Sentence, func: Func) -> Sentence {
+    said.say("\"")
+        .say(func.name())
+        .say("\" stands among arguments")
+}
+
+/// Says that a function refuses its arguments.
+fn say_refused(
+    alloc: Global,
+    said: Sentence,
+    func: Func,
+    arguments: &[Operand],
+) -> Result<Sentence, AllocError> {
+    let mut text = Vec::new(alloc);
+    print_operands(arguments, &mut text)?;
+    Ok(
+        said.say("\"")
+            .say(func.name())
+            .say("\" refuses ")
+            .show(text.as_slice()),
+    )
+}
+
+/// Says how many arguments a function takes, and how many it has.
+fn say_counts(said: Sentence, func: Func, count: u64) -> Sentence {
+    let said = said.say("\"").say(func.name()).say("\" takes ");
+    let said = match (
+        func.takes(0),
+        func.takes(1),
+        func.takes(2),
+        func.takes(3),
+        func.takes(4),
+    ) {
+        (_, true, false, _, _) => said.say("1 argument"),
+        (_, false, true, false, _) => said.say("2 arguments"),
+        (_, true, _, true, false) => said.say("1 to 3 arguments"),
+        (_, false, _, _, _) => said.say("2 or more arguments"),
+        _ => said.say("1 or more arguments"),
+    };
+    match count {
+        0 => said.say(" and has none"),
+        _ => said.say(" and has ").count(count),
+    }
+}
+
+/// Says what to write for a command, where that is seen.
+fn say_cure(alloc: Global, said: Sentence, operands: &[Operand]) -> Result<Sentence, AllocError> {
+    if operands.len() > MOST_OPERANDS {
+        return Ok(said);
+    }
+    let mut text = Vec::new(alloc);
+    text.extend_from_slice(b"{{")?;
+    write_command(MOST_LEVELS, operands, &mut text)?;
+    let end = text.len();
+    text.extend_from_slice(b"}}")?;
+    if text.len() > MOST_BYTES || joins_constant(operands) || !is_sound(alloc, text.as_slice())? {
+        return Ok(said);
+    }
+    let cure = text.as_slice().get(2..end).unwrap_or(&[]);
+    Ok(said.say(": write ").say(from_utf8(cure).unwrap_or("")))
+}
+
+/// Whether a file is an action in which nothing fails at each run.
+fn is_sound(alloc: Global, file: &[u8]) -> Result<bool, AllocError> {
+    let mut tokens = Vec::new(alloc);
+    first_part(file, Rest::of(file), &mut tokens)?;
+    let reading = read_action(alloc, tokens.as_slice())?;
+    let is_read = matches!(reading, Reading::Read(_));
+    Ok(is_read && failing_in_reading(alloc, &reading)?.is_none())
+}
+
+/// Whether a constant alone stands on a side of an `and` or an `or` among these, as in `eq .a 1 or 2`.
+fn joins_constant(operands: &[Operand]) -> bool {
+    let mut after_joint = false;
+    let mut is_alone = false;
+    for operand in operands {
+        match operand {
+            Operand::Function(Func::And | Func::Or) => {
+                if after_joint && is_alone {
+                    return true;
+                }
+                after_joint = true;
+                is_alone = false;
+            }
+            Operand::Text(_) | Operand::Number(_) => {
+                is_alone = after_joint && !is_alone;
+            }
+            _ => {
+                is_alone = false;
+                after_joint = false;
+            }
+        }
+    }
+    after_joint && is_alone
+}
+
+/// Operands that are written anew as two parts: the arguments of a function that stands between them, or what stands
+/// before a function, and it with the rest.
+#[derive(Clone, Copy)]
+struct Split<'t> {
+    func: Option<Func>,
+    front: &'t [Operand],
+    rest: &'t [Operand],
+}
+
+/// Where a command is split: at an `or`, at an `and`, after a `not`, at a comparison, or before another function.
+fn split_of(operands: &[Operand]) -> Option<Split<'_>> {
+    for wanted in [Joint::Or, Joint::And] {
+        if let Some(split) = split_at_joint(operands, wanted) {
+            return Some(split);
+        }
+    }
+    if let [Operand::Function(Func::Not), _, _, ..] = operands {
+        return Some(split_before(operands, 1));
+    }
+    if let Some(split) = split_at_joint(operands, Joint::Comparison) {
+        return Some(split);
+    }
+    for (index, operand) in operands.iter().enumerate() {
+        if index > 0 && matches!(operand, Operand::Function(_)) {
+            return Some(split_before(operands, index));
+        }
+    }
+    None
+}
+
+/// Functions that others write between their arguments.
+#[derive(Clone, Copy)]
+enum Joint {
+    Or,
+    And,
+    Comparison,
+}
+
+/// Where the first function of this kind stands that is not the first operand.
+fn split_at_joint(operands: &[Operand], wanted: Joint) -> Option<Split<'_>> {
+    for (index, operand) in operands.iter().enumerate() {
+        if index > 0 {
+            if let Operand::Function(func) = operand {
+                if is_joint(*func, wanted) {
+                    let split = split_before(operands, index);
+                    return Some(Split {
+                        func: Some(*func),
+                        rest: split.rest.get(1..).unwrap_or(&[]),
+                        ..split
+                    });
+                }
+            }
+        }
+    }
+    None
+}
+
+/// Whether a function is of this kind.
+fn is_joint(func: Func, wanted: Joint) -> bool {
+    match wanted {
+        Joint::Or => matches!(func, Func::Or),
+        Joint::And => matches!(func, Func::And),
+        Joint::Comparison => matches!(
+            func,
+            Func::Eq | Func::Ne | Func::Lt | Func::Le | Func::Gt | Func::Ge
+        ),
+    }
+}
+
+/// What stands before the operand of this number, and it with the rest.
+fn split_before(operands: &[Operand], index: usize) -> Split<'_> {
+    Split {
+        func: None,
+        front: operands.get(..index).unwrap_or(&[]),
+        rest: operands.get(index..).unwrap_or(&[]),
+    }
+}
+
+/// Writes a command with each function before its arguments, down to this many parentheses.
+#[cycle(write)]
+fn write_command(levels: u64, operands: &[Operand], text: &mut Vec<u8>) -> Result<(), AllocError> {
+    match split_of(operands) {
+        Some(
+            Split {
+                func: Some(func),
+                front,
+                rest,
+            },
+        ) => {
+            text.extend_from_slice(func.name().as_bytes())?;
+            text.extend_from_slice(b" ")?;
+            write_part(levels, front, text)?;
+            text.extend_from_slice(b" ")?;
+            write_part(levels, rest, text)
+        }
+        Some(Split { front, rest, .. }) => {
+            print_operands(front, text)?;
+            text.extend_from_slice(b" ")?;
+            write_part(levels, rest, text)
+        }
+        None => print_operands(operands, text),
+    }
+}
+
+/// Writes operands as one: in parentheses where they are several.
+#[cycle(write)]
+fn write_part(levels: u64, operands: &[Operand], text: &mut Vec<u8>) -> Result<(), AllocError> {
+    if operands.len() == 1 || levels == 0 {
+        return print_operands(operands, text);
+    }
+    text.extend_from_slice(b"(")?;
+    write_command(levels - 1, operands, text)?;
+    text.extend_from_slice(b")")
+}
+
+/// Prints the commands of a pipeline.
+#[cycle(print)]
+fn print_commands(commands: &[Command], text: &mut Vec<u8>) -> Result<(), AllocError> {
+    let mut first = true;
+    for command in commands {
+        if !first {
+            text.extend_from_slice(b" | ")?;
+        }
+        print_operands(command.operands.as_slice(), text)?;
+        first = false;
+    }
+    Ok(())
+}
+
+/// Prints the operands of a command.
+#[cycle(print)]
+fn print_operands(operands: &[Operand], text: &mut Vec<u8>) -> Result<(), AllocError> {
+    let mut first = true;
+    for operand in operands {
+        if !first {
+            text.extend_from_slice(b" ")?;
+        }
+        print_operand(operand, text)?;
+        first = false;
+    }
+    Ok(())
+}
+
+/// Prints an operand.
+#[cycle(print)]
+fn print_operand(operand: &Operand, text: &mut Vec<u8>) -> Result<(), AllocError> {
+    match operand {
+        Operand::Dot => text.extend_from_slice(b"."),
+        Operand::Fields(names) => print_chain(names.as_slice(), text),
+        Operand::Variable { name, fields } => {
+            text.extend_from_slice(b"$")?;
+            text.extend_from_slice(name.as_slice())?;
+            print_chain(fields.as_slice(), text)
+        }
+        Operand::Bool(truth) => add_text(&Val::Bool(*truth), text),
+        Operand::Number(number) => add_text(&Val::Num(*number), text),
+        Operand::Text(bytes) => add_quote(bytes.as_slice(), text),
+        Operand::Nil => text.extend_from_slice(b"nil"),
+        Operand::Function(func) => text.extend_from_slice(func.name().as_bytes()),
+        Operand::Group { commands, fields } => {
+            text.extend_from_slice(b"(")?;
+            print_commands(commands.as_slice(), text)?;
+            text.extend_from_slice(b")")?;
+            print_chain(fields.as_slice(), text)
+        }
+    }
+}
+
+/// Prints the names of fields, each with its dot.
+fn print_chain(names: &[Bytes], text: &mut Vec<u8>) -> Result<(), AllocError> {
+    for name in names {
+        text.extend_from_slice(b".")?;
+        text.extend_from_slice(name.as_slice())?;
+    }
+    Ok(())
+}
