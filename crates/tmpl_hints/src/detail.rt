@@ -522,7 +522,7 @@ fn else_text(said: Sentence, branch: Option<Branch>, outside: Option<Open>) -> S
     }
 }
 
-/// What is said of an else that is out of place where this is open.
+/// The message of an else that is out of place where this is open.
 fn else_words(branch: Option<Branch>, opening: Opening) -> &'static str
     ensures { result.now ≡ spec.else_in branch opening }
 {

@@ -1,8 +1,11 @@
 pub mod ErrorLemmas
 pub mod FailingLemmas
+pub mod FailureLemmas
 pub mod InferredLemmas
 pub mod ItemLemmas
 pub mod LogLemmas
+pub mod PositionLemmas
+pub mod ReasonLemmas
 pub mod SafeLemmas
 pub mod SaidLemmas
 pub mod UriLemmas

@@ -14,6 +14,7 @@ ghost use Rattle.tmpl_report.specs.Told.{told};
 ghost use Rattle.tmpl_report.specs.computed.Entries.{AddsOfReason, HasMore, is_same, warning_of};
 
 use crate::entry::{Entry, Level};
+use crate::reasons::position_of;
 use crate::rule::{
     ALWAYS_FAILS, KEY_GIVEN_TWICE, MAY_FAIL, NEVER_CALLED, NO_SUCH_TEMPLATE, Rule,
     SCHEMA_WITHOUT_VALUES, SUSPICIOUS, data_rule_of, rule_of,
@@ -30,7 +31,6 @@ use tmpl_problems::{
     DataProblem, DataReason, DataReport, Named, Problem, Problems, Survey, Warning, check_data,
     check_file, problem_text, reason_text, survey_file,
 };
-use tmpl_reasons::position_of;
 use tmpl_syntax::{NameHash, Set, base_name};
 
 /// How the name of a template begins that is not there so that its call ends the run.

@@ -1,4 +1,4 @@
-//! What is found in template files, data and a schema, and how it is told.
+//! The findings in template files, data and a schema: with counterexamples and reasons, and how they are printed.
 #![tactic(auto)]
 
 mod entry;
@@ -6,7 +6,9 @@ mod findings;
 mod infer;
 mod json;
 mod laws;
+mod reasons;
 mod rule;
+mod samples;
 mod sarif;
 mod schema;
 mod source;
@@ -16,4 +18,6 @@ pub use entry::Level;
 pub use findings::{Findings, Format, findings_of};
 pub use infer::{Inferred, infer_from};
 pub use laws::always_fails;
+pub use reasons::{Reason, Why, position_of, reasons_of};
+pub use samples::{Failure, failure_refutes, failures_of};
 pub use source::{Question, Source, Sources};

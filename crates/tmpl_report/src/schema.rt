@@ -8,7 +8,9 @@ ghost use Rattle.tmpl_report.specs.computed.Entries.{HasMore};
 
 use crate::entry::{Entry, Level};
 use crate::findings::Findings;
+use crate::reasons::{Reason, Why, position_of, reasons_of};
 use crate::rule::{MAY_FAIL, SCHEMA_NOT_UNDERSTOOD};
+use crate::samples::{Failure, failures_of};
 use crate::source::{Question, Source, Sources};
 use serde_json::Value;
 use std::alloc::{AllocError, Global};
@@ -19,8 +21,6 @@ use tmpl_json_schema::{
     CheckFault, Refused, SchemaFault, check_document, part_without_values, read_document,
 };
 use tmpl_meaning::MissingKey;
-use tmpl_reasons::{Reason, Why, position_of, reasons_of};
-use tmpl_samples::{Failure, failures_of};
 use tmpl_schema::{Cause, Doubt, Refusal};
 use tmpl_syntax::{Set, base_name};
 use tmpl_values::Bytes;

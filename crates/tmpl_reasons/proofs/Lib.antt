@@ -1,2 +1,0 @@
-pub mod PositionLemmas
-pub mod ReasonLemmas

@@ -1,4 +1,0 @@
-use Rattle.tmpl_reasons.proofs.origin.Document.+add_plain.Given as goal
-
-abbrev pub decreases-add_plain : goal.decreases-add_plain
-decreases-add_plain l = l.levels

@@ -1,4 +1,0 @@
-use Rattle.tmpl_reasons.proofs.walk.+add_assigned.Given as goal
-
-abbrev pub decreases-add_assigned : goal.decreases-add_assigned
-decreases-add_assigned l = l.levels

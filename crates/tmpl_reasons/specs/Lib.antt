@@ -1,2 +1,0 @@
-pub mod Position
-pub mod Reason

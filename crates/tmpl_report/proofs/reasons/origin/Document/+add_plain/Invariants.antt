@@ -1,0 +1,4 @@
+use Rattle.tmpl_report.proofs.reasons.origin.Document.+add_plain.Given as goal
+
+abbrev pub decreases-add_plain : goal.decreases-add_plain
+decreases-add_plain l = l.levels

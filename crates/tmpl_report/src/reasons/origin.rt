@@ -1,0 +1,282 @@
+//! Where in a document values come from: at which places a schema stands that they conform to.
+
+ghost use Rattle.std.specs.Prelude.{◌≡◌};
+ghost use Rattle.tmpl_report.specs.declared.reasons.origin.Lost.TheVariants as lost;
+
+use percent_encoding::{DecodeError, percent_decode};
+use serde_json::Value;
+use std::alloc::{AllocError, AllocFailed, Global};
+use tmpl_json_schema::{
+    Kinds, choices_in, chosen_by, has_content, is_every_kind, kinds_of, lets_no_map, requires_key,
+};
+
+/// The most places that are followed at once.
+const MOST_PLACES: usize = 64;
+
+/// How many references and alternatives are followed, one into the other.
+const LEVELS: usize = 50;
+
+/// Why the provenance of values is not known.
+#[derive(Clone, Copy)]
+pub(crate) enum Lost {
+    OutOfMemory,
+    /// They come from elsewhere, or from too many places.
+    Untold,
+}
+
+impl From<AllocError> for Lost {
+    ghost from_gives = { λ _ e. e ≡ lost.OutOfMemory };
+
+    fn from(_: AllocError) -> Lost {
+        Lost::OutOfMemory
+    }
+}
+
+impl<T: Drop> From<AllocFailed<T>> for Lost {
+    ghost from_gives = { λ _ e. e ≡ lost.OutOfMemory };
+
+    fn from(_: AllocFailed<T>) -> Lost {
+        Lost::OutOfMemory
+    }
+}
+
+/// A document.
+#[derive(Clone, Copy)]
+pub(crate) struct Document<'d> {
+    pub(crate) root: &'d Value,
+    pub(crate) bytes: &'d [u8],
+    pub(crate) alloc: Global,
+}
+
+/// Where a value comes from.
+#[derive(Drop)]
+pub(crate) struct Origin {
+    /// The JSON Pointers of the schemas of which it conforms to one.
+    pub(crate) places: Vec<String>,
+    /// Whether it is no field that may be absent, nor a field of such a one.
+    pub(crate) is_there: bool,
+    /// Whether it is no part of a list.
+    pub(crate) is_whole: bool,
+}
+
+impl Origin {
+    /// That of no value.
+    pub(crate) fn new(alloc: Global) -> Origin {
+        Origin {
+            places: Vec::new(alloc),
+            is_there: true,
+            is_whole: true,
+        }
+    }
+
+    /// That of the whole document.
+    pub(crate) fn whole(alloc: Global) -> Result<Origin, Lost> {
+        let mut origin = Origin::new(alloc);
+        origin.add(String::new(alloc))?;
+        Ok(origin)
+    }
+
+    /// A copy of it.
+    pub(crate) fn copy(&self, alloc: Global) -> Result<Origin, AllocError> {
+        Ok(Origin {
+            places: self.places.clone()?,
+            is_there: self.is_there,
+            is_whole: self.is_whole,
+        })
+    }
+
+    /// Whether it has this place.
+    fn has(&self, place: &str) -> bool {
+        self.places.iter().any(|other| other.as_str() == place)
+    }
+
+    /// Adds a place.
+    fn add(&mut self, place: String) -> Result<(), Lost> {
+        if self.has(place.as_str()) {
+            return Ok(());
+        }
+        if self.places.len() >= MOST_PLACES {
+            return Err(Lost::Untold);
+        }
+        Ok(self.places.push(place)?)
+    }
+
+    /// Adds the place of a part of what is at a place.
+    fn add_below(&mut self, alloc: Global, place: &str, part: &str) -> Result<(), Lost> {
+        self.add(below(alloc, place, part)?)
+    }
+
+    /// Adds those of another.
+    pub(crate) fn add_all(&mut self, other: &Origin) -> Result<(), Lost> {
+        self.is_there = self.is_there && other.is_there;
+        self.is_whole = self.is_whole && other.is_whole;
+        for place in other.places.as_slice() {
+            self.add(place.clone()?)?;
+        }
+        Ok(())
+    }
+}
+
+/// The pointer to a part of what another points to.
+pub(crate) fn below(alloc: Global, place: &str, part: &str) -> Result<String, AllocError> {
+    let mut pointer = String::from_str(alloc, place)?;
+    pointer.push('/')?;
+    for letter in part.chars() {
+        match letter {
+            '~' => pointer.push_str("~0"),
+            '/' => pointer.push_str("~1"),
+            _ => pointer.push(letter),
+        }?;
+    }
+    Ok(pointer)
+}
+
+impl<'d> Document<'d> {
+    /// The kinds of values that a schema lets through by itself.
+    pub(crate) fn kinds(&self, schema: &Value) -> Kinds {
+        kinds_of(self.alloc, schema)
+    }
+
+    /// What stands at a place.
+    pub(crate) fn schema_at(&self, place: &str) -> Result<&'d Value, Lost> {
+        match self.root.pointer(place) {
+            Some(schema) => Ok(schema),
+            None => Err(Lost::Untold),
+        }
+    }
+
+    /// The place that a `$ref` points to.
+    fn referred(&self, reference: &Value) -> Result<String, Lost> {
+        let Some(fragment) = reference.as_str().and_then(|text| text.strip_prefix('#')) else {
+            return Err(Lost::Untold);
+        };
+        match percent_decode(fragment.as_bytes()).decode_utf8(self.alloc) {
+            Ok(place) => Ok(place.into_owned(self.alloc)?),
+            Err(DecodeError::OutOfMemory) => Err(Lost::OutOfMemory),
+            Err(_) => Err(Lost::Untold),
+        }
+    }
+
+    /// Adds the places that a place stands for, with no reference and no alternatives at them.
+    fn add_plain(&self, levels: usize, place: &str, plain: &mut Origin) -> Result<(), Lost> {
+        if levels == 0 {
+            return Err(Lost::Untold);
+        }
+        let fewer = levels - 1;
+        let schema = self.schema_at(place)?;
+        if let Some(reference) = schema.get("$ref") {
+            let referred = self.referred(reference)?;
+            return self.add_plain(fewer, referred.as_str(), plain);
+        }
+        let Some(choices) = choices_in(schema) else {
+            return plain.add(String::from_str(self.alloc, place)?);
+        };
+        if !is_every_kind(self.kinds(schema)) {
+            return Err(Lost::Untold);
+        }
+        let keyword = chosen_by(schema);
+        for index in 0..choices.as_array().map_or(0, |choices| choices.len()) {
+            let alternative = format!(in self.alloc; "{place}/{keyword}/{index}")?;
+            self.add_plain(fewer, alternative.as_str(), plain)?;
+        }
+        Ok(())
+    }
+
+    /// The places that those of a provenance stand for.
+    pub(crate) fn plain(&self, origin: &Origin) -> Result<Origin, Lost> {
+        let mut plain = Origin::new(self.alloc);
+        plain.is_there = origin.is_there;
+        plain.is_whole = origin.is_whole;
+        for place in origin.places.as_slice() {
+            self.add_plain(LEVELS, place.as_str(), &mut plain)?;
+        }
+        Ok(plain)
+    }
+
+    /// Adds the place of what stands under a keyword of the schema at a place.
+    fn add_under(&self, place: &str, keyword: &str, origin: &mut Origin) -> Result<(), Lost> {
+        match self.schema_at(place)?.get(keyword) {
+            Some(Value::Bool(false)) => Ok(()),
+            Some(_) => origin.add_below(self.alloc, place, keyword),
+            None => Err(Lost::Untold),
+        }
+    }
+
+    /// Adds the place of the property of this name of the schema at a place.
+    fn add_property(&self, place: &str, name: &str, origin: &mut Origin) -> Result<(), Lost> {
+        let properties = below(self.alloc, place, "properties")?;
+        origin.add_below(self.alloc, properties.as_str(), name)
+    }
+
+    /// Adds where the field of this name of a map comes from that conforms to the schema at a plain place.
+    fn add_field(&self, place: &str, name: &str, field: &mut Origin) -> Result<(), Lost> {
+        let schema = self.schema_at(place)?;
+        if !requires_key(schema, name) {
+            field.is_there = false;
+        }
+        match schema
+            .get("properties")
+            .and_then(|properties| properties.get(name))
+        {
+            Some(_) => self.add_property(place, name, field),
+            None => self.add_under(place, "additionalProperties", field),
+        }
+    }
+
+    /// Adds where the entries of a map come from that conforms to the schema at a plain place.
+    fn add_entries(&self, place: &str, entries: &mut Origin) -> Result<(), Lost> {
+        self.add_under(place, "additionalProperties", entries)?;
+        if let Some(Value::Object(properties)) = self.schema_at(place)?.get("properties") {
+            for name in properties.keys() {
+                self.add_property(place, name.as_str(), entries)?;
+            }
+        }
+        Ok(())
+    }
+
+    /// Adds where the elements of lists and maps come from that conform to the schema at a plain place.
+    fn add_elements(&self, place: &str, elements: &mut Origin) -> Result<(), Lost> {
+        let schema = self.schema_at(place)?;
+        let kinds = self.kinds(schema);
+        if kinds.list {
+            self.add_under(place, "items", elements)?;
+        }
+        if kinds.map {
+            self.add_entries(place, elements)?;
+        }
+        Ok(())
+    }
+
+    /// Where the field of this name of such values comes from.
+    pub(crate) fn field(&self, origin: &Origin, name: &str) -> Result<Origin, Lost> {
+        let plain = self.plain(origin)?;
+        let mut field = Origin::new(self.alloc);
+        field.is_there = plain.is_there;
+        for place in plain.places.as_slice() {
+            let schema = self.schema_at(place.as_str())?;
+            let kinds = self.kinds(schema);
+            if kinds.map {
+                self.add_field(place.as_str(), name, &mut field)?;
+            }
+            if lets_no_map(kinds) {
+                field.is_there = false;
+            }
+        }
+        Ok(field)
+    }
+
+    /// Where the elements of such lists and maps come from.
+    pub(crate) fn elements(&self, origin: &Origin) -> Result<Origin, Lost> {
+        let plain = self.plain(origin)?;
+        let mut elements = Origin::new(self.alloc);
+        for place in plain.places.as_slice() {
+            self.add_elements(place.as_str(), &mut elements)?;
+        }
+        Ok(elements)
+    }
+}
+
+/// Whether each value conforms to a schema without alternatives and with these kinds, as far as fields and items go.
+pub(crate) fn lets_all(schema: &Value, kinds: Kinds) -> bool {
+    !has_content(schema) && is_every_kind(kinds)
+}

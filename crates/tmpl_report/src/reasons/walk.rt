@@ -1,0 +1,615 @@
+//! The walk over templates that follows where their values come from in a document.
+
+use crate::reasons::origin::{Document, Lost, Origin};
+use std::alloc::AllocError;
+use std::str::from_utf8;
+use tmpl_funcs::Func;
+use tmpl_schema::{Cause, Doubt};
+use tmpl_syntax::{
+    Binding, Command, Control, ControlNode, Header, Node, NodeKind, Operand, Set, Tree,
+};
+use tmpl_values::Bytes;
+
+/// How deep parentheses nest that are looked into: more than a file may have.
+const LEVELS: usize = 1_000;
+
+/// How deep controls nest that are visited, so that the stack suffices. Inside deeper ones no reason is found.
+const MOST_CONTROLS: usize = 200;
+
+/// How often templates are visited, until what is passed to them reaches a fixpoint.
+const MOST_ROUNDS: usize = 12;
+
+/// The name by which dot is kept among the variables: none has it.
+const DOT: &[u8] = b".";
+
+/// A template, or a variable, and where its value comes from: none where that is not known.
+#[derive(Drop)]
+pub(crate) struct Source<'w> {
+    pub(crate) name: &'w [u8],
+    pub(crate) origin: Option<Origin>,
+}
+
+/// Where the values come from of which an alarm speaks: none where that is not known.
+#[derive(Drop)]
+pub(crate) struct Asked {
+    pub(crate) origin: Option<Origin>,
+}
+
+/// A walk over a template.
+#[derive(Drop)]
+struct Walk<'w> {
+    document: Document<'w>,
+    name: &'w [u8],
+    doubts: &'w [Doubt],
+    /// For each alarm what is found.
+    asked: Vec<Asked>,
+    /// What is handed to templates that are called.
+    handed: Vec<Source<'w>>,
+    /// The variables in scope, and dot, the innermost last.
+    scope: Vec<Source<'w>>,
+    /// The names of variables that are assigned: nothing is known of them.
+    assigned: Vec<&'w [u8]>,
+}
+
+/// A copy of where a value comes from.
+fn copy_known(
+    document: Document<'_>,
+    origin: &Option<Origin>,
+) -> Result<Option<Origin>, AllocError> {
+    match origin {
+        Some(origin) => Ok(Some(origin.copy(document.alloc)?)),
+        None => Ok(None),
+    }
+}
+
+/// What is found, or none; an error means that memory ran out.
+fn if_told(found: Result<Origin, Lost>) -> Result<Option<Origin>, AllocError> {
+    match found {
+        Ok(origin) => Ok(Some(origin)),
+        Err(Lost::Untold) => Ok(None),
+        Err(Lost::OutOfMemory) => Err(AllocError),
+    }
+}
+
+/// Adds where a value may come from too. Gives whether that is more than was known.
+fn widen(
+    document: Document<'_>,
+    known: &mut Option<Origin>,
+    more: &Option<Origin>,
+) -> Result<bool, AllocError> {
+    let Some(origin) = known else {
+        return Ok(false);
+    };
+    let before = origin.places.len();
+    let was_there = origin.is_there;
+    let was_whole = origin.is_whole;
+    let is_told = match more {
+        Some(more) => origin.add_all(more),
+        None => Err(Lost::Untold),
+    };
+    match is_told {
+        Ok(()) => {
+            let is_other = origin.is_there != was_there || origin.is_whole != was_whole;
+            Ok(is_other || origin.places.len() > before)
+        }
+        Err(Lost::OutOfMemory) => Err(AllocError),
+        Err(Lost::Untold) => {
+            *known = None;
+            Ok(true)
+        }
+    }
+}
+
+/// What is looked for among the commands of an action.
+#[derive(Clone, Copy)]
+enum Wanted<'w> {
+    /// The values that are asked for the field of this name.
+    Field(&'w [u8]),
+    /// The lists of which the function needs this many items.
+    Items(Func, u64),
+}
+
+impl<'w> Wanted<'w> {
+    /// What a cause speaks of.
+    fn of(cause: &'w Cause) -> Option<Wanted<'w>> {
+        match cause {
+            Cause::Absent(name) | Cause::NoFields(name, _) => Some(Wanted::Field(name.as_slice())),
+            Cause::FewItems(func, count) => Some(Wanted::Items(*func, *count)),
+            _ => None,
+        }
+    }
+}
+
+/// Whether an operand is this number.
+fn is_number(operand: &Operand, number: u64) -> bool {
+    match operand {
+        Operand::Number(value) => u64::try_from(*value) == Ok(number),
+        _ => false,
+    }
+}
+
+/// Where lists come from, if they are no parts of others.
+fn if_whole(found: Result<Origin, Lost>) -> Result<Origin, Lost> {
+    match found {
+        Ok(origin) if origin.is_whole => Ok(origin),
+        Ok(_) => Err(Lost::Untold),
+        Err(lost) => Err(lost),
+    }
+}
+
+impl<'w> Walk<'w> {
+    /// Where the value of a variable, or of dot, comes from.
+    fn value(&self, name: &[u8]) -> Result<Origin, Lost> {
+        if self.assigned.iter().any(|other| *other == name) {
+            return Err(Lost::Untold);
+        }
+        for source in self.scope.iter().rev() {
+            if source.name == name {
+                return match &source.origin {
+                    Some(origin) => Ok(origin.copy(self.document.alloc)?),
+                    None => Err(Lost::Untold),
+                };
+            }
+        }
+        Err(Lost::Untold)
+    }
+
+    /// Where the field of the field of .. comes from, by these names.
+    fn chain(&self, start: Origin, names: &[Bytes]) -> Result<Origin, Lost> {
+        let mut origin = start;
+        for name in names {
+            origin = self.field(&origin, name.as_slice())?;
+        }
+        Ok(origin)
+    }
+
+    fn field(&self, origin: &Origin, name: &[u8]) -> Result<Origin, Lost> {
+        match from_utf8(name) {
+            Ok(name) => self.document.field(origin, name),
+            Err(_) => Err(Lost::Untold),
+        }
+    }
+
+    /// Where what `index` gives for a key comes from.
+    fn entry(&self, origin: &Origin, key: &Operand) -> Result<Origin, Lost> {
+        match key {
+            Operand::Text(key) => self.field(origin, key.as_slice()),
+            Operand::Number(_) => self.document.elements(origin),
+            _ => Err(Lost::Untold),
+        }
+    }
+
+    /// Where the value of a pipeline comes from.
+    #[cycle(value)]
+    fn pipeline(&self, levels: usize, commands: &[Command]) -> Result<Origin, Lost> {
+        if levels == 0 {
+            return Err(Lost::Untold);
+        }
+        let fewer = levels - 1;
+        match commands {
+            [command] => self.command(fewer, command.operands.as_slice()),
+            _ => Err(Lost::Untold),
+        }
+    }
+
+    /// Where the value of a command comes from.
+    #[cycle(value)]
+    fn command(&self, levels: usize, operands: &[Operand]) -> Result<Origin, Lost> {
+        match operands {
+            [operand] => self.operand(levels, operand),
+            [Operand::Function(Func::Index), value, keys @ ..] => {
+                let mut origin = self.operand(levels, value)?;
+                for key in keys {
+                    origin = self.entry(&origin, key)?;
+                }
+                Ok(origin)
+            }
+            [Operand::Function(Func::Slice), value, ..] => {
+                let mut origin = self.operand(levels, value)?;
+                origin.is_whole = false;
+                Ok(origin)
+            }
+            _ => Err(Lost::Untold),
+        }
+    }
+
+    /// Where the value of an operand comes from.
+    #[cycle(value)]
+    fn operand(&self, levels: usize, operand: &Operand) -> Result<Origin, Lost> {
+        match operand {
+            Operand::Dot => self.value(DOT),
+            Operand::Fields(fields) => self.chain(self.value(DOT)?, fields.as_slice()),
+            Operand::Variable { name, fields } => {
+                self.chain(self.value(name.as_slice())?, fields.as_slice())
+            }
+            Operand::Group { commands, fields } => self.chain(
+                self.pipeline(levels, commands.as_slice())?,
+                fields.as_slice(),
+            ),
+            _ => Err(Lost::Untold),
+        }
+    }
+
+    /// Notes where a value comes from of which the alarm of this index speaks.
+    fn ask(&mut self, index: usize, found: Result<Origin, Lost>) -> Result<(), AllocError> {
+        let found = if_told(found)?;
+        if let Some(asked) = self.asked.get_mut(index) {
+            widen(self.document, &mut asked.origin, &found)?;
+        }
+        Ok(())
+    }
+
+    /// Looks for what an alarm speaks of among the fields of a value.
+    fn look_at(
+        &mut self,
+        index: usize,
+        wanted: Wanted<'_>,
+        start: Result<Origin, Lost>,
+        names: &[Bytes],
+    ) -> Result<(), AllocError> {
+        let Wanted::Field(wanted) = wanted else {
+            return Ok(());
+        };
+        let mut origin = start;
+        for name in names {
+            let before = origin;
+            origin = match &before {
+                Ok(origin) => self.field(origin, name.as_slice()),
+                Err(lost) => Err(*lost),
+            };
+            if name.as_slice() == wanted {
+                self.ask(index, before)?;
+            }
+        }
+        Ok(())
+    }
+
+    /// Looks for the list of which a key of `index` needs this many items.
+    fn look_along(
+        &mut self,
+        index: usize,
+        count: u64,
+        start: Result<Origin, Lost>,
+        keys: &[Operand],
+    ) -> Result<(), AllocError> {
+        let mut origin = start;
+        for key in keys {
+            let list = origin;
+            origin = match &list {
+                Ok(origin) => self.entry(origin, key),
+                Err(lost) => Err(*lost),
+            };
+            if is_number(key, count.saturating_sub(1)) {
+                self.ask(index, if_whole(list))?;
+            }
+        }
+        Ok(())
+    }
+
+    /// Looks whether a command calls the function that needs this many items of a list.
+    fn look_call(
+        &mut self,
+        levels: usize,
+        index: usize,
+        wanted: Wanted<'_>,
+        operands: &[Operand],
+    ) -> Result<(), AllocError> {
+        let Wanted::Items(func, count) = wanted else {
+            return Ok(());
+        };
+        match operands {
+            [Operand::Function(called), list, rest @ ..] if *called == func => {
+                let start = self.operand(levels, list);
+                match rest {
+                    keys if func == Func::Index => self.look_along(index, count, start, keys),
+                    [.., last] if is_number(last, count) => self.ask(index, if_whole(start)),
+                    _ => Ok(()),
+                }
+            }
+            _ => Ok(()),
+        }
+    }
+
+    /// Looks for what an alarm speaks of in commands.
+    #[cycle(look)]
+    fn look_into(
+        &mut self,
+        levels: usize,
+        index: usize,
+        wanted: Wanted<'_>,
+        commands: &[Command],
+    ) -> Result<(), AllocError> {
+        if levels == 0 {
+            return self.ask(index, Err(Lost::Untold));
+        }
+        let fewer = levels - 1;
+        for command in commands {
+            let operands = command.operands.as_slice();
+            self.look_call(fewer, index, wanted, operands)?;
+            for operand in operands {
+                self.look_operand(fewer, index, wanted, operand)?;
+            }
+        }
+        Ok(())
+    }
+
+    /// Looks for what an alarm speaks of in an operand.
+    #[cycle(look)]
+    fn look_operand(
+        &mut self,
+        levels: usize,
+        index: usize,
+        wanted: Wanted<'_>,
+        operand: &Operand,
+    ) -> Result<(), AllocError> {
+        let (start, fields) = match operand {
+            Operand::Fields(fields) => (self.value(DOT), fields),
+            Operand::Variable { name, fields } => (self.value(name.as_slice()), fields),
+            Operand::Group { commands, fields } => {
+                self.look_into(levels, index, wanted, commands.as_slice())?;
+                (self.pipeline(levels, commands.as_slice()), fields)
+            }
+            _ => return Ok(()),
+        };
+        self.look_at(index, wanted, start, fields.as_slice())
+    }
+
+    /// Looks for what the alarms speak of in the pipeline of an action of this line, which may be that of a range.
+    fn look(&mut self, line: u64, commands: &[Command], is_range: bool) -> Result<(), AllocError> {
+        let doubts = self.doubts;
+        for (index, doubt) in doubts.iter().enumerate() {
+            if doubt.line == line && doubt.template.as_slice() == self.name {
+                match &doubt.cause {
+                    Cause::Range(_) if is_range => {
+                        let found = self.pipeline(LEVELS, commands);
+                        self.ask(index, found)?;
+                    }
+                    cause => {
+                        if let Some(wanted) = Wanted::of(cause) {
+                            self.look_into(LEVELS, index, wanted, commands)?;
+                        }
+                    }
+                }
+            }
+        }
+        Ok(())
+    }
+
+    /// Puts a variable, or dot, into scope.
+    fn declare(&mut self, name: &'w [u8], origin: &Option<Origin>) -> Result<(), AllocError> {
+        let origin = copy_known(self.document, origin)?;
+        self.scope.push(Source { name, origin })?;
+        Ok(())
+    }
+
+    /// Binds the variables of a header to a value.
+    fn bind(&mut self, binding: &'w Binding, origin: &Option<Origin>) -> Result<(), AllocError> {
+        match binding {
+            Binding::Declare(name) => self.declare(name.as_slice(), origin),
+            Binding::DeclarePair(pair) => {
+                self.declare(pair.key.as_slice(), &None)?;
+                self.declare(pair.element.as_slice(), origin)
+            }
+            Binding::Unbound | Binding::Assign(_) => Ok(()),
+        }
+    }
+
+    /// Visits nodes, and forgets the variables that they declare.
+    #[cycle(nodes)]
+    fn nodes(&mut self, levels: usize, nodes: &'w [Node]) -> Result<(), AllocError> {
+        if levels == 0 {
+            return Ok(());
+        }
+        let fewer = levels - 1;
+        let mark = self.scope.len();
+        for node in nodes {
+            self.node(fewer, node)?;
+        }
+        self.scope.truncate(mark);
+        Ok(())
+    }
+
+    /// Visits a node.
+    #[cycle(nodes)]
+    fn node(&mut self, levels: usize, node: &'w Node) -> Result<(), AllocError> {
+        match &node.what {
+            NodeKind::Text(_) | NodeKind::Break | NodeKind::Continue => Ok(()),
+            NodeKind::Action(header) => {
+                let origin = self.header(node.line, header, false)?;
+                self.bind(&header.binding, &origin)
+            }
+            NodeKind::Control(control) => self.control(levels, node.line, control),
+            NodeKind::Template(name, Some(pipeline)) => {
+                let commands = pipeline.commands.as_slice();
+                self.look(node.line, commands, false)?;
+                let origin = if_told(self.pipeline(LEVELS, commands))?;
+                let name = name.as_slice();
+                self.handed.push(Source { name, origin })?;
+                Ok(())
+            }
+            NodeKind::Template(name, None) => {
+                let name = name.as_slice();
+                self.handed.push(Source { name, origin: None })?;
+                Ok(())
+            }
+        }
+    }
+
+    /// Looks at a header, and gives where its value comes from.
+    fn header(
+        &mut self,
+        line: u64,
+        header: &'w Header,
+        is_range: bool,
+    ) -> Result<Option<Origin>, AllocError> {
+        let commands = header.pipeline.commands.as_slice();
+        self.look(line, commands, is_range)?;
+        if_told(self.pipeline(LEVELS, commands))
+    }
+
+    /// Visits a control.
+    #[cycle(nodes)]
+    fn control(
+        &mut self,
+        levels: usize,
+        line: u64,
+        control: &'w ControlNode,
+    ) -> Result<(), AllocError> {
+        let mark = self.scope.len();
+        let is_range = control.control == Control::Range;
+        let value = self.header(line, &control.header, is_range)?;
+        let inside = match &value {
+            Some(origin) if is_range => if_told(self.document.elements(origin))?,
+            _ => copy_known(self.document, &value)?,
+        };
+        self.bind(&control.header.binding, &inside)?;
+        if control.control != Control::If {
+            self.declare(DOT, &inside)?;
+        }
+        self.nodes(levels, control.body.as_slice())?;
+        self.scope.truncate(mark);
+        let outside = if is_range { None } else { inside };
+        self.bind(&control.header.binding, &outside)?;
+        self.nodes(levels, control.other.as_slice())?;
+        self.scope.truncate(mark);
+        Ok(())
+    }
+}
+
+/// Adds the names of the variables that nodes assign.
+fn add_assigned<'w>(
+    levels: usize,
+    nodes: &'w [Node],
+    names: &mut Vec<&'w [u8]>,
+) -> Result<(), AllocError> {
+    if levels == 0 {
+        return Ok(());
+    }
+    let fewer = levels - 1;
+    for node in nodes {
+        let header = match &node.what {
+            NodeKind::Action(header) => Some(header),
+            NodeKind::Control(control) => {
+                add_assigned(fewer, control.body.as_slice(), names)?;
+                add_assigned(fewer, control.other.as_slice(), names)?;
+                Some(&control.header)
+            }
+            _ => None,
+        };
+        if let Some(
+            Header {
+                binding: Binding::Assign(name),
+                ..
+            },
+        ) = header
+        {
+            names.push(name.as_slice())?;
+        }
+    }
+    Ok(())
+}
+
+/// Visits a template that is passed this. Gives what it passes to others.
+fn walked<'w>(
+    document: Document<'w>,
+    doubts: &'w [Doubt],
+    asked: Vec<Asked>,
+    dot: &Source<'w>,
+    tree: &'w Tree,
+) -> Result<Walk<'w>, AllocError> {
+    let alloc = document.alloc;
+    let mut assigned = Vec::new(alloc);
+    add_assigned(MOST_CONTROLS, tree.nodes.as_slice(), &mut assigned)?;
+    let mut walk = Walk {
+        document,
+        name: dot.name,
+        doubts,
+        asked,
+        handed: Vec::new(alloc),
+        scope: Vec::new(alloc),
+        assigned,
+    };
+    walk.declare(b"", &dot.origin)?;
+    walk.declare(DOT, &dot.origin)?;
+    walk.nodes(MOST_CONTROLS, tree.nodes.as_slice())?;
+    Ok(walk)
+}
+
+/// Notes what is handed to a template. Gives whether that is more than was known.
+fn hand<'w>(
+    document: Document<'w>,
+    dots: &mut Vec<Source<'w>>,
+    handed: Source<'w>,
+) -> Result<bool, AllocError> {
+    let place = dots.iter().position(|dot| dot.name == handed.name);
+    match place.and_then(|place| dots.get_mut(place)) {
+        Some(dot) => widen(document, &mut dot.origin, &handed.origin),
+        None => {
+            dots.push(handed)?;
+            Ok(true)
+        }
+    }
+}
+
+/// Visits each template that is reached once. Gives whether more was found to be passed.
+fn round<'w>(
+    document: Document<'w>,
+    set: &'w Set,
+    dots: &mut Vec<Source<'w>>,
+) -> Result<bool, AllocError> {
+    let none: &[Doubt] = &[];
+    let mut is_more = false;
+    for index in 0..=set.len() {
+        let Some(dot) = dots.get(index) else {
+            break;
+        };
+        let Some(tree) = set.get(dot.name) else {
+            continue;
+        };
+        let walk = walked(document, none, Vec::new(document.alloc), dot, tree)?;
+        let Walk { handed, .. } = walk;
+        for source in handed.into_iter() {
+            if hand(document, dots, source)? {
+                is_more = true;
+            }
+        }
+    }
+    Ok(is_more)
+}
+
+/// For each alarm where the values come from of which it speaks, in a run of the template of this name.
+pub(crate) fn asked_of<'w>(
+    document: Document<'w>,
+    set: &'w Set,
+    name: &'w [u8],
+    doubts: &'w [Doubt],
+) -> Result<Vec<Asked>, AllocError> {
+    let alloc = document.alloc;
+    let mut dots: Vec<Source<'w>> = Vec::new(alloc);
+    dots.push(Source {
+        name,
+        origin: if_told(Origin::whole(alloc))?,
+    })?;
+    let mut asked: Vec<Asked> = Vec::new(alloc);
+    for rounds in 0..MOST_ROUNDS {
+        if !round(document, set, &mut dots)? {
+            break;
+        }
+        if rounds + 1 == MOST_ROUNDS {
+            return Ok(asked);
+        }
+    }
+    for _ in doubts {
+        asked.push(Asked {
+            origin: Some(Origin::new(alloc)),
+        })?;
+    }
+    for dot in dots.as_slice() {
+        if let Some(tree) = set.get(dot.name) {
+            let walk = walked(document, doubts, asked, dot, tree)?;
+            let Walk { asked: more, .. } = walk;
+            asked = more;
+        }
+    }
+    Ok(asked)
+}

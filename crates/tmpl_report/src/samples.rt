@@ -1,0 +1,10 @@
+//! Values of a JSON Schema for which a template fails.
+
+mod failing;
+mod laws;
+mod search;
+mod smaller;
+
+pub use failing::Failure;
+pub use laws::failure_refutes;
+pub use search::failures_of;

@@ -1,0 +1,391 @@
+//! The search for values of a schema for which a template fails.
+ghost use Rattle.std.specs.Prelude.{IfOk, unwrap_or};
+ghost use Rattle.serde_json.specs.View.{view};
+ghost use Rattle.tmpl_meaning.specs.declared.missing_key.MissingKey.{MissingKey};
+ghost use Rattle.tmpl_syntax.specs.View.{set_view};
+ghost use Rattle.tmpl_report.specs.Failing.{AreRight, rules_by};
+
+use crate::samples::failing::{Failure, MOST_TEXT, Nowhere, Question, is_doubted};
+use crate::samples::smaller::without;
+use serde_json::Value;
+use std::alloc::{AllocError, Global};
+use tmpl_engine::{Data, DataFault, MissingKey, RenderError, Renderer, RunFault, Set};
+use tmpl_json_schema::{Draw, Flip, LEVELS, conforms};
+use tmpl_schema::{Cause, Doubt};
+use tmpl_values::Bytes;
+
+/// The most renders from one beginning, and the most bytes of all values that are rendered and of what is rendered.
+const MOST_TRIES: usize = 500;
+
+const MOST_SEARCHED: usize = 4_000_000;
+
+/// The most renders of making one value smaller and of making all values smaller, and the most bytes for all of that.
+const MOST_SMALLER: usize = 200;
+
+const MOST_ALL_SMALLER: usize = 1_000;
+
+const MOST_SMALLER_BYTES: usize = 1_000_000;
+
+/// The most parts of all values that are made.
+const MOST_WORK: usize = 50_000;
+
+/// How often it is gone on from the value over which the template comes farthest.
+const MOST_ROUNDS: usize = 10;
+
+/// How far a run comes: to its end, or else to a line, and less by its text.
+const END: u64 = u64::MAX;
+
+const LINE: u64 = 10_000_000;
+
+/// The most bytes of a value that is rendered.
+const MOST_BYTES: usize = 100_000;
+
+/// A value for which a doubt is right, before it is made smaller.
+#[derive(Drop)]
+struct Case {
+    value: Value,
+    /// How many bytes its text has.
+    size: usize,
+}
+
+/// How far a run comes, over how many bytes, how many it puts out, and the number of the doubt that it shows to be right,
+/// if it shows one.
+#[derive(Clone, Copy)]
+struct Outcome {
+    progress: u64,
+    size: usize,
+    text: usize,
+    shown: Option<usize>,
+}
+
+/// That of a value that is not rendered.
+const NO_RUN: Outcome = Outcome {
+    progress: 0,
+    size: 0,
+    text: 0,
+    shown: None,
+};
+
+/// How many renders may still be made, and over how many bytes.
+#[derive(Clone, Copy)]
+struct Budget {
+    renders: usize,
+    bytes: usize,
+}
+
+impl Budget {
+    /// What is left after a render.
+    fn after(self, outcome: Outcome) -> Budget {
+        Budget {
+            renders: self.renders.saturating_sub(1),
+            bytes: self
+                .bytes
+                .saturating_sub(outcome.size)
+                .saturating_sub(outcome.text),
+        }
+    }
+
+    /// Whether nothing is left.
+    fn is_spent(self) -> bool {
+        self.renders == 0 || self.bytes == 0
+    }
+}
+
+/// Between how many was chosen at each point, and how far the run came.
+#[derive(Drop)]
+struct Trial {
+    counts: Vec<usize>,
+    progress: u64,
+}
+
+/// What was found for each doubt, and how much may still be done.
+#[derive(Drop)]
+struct Hunt {
+    cases: Vec<Option<Case>>,
+    missing: usize,
+    budget: Budget,
+    work: usize,
+}
+
+impl Question<'_> {
+    /// Renders the template over a value, if that conforms. Gives what comes of it: of one doubt alone, where it is
+    /// asked for.
+    fn outcome(&self, value: &Value, only: Option<usize>) -> Result<Outcome, AllocError> {
+        if !conforms(self.root, LEVELS, self.root, value) {
+            return Ok(NO_RUN);
+        }
+        let data = value.to_string(self.alloc)?;
+        if data.len() > MOST_BYTES {
+            return Ok(NO_RUN);
+        }
+        match Data::from_json(self.alloc, data.as_bytes()) {
+            Ok(tree) => self.outcome_over(&tree, data.len(), only),
+            Err(DataFault::OutOfMemory) => Err(AllocError),
+            Err(_) => Ok(NO_RUN),
+        }
+    }
+
+    fn outcome_over(
+        &self,
+        tree: &Data,
+        size: usize,
+        only: Option<usize>,
+    ) -> Result<Outcome, AllocError> {
+        let mut out = Nowhere::new();
+        let ended = self.render(tree, &mut out);
+        let text = MOST_TEXT.saturating_sub(out.room);
+        match ended {
+            Err(RenderError::Fault(fault)) => {
+                let line = if fault.template == self.name {
+                    fault.line
+                } else {
+                    0
+                };
+                Ok(Outcome {
+                    progress: line.saturating_mul(LINE).saturating_add(text as u64),
+                    size,
+                    text,
+                    shown: self.right_doubt(&fault, only),
+                })
+            }
+            Err(RenderError::OutOfMemory) => Err(AllocError),
+            Ok(()) => Ok(Outcome {
+                progress: END,
+                size,
+                text,
+                shown: None,
+            }),
+            Err(RenderError::NoTemplate | RenderError::WriteFailed) => Ok(Outcome {
+                size,
+                text,
+                ..NO_RUN
+            }),
+        }
+    }
+
+    /// The number of the first doubt that a fault shows to be right, or of one of them alone.
+    fn right_doubt(&self, fault: &RunFault<'_>, only: Option<usize>) -> Option<usize> {
+        for (index, doubt) in self.doubts.iter().enumerate() {
+            let is_asked = only.is_none() || only == Some(index);
+            if is_asked && is_doubted(doubt, fault, self.stops) {
+                return Some(index);
+            }
+        }
+        None
+    }
+
+    /// Makes the value of these choices, and renders the template over it.
+    fn try_flips(
+        &self,
+        hunt: &mut Hunt,
+        is_lean: bool,
+        flips: &[Flip],
+    ) -> Result<Trial, AllocError> {
+        let mut draw = Draw::new(self.alloc, self.root, is_lean, flips);
+        let drawn = draw.whole()?;
+        hunt.work = hunt.work.saturating_sub(draw.parts);
+        let Draw { counts, .. } = draw;
+        let Some(value) = drawn else {
+            hunt.budget = hunt.budget.after(NO_RUN);
+            return Ok(Trial {
+                counts,
+                progress: 0,
+            });
+        };
+        let outcome = self.outcome(&value, None)?;
+        hunt.budget = hunt.budget.after(outcome);
+        if let Some(doubt) = outcome.shown {
+            let size = outcome.size;
+            hunt.keep(doubt, Case { value, size });
+        }
+        Ok(Trial {
+            counts,
+            progress: outcome.progress,
+        })
+    }
+
+    /// Tries each other choice at each point beside these, and adds to them the one with which the template comes
+    /// farther, if there is one.
+    fn sweep(
+        &self,
+        hunt: &mut Hunt,
+        is_lean: bool,
+        flips: &mut Vec<Flip>,
+    ) -> Result<bool, AllocError> {
+        let Trial { counts, progress } = self.try_flips(hunt, is_lean, flips.as_slice())?;
+        let mut best = progress;
+        let mut better: Option<Flip> = None;
+        for (point, count) in counts.iter().enumerate() {
+            for away in 1..*count {
+                if hunt.is_done() {
+                    return Ok(false);
+                }
+                let flip = Flip { point, away };
+                flips.push(flip)?;
+                let Trial { progress, .. } = self.try_flips(hunt, is_lean, flips.as_slice())?;
+                let _ = flips.pop();
+                if progress > best {
+                    best = progress;
+                    better = Some(flip);
+                }
+            }
+        }
+        match better {
+            Some(flip) => {
+                flips.push(flip)?;
+                Ok(true)
+            }
+            None => Ok(false),
+        }
+    }
+
+    /// Goes from value to value over which the template comes farther, and looks around each; at last two steps.
+    fn climb(&self, hunt: &mut Hunt, is_lean: bool) -> Result<(), AllocError> {
+        let mut flips: Vec<Flip> = Vec::new(self.alloc);
+        for _ in 0..MOST_ROUNDS {
+            if !self.sweep(hunt, is_lean, &mut flips)? {
+                break;
+            }
+        }
+        let Trial { counts, .. } = self.try_flips(hunt, is_lean, flips.as_slice())?;
+        for (point, count) in counts.iter().enumerate() {
+            for away in 1..*count {
+                if hunt.is_done() {
+                    return Ok(());
+                }
+                flips.push(Flip { point, away })?;
+                self.sweep(hunt, is_lean, &mut flips)?;
+                let _ = flips.pop();
+            }
+        }
+        Ok(())
+    }
+
+    /// The value of a doubt, made smaller as long as the template fails in the same way.
+    fn smaller(&self, index: usize, case: Case, budget: &mut Budget) -> Result<Value, AllocError> {
+        let mut case = case;
+        let mut part: usize = 1;
+        for _ in 0..MOST_SMALLER {
+            if budget.is_spent() {
+                break;
+            }
+            let mut left = part;
+            let value = without(self.alloc, &case.value, &mut left)?;
+            if left > 0 {
+                break;
+            }
+            let outcome = self.outcome(&value, Some(index))?;
+            *budget = budget.after(outcome);
+            let size = outcome.size;
+            match outcome.shown {
+                Some(_) => case = Case { value, size },
+                None => part = part.saturating_add(1),
+            }
+        }
+        let Case { value, .. } = case;
+        Ok(value)
+    }
+}
+
+impl Hunt {
+    /// Whether each doubt has a value, or enough was done.
+    fn is_done(&self) -> bool {
+        self.missing == 0 || self.work == 0 || self.budget.is_spent()
+    }
+
+    /// Keeps a value for the doubt of this number, unless there is one.
+    fn keep(&mut self, doubt: usize, case: Case) {
+        if let Some(place) = self.cases.get_mut(doubt) {
+            if place.is_none() {
+                *place = Some(case);
+                self.missing = self.missing.saturating_sub(1);
+            }
+        }
+    }
+}
+
+/// What is searched for at first: nothing was found.
+fn new_hunt(question: &Question<'_>) -> Result<Hunt, AllocError> {
+    let mut cases = Vec::new(question.alloc);
+    let mut missing: usize = 0;
+    for doubt in question.doubts {
+        cases.push(None)?;
+        if !matches!(&doubt.cause, Cause::Variables) {
+            missing = missing.saturating_add(1);
+        }
+    }
+    Ok(Hunt {
+        cases,
+        missing,
+        budget: Budget {
+            renders: MOST_TRIES,
+            bytes: MOST_SEARCHED,
+        },
+        work: MOST_WORK,
+    })
+}
+
+/// Searches for a value for each doubt, first from little data, then from much, and makes it smaller.
+fn values_found(question: &Question<'_>) -> Result<Vec<Option<Value>>, AllocError> {
+    let mut hunt = new_hunt(question)?;
+    question.climb(&mut hunt, true)?;
+    hunt.budget.renders = MOST_TRIES;
+    question.climb(&mut hunt, false)?;
+    let Hunt { cases, .. } = hunt;
+    let mut values = Vec::new(question.alloc);
+    let mut budget = Budget {
+        renders: MOST_ALL_SMALLER,
+        bytes: MOST_SMALLER_BYTES,
+    };
+    for (index, case) in cases.into_iter().enumerate() {
+        values.push(match case {
+            Some(case) => Some(question.smaller(index, case, &mut budget)?),
+            None => None,
+        })?;
+    }
+    Ok(values)
+}
+
+/// For each doubt of a template over data of the document a value for which it is right, as small as was found, if one
+/// was: it conforms to the document by all its keywords, and the template fails over it at the place of the doubt.
+///
+/// The doubts are those that `check_document` gives for the set, the name, the document, the mode and the stops.
+///
+/// Each failure that is given is right of the doubt at its place: its data conform to the document, as far as
+/// `check_document` looks, and the run over them has a fault at the line and in the template of the doubt that is no call of
+/// a stop, by the mode that is asked for, or else `MissingKey::Error`, 20,000 steps and a depth of 50. So the doubt is no
+/// false alarm (law `failure_refutes`).
+///
+/// # Errors
+///
+/// Where memory was refused.
+pub fn failures_of(
+    alloc: Global,
+    set: &Set,
+    name: &[u8],
+    document: &Value,
+    mode: Option<MissingKey>,
+    stops: &[Bytes],
+    doubts: &[Doubt],
+) -> Result<Vec<Option<Failure>>, AllocError>
+    ensures { IfOk result (λ failures. AreRight (record {
+      rules = rules_by (unwrap_or mode MissingKey.Error);
+      stops = stops.now;
+      set = set_view set.now;
+      name = name.now;
+      schema = view document.now;
+    }) doubts.now failures.items) }
+{
+    let renderer = Renderer::new(alloc, set)?;
+    let question = Question {
+        alloc,
+        renderer: &renderer,
+        name,
+        root: document,
+        mode: mode.unwrap_or(MissingKey::Error),
+        stops,
+        doubts,
+    };
+    let values = values_found(&question)?;
+    question.failures(values)
+}

@@ -1,3 +1,0 @@
-pub mod Failing
-pub mod Laws
-pub mod computed

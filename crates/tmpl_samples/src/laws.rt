@@ -1,7 +1,0 @@
-//! Laws of the definitions.
-ghost use Rattle.tmpl_samples.specs.Laws.{FailureRefutes};
-
-/// The law that an alarm of which a failure is right is no false alarm: the template does fail over data of the schema.
-pub fn failure_refutes()
-    ensures { FailureRefutes }
-{}
