@@ -56,7 +56,7 @@ fn run(rt: &HostRuntime) -> Result<u8, Stop> {
             write_all(rt, version_line(rt)?.as_str())?;
             Ok(0)
         }
-        // where nobody can be told, the status still says it
+        // where no message can be written, the exit status still says it
         Err(error) if error.use_stderr() => {
             let _ = error.print(rt);
             Ok(2)
@@ -68,7 +68,7 @@ fn run(rt: &HostRuntime) -> Result<u8, Stop> {
     }
 }
 
-/// Checks the files of a request, and puts out what is found.
+/// Checks the files of a request, and prints what is found.
 fn check(rt: &HostRuntime, request: &Request<'_>) -> Result<u8, Stop> {
     if request.is_to_infer {
         return infer(rt, request);
@@ -121,7 +121,7 @@ fn infer(rt: &HostRuntime, request: &Request<'_>) -> Result<u8, Stop> {
     }
 }
 
-/// Puts out what is found.
+/// Prints what is found.
 fn put_out(rt: &HostRuntime, format: Format, findings: &Findings<'_>) -> Result<(), Stop> {
     write_all(rt, findings.text(rt.alloc(), format)?.as_str())
 }

@@ -1,4 +1,4 @@
-//! What the words ask for.
+//! What the arguments ask for.
 
 use clap::{Arg, ArgAction, ArgMatches, Command};
 use std::alloc::{AllocError, Global};
@@ -11,7 +11,7 @@ static FORMATS: [&str; 3] = ["text", "json", "sarif"];
 /// The words of `--missingkey`.
 static MODES: [&str; 4] = ["default", "invalid", "zero", "error"];
 
-/// What the words ask for.
+/// What the arguments ask for.
 #[derive(Drop)]
 pub(crate) struct Request<'a> {
     pub(crate) data_file: Option<&'a str>,

@@ -16,7 +16,7 @@ use crate::pattern::is_of_pattern;
 use serde_json::{Map, Number, Value};
 use std::str::from_utf8;
 
-/// The largest whole number that has an exact neighbor among floats.
+/// The largest integer that has an exact neighbor among floats.
 const EXACT: i64 = 9_007_199_254_740_992;
 
 /// How many levels of a schema are followed, one into the other.
@@ -345,7 +345,7 @@ fn is_in_order(one: &Number, other: &Number, is_strict: bool) -> bool {
     }
 }
 
-/// Whether a bound of a schema is none of its values: so draft-04 says it, by a truth value.
+/// Whether a bound of a schema is none of its values: draft-04 has it so, by a boolean.
 pub(crate) fn is_excluded(schema: &Value, keyword: &str) -> bool {
     schema.get(keyword).and_then(Value::as_bool) == Some(true)
 }

@@ -2,7 +2,7 @@
 use Rattle.std.specs.Prelude.{ℕ, nat_eq, List, [], ◌∷◌, length, drop, find, slice_get, codes, Option, option_map}
 use Rattle.std.specs.List.{filter_map, range_with_len, starts_with}
 
--- what is found in a text, with what is said of it
+-- what is found in a text, with the message about it
 abbrev pub signs : List (List ℕ × List ℕ)
 signs =
     (codes "}}", codes "\"}}\" closes no action: it is text")
@@ -10,11 +10,11 @@ signs =
     ∷ (codes "{%", codes "\"{%\" begins no action: write {{")
     ∷ (239 ∷ 187 ∷ 191 ∷ [], codes "a byte order mark is text: save the file without it") ∷ []
 
--- what is said of the sign that stands in a text after this many bytes, if one does
+-- the message about the sign that stands in a text after this many bytes, if one does
 abbrev pub sign_at : List ℕ → ℕ → Option (List ℕ)
 sign_at bytes at = option_map (λ row. row.1) (find (λ row. starts_with nat_eq (drop at bytes) row.0) signs)
 
--- the signs that stand in a text at these places: how many bytes of it stand before each, and what is said of it
+-- the signs that stand in a text at these places: how many bytes of it stand before each, and its message
 abbrev pub signs_in : List ℕ → List ℕ → List (ℕ × List ℕ)
 signs_in bytes places = filter_map (λ at. option_map (λ words. (at, words)) (sign_at bytes at)) places
 

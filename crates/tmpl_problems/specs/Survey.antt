@@ -60,7 +60,7 @@ names_from words first pieces =
 abbrev pub named_place : Named → Place
 named_place n = record { start = n.start; line = n.line; column = n.column }
 
--- the name is told where the action begins that gives it
+-- the name is reported where the action begins that gives it
 pub record IsNamed (file : List ℕ) (given : ℕ × List ℕ) (n : Named) : Type 0 where
   pub name : n.name.now ≡ given.1
   pub begins : BeginsAt file given.0 n.start
@@ -83,7 +83,7 @@ suspicious pieces = filter_map sign_of pieces
 abbrev pub warned_place : Warning → Place
 warned_place w = record { start = w.start; line = w.line; column = w.column }
 
--- a sign after this many bytes of a text is told in its words, where it stands in the file
+-- a sign after this many bytes of a text is reported by its message, where it stands in the file
 pub record IsWarning (file : List ℕ) (sign : List ℕ × ℕ × List ℕ) (w : Warning) : Type 0 where
   pub begins : ℕ
   pub stands : StandsAt file begins sign.0
@@ -120,7 +120,7 @@ firsts known [] = []
 firsts known (d ∷ ds) =
     if list_any (bytes_eq d.name) known then firsts (d.name ∷ known) ds else d ∷ firsts (d.name ∷ known) ds
 
--- nothing may be said of it, or its name is used in its piece or in one after it
+-- nothing may be reported of it, or its name is used in its piece or in one after it
 abbrev pub is_used : List (ℕ × List ℕ) → Declared → Bool
 is_used uses d = d.is_first || list_any (λ u. nat_le d.piece u.0 && bytes_eq d.name u.1) uses
 
@@ -128,7 +128,7 @@ is_used uses d = d.is_first || list_any (λ u. nat_le d.piece u.0 && bytes_eq d.
 abbrev pub unused : List Piece → List Declared
 unused pieces = filter (λ d. not (is_used (used_from 0 pieces) d)) (firsts [] (declared_from 0 pieces))
 
--- the variable is told as unused, where the action begins that declares it
+-- the variable is reported as unused, where the action begins that declares it
 pub record IsUnused (file : List ℕ) (d : Declared) (w : Warning) : Type 0 where
   pub words : string_bytes w.text ≡ unused_words d.name
   pub begins : BeginsAt file d.piece w.start

@@ -17,7 +17,7 @@ const MOST_LEVELS: u64 = 8;
 
 const MOST_BYTES: usize = 200;
 
-/// What is said of what fails at each run that gets to it.
+/// The message about what fails at each run that gets to it.
 pub(crate) fn failing_text(alloc: Global, failing: Failing<'_>) -> Result<String, AllocError> {
     let said = Sentence::new(alloc).say("always fails: ");
     match failing {

@@ -337,7 +337,7 @@ fn pass_failing(
     push_failing(failing, file, place, opens, text)
 }
 
-/// What is said of the action of these tokens, if it has a command that fails at each run that gets to it.
+/// The message about the action of these tokens, if it has a command that fails at each run that gets to it.
 fn failing_words(alloc: Global, tokens: &[Token<'_>]) -> Result<Option<String>, AllocError>
     ensures { IfOk result (λ o. is_some o ≡ has_failing (map token_of tokens.now)) }
 {
@@ -453,7 +453,7 @@ fn named_at(name: &[u8], place: Place) -> Named<'_>
     }
 }
 
-/// What is said of a variable of this name that nothing uses.
+/// The message about a variable of this name that nothing uses.
 fn unused_text(alloc: Global, name: &[u8]) -> Result<String, AllocError>
     ensures { IfOk result (λ t. string_bytes t ≡ token.unused_words name.now) }
 {
@@ -464,7 +464,7 @@ fn unused_text(alloc: Global, name: &[u8]) -> Result<String, AllocError>
         .finish()
 }
 
-/// A sign in a text: how many bytes of the text stand before it, and what is said of it.
+/// A sign in a text: how many bytes of the text stand before it, and its message.
 #[derive(Clone, Copy)]
 struct Sign {
     at: usize,
@@ -484,7 +484,7 @@ fn first_sign(text: &[u8]) -> Option<Sign>
     None
 }
 
-/// What is said of the sign that stands in a text after this many bytes, if one does.
+/// The message about the sign that stands in a text after this many bytes, if one does.
 fn sign_at(text: &[u8], at: usize) -> Option<&'static str>
     ensures { option_copied result ≡ sign.sign_at text.now at }
 {

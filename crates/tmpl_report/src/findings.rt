@@ -36,7 +36,7 @@ use tmpl_syntax::{NameHash, Set, base_name};
 /// How the name of a template begins that is not there so that its call ends the run.
 const STOP: &[u8] = b"stop: ";
 
-/// How what is found is told.
+/// How findings are printed.
 #[derive(Clone, Copy)]
 pub enum Format {
     /// A line for each finding and each note, as compilers write them.
@@ -47,7 +47,7 @@ pub enum Format {
     Sarif,
 }
 
-/// What is found, file by file. Contracts see the list of it, in the order in which it is told.
+/// What is found, file by file. Contracts see the list of it, in the order in which it is printed.
 #[derive(Drop)]
 pub struct Findings<'a> {
     pub(crate) entries: Vec<Entry<'a>>,
@@ -93,11 +93,11 @@ impl<'a> Findings<'a> {
         self.entries.is_empty()
     }
 
-    /// The text that tells them, as it is put out.
+    /// The text of the report, as it is printed.
     ///
     /// # Errors
     ///
-    /// Where memory was refused.
+    /// Where memory ran out.
     pub fn text(&self, alloc: Global, format: Format) -> Result<String, AllocError>
         ensures { IfOk result (λ t. string_bytes t ≡ told format self.now) }
     {
@@ -461,7 +461,7 @@ impl<'a> Findings<'a> {
         }
     }
 
-    /// Warns of the keys that stand twice in data.
+    /// Warns of the keys that are duplicated in data.
     fn warn_of_keys(&mut self, file: &'a str, warnings: Vec<DataProblem>) -> Result<(), AllocError>
         ensures { OnOk result (errors_in self.new ≡ errors_in self.old) }
     {
@@ -556,7 +556,7 @@ fn problem_entry<'a>(
     })
 }
 
-/// What is said of a template of this name.
+/// The message about a template of this name.
 fn about(alloc: Global, before: &str, name: &[u8], after: &str) -> Result<String, AllocError> {
     let said = Sentence::new(alloc).say(before).say("\"");
     say_name(said, name).say("\"").say(after).finish()
@@ -602,7 +602,7 @@ fn unseen_entry<'a>(alloc: Global, file: &'a str) -> Result<Entry<'a>, AllocErro
 ///
 /// # Errors
 ///
-/// Where memory was refused.
+/// Where memory ran out.
 pub fn findings_of<'a>(
     alloc: Global,
     hash: NameHash,

@@ -103,7 +103,7 @@ pub(crate) const ALWAYS_FAILS: Rule = Rule {
     text: "A command does not fail whatever the data is.",
 };
 
-/// All rules, in the order in which they are told.
+/// All rules, in the order in which they are printed.
 pub(crate) fn all_rules() -> [Rule; 18]
     ensures { map (λ rule. (rule.id.now, rule.text.now)) result ≡ rules }
 {
@@ -129,7 +129,7 @@ pub(crate) fn all_rules() -> [Rule; 18]
     ]
 }
 
-/// The rule that a refusal for this reason breaks; want of memory is told otherwise.
+/// The rule that a refusal for this reason breaks; out of memory is an error of its own.
 pub(crate) fn rule_of(kind: ParseKind) -> Rule
     ensures { result.id.now ≡ rule_for kind }
 {

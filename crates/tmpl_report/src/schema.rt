@@ -25,7 +25,7 @@ use tmpl_schema::{Cause, Doubt, Refusal};
 use tmpl_syntax::{Set, base_name};
 use tmpl_values::Bytes;
 
-/// Adds what is said of the template that is asked for over data of the schema, once the files are accepted.
+/// Adds the findings about the template that is asked for over data of the schema, once the files are accepted.
 pub(crate) fn add_schema<'a>(
     alloc: Global,
     findings: &mut Findings<'a>,
@@ -208,7 +208,7 @@ impl<'a> Render<'a, '_> {
     }
 }
 
-/// What is said of a value for which a template fails, by the mode that was asked for or by each.
+/// The message about a value for which a template fails, by the mode that was asked for or by each.
 fn failure_text(alloc: Global, failure: &Failure, is_by_mode: bool) -> Result<String, AllocError> {
     let mode = if failure.is_strict && !is_by_mode {
         "with --missingkey error "
@@ -254,13 +254,13 @@ fn schema_entry<'a>(
     })
 }
 
-/// What is said of a schema that is not read.
+/// The message about a schema that is not read.
 fn refused_text(alloc: Global, refused: &Refused) -> Result<String, AllocError> {
     let said = Sentence::new(alloc).say("schema not understood: ");
     say_refused(said, refused).finish()
 }
 
-/// What is said of a part of a schema: the way to it, and what is wrong there.
+/// The message about a part of a schema: the way to it, and what is wrong there.
 pub(crate) fn part_text(alloc: Global, part: &Refused) -> Result<String, AllocError> {
     say_refused(Sentence::new(alloc), part).finish()
 }
@@ -320,7 +320,7 @@ fn doubt_entry<'a>(
     Ok(entry)
 }
 
-/// What is said of a cause, for which there may be a reason in the schema of this name.
+/// The message about a cause, for which there may be a reason in the schema of this name.
 fn cause_text(
     alloc: Global,
     cause: &Cause,
@@ -369,7 +369,7 @@ fn say_absence(said: Sentence, schema: &str, reason: Option<&Reason>) -> Sentenc
     say_place(said.say(words), schema, *line)
 }
 
-/// Says why a list may have fewer items than this, where that is told.
+/// Says why a list may have fewer items than this, where that is known.
 fn say_shortness(said: Sentence, count: u64, schema: &str, reason: Option<&Reason>) -> Sentence {
     let Some(Reason { why, line }) = reason else {
         return said;

@@ -19,7 +19,7 @@ use Rattle.tmpl_problems.specs.computed.Failing.{has_failing}
 use Rattle.tmpl_problems.specs.Survey.{Declared, is_used, named_place, warned_place}
 use Rattle.tmpl_problems.specs.Tokens.{declared_names, name_after, used_names}
 
--- a name is added, told there
+-- a name is added, reported there
 pub record AddsOne (file : List ℕ) (opens : ℕ) (name : List ℕ) (old new : List Named) : Type 0 where
   pub one : Named
   pub added : new ≡ old ++ one ∷ []
@@ -37,7 +37,7 @@ abbrev pub AddsAfter : List ℕ → ℕ → List (List ℕ) → List held.Token 
 AddsAfter file opens words ts variant.Nothing old new = new ≡ old
 AddsAfter file opens words ts other old new = AddsName file opens (name_after words (map token_of ts)) old new
 
--- an action is added that fails, told there
+-- an action is added that fails, reported there
 pub record AddsAction (file : List ℕ) (opens : ℕ) (old new : List Warning) : Type 0 where
   pub one : Warning
   pub added : new ≡ old ++ one ∷ []
@@ -54,7 +54,7 @@ abbrev pub FailsAfter : List ℕ → ℕ → List held.Token → AfterText → L
 FailsAfter file opens ts variant.Nothing old new = new ≡ old
 FailsAfter file opens ts other old new = AddsFailing file opens (has_failing (map token_of ts)) old new
 
--- a warning of a sign is added, told there
+-- a warning of a sign is added, reported there
 pub record AddsWarning (file : List ℕ) (start : ℕ) (at : ℕ × List ℕ) (old new : List Warning) : Type 0 where
   pub one : Warning
   pub added : new ≡ old ++ one ∷ []
@@ -115,7 +115,7 @@ pub record IsNoted (file : List ℕ) (uses : List (ℕ × List ℕ)) (d : Declar
   pub begins : BeginsAt file d.piece e.1.place.start
   pub place : IsPlace file e.1.place
 
--- more is added, in which each of these is told
+-- more is added, in which each of these is reported
 pub record AddsZip {A B : Type 0} (R : A → B → Type 0) (xs : List A) (old new : List B) : Type 0 where
   pub more : List B
   pub added : new ≡ old ++ more

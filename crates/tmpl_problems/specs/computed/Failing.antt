@@ -23,7 +23,7 @@ abbrev pub failing_from : ℕ → List Piece → List ℕ
 failing_from first pieces =
     filter_map (λ p. if has_failing (tokens_in p.1) then Some p.0 else None) (enumerate_from first pieces)
 
--- the action is told where it begins
+-- the action is reported where it begins
 pub record IsFailing (file : List ℕ) (piece : ℕ) (w : Warning) : Type 0 where
   pub begins : BeginsAt file piece w.start
   pub place : IsPlace file (warned_place w)

@@ -6,7 +6,7 @@ use std::alloc::{AllocError, Global};
 use std::str::from_utf8;
 use tmpl_syntax::NameHash;
 
-/// The most of one kind that is told.
+/// The most of one kind that are reported.
 const MOST_FOUND: usize = 100;
 
 /// The most bytes of a key or a number that are shown.
@@ -124,7 +124,7 @@ impl<'b> Reader<'b> {
         self.note(start, text, Flaw::NotJson)
     }
 
-    /// Notes what is wrong, unless enough of its kind is told.
+    /// Notes what is wrong, unless enough of its kind are reported.
     fn note(&mut self, start: usize, text: String, flaw: Flaw) -> Result<(), AllocError> {
         let told = self.found.iter().filter(|wrong| wrong.flaw == flaw).count();
         if told < MOST_FOUND {

@@ -29,7 +29,7 @@ const MOST_SMALLER_BYTES: usize = 1_000_000;
 /// The most parts of all values that are made.
 const MOST_WORK: usize = 50_000;
 
-/// How often it is gone on from the value over which the template comes farthest.
+/// How often it continues from the value over which the template comes farthest.
 const MOST_ROUNDS: usize = 10;
 
 /// How far a run comes: to its end, or else to a line, and less by its text.
@@ -40,7 +40,7 @@ const LINE: u64 = 10_000_000;
 /// The most bytes of a value that is rendered.
 const MOST_BYTES: usize = 100_000;
 
-/// A value for which a doubt is right, before it is made smaller.
+/// A value for which an alarm is right, before it is made smaller.
 #[derive(Drop)]
 struct Case {
     value: Value,
@@ -48,7 +48,7 @@ struct Case {
     size: usize,
 }
 
-/// How far a run comes, over how many bytes, how many it puts out, and the number of the doubt that it shows to be right,
+/// How far a run comes, over how many bytes, how many it prints, and the number of the alarm that it shows to be right,
 /// if it shows one.
 #[derive(Clone, Copy)]
 struct Outcome {
@@ -98,7 +98,7 @@ struct Trial {
     progress: u64,
 }
 
-/// What was found for each doubt, and how much may still be done.
+/// What was found for each alarm, and how much may still be done.
 #[derive(Drop)]
 struct Hunt {
     cases: Vec<Option<Case>>,
@@ -108,7 +108,7 @@ struct Hunt {
 }
 
 impl Question<'_> {
-    /// Renders the template over a value, if that conforms. Gives what comes of it: of one doubt alone, where it is
+    /// Renders the template over a value, if that conforms. Gives what comes of it: of one alarm alone, where it is
     /// asked for.
     fn outcome(&self, value: &Value, only: Option<usize>) -> Result<Outcome, AllocError> {
         if !conforms(self.root, LEVELS, self.root, value) {
@@ -163,7 +163,7 @@ impl Question<'_> {
         }
     }
 
-    /// The number of the first doubt that a fault shows to be right, or of one of them alone.
+    /// The number of the first alarm that a fault shows to be right, or of one of them alone.
     fn right_doubt(&self, fault: &RunFault<'_>, only: Option<usize>) -> Option<usize> {
         for (index, doubt) in self.doubts.iter().enumerate() {
             let is_asked = only.is_none() || only == Some(index);
@@ -261,7 +261,7 @@ impl Question<'_> {
         Ok(())
     }
 
-    /// The value of a doubt, made smaller as long as the template fails in the same way.
+    /// The value of an alarm, made smaller as long as the template fails in the same way.
     fn smaller(&self, index: usize, case: Case, budget: &mut Budget) -> Result<Value, AllocError> {
         let mut case = case;
         let mut part: usize = 1;
@@ -288,12 +288,12 @@ impl Question<'_> {
 }
 
 impl Hunt {
-    /// Whether each doubt has a value, or enough was done.
+    /// Whether each alarm has a value, or enough was done.
     fn is_done(&self) -> bool {
         self.missing == 0 || self.work == 0 || self.budget.is_spent()
     }
 
-    /// Keeps a value for the doubt of this number, unless there is one.
+    /// Keeps a value for the alarm of this number, unless there is one.
     fn keep(&mut self, doubt: usize, case: Case) {
         if let Some(place) = self.cases.get_mut(doubt) {
             if place.is_none() {
@@ -325,7 +325,7 @@ fn new_hunt(question: &Question<'_>) -> Result<Hunt, AllocError> {
     })
 }
 
-/// Searches for a value for each doubt, first from little data, then from much, and makes it smaller.
+/// Searches for a value for each alarm, first from little data, then from much, and makes it smaller.
 fn values_found(question: &Question<'_>) -> Result<Vec<Option<Value>>, AllocError> {
     let mut hunt = new_hunt(question)?;
     question.climb(&mut hunt, true)?;
@@ -346,19 +346,19 @@ fn values_found(question: &Question<'_>) -> Result<Vec<Option<Value>>, AllocErro
     Ok(values)
 }
 
-/// For each doubt of a template over data of the document a value for which it is right, as small as was found, if one
-/// was: it conforms to the document by all its keywords, and the template fails over it at the place of the doubt.
+/// For each alarm of a template over data of the document a value for which it is right, as small as was found, if one
+/// was: it conforms to the document by all its keywords, and the template fails over it at the place of the alarm.
 ///
-/// The doubts are those that `check_document` gives for the set, the name, the document, the mode and the stops.
+/// The alarms are those that `check_document` gives for the set, the name, the document, the mode and the stops.
 ///
-/// Each failure that is given is right of the doubt at its place: its data conform to the document, as far as
-/// `check_document` looks, and the run over them has a fault at the line and in the template of the doubt that is no call of
-/// a stop, by the mode that is asked for, or else `MissingKey::Error`, 20,000 steps and a depth of 50. So the doubt is no
-/// false alarm (law `failure_refutes`).
+/// Each failure that is given is right of the alarm at its place: its data conform to the document, as far as
+/// `check_document` looks, and the run over them has a fault at the line and in the template of the alarm that is no
+/// call of a stop, by the mode that is asked for, or else `MissingKey::Error`, 20,000 steps and a depth of 50. So the
+/// alarm is no false alarm (law `failure_refutes`).
 ///
 /// # Errors
 ///
-/// Where memory was refused.
+/// Where memory ran out.
 pub fn failures_of(
     alloc: Global,
     set: &Set,
