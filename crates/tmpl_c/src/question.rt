@@ -86,7 +86,11 @@ fn source_of<'a>(alloc: Global, file: &File<'a>) -> Result<Source<'a>, Stop>
 {
     let name = text_of(file.name)?;
     let bytes = Vec::from_slice(alloc, file.bytes)?;
-    Ok(Source { name, bytes })
+    Ok(Source {
+        name,
+        bytes,
+        is_library: false,
+    })
 }
 
 /// The template files.
@@ -160,6 +164,7 @@ fn asked_of<'a>(
         name: name_given(question.name)?,
         mode: mode_asked(question.mode),
         stops: stops_of(alloc, question.stops)?,
+        is_searched: true,
     })
 }
 
