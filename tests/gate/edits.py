@@ -281,13 +281,11 @@ def module_of(file):
     return [it for it in re.sub(r"\.rt$", "", file).split("/")[1:] if it not in ("lib", "main", "mod")]
 
 
-def home_of(crate, kind):
-    """The path of the module that has a type."""
-    for place, _, files in os.walk(f"{crate}/src"):
-        for file in files:
-            if re.search(rf"^(?:pub(?:\([a-z]+\))? )?(?:struct|enum) {kind}\b", read_file(f"{place}/{file}"), re.MULTILINE):
-                return module_of(os.path.relpath(f"{place}/{file}", crate))
-    return None
+def home_of(crate, kind, file):
+    """The path of the module that has a type: that of the file itself, where it declares one of this name, else another."""
+    others = sorted(os.path.relpath(f"{place}/{it}", crate) for place, _, files in os.walk(f"{crate}/src") for it in files)
+    declared = re.compile(rf"^(?:pub(?:\([a-z]+\))? )?(?:struct|enum) {kind}\b", re.MULTILINE)
+    return next((module_of(it) for it in (file, *others) if declared.search(read_file(f"{crate}/{it}"))), None)
 
 
 def path_of(crate, file, before):
@@ -301,7 +299,7 @@ def path_of(crate, file, before):
     if not owner:
         return "::".join([*module_of(file), last[2]])
     of_trait, kind = owner[0]
-    return "::".join([*(home_of(crate, kind) or module_of(file)), kind + of_trait, last[2]])
+    return "::".join([*(home_of(crate, kind, file) or module_of(file)), kind + of_trait, last[2]])
 
 
 def paths_of(crate, edit):
