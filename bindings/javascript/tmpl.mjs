@@ -228,26 +228,26 @@ class Host {
     }
 
     /** Borrows memory in parts of these sizes for one call. */
-    lend(sizes, call) {
-        const lent = new Lent(this, sizes);
+    borrow(sizes, call) {
+        const borrowed = new Borrowed(this, sizes);
         let came;
         try {
-            came = call(lent);
+            came = call(borrowed);
         } catch (error) {
-            if (isAnswer(error)) lent.give();
+            if (isAnswer(error)) borrowed.give();
             throw error;
         }
-        lent.give();
+        borrowed.give();
         return came;
     }
 
     /** The text of a call that takes buffers for text and line. It is made again with more room where one of them does not fit. */
     whole(call, size = 0, output = 0, find = undefined) {
         for (let room = Math.max(this.#room, size), lineRoom = LINE; ; ) {
-            const [status, text, said] = this.lend([BUFFER, BUFFER, room, lineRoom], (lent) => {
-                lent.words(0, lent.at[2], room, 0, 0);
-                lent.words(1, lent.at[3], lineRoom, 0, 0);
-                return [call(lent.pointer(0), lent.pointer(1)), lent.taken(0, 2), lent.taken(1, 3)];
+            const [status, text, said] = this.borrow([BUFFER, BUFFER, room, lineRoom], (borrowed) => {
+                borrowed.words(0, borrowed.at[2], room, 0, 0);
+                borrowed.words(1, borrowed.at[3], lineRoom, 0, 0);
+                return [call(borrowed.pointer(0), borrowed.pointer(1)), borrowed.taken(0, 2), borrowed.taken(1, 3)];
             });
             if (status === OK) return text.bytes;
             const line = chomped(decoder.decode(said.bytes));
@@ -261,7 +261,7 @@ class Host {
 }
 
 /** One block of the module's memory, with parts at multiples of 8. */
-class Lent {
+class Borrowed {
     #host;
     #exports;
 
@@ -334,16 +334,16 @@ class Engine {
         const pairs = pairsOf(files), { words, output, memory } = settingsOf(options), json = jsonOf(data);
         const run = encoded(name ?? (pairs.length ? baseOf(pairs[0][0]) : ""));
         const texts = [run, json, ...pairs.flat()], sizes = texts.map((it) => it.length);
-        const lent = (lent) => {
-            const spans = sizes.map((size, number) => [lent.pointer(number + 2), BigInt(size)]);
-            texts.forEach((it, number) => lent.put(number + 2, it));
-            lent.words(0, ...words);
-            lent.words(1, ...spans.slice(2).flat());
-            const given = [lent.pointer(0), lent.pointer(1), BigInt(pairs.length), ...spans[0], ...spans[1]];
+        const borrowed = (borrowed) => {
+            const spans = sizes.map((size, number) => [borrowed.pointer(number + 2), BigInt(size)]);
+            texts.forEach((it, number) => borrowed.put(number + 2, it));
+            borrowed.words(0, ...words);
+            borrowed.words(1, ...spans.slice(2).flat());
+            const given = [borrowed.pointer(0), borrowed.pointer(1), BigInt(pairs.length), ...spans[0], ...spans[1]];
             const call = (out, err) => this.#host.call("tmpl_render", ...given, out, err);
             return this.#host.whole(call, 2 * json.length, output, problemsIn(this.#host, pairs, memory));
         };
-        return this.#host.enter(memory, () => this.#host.lend([SETTINGS, FILE * pairs.length, ...sizes], lent));
+        return this.#host.enter(memory, () => this.#host.borrow([SETTINGS, FILE * pairs.length, ...sizes], borrowed));
     }
 
     render(files, name, data, options) {
@@ -381,18 +381,18 @@ function linesOf(bytes, most) {
 /** The first problems of files, up to a limit. */
 function problemsOf(host, pairs, memory, most) {
     const parts = pairs.flat(), sizes = parts.map((it) => it.length), names = pairs.map(([path]) => decoder.decode(path));
-    const lines = (lent) => {
-        parts.forEach((it, number) => lent.put(number + 2, it));
-        lent.words(0, 0, 0, 0);
-        lent.words(1, ...sizes.flatMap((size, number) => [lent.pointer(number + 2), size]));
-        const status = host.call("tmpl_check", lent.pointer(1), BigInt(pairs.length), lent.pointer(0));
-        const said = linesOf(lent.seen(0), most);
-        host.call("tmpl_text_free", lent.pointer(0));
+    const lines = (borrowed) => {
+        parts.forEach((it, number) => borrowed.put(number + 2, it));
+        borrowed.words(0, 0, 0, 0);
+        borrowed.words(1, ...sizes.flatMap((size, number) => [borrowed.pointer(number + 2), size]));
+        const status = host.call("tmpl_check", borrowed.pointer(1), BigInt(pairs.length), borrowed.pointer(0));
+        const said = linesOf(borrowed.seen(0), most);
+        host.call("tmpl_text_free", borrowed.pointer(0));
         if (status === MEMORY) throw new MemoryError("tmpl: out of memory");
         if (status !== OK && status !== REFUSED) throw new TemplateError(status, "tmpl: the name of a file is not UTF-8", new Uint8Array());
         return said;
     };
-    return host.enter(memory, () => host.lend([TEXT, FILE * pairs.length, ...sizes], lines)).map((it) => problemOf(it, names));
+    return host.enter(memory, () => host.borrow([TEXT, FILE * pairs.length, ...sizes], lines)).map((it) => problemOf(it, names));
 }
 
 /** What is found of templates over a JSON Schema. */
@@ -402,37 +402,37 @@ function findingsOf(host, pairs, schema, options) {
     if (missingKey !== undefined && !Object.hasOwn(MISSING_KEY, missingKey)) throw new RangeError(`missingKey is ${missingKey}`);
     const mode = missingKey === undefined ? 0 : 1 + MISSING_KEY[missingKey];
     const names = [...stops].map(encoded), parts = [...[schemaName, schema, name].map(encoded), ...names, ...pairs.flat()];
-    const found = (lent) => {
-        parts.forEach((it, number) => lent.put(number + 4, it));
-        const spans = parts.map((it, number) => [lent.pointer(number + 4), it.length]);
-        lent.words(0, 0, 0, 0);
-        lent.words(1, ...spans.slice(0, 3).flat(), lent.pointer(3), names.length, mode | (AS_JSON << 8));
-        lent.words(2, ...spans.slice(3 + names.length).flat());
-        lent.words(3, ...spans.slice(3, 3 + names.length).flat());
-        const status = host.call("tmpl_check_schema", lent.pointer(2), BigInt(pairs.length), lent.pointer(1), lent.pointer(0));
-        const said = decoder.decode(lent.seen(0));
-        host.call("tmpl_text_free", lent.pointer(0));
+    const found = (borrowed) => {
+        parts.forEach((it, number) => borrowed.put(number + 4, it));
+        const spans = parts.map((it, number) => [borrowed.pointer(number + 4), it.length]);
+        borrowed.words(0, 0, 0, 0);
+        borrowed.words(1, ...spans.slice(0, 3).flat(), borrowed.pointer(3), names.length, mode | (AS_JSON << 8));
+        borrowed.words(2, ...spans.slice(3 + names.length).flat());
+        borrowed.words(3, ...spans.slice(3, 3 + names.length).flat());
+        const status = host.call("tmpl_check_schema", borrowed.pointer(2), BigInt(pairs.length), borrowed.pointer(1), borrowed.pointer(0));
+        const said = decoder.decode(borrowed.seen(0));
+        host.call("tmpl_text_free", borrowed.pointer(0));
         if (status === MEMORY) throw new MemoryError("tmpl: out of memory");
         if (status !== OK && status !== REFUSED) throw new TemplateError(status, "tmpl: a name is not UTF-8", new Uint8Array());
         return JSON.parse(said).problems;
     };
     const sizes = [TEXT, QUESTION, FILE * pairs.length, NAME * names.length, ...parts.map((it) => it.length)];
-    return host.enter(countOf("memory", options), () => host.lend(sizes, found));
+    return host.enter(countOf("memory", options), () => host.borrow(sizes, found));
 }
 
 /** Gives back what is kept for an object that nobody has any more. */
 const forgotten = new FinalizationRegistry((free) => free());
 
 /** Frees what templates keep, and the memory for it. */
-function freeAll(host, lent) {
-    if (!lent.isThere()) return;
-    ["set", "program", "data", "text", "text"].forEach((kind, part) => host.call(`tmpl_${kind}_free`, lent.pointer(part)));
-    lent.give();
+function freeAll(host, borrowed) {
+    if (!borrowed.isThere()) return;
+    ["set", "program", "data", "text", "text"].forEach((kind, part) => host.call(`tmpl_${kind}_free`, borrowed.pointer(part)));
+    borrowed.give();
 }
 
 class Templates {
     #host;
-    #lent; // the set, its program, the data and two texts; none before the first file, and once they are freed
+    #borrowed; // the set, its program, the data and two texts; none before the first file, and once they are freed
     #isMade; // whether the program is that of the set
     #free;
     #files = [];
@@ -448,7 +448,7 @@ class Templates {
         const file = [encoded(path).slice(), encoded(what).slice()], memory = countOf("memory", options);
         this.#host.enter(0, () => this.#settle());
         this.#host.enter(memory, () => {
-            this.#parse(this.#lent, file, memory);
+            this.#parse(this.#borrowed, file, memory);
             this.#isMade = false;
             this.#files.push(file);
         });
@@ -457,7 +457,7 @@ class Templates {
     renderBytes(name, data, options) {
         const { words, output, memory } = settingsOf(options), json = jsonOf(data);
         const run = encoded(name ?? (this.#files.length ? baseOf(this.#files[0][0]) : ""));
-        const at = (part) => this.#lent.pointer(part);
+        const at = (part) => this.#borrowed.pointer(part);
         this.#host.enter(0, () => this.#settle());
         return this.#host.enter(memory, () => {
             if (options?.printed) return this.#whole(this.#host.call("tmpl_set_print", at(SET), at(OUT)), output);
@@ -466,14 +466,14 @@ class Templates {
     }
 
     #run(json, run, settings, output) {
-        const at = (part) => this.#lent.pointer(part);
+        const at = (part) => this.#borrowed.pointer(part);
         this.#readAnew(json);
         if (!this.#isMade) this.#whole(this.#host.call("tmpl_program_make", at(SET), at(PROGRAM)));
         this.#isMade = true;
-        return this.#host.lend([SETTINGS, run.length], (lent) => {
-            lent.words(0, ...settings);
-            lent.put(1, run);
-            const words = [lent.pointer(0), at(PROGRAM), at(DATA), lent.pointer(1), BigInt(run.length), at(OUT), at(SAID_AT)];
+        return this.#host.borrow([SETTINGS, run.length], (borrowed) => {
+            borrowed.words(0, ...settings);
+            borrowed.put(1, run);
+            const words = [borrowed.pointer(0), at(PROGRAM), at(DATA), borrowed.pointer(1), BigInt(run.length), at(OUT), at(SAID_AT)];
             return this.#whole(this.#host.call("tmpl_render_text", ...words), output);
         });
     }
@@ -481,9 +481,9 @@ class Templates {
     /** The text of a call that ended with this status, which was put into a text of the module's own. */
     #whole(status, output) {
         if (status === MEMORY) throw new MemoryError("tmpl: out of memory");
-        const text = this.#lent.text(OUT);
+        const text = this.#borrowed.text(OUT);
         if (status === OK) return text;
-        throw errorOf(status, chomped(decoder.decode(this.#lent.text(SAID_AT))), text, output);
+        throw errorOf(status, chomped(decoder.decode(this.#borrowed.text(SAID_AT))), text, output);
     }
 
     render(name, data, options) {
@@ -493,19 +493,19 @@ class Templates {
     close() {
         this.#free?.();
         forgotten.unregister(this);
-        [this.#lent, this.#free, this.#files] = [undefined, undefined, []];
+        [this.#borrowed, this.#free, this.#files] = [undefined, undefined, []];
     }
 
     /** Has the files in the instance that there is: none was there before the first one, and a trap takes all. */
     #settle() {
-        if (this.#lent?.isThere()) return;
-        const host = this.#host, lent = new Lent(host, [KEPT, KEPT, KEPT, TEXT, TEXT]);
-        const free = () => lent.isThere() && host.enter(0, () => freeAll(host, lent));
-        lent.words(SET, 0, 0, 0, 0, 0, 0, 0, 0, 0);
+        if (this.#borrowed?.isThere()) return;
+        const host = this.#host, borrowed = new Borrowed(host, [KEPT, KEPT, KEPT, TEXT, TEXT]);
+        const free = () => borrowed.isThere() && host.enter(0, () => freeAll(host, borrowed));
+        borrowed.words(SET, 0, 0, 0, 0, 0, 0, 0, 0, 0);
         try {
-            for (const it of this.#files) this.#parse(lent, it, 0);
+            for (const it of this.#files) this.#parse(borrowed, it, 0);
         } catch (error) {
-            if (isAnswer(error)) freeAll(host, lent);
+            if (isAnswer(error)) freeAll(host, borrowed);
             throw error;
         }
         forgotten.unregister(this);
@@ -513,16 +513,16 @@ class Templates {
         this.#free = free;
         this.#read = new Uint8Array();
         this.#isMade = false;
-        this.#lent = lent;
+        this.#borrowed = borrowed;
     }
 
     #parse(kept, [path, what], memory) {
-        this.#host.lend([FILE, path.length, what.length], (lent) => {
-            lent.words(0, lent.at[1], path.length, lent.at[2], what.length);
-            lent.put(1, path);
-            lent.put(2, what);
+        this.#host.borrow([FILE, path.length, what.length], (borrowed) => {
+            borrowed.words(0, borrowed.at[1], path.length, borrowed.at[2], what.length);
+            borrowed.put(1, path);
+            borrowed.put(2, what);
             const find = problemsIn(this.#host, [[path, what]], memory);
-            this.#told(find, "tmpl_set_add", kept.pointer(SET), lent.pointer(0));
+            this.#told(find, "tmpl_set_add", kept.pointer(SET), borrowed.pointer(0));
         });
     }
 
@@ -530,9 +530,9 @@ class Templates {
     #readAnew(json) {
         if (this.#read && isSame(json, this.#read)) return;
         this.#read = undefined;
-        this.#host.lend([json.length], (lent) => {
-            lent.put(0, json);
-            this.#told(undefined, "tmpl_data_read", this.#lent.pointer(DATA), lent.pointer(0), BigInt(json.length));
+        this.#host.borrow([json.length], (borrowed) => {
+            borrowed.put(0, json);
+            this.#told(undefined, "tmpl_data_read", this.#borrowed.pointer(DATA), borrowed.pointer(0), BigInt(json.length));
         });
         this.#read = json.slice();
     }
