@@ -943,16 +943,21 @@ def run_python(home, text):
     return ran(sys.executable, f"{home}/hello.py", env=environment)
 
 
+def linking():
+    """What has Go and Rust link the library that is tested, which need not be in bindings/out."""
+    return {**os.environ, "LIBTMPL_DIR": OUT, "CGO_CFLAGS": f"-I{BINDINGS}/c", "CGO_LDFLAGS": f"-L{OUT} -Wl,-rpath,{OUT}"}
+
+
 def run_go(home, text):
     written(f"{home}/main.go", text)
     written(f"{home}/go.mod", f"module hello\n\ngo 1.17\n\nrequire tmpl v0.0.0\n\nreplace tmpl => {BINDINGS}/go\n")
-    return ran("go", "run", ".", cwd=home, env={**os.environ, "GOFLAGS": "-mod=mod"})
+    return ran("go", "run", ".", cwd=home, env={**linking(), "GOFLAGS": "-mod=mod"})
 
 
 def run_rust(home, text):
     written(f"{home}/src/main.rs", text)
     written(f"{home}/Cargo.toml", f'[package]\nname = "hello"\nversion = "0.0.0"\nedition = "2021"\n\n[dependencies]\ntmpl = {{ path = "{BINDINGS}/rust" }}\n')
-    return ran("cargo", "run", "--quiet", "--offline", cwd=home)
+    return ran("cargo", "run", "--quiet", "--offline", cwd=home, env=linking())
 
 
 TOOLS = {"go": ("go", ["go", "test", "-race", "./..."]), "rust": ("cargo", ["cargo", "test", "--quiet", "--offline"])}
@@ -965,8 +970,7 @@ def judge_bindings(folder):
             continue
         home = f"{folder}/binding-{language}"
         shutil.copytree(f"{BINDINGS}/{language}", home, ignore=shutil.ignore_patterns("target"))
-        environment = {**os.environ, "LIBTMPL_DIR": OUT, "CGO_CFLAGS": f"-I{BINDINGS}/c", "CGO_LDFLAGS": f"-L{OUT} -Wl,-rpath,{OUT}"}
-        status, said = ran(*words, cwd=home, env={**environment, "CARGO_TARGET_DIR": f"{folder}/target"})
+        status, said = ran(*words, cwd=home, env={**linking(), "CARGO_TARGET_DIR": f"{folder}/target"})
         yield f"the tests of the binding for {language}", 1, [f"    {said}"] if status else []
         for it in programs():
             if it[0] == language:
