@@ -1,0 +1,13 @@
+pub mod EnvLemmas
+pub mod LineLemmas
+pub mod MachineLemmas
+pub mod CsvLemmas
+pub mod FormatLemmas
+pub mod JsonGrammar
+pub mod JsonLemmas
+pub mod JsonLinesLemmas
+pub mod NginxLemmas
+pub mod NameLemmas
+pub mod KitStringLemmas
+pub mod KitNumberLemmas
+pub mod KitValueLemmas

@@ -1,0 +1,9 @@
+pub mod computed
+pub mod Csv
+pub mod Env
+pub mod Format
+pub mod Json
+pub mod Lines
+pub mod JsonLines
+pub mod Nginx
+pub mod Name

@@ -1,0 +1,11 @@
+pub mod Csv
+pub mod Env
+pub mod Format
+pub mod Json
+pub mod JsonBytes
+pub mod Machine
+pub mod View
+pub mod JsonLines
+pub mod LineView
+pub mod Nginx
+pub mod Laws

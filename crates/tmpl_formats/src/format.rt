@@ -1,0 +1,16 @@
+//! The formats of output.
+
+/// A format of output.
+#[derive(Clone, Copy, Debug, PartialEq, Eq)]
+pub enum Format {
+    /// One JSON value, with white space around it.
+    Json,
+    /// Lines, each of which has white space alone or one JSON value.
+    JsonLines,
+    /// An environment file: lines NAME=VALUE, comments and empty lines.
+    Env,
+    /// CSV with this many fields in each record.
+    Csv(u32),
+    /// A configuration file of nginx.
+    Nginx,
+}

@@ -1,0 +1,19 @@
+//! Whether a text is of a format: machines that read it byte by byte.
+#![tactic(auto)]
+
+mod check;
+mod csv;
+mod env;
+mod format;
+mod json_lines;
+mod json_text;
+mod laws;
+mod machine;
+mod mistake;
+mod name;
+mod nginx;
+
+pub use check::first_mistake;
+pub use format::Format;
+pub use laws::refused_prefix;
+pub use mistake::Mistake;

@@ -1,0 +1,75 @@
+//! The names of formats.
+ghost use Rattle.std.specs.Prelude.{◌≡◌};
+ghost use Rattle.std.specs.Str.{bytes_eq};
+ghost use Rattle.tmpl_formats.specs.Name.{with_digit, columns_of, plain_named, format_named};
+
+use crate::format::Format;
+
+/// One digit more of a number of columns.
+fn with_digit(columns: u32, byte: u8) -> Option<u32>
+    ensures { result ≡ with_digit columns byte }
+{
+    if !byte.is_ascii_digit() || columns == 0 && byte == b'0' {
+        return None;
+    }
+    let next = u64::from(columns) * 10 + u64::from(byte - b'0');
+    if next < 0x1_0000_0000 {
+        Some(next as u32)
+    } else {
+        None
+    }
+}
+
+/// The number of columns that digits write, from 1 on, without a zero before it.
+fn columns_of(digits: &[u8]) -> Option<u32>
+    ensures { result ≡ columns_of digits.now }
+{
+    let mut columns = 0;
+    for byte in digits {
+        match with_digit(columns, *byte) {
+            Some(next) => columns = next,
+            None => return None,
+        }
+    }
+    if columns == 0 { None } else { Some(columns) }
+}
+
+/// Whether the bytes are the same.
+fn is_same(name: &[u8], word: &[u8]) -> bool
+    ensures { result ≡ bytes_eq name.now word.now }
+{
+    name == word
+}
+
+/// The format of a name that has no number.
+fn plain_named(name: &[u8]) -> Option<Format>
+    ensures { result ≡ plain_named name.now }
+{
+    if is_same(name, b"json") {
+        Some(Format::Json)
+    } else if is_same(name, b"jsonl") {
+        Some(Format::JsonLines)
+    } else if is_same(name, b"env") {
+        Some(Format::Env)
+    } else if is_same(name, b"nginx") {
+        Some(Format::Nginx)
+    } else {
+        None
+    }
+}
+
+impl Format {
+    /// The format of this name: `json`, `jsonl`, `env`, `nginx`, or `csv:N` of N columns.
+    pub fn named(name: &[u8]) -> Option<Format>
+        ensures { result ≡ format_named name.now }
+    {
+        if name.starts_with(b"csv:") {
+            match columns_of(&name[4..]) {
+                Some(columns) => Some(Format::Csv(columns)),
+                None => None,
+            }
+        } else {
+            plain_named(name)
+        }
+    }
+}
