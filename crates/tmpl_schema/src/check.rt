@@ -47,8 +47,8 @@ fn check_tree(checker: &Checker<'_>, shape: &Shape, tree: &Tree) -> Result<(), F
     ensures { OnOk result (is_safe (base_of checker.now.base) checker.now.mode (table_of checker.now.table.now)
         (shape_of shape.now) (tree_of tree.now).nodes ≡ true) }
 {
-    if let Some(line) = first_crowded(tree.nodes.as_slice()) {
-        return Err(Failure::may_fail(checker.base.alloc, Cause::TooComplex, line));
+    if let Some(position) = first_crowded(tree.nodes.as_slice()) {
+        return Err(Failure::may_fail(checker.base.alloc, Cause::TooComplex, Some(position)));
     }
     let start = at_start(&checker.base, shape)?;
     after_nodes(checker, None, start, tree.nodes.as_slice())?;
@@ -102,15 +102,15 @@ fn check_callee(
                 Ok(()) => Ok(()),
                 Err(failure) => Err(failure),
             },
-            None => Err(Failure::may_fail(checker.base.alloc, Cause::Command, 0)),
+            None => Err(Failure::may_fail(checker.base.alloc, Cause::Command, None)),
         },
         Callee::Absent => match set.get(entry.name.as_slice()) {
-            Some(_) => Err(Failure::may_fail(checker.base.alloc, Cause::Command, 0)),
+            Some(_) => Err(Failure::may_fail(checker.base.alloc, Cause::Command, None)),
             None => {
                 if is_stop(stops, entry.name.as_slice()) {
                     return Ok(());
                 }
-                Err(Failure::may_fail(checker.base.alloc, Cause::Command, 0))
+                Err(Failure::may_fail(checker.base.alloc, Cause::Command, None))
             }
         },
     }
@@ -158,7 +158,7 @@ fn check_all(base: &Base<'_>, question: &Question<'_>, table: &[Entry]) -> Resul
             }
             Err(failure) => Err(failure),
         },
-        None => Err(Failure::may_fail(checker.base.alloc, Cause::Command, 0)),
+        None => Err(Failure::may_fail(checker.base.alloc, Cause::Command, None)),
     }
 }
 

@@ -12,7 +12,7 @@ ghost use Rattle.tmpl_schema.specs.computed.Judge.{ActsIn, ChoosesIn, EndsIn, Ha
 ghost use Rattle.tmpl_schema.specs.computed.View.{state_of};
 
 use crate::check::is_stop;
-use crate::failure::Failure;
+use crate::failure::{Failure, Position};
 use crate::known::{Known, put_variable};
 use crate::pipeline::pipeline_shape;
 use crate::state::State;
@@ -40,7 +40,7 @@ struct Judge<'j> {
 
 /// That this is no copy loop.
 fn other(judge: &Judge<'_>) -> Failure {
-    Failure::may_fail(judge.base.alloc, Cause::NotFollowed(Func::Index), 0)
+    Failure::may_fail(judge.base.alloc, Cause::NotFollowed(Func::Index), None)
 }
 
 /// That a pipeline of the byte alone has a value, whatever number that is.
@@ -55,7 +55,7 @@ fn has_value(judge: &Judge<'_>, commands: &[Command]) -> Result<(), Failure>
 }
 
 /// That a template that is called is a stop.
-fn stops(judge: &Judge<'_>, name: &Bytes, line: u64) -> Result<(), Failure>
+fn stops(judge: &Judge<'_>, name: &Bytes, node: &Node) -> Result<(), Failure>
     ensures { OnOk result (IsStop (set_view judge.now.set.now) judge.now.stops.now name.now) }
 {
     match judge.set.get(name.as_slice()) {
@@ -65,7 +65,8 @@ fn stops(judge: &Judge<'_>, name: &Bytes, line: u64) -> Result<(), Failure>
                 return Ok(());
             }
             let name = copy_name(judge.base.alloc, name.as_slice())?;
-            Err(Failure::may_fail(judge.base.alloc, Cause::NoTemplate(name), line))
+            let position = Some(Position::of(node));
+            Err(Failure::may_fail(judge.base.alloc, Cause::NoTemplate(name), position))
         }
     }
 }
@@ -153,7 +154,7 @@ fn ends_well(judge: &Judge<'_>, nodes: &[Node], kept: bool, anew: bool) -> Resul
             }
             NodeKind::Action(header) => acts(judge, header, rest, kept, anew),
             NodeKind::Control(control) => chooses(judge, control, rest, kept, anew),
-            NodeKind::Template(name, _) => stops(judge, name, first.line),
+            NodeKind::Template(name, _) => stops(judge, name, first),
             NodeKind::Break | NodeKind::Continue => Err(other(judge)),
         },
     }
@@ -211,6 +212,6 @@ pub(crate) fn check_loop(
 {
     match parts_of(nodes) {
         Some(parts) => check_parts(base, set, stops, &parts),
-        None => Err(Failure::may_fail(base.alloc, Cause::NotFollowed(Func::Index), 0)),
+        None => Err(Failure::may_fail(base.alloc, Cause::NotFollowed(Func::Index), None)),
     }
 }

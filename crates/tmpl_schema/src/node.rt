@@ -13,7 +13,7 @@ ghost use Rattle.tmpl_schema.specs.computed.View.{after_action, after_choice_by,
 ghost use Rattle.tmpl_syntax.specs.Tree.{template_node};
 ghost use Rattle.tmpl_syntax.specs.View.{control_of, node_of, nodes_in};
 
-use crate::failure::{Failure, at_line};
+use crate::failure::{Failure, at_node};
 use crate::known::{
     Known, after_both, all_within, bind, copy_known, holds_loop, join_all, leave_with, oldest,
 };
@@ -293,7 +293,7 @@ fn settle(
         (visit_seen visit.now) (nodes_in body.now)) (known_of known) ≡ Some (known_of ks)) }
 {
     if rounds == 0 {
-        return Err(Failure::may_fail(checker.base.alloc, Cause::Variables, 0));
+        return Err(Failure::may_fail(checker.base.alloc, Cause::Variables, None));
     }
     let end = turn(checker, &known, header, visit, body)?;
     if all_within(&checker.base, &end, &known) {
@@ -373,7 +373,7 @@ fn after_control(
         ≡ Some (known_of ks)) }
 {
     if !holds_loop(head, &state.known) {
-        return Err(Failure::may_fail(checker.base.alloc, Cause::Variables, 0));
+        return Err(Failure::may_fail(checker.base.alloc, Cause::Variables, None));
     }
     let shape = pipeline_shape(
         &checker.base,
@@ -407,7 +407,7 @@ pub(crate) fn after_node(
 {
     checker.base.effort.spend(NODE);
     if checker.base.effort.is_spent() {
-        return Err(Failure::may_fail(checker.base.alloc, Cause::TooComplex, 0));
+        return Err(Failure::may_fail(checker.base.alloc, Cause::TooComplex, None));
     }
     match &node.what {
         NodeKind::Text(_) => Ok(copy_known(&state.known)?),
@@ -437,7 +437,7 @@ pub(crate) fn after_nodes(
     for node in nodes {
         match after_node(checker, head, &state, node) {
             Ok(known) => state.known = known,
-            Err(trouble) => return Err(at_line(trouble, node.line)),
+            Err(trouble) => return Err(at_node(trouble, node)),
         }
     }
     Ok(state.known)

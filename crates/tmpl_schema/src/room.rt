@@ -3,6 +3,7 @@
 //! most is added up along the way down, and a template that needs more than there is for it is not looked at.
 #![tactic(auto, using(crate::proofs::NodeLemmas::lighter, crate::proofs::RoomLemmas::lighter))]
 
+use crate::failure::Position;
 use tmpl_grammar::{Binding, Command, Header, Operand};
 use tmpl_syntax::{ControlNode, Node, NodeKind};
 
@@ -26,8 +27,8 @@ const FIELD: usize = 850;
 /// The most nodes of a template in which a loop is looked for.
 const MOST_NODES: usize = 200;
 
-/// The line of the first action for which there is no room, in nodes for which there is all of it.
-pub(crate) fn first_crowded(nodes: &[Node]) -> Option<u64> {
+/// Where the first action begins for which there is no room, in nodes for which there is all of it.
+pub(crate) fn first_crowded(nodes: &[Node]) -> Option<Position> {
     crowded_in(nodes, ROOM)
 }
 
@@ -64,13 +65,13 @@ fn left_inside(control: &ControlNode, left: usize) -> Option<usize> {
     left_in(control.other.as_slice(), left)
 }
 
-/// The line of the first action for which there is no room, where this much is left.
+/// Where the first action begins for which there is no room, where this much is left.
 #[cycle(room)]
-fn crowded_in(nodes: &[Node], left: usize) -> Option<u64> {
+fn crowded_in(nodes: &[Node], left: usize) -> Option<Position> {
     let mut left = left;
     for node in nodes {
-        if let Some(line) = crowded_at(node, left) {
-            return Some(line);
+        if let Some(position) = crowded_at(node, left) {
+            return Some(position);
         }
         left = left.saturating_sub(kept_need(node));
     }
@@ -79,9 +80,9 @@ fn crowded_in(nodes: &[Node], left: usize) -> Option<u64> {
 
 /// .. in a node.
 #[cycle(room)]
-fn crowded_at(node: &Node, left: usize) -> Option<u64> {
+fn crowded_at(node: &Node, left: usize) -> Option<Position> {
     if node_need(node) > left {
-        return Some(node.line);
+        return Some(Position::of(node));
     }
     match &node.what {
         NodeKind::Control(control) => crowded_inside(control, left),
@@ -92,11 +93,11 @@ fn crowded_at(node: &Node, left: usize) -> Option<u64> {
 
 /// .. in the parts of a control.
 #[cycle(room)]
-fn crowded_inside(control: &ControlNode, left: usize) -> Option<u64> {
+fn crowded_inside(control: &ControlNode, left: usize) -> Option<Position> {
     let inside = left.saturating_sub(variables_need(&control.header.binding));
     let inside = inside.saturating_sub(CONTROL);
     match crowded_in(control.body.as_slice(), inside) {
-        Some(line) => Some(line),
+        Some(position) => Some(position),
         None => crowded_in(control.other.as_slice(), inside),
     }
 }

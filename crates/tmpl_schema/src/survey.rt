@@ -4,7 +4,7 @@
 #![tactic(auto)]
 
 use crate::check::{Refusal, is_stop, mode_for};
-use crate::failure::{Doubt, Failure};
+use crate::failure::{Doubt, Failure, Position};
 use crate::known::{Known, after_both, bind, copy_known};
 use crate::loops::check_loop;
 use crate::node::{Checker, after_node, in_body, in_other, in_turn, settle_soon};
@@ -73,12 +73,19 @@ impl Found {
         }
     }
 
-    /// Adds a failure that was met in the action of this line.
-    fn add(&mut self, walk: &Walk<'_>, failure: Failure, line: u64) -> Result<(), AllocError> {
+    /// Adds a failure that was met in the action that begins there.
+    fn add(
+        &mut self,
+        walk: &Walk<'_>,
+        failure: Failure,
+        position: Position,
+    ) -> Result<(), AllocError> {
         match failure {
             Failure::OutOfMemory => Err(AllocError),
-            Failure::MayFail(cause, 0) => self.add_doubt(walk, Box::into_inner(cause), line),
-            Failure::MayFail(cause, inner) => self.add_doubt(walk, Box::into_inner(cause), inner),
+            Failure::MayFail(cause, inner) => {
+                let position = inner.unwrap_or(position);
+                self.add_doubt(walk, Box::into_inner(cause), Some(position))
+            }
             Failure::Wanted(call) => {
                 let call = Box::into_inner(call);
                 let name = call.name.as_slice();
@@ -86,32 +93,46 @@ impl Found {
                     self.wanted.push(call)?;
                     return Ok(());
                 }
-                self.add_doubt(walk, Cause::NoTemplate(call.name), line)
+                self.add_doubt(walk, Cause::NoTemplate(call.name), Some(position))
             }
         }
     }
 
-    /// Gives up, since no work is left where an action of this line failed.
-    fn give_up(&mut self, walk: &Walk<'_>, failure: &Failure, line: u64) -> Result<(), AllocError> {
+    /// Gives up, since no work is left where the action that begins there failed.
+    fn give_up(
+        &mut self,
+        walk: &Walk<'_>,
+        failure: &Failure,
+        position: Position,
+    ) -> Result<(), AllocError> {
         if self.is_over {
             return Ok(());
         }
         self.is_over = true;
-        match failure {
-            Failure::MayFail(_, inner) if *inner > 0 => {
-                self.add_doubt(walk, Cause::TooComplex, *inner)
-            }
-            _ => self.add_doubt(walk, Cause::TooComplex, line),
-        }
+        let inner = match failure {
+            Failure::MayFail(_, inner) => *inner,
+            Failure::OutOfMemory | Failure::Wanted(_) => None,
+        };
+        self.add_doubt(walk, Cause::TooComplex, Some(inner.unwrap_or(position)))
     }
 
     /// Adds an alarm, if there is room for one more.
-    fn add_doubt(&mut self, walk: &Walk<'_>, cause: Cause, line: u64) -> Result<(), AllocError> {
+    fn add_doubt(
+        &mut self,
+        walk: &Walk<'_>,
+        cause: Cause,
+        position: Option<Position>,
+    ) -> Result<(), AllocError> {
         if self.doubts.len() < MOST_DOUBTS {
             let template = copy_name(walk.checker.base.alloc, walk.name)?;
+            let (line, start) = match position {
+                Some(position) => (position.line, position.start),
+                None => (0, 0),
+            };
             self.doubts.push(Doubt {
                 template,
                 line,
+                start,
                 cause,
             })?;
         }
@@ -137,7 +158,7 @@ fn survey_nodes(
             Ok(known) => state.known = known,
             Err(failure) => {
                 if checker.is_spent() {
-                    found.give_up(walk, &failure, node.line)?;
+                    found.give_up(walk, &failure, Position::of(node))?;
                     break;
                 }
                 let known = survey_node(walk, head, &state, node, failure, found)?;
@@ -160,9 +181,11 @@ fn survey_node(
 ) -> Result<Known, AllocError> {
     let checker = walk.checker;
     match &node.what {
-        NodeKind::Control(control) => survey_control(walk, head, state, control, node.line, found),
+        NodeKind::Control(control) => {
+            survey_control(walk, head, state, control, Position::of(node), found)
+        }
         NodeKind::Action(header) => {
-            found.add(walk, failure, node.line)?;
+            found.add(walk, failure, Position::of(node))?;
             bind(
                 &checker.base,
                 &header.binding,
@@ -173,7 +196,7 @@ fn survey_node(
             )
         }
         NodeKind::Text(_) | NodeKind::Break | NodeKind::Continue | NodeKind::Template(_, _) => {
-            found.add(walk, failure, node.line)?;
+            found.add(walk, failure, Position::of(node))?;
             copy_known(&state.known)
         }
     }
@@ -186,7 +209,7 @@ fn survey_control(
     head: Option<&Known>,
     state: &State,
     control: &ControlNode,
-    line: u64,
+    position: Position,
     found: &mut Found,
 ) -> Result<Known, AllocError> {
     let checker = walk.checker;
@@ -194,14 +217,14 @@ fn survey_control(
     let shape = match pipeline_shape(&checker.base, checker.mode, state, commands) {
         Ok(shape) => shape,
         Err(failure) => {
-            found.add(walk, failure.into(), line)?;
+            found.add(walk, failure.into(), position)?;
             Shape::Never
         }
     };
     match control.control {
-        Control::If => survey_choice(walk, head, state, control, &shape, line, found),
-        Control::With => survey_choice(walk, head, state, control, &shape, line, found),
-        Control::Range => survey_range(walk, head, state, control, &shape, line, found),
+        Control::If => survey_choice(walk, head, state, control, &shape, position, found),
+        Control::With => survey_choice(walk, head, state, control, &shape, position, found),
+        Control::Range => survey_range(walk, head, state, control, &shape, position, found),
     }
 }
 
@@ -213,7 +236,7 @@ fn survey_choice(
     state: &State,
     control: &ControlNode,
     shape: &Shape,
-    line: u64,
+    position: Position,
     found: &mut Found,
 ) -> Result<Known, AllocError> {
     let base = &walk.checker.base;
@@ -221,7 +244,7 @@ fn survey_choice(
     let one = survey_nodes(walk, head, inside, control.body.as_slice(), found)?;
     let outside = in_other(base, &control.header, state, shape)?;
     let other = survey_nodes(walk, head, outside, control.other.as_slice(), found)?;
-    survey_end(walk, state, &one, &other, line, found)
+    survey_end(walk, state, &one, &other, position, found)
 }
 
 /// What is known after two parts.
@@ -230,13 +253,13 @@ fn survey_end(
     state: &State,
     one: &Known,
     other: &Known,
-    line: u64,
+    position: Position,
     found: &mut Found,
 ) -> Result<Known, AllocError> {
     match after_both(&walk.checker.base, &state.known, one, other) {
         Ok(known) => Ok(known),
         Err(failure) => {
-            found.add(walk, failure.into(), line)?;
+            found.add(walk, failure.into(), position)?;
             copy_known(&state.known)
         }
     }
@@ -250,7 +273,7 @@ fn survey_range(
     state: &State,
     control: &ControlNode,
     shape: &Shape,
-    line: u64,
+    position: Position,
     found: &mut Found,
 ) -> Result<Known, AllocError> {
     let checker = walk.checker;
@@ -258,7 +281,7 @@ fn survey_range(
     let visit = match visit_of(&checker.base, &header.binding, shape) {
         Ok(visit) => visit,
         Err(failure) => {
-            found.add(walk, failure.into(), line)?;
+            found.add(walk, failure.into(), position)?;
             Visit {
                 key: Shape::Never,
                 element: Shape::Never,
@@ -284,14 +307,14 @@ fn survey_range(
                 found,
             )?;
             if found.doubts.len().saturating_add(found.wanted.len()) == before {
-                found.add(walk, failure.into(), line)?;
+                found.add(walk, failure.into(), position)?;
             }
             copy_known(&state.known)?
         }
     };
     let outside = copy_state(checker.base.alloc, state)?;
     let other = survey_nodes(walk, head, outside, control.other.as_slice(), found)?;
-    survey_end(walk, state, &known, &other, line, found)
+    survey_end(walk, state, &known, &other, position, found)
 }
 
 /// Whether a template is a copy loop over texts; of one that calls what is neither there nor a stop, that is reported.
@@ -309,9 +332,9 @@ fn survey_loop(
     match check_loop(base, question.set, question.stops, tree.nodes.as_slice()) {
         Ok(()) => Ok(true),
         Err(Failure::OutOfMemory) => Err(AllocError),
-        Err(Failure::MayFail(cause, line)) => match Box::into_inner(cause) {
+        Err(Failure::MayFail(cause, position)) => match Box::into_inner(cause) {
             Cause::NoTemplate(name) => {
-                found.add_doubt(walk, Cause::NoTemplate(name), line)?;
+                found.add_doubt(walk, Cause::NoTemplate(name), position)?;
                 Ok(true)
             }
             _ => Ok(false),
@@ -335,8 +358,8 @@ fn survey_template(
     };
     match question.set.get(name) {
         Some(tree) => {
-            if let Some(line) = first_crowded(tree.nodes.as_slice()) {
-                return found.add_doubt(&walk, Cause::TooComplex, line);
+            if let Some(position) = first_crowded(tree.nodes.as_slice()) {
+                return found.add_doubt(&walk, Cause::TooComplex, Some(position));
             }
             if survey_loop(&walk, shape, tree, found)? {
                 return Ok(());
@@ -347,7 +370,7 @@ fn survey_template(
         }
         None => {
             let wanted = copy_name(checker.base.alloc, name)?;
-            found.add_doubt(&walk, Cause::NoTemplate(wanted), 0)
+            found.add_doubt(&walk, Cause::NoTemplate(wanted), None)
         }
     }
 }
@@ -549,6 +572,7 @@ fn unknown_doubt(alloc: Global, name: &[u8]) -> Result<Vec<Doubt>, AllocError> {
     doubts.push(Doubt {
         template: copy_name(alloc, name)?,
         line: 0,
+        start: 0,
         cause: Cause::TooComplex,
     })?;
     Ok(doubts)

@@ -10,9 +10,9 @@ use Rattle.tmpl_syntax.specs.declared.tree.ControlNode.{out-ControlNode}
 use Rattle.tmpl_syntax.specs.declared.tree.NodeKind as held_kind
 use Rattle.tmpl_syntax.specs.declared.tree.NodeKind.{Control, the_lemmas}
 
-pub node_of-Node : (line : ℕ) (what : held_kind.NodeKind)
-    → node_of (roll-Node (record { line = line; what = what })) ≡ record { line = line; what = kind_of what }
-node_of-Node line what = search (rules, the_lemmas)
+pub node_of-Node : (line start : ℕ) (what : held_kind.NodeKind)
+    → node_of (roll-Node (record { line = line; start = start; what = what })) ≡ record { line = line; what = kind_of what }
+node_of-Node line start what = search (rules, the_lemmas)
 
 pub kind_of-Control : (c : Box held_node_control.ControlNode Global) → kind_of (Control c) ≡ control_of c.value
 kind_of-Control c = search (rules, the_lemmas)

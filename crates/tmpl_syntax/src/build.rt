@@ -126,7 +126,7 @@ fn put(alloc: Global, parts: &mut OpenParts, item: Item) -> Result<(), AllocErro
 {
     let Item { line, start, what } = item;
     match what {
-        ItemKind::Text(text) => put_node(parts, line, NodeKind::Text(text)),
+        ItemKind::Text(text) => put_node(parts, line, start, NodeKind::Text(text)),
         ItemKind::Unreadable | ItemKind::Unread | ItemKind::TooDeep(_) => Ok(()),
         ItemKind::Action(action) => put_action(alloc, parts, line, start, action),
     }
@@ -145,18 +145,22 @@ fn put_action(
     ensures starts { IfOk result (λ u. open_starts parts.new ≡ action_start action start ++ open_starts parts.old) }
 {
     match action {
-        Action::Pipeline(header) => put_node(parts, line, NodeKind::Action(header)),
-        Action::Open(control, header) => put_control(alloc, parts, line, control, header),
+        Action::Pipeline(header) => put_node(parts, line, start, NodeKind::Action(header)),
+        Action::Open(control, header) => put_control(alloc, parts, line, start, control, header),
         Action::Else => {
             begin_else(alloc, parts);
             Ok(())
         }
-        Action::ElseBranch(branch, header) => begin_branch(alloc, parts, line, branch, header),
+        Action::ElseBranch(branch, header) => begin_branch(
+            alloc, parts, line, start, branch, header,
+        ),
         Action::End => end(alloc, parts),
-        Action::Break => put_node(parts, line, NodeKind::Break),
-        Action::Continue => put_node(parts, line, NodeKind::Continue),
+        Action::Break => put_node(parts, line, start, NodeKind::Break),
+        Action::Continue => put_node(parts, line, start, NodeKind::Continue),
         Action::Define(name) => put_definition(alloc, parts, line, start, name),
-        Action::Template(name, given) => put_node(parts, line, NodeKind::Template(name, given)),
+        Action::Template(name, given) => {
+            put_node(parts, line, start, NodeKind::Template(name, given))
+        }
         Action::Block(name, pipeline) => put_block(alloc, parts, line, start, name, pipeline),
     }
 }
@@ -199,16 +203,26 @@ fn put_block(
 {
     let called = Bytes::new(name.as_slice().to_vec(alloc)?);
     put_definition(alloc, parts, line, start, name)?;
-    put_node(parts, line, NodeKind::Template(called, Some(pipeline)))
+    put_node(
+        parts,
+        line,
+        start,
+        NodeKind::Template(called, Some(pipeline)),
+    )
 }
 
 /// Puts a node before those of the innermost part.
 #[tactic(auto, using(crate::proofs::ViewLemmas::nodes), unfolding(crate::specs::computed::View::parts_of))]
-fn put_node(parts: &mut OpenParts, line: u64, what: NodeKind) -> Result<(), AllocError>
+fn put_node(
+    parts: &mut OpenParts,
+    line: u64,
+    start: usize,
+    what: NodeKind,
+) -> Result<(), AllocError>
     ensures parts { IfOk result (λ u. parts_of parts.new ≡ spec.put_before line (kind_of what) (parts_of parts.old)) }
     ensures definitions { OnOk result (parts.new.definitions ≡ parts.old.definitions) }
 {
-    add_node(&mut parts.inner.nodes, Node { line, what })?;
+    add_node(&mut parts.inner.nodes, Node { line, start, what })?;
     Ok(())
 }
 
@@ -229,6 +243,7 @@ fn put_control(
     alloc: Global,
     parts: &mut OpenParts,
     line: u64,
+    start: usize,
     control: Control,
     header: Header,
 ) -> Result<(), AllocError>
@@ -239,7 +254,7 @@ fn put_control(
     let around = outer(alloc, &mut parts.around);
     let inner = mem::replace(&mut parts.inner, around);
     let what = control_kind(alloc, control, header, inner)?;
-    put_node(parts, line, what)
+    put_node(parts, line, start, what)
 }
 
 /// A control whose body, and the else part after it, are these.
@@ -289,6 +304,7 @@ fn begin_branch(
     alloc: Global,
     parts: &mut OpenParts,
     line: u64,
+    start: usize,
     branch: Branch,
     header: Header,
 ) -> Result<(), AllocError>
@@ -298,7 +314,7 @@ fn begin_branch(
 {
     let inner = mem::replace(&mut parts.inner, Level::new(alloc));
     let what = control_kind(alloc, branch.control(), header, inner)?;
-    parts.inner.other = vec![in alloc; Node { line, what }]?;
+    parts.inner.other = vec![in alloc; Node { line, start, what }]?;
     Ok(())
 }
 

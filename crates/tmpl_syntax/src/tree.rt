@@ -10,6 +10,8 @@ use tmpl_values::Bytes;
 #[derive(Drop)]
 pub struct Node {
     pub line: u64,
+    /// How many bytes of the file stand before that `{{`, or that byte.
+    pub start: usize,
     pub what: NodeKind,
 }
 
