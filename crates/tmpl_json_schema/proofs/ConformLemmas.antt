@@ -22,8 +22,8 @@ use Rattle.tmpl_values.specs.Value.{Value, sequence, mapping, item, Entries, no_
 use Rattle.tmpl_values.specs.Field.{entry_at}
 use Rattle.tmpl_values.specs.Json.{tree_value, tree_items, tree_entries}
 use Rattle.tmpl_shape.specs.Shape.{EachItem, EachEntry, AreDistinct}
-use Rattle.tmpl_json_schema.specs.Document.{IsInstance, IsOfType, HasKeys, EachKey, FitsProperty, FitsProperties, FitsItems, ConformsBy, conforms_in}
-use Rattle.tmpl_json_schema.specs.computed.Inferred.{items_among, items_of_list, EachValue, Fits, room, AddsItems, ArePropertiesOf, AreSharedBy, AreTold, AddsProperties}
+use Rattle.tmpl_json_schema.specs.Document.{IsInstance, IsOfType, HasKeys, EachKey, FitsProperty, FitsProperties, FitsAdditional, FitsItems, ConformsBy, base_of, conforms_in, of_each}
+use Rattle.tmpl_json_schema.specs.computed.Inferred.{items_among, items_of_list, values_among, EachValue, Fits, room, AddsItems, AddsOthers, ArePropertiesOf, AreSharedBy, AreTold, AddsProperties}
 
 -- ---- what is among a list
 
@@ -101,6 +101,29 @@ module _ (C : Data → Value → Type 0) where
   fits-items d (string t) h = tt
   fits-items d (array ds) h = mapped _ sequence (tree_items ds) (each-item (C d) ds h) (λ vs all. all)
   fits-items d (object ms) h = mapped _ mapping (tree_entries ms) (always _) (λ es _. tt)
+
+-- ---- the values of maps
+
+each-value : (P : Value → Type 0) (ms : Members) → ((x : Data) → Member x (values_among ms) → IfSome (tree_value x) P)
+    → IfSome (tree_entries ms) (EachEntry (λ k v. P v))
+each-value P no_members h = tt
+each-value P (member k d ms) h = chained _ (λ v. option_map (entry k v) (tree_entries ms)) (tree_value d) (h d (inl refl)) (λ v p.
+    mapped _ (entry k v) (tree_entries ms) (each-value P ms (λ x m. h x (inr m))) (λ es ps. (p, ps)))
+
+each-weaker : (P Q : List ℕ → Value → Type 0) (es : Entries) → ((k : List ℕ) (v : Value) → P k v → Q k v) → EachEntry P es → EachEntry Q es
+each-weaker P Q no_entry w h = tt
+each-weaker P Q (entry k v es) w h = (w k v h.0, each-weaker P Q es w h.1)
+
+module _ (C : Data → Value → Type 0) where
+  fits-others : (d s : Data) → ((ms : Members) → as_object s ≡ Some ms → (x : Data) → Member x (values_among ms) → IfSome (tree_value x) (C d))
+      → IfSome (tree_value s) (λ v. FitsAdditional C None None v d)
+  fits-others d null h = tt
+  fits-others d (boolean b) h = tt
+  fits-others d (number x) h = mapped _ value.number (as_i64 x) (always _) (λ z _. tt)
+  fits-others d (string t) h = tt
+  fits-others d (array ds) h = mapped _ sequence (tree_items ds) (always _) (λ vs _. tt)
+  fits-others d (object ms) h = mapped _ mapping (tree_entries ms) (each-value (C d) ms (h ms refl)) (λ es all.
+      each-weaker (λ k v. C d v) _ es (λ k v c _. inr c) all)
 
 -- ---- entries
 
@@ -227,13 +250,26 @@ with_properties (Some p) ms = put (codes "required") (array p.1) (put (codes "pr
 abbrev pub told : Data → Option Data → Option (Members × Items) → Members
 told t i p = with_properties p (with_items i (put (codes "type") t no_members))
 
+-- .. or, in place of that, a schema of all values that they have
+abbrev pub told_others : Data → Option Data → Data → Members
+told_others t i o = put (codes "additionalProperties") o (with_items i (put (codes "type") t no_members))
+
 module _ (root : Data) (C : Data → Value → Type 0) (t : Data) (v : Value) (inst : IsInstance v) (type : IsOfType v t) where
+  of-each : (i : Data) → FitsItems C v i → IfSome (of_each false i) (FitsItems C v)
+  of-each (array ds) h = tt
+  of-each i h = h
+
   conforms-told : (i : Option Data) (p : Option (Members × Items)) → IfSome i (λ d. FitsItems C v d)
       → IfSome p (λ q. FitsProperties C v (object q.0) × HasKeys v (array q.1)) → ConformsBy root C (object (told t i p)) v
-  conforms-told None None items props = (inst, tt, λ _. (type, λ _. tt, tt, tt, tt, tt, tt, tt, tt, tt))
-  conforms-told (Some i) None items props = (inst, tt, λ _. (type, λ _. tt, tt, tt, tt, tt, items, tt, tt, tt))
-  conforms-told None (Some p) items props = (inst, tt, λ _. (type, λ _. tt, tt, props.1, props.0, tt, tt, tt, tt, tt))
-  conforms-told (Some i) (Some p) items props = (inst, tt, λ _. (type, λ _. tt, tt, props.1, props.0, tt, items, tt, tt, tt))
+  conforms-told None None items props = (inst, tt, λ _. (type, λ _. tt, tt, tt, tt, tt, tt, tt, tt, tt, tt))
+  conforms-told (Some i) None items props = (inst, tt, λ _. (type, λ _. tt, tt, tt, tt, tt, of-each i items, tt, tt, tt, tt))
+  conforms-told None (Some p) items props = (inst, tt, λ _. (type, λ _. tt, tt, props.1, props.0, tt, tt, tt, tt, tt, tt))
+  conforms-told (Some i) (Some p) items props = (inst, tt, λ _. (type, λ _. tt, tt, props.1, props.0, tt, of-each i items, tt, tt, tt, tt))
+
+  conforms-others : (i : Option Data) (o : Data) → IfSome i (λ d. FitsItems C v d) → FitsAdditional C None None v o
+      → ConformsBy root C (object (told_others t i o)) v
+  conforms-others None o items others = (inst, tt, λ _. (type, λ _. tt, tt, tt, tt, others, tt, tt, tt, tt, tt))
+  conforms-others (Some i) o items others = (inst, tt, λ _. (type, λ _. tt, tt, tt, tt, others, of-each i items, tt, tt, tt, tt))
 
 -- what fits within any document fits within this one
 at-root : (root : Data) (n : ℕ) (d : Data) (o : Option Value) → IfSome o (Fits n d) → IfSome o (conforms_in root n d)
@@ -244,6 +280,12 @@ module _ (root : Data) (n : ℕ) (samples : List Data) (s : Data) (m : Member s 
   items-fit : (d : Data) → EachValue (Fits n d) (flat_map items_of_list samples) → IfSome (tree_value s) (λ v. FitsItems (conforms_in root n) v d)
   items-fit d h = fits-items (conforms_in root n) d s (λ x mx.
       at-root root n d (tree_value x) (all-at (λ x. IfSome (tree_value x) (Fits n d)) x (flat_map items_of_list samples) h (member-flat_map items_of_list x s samples m mx)))
+
+  others-fit : (d : Data) → EachValue (Fits n d) (flat_map values_among (filter_map as_object samples))
+      → IfSome (tree_value s) (λ v. FitsAdditional (conforms_in root n) None None v d)
+  others-fit d h = fits-others (conforms_in root n) d s (λ ms is x mx.
+      at-root root n d (tree_value x) (all-at (λ x. IfSome (tree_value x) (Fits n d)) x (flat_map values_among (filter_map as_object samples)) h
+      (member-flat_map values_among x ms (filter_map as_object samples) (member-filter_map as_object ms s samples m is) mx)))
 
   keys-fit : (ms : Members) → as_object s ≡ Some ms → (levels : ℕ) → n ≡ suc levels → (ps : Members) → ArePropertiesOf levels (filter_map as_object samples) ps
       → EachKeyFits (conforms_in root n) ms ps
@@ -292,6 +334,18 @@ module _ (levels : ℕ) (samples : List Data) (t : Data) (instances : EachValue 
             (has-keys (conforms_in root (suc levels)) ks s (λ ms e. keys-shared root (suc levels) samples s m ms e ks h.required)) is,
       )
 
+  others-told : (i : Option Data) (o : Data) → ItemsFit i → EachValue (Fits (suc levels) o) (flat_map values_among (filter_map as_object samples))
+      → EachValue (Fits (suc (suc levels)) (object (told_others t i o))) samples
+  others-told i o items others = all-from _ samples (λ s m. if-all _ (tree_value s) (λ v is root.
+      let here = if-some IsInstance (tree_value s) v (all-at (λ s. IfSome (tree_value s) IsInstance) s samples instances m) is in
+      let typed = if-some (λ v. IsOfType v t) (tree_value s) v (all-at (λ s. IfSome (tree_value s) (λ v. IsOfType v t)) s samples types m) is in
+      let fit = if-some (λ v. FitsAdditional (conforms_in root (suc levels)) None None v o) (tree_value s) v (others-fit root (suc levels) samples s m o others) is in
+      conforms-others root (conforms_in root (suc levels)) t v here typed i o (items_of root s m v is i items) fit))
+    where
+      items_of : (root s : Data) → Member s samples → (v : Value) → tree_value s ≡ Some v → (i : Option Data) → ItemsFit i → IfSome i (λ d. FitsItems (conforms_in root (suc levels)) v d)
+      items_of root s m v is None h = tt
+      items_of root s m v is (Some d) h = if-some (λ v. FitsItems (conforms_in root (suc levels)) v d) (tree_value s) v (items-fit root (suc levels) samples s m d h) is
+
 -- ---- how deep it nests
 
 shared-flat : (maps : List Members) (ks : Items) → AreSharedBy maps ks → items_depth ks ≤ 0
@@ -305,6 +359,11 @@ depth-told levels maps t (Some i) None dt di dp = omega arith
 depth-told levels maps t None (Some (ps, ks)) dt di dp = let a = dp.nests in let b = shared-flat maps ks dp.required in omega arith
 depth-told levels maps t (Some i) (Some (ps, ks)) dt di dp = let a = dp.nests in let b = shared-flat maps ks dp.required in omega arith
 
+depth-others : (levels : ℕ) (t : Data) (i : Option Data) (o : Data) → depth t ≤ 1 → IfSome i (λ d. depth d ≤ room levels) → depth o ≤ room levels
+    → depth (object (told_others t i o)) ≤ room (suc levels)
+depth-others levels t None o dt di dn = omega arith
+depth-others levels t (Some i) o dt di dn = omega arith
+
 -- ---- which keywords it has
 
 texts-shared : (maps : List Members) (ks : Items) → AreSharedBy maps ks → AreTexts ks
@@ -316,13 +375,18 @@ plain-told : (levels : ℕ) (maps : List Members) (t : Data) (i : Option Data) (
 plain-told levels maps t None None type items props = (inr (inl (refl, type)), tt)
 plain-told levels maps t (Some i) None type items props = (inr (inr (inr (inl (refl, items)))), (inr (inl (refl, type)), tt))
 plain-told levels maps t None (Some (ps, ks)) type items props = (
-  inr (inr (inr (inr (refl, props.plain)))),
+  inr (inr (inr (inr (inl (refl, props.plain))))),
   (inr (inr (inl (refl, texts-shared maps ks props.required))), (inr (inl (refl, type)), tt)),
 )
 plain-told levels maps t (Some i) (Some (ps, ks)) type items props = (
   inr (inr (inr (inl (refl, items)))),
-  (inr (inr (inr (inr (refl, props.plain)))), (inr (inr (inl (refl, texts-shared maps ks props.required))), (inr (inl (refl, type)), tt))),
+  (inr (inr (inr (inr (inl (refl, props.plain))))), (inr (inr (inl (refl, texts-shared maps ks props.required))), (inr (inl (refl, type)), tt))),
 )
+
+plain-others : (t : Data) (i : Option Data) (o : Data) → NamesTypes t → IfSome i IsInferred → IsInferred o → HasInferred (told_others t i o)
+plain-others t None o type items others = (inr (inr (inr (inr (inr (refl, others))))), (inr (inl (refl, type)), tt))
+plain-others t (Some i) o type items others =
+    (inr (inr (inr (inr (inr (refl, others))))), (inr (inr (inr (inl (refl, items)))), (inr (inl (refl, type)), tt)))
 
 -- ---- the schema that `schema_of` makes
 
@@ -344,16 +408,47 @@ added levels samples t (Some i) p inst types flat named items keys = (
   plain-told levels (filter_map as_object samples) t (Some i) p named items.2 keys,
 )
 
+added-others : (levels : ℕ) (samples : List Data) (t : Data) (i : Option Data) (o : Data) → EachValue IsInstance samples
+    → EachValue (λ v. IsOfType v t) samples → depth t ≤ 1 → NamesTypes t
+    → IfSome i (λ d. EachValue (Fits (suc levels) d) (flat_map items_of_list samples) × (depth d ≤ room levels) × IsInferred d)
+    → EachValue (Fits (suc levels) o) (flat_map values_among (filter_map as_object samples)) → depth o ≤ room levels → IsInferred o
+    → IsTold (suc levels) samples (told_others t i o)
+added-others levels samples t None o inst types flat named items others deep plain = (
+  others-told levels samples t inst types None o tt others,
+  depth-others levels t None o flat tt deep,
+  plain-others t None o named tt plain,
+)
+added-others levels samples t (Some i) o inst types flat named items others deep plain = (
+  others-told levels samples t inst types (Some i) o items.0 others,
+  depth-others levels t (Some i) o flat items.1 deep,
+  plain-others t (Some i) o named items.2 plain,
+)
+
 pub schema-told : (fewer levels : ℕ) (samples : List Data) (maps : List Members) (t : Data) (one two three : Members) → levels ≡ suc fewer
     → maps ≡ filter_map as_object samples → one ≡ put (codes "type") t no_members → EachValue IsInstance samples → EachValue (λ v. IsOfType v t) samples → depth t ≤ 1 → NamesTypes t
-    → AddsItems fewer samples one two → AddsProperties fewer maps two three → IsTold levels samples three
-schema-told fewer levels samples maps t one two three el em eo inst types flat named items props = rw el (by items (subst (λ l. AddsProperties fewer l two three) em props))
+    → AddsItems fewer samples one two → AddsOthers fewer maps two three ⊎ AddsProperties fewer maps two three → IsTold levels samples three
+schema-told fewer levels samples maps t one two three el em eo inst types flat named items keyed =
+    rw el (by items (subst (λ l. AddsOthers fewer l two three ⊎ AddsProperties fewer l two three) em keyed))
   where
-    by : AddsItems fewer samples one two → AddsProperties fewer (filter_map as_object samples) two three → IsTold (suc fewer) samples three
-    by (inl a) (inl b) = rw (b, a, eo) (added fewer samples t None None inst types flat named tt tt)
-    by (inr a) (inl b) = let i = a.1 in rw (b, i, eo) (added fewer samples t (Some a.0) None inst types flat named (a.2, a.3, a.4) tt)
-    by (inl a) (inr b) = let p = b.2 in rw (p, a, eo) (added fewer samples t None (Some (b.0, b.1)) inst types flat named tt b.3)
-    by (inr a) (inr b) = let i = a.1 in let p = b.2 in rw (p, i, eo) (added fewer samples t (Some a.0) (Some (b.0, b.1)) inst types flat named (a.2, a.3, a.4) b.3)
+    by : AddsItems fewer samples one two → AddsOthers fewer (filter_map as_object samples) two three ⊎ AddsProperties fewer (filter_map as_object samples) two three
+        → IsTold (suc fewer) samples three
+    by (inl a) (inl (inl b)) = rw (b, a, eo) (added fewer samples t None None inst types flat named tt tt)
+    by (inr a) (inl (inl b)) = let i = a.1 in rw (b, i, eo) (added fewer samples t (Some a.0) None inst types flat named (a.2, a.3, a.4) tt)
+    by (inl a) (inl (inr b)) = let o = b.1 in rw (o, a, eo) (added-others fewer samples t None b.0 inst types flat named tt b.2 b.3 b.4)
+    by (inr a) (inl (inr b)) = let i = a.1 in let o = b.1 in rw (o, i, eo) (added-others fewer samples t (Some a.0) b.0 inst types flat named (a.2, a.3, a.4) b.2 b.3 b.4)
+    by (inl a) (inr (inl b)) = rw (b, a, eo) (added fewer samples t None None inst types flat named tt tt)
+    by (inr a) (inr (inl b)) = let i = a.1 in rw (b, i, eo) (added fewer samples t (Some a.0) None inst types flat named (a.2, a.3, a.4) tt)
+    by (inl a) (inr (inr b)) = let p = b.2 in rw (p, a, eo) (added fewer samples t None (Some (b.0, b.1)) inst types flat named tt b.3)
+    by (inr a) (inr (inr b)) = let i = a.1 in let p = b.2 in rw (p, i, eo) (added fewer samples t (Some a.0) (Some (b.0, b.1)) inst types flat named (a.2, a.3, a.4) b.3)
+
+-- .. and the one without keywords
+pub empty-fits : (n : ℕ) (samples : List Data) → EachValue IsInstance samples → EachValue (Fits (suc n) (object no_members)) samples
+empty-fits n [] h = tt
+empty-fits n (s ∷ samples) h = (by (tree_value s) h.0, empty-fits n samples h.1)
+  where
+    by : (o : Option Value) → IfSome o IsInstance → IfSome o (Fits (suc n) (object no_members))
+    by None i = tt
+    by (Some v) i = λ root. (i, tt, λ _. (tt, λ _. tt, tt, tt, tt, tt, tt, tt, tt, tt, tt))
 
 -- ---- a document says by which draft it is one
 
@@ -372,8 +467,11 @@ told-draft root d C ms v h =
     let least = other (codes "minItems") (λ e. cc) in
     let any = other (codes "anyOf") (λ e. cc) in
     let one = other (codes "oneOf") (λ e. cc) in
+    let all = other (codes "allOf") (λ e. cc) in
+    let patterns = other (codes "patternProperties") (λ e. cc) in
+    let prefixes = other (codes "prefixItems") (λ e. cc) in
     let ref = other (codes "$ref") (λ e. cc) in
-    rw (type, const, enum, required, properties, additional, items, least, any, one, ref) h
+    rw (type, const, enum, required, properties, additional, items, least, any, one, all, patterns, prefixes, ref) h
 
 fits-draft : (n : ℕ) (d : Data) (ms : Members) (v : Value) → Fits n (object ms) v → Fits n (object (put (codes "$schema") d ms)) v
 fits-draft zero d ms v h = h
@@ -384,7 +482,7 @@ pub each-conforms : (n : ℕ) (d : Data) (ms : Members) (samples : List (Bor tre
 each-conforms n d ms [] h = tt
 each-conforms n d ms (s ∷ samples) h = (
   if-all _ (tree_value (view s.now)) (λ v is.
-      (n, fits-draft n d ms v (if-some (Fits n (object ms)) (tree_value (view s.now)) v h.0 is) (object (put (codes "$schema") d ms)))),
+      (n, fits-draft n d ms v (if-some (Fits n (object ms)) (tree_value (view s.now)) v h.0 is) (base_of (object (put (codes "$schema") d ms))))),
   each-conforms n d ms samples h.1,
 )
 

@@ -6,7 +6,7 @@ use Rattle.std.proofs.lemmas.Bool.{false≢true, and_parts}
 use Rattle.std.proofs.lemmas.Str.{is_utf8-from_IsUtf8, IsUtf8-from_is_utf8}
 use Rattle.std.proofs.lemmas.List.Elements.{All-head, All-tail}
 use Rattle.serde_json.specs.Data as json
-use Rattle.serde_json.specs.Data.{Data, Items, no_items, Members}
+use Rattle.serde_json.specs.Data.{Data, Items, no_items, Members, no_members, member}
 use Rattle.serde_json.specs.Find.{get, pointer}
 use Rattle.serde_json.specs.Read.{read}
 use Rattle.tmpl_values.specs.Value.{Value, Entries, no_entry, entry, nothing, null, boolean, number, string, sequence, mapping, item, no_item}
@@ -18,15 +18,18 @@ use Rattle.tmpl_shape.specs.declared.shape.Definition.{Definition}
 use Rattle.tmpl_shape.specs.computed.Means.{Means}
 use Rattle.tmpl_shape.proofs.NameLemmas.{meant}
 use Rattle.tmpl_shape.proofs.ShapeLemmas.{same_name, or_cases, items-has, entries-has}
-use Rattle.tmpl_json_schema.specs.Document.{IsInstance, IsOfType, IsConstant, IsOneOf, HasKeys, SomeItem, in_properties, FitsProperty, FitsProperties, FitsAdditional}
-use Rattle.tmpl_json_schema.specs.Document.{HasItems, FitsItems, FitsSome, fragment_of, refer, ConformsBy, conforms_in, document_of, draft_of, has_const, is_alone}
+use Rattle.tmpl_json_schema.specs.Document.{IsInstance, IsOfType, IsConstant, IsOneOf, HasKeys, SomeItem, SomeMember, in_properties, FitsProperty, FitsProperties, FitsAdditional}
+use Rattle.tmpl_json_schema.specs.Document.{HasItems, FitsItems, FitsSome, FitsEach, FitsPattern, fragment_of, refer, ConformsBy, conforms_in, document_of, draft_of, draft_in, has_const, is_alone}
+use Rattle.tmpl_json_schema.specs.Document.{base_of, draft_alone, has_inner_base, is_since_2019, items_in}
 use Rattle.tmpl_json_schema.specs.declared.draft.Draft.{Draft}
+use Rattle.tmpl_json_schema.specs.declared.draft.Draft.TheVariants.{Draft2020}
 use Rattle.tmpl_json_schema.specs.declared.kinds.Kinds.{Kinds}
 use Rattle.tmpl_json_schema.specs.computed.Reading.{fold, fold_members, every_kind, both_kinds, types_in, const_in, enum_in, kinds_in, type_kinds, enum_kinds, constant_kind}
-use Rattle.tmpl_json_schema.specs.computed.Reading.{count_of, least_in, is_every_kind, by_kinds, keep_kinds, rest_of, shape_of_rest, has_content, choices_in, or_else, is_listed, reference_shape, or_shape}
-use Rattle.tmpl_json_schema.specs.computed.Reading.{choice_with, choice_shape, shape_under, required_in, required_fields, properties_in, property_fields, with_property}
+use Rattle.tmpl_json_schema.specs.computed.Reading.{count_of, least_in, is_every_kind, by_kinds, keep_kinds, rest_of, shape_of_rest, has_content, choices_in, or_else, is_listed, or_shape}
+use Rattle.tmpl_json_schema.specs.computed.Reading.{choice_with, choice_shape, required_in, required_fields, properties_in, property_fields, with_property}
+use Rattle.tmpl_json_schema.specs.computed.Reading.{additional_in, beside_shape, first_of, if_listed, is_anything, items_shape, listed_in, part_in, with_pattern, with_patterns, whole_shape}
 use Rattle.tmpl_json_schema.specs.computed.Reading.{fields_in, content_shape, plain_shape, object_shape, is_unread, shape_by}
-use Rattle.tmpl_json_schema.specs.computed.Defined.{IsDefinition, are_defined}
+use Rattle.tmpl_json_schema.specs.computed.Defined.{AreLookedUp, IsDefinition, are_defined}
 use Rattle.tmpl_json_schema.proofs.KindLemmas.{HasKind, HasParts, is-some, not-some, both-kinds, type_kinds-has, constant_kind-has, enum_kinds-has, or-one, or-other, by_kinds-has, kept-has}
 use Rattle.tmpl_json_schema.proofs.FieldLemmas.{rest-field, rest-shape, rest-required, required-fields, required-has, properties-fields, properties-has}
 
@@ -119,8 +122,8 @@ module _ (N : Names) (read : Data → Option Shape) (C : Data → Value → Type
 
   -- ---- fields
 
-  module _ (ps : Option Data) (req : Option Data) (add : Option Data) (s : Shape) (gs fs : Fields) (es : Entries)
-      (rest-is : option_map_or read add (Some anything) ≡ Some s)
+  module _ (ps : Option Data) (req : Option Data) (Other : Value → Type 0) (s : Shape) (gs fs : Fields) (es : Entries)
+      (rest-is : (v : Value) → Other v → HasShape N s v)
       (required-is : option_map_or (required_fields ps (rest_of s)) req (Some (rest_of s)) ≡ Some gs)
       (properties-is : option_map_or (property_fields read req gs) ps (Some gs) ≡ Some fs)
       (keys : IfSome req (HasKeys (mapping es))) where
@@ -146,10 +149,10 @@ module _ (N : Names) (read : Data → Option Shape) (C : Data → Value → Type
 
     -- a key that is no property has the shape of the rest
     abbrev IsOther : List ℕ → Value → Type 0
-    IsOther k v = in_properties k ps ≡ false → IfSome add (λ d. C d v)
+    IsOther k v = in_properties k ps ≡ false → Other v
 
     other-field : (k : List ℕ) (v : Value) → IsOther k v → in_properties k ps ≡ false → IsField N gs k v
-    other-field k v other none = before-field k v (under-has add s v rest-is (other none))
+    other-field k v other none = before-field k v (rest-is v (other none))
 
     both-fields : (ms : Members) → fold_members (with_property read req) gs ms ≡ Some fs → (ws : Entries) → EachEntry (FitsProperty C ms) ws
         → EachEntry (λ k v. in_properties k (Some (json.object ms)) ≡ false → IsField N gs k v) ws → EachEntry (IsField N fs) ws
@@ -174,29 +177,71 @@ module _ (N : Names) (read : Data → Option Shape) (C : Data → Value → Type
         by (Some (json.object ms)) e = properties-has N read C ok req ms gs fs es e keys before-required
         by (Some d) e = absurd (not-some fs e)
 
-  additional-of : (ps add : Option Data) (es : Entries) → IfSome add (FitsAdditional C ps (mapping es))
-      → EachEntry (λ k v. in_properties k ps ≡ false → IfSome add (λ d. C d v)) es
-  additional-of ps None es h = any-entries (λ k v. in_properties k ps ≡ false) es
-  additional-of ps (Some d) es h = h
+  -- what the value of a key is that is no property
+  abbrev IsAdditional : Option Data → Option Data → Value → Type 0
+  IsAdditional qs add v = IfSome add (λ d. FitsPattern C qs v ⊎ C d v)
+
+  additional-of : (ps qs add : Option Data) (es : Entries) → IfSome add (FitsAdditional C ps qs (mapping es))
+      → EachEntry (λ k v. in_properties k ps ≡ false → IsAdditional qs add v) es
+  additional-of ps qs None es h = any-entries (λ k v. in_properties k ps ≡ false) es
+  additional-of ps qs (Some d) es h = h
+
+  patterns-has : (ms : Members) (a s : Shape) (v : Value) → fold_members (with_pattern read) a ms ≡ Some s → HasShape N a v ⊎ SomeMember (λ d. C d v) ms → HasShape N s v
+  patterns-has no_members a s v e h = elim h [ inl x ↦ is-some (λ t. HasShape N t v) a s e x | inr x ↦ absurd x ]
+  patterns-has (member k d ms) a s v e h = by (read d) refl e (λ b f x. patterns-has ms b s v f x)
+    where
+      by : (o : Option Shape) → read d ≡ o → option_and_then (λ b. fold_members (with_pattern read) b ms) (option_map (λ t. or_shape t a) o) ≡ Some s
+          → ((b : Shape) → fold_members (with_pattern read) b ms ≡ Some s → HasShape N b v ⊎ SomeMember (λ d. C d v) ms → HasShape N s v) → HasShape N s v
+      by None is f more = absurd (not-some s f)
+      by (Some t) is f more = more (or_shape t a) f (elim h [
+        | inl x ↦ inl (or-other N t a v x)
+        | inr x ↦ elim x [ inl y ↦ inl (or-one N t a v (ok d t v is y)) | inr y ↦ inr y ]
+      ])
+
+  anything-has : (s : Shape) (v : Value) → is_anything s ≡ true → HasShape N s v
+  anything-has anything v e = tt
+  anything-has s v e = absurd (false≢true e)
+
+  with-patterns-has : (qs : Option Data) (a s : Shape) (v : Value) → with_patterns read qs a ≡ Some s → FitsPattern C qs v ⊎ HasShape N a v → HasShape N s v
+  with-patterns-has (Some (json.object ms)) a s v e h = by (is_anything a) refl e
+    where
+      swap : FitsPattern C (Some (json.object ms)) v ⊎ HasShape N a v → HasShape N a v ⊎ SomeMember (λ d. C d v) ms
+      swap (inl x) = inr x
+      swap (inr x) = inl x
+
+      by : (c : Bool) → is_anything a ≡ c → (if c then Some a else fold_members (with_pattern read) a ms) ≡ Some s → HasShape N s v
+      by true is f = is-some (λ t. HasShape N t v) a s f (anything-has a v is)
+      by false is f = patterns-has ms a s v f (swap h)
+  with-patterns-has qs a s v e h = is-some (λ t. HasShape N t v) a s e (elim h [ inl x ↦ absurd x | inr x ↦ x ])
+
+  additional-has : (d : Data) (add : Option Data) (s : Shape) → additional_in read d add ≡ Some s → (v : Value) → IsAdditional (get (codes "patternProperties") d) add v → HasShape N s v
+  additional-has d None s e v h = is-some (λ t. HasShape N t v) anything s e tt
+  additional-has d (Some a) s e v h = by (read a) refl e
+    where
+      by : (o : Option Shape) → read a ≡ o → option_and_then (with_patterns read (get (codes "patternProperties") d)) o ≡ Some s → HasShape N s v
+      by None is f = absurd (not-some s f)
+      by (Some t) is f = with-patterns-has (get (codes "patternProperties") d) t s v f (elim h [ inl x ↦ inl x | inr x ↦ inr (ok a t v is x) ])
 
   fields-has : (d : Data) (fs : Fields) (es : Entries) → fields_in read d ≡ Some fs → AreDistinct es
       → IfSome (get (codes "required") d) (HasKeys (mapping es)) → IfSome (get (codes "properties") d) (FitsProperties C (mapping es))
-      → IfSome (get (codes "additionalProperties") d) (FitsAdditional C (get (codes "properties") d) (mapping es)) → HasShape N (record_of fs) (mapping es)
-  fields-has d fs es e once keys fits more = by (shape_under read (codes "additionalProperties") d) refl e
+      → IfSome (get (codes "additionalProperties") d) (FitsAdditional C (get (codes "properties") d) (get (codes "patternProperties") d) (mapping es))
+      → HasShape N (record_of fs) (mapping es)
+  fields-has d fs es e once keys fits more = by (additional_in read d (get (codes "additionalProperties") d)) refl e
     where
-      last : (s : Shape) → shape_under read (codes "additionalProperties") d ≡ Some s → (o : Option Fields) → required_in d (rest_of s) ≡ o
+      last : (s : Shape) → additional_in read d (get (codes "additionalProperties") d) ≡ Some s → (o : Option Fields) → required_in d (rest_of s) ≡ o
           → option_and_then (properties_in read d) o ≡ Some fs → HasShape N (record_of fs) (mapping es)
       last s is None x f = absurd (not-some fs f)
       last s is (Some gs) x f =
           let ps = get (codes "properties") d in
+          let qs = get (codes "patternProperties") d in
           let req = get (codes "required") d in
           let add = get (codes "additionalProperties") d in (
             once,
-            each-field ps req add s gs fs es is x f keys fits (additional-of ps add es more),
-            each-required ps req add s gs fs es is x f keys,
+            each-field ps req (IsAdditional qs add) s gs fs es (additional-has d add s is) x f keys fits (additional-of ps qs add es more),
+            each-required ps req (IsAdditional qs add) s gs fs es (additional-has d add s is) x f keys,
           )
 
-      by : (o : Option Shape) → shape_under read (codes "additionalProperties") d ≡ o
+      by : (o : Option Shape) → additional_in read d (get (codes "additionalProperties") d) ≡ o
           → option_and_then (λ s. option_and_then (properties_in read d) (required_in d (rest_of s))) o ≡ Some fs → HasShape N (record_of fs) (mapping es)
       by None is f = absurd (not-some fs f)
       by (Some s) is f = last s is (required_in d (rest_of s)) refl f
@@ -213,32 +258,32 @@ module _ (N : Names) (read : Data → Option Shape) (C : Data → Value → Type
       × IfSome (keyword (codes "enum")) (IsOneOf v)
       × IfSome (keyword (codes "required")) (HasKeys v)
       × IfSome (keyword (codes "properties")) (FitsProperties C v)
-      × IfSome (keyword (codes "additionalProperties")) (FitsAdditional C (keyword (codes "properties")) v)
-      × IfSome (keyword (codes "items")) (FitsItems C v)
+      × IfSome (keyword (codes "additionalProperties")) (FitsAdditional C (keyword (codes "properties")) (keyword (codes "patternProperties")) v)
+      × IfSome (items_in (json.object ms)) (FitsItems C v)
       × IfSome (keyword (codes "minItems")) (HasItems v)
       × IfSome (keyword (codes "anyOf")) (FitsSome C v)
       × IfSome (keyword (codes "oneOf")) (FitsSome C v)
+      × IfSome (keyword (codes "allOf")) (FitsEach C v)
 
   module _ (ms : Members) (v : Value) (h : ConformsPlainly ms v) where
     abbrev whole : Data
     whole = json.object ms
 
-    inside : (i : Shape) (fs : Fields) → shape_under read (codes "items") whole ≡ Some i → fields_in read whole ≡ Some fs → HasParts N (least_in whole) i fs v
+    inside : (i : Shape) (fs : Fields) → items_shape read whole ≡ Some i → fields_in read whole ≡ Some fs → HasParts N (least_in whole) i fs v
     inside i fs e f = by v h
       where
         by : (w : Value) → ConformsPlainly ms w → HasParts N (least_in whole) i fs w
         by (sequence vs) k = (
           least-has (get (codes "minItems") whole) vs k.8,
-          items-has (λ w. IfSome (get (codes "items") whole) (λ d. C d w)) (HasShape N i) (λ w. under-has (get (codes "items") whole) i w e) vs
-              (items-of (get (codes "items") whole) vs k.7),
+          items-has (λ w. IfSome (items_in whole) (λ d. C d w)) (HasShape N i) (λ w. under-has (items_in whole) i w e) vs (items-of (items_in whole) vs k.7),
         )
         by (mapping es) k = fields-has whole fs es f k.0 k.4 k.5 k.6
         by w k = tt
 
     content-has : (ks : Kinds) (s : Shape) → content_shape read whole ks ≡ Some s → HasKind ks v → HasShape N s v
-    content-has ks s e k = by (is_every_kind ks && not (has_content whole)) (shape_under read (codes "items") whole) refl (fields_in read whole) refl e
+    content-has ks s e k = by (is_every_kind ks && not (has_content whole)) (items_shape read whole) refl (fields_in read whole) refl e
       where
-        by : (c : Bool) (o : Option Shape) → shape_under read (codes "items") whole ≡ o → (p : Option Fields) → fields_in read whole ≡ p
+        by : (c : Bool) (o : Option Shape) → items_shape read whole ≡ o → (p : Option Fields) → fields_in read whole ≡ p
             → (if c then Some anything else option_and_then (λ i. option_map (by_kinds ks (least_in whole) i) p) o) ≡ Some s → HasShape N s v
         by true o x p y f = is-some (λ t. HasShape N t v) anything s f tt
         by false None x p y f = absurd (not-some s f)
@@ -254,6 +299,30 @@ module _ (N : Names) (read : Data → Option Shape) (C : Data → Value → Type
         by false None (Some d) x y f = is-some (FitsSome C v) d c f y
         by false (Some d) p x y f = is-some (FitsSome C v) d c f x
 
+    parted : (d : Data) → part_in whole ≡ Some d → C d v
+    parted d e = by (has_content whole) (get (codes "allOf") whole) h.11 e
+      where
+        first : (l : Data) → FitsEach C v l → first_of l ≡ Some d → C d v
+        first (json.array (json.item x ds)) k f = is-some (λ y. C y v) x d f k.0
+        first (json.array no_items) k f = absurd (not-some d f)
+        first l k f = absurd (not-some d f)
+
+        by : (b : Bool) (o : Option Data) → IfSome o (FitsEach C v) → (if b then None else option_and_then first_of o) ≡ Some d → C d v
+        by true o k f = absurd (not-some d f)
+        by false None k f = absurd (not-some d f)
+        by false (Some l) k f = first l k f
+
+    whole-has : (ks : Kinds) (s : Shape) → whole_shape read whole ks ≡ Some s → HasKind ks v → HasShape N s v
+    whole-has ks s e k = by (part_in whole) refl e
+      where
+        pick : (p : Data) → part_in whole ≡ Some p → (o : Option Shape) → read p ≡ o → option_map (keep_kinds ks) o ≡ Some s → HasShape N s v
+        pick p is None x f = absurd (not-some s f)
+        pick p is (Some t) x f = is-some (λ u. HasShape N u v) (keep_kinds ks t) s f (kept-has N ks t v k (ok p t v x (parted p is)))
+
+        by : (o : Option Data) → part_in whole ≡ o → option_map_or (λ p. option_map (keep_kinds ks) (read p)) o (content_shape read whole ks) ≡ Some s → HasShape N s v
+        by None is f = content-has ks s f k
+        by (Some p) is f = pick p is (read p) refl f
+
     plain-has : (ks : Kinds) (s : Shape) → plain_shape read whole ks ≡ Some s → HasKind ks v → HasShape N s v
     plain-has ks s e k = by (choices_in whole) refl e
       where
@@ -261,8 +330,8 @@ module _ (N : Names) (read : Data → Option Shape) (C : Data → Value → Type
         pick c is None x f = absurd (not-some s f)
         pick c is (Some t) x f = is-some (λ u. HasShape N u v) (keep_kinds ks t) s f (kept-has N ks t v k (choice-has c t v x (chosen c is)))
 
-        by : (o : Option Data) → choices_in whole ≡ o → option_map_or (λ c. option_map (keep_kinds ks) (choice_shape read c)) o (content_shape read whole ks) ≡ Some s → HasShape N s v
-        by None is f = content-has ks s f k
+        by : (o : Option Data) → choices_in whole ≡ o → option_map_or (λ c. option_map (keep_kinds ks) (choice_shape read c)) o (whole_shape read whole ks) ≡ Some s → HasShape N s v
+        by None is f = whole-has ks s f k
         by (Some c) is f = pick c is (choice_shape read c) refl f
 
     all-kinds : (ks : Kinds) → kinds_in whole ≡ Some ks → HasKind ks v
@@ -281,24 +350,45 @@ module _ (N : Names) (read : Data → Option Shape) (C : Data → Value → Type
   const-read (Some d) true v e h = h refl
   const-read (Some d) false v e h = absurd (false≢true (sym e))
 
-  plainly : (root : Data) (draft : Draft) (ms : Members) (v : Value) → draft_of root ≡ Some draft → get (codes "$ref") (json.object ms) ≡ None
+  plainly : (root : Data) (draft : Draft) (ms : Members) (v : Value) → draft_of root ≡ Some draft → is_alone root (get (codes "$ref") (json.object ms)) ≡ false
       → is_unread draft (json.object ms) ≡ false → ConformsBy root C (json.object ms) v → ConformsPlainly ms v
-  plainly root draft ms v is none unread h =
-      let alone : is_alone root (get (codes "$ref") (json.object ms)) ≡ false = ap (is_alone root) none in
+  plainly root draft ms v is alone unread h =
       let all = h.2 alone in
       let const = const-read (get (codes "const") (json.object ms)) (has_const draft) v unread (λ e. all.1 (ap (λ o. option_map_or has_const o true) is ∙ e)) in
-      (h.0, all.0, const, all.2, all.3, all.4, all.5, all.6, all.7, all.8, all.9)
+      (h.0, all.0, const, all.2, all.3, all.4, all.5, all.6, all.7, all.8, all.9, all.10)
+
+  -- beside a `$ref` that is not looked up
+  beside-has : (root : Data) (draft : Draft) (ms : Members) (v : Value) → draft_of root ≡ Some draft → is_unread draft (json.object ms) ≡ false
+      → ConformsBy root C (json.object ms) v → (s : Shape) → beside_shape read draft (json.object ms) (get (codes "$ref") (json.object ms)) ≡ Some s → HasShape N s v
+  beside-has root draft ms v is unread h s e = by (is_some (get (codes "$ref") (json.object ms)) && not (is_since_2019 draft)) refl e
+    where
+      by : (c : Bool) → (is_some (get (codes "$ref") (json.object ms)) && not (is_since_2019 draft)) ≡ c
+          → (if c then Some anything else option_and_then (plain_shape read (json.object ms)) (kinds_in (json.object ms))) ≡ Some s → HasShape N s v
+      by true x f = is-some (λ t. HasShape N t v) anything s f tt
+      by false x f =
+          let alone : is_alone root (get (codes "$ref") (json.object ms)) ≡ false =
+          ap (λ o. is_some (get (codes "$ref") (json.object ms)) && not (option_map_or is_since_2019 o true)) is ∙ x in
+          kinds-plain ms v (plainly root draft ms v is alone unread h) s f
 
   object-has : (root : Data) (draft : Draft) (names : List (List ℕ)) (ms : Members) (v : Value) → draft_of root ≡ Some draft
-      → ((r : Data) (s : Shape) → reference_shape names r ≡ Some s → IfSome (refer root r) (λ d. C d v) → HasShape N s v)
+      → ((r : Data) (p : List ℕ) → listed_in names r ≡ Some p → IfSome (refer root r) (λ d. C d v) → N p v)
       → (s : Shape) → object_shape read draft names (json.object ms) ≡ Some s → ConformsBy root C (json.object ms) v → HasShape N s v
-  object-has root draft names ms v is refers s e h = by (is_unread draft (json.object ms)) refl (get (codes "$ref") (json.object ms)) refl h.1 e
+  object-has root draft names ms v is refers s e h = by (is_unread draft (json.object ms)) refl e
     where
-      by : (c : Bool) → is_unread draft (json.object ms) ≡ c → (o : Option Data) → get (codes "$ref") (json.object ms) ≡ o → IfSome o (λ r. IfSome (refer root r) (λ d. C d v))
-          → (if c then None else option_map_or (reference_shape names) o (option_and_then (plain_shape read (json.object ms)) (kinds_in (json.object ms)))) ≡ Some s → HasShape N s v
-      by true u o x r f = absurd (not-some s f)
-      by false u (Some d) x r f = refers d s f r
-      by false u None x r f = kinds-plain ms v (plainly root draft ms v is x u h) s f
+      named-has : (o : Option Data) → IfSome o (λ r. IfSome (refer root r) (λ d. C d v)) → (p : List ℕ) → option_and_then (listed_in names) o ≡ Some p → N p v
+      named-has None r p f = absurd (not-some p f)
+      named-has (Some d) r p f = refers d p f r
+
+      pick : is_unread draft (json.object ms) ≡ false → (o : Option (List ℕ)) → option_and_then (listed_in names) (get (codes "$ref") (json.object ms)) ≡ o
+          → option_map_or (λ p. Some (named p)) o (beside_shape read draft (json.object ms) (get (codes "$ref") (json.object ms))) ≡ Some s → HasShape N s v
+      pick u None x f = beside-has root draft ms v is u h s f
+      pick u (Some p) x f = is-some (λ t. HasShape N t v) (named p) s f (named-has (get (codes "$ref") (json.object ms)) h.1 p x)
+
+      by : (c : Bool) → is_unread draft (json.object ms) ≡ c
+          → (if c then None else option_map_or (λ p. Some (named p)) (option_and_then (listed_in names) (get (codes "$ref") (json.object ms)))
+          (beside_shape read draft (json.object ms) (get (codes "$ref") (json.object ms)))) ≡ Some s → HasShape N s v
+      by true u f = absurd (not-some s f)
+      by false u f = pick u (option_and_then (listed_in names) (get (codes "$ref") (json.object ms))) refl f
 
 -- ---- a document
 
@@ -309,23 +399,22 @@ EachDefined draft root names l defs = (p : List ℕ) → is_listed names p ≡ t
 
 module _ (draft : Draft) (root : Data) (is-of : draft_of root ≡ Some draft) (names : List (List ℕ)) (l : ℕ) (defs : Defs) (defined : EachDefined draft root names l defs) (N : Names) (means : Means defs N) where
   module _ (C : Data → Value → Type 0) (ok : (d : Data) (s : Shape) (v : Value) → shape_by draft names l d ≡ Some s → C d v → HasShape N s v) where
-    refers-has : (v : Value) (r : Data) (s : Shape) → reference_shape names r ≡ Some s → IfSome (refer root r) (λ d. C d v) → HasShape N s v
-    refers-has v (json.string t) s e h = by (fragment_of t) e h
+    refers-has : (v : Value) (r : Data) (p : List ℕ) → listed_in names r ≡ Some p → IfSome (refer root r) (λ d. C d v) → N p v
+    refers-has v (json.string t) q e h = by (fragment_of t) e h
       where
         found : (p : List ℕ) → is_listed names p ≡ true → IfSome (pointer p root) (λ d. C d v) → N p v
         found p is k =
             let at = defined p is in
             means.folds p at.1 v at.3 (ok at.0 at.1 v at.4 (subst (λ (o : Option Data). IfSome o (λ d. C d v)) at.2 k))
 
-        at : (p : List ℕ) → IfSome (pointer p root) (λ d. C d v) → (c : Bool) → is_listed names p ≡ c → (if c then Some (named p) else None) ≡ Some s → HasShape N s v
-        at p k true is f = is-some (λ u. HasShape N u v) (named p) s f (found p is k)
-        at p k false is f = absurd (not-some s f)
+        at : (p : List ℕ) → IfSome (pointer p root) (λ d. C d v) → (c : Bool) → is_listed names p ≡ c → (if c then Some p else None) ≡ Some q → N q v
+        at p k true is f = is-some (λ x. N x v) p q f (found p is k)
+        at p k false is f = absurd (not-some q f)
 
-        by : (o : Option (List ℕ)) → option_and_then (λ p. if is_listed names p then Some (named p) else None) o ≡ Some s
-            → IfSome (option_and_then (λ p. pointer p root) o) (λ d. C d v) → HasShape N s v
-        by None f k = absurd (not-some s f)
+        by : (o : Option (List ℕ)) → option_and_then (if_listed names) o ≡ Some q → IfSome (option_and_then (λ p. pointer p root) o) (λ d. C d v) → N q v
+        by None f k = absurd (not-some q f)
         by (Some p) f k = at p k (is_listed names p) refl f
-    refers-has v r s e h = absurd (not-some s e)
+    refers-has v r q e h = absurd (not-some q e)
 
   sound : (n m : ℕ) (d : Data) (s : Shape) (v : Value) → shape_by draft names m d ≡ Some s → conforms_in root n d v → HasShape N s v
   sound zero m d s v e h = absurd h
@@ -363,11 +452,33 @@ listed-defined defs (x ∷ xs) p e is =
       | inr more ↦ listed-defined defs xs p both.1 more
     ]
 
-pub document-fits : (draft : Draft) (root : Data) → draft_of root ≡ Some draft → (names : List (List ℕ)) (l : ℕ) (ds : List Definition) (s : Shape) → All (IsDefinition draft root names l) ds
-    → are_defined (defs_in ds) names ≡ true → shape_by draft names l root ≡ Some s → (n : ℕ) (v : Value) → conforms_in root n root v
-    → HasShape (stands_for (defs_in ds)) s v
-document-fits draft root is-of names l ds s all e is n v h =
-    sound draft root is-of names l (defs_in ds) (λ p i. find-definition draft root names l ds all p (listed-defined (defs_in ds) names p e i))
+-- the document that says its draft alone is of the same
+alone-draft : (root : Data) → draft_of (draft_alone root) ≡ draft_of root
+alone-draft root = by (get (codes "$schema") root)
+  where
+    by : (o : Option Data) → draft_of (json.object (option_map_or (λ uri. member (codes "$schema") uri no_members) o no_members)) ≡ option_map_or draft_in o (Some Draft2020)
+    by None = refl
+    by (Some d) = refl
+
+base-draft : (root : Data) → draft_of (base_of root) ≡ draft_of root
+base-draft root = by (has_inner_base root)
+  where
+    by : (c : Bool) → draft_of (if c then draft_alone root else root) ≡ draft_of root
+    by true = alone-draft root
+    by false = refl
+
+-- what is looked up is
+base-defined : (draft : Draft) (root : Data) (names : List (List ℕ)) (l : ℕ) (defs : Defs) → AreLookedUp root names → EachDefined draft root names l defs
+    → EachDefined draft (base_of root) names l defs
+base-defined draft root names l defs (inl same) each = subst (λ r. EachDefined draft r names l defs) (sym same) each
+base-defined draft root names l defs (inr none) each = λ p i. absurd (false≢true (ap (λ ns. is_listed ns p) (sym none) ∙ i))
+
+pub document-fits : (draft : Draft) (root : Data) → draft_of root ≡ Some draft → (names : List (List ℕ)) (l : ℕ) (ds : List Definition) (s : Shape) → AreLookedUp root names
+    → All (IsDefinition draft root names l) ds → are_defined (defs_in ds) names ≡ true → shape_by draft names l root ≡ Some s → (n : ℕ) (v : Value)
+    → conforms_in (base_of root) n root v → HasShape (stands_for (defs_in ds)) s v
+document-fits draft root is-of names l ds s looked all e is n v h =
+    sound draft (base_of root) (base-draft root ∙ is-of) names l (defs_in ds)
+    (base-defined draft root names l (defs_in ds) looked (λ p i. find-definition draft root names l ds all p (listed-defined (defs_in ds) names p e i)))
     (stands_for (defs_in ds)) (meant (defs_in ds)) n l root s v is h
 
 -- ---- the document that bytes are

@@ -7,3 +7,4 @@ pub mod StepLemmas
 pub mod ConformLemmas
 pub mod MeetLemmas
 pub mod KnownLemmas
+pub mod BaseLemmas

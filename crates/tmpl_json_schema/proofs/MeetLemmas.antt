@@ -1,9 +1,9 @@
 -- For `conform.rt`: what a check of each part says of the value.
-use Rattle.std.proofs.Common.{rules, ◌==◌, ◌||◌, ◌≡◌, ◌≤◌, ◌<◌, ◌+◌, ◌++◌, ℕ, suc, List, [], ◌∷◌, map, length, take, get_or, Bool, true, false, Option, Some, None, IfSome, IsSome, is_some, option_map, codes, refl, sym, subst, ap, ◌∙◌, bytes_eq, Bor, string_bytes, string_cmp, String, Global, Ordering, Less, Equal, Greater, nat_cmp}
+use Rattle.std.proofs.Common.{rules, ◌==◌, ◌||◌, ◌⊎◌, ◌≡◌, ◌≤◌, ◌<◌, ◌+◌, ◌++◌, ℕ, suc, List, [], ◌∷◌, map, length, take, get_or, Bool, true, false, Option, Some, None, IfSome, IsSome, inr, is_some, option_map, codes, refl, sym, subst, ap, ◌∙◌, bytes_eq, Bor, string_bytes, string_cmp, String, Global, Ordering, Less, Equal, Greater, nat_cmp}
 use Rattle.std.specs.List.{AllByRecursion, list_any}
 use Rattle.std.specs.Iterator.{Yields}
 use Rattle.std.specs.Map.{keys_of, lookup}
-use Rattle.std.specs.Option.{option_copied}
+use Rattle.std.specs.Option.{option_and_then, option_copied, option_map_or}
 use Rattle.std.specs.BTreeMap.{is_at}
 use Rattle.std.specs.Map.Iter.{TakesFirst, deref_pair}
 use Rattle.std.specs.List.Sorted.{IsStrictlySortedBy}
@@ -27,7 +27,10 @@ use Rattle.tmpl_values.specs.Elements.{values_of_items}
 use Rattle.tmpl_values.specs.Field.{entry_at}
 use Rattle.tmpl_values.specs.Json.{tree_value, tree_items, tree_entries}
 use Rattle.tmpl_shape.specs.Shape.{EachItem, EachEntry, AreDistinct}
-use Rattle.tmpl_json_schema.specs.Document.{IsInstance, SomeItem, HasItems, HasKey, HasKeys, EachKey, FitsProperty, FitsProperties, FitsAdditional, in_properties, is_property, conforms_in}
+use Rattle.tmpl_json_schema.specs.Document.{IsInstance, SomeItem, EachItemOf, HasItems, HasKey, HasKeys, EachKey, FitsProperty, FitsProperties, FitsItems, FitsPattern, FitsAdditional, in_properties, is_property, of_each, conforms_in}
+use Rattle.tmpl_json_schema.specs.Document.{IsOfSchema, base_of, draft_of, has_inner_base, identifier_of, inside_has_base}
+use Rattle.tmpl_json_schema.specs.declared.draft.Draft.{Draft}
+use Rattle.tmpl_json_schema.specs.computed.Inferred.{values_among}
 use Rattle.tmpl_json_schema.specs.computed.Conformed.{AreApart, EachMember, IsAtLeast, Meets, MeetsEach}
 use Rattle.tmpl_json_schema.proofs.ConformLemmas.{mapped, chained, always, AreAlike, alike, there}
 use Rattle.tmpl_json_schema.proofs.StepLemmas.{all-more, some-at}
@@ -83,6 +86,19 @@ pub each-member : (P : List ℕ → Data → Type 0) (s es rest : List (String G
 each-member P s es rest xs is y none h =
     subst (λ l. EachMember P (members_view l)) (sym (front s xs rest y ∙ ap (λ l. map deref_pair xs ++ l) none ∙ append-nil (map deref_pair xs)) ∙ is) (each-given P xs h)
 
+values-given : (xs : List (Bor (String Global) × Bor tree.Value)) → map (λ (x : Bor (String Global) × Bor tree.Value). view x.1.now) xs
+    ≡ values_among (members_view (map deref_pair xs))
+values-given [] = refl
+values-given (x ∷ xs) = ap (λ ds. view x.1.now ∷ ds) (values-given xs)
+
+-- .. and all that it has given are the values of the members
+pub all-values : (s es rest : List (String Global × tree.Value)) (xs : List (Bor (String Global) × Bor tree.Value)) → s ≡ es
+    → Yields (TakesFirst deref_pair) s xs rest → rest ≡ []
+    → map (λ (x : Bor (String Global) × Bor tree.Value). view x.1.now) xs ≡ values_among (members_view es)
+all-values s es rest xs is y none =
+    values-given xs ∙ ap (λ l. values_among (members_view l))
+    (sym (front s xs rest y ∙ ap (λ l. map deref_pair xs ++ l) none ∙ append-nil (map deref_pair xs)) ∙ is)
+
 found : (P : List ℕ → Data → Type 0) (k : List ℕ) (ms : Members) → EachMember P ms → IfSome (get_member k ms) (P k)
 found P k no_members h = tt
 found P k (member l d ms) h = go (slice_cmp nat_cmp k l) refl (found P k ms h.1)
@@ -136,6 +152,10 @@ pub weaker : {A : Type 0} (P Q : A → Type 0) (o : Option A) → IfSome o P →
 weaker P Q None h next = tt
 weaker P Q (Some a) h next = next a h
 
+each-of : {A B : Type 0} (P : B → Type 0) (f : A → Option B) (o : Option A) → IfSome o (λ a. IfSome (f a) P) → IfSome (option_and_then f o) P
+each-of P f None h = tt
+each-of P f (Some a) h = h
+
 pub conforms-all : (root : Data) (n : ℕ) (ms : Members) (o : Option Value) → IfSome o IsInstance → IfSome o (MeetsEach root (conforms_in root n) (object ms) ms)
     → IfSome o (conforms_in root (suc n) (object ms))
 conforms-all root n ms None instance each = tt
@@ -150,10 +170,11 @@ conforms-all root n ms (Some v) instance each =
         weaker _ _ (get_member (codes "required") ms) (at (codes "required")) (λ d m. m.kind.required refl),
         weaker _ _ (get_member (codes "properties") ms) (at (codes "properties")) (λ d m. m.kind.properties refl),
         weaker _ _ (get_member (codes "additionalProperties") ms) (at (codes "additionalProperties")) (λ d m. m.kind.additional refl),
-        weaker _ _ (get_member (codes "items") ms) (at (codes "items")) (λ d m. m.kind.items refl),
+        each-of _ (of_each (is_some (get_member (codes "prefixItems") ms))) (get_member (codes "items") ms) (weaker _ _ (get_member (codes "items") ms) (at (codes "items")) (λ d m. m.kind.items refl)),
         weaker _ _ (get_member (codes "minItems") ms) (at (codes "minItems")) (λ d m. m.kind.least refl),
         weaker _ _ (get_member (codes "anyOf") ms) (at (codes "anyOf")) (λ d m. m.any refl),
         weaker _ _ (get_member (codes "oneOf") ms) (at (codes "oneOf")) (λ d m. m.one refl),
+        weaker _ _ (get_member (codes "allOf") ms) (at (codes "allOf")) (λ d m. m.all refl),
       ),
     )
 
@@ -235,13 +256,22 @@ member-weaker P Q no_members h next = tt
 member-weaker P Q (member k d ms) h next = (next k d h.0, member-weaker P Q ms h.1 next)
 
 module _ (C : Data → Value → Type 0) where
-  pub others-fit : (ps : Option Data) (d : Data) (ms : Members) → EachMember (λ k e. in_properties k ps ≡ false → IfSome (tree_value e) (C d)) ms
-      → IfSome (tree_entries ms) (λ es. FitsAdditional C ps (mapping es) d)
-  others-fit ps d ms h = each-value (λ k v. in_properties k ps ≡ false → C d v) ms (member-weaker _ _ ms h (λ k e p. under (in_properties k ps) (tree_value e) p))
+  pub others-fit : (ps qs : Option Data) (d : Data) (ms : Members) → EachMember (λ k e. in_properties k ps ≡ false → IfSome (tree_value e) (C d)) ms
+      → IfSome (tree_entries ms) (λ es. FitsAdditional C ps qs (mapping es) d)
+  others-fit ps qs d ms h =
+      each-value (λ k v. in_properties k ps ≡ false → FitsPattern C qs v ⊎ C d v) ms (member-weaker _ _ ms h (λ k e p. under (in_properties k ps) (tree_value e) p))
     where
-      under : (b : Bool) (o : Option Value) → (b ≡ false → IfSome o (C d)) → IfSome o (λ v. b ≡ false → C d v)
+      under : (b : Bool) (o : Option Value) → (b ≡ false → IfSome o (C d)) → IfSome o (λ v. b ≡ false → FitsPattern C qs v ⊎ C d v)
       under b None p = tt
-      under b (Some v) p = p
+      under b (Some v) p = λ e. inr (p e)
+
+  -- `items`, where they are of each item
+  pub of-each-fits : (c : Bool) (d : Data) (o : Option value.Items) → IfSome o (λ vs. FitsItems C (sequence vs) d)
+      → IfSome o (λ vs. IfSome (of_each c d) (FitsItems C (sequence vs)))
+  of-each-fits c d None h = tt
+  of-each-fits c (array ds) (Some vs) h = tt
+  of-each-fits true d (Some vs) h = tt
+  of-each-fits false d (Some vs) h = h
 
   fits-found : (ps : Members) (k : List ℕ) (w : Value) → AreApart ps → IfSome (get_member k ps) (λ s. C s w) → FitsProperty C ps k w
   fits-found no_members k w apart h = tt
@@ -272,3 +302,27 @@ module _ (C : Data → Value → Type 0) where
       by : (k : List ℕ) (o : Option Value) → IfSome (get_member k ps) (λ s. IfSome o (C s)) → IfSome o (FitsProperty C ps k)
       by k None p = tt
       by k (Some w) p = fits-found ps k w apart (swap (get_member k ps) w p)
+
+-- ---- schemas
+
+-- a value for which each of these holds
+pub every-item : (P : Data → Value → Type 0) (o : Option Value) (vs : List tree.Value) → AllByRecursion (λ x. IfSome o (P (view x))) vs
+    → IfSome o (λ v. EachItemOf (λ d. P d v) (items_view vs))
+every-item P None vs h = tt
+every-item P (Some v) vs h = each vs h
+  where
+    each : (vs : List tree.Value) → AllByRecursion (λ x. P (view x) v) vs → EachItemOf (λ d. P d v) (items_view vs)
+    each [] h = tt
+    each (x ∷ vs) h = (h.0, each vs h.1)
+
+-- ---- a document
+
+base-same : (root : Data) (draft : Draft) → draft_of root ≡ Some draft → inside_has_base (identifier_of draft) root ≡ false → base_of root ≡ root
+base-same root draft is none =
+    let inner : has_inner_base root ≡ false = ap (λ o. inside_has_base (option_map_or identifier_of o (codes "$id")) root) is ∙ none in
+    rw inner refl
+
+pub of-schema : (root : Data) (draft : Draft) (n : ℕ) (o : Option Value) → draft_of root ≡ Some draft → inside_has_base (identifier_of draft) root ≡ false
+    → IfSome o (conforms_in root n root) → IfSome o (IsOfSchema root)
+of-schema root draft n o is none h =
+    weaker (conforms_in root n root) (IsOfSchema root) o h (λ v p. (n, subst (λ r. conforms_in r n root v) (sym (base-same root draft is none)) p))

@@ -19,7 +19,7 @@ use Rattle.tmpl_values.specs.Json.{tree_value}
 use Rattle.tmpl_json_schema.specs.Document.{IsNameOfType, IsOfType, SomeItem, type_of}
 use Rattle.tmpl_shape.proofs.ShapeLemmas.{or_cases}
 use Rattle.tmpl_json_schema.specs.Inferred.{AreDistinct, AreTexts, NamesTypes}
-use Rattle.tmpl_json_schema.specs.computed.Inferred.{seen, maps_seen, items_among, items_of_list, EachValue, IsOnlyOrList, is_text}
+use Rattle.tmpl_json_schema.specs.computed.Inferred.{seen, maps_seen, items_among, items_of_list, values_among, EachValue, IsOnlyOrList, is_text}
 
 abbrev Map : Type 0
 Map = BTreeMap (String Global) Value
@@ -81,6 +81,9 @@ items-found all new before d vs so is added =
 pub items-not_found : (all : List (Bor Value)) (before : List Data) (d : Data) → seen all ≡ flat_map items_of_list before
     → None ≡ as_array d → seen all ≡ flat_map items_of_list (before ++ d ∷ [])
 items-not_found all before d so is = rw (so, flat_map-append items_of_list before (d ∷ []), no-items-of d is) (sym (append-nil _))
+
+pub values-more : (before : List Members) (ms : Members) → flat_map values_among before ++ values_among ms ≡ flat_map values_among (before ++ ms ∷ [])
+values-more before ms = sym (rw (flat_map-append values_among before (ms ∷ []), append-nil (values_among ms)) refl)
 
 -- ---- what maps have under a key
 

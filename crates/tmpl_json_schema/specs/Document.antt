@@ -1,6 +1,6 @@
 -- Which values conform to a JSON Schema, by the JSON value of its bytes. C is the core specification, V that of validation,
 -- of the draft 2020-12; where an earlier draft differs in a keyword that is used here, that is said. What only narrows further
--- is left out, as `minLength`: more values conform than by the specification.
+-- is left out, as `minLength`, `not`, `if` and `dependentSchemas`: more values conform than by the specification.
 use Rattle.std.specs.Prelude.{◌≡◌, ◌⊎◌, ◌≤◌, ℕ, zero, suc, true, false, not, is_some, List, length, [], ◌∷◌, ◌||◌, ◌&&◌, ◌==◌, Bool, Option, Some, None, IsSome, IfSome, codes}
 use Rattle.std.specs.Option.{option_and_then, option_map_or}
 use Rattle.std.specs.Prelude.{if◌then◌else◌}
@@ -21,14 +21,16 @@ use Rattle.tmpl_json_schema.specs.declared.draft.Draft.TheVariants.{Draft04, Dra
 abbrev pub names_either : List ℕ → List ℕ → List ℕ → Bool
 names_either plain marked uri = bytes_eq uri plain || bytes_eq uri marked
 
--- the draft that a URI names (C 8.1.1), with or without an empty fragment
+-- the draft that a URI names (C 8.1.1), with or without an empty fragment; the later ones are also written with `http:`
 abbrev pub draft_named : List ℕ → Option Draft
 draft_named uri =
     if names_either (codes "http://json-schema.org/draft-04/schema") (codes "http://json-schema.org/draft-04/schema#") uri then Some Draft04
     else if names_either (codes "http://json-schema.org/draft-06/schema") (codes "http://json-schema.org/draft-06/schema#") uri then Some Draft06
     else if names_either (codes "http://json-schema.org/draft-07/schema") (codes "http://json-schema.org/draft-07/schema#") uri then Some Draft07
     else if names_either (codes "https://json-schema.org/draft/2019-09/schema") (codes "https://json-schema.org/draft/2019-09/schema#") uri then Some Draft2019
+    else if names_either (codes "http://json-schema.org/draft/2019-09/schema") (codes "http://json-schema.org/draft/2019-09/schema#") uri then Some Draft2019
     else if names_either (codes "https://json-schema.org/draft/2020-12/schema") (codes "https://json-schema.org/draft/2020-12/schema#") uri then Some Draft2020
+    else if names_either (codes "http://json-schema.org/draft/2020-12/schema") (codes "http://json-schema.org/draft/2020-12/schema#") uri then Some Draft2020
     else None
 
 -- the draft of a document, if it is one of these: that which `$schema` names at its top, or else 2020-12
@@ -77,6 +79,16 @@ HasType name v = (name ≡ type_of v) ⊎ ((name ≡ codes "number") × (codes "
 abbrev pub SomeItem : (Data → Type 0) → Items → Type 0
 SomeItem P no_items = ⊥
 SomeItem P (json.item d ds) = P d ⊎ SomeItem P ds
+
+-- .. each of them is
+abbrev pub EachItemOf : (Data → Type 0) → Items → Type 0
+EachItemOf P no_items = Unit {0}
+EachItemOf P (json.item d ds) = P d × EachItemOf P ds
+
+-- one of the values of these members is such
+abbrev pub SomeMember : (Data → Type 0) → Members → Type 0
+SomeMember P no_members = ⊥
+SomeMember P (member k d ms) = P d ⊎ SomeMember P ms
 
 -- the name of a type, as an item of `type`
 abbrev pub IsNameOfType : Value → Data → Type 0
@@ -131,6 +143,14 @@ abbrev pub in_properties : List ℕ → Option Data → Bool
 in_properties k (Some (json.object ms)) = is_property k ms
 in_properties k o = false
 
+-- `items` of a schema, if it is of each item (C 10.3.1.2): not beside `prefixItems`, nor as a list of schemas, which it may be before 2020-12
+abbrev pub of_each : Bool → Data → Option Data
+of_each has_prefixes (json.array ds) = None
+of_each has_prefixes d = if has_prefixes then None else Some d
+
+abbrev pub items_in : Data → Option Data
+items_in schema = option_and_then (of_each (is_some (get (codes "prefixItems") schema))) (get (codes "items") schema)
+
 module _ (Conforms : Data → Value → Type 0) where
   -- `properties` (C 10.3.2.1): the value of a key conforms to the schema that stands under that name
   abbrev pub FitsProperty : Members → List ℕ → Value → Type 0
@@ -141,12 +161,17 @@ module _ (Conforms : Data → Value → Type 0) where
   FitsProperties (mapping es) (json.object ms) = EachEntry (FitsProperty ms) es
   FitsProperties v d = Unit {0}
 
-  -- `additionalProperties` (C 10.3.2.3): the value of any other key conforms to this
-  abbrev pub FitsAdditional : Option Data → Value → Data → Type 0
-  FitsAdditional ps (mapping es) d = EachEntry (λ k v. in_properties k ps ≡ false → Conforms d v) es
-  FitsAdditional ps v d = Unit {0}
+  -- `patternProperties` (C 10.3.2.2), of the value of a key that one of the patterns may match: it conforms to one of the schemas
+  abbrev pub FitsPattern : Option Data → Value → Type 0
+  FitsPattern (Some (json.object ms)) v = SomeMember (λ d. Conforms d v) ms
+  FitsPattern qs v = ⊥
 
-  -- `items` (C 10.3.1.2), where there is no `prefixItems`: each item of a list conforms to it
+  -- `additionalProperties` (C 10.3.2.3): the value of any other key conforms to this, unless a pattern matches the key
+  abbrev pub FitsAdditional : Option Data → Option Data → Value → Data → Type 0
+  FitsAdditional ps qs (mapping es) d = EachEntry (λ k v. in_properties k ps ≡ false → FitsPattern qs v ⊎ Conforms d v) es
+  FitsAdditional ps qs v d = Unit {0}
+
+  -- `items` (C 10.3.1.2), if it is of each item: each item of a list conforms to it
   abbrev pub FitsItems : Value → Data → Type 0
   FitsItems (sequence vs) d = EachItem (Conforms d) vs
   FitsItems v d = Unit {0}
@@ -155,6 +180,11 @@ module _ (Conforms : Data → Value → Type 0) where
   abbrev pub FitsSome : Value → Data → Type 0
   FitsSome v (json.array ds) = SomeItem (λ d. Conforms d v) ds
   FitsSome v d = Unit {0}
+
+  -- `allOf` (C 10.2.1.1)
+  abbrev pub FitsEach : Value → Data → Type 0
+  FitsEach v (json.array ds) = EachItemOf (λ d. Conforms d v) ds
+  FitsEach v d = Unit {0}
 
 -- what a `$ref` within the document points to (C 8.2.3.1, 9.2.1): after `#` and without the escapes of a URI a JSON Pointer
 abbrev pub fragment_of : List ℕ → Option (List ℕ)
@@ -182,11 +212,12 @@ ConformsBy root Conforms (json.object ms) v =
     × IfSome (keyword (codes "enum")) (IsOneOf v)
     × IfSome (keyword (codes "required")) (HasKeys v)
     × IfSome (keyword (codes "properties")) (FitsProperties Conforms v)
-    × IfSome (keyword (codes "additionalProperties")) (FitsAdditional Conforms (keyword (codes "properties")) v)
-    × IfSome (keyword (codes "items")) (FitsItems Conforms v)
+    × IfSome (keyword (codes "additionalProperties")) (FitsAdditional Conforms (keyword (codes "properties")) (keyword (codes "patternProperties")) v)
+    × IfSome (items_in (json.object ms)) (FitsItems Conforms v)
     × IfSome (keyword (codes "minItems")) (HasItems v)
     × IfSome (keyword (codes "anyOf")) (FitsSome Conforms v)
-    × IfSome (keyword (codes "oneOf")) (FitsSome Conforms v))
+    × IfSome (keyword (codes "oneOf")) (FitsSome Conforms v)
+    × IfSome (keyword (codes "allOf")) (FitsEach Conforms v))
 ConformsBy root Conforms d v = Unit {0}
 
 -- .. where as many schemas are followed, one into the other
@@ -194,13 +225,58 @@ abbrev pub conforms_in : Data → ℕ → Data → Value → Type 0
 conforms_in root zero d v = ⊥
 conforms_in root (suc n) d v = ConformsBy root (conforms_in root n) d v
 
+-- the keyword of an identifier (C 8.2.1): before draft-06 it is `id`
+abbrev pub identifier_of : Draft → List ℕ
+identifier_of Draft04 = codes "id"
+identifier_of draft = codes "$id"
+
+-- an identifier from which a `$ref` is looked up: one that begins with `#` is a name within the document
+abbrev pub is_base : Data → Bool
+is_base (json.string uri) = not (is_some (fragment_of uri))
+is_base d = false
+
+-- something in it has an identifier under this keyword, from which a `$ref` is looked up
+abbrev mutual
+  pub has_base : List ℕ → Data → Bool
+  has_base key (json.array ds) = item_has_base key ds
+  has_base key (json.object ms) = member_has_base key ms
+  has_base key d = false
+
+  pub item_has_base : List ℕ → Items → Bool
+  item_has_base key no_items = false
+  item_has_base key (json.item d ds) = has_base key d || item_has_base key ds
+
+  pub member_has_base : List ℕ → Members → Bool
+  member_has_base key no_members = false
+  member_has_base key (member k d ms) = (bytes_eq k key && is_base d) || (has_base key d || member_has_base key ms)
+
+-- .. below the top
+abbrev pub below_has_base : List ℕ → Members → Bool
+below_has_base key no_members = false
+below_has_base key (member k d ms) = has_base key d || below_has_base key ms
+
+abbrev pub inside_has_base : List ℕ → Data → Bool
+inside_has_base key (json.object ms) = below_has_base key ms
+inside_has_base key root = false
+
+abbrev pub has_inner_base : Data → Bool
+has_inner_base root = inside_has_base (option_map_or identifier_of (draft_of root) (codes "$id")) root
+
+-- the document that says its draft, and nothing else
+abbrev pub draft_alone : Data → Data
+draft_alone root = json.object (option_map_or (λ uri. member (codes "$schema") uri no_members) (get (codes "$schema") root) no_members)
+
+-- where each `$ref` is looked up: in the document, or, if something below its top has an identifier, nowhere
+abbrev pub base_of : Data → Data
+base_of root = if has_inner_base root then draft_alone root else root
+
 -- the JSON value of bytes
 abbrev pub document_of : List ℕ → Option Data
 document_of bytes = if is_utf8 bytes then read bytes else None
 
 -- a value conforms to a document
 abbrev pub IsOfSchema : Data → Value → Type 0
-IsOfSchema root v = (n : ℕ) × conforms_in root n root v
+IsOfSchema root v = (n : ℕ) × conforms_in (base_of root) n root v
 
 -- .. to the one that these bytes are
 abbrev pub ConformsTo : List ℕ → Value → Type 0

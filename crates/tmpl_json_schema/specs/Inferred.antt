@@ -31,7 +31,8 @@ abbrev pub NamesKeys : Data → Type 0
 NamesKeys (json.array names) = AreTexts names
 NamesKeys d = ⊥
 
--- an object in which each keyword, at each depth, is `$schema`, `type`, `required`, `items` or `properties`
+-- an object in which each keyword, at each depth, is `$schema`, `type`, `required`, `items`, `properties` or
+-- `additionalProperties`
 abbrev mutual
   pub IsInferred : Data → Type 0
   IsInferred (json.object ms) = HasInferred ms
@@ -41,7 +42,8 @@ abbrev mutual
   HasInferred no_members = Unit {0}
   HasInferred (member k d ms) =
       ((k ≡ codes "$schema") ⊎ (((k ≡ codes "type") × NamesTypes d) ⊎ (((k ≡ codes "required") × NamesKeys d)
-      ⊎ (((k ≡ codes "items") × IsInferred d) ⊎ ((k ≡ codes "properties") × AreInferred d))))) × HasInferred ms
+      ⊎ (((k ≡ codes "items") × IsInferred d) ⊎ (((k ≡ codes "properties") × AreInferred d)
+      ⊎ ((k ≡ codes "additionalProperties") × IsInferred d)))))) × HasInferred ms
 
   -- schemas by their names, each of them such an object
   pub AreInferred : Data → Type 0

@@ -1,19 +1,23 @@
-//! Whether a value conforms to a schema, by all its keywords. Where that is not seen, as of most texts of a `pattern`, it
+//! Whether a value conforms to a schema, by all its keywords. Where that is not decided, as of most texts of a `pattern`, it
 //! does not.
-ghost use Rattle.std.specs.Prelude.{◌≡◌, ◌<◌, ◌≤◌, Bool, IfSome, Some, codes, true};
+ghost use Rattle.std.specs.Prelude.{◌≡◌, ◌<◌, ◌≤◌, Bool, IfSome, Some, codes, is_some, true};
 ghost use Rattle.percent_encoding.specs.Percent.{percent_decode};
 ghost use Rattle.serde_json.specs.Data.{object};
 ghost use Rattle.serde_json.specs.Find.{as_object, get};
 ghost use Rattle.serde_json.specs.View.{view, items_view, members_view};
 ghost use Rattle.tmpl_values.specs.Value.{mapping, sequence};
 ghost use Rattle.tmpl_values.specs.Json.{tree_value, tree_items, tree_entries};
-ghost use Rattle.tmpl_json_schema.specs.Document.{FitsAdditional, FitsItems, FitsProperties, FitsSome, HasItems, HasKey, HasKeys};
-ghost use Rattle.tmpl_json_schema.specs.Document.{HasType, IsConstant, IsOfType, IsOneOf, conforms_in, fragment_of};
-ghost use Rattle.tmpl_json_schema.specs.Document.{in_properties, refer};
+ghost use Rattle.tmpl_json_schema.specs.Document.{EachItemOf, FitsAdditional, FitsEach, FitsItems, FitsProperties, FitsSome, HasItems, HasKey, HasKeys};
+ghost use Rattle.tmpl_json_schema.specs.Document.{HasType, IsConstant, IsOfSchema, IsOfType, IsOneOf, conforms_in, fragment_of};
+ghost use Rattle.tmpl_json_schema.specs.Document.{in_properties, of_each, refer};
 ghost use Rattle.tmpl_json_schema.specs.computed.Conformed.{AreApart, IsAtLeast, Meets, MeetsEach, MeetsOfKind};
 
-use crate::pattern::is_of_pattern;
+use crate::base::is_one_base;
+use crate::decided::{are_decided, is_decided};
+use crate::draft::{Draft, draft_of, draft_seen};
+use crate::pattern::{is_of_pattern, is_pattern_met};
 use serde_json::{Map, Number, Value};
+use std::alloc::Global;
 use std::str::from_utf8;
 
 /// The largest integer that has an exact neighbor among floats.
@@ -79,7 +83,21 @@ fn after_mark(reference: &str) -> Option<&[u8]>
     }
 }
 
-/// Whether a value conforms to a schema of the document, as far as this many levels show.
+/// Whether a value conforms to a document.
+pub fn conforms_to(alloc: Global, root: &Value, value: &Value) -> bool
+    ensures { result ≡ true → IfSome (tree_value (view value.now)) (IsOfSchema (view root.now)) }
+{
+    let Ok(draft) = draft_of(alloc, root) else {
+        return false;
+    };
+    if !is_one_base(draft, root) {
+        return false;
+    }
+    conforms(root, LEVELS, root, value)
+}
+
+/// Whether a value conforms to a schema of the document, as far as this many levels show, where each `$ref` is looked up
+/// in the document itself.
 #[cycle(conform)]
 pub fn conforms(root: &Value, levels: usize, schema: &Value, value: &Value) -> bool
     ensures { result ≡ true → IfSome (tree_value (view value.now))
@@ -149,7 +167,13 @@ fn meets(
             None => false,
         },
         "anyOf" => count_met(root, levels, rule, value) >= 1,
-        "oneOf" => count_met(root, levels, rule, value) == 1,
+        "oneOf" => {
+            count_met(root, levels, rule, value) == 1 && are_decided(root, levels, rule, value)
+        }
+        "allOf" => all_met(root, levels, rule, value),
+        "not" => meets_not(root, levels, rule, value),
+        "if" => meets_if(root, levels, schema, rule, value),
+        "$dynamicRef" | "$recursiveRef" => false,
         _ => meets_of_kind(root, levels, schema, keyword, rule, value),
     }
 }
@@ -171,19 +195,212 @@ fn meets_of_kind(
         Value::Null | Value::Bool(_) => true,
         Value::Number(number) => meets_of_number(schema, keyword, rule, number),
         Value::String(text) => meets_of_text(keyword, rule, text.as_str()),
-        Value::Array(items) => {
-            if keyword == "items" {
-                all_conform(root, levels, rule, items.as_slice())
-            } else {
-                meets_of_list(keyword, rule, items.as_slice())
-            }
-        }
+        Value::Array(items) => match keyword {
+            "items" => items_conform(root, levels, schema, rule, items.as_slice()),
+            "prefixItems" => are_first(root, levels, rule, items.as_slice()),
+            "additionalItems" => are_after(root, levels, schema, rule, items.as_slice()),
+            "contains" => has_item(root, levels, rule, items.as_slice()),
+            _ => meets_of_list(keyword, rule, items.as_slice()),
+        },
         Value::Object(members) => match keyword {
             "properties" => properties_conform(root, levels, rule, members),
             "additionalProperties" => others_conform(root, levels, schema, rule, members),
+            "patternProperties" => patterns_conform(root, levels, rule, members),
+            "propertyNames" => names_conform(root, levels, rule, members),
+            "dependentSchemas" | "dependencies" => {
+                dependents_conform(root, levels, rule, value, members)
+            }
             _ => meets_of_map(keyword, rule, members),
         },
     }
+}
+
+/// Whether it is seen that a value does not conform to a schema.
+#[cycle(conform)]
+fn meets_not(root: &Value, levels: usize, schema: &Value, value: &Value) -> bool {
+    is_decided(root, levels, schema, value) && !conforms(root, levels, schema, value)
+}
+
+/// Whether a value meets `then` or `else`, whichever it has to.
+#[cycle(conform)]
+fn meets_if(root: &Value, levels: usize, schema: &Value, test: &Value, value: &Value) -> bool {
+    if !is_decided(root, levels, test, value) {
+        return false;
+    }
+    let keyword = if conforms(root, levels, test, value) {
+        "then"
+    } else {
+        "else"
+    };
+    match schema.get(keyword) {
+        Some(branch) => conforms(root, levels, branch, value),
+        None => true,
+    }
+}
+
+/// Whether a value conforms to each of the schemas.
+#[cycle(conform)]
+fn all_met(root: &Value, levels: usize, schemas: &Value, value: &Value) -> bool
+    ensures { result ≡ true → IfSome (tree_value (view value.now))
+        (λ v. FitsEach (conforms_in (view root.now) levels) v (view schemas.now)) }
+{
+    match schemas {
+        Value::Array(schemas) => each_met(root, levels, schemas.as_slice(), value),
+        _ => false,
+    }
+}
+
+/// The same of a list of schemas.
+#[cycle(conform)]
+fn each_met(root: &Value, levels: usize, schemas: &[Value], value: &Value) -> bool
+    ensures { result ≡ true → IfSome (tree_value (view value.now))
+        (λ v. EachItemOf (λ d. conforms_in (view root.now) levels d v) (items_view schemas.now)) }
+{
+    for schema in schemas {
+        if !conforms(root, levels, schema, value) {
+            return false;
+        }
+    }
+    true
+}
+
+/// Whether each item conforms to `items`, of which there may be a list.
+#[cycle(conform)]
+fn items_conform(root: &Value, levels: usize, schema: &Value, rule: &Value, items: &[Value]) -> bool
+    ensures { result ≡ true → IfSome (tree_items (items_view items.now)) (λ vs.
+        IfSome (of_each (is_some (get (codes "prefixItems") (view schema.now))) (view rule.now))
+        (FitsItems (conforms_in (view root.now) levels) (sequence vs))) }
+{
+    match rule {
+        Value::Array(_) => are_first(root, levels, rule, items),
+        _ => {
+            if schema.get("prefixItems").is_some() {
+                are_behind(root, levels, schema, rule, items)
+            } else {
+                all_conform(root, levels, rule, items)
+            }
+        }
+    }
+}
+
+/// Whether the items that no schema of `prefixItems` is for conform to a schema: before 2020-12 each of them.
+#[cycle(conform)]
+fn are_behind(root: &Value, levels: usize, schema: &Value, rule: &Value, items: &[Value]) -> bool {
+    let first = match (draft_seen(root), schema.get("prefixItems")) {
+        (Draft::Draft2020, Some(Value::Array(prefixes))) => prefixes.len(),
+        _ => 0,
+    };
+    all_conform(root, levels, rule, items.get(first..).unwrap_or(&[]))
+}
+
+/// Whether each of the first items conforms to the schema of its place.
+#[cycle(conform)]
+fn are_first(root: &Value, levels: usize, schemas: &Value, items: &[Value]) -> bool {
+    let Value::Array(schemas) = schemas else {
+        return false;
+    };
+    for (schema, item) in schemas.iter().zip(items) {
+        if !conforms(root, levels, schema, item) {
+            return false;
+        }
+    }
+    true
+}
+
+/// Whether the items after those of a list of schemas conform to a schema.
+#[cycle(conform)]
+fn are_after(root: &Value, levels: usize, schema: &Value, rule: &Value, items: &[Value]) -> bool {
+    match schema.get("items") {
+        Some(Value::Array(schemas)) => {
+            all_conform(
+                root,
+                levels,
+                rule,
+                items.get(schemas.len()..).unwrap_or(&[]),
+            )
+        }
+        _ => true,
+    }
+}
+
+/// Whether one of the items conforms to a schema.
+#[cycle(conform)]
+fn has_item(root: &Value, levels: usize, schema: &Value, items: &[Value]) -> bool {
+    for item in items {
+        if conforms(root, levels, schema, item) {
+            return true;
+        }
+    }
+    false
+}
+
+/// Whether each member conforms to the schema of each pattern that its key may match.
+#[cycle(conform)]
+fn patterns_conform(
+    root: &Value,
+    levels: usize,
+    patterns: &Value,
+    members: &Map<String, Value>,
+) -> bool {
+    let Value::Object(patterns) = patterns else {
+        return false;
+    };
+    for (pattern, schema) in patterns.iter() {
+        for (name, member) in members.iter() {
+            let is_other = is_pattern_met(pattern.as_str(), name.as_str()) == Some(false);
+            if !is_other && !conforms(root, levels, schema, member) {
+                return false;
+            }
+        }
+    }
+    true
+}
+
+/// Whether each key conforms to a schema.
+#[cycle(conform)]
+fn names_conform(
+    root: &Value,
+    levels: usize,
+    schema: &Value,
+    members: &Map<String, Value>,
+) -> bool {
+    for name in members.keys() {
+        match name.clone() {
+            Ok(name) => {
+                if !conforms(root, levels, schema, &Value::String(name)) {
+                    return false;
+                }
+            }
+            Err(_) => return false,
+        }
+    }
+    true
+}
+
+/// Whether a map conforms to the schema of each key that it has, or has each of a list of keys.
+#[cycle(conform)]
+fn dependents_conform(
+    root: &Value,
+    levels: usize,
+    rules: &Value,
+    value: &Value,
+    members: &Map<String, Value>,
+) -> bool {
+    let Value::Object(rules) = rules else {
+        return false;
+    };
+    for (name, rule) in rules.iter() {
+        if members.get(name.as_str()).is_some() {
+            let is_met = match rule {
+                Value::Array(_) => has_all(rule, members),
+                _ => conforms(root, levels, rule, value),
+            };
+            if !is_met {
+                return false;
+            }
+        }
+    }
+    true
 }
 
 /// To how many of the schemas a value conforms.
@@ -239,7 +456,7 @@ fn properties_conform(
     true
 }
 
-/// Whether each member that is no property conforms to a schema.
+/// Whether each member that is no property conforms to a schema, also where a pattern matches its key.
 #[cycle(conform)]
 fn others_conform(
     root: &Value,
@@ -250,7 +467,7 @@ fn others_conform(
 ) -> bool
     ensures { result ≡ true → IfSome (tree_entries (members_view members.now.entries))
         (λ es. FitsAdditional (conforms_in (view root.now) levels) (get (codes "properties") (view schema.now))
-        (mapping es) (view others.now)) }
+        (get (codes "patternProperties") (view schema.now)) (mapping es) (view others.now)) }
 {
     for (name, member) in members.iter() {
         if !is_property(schema, name.as_str()) && !conforms(root, levels, others, member) {
@@ -350,15 +567,20 @@ pub(crate) fn is_excluded(schema: &Value, keyword: &str) -> bool {
     schema.get(keyword).and_then(Value::as_bool) == Some(true)
 }
 
+/// Whether a number is an integer whose neighbours are exact among floats.
+pub(crate) fn is_small(number: &Number) -> bool {
+    match number.as_i64() {
+        Some(number) => -EXACT < number && number < EXACT,
+        None => false,
+    }
+}
+
 /// Whether a number meets a keyword.
 fn meets_of_number(schema: &Value, keyword: &str, rule: &Value, number: &Number) -> bool {
     let Value::Number(bound) = rule else {
         return true;
     };
-    let is_exact = match number.as_i64() {
-        Some(number) => -EXACT < number && number < EXACT,
-        None => false,
-    };
+    let is_exact = is_small(number);
     match keyword {
         "minimum" => {
             let is_strict = is_excluded(schema, "exclusiveMinimum");
@@ -421,6 +643,7 @@ fn meets_of_list(keyword: &str, rule: &Value, items: &[Value]) -> bool
 {
     match keyword {
         "minItems" => is_at_least(items.len(), rule),
+        "minContains" | "maxContains" | "unevaluatedItems" => false,
         "maxItems" => is_at_most(items.len(), rule),
         "uniqueItems" => *rule == Value::Bool(false) || are_distinct(items),
         _ => true,
@@ -445,6 +668,7 @@ fn meets_of_map(keyword: &str, rule: &Value, members: &Map<String, Value>) -> bo
         "maxProperties" => is_at_most(members.len(), rule),
         "required" => has_all(rule, members),
         "dependentRequired" => has_dependent(rule, members),
+        "unevaluatedProperties" => false,
         _ => true,
     }
 }

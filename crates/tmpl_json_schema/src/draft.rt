@@ -60,8 +60,16 @@ fn draft_named(uri: &str) -> Option<Draft>
         || uri == b"https://json-schema.org/draft/2019-09/schema#".as_slice()
     {
         Some(Draft::Draft2019)
+    } else if uri == b"http://json-schema.org/draft/2019-09/schema".as_slice()
+        || uri == b"http://json-schema.org/draft/2019-09/schema#".as_slice()
+    {
+        Some(Draft::Draft2019)
     } else if uri == b"https://json-schema.org/draft/2020-12/schema".as_slice()
         || uri == b"https://json-schema.org/draft/2020-12/schema#".as_slice()
+    {
+        Some(Draft::Draft2020)
+    } else if uri == b"http://json-schema.org/draft/2020-12/schema".as_slice()
+        || uri == b"http://json-schema.org/draft/2020-12/schema#".as_slice()
     {
         Some(Draft::Draft2020)
     } else {
@@ -84,6 +92,14 @@ fn draft_in(alloc: Global, named: &Value) -> Result<Draft, SchemaFault>
             uri.as_str(),
             "",
         )),
+    }
+}
+
+/// The draft of a document that is read.
+pub(crate) fn draft_seen(root: &Value) -> Draft {
+    match root.get("$schema") {
+        Some(Value::String(uri)) => draft_named(uri.as_str()).unwrap_or(Draft::Draft2020),
+        _ => Draft::Draft2020,
     }
 }
 

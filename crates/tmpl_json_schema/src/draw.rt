@@ -1,9 +1,9 @@
 //! Values of a schema: one for each way to choose, where there are several.
 
 use crate::conform::{LEVELS, conforms, is_excluded, is_property, referred, text_of_format};
-use crate::fields::{least_in, requires_key};
+use crate::fields::{has_content, least_in, requires_key};
 use crate::pattern::{REPEATS, text_of_pattern};
-use crate::read::choices_in;
+use crate::read::{choices_in, items_in};
 use serde_json::{Map, Value};
 use std::alloc::{AllocError, Global};
 use std::str::from_utf8;
@@ -132,8 +132,31 @@ impl<'d> Draw<'d> {
                     None => Ok(None),
                 }
             }
-            None => self.of_types(levels, schema),
+            None => match schema.get("allOf") {
+                Some(Value::Array(parts)) => self.of_parts(levels, schema, parts.as_slice()),
+                _ => self.of_types(levels, schema),
+            },
         }
+    }
+
+    /// A value of a schema with `allOf`: a map with the members of one of each part, or one of the first part.
+    #[cycle(draw)]
+    fn of_parts(
+        &mut self,
+        levels: usize,
+        schema: &Value,
+        parts: &[Value],
+    ) -> Result<Option<Value>, AllocError> {
+        let mut whole = if has_content(schema) {
+            self.of_types(levels, schema)?
+        } else {
+            None
+        };
+        for part in parts {
+            let value = self.of_schema(levels, part)?;
+            whole = merged(self.alloc, whole, value)?;
+        }
+        Ok(whole)
     }
 
     /// A value of what a `$ref` points to.
@@ -169,7 +192,7 @@ impl<'d> Draw<'d> {
                 }
             }
             _ if is_map_schema(schema) && self.choose(2, 0)? == 0 => self.of_map(levels, schema),
-            _ if schema.get("items").is_some() && self.choose(2, 0)? == 0 => {
+            _ if is_list_schema(schema) && self.choose(2, 0)? == 0 => {
                 self.of_list(levels, schema)
             }
             _ => self.of_any(),
@@ -272,8 +295,8 @@ impl<'d> Draw<'d> {
             _ => least.max(1).saturating_add(1),
         };
         let mut items: Vec<Value> = Vec::new(self.alloc);
-        for _ in 0..length.min(LONGEST) {
-            let item = match schema.get("items") {
+        for index in 0..length.min(LONGEST) {
+            let item = match item_schema(schema, index as usize) {
                 Some(items) => self.of_schema(levels, items)?,
                 None => self.of_any()?,
             };
@@ -307,10 +330,35 @@ impl<'d> Draw<'d> {
                 }
             }
         }
+        if let Some(Value::Object(patterns)) = schema.get("patternProperties") {
+            self.add_of_patterns(levels, patterns, &mut members)?;
+        }
         if self.has_others(schema)? {
             self.add_other(levels, schema, OTHER_KEY, &mut members)?;
         }
         Ok(Some(Value::Object(members)))
+    }
+
+    /// Adds members whose keys match patterns.
+    #[cycle(draw)]
+    fn add_of_patterns(
+        &mut self,
+        levels: usize,
+        patterns: &Map<String, Value>,
+        members: &mut Map<String, Value>,
+    ) -> Result<(), AllocError> {
+        for (pattern, schema) in patterns.iter() {
+            let Some(text) = text_of_pattern(pattern.as_str(), 0) else {
+                continue;
+            };
+            let name = from_utf8(text.as_bytes()).unwrap_or("");
+            if members.get(name).is_none() && self.keeps()? {
+                if let Some(value) = self.of_schema(levels, schema)? {
+                    serde_json::put(members, self.alloc, name, value)?;
+                }
+            }
+        }
+        Ok(())
     }
 
     /// Chooses whether a map has a member that is no property: usually where it has no properties.
@@ -344,6 +392,41 @@ impl<'d> Draw<'d> {
             Some(value) => serde_json::put(members, self.alloc, name, value),
             None => Ok(()),
         }
+    }
+}
+
+/// Two maps as one, or else the first value that there is.
+fn merged(
+    alloc: Global,
+    first: Option<Value>,
+    second: Option<Value>,
+) -> Result<Option<Value>, AllocError> {
+    match (first, second) {
+        (Some(Value::Object(members)), Some(Value::Object(more))) => {
+            let mut members = members;
+            for (name, member) in more.iter() {
+                serde_json::put(&mut members, alloc, name.as_str(), member.clone()?)?;
+            }
+            Ok(Some(Value::Object(members)))
+        }
+        (Some(first), _) => Ok(Some(first)),
+        (None, second) => Ok(second),
+    }
+}
+
+/// The schema of the item of this index, if there is one.
+fn item_schema(schema: &Value, index: usize) -> Option<&Value> {
+    let prefixes = match schema.get("prefixItems") {
+        Some(prefixes) => Some(prefixes),
+        None => schema.get("items"),
+    };
+    match prefixes {
+        Some(Value::Array(prefixes)) if index < prefixes.len() => prefixes.get(index),
+        Some(Value::Array(_)) => match schema.get("items") {
+            Some(Value::Array(_)) => schema.get("additionalItems"),
+            items => items,
+        },
+        _ => items_in(schema),
     }
 }
 
@@ -381,4 +464,10 @@ fn is_map_schema(schema: &Value) -> bool {
     schema.get("properties").is_some()
         || schema.get("required").is_some()
         || schema.get("additionalProperties").is_some()
+        || schema.get("patternProperties").is_some()
+}
+
+/// Whether a schema speaks of items.
+fn is_list_schema(schema: &Value) -> bool {
+    schema.get("items").is_some() || schema.get("prefixItems").is_some()
 }

@@ -63,8 +63,10 @@ fn check_properties(alloc: Global, schema: &Value) -> Result<(), SchemaFault> {
 
 /// Refuses a schema whose keywords have no kind of values in common, or with a part that is `false` and has to have one.
 fn check_schema(alloc: Global, schema: &Value) -> Result<(), SchemaFault> {
-    if is_no_kind(kinds_in(alloc, schema)?) {
-        return Err(refusal(alloc, NO_VALUE));
+    match kinds_in(alloc, schema) {
+        Ok(kinds) if is_no_kind(kinds) => return Err(refusal(alloc, NO_VALUE)),
+        Err(SchemaFault::OutOfMemory) => return Err(SchemaFault::OutOfMemory),
+        Ok(_) | Err(SchemaFault::Refused(_)) => {}
     }
     check_alternatives(alloc, schema, "anyOf")?;
     check_alternatives(alloc, schema, "oneOf")?;

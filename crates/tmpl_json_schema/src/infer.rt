@@ -1,5 +1,5 @@
 //! A schema of samples.
-ghost use Rattle.std.specs.Prelude.{◌≡◌, ◌≤◌, ◌++◌, suc, IfOk, IfSome, OnOk, map, flat_map, filter_map};
+ghost use Rattle.std.specs.Prelude.{◌≡◌, ◌⊎◌, ◌≤◌, ◌++◌, suc, IfOk, IfSome, OnOk, map, flat_map, filter_map};
 ghost use Rattle.std.specs.List.{AllByRecursion, list_any};
 ghost use Rattle.serde_json.specs.Data.{object, depth};
 ghost use Rattle.serde_json.specs.Find.{as_object, get_member};
@@ -9,14 +9,20 @@ ghost use Rattle.tmpl_values.specs.Json.{tree_value};
 ghost use Rattle.tmpl_json_schema.specs.Document.{IsInstance, IsOfType, type_of as type_name};
 ghost use Rattle.tmpl_json_schema.specs.Inferred.{Conforms, HasInferred, IsInferred, NamesTypes};
 ghost use Rattle.tmpl_json_schema.specs.computed.Inferred.{seen, maps_seen, items_of_list, EachValue, IsOnlyOrList, is_text};
-ghost use Rattle.tmpl_json_schema.specs.computed.Inferred.{Fits, room, AddsItems, AreTold, AddsProperties};
+ghost use Rattle.tmpl_json_schema.specs.computed.Inferred.{Fits, room, values_among, AddsItems, AreTold, AddsOthers, AddsProperties};
 
 use crate::conform::count_keys;
 use serde_json::{Map, Value, put};
 use std::alloc::{AllocError, Global};
+use std::collections::BTreeSet;
 
 /// How many levels of samples the schema has: below them each value fits.
 const LEVELS: usize = 40;
+
+/// How many keys maps have at most for which there is a property each, if their values are of one type, and if not.
+const MANY_ALIKE: usize = 40;
+
+const MANY: usize = 300;
 
 /// The draft of JSON Schema.
 const DRAFT: &str = "https://json-schema.org/draft/2020-12/schema";
@@ -150,11 +156,116 @@ fn values_of<'s>(
     Ok(values)
 }
 
+/// Adds the values of a map.
+fn add_values_of<'s>(
+    map: &'s Map<String, Value>,
+    all: &mut Vec<&'s Value>,
+) -> Result<(), AllocError>
+    ensures { OnOk result (seen all.new.items ≡ seen all.old.items ++ values_among (members_view map.now.entries)) }
+{
+    for (_, value) in map.iter() {
+        all.push(value)?;
+    }
+    Ok(())
+}
+
+/// The values of maps.
+fn values_in<'s>(
+    alloc: Global,
+    maps: &[&'s Map<String, Value>],
+) -> Result<Vec<&'s Value>, AllocError>
+    ensures { IfOk result (λ values. seen values.items ≡ flat_map values_among (maps_seen maps.now)) }
+{
+    let mut all = Vec::new(alloc);
+    for map in maps {
+        add_values_of(*map, &mut all)?;
+    }
+    Ok(all)
+}
+
+/// The paths that go on from a key, each without that key.
+fn paths_under<'p>(
+    alloc: Global,
+    paths: &[&'p str],
+    key: &str,
+) -> Result<Vec<&'p str>, AllocError> {
+    let mut under = Vec::new(alloc);
+    for path in paths {
+        if let Some(rest) = path_after(*path, key) {
+            under.push(rest)?;
+        }
+    }
+    Ok(under)
+}
+
+/// What of a path stands after its first key, if that is this one.
+fn path_after<'p>(path: &'p str, key: &str) -> Option<&'p str> {
+    let rest = path.strip_prefix(".")?.strip_prefix(key)?;
+    if rest.is_empty() || rest.starts_with(".") {
+        Some(rest)
+    } else {
+        None
+    }
+}
+
+/// Whether the keys of maps are data: where one of the paths ends there, or where they are many or each map has others,
+/// and their values are of one type.
+fn are_keys_data(
+    alloc: Global,
+    paths: &[&str],
+    maps: &[&Map<String, Value>],
+) -> Result<bool, AllocError> {
+    if paths.iter().any(|path| path.is_empty() || *path == ".") {
+        return Ok(true);
+    }
+    let mut names: BTreeSet<&str> = BTreeSet::new(alloc);
+    let mut count: usize = 0;
+    for map in maps {
+        if names.len() <= MANY {
+            add_names(*map, &mut names, &mut count)?;
+        }
+    }
+    if names.len() > MANY {
+        return Ok(true);
+    }
+    let is_apart = maps.len() > 1 && count > 1 && names.len() == count;
+    Ok((is_apart || names.len() > MANY_ALIKE) && are_alike(maps))
+}
+
+/// Adds the keys of a map to those that are known, and counts them.
+fn add_names<'s>(
+    map: &'s Map<String, Value>,
+    names: &mut BTreeSet<&'s str>,
+    count: &mut usize,
+) -> Result<(), AllocError> {
+    for name in map.keys() {
+        names.insert(name.as_str())?;
+        *count = count.saturating_add(1);
+    }
+    Ok(())
+}
+
+/// Whether all values of maps are of one type.
+fn are_alike(maps: &[&Map<String, Value>]) -> bool {
+    let mut first: Option<&Value> = None;
+    for map in maps {
+        for value in map.values() {
+            match first {
+                Some(first) if type_of(first) != type_of(value) => return false,
+                Some(_) => {}
+                None => first = Some(value),
+            }
+        }
+    }
+    true
+}
+
 /// The schema of samples.
 #[cycle(infer)]
 fn schema_of(
     alloc: Global,
     levels: usize,
+    paths: &[&str],
     samples: &[&Value],
 ) -> Result<Map<String, Value>, AllocError>
     ensures conform { IfOk result
@@ -169,8 +280,8 @@ fn schema_of(
     }
     let fewer = levels - 1;
     put(&mut schema, alloc, "type", types_of(alloc, samples)?)?;
-    add_items(alloc, fewer, samples, &mut schema)?;
-    add_properties(alloc, fewer, maps.as_slice(), &mut schema)?;
+    add_items(alloc, fewer, paths, samples, &mut schema)?;
+    add_keyed(alloc, fewer, paths, maps.as_slice(), &mut schema)?;
     Ok(schema)
 }
 
@@ -179,6 +290,7 @@ fn schema_of(
 fn add_items(
     alloc: Global,
     levels: usize,
+    paths: &[&str],
     samples: &[&Value],
     schema: &mut Map<String, Value>,
 ) -> Result<(), AllocError>
@@ -189,8 +301,46 @@ fn add_items(
     if items.is_empty() {
         return Ok(());
     }
-    let told = schema_of(alloc, levels, items.as_slice())?;
+    let told = schema_of(alloc, levels, paths, items.as_slice())?;
     put(schema, alloc, "items", Value::Object(told))
+}
+
+/// Adds what is stated of the values of maps, if there are some.
+#[cycle(infer)]
+fn add_keyed(
+    alloc: Global,
+    levels: usize,
+    paths: &[&str],
+    maps: &[&Map<String, Value>],
+    schema: &mut Map<String, Value>,
+) -> Result<(), AllocError>
+    ensures { OnOk result (AddsOthers levels (maps_seen maps.now) (members_view schema.old.entries) (members_view schema.new.entries)
+        ⊎ AddsProperties levels (maps_seen maps.now) (members_view schema.old.entries) (members_view schema.new.entries)) }
+{
+    if are_keys_data(alloc, paths, maps)? {
+        add_others(alloc, levels, maps, schema)
+    } else {
+        add_properties(alloc, levels, paths, maps, schema)
+    }
+}
+
+/// Adds what is stated of the values of maps whose keys are data, if there are some.
+#[cycle(infer)]
+fn add_others(
+    alloc: Global,
+    levels: usize,
+    maps: &[&Map<String, Value>],
+    schema: &mut Map<String, Value>,
+) -> Result<(), AllocError>
+    ensures { OnOk result (AddsOthers levels (maps_seen maps.now)
+        (members_view schema.old.entries) (members_view schema.new.entries)) }
+{
+    let values = values_in(alloc, maps)?;
+    if values.is_empty() {
+        return Ok(());
+    }
+    let told = schema_of(alloc, levels, &[], values.as_slice())?;
+    put(schema, alloc, "additionalProperties", Value::Object(told))
 }
 
 /// Adds what is stated of the keys of maps, if there are some.
@@ -198,6 +348,7 @@ fn add_items(
 fn add_properties(
     alloc: Global,
     levels: usize,
+    paths: &[&str],
     maps: &[&Map<String, Value>],
     schema: &mut Map<String, Value>,
 ) -> Result<(), AllocError>
@@ -209,7 +360,7 @@ fn add_properties(
         required: Vec::new(alloc),
     };
     for map in maps {
-        add_keys(alloc, levels, maps, *map, &mut keys)?;
+        add_keys(alloc, levels, paths, maps, *map, &mut keys)?;
     }
     let Keys {
         properties,
@@ -227,6 +378,7 @@ fn add_properties(
 fn add_keys(
     alloc: Global,
     levels: usize,
+    paths: &[&str],
     maps: &[&Map<String, Value>],
     map: &Map<String, Value>,
     keys: &mut Keys,
@@ -238,7 +390,7 @@ fn add_keys(
 {
     for name in map.keys() {
         if keys.properties.get(name.as_str()).is_none() {
-            add_key(alloc, levels, maps, name.as_str(), &mut *keys)?;
+            add_key(alloc, levels, paths, maps, name.as_str(), &mut *keys)?;
         }
     }
     Ok(())
@@ -249,6 +401,7 @@ fn add_keys(
 fn add_key(
     alloc: Global,
     levels: usize,
+    paths: &[&str],
     maps: &[&Map<String, Value>],
     name: &str,
     keys: &mut Keys,
@@ -262,19 +415,22 @@ fn add_key(
     if values.len() == maps.len() {
         keys.required.push(Value::try_from_str(alloc, name)?)?;
     }
-    let property = schema_of(alloc, levels, values.as_slice())?;
+    let under = paths_under(alloc, paths, name)?;
+    let property = schema_of(alloc, levels, under.as_slice(), values.as_slice())?;
     put(&mut keys.properties, alloc, name, Value::Object(property))
 }
 
 /// A JSON Schema to which each of the samples conforms: their types, each of them once, the properties of maps, of which
-/// those are required that each has, and the items of lists. It has no other keywords but `$schema`.
-pub fn infer_schema(alloc: Global, samples: &[&Value]) -> Result<Value, AllocError>
+/// those are required that each has, and the items of lists; of maps whose keys are data one schema of all values. These
+/// are the maps at the paths, as `.metadata.labels`, and those of which it is seen by their keys and values. It has no
+/// other keywords but `$schema`.
+pub fn infer_schema(alloc: Global, samples: &[&Value], paths: &[&str]) -> Result<Value, AllocError>
     ensures conform { IfOk result
         (λ schema. AllByRecursion (λ sample. Conforms (view schema) (view sample.now)) samples.now) }
     ensures nests { IfOk result (λ schema. depth (view schema) ≤ max_depth) }
     ensures plain { IfOk result (λ schema. IsInferred (view schema)) }
 {
-    let mut schema = schema_of(alloc, LEVELS, samples)?;
+    let mut schema = schema_of(alloc, LEVELS, paths, samples)?;
     put(
         &mut schema,
         alloc,

@@ -1,167 +1,287 @@
-//! Which keywords are understood, and what may stand under them.
-use crate::draft::Draft;
-use crate::fault::{SchemaFault, refusal, refusal_of, under};
+//! Looks through the keywords of a document: what is wrong with one, and of which to warn.
+use crate::fault::{Refused, SchemaFault, at_index, refusal, refusal_of, under};
+use crate::known::{is_keyword, near_keyword};
+use crate::reference::{fragment_of, parts_of, pointed, under_pointer};
 use serde_json::Value;
-use std::alloc::Global;
+use std::alloc::{AllocError, Global};
+use tmpl_values::Bytes;
 
-/// What is done with a keyword.
+/// The most warnings that are given.
+const MOST_WARNINGS: usize = 100;
+
+/// What stands under a keyword.
 #[derive(Clone, Copy)]
 enum Keyword {
-    /// Refers to another schema.
+    /// What is read elsewhere, or may be anything.
+    Any,
+    /// A reference to another schema.
     Reference,
-    /// It says which shapes there are, and is read elsewhere.
-    Shape,
-    /// A note, which may be anything.
-    Note,
-    /// .. a text.
-    NoteText,
-    /// .. a boolean.
-    NoteTruth,
-    /// Only narrows: by a number.
+    /// The draft.
+    Draft,
     Number,
-    /// .. by a count.
+    /// A number, or, by draft-04, whether a bound is excluded.
+    Bound,
     Count,
-    /// .. by a text.
     Text,
-    /// .. by a boolean.
     Truth,
-    /// .. by an object.
     Object,
-    /// Has schemas by their names.
-    Schemas,
-    /// Names the document or its draft, and may stand at its top alone.
-    Identity,
-    /// Only narrows, and in later drafts alone.
-    Later,
     Unknown,
 }
 
-/// The keyword of this name in a draft.
-fn keyword_of(draft: Draft, name: &str) -> Keyword {
-    let is_first = matches!(draft, Draft::Draft04);
+/// The keyword of this name.
+fn keyword_of(name: &str) -> Keyword {
     match name {
-        "id" if is_first => Keyword::Identity,
-        "$id" if is_first => Keyword::Unknown,
-        "exclusiveMinimum" | "exclusiveMaximum" if is_first => Keyword::Truth,
-        "dependentRequired" if !draft.is_since_2019() => Keyword::Later,
         "$ref" => Keyword::Reference,
-        "type" | "enum" | "const" | "properties" | "required" => Keyword::Shape,
-        "additionalProperties" | "items" | "anyOf" | "oneOf" => Keyword::Shape,
-        "$defs" | "definitions" => Keyword::Schemas,
-        "$id" | "$schema" => Keyword::Identity,
-        _ => narrowing_of(name),
-    }
-}
-
-/// The keyword of this name, if it is one that only narrows or is a note.
-fn narrowing_of(name: &str) -> Keyword {
-    match name {
-        "minimum" | "maximum" | "exclusiveMinimum" | "exclusiveMaximum" => Keyword::Number,
-        "multipleOf" => Keyword::Number,
+        "$schema" => Keyword::Draft,
+        "$id" | "pattern" | "format" => Keyword::Text,
+        "minimum" | "maximum" | "multipleOf" => Keyword::Number,
+        "exclusiveMinimum" | "exclusiveMaximum" => Keyword::Bound,
         "minItems" | "maxItems" | "minLength" | "maxLength" => Keyword::Count,
         "minProperties" | "maxProperties" => Keyword::Count,
-        "pattern" | "format" => Keyword::Text,
         "uniqueItems" => Keyword::Truth,
-        "dependentRequired" => Keyword::Object,
-        _ => note_of(name),
+        "dependentRequired" | "dependentSchemas" | "dependencies" => Keyword::Object,
+        "properties" | "patternProperties" | "$defs" | "definitions" => Keyword::Object,
+        _ if is_keyword(name) => Keyword::Any,
+        _ => Keyword::Unknown,
     }
 }
 
-/// The keyword of this name, if it is a note.
-fn note_of(name: &str) -> Keyword {
-    match name {
-        "default" | "examples" => Keyword::Note,
-        "title" | "description" | "$comment" => Keyword::NoteText,
-        "contentEncoding" | "contentMediaType" => Keyword::NoteText,
-        "deprecated" | "readOnly" | "writeOnly" => Keyword::NoteTruth,
-        _ => Keyword::Unknown,
-    }
+/// Whether it is an integer from 0 on, which may be written as `2.0`.
+fn is_count(value: &Value) -> bool {
+    value.as_u64().is_some()
+        || value
+            .as_f64()
+            .is_some_and(|number| number >= 0.0 && number.fract() == 0.0)
 }
 
 /// Whether what stands under a keyword is what it wants; if not, what that is.
 fn wanted(keyword: Keyword, value: &Value) -> Option<&'static str> {
     match keyword {
         Keyword::Number if !value.is_number() => Some("a number is wanted"),
-        Keyword::Count if value.as_u64().is_none() => Some("an integer from 0 on is wanted"),
-        Keyword::Text | Keyword::NoteText | Keyword::Identity if !value.is_string() => {
+        Keyword::Bound if !value.is_number() && !value.is_boolean() => Some("a number is wanted"),
+        Keyword::Count if !is_count(value) => Some("an integer from 0 on is wanted"),
+        Keyword::Text | Keyword::Reference | Keyword::Draft if !value.is_string() => {
             Some("a text is wanted")
         }
-        Keyword::Truth | Keyword::NoteTruth if !value.is_boolean() => {
-            Some("true or false is wanted")
-        }
-        Keyword::Object | Keyword::Schemas if !value.is_object() => Some("an object is wanted"),
+        Keyword::Truth if !value.is_boolean() => Some("true or false is wanted"),
+        Keyword::Object if !value.is_object() => Some("an object is wanted"),
         _ => None,
     }
 }
 
-/// What is wrong with a keyword beside a `$ref`.
-fn fault_beside(alloc: Global, draft: Draft, keyword: Keyword, name: &str) -> Option<SchemaFault> {
+/// What a value of a document is.
+#[derive(Clone, Copy)]
+enum Part {
+    /// A schema, or a list of them.
+    Schema,
+    /// Schemas by their names, or a list of them.
+    Schemas,
+    Other,
+}
+
+/// What stands under a keyword.
+fn part_under(keyword: &str) -> Part {
     match keyword {
-        Keyword::Shape if draft.is_since_2019() => Some(refusal_of(
-            alloc,
-            "the keyword ",
-            name,
-            " is not understood beside \"$ref\"",
-        )),
-        Keyword::Shape
-        | Keyword::Number
-        | Keyword::Count
-        | Keyword::Text
-        | Keyword::Truth
-        | Keyword::Object
-            if !draft.is_since_2019() => {
-            Some(refusal_of(
-                alloc,
-                "",
+        "items" | "additionalProperties" | "additionalItems" | "contains" => Part::Schema,
+        "not" | "if" | "then" | "else" | "propertyNames" => Part::Schema,
+        "unevaluatedItems" | "unevaluatedProperties" => Part::Schema,
+        "anyOf" | "oneOf" | "allOf" | "prefixItems" => Part::Schemas,
+        "properties" | "patternProperties" | "dependentSchemas" | "dependencies" => Part::Schemas,
+        _ => Part::Other,
+    }
+}
+
+/// What is looked for in a document, and what was found.
+#[derive(Drop)]
+struct Search<'d> {
+    alloc: Global,
+    root: &'d Value,
+    /// Whether each `$ref` is looked up in the document itself.
+    is_one_base: bool,
+    warnings: Vec<Refused>,
+}
+
+impl Search<'_> {
+    /// Adds a warning, unless there is one of the same words.
+    fn warn(&mut self, text: String) -> Result<(), AllocError> {
+        if self.warnings.len() >= MOST_WARNINGS
+            || self.warnings.iter().any(|other| other.text == text)
+        {
+            return Ok(());
+        }
+        let path = Vec::new(self.alloc);
+        self.warnings.push(Refused { path, text })?;
+        Ok(())
+    }
+
+    /// Warns of what this text is about.
+    fn warn_of(&mut self, before: &str, name: &str, after: &str) -> Result<(), SchemaFault> {
+        match refusal_of(self.alloc, before, name, after) {
+            SchemaFault::Refused(refused) => Ok(self.warn(refused.text)?),
+            SchemaFault::OutOfMemory => Err(SchemaFault::OutOfMemory),
+        }
+    }
+
+    /// Places the warnings from this one on under a key.
+    fn place(&mut self, first: usize, key: &str) -> Result<(), AllocError> {
+        for warning in self.warnings.iter_mut().skip(first) {
+            warning.path.push(String::from_str(self.alloc, key)?)?;
+        }
+        Ok(())
+    }
+
+    /// Looks at a `$ref`: what is at its pointer, or warns that it is not looked up.
+    fn look_at_reference(&mut self, reference: &str) -> Result<(), SchemaFault> {
+        let Some(pointer) = fragment_of(self.alloc, reference)? else {
+            return self.warn_of("", reference, " is not looked up: any value may be there");
+        };
+        if !self.is_one_base || !is_pointer(pointer.as_slice()) {
+            return self.warn_of("", reference, " is not looked up: any value may be there");
+        }
+        match pointed(self.root, pointer.as_slice()) {
+            Some(_) => Ok(()),
+            None => Err(refusal_of(self.alloc, "nothing is at ", reference, " in the document")),
+        }
+    }
+
+    /// Whether it is what names the draft of the document.
+    fn is_draft(&self, value: &Value) -> bool {
+        match self.root.get("$schema") {
+            Some(draft) => *draft == *value,
+            None => false,
+        }
+    }
+
+    /// Looks at a keyword of a schema.
+    fn look_at(&mut self, name: &str, value: &Value) -> Result<(), SchemaFault> {
+        let keyword = keyword_of(name);
+        if let Some(text) = wanted(keyword, value) {
+            return Err(refusal(self.alloc, text));
+        }
+        match (keyword, value) {
+            (Keyword::Unknown, _) => match near_keyword(name) {
+                Some(near) => Err(unknown(self.alloc, name, near)),
+                None => self.warn_of("the keyword ", name, " is not known, and has no effect"),
+            },
+            (Keyword::Draft, _) if !self.is_draft(value) => Err(refusal_of(
+                self.alloc,
+                "another ",
                 name,
-                " has no effect beside \"$ref\" before draft 2019-09",
-            ))
+                " than that of the document is not understood",
+            )),
+            (Keyword::Reference, Value::String(text)) => self.look_at_reference(text.as_str()),
+            _ => Ok(()),
         }
-        _ => None,
+    }
+
+    /// Looks at each keyword of a schema.
+    fn look_at_each(&mut self, schema: &Value) -> Result<(), SchemaFault> {
+        let Value::Object(members) = schema else {
+            return Ok(());
+        };
+        for (name, value) in members.iter() {
+            let first = self.warnings.len();
+            if let Err(fault) = self.look_at(name.as_str(), value) {
+                return Err(under(self.alloc, fault, name.as_str()));
+            }
+            self.place(first, name.as_str())?;
+        }
+        Ok(())
     }
 }
 
-/// What is wrong with a keyword, beside the others of a schema.
-fn keyword_fault(
-    alloc: Global,
-    draft: Draft,
-    schema: &Value,
-    is_top: bool,
-    name: &str,
-    value: &Value,
-) -> Option<SchemaFault> {
-    let keyword = keyword_of(draft, name);
-    if let Some(text) = wanted(keyword, value) {
-        return Some(refusal(alloc, text));
-    }
-    match keyword {
-        Keyword::Unknown => Some(refusal_of(alloc, "the keyword ", name, " is not understood")),
-        Keyword::Later => Some(refusal_of(alloc, "", name, " has no effect before draft 2019-09")),
-        Keyword::Identity if !is_top => Some(refusal_of(
-            alloc,
-            "",
-            name,
-            " is understood at the top of a document alone",
-        )),
-        _ if schema.get("$ref").is_some() => fault_beside(alloc, draft, keyword, name),
-        _ => None,
+/// Whether it is a JSON Pointer, and no other name.
+fn is_pointer(text: &[u8]) -> bool {
+    match text {
+        [] | [b'/', ..] => true,
+        _ => false,
     }
 }
 
-/// Refuses a schema with a keyword that is not understood.
-pub(crate) fn check_keywords(
-    alloc: Global,
-    draft: Draft,
-    schema: &Value,
-    is_top: bool,
-) -> Result<(), SchemaFault> {
-    let Value::Object(members) = schema else {
-        return Ok(());
-    };
-    for (name, value) in members.iter() {
-        if let Some(fault) = keyword_fault(alloc, draft, schema, is_top, name.as_str(), value) {
-            return Err(under(alloc, fault, name.as_str()));
+/// The refusal of a keyword that is near another.
+fn unknown(alloc: Global, name: &str, near: &str) -> SchemaFault {
+    match format!(in alloc; "the keyword \"{name}\" is not known: write \"{near}\"") {
+        Ok(text) => SchemaFault::Refused(Refused {
+            path: Vec::new(alloc),
+            text,
+        }),
+        Err(_) => SchemaFault::OutOfMemory,
+    }
+}
+
+/// Looks through a part of a document.
+fn search_part(search: &mut Search<'_>, part: Part, value: &Value) -> Result<(), SchemaFault> {
+    match value {
+        Value::Object(members) => {
+            if let Part::Schema = part {
+                search.look_at_each(value)?;
+            }
+            for (key, member) in members.iter() {
+                let inner = match part {
+                    Part::Schema => part_under(key.as_str()),
+                    Part::Schemas => Part::Schema,
+                    Part::Other => return Ok(()),
+                };
+                let first = search.warnings.len();
+                if let Err(fault) = search_part(search, inner, member) {
+                    return Err(under(search.alloc, fault, key.as_str()));
+                }
+                search.place(first, key.as_str())?;
+            }
         }
+        Value::Array(items) => {
+            for (index, item) in items.iter().enumerate() {
+                let inner = match part {
+                    Part::Schema | Part::Schemas => Part::Schema,
+                    Part::Other => return Ok(()),
+                };
+                let first = search.warnings.len();
+                if let Err(fault) = search_part(search, inner, item) {
+                    return Err(at_index(search.alloc, fault, index));
+                }
+                let key = format!(in search.alloc; "{index}")?;
+                search.place(first, key.as_str())?;
+            }
+        }
+        Value::Null | Value::Bool(_) | Value::Number(_) | Value::String(_) => {}
     }
     Ok(())
+}
+
+/// Looks through what a pointer points to.
+fn search_at(search: &mut Search<'_>, pointer: &[u8]) -> Result<(), SchemaFault> {
+    let Some(schema) = pointed(search.root, pointer) else {
+        return Ok(());
+    };
+    let first = search.warnings.len();
+    let found = search_part(search, Part::Schema, schema);
+    for part in parts_of(search.alloc, pointer)?.iter().rev() {
+        search.place(first, part.as_str())?;
+    }
+    match found {
+        Ok(()) => Ok(()),
+        Err(fault) => Err(under_pointer(search.alloc, fault, pointer)),
+    }
+}
+
+/// Refuses a document with a keyword that is near another, or under which stands what it does not want, in the schemas at
+/// its top and at these pointers. Gives of what to warn.
+pub(crate) fn check_keywords(
+    alloc: Global,
+    root: &Value,
+    is_one_base: bool,
+    names: &[Bytes],
+) -> Result<Vec<Refused>, SchemaFault> {
+    let mut search = Search {
+        alloc,
+        root,
+        is_one_base,
+        warnings: Vec::new(alloc),
+    };
+    search_part(&mut search, Part::Schema, root)?;
+    for name in names {
+        search_at(&mut search, name.as_slice())?;
+    }
+    let Search { warnings, .. } = search;
+    Ok(warnings)
 }

@@ -1,15 +1,16 @@
-//! Whether a document has no keywords but those of a list: each schema in it is looked at once more, after it is read.
+//! Whether a document has no keywords that are not allowed: each schema in it is looked at once more, after it is read.
 ghost use Rattle.std.specs.Prelude.{◌≡◌, map, true};
 ghost use Rattle.std.specs.List.{list_any};
 ghost use Rattle.std.specs.Str.{bytes_eq};
 ghost use Rattle.serde_json.specs.View.{items_view, members_view, view};
 ghost use Rattle.tmpl_json_schema.specs.Keywords.{AreKnown, EachListed, EachNamed, HasListed, HasNamed, IsKnown};
-ghost use Rattle.tmpl_json_schema.specs.Keywords.{has_listed, has_named, has_schema, is_keyword, keywords};
+ghost use Rattle.tmpl_json_schema.specs.Keywords.{has_listed, has_named, has_schema, is_allowed, is_keyword, is_near, keywords};
 ghost use Rattle.tmpl_json_schema.specs.computed.Known.{IsRule};
 
+use crate::edit::is_near;
 use serde_json::{Map, Value};
 
-/// Whether each keyword in a schema is known, and in those that stand in it, as far as this many levels show.
+/// Whether each keyword in a schema is allowed, and in those that stand in it, as far as this many levels show.
 #[cycle(known)]
 pub(crate) fn is_known(levels: usize, schema: &Value) -> bool
     ensures { result ≡ true → IsKnown (view schema.now) }
@@ -41,7 +42,7 @@ fn are_known(levels: usize, rules: &Map<String, Value>) -> bool
 fn is_rule(levels: usize, keyword: &str, rule: &Value) -> bool
     ensures { result ≡ true → IsRule keyword.now (view rule.now) }
 {
-    is_keyword(keyword)
+    is_allowed(keyword)
         && is_schema(levels, keyword, rule)
         && are_named(levels, keyword, rule)
         && are_listed(levels, keyword, rule)
@@ -117,25 +118,65 @@ fn each_listed(levels: usize, schemas: &[Value]) -> bool
 fn has_schema(keyword: &str) -> bool
     ensures { result ≡ has_schema keyword.now }
 {
-    keyword == "items" || keyword == "additionalProperties"
+    keyword == "items"
+        || (keyword == "additionalProperties"
+            || (keyword == "not"
+                || (keyword == "if"
+                    || (keyword == "then"
+                        || (keyword == "else"
+                            || (keyword == "contains"
+                                || (keyword == "propertyNames"
+                                    || (keyword == "additionalItems"
+                                        || (keyword == "unevaluatedItems"
+                                            || keyword == "unevaluatedProperties")))))))))
 }
 
 /// Whether schemas stand under this keyword by their names.
 fn has_named(keyword: &str) -> bool
     ensures { result ≡ has_named keyword.now }
 {
-    keyword == "properties" || keyword == "$defs" || keyword == "definitions"
+    keyword == "properties"
+        || (keyword == "patternProperties"
+            || (keyword == "dependentSchemas" || keyword == "dependencies"))
 }
 
 /// Whether a list of schemas stands under this keyword.
 fn has_listed(keyword: &str) -> bool
     ensures { result ≡ has_listed keyword.now }
 {
-    keyword == "anyOf" || keyword == "oneOf"
+    keyword == "anyOf"
+        || (keyword == "oneOf"
+            || (keyword == "allOf" || (keyword == "prefixItems" || keyword == "items")))
+}
+
+/// Whether a name is a keyword, or none is near it.
+fn is_allowed(name: &str) -> bool
+    ensures { result ≡ is_allowed name.now }
+{
+    is_keyword(name) || !is_near_one(&keywords(), name)
+}
+
+/// Whether a name is near one of these.
+fn is_near_one(keywords: &[&str], name: &str) -> bool
+    ensures { result ≡ list_any (λ keyword. is_near keyword name.now) (map (λ keyword. keyword.now) keywords.now) }
+{
+    keywords.iter().any(|keyword| is_near(*keyword, name))
+}
+
+/// The keyword that a name is near to, if it is none itself.
+pub(crate) fn near_keyword(name: &str) -> Option<&'static str> {
+    if is_keyword(name) {
+        return None;
+    }
+    let keywords = keywords();
+    keywords
+        .iter()
+        .find(|keyword| is_near(**keyword, name))
+        .copied()
 }
 
 /// Whether a keyword is known.
-fn is_keyword(name: &str) -> bool
+pub(crate) fn is_keyword(name: &str) -> bool
     ensures { result ≡ is_keyword name.now }
 {
     is_among(&keywords(), name)
@@ -149,7 +190,7 @@ fn is_among(names: &[&str], name: &str) -> bool
 }
 
 /// The keywords that are known: those that are read, those that only narrow further, and notes.
-fn keywords() -> [&'static str; 40]
+fn keywords() -> [&'static str; 64]
     ensures { map (λ keyword. keyword.now) result ≡ keywords }
 {
     [
@@ -165,9 +206,12 @@ fn keywords() -> [&'static str; 40]
         "properties",
         "required",
         "additionalProperties",
+        "patternProperties",
         "items",
+        "prefixItems",
         "anyOf",
         "oneOf",
+        "allOf",
         "minimum",
         "maximum",
         "exclusiveMinimum",
@@ -183,13 +227,34 @@ fn keywords() -> [&'static str; 40]
         "minProperties",
         "maxProperties",
         "dependentRequired",
+        "not",
+        "if",
+        "then",
+        "else",
+        "contains",
+        "minContains",
+        "maxContains",
+        "propertyNames",
+        "dependencies",
+        "dependentSchemas",
+        "additionalItems",
+        "unevaluatedItems",
+        "unevaluatedProperties",
+        "$anchor",
+        "$dynamicAnchor",
+        "$dynamicRef",
+        "$recursiveAnchor",
+        "$recursiveRef",
+        "$vocabulary",
         "default",
         "examples",
+        "example",
         "title",
         "description",
         "$comment",
         "contentEncoding",
         "contentMediaType",
+        "contentSchema",
         "deprecated",
         "readOnly",
         "writeOnly",

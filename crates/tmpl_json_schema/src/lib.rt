@@ -1,10 +1,13 @@
 //! JSON Schema (2020-12, 2019-09, draft-07, draft-06 and draft-04) read as a schema of data, and the check of a template against it.
 #![tactic(auto)]
 
+mod base;
 mod check;
 mod conform;
+mod decided;
 mod draft;
 mod draw;
+mod edit;
 mod empty;
 mod fault;
 mod fields;
@@ -17,9 +20,10 @@ mod read;
 mod reference;
 mod schema;
 mod shapes;
+mod violation;
 
 pub use check::{CheckFault, check_document};
-pub use conform::{LEVELS, conforms};
+pub use conform::{LEVELS, conforms, conforms_to};
 pub use draft::Draft;
 pub use draw::{Draw, Flip};
 pub use empty::part_without_values;
@@ -27,5 +31,6 @@ pub use fault::{Refused, SchemaFault};
 pub use fields::{has_content, least_items, requires_key};
 pub use infer::infer_schema;
 pub use kinds::{Kinds, is_every_kind, kinds_of, lets_no_map};
-pub use read::{choices_in, chosen_by};
-pub use schema::{read_document, read_schema};
+pub use read::{choices_in, chosen_by, items_in, part_in};
+pub use schema::{read_document, read_schema, warnings_of};
+pub use violation::{Violation, violations_of};

@@ -76,6 +76,32 @@ pub(crate) fn is_of_pattern(pattern: &str, text: &str) -> bool {
     false
 }
 
+/// Whether a text matches a pattern, if that is seen: the text is one of those that are drawn, or the pattern is of
+/// letters, digits, `_` and `-` alone, between anchors.
+pub(crate) fn is_pattern_met(pattern: &str, text: &str) -> Option<bool> {
+    if is_of_pattern(pattern, text) {
+        return Some(true);
+    }
+    let rest = pattern.strip_prefix('^').unwrap_or(pattern);
+    let plain = rest.strip_suffix('$').unwrap_or(rest);
+    if !plain.bytes().all(is_plain) {
+        return None;
+    }
+    let is_begun = rest.len() < pattern.len();
+    let is_ended = plain.len() < rest.len();
+    Some(match (is_begun, is_ended) {
+        (true, true) => text == plain,
+        (true, false) => text.as_bytes().starts_with(plain.as_bytes()),
+        (false, true) => text.as_bytes().ends_with(plain.as_bytes()),
+        (false, false) => text.contains(plain),
+    })
+}
+
+/// Whether a byte stands for itself in a pattern.
+fn is_plain(byte: u8) -> bool {
+    byte.is_ascii_alphanumeric() || byte == b'_' || byte == b'-'
+}
+
 impl<'p> PatternText<'p> {
     /// The text.
     pub(crate) fn as_bytes(&self) -> &[u8] {

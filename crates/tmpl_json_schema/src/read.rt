@@ -2,20 +2,22 @@
 #![tactic(auto, using(tmpl_shape::proofs::ViewLemmas::parts))]
 
 ghost use Rattle.std.specs.Prelude.{◌≡◌, IfOk, OnOk, Some, codes, false};
-ghost use Rattle.std.specs.Option.{option_map};
+ghost use Rattle.std.specs.Option.{option_and_then, option_map};
+ghost use Rattle.serde_json.specs.Find.{get};
 ghost use Rattle.serde_json.specs.View.{items_view, members_view, view};
 ghost use Rattle.tmpl_shape.specs.Shape.{never};
 ghost use Rattle.tmpl_shape.specs.View.{fields_of, shape_of};
-ghost use Rattle.tmpl_json_schema.specs.computed.Reading.{choice_shape, choice_with, choices_in, content_shape, fields_in, fold, fold_members, is_unread};
-ghost use Rattle.tmpl_json_schema.specs.computed.Reading.{object_shape, plain_shape, properties_in, reference_shape, shape_by, shape_under, with_property};
+ghost use Rattle.tmpl_json_schema.specs.Document.{items_in};
+ghost use Rattle.tmpl_json_schema.specs.computed.Reading.{additional_in, beside_shape, choice_shape, choice_with, choices_in, content_shape, fields_in, fold};
+ghost use Rattle.tmpl_json_schema.specs.computed.Reading.{first_of, fold_members, is_unread, items_shape, listed_in, object_shape, part_in, plain_shape};
+ghost use Rattle.tmpl_json_schema.specs.computed.Reading.{properties_in, shape_by, whole_shape, with_pattern, with_patterns, with_property};
 
 use crate::draft::Draft;
 use crate::fault::{SchemaFault, at_index, refusal, refusal_of, under};
 use crate::fields::{has_content, is_required, least_in, required_in};
-use crate::keyword::check_keywords;
 use crate::kinds::{Kinds, is_every_kind, kinds_in};
 use crate::reference::{fragment_of, is_listed};
-use crate::shapes::{by_kinds, kept, or_shape, rest_of};
+use crate::shapes::{by_kinds, is_anything, kept, or_shape, rest_of};
 use serde_json::{Map, Value};
 use std::alloc::Global;
 use tmpl_schema::{Fields, Shape, put_field};
@@ -31,14 +33,12 @@ pub(crate) struct Reader<'s> {
     pub(crate) names: &'s [Bytes],
     /// How many levels of a schema are read.
     pub(crate) levels: usize,
-    /// How many are left inside the top of the document; as many as there are where a part of it is read.
-    pub(crate) top: usize,
     pub(crate) alloc: Global,
 }
 
-/// What a `$ref` stands for.
-fn reference_shape(reader: &Reader<'_>, reference: &Value) -> Result<Shape, SchemaFault>
-    ensures { IfOk result (λ s. reference_shape reader.now.names.now (view reference.now) ≡ Some (shape_of s)) }
+/// The pointer of a `$ref`, if it is one of the names. One that points nowhere in the document is refused.
+fn listed_in(reader: &Reader<'_>, reference: &Value) -> Result<Option<Bytes>, SchemaFault>
+    ensures { IfOk result (λ o. o ≡ listed_in reader.now.names.now (view reference.now)) }
 {
     let Value::String(text) = reference else {
         return Err(refusal(reader.alloc, "a text is wanted"));
@@ -46,21 +46,25 @@ fn reference_shape(reader: &Reader<'_>, reference: &Value) -> Result<Shape, Sche
     match fragment_of(reader.alloc, text.as_str())? {
         Some(pointer) => {
             if is_listed(reader.names, pointer.as_slice()) {
-                return Ok(Shape::Named(pointer));
+                Ok(Some(pointer))
+            } else {
+                Ok(None)
             }
-            Err(refusal_of(
-                reader.alloc,
-                "nothing is at ",
-                text.as_str(),
-                " in the document",
-            ))
         }
-        None => Err(refusal_of(
-            reader.alloc,
-            "only what begins with \"#\" is looked up, and not ",
-            text.as_str(),
-            "",
-        )),
+        None => Ok(None),
+    }
+}
+
+/// The pointer of the `$ref` of a schema, if it has one that is one of the names.
+fn pointer_of(reader: &Reader<'_>, schema: &Value) -> Result<Option<Bytes>, SchemaFault>
+    ensures { IfOk result (λ o. o ≡ option_and_then (listed_in reader.now.names.now) (get (codes "$ref") (view schema.now))) }
+{
+    match schema.get("$ref") {
+        Some(reference) => match listed_in(reader, reference) {
+            Ok(pointer) => Ok(pointer),
+            Err(fault) => Err(under(reader.alloc, fault, "$ref")),
+        },
+        None => Ok(None),
     }
 }
 
@@ -106,21 +110,24 @@ fn object_shape(reader: &Reader<'_>, steps: usize, schema: &Value) -> Result<Sha
     ensures { IfOk result (λ s. object_shape (shape_by reader.now.draft reader.now.names.now steps) reader.now.draft
         reader.now.names.now (view schema.now) ≡ Some (shape_of s)) }
 {
-    check_keywords(reader.alloc, reader.draft, schema, steps == reader.top)?;
     check_const(reader, schema)?;
-    check_defined(reader, steps, schema, "$defs")?;
-    check_defined(reader, steps, schema, "definitions")?;
-    check_unused(reader, steps, schema)?;
-    match schema.get("$ref") {
-        Some(reference) => match reference_shape(reader, reference) {
-            Ok(shape) => Ok(shape),
-            Err(fault) => Err(under(reader.alloc, fault, "$ref")),
-        },
-        None => {
-            let kinds = kinds_in(reader.alloc, schema)?;
-            plain_shape(reader, steps, schema, kinds)
-        }
+    match pointer_of(reader, schema)? {
+        Some(pointer) => Ok(Shape::Named(pointer)),
+        None => beside_shape(reader, steps, schema),
     }
+}
+
+/// The shape of a schema beside a `$ref` that is not looked up, if there is one.
+#[cycle(read)]
+fn beside_shape(reader: &Reader<'_>, steps: usize, schema: &Value) -> Result<Shape, SchemaFault>
+    ensures { IfOk result (λ s. beside_shape (shape_by reader.now.draft reader.now.names.now steps) reader.now.draft
+        (view schema.now) (get (codes "$ref") (view schema.now)) ≡ Some (shape_of s)) }
+{
+    if schema.get("$ref").is_some() && !reader.draft.is_since_2019() {
+        return Ok(Shape::Anything);
+    }
+    let kinds = kinds_in(reader.alloc, schema)?;
+    plain_shape(reader, steps, schema, kinds)
 }
 
 /// Refuses a `const` that the draft does not have.
@@ -132,57 +139,6 @@ fn check_const(reader: &Reader<'_>, schema: &Value) -> Result<(), SchemaFault>
         return Err(under(reader.alloc, fault, "const"));
     }
     Ok(())
-}
-
-/// Reads the schemas that stand under this keyword by their names, so that nothing in them is read over.
-#[cycle(read)]
-fn check_defined(
-    reader: &Reader<'_>,
-    steps: usize,
-    schema: &Value,
-    keyword: &str,
-) -> Result<(), SchemaFault> {
-    let Some(Value::Object(members)) = schema.get(keyword) else {
-        return Ok(());
-    };
-    for (name, member) in members.iter() {
-        if let Err(fault) = shape_by(reader, steps, member) {
-            let fault = under(reader.alloc, fault, name.as_str());
-            return Err(under(reader.alloc, fault, keyword));
-        }
-    }
-    Ok(())
-}
-
-/// Reads the alternatives that give no shape, so that nothing in them is read over.
-#[cycle(read)]
-fn check_unused(reader: &Reader<'_>, steps: usize, schema: &Value) -> Result<(), SchemaFault> {
-    let is_unused = has_content(schema);
-    if let Some(choices) = schema.get("anyOf") {
-        if is_unused {
-            check_choices(reader, steps, choices, "anyOf")?;
-        }
-    }
-    if let Some(choices) = schema.get("oneOf") {
-        if is_unused || schema.get("anyOf").is_some() {
-            check_choices(reader, steps, choices, "oneOf")?;
-        }
-    }
-    Ok(())
-}
-
-/// Reads alternatives.
-#[cycle(read)]
-fn check_choices(
-    reader: &Reader<'_>,
-    steps: usize,
-    choices: &Value,
-    keyword: &str,
-) -> Result<(), SchemaFault> {
-    match choice_shape(reader, steps, choices) {
-        Ok(_) => Ok(()),
-        Err(fault) => Err(under(reader.alloc, fault, keyword)),
-    }
 }
 
 /// The shape of a schema without a `$ref`.
@@ -200,6 +156,55 @@ fn plain_shape(
         Some(choices) => match choice_shape(reader, steps, choices) {
             Ok(shape) => Ok(kept(reader.alloc, kinds, shape)?),
             Err(fault) => Err(under(reader.alloc, fault, chosen_by(schema))),
+        },
+        None => whole_shape(reader, steps, schema, kinds),
+    }
+}
+
+/// The first part of `allOf`, if it is a list that has one.
+fn first_of(parts: &Value) -> Option<&Value>
+    ensures { option_map (λ v. view v.now) result ≡ first_of (view parts.now) }
+{
+    match parts {
+        Value::Array(parts) => match parts.as_slice() {
+            [first, ..] => Some(first),
+            [] => None,
+        },
+        _ => None,
+    }
+}
+
+/// The first part of `allOf`, where there are no keywords of fields and items.
+pub fn part_in(schema: &Value) -> Option<&Value>
+    ensures { option_map (λ v. view v.now) result ≡ part_in (view schema.now) }
+{
+    if has_content(schema) {
+        return None;
+    }
+    match schema.get("allOf") {
+        Some(parts) => first_of(parts),
+        None => None,
+    }
+}
+
+/// The shape of a schema without a `$ref` and without alternatives.
+#[cycle(read)]
+fn whole_shape(
+    reader: &Reader<'_>,
+    steps: usize,
+    schema: &Value,
+    kinds: Kinds,
+) -> Result<Shape, SchemaFault>
+    ensures { IfOk result (λ s. whole_shape (shape_by reader.now.draft reader.now.names.now steps) (view schema.now) kinds
+        ≡ Some (shape_of s)) }
+{
+    match part_in(schema) {
+        Some(part) => match shape_by(reader, steps, part) {
+            Ok(shape) => Ok(kept(reader.alloc, kinds, shape)?),
+            Err(fault) => {
+                let fault = under(reader.alloc, fault, "0");
+                Err(under(reader.alloc, fault, "allOf"))
+            }
         },
         None => content_shape(reader, steps, schema, kinds),
     }
@@ -280,17 +285,30 @@ fn content_shape(
     Ok(by_kinds(reader.alloc, kinds, least_in(schema), item, fields)?)
 }
 
+/// The schema of each item, if there is one.
+pub fn items_in(schema: &Value) -> Option<&Value>
+    ensures { option_map (λ v. view v.now) result ≡ items_in (view schema.now) }
+{
+    match schema.get("items") {
+        Some(Value::Array(_)) => None,
+        Some(items) => {
+            if schema.get("prefixItems").is_some() {
+                None
+            } else {
+                Some(items)
+            }
+        }
+        None => None,
+    }
+}
+
 /// The shape of items.
 #[cycle(read)]
 fn items_shape(reader: &Reader<'_>, steps: usize, schema: &Value) -> Result<Shape, SchemaFault>
-    ensures { IfOk result (λ s. shape_under (shape_by reader.now.draft reader.now.names.now steps) (codes "items") (view schema.now)
+    ensures { IfOk result (λ s. items_shape (shape_by reader.now.draft reader.now.names.now steps) (view schema.now)
         ≡ Some (shape_of s)) }
 {
-    match schema.get("items") {
-        Some(Value::Array(_)) => {
-            let fault = refusal(reader.alloc, "a list of schemas is not understood");
-            Err(under(reader.alloc, fault, "items"))
-        }
+    match items_in(schema) {
         Some(items) => match shape_by(reader, steps, items) {
             Ok(shape) => Ok(shape),
             Err(fault) => Err(under(reader.alloc, fault, "items")),
@@ -302,16 +320,70 @@ fn items_shape(reader: &Reader<'_>, steps: usize, schema: &Value) -> Result<Shap
 /// The shape of fields that are not named.
 #[cycle(read)]
 fn additional_shape(reader: &Reader<'_>, steps: usize, schema: &Value) -> Result<Shape, SchemaFault>
-    ensures { IfOk result (λ s. shape_under (shape_by reader.now.draft reader.now.names.now steps) (codes "additionalProperties")
-        (view schema.now) ≡ Some (shape_of s)) }
+    ensures { IfOk result (λ s. additional_in (shape_by reader.now.draft reader.now.names.now steps) (view schema.now)
+        (get (codes "additionalProperties") (view schema.now)) ≡ Some (shape_of s)) }
 {
     match schema.get("additionalProperties") {
         Some(additional) => match shape_by(reader, steps, additional) {
-            Ok(shape) => Ok(shape),
+            Ok(shape) => with_patterns(reader, steps, schema.get("patternProperties"), shape),
             Err(fault) => Err(under(reader.alloc, fault, "additionalProperties")),
         },
         None => Ok(Shape::Anything),
     }
+}
+
+/// The shape of fields whose names one of the patterns may match too.
+#[cycle(read)]
+fn with_patterns(
+    reader: &Reader<'_>,
+    steps: usize,
+    patterns: Option<&Value>,
+    shape: Shape,
+) -> Result<Shape, SchemaFault>
+    ensures { IfOk result (λ s. with_patterns (shape_by reader.now.draft reader.now.names.now steps)
+        (option_map (λ v. view v.now) patterns.entry) (shape_of shape) ≡ Some (shape_of s)) }
+{
+    match patterns {
+        Some(Value::Object(patterns)) => {
+            if is_anything(&shape) {
+                return Ok(shape);
+            }
+            match with_each_pattern(reader, steps, patterns, shape) {
+                Ok(shape) => Ok(shape),
+                Err(fault) => Err(under(reader.alloc, fault, "patternProperties")),
+            }
+        }
+        Some(_) => Ok(shape),
+        None => Ok(shape),
+    }
+}
+
+/// The same, where there are such.
+#[cycle(read)]
+fn with_each_pattern(
+    reader: &Reader<'_>,
+    steps: usize,
+    patterns: &Map<String, Value>,
+    shape: Shape,
+) -> Result<Shape, SchemaFault>
+    ensures { IfOk result (λ s. fold_members (with_pattern (shape_by reader.now.draft reader.now.names.now steps))
+        (shape_of shape) (members_view patterns.now.entries) ≡ Some (shape_of s)) }
+{
+    let mut all = shape;
+    let mut count: usize = 0;
+    for (pattern, schema) in patterns.iter() {
+        match shape_by(reader, steps, schema) {
+            Ok(one) => {
+                count = count.saturating_add(count_alternatives(&one));
+                if count > MOST_ALTERNATIVES {
+                    return Err(refusal(reader.alloc, "more than 1500 alternatives"));
+                }
+                all = or_shape(reader.alloc, one, all)?;
+            }
+            Err(fault) => return Err(under(reader.alloc, fault, pattern.as_str())),
+        }
+    }
+    Ok(all)
 }
 
 /// The fields of a map.

@@ -5,6 +5,7 @@ ghost use Rattle.serde_json.specs.View.{view};
 ghost use Rattle.tmpl_json_schema.specs.Document.{fragment_of};
 ghost use Rattle.tmpl_json_schema.specs.computed.Reading.{is_listed};
 
+use crate::fault::{SchemaFault, under};
 use percent_encoding::percent_decode;
 use serde_json::Value;
 use std::alloc::{AllocError, Global};
@@ -46,4 +47,42 @@ pub(crate) fn pointed<'r>(root: &'r Value, pointer: &[u8]) -> Option<&'r Value>
         Ok(path) => root.pointer(path),
         Err(_) => None,
     }
+}
+
+/// The keys and indexes of a pointer, the first part first.
+pub(crate) fn parts_of(alloc: Global, pointer: &[u8]) -> Result<Vec<String>, AllocError> {
+    let mut parts = Vec::new(alloc);
+    for part in from_utf8(pointer).unwrap_or("").split('/').skip(1) {
+        parts.push(unescaped(alloc, part)?)?;
+    }
+    Ok(parts)
+}
+
+/// A part of a pointer without its escapes.
+fn unescaped(alloc: Global, part: &str) -> Result<String, AllocError> {
+    let mut text = String::new(alloc);
+    let mut is_escape = false;
+    for letter in part.chars() {
+        match letter {
+            '~' => {}
+            '0' if is_escape => text.push('~')?,
+            '1' if is_escape => text.push('/')?,
+            _ => text.push(letter)?,
+        }
+        is_escape = letter == '~';
+    }
+    Ok(text)
+}
+
+/// The fault, found in what a pointer points to.
+pub(crate) fn under_pointer(alloc: Global, fault: SchemaFault, pointer: &[u8]) -> SchemaFault {
+    let parts = match parts_of(alloc, pointer) {
+        Ok(parts) => parts,
+        Err(_) => return SchemaFault::OutOfMemory,
+    };
+    let mut fault = fault;
+    for part in parts.iter().rev() {
+        fault = under(alloc, fault, part.as_str());
+    }
+    fault
 }

@@ -1,20 +1,23 @@
 //! A schema of a document's bytes.
 #![tactic(auto, using(tmpl_shape::proofs::ViewLemmas::parts))]
 
-ghost use Rattle.std.specs.Prelude.{◌≡◌, All, IfOk, IsSome, OnOk, is_some, option_map};
+ghost use Rattle.std.specs.Prelude.{◌≡◌, All, IfOk, IfSome, IsSome, OnOk, Some, is_some, option_map, true};
+ghost use Rattle.serde_json.specs.Find.{pointer as points_to};
 ghost use Rattle.serde_json.specs.View.{view};
 ghost use Rattle.tmpl_values.specs.Value.{Value as DataValue};
 ghost use Rattle.tmpl_shape.specs.Shape.{Fits};
 ghost use Rattle.tmpl_shape.specs.View.{defs_in, schema_of};
 ghost use Rattle.tmpl_json_schema.specs.Document.{IsOfSchema, document_of, draft_of};
-ghost use Rattle.tmpl_json_schema.specs.Keywords.{IsKnown};
-ghost use Rattle.tmpl_json_schema.specs.computed.Defined.{IsDefinition, are_defined};
+ghost use Rattle.tmpl_json_schema.specs.Keywords.{AreKnownAt, IsKnown};
+ghost use Rattle.tmpl_json_schema.specs.computed.Defined.{AreLookedUp, IsDefinition, are_defined};
 
-use crate::draft::draft_of;
-use crate::fault::{SchemaFault, refusal, refusal_of};
+use crate::base::is_one_base;
+use crate::draft::{Draft, draft_of};
+use crate::fault::{Refused, SchemaFault, refusal, refusal_of};
+use crate::keyword::check_keywords;
 use crate::known::is_known;
 use crate::read::{Reader, shape_by};
-use crate::reference::{MOST_DEFINITIONS, fragment_of, is_listed, pointed};
+use crate::reference::{MOST_DEFINITIONS, fragment_of, is_listed, pointed, under_pointer};
 use serde_json::Value;
 use std::alloc::{AllocError, Global};
 use std::str::from_utf8;
@@ -25,7 +28,7 @@ use tmpl_values::Bytes;
 const LEVELS: usize = 200;
 
 /// The most values that a document may have, each item and member counted, and those that are read more than once as often.
-const MOST_VALUES: usize = 10_000;
+const MOST_VALUES: usize = 30_000;
 
 /// The most alternatives that a definition may come to, those of each reference among them counted.
 const MOST_ALTERNATIVES: usize = 1_000;
@@ -126,19 +129,6 @@ fn add_name(
     Ok(())
 }
 
-/// The reader of what a pointer points to: the empty one points to the top.
-fn reader_at<'s>(reader: &Reader<'s>, name: &[u8]) -> Reader<'s>
-    ensures names { result.names.now ≡ reader.now.names.now }
-    ensures draft { result.draft ≡ reader.now.draft }
-{
-    let top = if name.is_empty() {
-        reader.levels.saturating_sub(1)
-    } else {
-        reader.levels
-    };
-    Reader { top, ..*reader }
-}
-
 /// The definition of what a pointer points to.
 fn definition_of(reader: &Reader<'_>, root: &Value, name: &[u8]) -> Result<Definition, SchemaFault>
     ensures { IfOk result (λ d. IsDefinition reader.now.draft (view root.now) reader.now.names.now reader.now.levels d) }
@@ -149,9 +139,13 @@ fn definition_of(reader: &Reader<'_>, root: &Value, name: &[u8]) -> Result<Defin
             "a reference points to nothing in the document",
         ));
     };
-    let shape = shape_by(&reader_at(reader, name), reader.levels, value)?;
-    let name = copy_name(reader.alloc, name)?;
-    Ok(Definition { name, shape })
+    match shape_by(reader, reader.levels, value) {
+        Ok(shape) => {
+            let name = copy_name(reader.alloc, name)?;
+            Ok(Definition { name, shape })
+        }
+        Err(fault) => Err(under_pointer(reader.alloc, fault, name)),
+    }
 }
 
 /// The definitions of what these pointers point to.
@@ -331,17 +325,61 @@ fn check_definitions(alloc: Global, definitions: &[Definition]) -> Result<(), Sc
     Ok(())
 }
 
-/// The pointers of the references in a document.
-fn names_in(alloc: Global, root: &Value) -> Result<Vec<Bytes>, SchemaFault> {
-    if count_values(root, 0) > MOST_VALUES {
-        return Err(refusal(alloc, "more than 10000 values"));
+/// The pointers of the references in a document of this draft, if each is looked up in it; else none.
+fn names_in(alloc: Global, draft: Draft, root: &Value) -> Result<Vec<Bytes>, SchemaFault> {
+    if is_one_base(draft, root) {
+        all_names(alloc, root)
+    } else {
+        Ok(Vec::new(alloc))
     }
+}
+
+/// Whether pointers are looked up in a document of this draft, if there are any.
+fn are_looked_up(draft: Draft, root: &Value, names: &[Bytes]) -> bool
+    ensures { result ≡ true → draft_of (view root.now) ≡ Some draft → AreLookedUp (view root.now) names.now }
+{
+    match names {
+        [] => true,
+        [_, ..] => is_one_base(draft, root),
+    }
+}
+
+/// The pointers of the references in a document.
+fn all_names(alloc: Global, root: &Value) -> Result<Vec<Bytes>, SchemaFault> {
     let mut names = Vec::new(alloc);
     add_names(alloc, root, root, &mut names)?;
+    Ok(names)
+}
+
+/// Refuses a document that is too large, or has references to too many places.
+fn check_limits(alloc: Global, root: &Value, names: &[Bytes]) -> Result<(), SchemaFault> {
+    if count_values(root, 0) > MOST_VALUES {
+        return Err(refusal(alloc, "more than 30000 values"));
+    }
     if names.len() > MOST_DEFINITIONS {
         return Err(refusal(alloc, "references to more than 1000 places"));
     }
-    Ok(names)
+    Ok(())
+}
+
+/// Of what to warn in a document that is read: keywords that are not known, and each `$ref` that is not looked up.
+///
+/// # Errors
+///
+/// Where memory runs out.
+pub fn warnings_of(alloc: Global, root: &Value) -> Result<Vec<Refused>, AllocError> {
+    match warnings_in(alloc, root) {
+        Ok(warnings) => Ok(warnings),
+        Err(SchemaFault::OutOfMemory) => Err(AllocError),
+        Err(SchemaFault::Refused(_)) => Ok(Vec::new(alloc)),
+    }
+}
+
+/// The same, or why the document is not read.
+fn warnings_in(alloc: Global, root: &Value) -> Result<Vec<Refused>, SchemaFault> {
+    let draft = draft_of(alloc, root)?;
+    let names = names_in(alloc, draft, root)?;
+    check_keywords(alloc, root, is_one_base(draft, root), names.as_slice())
 }
 
 /// The schema of a document, of which as many levels are read.
@@ -350,21 +388,48 @@ fn schema_in(alloc: Global, levels: usize, root: &Value) -> Result<Schema, Schem
     ensures fits { IfOk result (λ s. (v : DataValue) → IsOfSchema (view root.now) v → Fits (schema_of s) v) }
 {
     let draft = draft_of(alloc, root)?;
-    let names = names_in(alloc, root)?;
+    let found = names_in(alloc, draft, root)?;
+    let names = found.as_slice();
+    if !are_looked_up(draft, root, names) {
+        return Err(refusal(alloc, "a reference is not looked up"));
+    }
+    check_limits(alloc, root, names)?;
+    check_keywords(alloc, root, is_one_base(draft, root), names)?;
     let parts = Reader {
         draft,
-        names: names.as_slice(),
+        names,
         levels,
-        top: levels,
         alloc,
     };
-    let shape = shape_by(&reader_at(&parts, b""), levels, root)?;
+    let shape = shape_by(&parts, levels, root)?;
     let definitions = definitions_of(&parts, root)?;
-    if !are_defined(definitions.as_slice(), names.as_slice()) {
+    if !are_defined(definitions.as_slice(), names) {
         return Err(refusal(alloc, "a reference has no definition"));
     }
     check_definitions(alloc, definitions.as_slice())?;
     Ok(Schema { definitions, shape })
+}
+
+/// Whether each keyword is allowed of what is at the pointers of these definitions.
+fn are_known_at(root: &Value, definitions: &[Definition]) -> bool
+    ensures { result ≡ true → AreKnownAt (view root.now) definitions.now }
+{
+    for definition in definitions {
+        if !is_known_at(root, definition.name.as_slice()) {
+            return false;
+        }
+    }
+    true
+}
+
+/// Whether each keyword is allowed of what is at a pointer.
+fn is_known_at(root: &Value, name: &[u8]) -> bool
+    ensures { result ≡ true → IfSome (points_to name.now (view root.now)) IsKnown }
+{
+    match pointed(root, name) {
+        Some(schema) => is_known(LEVELS, schema),
+        None => false,
+    }
 }
 
 /// The schema that a document of JSON Schema is, by the draft that it names or else 2020-12: each value that conforms to
@@ -372,16 +437,17 @@ fn schema_in(alloc: Global, levels: usize, root: &Value) -> Result<Schema, Schem
 ///
 /// # Errors
 ///
-/// `Refused` where a keyword in it is not one that is understood, or what stands under it is not what it wants, and
+/// `Refused` where a keyword in it is not known and near one that is, or what stands under one is not what it wants, and
 /// `OutOfMemory` where memory runs out.
 pub fn read_schema(alloc: Global, root: &Value) -> Result<Schema, SchemaFault>
     ensures draft { OnOk result (IsSome (draft_of (view root.now))) }
     ensures keywords { OnOk result (IsKnown (view root.now)) }
+    ensures definitions { IfOk result (λ s. AreKnownAt (view root.now) s.definitions.items) }
     ensures fits { IfOk result (λ s. (v : DataValue) → IsOfSchema (view root.now) v → Fits (schema_of s) v) }
 {
     let schema = schema_in(alloc, LEVELS, root)?;
-    if !is_known(LEVELS, root) {
-        return Err(refusal(alloc, "a keyword is not understood"));
+    if !is_known(LEVELS, root) || !are_known_at(root, schema.definitions.as_slice()) {
+        return Err(refusal(alloc, "a keyword is not known"));
     }
     Ok(schema)
 }

@@ -4,7 +4,7 @@
 ghost use Rattle.std.specs.Prelude.{◌≡◌, IfOk};
 ghost use Rattle.tmpl_shape.specs.View.{fields_of, shape_of};
 ghost use Rattle.tmpl_shape.specs.computed.Shapes.{gathered};
-ghost use Rattle.tmpl_json_schema.specs.computed.Reading.{by_kinds, if_kind, is_never, keep_kinds, or_if, or_shape, rest_of, shape_of_rest};
+ghost use Rattle.tmpl_json_schema.specs.computed.Reading.{by_kinds, if_kind, is_anything, is_never, keep_kinds, or_if, or_shape, rest_of, shape_of_rest};
 
 use crate::kinds::Kinds;
 use std::alloc::{AllocError, Global};
@@ -22,6 +22,22 @@ fn is_never(shape: &Shape) -> bool
         | Shape::Numbers
         | Shape::Texts
         | Shape::Anything => false,
+        Shape::List { .. } | Shape::Record(_) | Shape::Either(..) | Shape::Named(_) => false,
+    }
+}
+
+/// Whether each value is one.
+pub(crate) fn is_anything(shape: &Shape) -> bool
+    ensures { result ≡ is_anything (shape_of shape.now) }
+{
+    match shape {
+        Shape::Anything => true,
+        Shape::Nothings
+        | Shape::Nulls
+        | Shape::Truths
+        | Shape::Numbers
+        | Shape::Texts
+        | Shape::Never => false,
         Shape::List { .. } | Shape::Record(_) | Shape::Either(..) | Shape::Named(_) => false,
     }
 }

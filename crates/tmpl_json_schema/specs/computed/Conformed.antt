@@ -1,17 +1,17 @@
 -- For the functions of `conform.rt`: what it is to meet a keyword of a schema.
-use Rattle.std.specs.Prelude.{◌≡◌, ◌≤◌, ℕ, List, codes, None, IfSome}
+use Rattle.std.specs.Prelude.{◌≡◌, ◌≤◌, ℕ, List, codes, None, IfSome, is_some}
 use Rattle.serde_json.specs.Data as json
 use Rattle.serde_json.specs.Data.{Data, unsigned, Members, no_members, member}
 use Rattle.serde_json.specs.Find.{get, get_member}
 use Rattle.tmpl_values.specs.Value.{Value}
-use Rattle.tmpl_json_schema.specs.Document.{FitsAdditional, FitsItems, FitsProperties, FitsSome, HasItems, HasKeys, IsConstant, IsOfType, IsOneOf, refer}
+use Rattle.tmpl_json_schema.specs.Document.{FitsAdditional, FitsEach, FitsItems, FitsProperties, FitsSome, HasItems, HasKeys, IsConstant, IsOfType, IsOneOf, of_each, refer}
 
 -- a keyword that speaks of lists or of maps alone
 pub record MeetsOfKind (C : Data → Value → Type 0) (schema : Data) (keyword : List ℕ) (rule : Data) (v : Value) : Type 0 where
   pub required : keyword ≡ codes "required" → HasKeys v rule
   pub properties : keyword ≡ codes "properties" → FitsProperties C v rule
-  pub additional : keyword ≡ codes "additionalProperties" → FitsAdditional C (get (codes "properties") schema) v rule
-  pub items : keyword ≡ codes "items" → FitsItems C v rule
+  pub additional : keyword ≡ codes "additionalProperties" → FitsAdditional C (get (codes "properties") schema) (get (codes "patternProperties") schema) v rule
+  pub items : keyword ≡ codes "items" → IfSome (of_each (is_some (get (codes "prefixItems") schema)) rule) (FitsItems C v)
   pub least : keyword ≡ codes "minItems" → HasItems v rule
 
 -- any keyword
@@ -22,6 +22,7 @@ pub record Meets (root : Data) (C : Data → Value → Type 0) (schema : Data) (
   pub ref : keyword ≡ codes "$ref" → IfSome (refer root rule) (λ d. C d v)
   pub any : keyword ≡ codes "anyOf" → FitsSome C v rule
   pub one : keyword ≡ codes "oneOf" → FitsSome C v rule
+  pub all : keyword ≡ codes "allOf" → FitsEach C v rule
   pub kind : MeetsOfKind C schema keyword rule v
 
 -- it holds of each member

@@ -1,10 +1,12 @@
 -- That the names of shapes stand for what is at their pointers.
-use Rattle.std.specs.Prelude.{◌≡◌, ℕ, Bool, true, ◌&&◌, List, [], ◌∷◌, Some, is_some}
+use Rattle.std.specs.Prelude.{◌≡◌, ◌⊎◌, ℕ, Bool, true, false, ◌&&◌, ◌||◌, List, [], ◌∷◌, Some, is_some}
+use Rattle.std.specs.Str.{bytes_eq}
 use Rattle.serde_json.specs.Data.{Data}
 use Rattle.serde_json.specs.Find.{pointer}
 use Rattle.tmpl_shape.specs.Shape.{Defs}
 use Rattle.tmpl_shape.specs.View.{shape_of}
 use Rattle.tmpl_shape.specs.declared.shape.Definition.{Definition}
+use Rattle.tmpl_json_schema.specs.Document.{base_of, has_base, is_base}
 use Rattle.tmpl_json_schema.specs.declared.draft.Draft.{Draft}
 use Rattle.tmpl_json_schema.specs.computed.Reading.{shape_by}
 
@@ -16,3 +18,11 @@ IsDefinition draft root names m d = (v : Data) × (pointer d.name root ≡ Some 
 abbrev pub are_defined : Defs → List (List ℕ) → Bool
 are_defined defs [] = true
 are_defined defs (x ∷ xs) = is_some (defs x) && are_defined defs xs
+
+-- the names are looked up in the document itself, or there is none
+abbrev pub AreLookedUp : Data → List (List ℕ) → Type 0
+AreLookedUp root names = (base_of root ≡ root) ⊎ (names ≡ [])
+
+-- a member has no identifier from which a `$ref` is looked up
+abbrev pub IsUnbased : List ℕ → List ℕ → Data → Type 0
+IsUnbased key k d = ((bytes_eq k key && is_base d) || has_base key d) ≡ false

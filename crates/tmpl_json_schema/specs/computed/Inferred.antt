@@ -34,6 +34,11 @@ abbrev pub items_of_list : Data → List Data
 items_of_list (json.array ds) = items_among ds
 items_of_list d = []
 
+-- the values of a map
+abbrev pub values_among : Members → List Data
+values_among no_members = []
+values_among (member k d ms) = d ∷ values_among ms
+
 -- the value of each sample that has one is such
 abbrev pub EachValue : (value.Value → Type 0) → List Data → Type 0
 EachValue P samples = AllByRecursion (λ s. IfSome (tree_value s) P) samples
@@ -85,3 +90,9 @@ AddsProperties levels maps old new = (new ≡ old)
     ⊎ ((ps : Members) × (ks : Items)
     × (new ≡ put (codes "required") (json.array ks) (put (codes "properties") (json.object ps) old))
     × AreTold levels maps ps ks)
+
+-- the schema of the values of maps: one to which each conforms, or nothing
+abbrev pub AddsOthers : ℕ → List Members → Members → Members → Type 0
+AddsOthers levels maps old new = (new ≡ old)
+    ⊎ ((d : Data) × (new ≡ put (codes "additionalProperties") d old) × EachValue (Fits (suc levels) d) (flat_map values_among maps)
+    × (depth d ≤ room levels) × IsInferred d)

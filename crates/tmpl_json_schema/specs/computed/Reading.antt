@@ -8,7 +8,7 @@ use Rattle.serde_json.specs.Data.{Data, Items, no_items, Members, no_members, me
 use Rattle.serde_json.specs.Find.{as_number, as_u64, get}
 use Rattle.tmpl_shape.specs.Shape.{Shape, never, nothings, nulls, truths, numbers, texts, anything, list_of, record_of}
 use Rattle.tmpl_shape.specs.Shape.{either, named, Fields, no_field, others, field}
-use Rattle.tmpl_json_schema.specs.Document.{fragment_of, has_const}
+use Rattle.tmpl_json_schema.specs.Document.{fragment_of, has_const, is_since_2019, items_in}
 use Rattle.tmpl_json_schema.specs.declared.draft.Draft.{Draft}
 use Rattle.tmpl_json_schema.specs.declared.kinds.Kinds.{Kinds}
 
@@ -126,6 +126,10 @@ abbrev pub is_never : Shape → Bool
 is_never never = true
 is_never s = false
 
+abbrev pub is_anything : Shape → Bool
+is_anything anything = true
+is_anything s = false
+
 abbrev pub or_shape : Shape → Shape → Shape
 or_shape s t = if is_never s then t else if is_never t then s else either s t
 
@@ -207,10 +211,22 @@ abbrev pub is_listed : List (List ℕ) → List ℕ → Bool
 is_listed [] x = false
 is_listed (y ∷ ys) x = bytes_eq x y || is_listed ys x
 
--- what a `$ref` stands for, if it points to one of these
-abbrev pub reference_shape : List (List ℕ) → Data → Option Shape
-reference_shape names (json.string r) = option_and_then (λ p. if is_listed names p then Some (named p) else None) (fragment_of r)
-reference_shape names d = None
+-- the pointer of a `$ref`, if it is one of these
+abbrev pub if_listed : List (List ℕ) → List ℕ → Option (List ℕ)
+if_listed names p = if is_listed names p then Some p else None
+
+abbrev pub listed_in : List (List ℕ) → Data → Option (List ℕ)
+listed_in names (json.string r) = option_and_then (if_listed names) (fragment_of r)
+listed_in names d = None
+
+-- the first part of `allOf`
+abbrev pub first_of : Data → Option Data
+first_of (json.array (json.item d ds)) = Some d
+first_of d = None
+
+-- .. where there are no keywords of fields and items
+abbrev pub part_in : Data → Option Data
+part_in d = if has_content d then None else option_and_then first_of (get (codes "allOf") d)
 
 abbrev pub required_in : Data → Fields → Option Fields
 required_in d rest = option_map_or (required_fields (get (codes "properties") d) rest) (get (codes "required") d) (Some rest)
@@ -234,29 +250,49 @@ module _ (read : Data → Option Shape) where
   property_fields req fs (json.object ms) = fold_members (with_property req) fs ms
   property_fields req fs d = None
 
-  -- what stands under this name, or any value
-  abbrev pub shape_under : List ℕ → Data → Option Shape
-  shape_under name d = option_map_or read (get name d) (Some anything)
-
   abbrev pub properties_in : Data → Fields → Option Fields
   properties_in d fs = option_map_or (property_fields (get (codes "required") d) fs) (get (codes "properties") d) (Some fs)
 
+  -- the shape of fields whose names a pattern may match too
+  abbrev pub with_pattern : Shape → List ℕ → Data → Option Shape
+  with_pattern s k d = option_map (λ t. or_shape t s) (read d)
+
+  abbrev pub with_patterns : Option Data → Shape → Option Shape
+  with_patterns (Some (json.object ms)) s = if is_anything s then Some s else fold_members with_pattern s ms
+  with_patterns o s = Some s
+
+  -- .. of fields that are not named
+  abbrev pub additional_in : Data → Option Data → Option Shape
+  additional_in d None = Some anything
+  additional_in d (Some a) = option_and_then (with_patterns (get (codes "patternProperties") d)) (read a)
+
   abbrev pub fields_in : Data → Option Fields
   fields_in d =
-      option_and_then (λ s. option_and_then (properties_in d) (required_in d (rest_of s))) (shape_under (codes "additionalProperties") d)
+      option_and_then (λ s. option_and_then (properties_in d) (required_in d (rest_of s))) (additional_in d (get (codes "additionalProperties") d))
+
+  abbrev pub items_shape : Data → Option Shape
+  items_shape d = option_map_or read (items_in d) (Some anything)
 
   abbrev pub content_shape : Data → Kinds → Option Shape
   content_shape d ks =
       if is_every_kind ks && not (has_content d) then Some anything
-      else option_and_then (λ i. option_map (by_kinds ks (least_in d) i) (fields_in d)) (shape_under (codes "items") d)
+      else option_and_then (λ i. option_map (by_kinds ks (least_in d) i) (fields_in d)) (items_shape d)
+
+  abbrev pub whole_shape : Data → Kinds → Option Shape
+  whole_shape d ks = option_map_or (λ p. option_map (keep_kinds ks) (read p)) (part_in d) (content_shape d ks)
 
   abbrev pub plain_shape : Data → Kinds → Option Shape
-  plain_shape d ks = option_map_or (λ c. option_map (keep_kinds ks) (choice_shape c)) (choices_in d) (content_shape d ks)
+  plain_shape d ks = option_map_or (λ c. option_map (keep_kinds ks) (choice_shape c)) (choices_in d) (whole_shape d ks)
+
+  -- .. beside a `$ref` that is not looked up, if there is one
+  abbrev pub beside_shape : Draft → Data → Option Data → Option Shape
+  beside_shape draft d o =
+      if is_some o && not (is_since_2019 draft) then Some anything else option_and_then (plain_shape d) (kinds_in d)
 
   abbrev pub object_shape : Draft → List (List ℕ) → Data → Option Shape
   object_shape draft names d =
       if is_unread draft d then None
-      else option_map_or (reference_shape names) (get (codes "$ref") d) (option_and_then (plain_shape d) (kinds_in d))
+      else option_map_or (λ p. Some (named p)) (option_and_then (listed_in names) (get (codes "$ref") d)) (beside_shape draft d (get (codes "$ref") d))
 
 -- the shape of a schema; what stands inside it is read as many levels deep
 abbrev pub shape_read : Draft → List (List ℕ) → (Data → Option Shape) → Data → Option Shape

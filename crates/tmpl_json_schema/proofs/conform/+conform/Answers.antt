@@ -1,12 +1,12 @@
 use Rattle.std.proofs.Common.{◌≡◌, ◌≤◌, ◌-◌, suc, false, codes, IfSome, subst, ◌∙◌, arith}
 use Rattle.serde_json.specs.Data.{object}
 use Rattle.serde_json.specs.Find.{get}
-use Rattle.serde_json.specs.View.{view, members_view}
+use Rattle.serde_json.specs.View.{view, items_view, members_view}
 use Rattle.serde_json.proofs.Views.{view-Array, view-Object}
-use Rattle.tmpl_values.specs.Json.{tree_value}
+use Rattle.tmpl_values.specs.Json.{tree_value, tree_items}
 use Rattle.tmpl_json_schema.specs.Document.{conforms_in, in_properties}
 use Rattle.tmpl_json_schema.specs.computed.Conformed.{Meets, MeetsEach}
-use Rattle.tmpl_json_schema.proofs.MeetLemmas.{all-taken, conforms-all, each-item, each-member, instance-of, others-fit, properties-fit, some-item, together}
+use Rattle.tmpl_json_schema.proofs.MeetLemmas.{all-taken, conforms-all, each-item, each-member, every-item, instance-of, of-each-fits, others-fit, properties-fit, some-item, together}
 use Rattle.tmpl_json_schema.proofs.conform.+conform.Goals as goal
 use Rattle.tmpl_json_schema.proofs.conform.+conform.Goals.{count_met-then-conforms, count_met-else-conforms}
 
@@ -54,9 +54,26 @@ others_conform-returns n c = λ _.
     let C = conforms_in (view c.args.root.now) c.args.levels in
     let others = view c.args.others.now in
     let properties = get (codes "properties") (view c.args.schema.now) in
-    others-fit C properties others (members_view c.args.members.now.entries)
-    (each-member (λ k d. in_properties k properties ≡ false → IfSome (tree_value d) (C others)) c.into_iter-name-iterator.result c.args.members.now.entries c.loop-name.name-iterator
+    let patterns = get (codes "patternProperties") (view c.args.schema.now) in
+    others-fit C properties patterns others (members_view c.args.members.now.entries)
+    (each-member (λ k d. in_properties k properties ≡ false → IfSome (tree_value d) (C others)) c.into_iter-name-iterator.result
+    c.args.members.now.entries c.loop-name.name-iterator
     c.loop-name.yielded (c.into_iter-name-iterator.ensures.into_iter_gives ∙ c.iter-name-items.ensures.rest) c.loop-name.yielded_by c.in-None.ensures.steps.0 c.loop-name.invariant)
+
+pub all_met-returns-in-Array : goal.all_met-returns-in-Array
+all_met-returns-in-Array n c = λ e.
+    let is = c.in-Array.is in
+    let items = c.as_slice.ensures.value in
+    rw (is, view-Array c.in-Array.schemas, ← items) (c.each_met.ensures e)
+
+pub items_conform-returns-else-is_some : goal.items_conform-returns-else-is_some
+items_conform-returns-else-is_some n c = λ e.
+    of-each-fits (conforms_in (view c.args.root.now) c.args.levels) _ (view c.args.rule.now) (tree_items (items_view c.args.items.now)) (c.all_conform.ensures e)
+
+pub each_met-returns : goal.each_met-returns
+each_met-returns n c = λ _.
+    every-item (conforms_in (view c.args.root.now) c.args.levels) (tree_value (view c.args.value.now)) c.args.schemas.now
+    (all-taken _ c.args.schemas.now c.loop-schema.schema-index c.loop-schema-test.false c.loop-schema.invariant)
 
 pub properties_conform-returns : goal.properties_conform-returns
 properties_conform-returns n c = λ _.

@@ -9,7 +9,7 @@ use Rattle.serde_json.specs.declared.value.Value.{Value}
 use Rattle.serde_json.proofs.Views.{view-Array, view-Object}
 use Rattle.tmpl_json_schema.specs.declared.infer.Keys.{Keys}
 use Rattle.tmpl_json_schema.specs.computed.Inferred.{seen, maps_seen, EachValue, Fits, AreTold}
-use Rattle.tmpl_json_schema.proofs.ConformLemmas.{IsTold, schema-told, key-told, required-told}
+use Rattle.tmpl_json_schema.proofs.ConformLemmas.{IsTold, empty-fits, schema-told, key-told, required-told}
 use Rattle.tmpl_json_schema.proofs.infer.+infer.Goals as goal
 use Rattle.tmpl_json_schema.proofs.infer.+infer.Goals.{add_key-then-len-maps+in_ok-try_from_str+in_ok-push, add_key-else-len-maps}
 
@@ -22,7 +22,7 @@ add_key-returns t c =
     let ps = members_view c.if-len-maps.keys.properties.entries in
     let ks = items_view c.if-len-maps.keys.required.items in
     let there : seen values.items ≡ filter_map (get_member name) maps = c.in_ok-values.ensures in
-    let fits = subst (EachValue (Fits (suc c.args.levels) d)) (ap seen c.as_slice.ensures.value ∙ there) c.in_ok-property.ensures.conform in
+    let fits = subst (EachValue (Fits (suc c.args.levels) d)) (ap seen c.as_slice-2.ensures.value ∙ there) c.in_ok-property.ensures.conform in
     let T : Keys → Type 0 = λ q. AreTold c.args.levels maps (members_view q.properties.entries) (items_view q.required.items) in
     let told : T c.if-len-maps.keys = elim c.if-len-maps.branch [
       | add_key-then-len-maps+in_ok-try_from_str+in_ok-push w ↦
@@ -36,15 +36,20 @@ add_key-returns t c =
     subst (λ (ms : Members). AreTold c.args.levels maps ms ks) (sym (is ∙ ap (λ x. put name x ps) (view-Object c.in_ok-property.property)))
     (key-told c.args.levels maps name d ps ks told fits c.in_ok-property.ensures.nests c.in_ok-property.ensures.plain)) c.put.ensures.ok
 
-whole : (t : ℕ) (c : goal.schema_of-After-drop-maps-2 t) → IsTold c.args.levels (seen c.args.samples.now) (members_view c.add_properties.new.schema.entries)
+whole : (t : ℕ) (c : goal.schema_of-After-drop-maps-2 t) → IsTold c.args.levels (seen c.args.samples.now) (members_view c.add_keyed.new.schema.entries)
 whole t c =
     let levels : c.args.levels ≡ suc (c.args.levels - 1) = omega (arith, c.if-levels-eq0.false) in
     let types = c.in_ok-types_of.field-0 in
     schema-told (c.args.levels - 1) c.args.levels (seen c.args.samples.now) (maps_seen c.as_slice.result.now) (view types)
-    (members_view c.put.new.map.entries) (members_view c.add_items.new.schema.entries) (members_view c.add_properties.new.schema.entries) levels
+    (members_view c.put.new.map.entries) (members_view c.add_items.new.schema.entries) (members_view c.add_keyed.new.schema.entries) levels
     (ap maps_seen c.as_slice.ensures.value ∙ c.in_ok-maps.ensures.maps)
     (c.in_ok-put.ensures.ok ∙ ap (λ es. put (codes "type") (view types) (members_view es)) c.new-schema.ensures.empty)
-    c.in_ok-maps.ensures.instances c.in_ok-types_of.ensures.conform c.in_ok-types_of.ensures.nests c.in_ok-types_of.ensures.plain c.in_ok-add_items.ensures c.in_ok-add_properties.ensures
+    c.in_ok-maps.ensures.instances c.in_ok-types_of.ensures.conform c.in_ok-types_of.ensures.nests c.in_ok-types_of.ensures.plain c.in_ok-add_items.ensures c.in_ok-add_keyed.ensures
+
+pub schema_of-returns-then-levels-eq0-clause-conform : goal.schema_of-returns-then-levels-eq0-clause-conform
+schema_of-returns-then-levels-eq0-clause-conform t c =
+    let empty = c.new-schema.ensures.empty in
+    rw empty (empty-fits c.args.levels (seen c.args.samples.now) c.in_ok-maps.ensures.instances)
 
 pub schema_of-returns-clause-conform : goal.schema_of-returns-clause-conform
 schema_of-returns-clause-conform t c = (whole t c).0
@@ -78,6 +83,19 @@ add_items-returns t c =
       d,
       is ∙ ap (λ x. put (codes "items") x old) (view-Object told),
       subst (EachValue (Fits (suc c.args.levels) d)) (ap seen c.as_slice.ensures.value ∙ c.in_ok-items.ensures) c.in_ok-told.ensures.conform,
+      c.in_ok-told.ensures.nests,
+      c.in_ok-told.ensures.plain,
+    )) c.put.ensures.ok
+
+pub add_others-returns : goal.add_others-returns
+add_others-returns t c =
+    let told = c.in_ok-told.told in
+    let d = object (members_view told.entries) in
+    let old = members_view c.args.schema.now.entries in
+    on_ok_weaker c.put.result (λ is. inr (
+      d,
+      is ∙ ap (λ x. put (codes "additionalProperties") x old) (view-Object told),
+      subst (EachValue (Fits (suc c.args.levels) d)) (ap seen c.as_slice.ensures.value ∙ c.in_ok-values.ensures) c.in_ok-told.ensures.conform,
       c.in_ok-told.ensures.nests,
       c.in_ok-told.ensures.plain,
     )) c.put.ensures.ok

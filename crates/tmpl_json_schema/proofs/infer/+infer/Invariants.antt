@@ -9,6 +9,12 @@ decreases-schema_of l = 10 * l.levels + 0
 abbrev pub decreases-add_items : goal.decreases-add_items
 decreases-add_items l = 10 * l.levels + 5
 
+abbrev pub decreases-add_keyed : goal.decreases-add_keyed
+decreases-add_keyed l = 10 * l.levels + 8
+
+abbrev pub decreases-add_others : goal.decreases-add_others
+decreases-add_others l = 10 * l.levels + 5
+
 abbrev pub decreases-add_properties : goal.decreases-add_properties
 decreases-add_properties l = 10 * l.levels + 5
 

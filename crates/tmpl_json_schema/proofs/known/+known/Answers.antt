@@ -1,11 +1,18 @@
-use Rattle.std.proofs.Common.{◌∙◌, string_bytes, subst}
+use Rattle.std.proofs.Common.{rules, ◌≡◌, ◌∙◌, None, string_bytes, subst}
+use Rattle.serde_json.specs.Find.{as_object}
+use Rattle.serde_json.specs.declared.value.Value.{the_lemmas}
 use Rattle.serde_json.specs.View.{view, members_view}
 use Rattle.tmpl_json_schema.specs.Keywords.{IsKnown}
 use Rattle.tmpl_json_schema.specs.computed.Known.{IsRule}
-use Rattle.tmpl_json_schema.proofs.KnownLemmas.{all-known, all-listed, all-named}
+use Rattle.tmpl_json_schema.proofs.KnownLemmas.{all-known, all-listed, all-named, no-object}
 use Rattle.tmpl_json_schema.proofs.MeetLemmas.{all-taken, each-member}
 use Rattle.tmpl_json_schema.proofs.StepLemmas.{all-more}
 use Rattle.tmpl_json_schema.proofs.known.+known.Goals as goal
+
+pub is_known-returns-in_default : goal.is_known-returns-in_default
+is_known-returns-in_default t c = λ _.
+    let none : as_object (view c.args.schema.now) ≡ None = search (rules, the_lemmas) in
+    no-object (view c.args.schema.now) none
 
 pub are_known-returns : goal.are_known-returns
 are_known-returns n c = λ _.

@@ -3,7 +3,7 @@ use Rattle.std.specs.Option.{option_map}
 use Rattle.serde_json.specs.View.{items_view, members_view, view}
 use Rattle.tmpl_shape.specs.Shape.{never}
 use Rattle.tmpl_shape.specs.View.{fields_of, shape_of}
-use Rattle.tmpl_json_schema.specs.computed.Reading.{choice_with, fold, fold_members, shape_by, with_property}
+use Rattle.tmpl_json_schema.specs.computed.Reading.{choice_with, fold, fold_members, shape_by, with_pattern, with_property}
 use Rattle.tmpl_json_schema.proofs.read.+read.Given as goal
 
 abbrev pub invariant-some_shape-loop-choice : goal.invariant-some_shape-loop-choice
@@ -25,15 +25,6 @@ decreases-some_shape l = 20 * l.steps + 2
 abbrev pub decreases-choice_shape : goal.decreases-choice_shape
 decreases-choice_shape l = 20 * l.steps + 4
 
-abbrev pub decreases-check_defined : goal.decreases-check_defined
-decreases-check_defined l = 20 * l.steps + 2
-
-abbrev pub decreases-check_choices : goal.decreases-check_choices
-decreases-check_choices l = 20 * l.steps + 5
-
-abbrev pub decreases-check_unused : goal.decreases-check_unused
-decreases-check_unused l = 20 * l.steps + 6
-
 abbrev pub decreases-property_fields : goal.decreases-property_fields
 decreases-property_fields l = 20 * l.steps + 2
 
@@ -43,8 +34,19 @@ decreases-properties_in l = 20 * l.steps + 4
 abbrev pub decreases-fields_in : goal.decreases-fields_in
 decreases-fields_in l = 20 * l.steps + 6
 
+abbrev pub invariant-with_each_pattern-loop-pattern : goal.invariant-with_each_pattern-loop-pattern
+invariant-with_each_pattern-loop-pattern l =
+    let w = with_pattern (shape_by l.fn.reader.draft l.fn.reader.names.now l.fn.steps) in
+    fold_members w (shape_of l.fn.shape) (members_view l.fn.patterns.entries) ≡ fold_members w (shape_of l.all) (members_view l.pattern-iterator)
+
+abbrev pub decreases-with_each_pattern : goal.decreases-with_each_pattern
+decreases-with_each_pattern l = 20 * l.steps + 1
+
+abbrev pub decreases-with_patterns : goal.decreases-with_patterns
+decreases-with_patterns l = 20 * l.steps + 2
+
 abbrev pub decreases-additional_shape : goal.decreases-additional_shape
-decreases-additional_shape l = 20 * l.steps + 2
+decreases-additional_shape l = 20 * l.steps + 3
 
 abbrev pub decreases-items_shape : goal.decreases-items_shape
 decreases-items_shape l = 20 * l.steps + 2
@@ -54,6 +56,12 @@ decreases-content_shape l = 20 * l.steps + 8
 
 abbrev pub decreases-plain_shape : goal.decreases-plain_shape
 decreases-plain_shape l = 20 * l.steps + 10
+
+abbrev pub decreases-whole_shape : goal.decreases-whole_shape
+decreases-whole_shape l = 20 * l.steps + 9
+
+abbrev pub decreases-beside_shape : goal.decreases-beside_shape
+decreases-beside_shape l = 20 * l.steps + 11
 
 abbrev pub decreases-object_shape : goal.decreases-object_shape
 decreases-object_shape l = 20 * l.steps + 12

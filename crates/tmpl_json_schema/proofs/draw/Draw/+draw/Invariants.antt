@@ -5,7 +5,10 @@ abbrev pub decreases-of_schema : goal.decreases-of_schema
 decreases-of_schema l = 20 * l.levels + 0
 
 abbrev pub decreases-of_object : goal.decreases-of_object
-decreases-of_object l = 20 * l.levels + 15
+decreases-of_object l = 20 * l.levels + 16
+
+abbrev pub decreases-of_parts : goal.decreases-of_parts
+decreases-of_parts l = 20 * l.levels + 15
 
 abbrev pub decreases-of_reference : goal.decreases-of_reference
 decreases-of_reference l = 20 * l.levels + 2
@@ -24,3 +27,6 @@ decreases-of_map l = 20 * l.levels + 12
 
 abbrev pub decreases-add_other : goal.decreases-add_other
 decreases-add_other l = 20 * l.levels + 5
+
+abbrev pub decreases-add_of_patterns : goal.decreases-add_of_patterns
+decreases-add_of_patterns l = 20 * l.levels + 5

@@ -1,0 +1,539 @@
+//! Where a value does not conform to a schema: the keywords that it does not meet, each with the way to the value and
+//! to the keyword. Only what is certain is reported: what a `pattern` or a `format` asks of a string is not looked at.
+
+use crate::conform::{LEVELS, conforms, is_property, referred};
+use crate::draft::draft_seen;
+use serde_json::{Map, Value, put};
+use std::alloc::{AllocError, Global};
+use std::mem::replace;
+
+/// The most parts of a value that are held to a part of a schema.
+const MOST_VISITS: usize = 200_000;
+
+/// The largest integer that has an exact neighbor among floats, and the least.
+const EXACT: i64 = 9_007_199_254_740_992;
+
+/// The most bytes of a value that are shown.
+const MOST_SHOWN: usize = 60;
+
+/// A keyword of a schema that a part of a value does not meet.
+#[derive(Drop)]
+pub struct Violation {
+    /// The way to the part of the value from the top, the last part first: keys, and indexes as digits.
+    pub path: Vec<String>,
+    /// The same way as it is shown, as `.a[0].b`; empty at the top.
+    pub place: String,
+    /// The keyword, as a JSON Pointer into the document.
+    pub keyword: String,
+    /// What is wrong there, in words.
+    pub text: String,
+}
+
+/// A part of the way to a value: a key, or the index of an item.
+#[derive(Drop)]
+struct Step {
+    name: String,
+    is_item: bool,
+}
+
+/// A walk over a value and the schema that it is held to.
+#[derive(Drop)]
+struct Walk<'w> {
+    alloc: Global,
+    root: &'w Value,
+    /// The way to what is looked at in the value from the top, and in the document as the parts of a JSON Pointer.
+    path: Vec<Step>,
+    way: Vec<String>,
+    found: Vec<Violation>,
+    /// How many are wanted at most, and how many parts may still be visited.
+    most: usize,
+    left: usize,
+}
+
+/// The places at which a value does not conform to a document, of which these are at most so many. There are none where it
+/// conforms; and there may be none where that is not seen.
+///
+/// # Errors
+///
+/// Where memory ran out.
+pub fn violations_of(
+    alloc: Global,
+    root: &Value,
+    value: &Value,
+    most: usize,
+) -> Result<Vec<Violation>, AllocError> {
+    let mut walk = Walk {
+        alloc,
+        root,
+        path: Vec::new(alloc),
+        way: Vec::new(alloc),
+        found: Vec::new(alloc),
+        most,
+        left: MOST_VISITS,
+    };
+    walk.visit(LEVELS, root, value)?;
+    Ok(walk.found)
+}
+
+impl<'w> Walk<'w> {
+    /// Adds where a value does not conform to a schema.
+    #[cycle(violation)]
+    fn visit(&mut self, levels: usize, schema: &'w Value, value: &Value) -> Result<(), AllocError> {
+        if levels == 0 || self.left == 0 || self.found.len() >= self.most {
+            return Ok(());
+        }
+        self.left -= 1;
+        if conforms(self.root, levels, schema, value) {
+            return Ok(());
+        }
+        match schema {
+            Value::Bool(_) => self.add("the schema there allows no value"),
+            Value::Object(rules) => self.visit_rules(levels - 1, schema, rules, value),
+            _ => Ok(()),
+        }
+    }
+
+    /// Adds where a value does not meet the keywords of a schema.
+    #[cycle(violation)]
+    fn visit_rules(
+        &mut self,
+        levels: usize,
+        schema: &'w Value,
+        rules: &'w Map<String, Value>,
+        value: &Value,
+    ) -> Result<(), AllocError> {
+        for (keyword, rule) in rules.iter() {
+            let name = keyword.as_str();
+            self.way.push(escaped(self.alloc, name)?)?;
+            self.visit_rule(levels, schema, name, rule, value)?;
+            let _ = self.way.pop();
+        }
+        Ok(())
+    }
+
+    /// Adds where a value does not meet a keyword.
+    #[cycle(violation)]
+    fn visit_rule(
+        &mut self,
+        levels: usize,
+        schema: &'w Value,
+        keyword: &str,
+        rule: &'w Value,
+        value: &Value,
+    ) -> Result<(), AllocError> {
+        if !self.is_used(schema, keyword) {
+            return Ok(());
+        }
+        match (keyword, value) {
+            ("$ref", _) => self.visit_reference(levels, rule, value),
+            ("allOf", _) => self.visit_each(levels, rule, value),
+            ("anyOf" | "oneOf", _) => self.visit_choices(levels, keyword, rule, value),
+            ("properties", Value::Object(members)) => self.visit_properties(levels, rule, members),
+            ("additionalProperties", Value::Object(members))
+                if schema.get("patternProperties").is_none() => {
+                self.visit_others(levels, schema, rule, members)
+            }
+            ("items", Value::Array(items)) if schema.get("prefixItems").is_none() => {
+                self.visit_items(levels, rule, items.as_slice())
+            }
+            ("required", Value::Object(members)) => self.visit_required(rule, members),
+            _ => self.visit_plain(schema, keyword, rule, value),
+        }
+    }
+
+    /// Whether a keyword has an effect. Before 2019-09 none has beside a `$ref`, and `dependentRequired` has none.
+    fn is_used(&self, schema: &Value, keyword: &str) -> bool {
+        if draft_seen(self.root).is_since_2019() {
+            return true;
+        }
+        match keyword {
+            "$ref" => true,
+            "dependentRequired" => false,
+            _ => schema.get("$ref").is_none(),
+        }
+    }
+
+    /// Adds where a value does not conform to what a `$ref` points to.
+    #[cycle(violation)]
+    fn visit_reference(
+        &mut self,
+        levels: usize,
+        reference: &'w Value,
+        value: &Value,
+    ) -> Result<(), AllocError> {
+        let (Some(schema), Some(text)) = (referred(self.root, reference), reference.as_str()) else {
+            return Ok(());
+        };
+        let way = way_of(self.alloc, text)?;
+        let before = replace(&mut self.way, way);
+        self.visit(levels, schema, value)?;
+        self.way = before;
+        Ok(())
+    }
+
+    /// Adds where a value does not conform to one of these schemas, as each asks.
+    #[cycle(violation)]
+    fn visit_each(
+        &mut self,
+        levels: usize,
+        schemas: &'w Value,
+        value: &Value,
+    ) -> Result<(), AllocError> {
+        let Value::Array(schemas) = schemas else {
+            return Ok(());
+        };
+        for (index, schema) in schemas.iter().enumerate() {
+            self.way.push(format!(in self.alloc; "{index}")?)?;
+            self.visit(levels, schema, value)?;
+            let _ = self.way.pop();
+        }
+        Ok(())
+    }
+
+    /// Adds that a value conforms to none of these schemas, or to more than one where one alone is wanted.
+    #[cycle(violation)]
+    fn visit_choices(
+        &mut self,
+        levels: usize,
+        keyword: &str,
+        schemas: &'w Value,
+        value: &Value,
+    ) -> Result<(), AllocError> {
+        let Value::Array(schemas) = schemas else {
+            return Ok(());
+        };
+        let before = self.found.len();
+        let mut refused: usize = 0;
+        let mut met: usize = 0;
+        for schema in schemas {
+            if conforms(self.root, levels, schema, value) {
+                met = met.saturating_add(1);
+            } else if self.is_refused(levels, schema, value)? {
+                refused = refused.saturating_add(1);
+            }
+        }
+        self.found.truncate(before);
+        if refused == schemas.len() {
+            return self.add_about(value, " conforms to none of \"", keyword, "\"");
+        }
+        if keyword == "oneOf" && met > 1 {
+            return self.add_about(value, " conforms to more than one of \"", keyword, "\"");
+        }
+        Ok(())
+    }
+
+    /// Whether a value is seen not to conform to a schema.
+    #[cycle(violation)]
+    fn is_refused(
+        &mut self,
+        levels: usize,
+        schema: &'w Value,
+        value: &Value,
+    ) -> Result<bool, AllocError> {
+        let most = replace(&mut self.most, usize::MAX);
+        let before = self.found.len();
+        self.visit(levels, schema, value)?;
+        let is_refused = self.found.len() > before;
+        self.found.truncate(before);
+        self.most = most;
+        Ok(is_refused)
+    }
+
+    /// Adds where the values of properties do not conform to their schemas.
+    #[cycle(violation)]
+    fn visit_properties(
+        &mut self,
+        levels: usize,
+        properties: &'w Value,
+        members: &Map<String, Value>,
+    ) -> Result<(), AllocError> {
+        for (name, member) in members.iter() {
+            if let Some(schema) = properties.get(name.as_str()) {
+                self.way.push(escaped(self.alloc, name.as_str())?)?;
+                self.enter(name.as_str())?;
+                self.visit(levels, schema, member)?;
+                let _ = self.path.pop();
+                let _ = self.way.pop();
+            }
+        }
+        Ok(())
+    }
+
+    /// Adds where the values that are no properties do not conform to the schema of others.
+    #[cycle(violation)]
+    fn visit_others(
+        &mut self,
+        levels: usize,
+        schema: &'w Value,
+        others: &'w Value,
+        members: &Map<String, Value>,
+    ) -> Result<(), AllocError> {
+        for (name, member) in members.iter() {
+            if is_property(schema, name.as_str()) {
+                continue;
+            }
+            self.enter(name.as_str())?;
+            if *others == Value::Bool(false) {
+                self.add("not in \"properties\", and \"additionalProperties\" is false")?;
+            } else {
+                self.visit(levels, others, member)?;
+            }
+            let _ = self.path.pop();
+        }
+        Ok(())
+    }
+
+    /// Adds where items do not conform to their schema.
+    #[cycle(violation)]
+    fn visit_items(
+        &mut self,
+        levels: usize,
+        schema: &'w Value,
+        items: &[Value],
+    ) -> Result<(), AllocError> {
+        for (index, item) in items.iter().enumerate() {
+            let name = format!(in self.alloc; "{index}")?;
+            self.path.push(Step {
+                name,
+                is_item: true,
+            })?;
+            self.visit(levels, schema, item)?;
+            let _ = self.path.pop();
+        }
+        Ok(())
+    }
+
+    /// Goes to the value of a key.
+    fn enter(&mut self, key: &str) -> Result<(), AllocError> {
+        let name = String::from_str(self.alloc, key)?;
+        self.path.push(Step {
+            name,
+            is_item: false,
+        })?;
+        Ok(())
+    }
+
+    /// Adds which keys a map has not that it is required to have.
+    fn visit_required(
+        &mut self,
+        names: &Value,
+        members: &Map<String, Value>,
+    ) -> Result<(), AllocError> {
+        let Value::Array(names) = names else {
+            return Ok(());
+        };
+        for name in names {
+            if let Value::String(name) = name {
+                if members.get(name.as_str()).is_none() {
+                    let text = format!(in self.alloc; "no \"{name}\", which is in \"required\"")?;
+                    self.push(text)?;
+                }
+            }
+        }
+        Ok(())
+    }
+
+    /// Adds that a value does not meet a keyword that speaks of nothing inside it.
+    fn visit_plain(
+        &mut self,
+        schema: &Value,
+        keyword: &str,
+        rule: &Value,
+        value: &Value,
+    ) -> Result<(), AllocError> {
+        let Some(words) = words_for(keyword) else {
+            return Ok(());
+        };
+        if !is_exact(rule, value) || self.meets_alone(schema, keyword, rule, value)? {
+            return Ok(());
+        }
+        let rule = shown(self.alloc, rule)?;
+        let value = shown(self.alloc, value)?;
+        let text = format!(in self.alloc; "{value} {words} \"{keyword}\": {rule}")?;
+        self.push(text)
+    }
+
+    /// Whether a value meets a keyword, by itself and its twin of draft-04.
+    fn meets_alone(
+        &self,
+        schema: &Value,
+        keyword: &str,
+        rule: &Value,
+        value: &Value,
+    ) -> Result<bool, AllocError> {
+        let mut rules: Map<String, Value> = Map::new(self.alloc);
+        put(&mut rules, self.alloc, keyword, rule.clone()?)?;
+        for twin in ["exclusiveMinimum", "exclusiveMaximum"] {
+            if let Some(Value::Bool(is_strict)) = schema.get(twin) {
+                put(&mut rules, self.alloc, twin, Value::Bool(*is_strict))?;
+            }
+        }
+        Ok(conforms(self.root, LEVELS, &Value::Object(rules), value))
+    }
+
+    /// Adds what is wrong about a value.
+    fn add_about(
+        &mut self,
+        value: &Value,
+        before: &str,
+        keyword: &str,
+        after: &str,
+    ) -> Result<(), AllocError> {
+        let value = shown(self.alloc, value)?;
+        let text = format!(in self.alloc; "{value}{before}{keyword}{after}")?;
+        self.push(text)
+    }
+
+    /// Adds what is wrong.
+    fn add(&mut self, text: &str) -> Result<(), AllocError> {
+        let text = String::from_str(self.alloc, text)?;
+        self.push(text)
+    }
+
+    /// Adds what is wrong here.
+    fn push(&mut self, text: String) -> Result<(), AllocError> {
+        if self.found.len() >= self.most {
+            return Ok(());
+        }
+        let path = names_of(self.alloc, self.path.as_slice())?;
+        let place = place_of(self.alloc, self.path.as_slice())?;
+        let keyword = pointer_of(self.alloc, self.way.as_slice())?;
+        self.found.push(Violation {
+            path,
+            place,
+            keyword,
+            text,
+        })?;
+        Ok(())
+    }
+}
+
+/// The words about a value that does not meet a keyword, before the keyword; none for one that is not looked at.
+fn words_for(keyword: &str) -> Option<&'static str> {
+    match keyword {
+        "type" => Some("is not of"),
+        "const" => Some("is not"),
+        "enum" => Some("is none of"),
+        "minimum" => Some("is below"),
+        "maximum" => Some("is above"),
+        "minLength" => Some("is shorter than"),
+        "maxLength" => Some("is longer than"),
+        "exclusiveMinimum" => Some("is not above"),
+        "exclusiveMaximum" => Some("is not below"),
+        "multipleOf" => Some("is no multiple of"),
+        "minItems" | "minProperties" => Some("has fewer than"),
+        "maxItems" | "maxProperties" => Some("has more than"),
+        "uniqueItems" => Some("has an item twice, against"),
+        "dependentRequired" => Some("lacks a key of"),
+        _ => None,
+    }
+}
+
+/// Whether a rule about a value is decided exactly: no float is compared.
+fn is_exact(rule: &Value, value: &Value) -> bool {
+    is_small(value) && is_whole(rule)
+}
+
+/// Whether a value is no number that has no exact neighbors among floats.
+fn is_small(value: &Value) -> bool {
+    match value {
+        Value::Number(number) => number.as_i64().is_some_and(|n| -EXACT < n && n < EXACT),
+        _ => true,
+    }
+}
+
+/// Whether no float stands in a rule.
+fn is_whole(rule: &Value) -> bool {
+    match rule {
+        Value::Number(number) => !number.is_f64(),
+        Value::Array(values) => values.iter().all(|value| !value.is_f64()),
+        Value::Object(_) => true,
+        _ => true,
+    }
+}
+
+/// A value as JSON, of which two dots follow the beginning where it is long.
+fn shown(alloc: Global, value: &Value) -> Result<String, AllocError> {
+    match value {
+        Value::Array(items) if items.len() > 9 => {
+            let count = items.len();
+            format!(in alloc; "a list of {count} items")
+        }
+        Value::Object(members) if members.len() > 3 => {
+            let count = members.len();
+            format!(in alloc; "a map of {count} keys")
+        }
+        _ => {
+            let text = value.to_string(alloc)?;
+            if text.len() <= MOST_SHOWN {
+                return Ok(text);
+            }
+            shortened(alloc, text.as_str())
+        }
+    }
+}
+
+/// The first characters of a text, and two dots.
+fn shortened(alloc: Global, text: &str) -> Result<String, AllocError> {
+    let mut short = String::new(alloc);
+    for letter in text.chars().take(MOST_SHOWN) {
+        short.push(letter)?;
+    }
+    short.push_str("..")?;
+    Ok(short)
+}
+
+/// The names of a way, the last first.
+fn names_of(alloc: Global, path: &[Step]) -> Result<Vec<String>, AllocError> {
+    let mut names = Vec::new(alloc);
+    for step in path.iter().rev() {
+        names.push(String::from_str(alloc, step.name.as_str())?)?;
+    }
+    Ok(names)
+}
+
+/// A way as it is shown.
+fn place_of(alloc: Global, path: &[Step]) -> Result<String, AllocError> {
+    let mut place = String::new(alloc);
+    for step in path {
+        let name = step.name.as_str();
+        if step.is_item {
+            write!(place, "[{name}]")?;
+        } else {
+            write!(place, ".{name}")?;
+        }
+    }
+    Ok(place)
+}
+
+/// The parts of the JSON Pointer of a reference within the document.
+fn way_of(alloc: Global, reference: &str) -> Result<Vec<String>, AllocError> {
+    let mut way = Vec::new(alloc);
+    for part in reference.split('/').skip(1) {
+        way.push(String::from_str(alloc, part)?)?;
+    }
+    Ok(way)
+}
+
+/// The JSON Pointer of these parts.
+fn pointer_of(alloc: Global, way: &[String]) -> Result<String, AllocError> {
+    let mut pointer = String::new(alloc);
+    for part in way {
+        pointer.push('/')?;
+        pointer.push_str(part.as_str())?;
+    }
+    Ok(pointer)
+}
+
+/// A name as a part of a JSON Pointer.
+fn escaped(alloc: Global, name: &str) -> Result<String, AllocError> {
+    let mut part = String::new(alloc);
+    for letter in name.chars() {
+        match letter {
+            '~' => part.push_str("~0")?,
+            '/' => part.push_str("~1")?,
+            _ => part.push(letter)?,
+        }
+    }
+    Ok(part)
+}
