@@ -134,12 +134,20 @@ fn say_cure(alloc: Global, said: Sentence, operands: &[Operand]) -> Result<Sente
     if operands.len() > MOST_OPERANDS {
         return Ok(said);
     }
+    let is_choice = is_choice(operands);
+    if joins_constant(operands) && !is_choice {
+        return Ok(said);
+    }
     let mut text = Vec::new(alloc);
     text.extend_from_slice(b"{{")?;
-    write_command(MOST_LEVELS, operands, &mut text)?;
+    if is_choice {
+        write_choice(operands, &mut text)?;
+    } else {
+        write_command(MOST_LEVELS, operands, &mut text)?;
+    }
     let end = text.len();
     text.extend_from_slice(b"}}")?;
-    if text.len() > MOST_BYTES || joins_constant(operands) || !is_sound(alloc, text.as_slice())? {
+    if text.len() > MOST_BYTES || !is_sound(alloc, text.as_slice())? {
         return Ok(said);
     }
     let cure = text.as_slice().get(2..end).unwrap_or(&[]);
@@ -178,6 +186,45 @@ fn joins_constant(operands: &[Operand]) -> bool {
         }
     }
     after_joint && is_alone
+}
+
+/// Whether operands ask whether a value equals one of several constants, as in `eq .a 1 or 2` and `.a eq 1 or 2`.
+fn is_choice(operands: &[Operand]) -> bool {
+    let choices = match operands {
+        [Operand::Function(Func::Eq), first, rest @ ..] if !is_function(first) => rest,
+        [first, Operand::Function(Func::Eq), rest @ ..] if !is_function(first) => rest,
+        _ => return false,
+    };
+    let mut is_wanted = true;
+    for operand in choices {
+        let is_there = if is_wanted {
+            matches!(operand, Operand::Text(_) | Operand::Number(_))
+        } else {
+            matches!(operand, Operand::Function(Func::Or))
+        };
+        if !is_there {
+            return false;
+        }
+        is_wanted = !is_wanted;
+    }
+    !is_wanted
+}
+
+/// Whether an operand is a function.
+fn is_function(operand: &Operand) -> bool {
+    matches!(operand, Operand::Function(_))
+}
+
+/// Writes that a value equals one of several constants: all operands but the functions after `eq`.
+fn write_choice(operands: &[Operand], text: &mut Vec<u8>) -> Result<(), AllocError> {
+    text.extend_from_slice(b"eq")?;
+    for operand in operands {
+        if !is_function(operand) {
+            text.extend_from_slice(b" ")?;
+            print_operand(operand, text)?;
+        }
+    }
+    Ok(())
 }
 
 /// Operands that are written anew as two parts: the arguments of a function that stands between them, or what stands
