@@ -7,17 +7,21 @@ ghost use Rattle.tmpl_report.specs.Finding.{has_error};
 mod build;
 mod files;
 mod stop;
+mod stops;
 mod words;
 
 use crate::build::version_line;
 use crate::files::{load, load_all, name_hash};
 use crate::stop::Stop;
+use crate::stops::with_stops;
 use crate::words::{Request, command, request_of};
 use clap::error::ErrorKind;
+use std::alloc::Global;
 use std::env;
 use std::io::{ErrorKind as IoErrorKind, Write};
 use std::process::ExitCode;
-use tmpl_report::{Findings, Format, Inferred, Sources, findings_of, infer_from};
+use tmpl_formats::Format as Written;
+use tmpl_report::{Findings, Format, Inferred, Source, Sources, findings_of, infer_from};
 
 /// Runs the command over the file system and the standard streams.
 fn main(rt: HostRuntime) -> ExitCode {
@@ -73,10 +77,43 @@ fn check(rt: &HostRuntime, request: &Request<'_>) -> Result<u8, Stop> {
     if request.is_to_infer {
         return infer(rt, request);
     }
+    if !can_look_at_output(request) {
+        return Err(Stop::Words);
+    }
     let sources = load_all(rt, request)?;
-    let findings = findings_of(rt.alloc(), name_hash(rt), &request.question, &sources)?;
+    check_over(rt, request, &sources)
+}
+
+/// Checks files that were read, and prints what is found.
+fn check_over<'x>(
+    rt: &HostRuntime,
+    request: &'x Request<'x>,
+    sources: &'x Sources<'x>,
+) -> Result<u8, Stop> {
+    let hash = name_hash(rt);
+    let question = with_stops(rt.alloc(), hash, &request.question, called_in(sources))?;
+    let findings = findings_of(rt.alloc(), hash, &question, sources)?;
     put_out(rt, request.format, &findings)?;
-    Ok(status_of(&sources, &findings, request.is_strict))
+    Ok(status_of(sources, &findings, request.is_strict))
+}
+
+/// The template files whose calls of stops count: all where there is a schema, else none.
+fn called_in<'x>(sources: &'x Sources<'x>) -> &'x [Source<'x>] {
+    match &sources.schema {
+        Some(_) => sources.templates.as_slice(),
+        None => &[],
+    }
+}
+
+/// Whether the name of the format is one, and there is something to render over; so too where none is asked for.
+fn can_look_at_output(request: &Request<'_>) -> bool {
+    match request.question.writes {
+        Some(word) => {
+            let is_over = request.data_file.is_some() || request.schema_file.is_some();
+            is_over && Written::named(word.as_bytes()).is_some()
+        }
+        None => true,
+    }
 }
 
 /// The status: 3 where a file could not be read, else 1 where errors are found, or anything where that is asked for,
@@ -104,7 +141,7 @@ fn infer(rt: &HostRuntime, request: &Request<'_>) -> Result<u8, Stop> {
             None => is_short = true,
         }
     }
-    match infer_from(rt.alloc(), sources.as_slice())? {
+    match infer_from(rt.alloc(), sources.as_slice(), request.maps.as_slice())? {
         Inferred::Schema(mut schema) if !is_short => {
             schema.push('\n')?;
             write_all(rt, schema.as_str())?;

@@ -22,6 +22,8 @@ pub(crate) struct Request<'a> {
     pub(crate) is_strict: bool,
     /// Whether a schema of the files is asked for.
     pub(crate) is_to_infer: bool,
+    /// The paths of maps whose keys are data.
+    pub(crate) maps: Vec<&'a str>,
     pub(crate) files: Vec<&'a str>,
     /// Template files in which nothing is warned of; they come after the others.
     pub(crate) libraries: Vec<&'a str>,
@@ -29,13 +31,14 @@ pub(crate) struct Request<'a> {
 
 /// The command line.
 pub(crate) fn command<'a>(alloc: Global) -> Result<Command<'a>, AllocError> {
-    let unlike_infer: [&'a str; 8] = [
+    let unlike_infer: [&'a str; 9] = [
         "data",
         "name",
         "schema",
         "missingkey",
         "stop",
         "library",
+        "writes",
         "strict",
         "no-counterexamples",
     ];
@@ -46,7 +49,7 @@ pub(crate) fn command<'a>(alloc: Global) -> Result<Command<'a>, AllocError> {
             "Exit status: 0 no errors, 1 errors, 2 arguments refused, 3 a file cannot be read, 6 a write failed, 7 out of memory.",
         )
         .arg(option_arg(alloc, "data", "FILE").help(
-            "Check a JSON file too: where it is wrong, and which numbers are not whole",
+            "Check a JSON file too, and that the template renders over it, or that it conforms to the schema",
         ))?
         .arg(option_arg(alloc, "name", "NAME").help(
             "The template to render: report whether it is there, and what nothing calls",
@@ -57,7 +60,9 @@ pub(crate) fn command<'a>(alloc: Global) -> Result<Command<'a>, AllocError> {
         .arg(
             option_arg(alloc, "missingkey", "MODE")
                 .value_parser(MODES.as_slice())
-                .help("With --schema: check for this mode of tmpl alone, not for each"),
+                .help(
+                    "Check for this mode of tmpl: with --schema alone, not for each; without, in the run over --data",
+                ),
         )?
         .arg(
             option_arg(alloc, "stop", "NAME")
@@ -68,6 +73,9 @@ pub(crate) fn command<'a>(alloc: Global) -> Result<Command<'a>, AllocError> {
         )?
         .arg(flag_arg(alloc, "no-counterexamples").help(
             "With --schema: don't search for counterexamples",
+        ))?
+        .arg(option_arg(alloc, "writes", "FORMAT").help(
+            "With --data or --schema: report where the output is not of this format: json, jsonl, env, csv:COLUMNS, nginx",
         ))?
         .arg(
             option_arg(alloc, "library", "FILE")
@@ -84,6 +92,12 @@ pub(crate) fn command<'a>(alloc: Global) -> Result<Command<'a>, AllocError> {
             flag_arg(alloc, "infer")
                 .conflicts_with_all(unlike_infer.as_slice())?
                 .help("Print a JSON Schema to which these files of data conform"),
+        )?
+        .arg(
+            option_arg(alloc, "map", "PATH")
+                .action(ArgAction::Append)
+                .requires_arg("infer")?
+                .help("With --infer: the path of a map whose keys are data, as .metadata.labels"),
         )?
         .arg(
             Arg::new(alloc, "file")
@@ -134,10 +148,12 @@ pub(crate) fn request_of<'a>(
             mode: mode_named(matches.get_str("missingkey")),
             stops: values_of(alloc, matches, "stop")?,
             is_searched: !matches.get_flag("no-counterexamples"),
+            writes: matches.get_str("writes"),
         },
         format: format_named(matches.get_str("format")),
         is_strict: matches.get_flag("strict"),
         is_to_infer: matches.get_flag("infer"),
+        maps: values_of(alloc, matches, "map")?,
         libraries: values_of(alloc, matches, "library")?,
         files,
     })

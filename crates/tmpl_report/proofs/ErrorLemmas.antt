@@ -83,7 +83,7 @@ told_more before after old new file here p e =
 
 -- ---- more errors
 
-found-in : (xs : List Finding) → has_error (errors_in xs) ≡ has_error xs
+pub found-in : (xs : List Finding) → has_error (errors_in xs) ≡ has_error xs
 found-in [] = refl
 found-in (x ∷ xs) = by (is_error x.level) refl (found-in xs)
   where
@@ -162,7 +162,7 @@ may-be (Some file) before firsts errors e h = λ some. h (sym (found-in before) 
 
 -- ---- errors of data
 
-all-more : (P : Finding → Type 0) (xs : List Finding) (x : Finding) → AllByRecursion P xs → P x → AllByRecursion P (xs ++ x ∷ [])
+pub all-more : (P : Finding → Type 0) (xs : List Finding) (x : Finding) → AllByRecursion P xs → P x → AllByRecursion P (xs ++ x ∷ [])
 all-more P [] x h p = (p, tt)
 all-more P (y ∷ ys) x h p = (h.0, all-more P ys x h.1 p)
 

@@ -11,7 +11,7 @@ use Rattle.tmpl_values.specs.Stage.{and_then}
 use Rattle.tmpl_values.specs.Value as value
 use Rattle.std.specs.Borrow.{Bor}
 use Rattle.tmpl_json_schema.specs.Inferred.{Conforms}
-use Rattle.tmpl_json_schema.specs.Document.{ConformsTo, document_of, conforms_in}
+use Rattle.tmpl_json_schema.specs.Document.{ConformsTo, document_of, IsOfSchema}
 use Rattle.tmpl_report.specs.Finding.{Finding, has_error}
 use Rattle.tmpl_report.specs.declared.source.Source.{Source}
 use Rattle.tmpl_report.specs.computed.Inferred.{IsSampleOf, HasNoValue, AddsSample, AreSamplesOf, AreRead}
@@ -88,6 +88,6 @@ pub samples-told : (text : List ℕ) (root : Data) (lent : List (Bor Value)) →
 samples-told text root [] e h = tt
 samples-told text root (s ∷ lent) e h = (by (tree_value (view s.now)) h.0, samples-told text root lent e h.1)
   where
-    by : (o : Option value.Value) → IfSome o (λ v. (n : ℕ) × conforms_in root n root v) → IfSome o (ConformsTo text)
+    by : (o : Option value.Value) → IfSome o (IsOfSchema root) → IfSome o (ConformsTo text)
     by None h = tt
     by (Some v) h = (root, e, h)

@@ -17,6 +17,8 @@ use Rattle.tmpl_report.specs.declared.source.Source.{Source}
 use Rattle.tmpl_report.specs.declared.source.Sources.{Sources}
 use Rattle.tmpl_report.specs.Finding.{Finding, has_error}
 use Rattle.tmpl_report.specs.Level.{is_error}
+use Rattle.tmpl_report.specs.Rendered.{AreOfValues}
+use Rattle.tmpl_report.specs.declared.source.Question.{Question}
 
 -- the errors among these
 abbrev pub errors_in : List Finding → List Finding
@@ -90,8 +92,24 @@ abbrev pub MayBeOfSchema : Option Source → List Finding → List Finding → T
 MayBeOfSchema None before errors = errors ≡ []
 MayBeOfSchema (Some file) before errors = has_error before ≡ true → errors ≡ []
 
--- these are all errors: those of the template files, those of the schema, and those of the data
-abbrev pub AreErrors : Sources → List Finding → Type 0
-AreErrors sources errors = (set : List Template) × (of_files of_schema of_data : List Finding)
-    × (errors ≡ of_files ++ of_schema ++ of_data) × AreOfFiles [] sources.templates.items set of_files
+-- these are the errors of the sources: those of the template files, those of the schema, those of the data, and those of
+-- the data beside the files
+abbrev pub AreOfSources : Question → Sources → List Finding → Type 0
+AreOfSources question sources errors = (set : List Template) × (of_files of_schema of_data of_values : List Finding)
+    × (errors ≡ of_files ++ of_schema ++ of_data ++ of_values) × AreOfFiles [] sources.templates.items set of_files
     × MayBeOfSchema sources.schema of_files of_schema × AreOfData sources.data of_data
+    × AreOfValues question sources set of_values
+
+-- an error that an output is not of the format; of which output, and where, is left open
+abbrev pub IsNotOfFormat : Finding → Type 0
+IsNotOfFormat f = (f.level ≡ Error) × (f.rule ≡ codes "not-of-format")
+
+-- of an output there are errors only where a format is asked for and nothing else is wrong
+abbrev pub AreOfOutput : Question → List Finding → List Finding → Type 0
+AreOfOutput question before errors =
+    (question.writes ≡ None → errors ≡ []) × (has_error before ≡ true → errors ≡ []) × AllByRecursion IsNotOfFormat errors
+
+-- these are all errors: those of the sources, and those of an output
+abbrev pub AreErrors : Question → Sources → List Finding → Type 0
+AreErrors question sources errors = (of_sources of_output : List Finding) × (errors ≡ of_sources ++ of_output)
+    × AreOfSources question sources of_sources × AreOfOutput question of_sources of_output

@@ -9,6 +9,7 @@ pub mod Level
 pub mod Position
 pub mod Reason
 pub mod Refutes
+pub mod Rendered
 pub mod Rules
 pub mod Safe
 pub mod Sarif

@@ -21,4 +21,8 @@ rules =
     ∷ (codes "schema-not-understood", codes "A schema has keywords that are known, each with a value that it takes.")
     ∷ (codes "schema-without-values", codes "To each part of a schema some value conforms.")
     ∷ (codes "may-fail", codes "A template renders without a fault whatever data of the schema it is given.")
-    ∷ (codes "always-fails", codes "A command does not fail whatever the data is.") ∷ []
+    ∷ (codes "always-fails", codes "A command does not fail whatever the data is.")
+    ∷ (codes "fails-over-data", codes "A template renders without a fault over the data that is given.")
+    ∷ (codes "not-rendered-whole", codes "A run over the data that is given ends within the limits of the check.")
+    ∷ (codes "does-not-conform", codes "Data conforms to the schema.")
+    ∷ (codes "not-of-format", codes "The output is of the format that is asked for.") ∷ []

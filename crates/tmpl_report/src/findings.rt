@@ -5,22 +5,25 @@ ghost use Rattle.std.specs.List.{list_any};
 ghost use Rattle.tmpl_values.specs.Json.{data_of, Flaw};
 ghost use Rattle.tmpl_values.specs.Value.{Value};
 ghost use Rattle.tmpl_syntax.specs.View.{set_view};
-ghost use Rattle.tmpl_report.specs.Errors.{AreErrors, AreOfData, AreOfFile, AreOfFiles, AreOfReason, IsOfReason};
+ghost use Rattle.tmpl_report.specs.Errors.{AreErrors, AreOfData, AreOfFile, AreOfFiles, AreOfReason, AreOfSources, IsOfReason};
 ghost use Rattle.tmpl_report.specs.Errors.{error_of, errors_in, errors_of};
 ghost use Rattle.tmpl_report.specs.Finding.{Finding, has_error};
 ghost use Rattle.tmpl_report.specs.Level.{is_error};
+ghost use Rattle.tmpl_report.specs.Rendered.{IsValued};
 ghost use Rattle.tmpl_report.specs.Safe.{IsSafe};
 ghost use Rattle.tmpl_report.specs.Told.{told};
 ghost use Rattle.tmpl_report.specs.computed.Entries.{AddsOfReason, HasMore, is_same, warning_of};
 
 use crate::entry::{Entry, Level};
+use crate::output::add_output;
 use crate::reasons::position_of;
 use crate::rule::{
-    ALWAYS_FAILS, KEY_GIVEN_TWICE, MAY_FAIL, NEVER_CALLED, NO_SUCH_TEMPLATE, Rule,
-    SCHEMA_WITHOUT_VALUES, SUSPICIOUS, data_rule_of, rule_of,
+    ALWAYS_FAILS, KEY_GIVEN_TWICE, MAY_FAIL, NEVER_CALLED, NO_SUCH_TEMPLATE, Rule, SUSPICIOUS,
+    data_rule_of, rule_of,
 };
 use crate::schema::{add_schema, part_text, say_name};
 use crate::source::{Question, Source, Sources};
+use crate::values::add_values;
 use crate::{json, sarif, text};
 use indexmap::IndexSet;
 use std::alloc::{AllocError, Global};
@@ -110,7 +113,7 @@ impl<'a> Findings<'a> {
     }
 
     /// Adds what is found.
-    fn add(&mut self, entry: Entry<'a>) -> Result<(), AllocError>
+    pub(crate) fn add(&mut self, entry: Entry<'a>) -> Result<(), AllocError>
         ensures { OnOk result (self.new ≡ self.old ++ entry.entry ∷ []) }
     {
         self.entries.push(entry)?;
@@ -160,7 +163,7 @@ impl<'a> Findings<'a> {
     }
 
     /// Adds a warning.
-    fn warn(
+    pub(crate) fn warn(
         &mut self,
         file: &'a str,
         place: (u64, u64),
@@ -250,18 +253,19 @@ impl<'a> Findings<'a> {
         Ok(())
     }
 
-    /// Adds a warning of a part of a schema.
+    /// Adds a warning of a part of a schema, by a rule.
     pub(crate) fn warn_of_part(
         &mut self,
         alloc: Global,
         schema: &Source<'a>,
+        rule: Rule,
         part: &Refused,
     ) -> Result<(), AllocError>
         ensures { OnOk result (errors_in self.new ≡ errors_in self.old) }
     {
         let place = position_of(schema.bytes.as_slice(), part.path.as_slice());
         let text = part_text(alloc, part)?;
-        self.warn(schema.name, place, SCHEMA_WITHOUT_VALUES, text)
+        self.warn(schema.name, place, rule, text)
     }
 
     /// Adds that no file defines the template that is asked for, if that is so.
@@ -597,8 +601,12 @@ fn unseen_entry<'a>(alloc: Global, file: &'a str) -> Result<Entry<'a>, AllocErro
 ///
 /// The errors are, file by file, all that is refused of it, as `check_file` says it, and what is found beyond; then
 /// those of the schema, of which there are none where none is given or a file has an error; then those of the data, of
-/// which there are none exactly where it has a value. Where no error is found all files are accepted, the data has a
-/// value, and, where no file is missing, no data of the schema makes the template fail, as `check_document` says it.
+/// which there are none exactly where it has a value; then where the data does not conform to the schema, or, if none is
+/// given and nothing else is wrong, the fault of the run over the data; then, if a format is asked for and nothing else is
+/// wrong, where the output is not of it. Where no error is found all files are accepted,
+/// the data has a value, and, where no file is missing, no data of the schema makes the template fail, as
+/// `check_document` says it; the data conforms to the schema, unless that has a `pattern` or a `format`; and without a
+/// schema the run over the data has no fault, unless a warning says that it met a limit.
 ///
 /// # Errors
 ///
@@ -610,7 +618,24 @@ pub fn findings_of<'a>(
     sources: &Sources<'a>,
 ) -> Result<Findings<'a>, AllocError>
     ensures safe { IfOk result (λ found. has_error found ≡ false → IsSafe question.now sources.now) }
-    ensures matches_spec { IfOk result (λ found. AreErrors sources.now (errors_in found)) }
+    ensures matches_spec { IfOk result (λ found. AreErrors question.now sources.now (errors_in found)) }
+    ensures values { IfOk result (λ found. has_error found ≡ false → IsValued question.now sources.now found) }
+{
+    let mut findings = findings_in(alloc, hash, question, sources)?;
+    add_output(alloc, hash, &mut findings, question, sources)?;
+    Ok(findings)
+}
+
+/// The same, whatever the output is of.
+fn findings_in<'a>(
+    alloc: Global,
+    hash: NameHash,
+    question: &Question<'a>,
+    sources: &Sources<'a>,
+) -> Result<Findings<'a>, AllocError>
+    ensures safe { IfOk result (λ found. has_error found ≡ false → IsSafe question.now sources.now) }
+    ensures matches_spec { IfOk result (λ found. AreOfSources question.now sources.now (errors_in found)) }
+    ensures values { IfOk result (λ found. has_error found ≡ false → IsValued question.now sources.now found) }
 {
     let mut findings = Findings::new(alloc);
     let mut set = Set::with_hash(alloc, hash);
@@ -618,6 +643,7 @@ pub fn findings_of<'a>(
     findings.add_files(alloc, hash, question, files, &mut set)?;
     add_schema(alloc, &mut findings, &set, question, sources)?;
     findings.add_given(alloc, sources)?;
+    add_values(alloc, &mut findings, &set, question, sources)?;
     Ok(findings)
 }
 

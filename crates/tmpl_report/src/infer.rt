@@ -22,8 +22,13 @@ pub enum Inferred<'a> {
     Refused(Findings<'a>),
 }
 
-/// The text of a schema to which the value of each of these files conforms, or what is wrong in those that have none.
-pub fn infer_from<'a>(alloc: Global, files: &[Source<'a>]) -> Result<Inferred<'a>, AllocError>
+/// The text of a schema to which the value of each of these files conforms, or what is wrong in those that have none. The
+/// paths, as `.metadata.labels`, are those of maps whose keys are data.
+pub fn infer_from<'a>(
+    alloc: Global,
+    files: &[Source<'a>],
+    paths: &[&str],
+) -> Result<Inferred<'a>, AllocError>
     ensures { IfOk result (IsInferred files.now) }
 {
     let mut findings = Findings::new(alloc);
@@ -34,18 +39,18 @@ pub fn infer_from<'a>(alloc: Global, files: &[Source<'a>]) -> Result<Inferred<'a
     if findings.has_errors() {
         return Ok(Inferred::Refused(findings));
     }
-    let text = schema_text(alloc, samples.as_slice())?;
+    let text = schema_text(alloc, samples.as_slice(), paths)?;
     Ok(Inferred::Schema(text))
 }
 
 /// The text of a schema of samples.
-fn schema_text(alloc: Global, samples: &[Value]) -> Result<String, AllocError>
+fn schema_text(alloc: Global, samples: &[Value], paths: &[&str]) -> Result<String, AllocError>
     ensures conform { IfOk result (λ text. AllByRecursion
         (λ sample. IfSome (tree_value (view sample)) (ConformsTo (string_bytes text))) samples.now) }
     ensures inferred { IfOk result (λ text. IsSchemaInferred (string_bytes text)) }
 {
     let lent = references_to(alloc, samples)?;
-    let schema = infer_schema(alloc, lent.as_slice())?;
+    let schema = infer_schema(alloc, lent.as_slice(), paths)?;
     let text = schema.to_string_pretty(alloc)?;
     // for what its contract says: the bytes of a text are UTF-8
     let _shown = text.as_str();

@@ -1,18 +1,24 @@
 //! The findings in template files, data and a schema: with counterexamples and reasons, and how they are printed.
 #![tactic(auto)]
 
+mod commands;
+mod detail;
 mod entry;
 mod findings;
+mod held;
 mod infer;
 mod json;
 mod laws;
+mod output;
 mod reasons;
+mod rendered;
 mod rule;
 mod samples;
 mod sarif;
 mod schema;
 mod source;
 mod text;
+mod values;
 
 pub use entry::Level;
 pub use findings::{Findings, Format, findings_of};

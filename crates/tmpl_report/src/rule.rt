@@ -103,8 +103,28 @@ pub(crate) const ALWAYS_FAILS: Rule = Rule {
     text: "A command does not fail whatever the data is.",
 };
 
+pub(crate) const FAILS_OVER_DATA: Rule = Rule {
+    id: "fails-over-data",
+    text: "A template renders without a fault over the data that is given.",
+};
+
+pub(crate) const NOT_RENDERED_WHOLE: Rule = Rule {
+    id: "not-rendered-whole",
+    text: "A run over the data that is given ends within the limits of the check.",
+};
+
+pub(crate) const DOES_NOT_CONFORM: Rule = Rule {
+    id: "does-not-conform",
+    text: "Data conforms to the schema.",
+};
+
+pub(crate) const NOT_OF_FORMAT: Rule = Rule {
+    id: "not-of-format",
+    text: "The output is of the format that is asked for.",
+};
+
 /// All rules, in the order in which they are printed.
-pub(crate) fn all_rules() -> [Rule; 18]
+pub(crate) fn all_rules() -> [Rule; 22]
     ensures { map (λ rule. (rule.id.now, rule.text.now)) result ≡ rules }
 {
     [
@@ -126,6 +146,10 @@ pub(crate) fn all_rules() -> [Rule; 18]
         SCHEMA_WITHOUT_VALUES,
         MAY_FAIL,
         ALWAYS_FAILS,
+        FAILS_OVER_DATA,
+        NOT_RENDERED_WHOLE,
+        DOES_NOT_CONFORM,
+        NOT_OF_FORMAT,
     ]
 }
 

@@ -6,5 +6,6 @@ mod search;
 mod smaller;
 
 pub use failing::Failure;
+pub(crate) use failing::{Nowhere, said_of};
 pub use laws::failure_refutes;
 pub use search::failures_of;

@@ -9,7 +9,7 @@ ghost use Rattle.tmpl_report.specs.computed.Entries.{HasMore};
 use crate::entry::{Entry, Level};
 use crate::findings::Findings;
 use crate::reasons::{Reason, Why, position_of, reasons_of};
-use crate::rule::{MAY_FAIL, SCHEMA_NOT_UNDERSTOOD};
+use crate::rule::{MAY_FAIL, SCHEMA_NOT_UNDERSTOOD, SCHEMA_WITHOUT_VALUES};
 use crate::samples::{Failure, failures_of};
 use crate::source::{Question, Source, Sources};
 use serde_json::Value;
@@ -19,10 +19,11 @@ use tmpl_funcs::Func;
 use tmpl_hints::Sentence;
 use tmpl_json_schema::{
     CheckFault, Refused, SchemaFault, check_document, part_without_values, read_document,
+    warnings_of,
 };
 use tmpl_meaning::MissingKey;
 use tmpl_schema::{Cause, Doubt, Refusal};
-use tmpl_syntax::{Set, base_name};
+use tmpl_syntax::{Place, Set, base_name};
 use tmpl_values::Bytes;
 
 /// Adds the findings about the template that is asked for over data of the schema, once the files are accepted.
@@ -92,16 +93,26 @@ fn add_judged<'a>(
         render.mode,
         stops.as_slice(),
     ) {
-        Ok(()) => {
-            warn_without_values(alloc, findings, schema, &document)?;
-            Ok(())
-        }
+        Ok(()) => warn_of_schema(alloc, findings, schema, &document),
         Err(fault) => {
             render.add_fault(alloc, &mut *findings, &document, stops.as_slice(), fault)?;
             findings.add_unseen(alloc, question)?;
             Ok(())
         }
     }
+}
+
+/// Warns of what is suspicious in a schema.
+fn warn_of_schema<'a>(
+    alloc: Global,
+    findings: &mut Findings<'a>,
+    schema: &Source<'a>,
+    document: &Value,
+) -> Result<(), AllocError>
+    ensures { OnOk result (errors_in findings.new ≡ errors_in findings.old) }
+{
+    warn_without_values(alloc, findings, schema, document)?;
+    warn_of_keywords(alloc, findings, schema, document)
 }
 
 /// Warns of a part of a schema to which no value conforms, if one is found.
@@ -114,13 +125,28 @@ fn warn_without_values<'a>(
     ensures { OnOk result (errors_in findings.new ≡ errors_in findings.old) }
 {
     match part_without_values(alloc, document)? {
-        Some(part) => findings.warn_of_part(alloc, schema, &part),
+        Some(part) => findings.warn_of_part(alloc, schema, SCHEMA_WITHOUT_VALUES, &part),
         None => Ok(()),
     }
 }
 
+/// Warns of what of a schema is not used.
+fn warn_of_keywords<'a>(
+    alloc: Global,
+    findings: &mut Findings<'a>,
+    schema: &Source<'a>,
+    document: &Value,
+) -> Result<(), AllocError>
+    ensures { OnOk result (errors_in findings.new ≡ errors_in findings.old) }
+{
+    for warning in warnings_of(alloc, document)?.as_slice() {
+        findings.warn_of_part(alloc, schema, SCHEMA_NOT_UNDERSTOOD, warning)?;
+    }
+    Ok(())
+}
+
 /// The name of the template that is rendered, where this is the first file.
-fn asked_name<'a>(question: &Question<'a>, first: &'a str) -> &'a [u8]
+pub(crate) fn asked_name<'a>(question: &Question<'a>, first: &'a str) -> &'a [u8]
     ensures { result.now ≡ asked_name question.now first.now }
 {
     match question.name {
@@ -314,7 +340,7 @@ fn doubt_entry<'a>(
     for template in sources.templates.as_slice() {
         if template.name.as_bytes() == file {
             entry.file = template.name;
-            entry.column = column_in(template.bytes.as_slice(), entry.line, &doubt.cause);
+            entry.column = column_at(template.bytes.as_slice(), doubt.start);
         }
     }
     Ok(entry)
@@ -420,61 +446,7 @@ pub(crate) fn say_name(said: Sentence, name: &[u8]) -> Sentence {
     said.say(from_utf8(name).unwrap_or("?"))
 }
 
-/// The column, on this line of a file, of the action with what the cause names, or of the first action, or else 1.
-fn column_in(file: &[u8], line: u64, cause: &Cause) -> u64 {
-    let mut at: u64 = 1;
-    for text in file.split(|byte| *byte == b'\n') {
-        if at == line {
-            return column_of(text, cause);
-        }
-        at = at.saturating_add(1);
-    }
-    1
-}
-
-/// The column of the action of a line in which what the cause names stands first, or of its first action, or else 1.
-fn column_of(line: &[u8], cause: &Cause) -> u64 {
-    let mut action: Option<usize> = None;
-    let mut first: Option<usize> = None;
-    for start in 0..line.len() {
-        let rest = line.get(start..).unwrap_or(&[]);
-        if rest.starts_with(b"{{") {
-            action = Some(start);
-            if first.is_none() {
-                first = action;
-            }
-        }
-        if action.is_some() && is_named(rest, cause) {
-            first = action;
-            break;
-        }
-    }
-    columns_in(line.get(..first.unwrap_or(0)).unwrap_or(&[]))
-}
-
-/// Whether a text begins with what the cause names.
-fn is_named(text: &[u8], cause: &Cause) -> bool {
-    match cause {
-        Cause::Absent(name) | Cause::NoFields(name, _) => match text {
-            [b'.', rest @ ..] => rest.starts_with(name.as_slice()),
-            _ => false,
-        },
-        Cause::NoTemplate(name) => text.starts_with(name.as_slice()),
-        Cause::Arguments(func) | Cause::FewItems(func, _) | Cause::NotFollowed(func) => {
-            text.starts_with(func.name().as_bytes())
-        }
-        Cause::Range(_) => text.starts_with(b"range"),
-        Cause::Variables | Cause::Command | Cause::TooComplex => false,
-    }
-}
-
-/// The column after these bytes of a line.
-fn columns_in(front: &[u8]) -> u64 {
-    let mut column: u64 = 1;
-    for byte in front {
-        if !(0x80..=0xBF).contains(byte) {
-            column = column.saturating_add(1);
-        }
-    }
-    column
+/// The column of the byte of a file before which this many stand.
+pub(crate) fn column_at(file: &[u8], start: usize) -> u64 {
+    Place::first().at(file, start.min(file.len())).column
 }

@@ -35,4 +35,6 @@ pub struct Question<'a> {
     pub stops: Vec<&'a str>,
     /// Whether data are searched for over which the template fails.
     pub is_searched: bool,
+    /// The name of the format of which the output has to be; none for any output.
+    pub writes: Option<&'a str>,
 }

@@ -7,7 +7,8 @@ use percent_encoding::{DecodeError, percent_decode};
 use serde_json::Value;
 use std::alloc::{AllocError, AllocFailed, Global};
 use tmpl_json_schema::{
-    Kinds, choices_in, chosen_by, has_content, is_every_kind, kinds_of, lets_no_map, requires_key,
+    Kinds, choices_in, chosen_by, has_content, is_every_kind, items_in, kinds_of, lets_no_map,
+    part_in, requires_key,
 };
 
 /// The most places that are followed at once.
@@ -168,12 +169,17 @@ impl<'d> Document<'d> {
             let referred = self.referred(reference)?;
             return self.add_plain(fewer, referred.as_str(), plain);
         }
-        let Some(choices) = choices_in(schema) else {
+        let choices = choices_in(schema);
+        if choices.is_none() && part_in(schema).is_none() {
             return plain.add(String::from_str(self.alloc, place)?);
-        };
+        }
         if !is_every_kind(self.kinds(schema)) {
             return Err(Lost::Untold);
         }
+        let Some(choices) = choices else {
+            let part = format!(in self.alloc; "{place}/allOf/0")?;
+            return self.add_plain(fewer, part.as_str(), plain);
+        };
         let keyword = chosen_by(schema);
         for index in 0..choices.as_array().map_or(0, |choices| choices.len()) {
             let alternative = format!(in self.alloc; "{place}/{keyword}/{index}")?;
@@ -195,7 +201,14 @@ impl<'d> Document<'d> {
 
     /// Adds the place of what stands under a keyword of the schema at a place.
     fn add_under(&self, place: &str, keyword: &str, origin: &mut Origin) -> Result<(), Lost> {
-        match self.schema_at(place)?.get(keyword) {
+        let schema = self.schema_at(place)?;
+        if keyword == "items" && items_in(schema).is_none() {
+            return Err(Lost::Untold);
+        }
+        if keyword == "additionalProperties" && schema.get("patternProperties").is_some() {
+            return Err(Lost::Untold);
+        }
+        match schema.get(keyword) {
             Some(Value::Bool(false)) => Ok(()),
             Some(_) => origin.add_below(self.alloc, place, keyword),
             None => Err(Lost::Untold),

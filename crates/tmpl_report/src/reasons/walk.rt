@@ -354,11 +354,17 @@ impl<'w> Walk<'w> {
         self.look_at(index, wanted, start, fields.as_slice())
     }
 
-    /// Looks for what the alarms speak of in the pipeline of an action of this line, which may be that of a range.
-    fn look(&mut self, line: u64, commands: &[Command], is_range: bool) -> Result<(), AllocError> {
+    /// Looks for what the alarms speak of in the pipeline of an action that begins after this many bytes, which may be
+    /// that of a range.
+    fn look(
+        &mut self,
+        start: usize,
+        commands: &[Command],
+        is_range: bool,
+    ) -> Result<(), AllocError> {
         let doubts = self.doubts;
         for (index, doubt) in doubts.iter().enumerate() {
-            if doubt.line == line && doubt.template.as_slice() == self.name {
+            if doubt.start == start && doubt.template.as_slice() == self.name {
                 match &doubt.cause {
                     Cause::Range(_) if is_range => {
                         let found = self.pipeline(LEVELS, commands);
@@ -415,13 +421,13 @@ impl<'w> Walk<'w> {
         match &node.what {
             NodeKind::Text(_) | NodeKind::Break | NodeKind::Continue => Ok(()),
             NodeKind::Action(header) => {
-                let origin = self.header(node.line, header, false)?;
+                let origin = self.header(node.start, header, false)?;
                 self.bind(&header.binding, &origin)
             }
-            NodeKind::Control(control) => self.control(levels, node.line, control),
+            NodeKind::Control(control) => self.control(levels, node.start, control),
             NodeKind::Template(name, Some(pipeline)) => {
                 let commands = pipeline.commands.as_slice();
-                self.look(node.line, commands, false)?;
+                self.look(node.start, commands, false)?;
                 let origin = if_told(self.pipeline(LEVELS, commands))?;
                 let name = name.as_slice();
                 self.handed.push(Source { name, origin })?;
@@ -438,12 +444,12 @@ impl<'w> Walk<'w> {
     /// Looks at a header, and gives where its value comes from.
     fn header(
         &mut self,
-        line: u64,
+        start: usize,
         header: &'w Header,
         is_range: bool,
     ) -> Result<Option<Origin>, AllocError> {
         let commands = header.pipeline.commands.as_slice();
-        self.look(line, commands, is_range)?;
+        self.look(start, commands, is_range)?;
         if_told(self.pipeline(LEVELS, commands))
     }
 
@@ -452,12 +458,12 @@ impl<'w> Walk<'w> {
     fn control(
         &mut self,
         levels: usize,
-        line: u64,
+        start: usize,
         control: &'w ControlNode,
     ) -> Result<(), AllocError> {
         let mark = self.scope.len();
         let is_range = control.control == Control::Range;
-        let value = self.header(line, &control.header, is_range)?;
+        let value = self.header(start, &control.header, is_range)?;
         let inside = match &value {
             Some(origin) if is_range => if_told(self.document.elements(origin))?,
             _ => copy_known(self.document, &value)?,

@@ -23,7 +23,7 @@ use tmpl_engine::{
     Data, DataFault, MissingKey, Options, RenderError, Renderer, RunFault, RunFaultKind, Sink,
     SinkFault, WholePuts, WriterSink, put_reason,
 };
-use tmpl_json_schema::{LEVELS, conforms};
+use tmpl_json_schema::conforms_to;
 use tmpl_schema::{Cause, Doubt};
 use tmpl_values::Bytes;
 
@@ -73,10 +73,14 @@ impl Nowhere {
     pub(crate) fn new() -> Nowhere
         ensures { result.failures ≡ 0 }
     {
-        Nowhere {
-            room: MOST_TEXT,
-            failures: 0,
-        }
+        Nowhere::of(MOST_TEXT)
+    }
+
+    /// One that takes as many bytes.
+    pub(crate) fn of(room: usize) -> Nowhere
+        ensures { result.failures ≡ 0 }
+    {
+        Nowhere { room, failures: 0 }
     }
 }
 
@@ -143,7 +147,7 @@ pub(crate) fn is_doubted(doubt: &Doubt, fault: &RunFault<'_>, stops: &[Bytes]) -
 }
 
 /// What `tmpl` says of a fault, after the file, the line and the template.
-fn said_of(alloc: Global, kind: &RunFaultKind<'_>) -> Result<String, AllocError>
+pub(crate) fn said_of(alloc: Global, kind: &RunFaultKind<'_>) -> Result<String, AllocError>
     ensures { IfOk result (λ said. IsUtf8 (cause_text (cause_of kind.now))
         → string_bytes said ≡ cause_text (cause_of kind.now)) }
 {
@@ -233,7 +237,7 @@ impl Question<'_> {
             → IsOfSchema (view self.now.root.now) v) }
     {
         match Value::from_slice(self.alloc, text.as_bytes()) {
-            Ok(value) => Ok(conforms(self.root, LEVELS, self.root, &value)),
+            Ok(value) => Ok(conforms_to(self.alloc, self.root, &value)),
             Err(error) if error.is_memory() => Err(AllocError),
             Err(_) => Ok(false),
         }

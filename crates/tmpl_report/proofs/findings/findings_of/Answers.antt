@@ -1,41 +1,30 @@
-use Rattle.std.proofs.Common.{◌≡◌, ◌∙◌, ◌++◌, [], ap, subst}
-use Rattle.tmpl_syntax.specs.View.{set_view}
-use Rattle.tmpl_report.specs.Errors.{AreOfFiles, errors_in}
-use Rattle.tmpl_report.proofs.ErrorLemmas.{data-valued, files-accepted, may-be, none-after, none-before}
+use Rattle.std.proofs.Common.{sym, subst}
+use Rattle.tmpl_report.specs.Errors.{errors_in}
+use Rattle.tmpl_report.specs.Rendered.{IsValued}
+use Rattle.tmpl_report.proofs.ErrorLemmas.{none-before}
+use Rattle.tmpl_report.proofs.OutputLemmas.{as-before, output-told}
 use Rattle.tmpl_report.proofs.findings.findings_of.Goals as goal
+
+pub returns-clause-safe : goal.returns-clause-safe
+returns-clause-safe c = λ no_error.
+    let added = c.in_ok-add_output.ensures in
+    let question = c.args.question.now in
+    let old = c.in_ok-findings.findings in
+    let new = c.add_output.new.findings in
+    c.in_ok-findings.ensures.safe (none-before old new added.0 (output-told question old new added) no_error)
 
 pub returns-clause-matches_spec : goal.returns-clause-matches_spec
 returns-clause-matches_spec c =
-    let files = c.in_ok-add_files.ensures in
-    let schema = c.in_ok-add_schema.ensures.matches_spec in
-    let given = c.in_ok-add_given.ensures in
-    let new = set_view c.add_files.new.set in
-    let first : errors_in c.add_files.new.self ≡ files.0 = files.2 ∙ ap (λ xs. errors_in xs ++ files.0) c.new-findings.ensures in
-    let listed = subst (λ fs. AreOfFiles (set_view c.with_hash-set.result) fs new files.0) c.as_slice-files.ensures.value files.1 in
-    let are_of = subst (λ old. AreOfFiles old c.args.sources.now.templates.items new files.0) c.with_hash-set.ensures.empty listed in (
-      new,
-      files.0,
-      schema.0,
-      given.0,
-      given.2 ∙ ap (λ xs. xs ++ given.0) (schema.2 ∙ ap (λ xs. xs ++ schema.0) first),
-      are_of,
-      may-be c.args.sources.now.schema c.add_files.new.self files.0 schema.0 first schema.1,
-      given.1,
-    )
+    let added = c.in_ok-add_output.ensures in
+    let old = c.in_ok-findings.findings in
+    let new = c.add_output.new.findings in
+    (errors_in old, added.0, output-told c.args.question.now old new added, c.in_ok-findings.ensures.matches_spec, added.1)
 
-pub returns-clause-safe : goal.returns-clause-safe
-returns-clause-safe c = λ none.
-    let files = c.in_ok-add_files.ensures in
-    let schema = c.in_ok-add_schema.ensures.matches_spec in
-    let given = c.in_ok-add_given.ensures in
-    let new = set_view c.add_files.new.set in
-    let first : errors_in c.add_files.new.self ≡ files.0 = files.2 ∙ ap (λ xs. errors_in xs ++ files.0) c.new-findings.ensures in
-    let listed = subst (λ fs. AreOfFiles (set_view c.with_hash-set.result) fs new files.0) c.as_slice-files.ensures.value files.1 in
-    let are_of = subst (λ old. AreOfFiles old c.args.sources.now.templates.items new files.0) c.with_hash-set.ensures.empty listed in
-    let none_of_files = none-before c.add_schema.new.findings c.add_given.new.self given.0 given.2 none in
-    let none_at_first = none-before c.add_files.new.self c.add_schema.new.findings schema.0 schema.2 none_of_files in (
-      new,
-      files-accepted [] c.args.sources.now.templates.items new files.0 are_of (none-after [] c.add_files.new.self files.0 first none_at_first),
-      data-valued c.args.sources.now.«data» given.0 given.1 (none-after c.add_schema.new.findings c.add_given.new.self given.0 given.2 none),
-      c.in_ok-add_schema.ensures.safe none_of_files,
-    )
+pub returns-clause-values : goal.returns-clause-values
+returns-clause-values c = λ no_error.
+    let added = c.in_ok-add_output.ensures in
+    let question = c.args.question.now in
+    let old = c.in_ok-findings.findings in
+    let new = c.add_output.new.findings in
+    let before = none-before old new added.0 (output-told question old new added) no_error in
+    subst (λ found. IsValued question c.args.sources.now found) (sym (as-before question old new added no_error)) (c.in_ok-findings.ensures.values before)

@@ -1,7 +1,7 @@
 use Rattle.std.proofs.Common.{◌≡◌, Ok, subst, sym}
 use Rattle.serde_json.specs.View.{view}
 use Rattle.tmpl_values.specs.Json.{data_of, tree_value}
-use Rattle.tmpl_json_schema.specs.Document.{conforms_in}
+use Rattle.tmpl_json_schema.specs.Document.{IsOfSchema}
 use Rattle.tmpl_json_schema.proofs.ConformLemmas.{if-some}
 use Rattle.tmpl_json_schema.proofs.DocumentLemmas.{document-read}
 use Rattle.tmpl_report.proofs.FailureLemmas.{value-read}
@@ -14,4 +14,4 @@ returns-in-Ok c = λ e v is.
     let d = view c.in-Ok.value in
     let said = c.in-Ok.ensures.ok in
     let has : data_of bytes ≡ Ok v = subst (λ bs. data_of bs ≡ Ok v) (sym c.as_bytes.ensures.value) is in
-    (120, if-some (conforms_in root 120 root) (tree_value d) v (c.conforms.ensures e) (value-read bytes d v (document-read bytes d said.0 said.1) has))
+    if-some (IsOfSchema root) (tree_value d) v (c.conforms_to.ensures e) (value-read bytes d v (document-read bytes d said.0 said.1) has)

@@ -1,0 +1,330 @@
+//! What a fault of a run is about: the operands of its command, and of which kind their values are.
+
+use crate::commands::{Found, Given, Wanted, commands_at, is_called};
+use serde_json::{Map, Value};
+use std::alloc::{AllocError, Global};
+use std::str::from_utf8;
+use tmpl_engine::{RunFault, RunFaultKind};
+use tmpl_funcs::{CallFault, Func};
+use tmpl_hints::Sentence;
+use tmpl_syntax::Set;
+use tmpl_values::Bytes;
+
+/// The most keys of a map that are shown.
+const MOST_KEYS: usize = 5;
+
+/// How the name of a template begins that is not there so that its call ends the run.
+const STOP: &[u8] = b"stop: ";
+
+/// What is known of a fault besides the words of `tmpl`.
+#[derive(Drop)]
+pub(crate) struct Detail {
+    /// The message about it, which is empty where no more is known.
+    pub(crate) text: String,
+    /// How many bytes of the file stand before the action, where that is found.
+    pub(crate) start: Option<usize>,
+}
+
+/// What is known of a fault. The template that is rendered has this name, and starts with these data.
+pub(crate) fn detail_of(
+    alloc: Global,
+    set: &Set,
+    name: &[u8],
+    data: &Value,
+    fault: &RunFault<'_>,
+) -> Result<Detail, AllocError> {
+    let found = found_for(alloc, set, name, data, fault)?;
+    let text = text_of(alloc, fault, found.as_slice())?;
+    let start = found.first().map(|first| first.start);
+    Ok(Detail { text, start })
+}
+
+/// The message about a fault, where these commands are found.
+fn text_of(alloc: Global, fault: &RunFault<'_>, found: &[Found<'_>]) -> Result<String, AllocError> {
+    let said = Sentence::new(alloc);
+    match fault.kind {
+        RunFaultKind::Call(func, why) => say_call(said, func, why, operands_of(found)),
+        RunFaultKind::NoField(_) => say_no_field(said, value_of(found)),
+        RunFaultKind::NoEntry(field) => say_no_entry(said, field, value_of(found)),
+        RunFaultKind::NotARange => say_no_range(said, operands_of(found)),
+        RunFaultKind::NotAFunction => said.say("what is no function takes no argument"),
+        RunFaultKind::NilCommand => said.say("nil stands only as an argument"),
+        RunFaultKind::NoTemplate(called) if !called.starts_with(STOP) => {
+            said.say("no file defines it")
+        }
+        _ => said,
+    }
+    .finish()
+}
+
+/// The commands that the fault may be of.
+fn found_for<'w>(
+    alloc: Global,
+    set: &'w Set,
+    name: &[u8],
+    data: &'w Value,
+    fault: &RunFault<'w>,
+) -> Result<Vec<Found<'w>>, AllocError> {
+    let wanted = match fault.kind {
+        RunFaultKind::Call(func, _) => Wanted::Call(func),
+        RunFaultKind::NoField(field) | RunFaultKind::NoEntry(field) => Wanted::Field(field),
+        RunFaultKind::NotARange => Wanted::Range,
+        RunFaultKind::NoTemplate(called) => Wanted::Template(called),
+        _ => Wanted::Any,
+    };
+    let Some(tree) = set.get(fault.template) else {
+        return Ok(Vec::new(alloc));
+    };
+    let is_known = fault.template == name && !is_called(set, name);
+    let start = if is_known { Some(data) } else { None };
+    let mut found = commands_at(alloc, tree, fault.line, wanted, start)?;
+    found.retain(|found| !is_fine(wanted, found));
+    Ok(found)
+}
+
+/// Whether a command is seen not to fail: one that asks for the length of what has one, or for a field that is there.
+fn is_fine(wanted: Wanted<'_>, found: &Found<'_>) -> bool {
+    let [given] = found.operands.as_slice() else {
+        return false;
+    };
+    match (wanted, value_in(given)) {
+        (Wanted::Call(Func::Len), Some(value)) => has_length(value),
+        (Wanted::Field(name), Some(value)) => has_field(value, name),
+        _ => false,
+    }
+}
+
+/// The value of a chain of fields.
+fn value_in<'w>(given: &Given<'w>) -> Option<&'w Value> {
+    match given {
+        Given::Chain { value, .. } => Some(*value),
+        _ => None,
+    }
+}
+
+/// Whether a value has a length.
+fn has_length(value: &Value) -> bool {
+    value.is_string() || value.is_array() || value.is_object()
+}
+
+/// Whether a value has a field of this name.
+fn has_field(value: &Value, name: &[u8]) -> bool {
+    match from_utf8(name) {
+        Ok(name) => value.get(name).is_some(),
+        Err(_) => false,
+    }
+}
+
+/// The operands of the only command, if there is one.
+fn operands_of<'f>(found: &'f [Found<'_>]) -> &'f [Given<'f>] {
+    let [only] = found else {
+        return &[];
+    };
+    only.operands.as_slice()
+}
+
+/// The only operand of the only command, if there is one.
+fn value_of<'f>(found: &'f [Found<'_>]) -> Given<'f> {
+    match operands_of(found) {
+        [only] => *only,
+        _ => Given::Unknown,
+    }
+}
+
+/// Says why a call of a function fails.
+fn say_call(said: Sentence, func: Func, why: CallFault, operands: &[Given<'_>]) -> Sentence {
+    if let (Func::Len, [operand]) = (func, operands) {
+        if is_known(operand) {
+            return say_known(said, operand).say(", which has no length");
+        }
+    }
+    if matches!(why, CallFault::WrongCount) {
+        return said;
+    }
+    let (said, is_said) = say_operands(said, operands);
+    let said = if is_said { said.say("; ") } else { said };
+    said.say(taken_by(func, why))
+}
+
+/// What a function takes.
+fn taken_by(func: Func, why: CallFault) -> &'static str {
+    match (func, why) {
+        (Func::Len, _) => "it takes a string, a list or a map",
+        (Func::Index, CallFault::OutOfRange) => "an index is from 0 to one below the length",
+        (Func::Index, _) => "it takes a list or a string and integers, or a map and strings",
+        (Func::Slice, CallFault::OutOfRange) => "the bounds rise from 0 to the length",
+        (Func::Slice, _) => "it takes a string or a list, and integers",
+        (Func::Eq | Func::Ne, _) => {
+            "it compares two booleans, two integers, two strings, or anything with nil"
+        }
+        (Func::Lt | Func::Le | Func::Gt | Func::Ge, _) => {
+            "it compares two integers or two strings"
+        }
+        (Func::Printf, CallFault::FormatRefused) => {
+            "each form of the format takes one argument, of its kind"
+        }
+        (Func::Printf, _) => "its format is a string",
+        _ => "it takes arguments of other kinds",
+    }
+}
+
+/// Says what is known of operands, one after the other, and whether something is.
+fn say_operands(said: Sentence, operands: &[Given<'_>]) -> (Sentence, bool) {
+    let mut said = said;
+    let mut is_said = false;
+    for operand in operands {
+        if is_known(operand) {
+            said = if is_said { said.say(", ") } else { said };
+            said = say_known(said, operand);
+            is_said = true;
+        }
+    }
+    (said, is_said)
+}
+
+/// Whether something is known of an operand.
+fn is_known(operand: &Given<'_>) -> bool {
+    !matches!(operand, Given::Unknown)
+}
+
+/// Says that a value has no fields.
+fn say_no_field(said: Sentence, given: Given<'_>) -> Sentence {
+    match given {
+        Given::Unknown => said.say("only a map has fields"),
+        _ => say_known(said, &given).say(", which has no fields"),
+    }
+}
+
+/// Says which keys a map has instead.
+fn say_no_entry(said: Sentence, field: &[u8], given: Given<'_>) -> Sentence {
+    match given {
+        Given::Chain {
+            value: Value::Object(members),
+            ..
+        } => {
+            let said = say_keys(say_subject(said, &given), members);
+            say_given(said.say(": where it may be absent write index "), &given)
+                .say(" ")
+                .quote(field)
+        }
+        _ => said
+            .say("where it may be absent write index, as in index . ")
+            .quote(field),
+    }
+}
+
+/// Says which keys a map has.
+fn say_keys(said: Sentence, members: &Map<String, Value>) -> Sentence {
+    if members.is_empty() {
+        return said.say(" is an empty map");
+    }
+    let mut said = said.say(" has ");
+    for (index, key) in members.keys().enumerate() {
+        if index == MOST_KEYS {
+            return said.say(" and more");
+        }
+        let comma = if index == 0 { "" } else { ", " };
+        said = said.say(comma).quote(key.as_bytes());
+    }
+    said
+}
+
+/// Says that a range does not visit a value.
+fn say_no_range(said: Sentence, operands: &[Given<'_>]) -> Sentence {
+    match operands {
+        [operand] if is_known(operand) => say_known(said, operand).say(
+            ": a range visits a list, a map or the numbers below an integer",
+        ),
+        _ => said.say("a range visits a list, a map or the numbers below an integer"),
+    }
+}
+
+/// Says what an operand is.
+fn say_known(said: Sentence, given: &Given<'_>) -> Sentence {
+    say_kind(say_subject(said, given).say(" is "), given)
+}
+
+/// Says an operand as the subject of a sentence, which is no dot alone.
+fn say_subject(said: Sentence, given: &Given<'_>) -> Sentence {
+    match given {
+        Given::Chain {
+            is_start: false,
+            names,
+            ..
+        } if names.is_empty() => said.say("dot"),
+        _ => say_given(said, given),
+    }
+}
+
+/// Says an operand as a template has it.
+fn say_given(said: Sentence, given: &Given<'_>) -> Sentence {
+    match given {
+        Given::Chain {
+            is_start,
+            names,
+            ..
+        } => say_chain(
+            if *is_start { said.say("$") } else { said },
+            *is_start,
+            *names,
+        ),
+        Given::Number(number) => say_number(said, *number),
+        Given::Text(text) => said.quote(*text),
+        Given::Bool(is_true) => said.say(if *is_true { "true" } else { "false" }),
+        Given::Unknown => said,
+    }
+}
+
+/// Says a chain of fields.
+fn say_chain(said: Sentence, is_start: bool, names: &[Bytes]) -> Sentence {
+    if names.is_empty() && !is_start {
+        return said.say(".");
+    }
+    let mut said = said;
+    for name in names {
+        said = said.say(".").show(name.as_slice());
+    }
+    said
+}
+
+/// Says of which kind the value of an operand is, and which it is.
+fn say_kind(said: Sentence, given: &Given<'_>) -> Sentence {
+    match given {
+        Given::Chain { value, .. } => say_value(said, *value),
+        Given::Number(_) => said.say("an integer"),
+        Given::Text(_) => said.say("a string"),
+        Given::Bool(_) => said.say("a boolean"),
+        Given::Unknown => said,
+    }
+}
+
+/// Says a value, with its kind.
+fn say_value(said: Sentence, value: &Value) -> Sentence {
+    match value {
+        Value::Null => said.say("null"),
+        Value::Bool(is_true) => said.say(if *is_true {
+            "a boolean (true)"
+        } else {
+            "a boolean (false)"
+        }),
+        Value::Number(number) => match number.as_i64() {
+            Some(number) => say_number(said.say("an integer ("), number).say(")"),
+            None => said.say("a number"),
+        },
+        Value::String(text) => said.say("a string (").quote(text.as_bytes()).say(")"),
+        Value::Array(items) => say_count(said.say("a list of "), items.len(), "item"),
+        Value::Object(members) => say_count(said.say("a map of "), members.len(), "key"),
+    }
+}
+
+/// Says how many there are of something.
+fn say_count(said: Sentence, count: usize, name: &str) -> Sentence {
+    let said = said.count(count as u64).say(" ").say(name);
+    if count == 1 { said } else { said.say("s") }
+}
+
+/// Says an integer.
+fn say_number(said: Sentence, number: i64) -> Sentence {
+    let said = if number < 0 { said.say("-") } else { said };
+    said.count(number.unsigned_abs())
+}

@@ -1,0 +1,160 @@
+//! Whether the data conforms to the schema, and where it does not.
+ghost use Rattle.std.specs.Prelude.{◌≡◌, IfOk, OnOk, false, true};
+ghost use Rattle.tmpl_report.specs.Finding.{has_error};
+ghost use Rattle.tmpl_report.specs.Rendered.{IsHeldTo, IsInside, IsUnfit, Mentions};
+ghost use Rattle.tmpl_report.specs.computed.Entries.{AddsUnfit};
+
+use crate::entry::{Entry, Level};
+use crate::findings::Findings;
+use crate::reasons::{line_of, position_of};
+use crate::rule::DOES_NOT_CONFORM;
+use crate::source::Source;
+use serde_json::Value;
+use std::alloc::{AllocError, Global};
+use tmpl_hints::Sentence;
+use tmpl_json_schema::{
+    SchemaFault, Violation, conforms_to, read_document, read_schema, violations_of,
+};
+
+/// The most places that are reported.
+const MOST: usize = 100;
+
+/// Adds where the data does not conform to the schema, if both are read.
+pub(crate) fn add_held<'a>(
+    alloc: Global,
+    findings: &mut Findings<'a>,
+    schema: &Source<'a>,
+    data: &Source<'a>,
+) -> Result<(), AllocError>
+    ensures held { OnOk result (has_error findings.new ≡ false → IsHeldTo schema.now «data».now) }
+    ensures told { OnOk result (AddsUnfit findings.old findings.new) }
+{
+    let Some(document) = read_document(alloc, schema.bytes.as_slice())? else {
+        return Ok(());
+    };
+    let value = match Value::from_slice(alloc, data.bytes.as_slice()) {
+        Ok(value) => value,
+        Err(error) if error.is_memory() => return Err(AllocError),
+        Err(_) => return add_unheld(alloc, findings, data),
+    };
+    match read_schema(alloc, &document) {
+        Ok(_) => {}
+        Err(SchemaFault::OutOfMemory) => return Err(AllocError),
+        Err(SchemaFault::Refused(_)) => return add_unheld(alloc, findings, data),
+    }
+    if conforms_to(alloc, &document, &value) {
+        return Ok(());
+    }
+    let found = violations_of(alloc, &document, &value, MOST)?;
+    add_violations(alloc, findings, schema, data, found.as_slice())?;
+    if has_text_rules(schema.bytes.as_slice()) {
+        return Ok(());
+    }
+    add_unheld(alloc, findings, data)
+}
+
+/// Whether a schema asks for more of strings than is looked at.
+fn has_text_rules(schema: &[u8]) -> bool
+    ensures { result ≡ true → Mentions schema.now }
+{
+    mentions(schema, b"\"pattern\"") || mentions(schema, b"\"format\"")
+}
+
+/// Whether a text stands in another.
+fn mentions(bytes: &[u8], text: &[u8]) -> bool
+    ensures { result ≡ true → IsInside text.now bytes.now }
+{
+    for at in 0..bytes.len() {
+        if bytes.get(at..).is_some_and(|rest| rest.starts_with(text)) {
+            return true;
+        }
+    }
+    false
+}
+
+/// Adds places at which the data does not conform to the schema.
+fn add_violations<'a>(
+    alloc: Global,
+    findings: &mut Findings<'a>,
+    schema: &Source<'a>,
+    data: &Source<'a>,
+    violations: &[Violation],
+) -> Result<(), AllocError>
+    ensures { OnOk result (AddsUnfit findings.old findings.new) }
+{
+    for violation in violations {
+        let entry = violation_entry(alloc, schema, data, violation)?;
+        findings.add(entry)?;
+    }
+    Ok(())
+}
+
+/// Adds that it is not seen that the data conforms, unless there are errors.
+fn add_unheld<'a>(
+    alloc: Global,
+    findings: &mut Findings<'a>,
+    data: &Source<'a>,
+) -> Result<(), AllocError>
+    ensures found { OnOk result (has_error findings.new ≡ true) }
+    ensures told { OnOk result (AddsUnfit findings.old findings.new) }
+{
+    if findings.has_errors() {
+        return Ok(());
+    }
+    let entry = Entry {
+        file: data.name,
+        level: Level::Error,
+        line: 1,
+        column: 1,
+        rule: DOES_NOT_CONFORM,
+        text: String::from_str(alloc, "does not conform: it is not seen that it does")?,
+        note: None,
+    };
+    findings.add(entry)
+}
+
+/// A place at which the data does not conform to the schema.
+fn violation_entry<'a>(
+    alloc: Global,
+    schema: &Source<'a>,
+    data: &Source<'a>,
+    violation: &Violation,
+) -> Result<Entry<'a>, AllocError>
+    ensures { IfOk result (λ entry. IsUnfit entry) }
+{
+    let (line, column) = position_of(data.bytes.as_slice(), violation.path.as_slice());
+    Ok(Entry {
+        file: data.name,
+        level: Level::Error,
+        line,
+        column,
+        rule: DOES_NOT_CONFORM,
+        text: violation_text(alloc, schema, violation)?,
+        note: None,
+    })
+}
+
+/// The message about a place at which the data does not conform to the schema.
+fn violation_text(
+    alloc: Global,
+    schema: &Source<'_>,
+    violation: &Violation,
+) -> Result<String, AllocError> {
+    let line = line_of(alloc, schema.bytes.as_slice(), violation.keyword.as_str())?;
+    let said = Sentence::new(alloc)
+        .say("does not conform: ")
+        .say(violation.place.as_str());
+    let said = if violation.place.is_empty() {
+        said
+    } else {
+        said.say(": ")
+    };
+    let said = said
+        .say(violation.text.as_str())
+        .say(" at ")
+        .say(schema.name);
+    match line {
+        Some(line) => said.say(":").count(line).finish(),
+        None => said.finish(),
+    }
+}

@@ -1,0 +1,111 @@
+//! Whether what a template writes is of a format.
+ghost use Rattle.std.specs.Prelude.{OnOk};
+ghost use Rattle.tmpl_report.specs.computed.Entries.{AddsBroken, AddsOfOutput};
+
+mod data;
+mod message;
+mod render;
+mod schema;
+mod spread;
+mod strings;
+
+use crate::findings::Findings;
+use crate::output::data::add_over_data;
+use crate::output::schema::add_over_schema;
+use crate::output::spread::add_file;
+use crate::source::{Question, Source, Sources};
+use std::alloc::{AllocError, Global};
+use tmpl_formats::Format;
+use tmpl_json_schema::read_document;
+use tmpl_syntax::{NameHash, Set};
+
+/// Adds where the output ceases to be of the format that is asked for, if one is and nothing else is wrong: over the data
+/// that is given, or else over data of the schema that are found.
+pub(crate) fn add_output<'a>(
+    alloc: Global,
+    hash: NameHash,
+    findings: &mut Findings<'a>,
+    question: &Question<'a>,
+    sources: &Sources<'a>,
+) -> Result<(), AllocError>
+    ensures { OnOk result (AddsOfOutput question.now findings.old findings.new) }
+{
+    let Some(word) = question.writes else {
+        return Ok(());
+    };
+    if findings.has_errors() {
+        return Ok(());
+    }
+    match question.first {
+        Some(first) => add_written(alloc, hash, findings, question, sources, word, first),
+        None => Ok(()),
+    }
+}
+
+/// The same where a format and files are given, and nothing is wrong.
+fn add_written<'a>(
+    alloc: Global,
+    hash: NameHash,
+    findings: &mut Findings<'a>,
+    question: &Question<'a>,
+    sources: &Sources<'a>,
+    word: &str,
+    first: &'a str,
+) -> Result<(), AllocError>
+    ensures { OnOk result (AddsBroken findings.old findings.new) }
+{
+    let Some(format) = Format::named(word.as_bytes()) else {
+        return Ok(());
+    };
+    let Some(set) = set_of(alloc, hash, sources)? else {
+        return Ok(());
+    };
+    if let Some(data) = &sources.data {
+        return add_over_data(
+            alloc, findings, &set, question, sources, data, first, &format,
+        );
+    }
+    let Some(schema) = &sources.schema else {
+        return Ok(());
+    };
+    add_of_schema(
+        alloc, findings, &set, question, sources, schema, first, &format,
+    )
+}
+
+/// Adds where the output is not of the format over data of the schema that are found.
+fn add_of_schema<'a>(
+    alloc: Global,
+    findings: &mut Findings<'a>,
+    set: &Set,
+    question: &Question<'a>,
+    sources: &Sources<'a>,
+    schema: &Source<'a>,
+    first: &'a str,
+    format: &Format,
+) -> Result<(), AllocError>
+    ensures { OnOk result (AddsBroken findings.old findings.new) }
+{
+    match read_document(alloc, schema.bytes.as_slice())? {
+        Some(document) => {
+            add_over_schema(
+                alloc, findings, set, question, sources, &document, first, format,
+            )
+        }
+        None => Ok(()),
+    }
+}
+
+/// The templates of the files; none where one is not accepted, or is missing.
+fn set_of(alloc: Global, hash: NameHash, sources: &Sources<'_>) -> Result<Option<Set>, AllocError> {
+    if sources.is_short {
+        return Ok(None);
+    }
+    let mut set = Set::with_hash(alloc, hash);
+    for file in sources.templates.as_slice() {
+        if !add_file(alloc, &mut set, file.name, file.bytes.as_slice())? {
+            return Ok(None);
+        }
+    }
+    Ok(Some(set))
+}

@@ -1,0 +1,209 @@
+//! The output of a template over data, where it ceases to be of a format, and which action wrote it there.
+ghost use Rattle.std.specs.Prelude.{IfOk, IfSome};
+ghost use Rattle.tmpl_values.specs.View.{value_of};
+ghost use Rattle.tmpl_engine.specs.View.{templates_in};
+ghost use Rattle.tmpl_report.specs.computed.Written.{IsBroken, IsOutput, output_rules};
+
+use crate::output::spread::{Origin, SpreadSet};
+use crate::source::Source;
+use std::alloc::{AllocError, Global};
+use tmpl_engine::{
+    Data, MissingKey, Options, RenderError, Renderer, RunFault, RunFaultKind, Set, Sink, SinkFault,
+};
+use tmpl_formats::{Format, Mistake, first_mistake};
+
+/// The limits of a render.
+const STEPS: u64 = 1_000_000;
+
+const DEPTH: u32 = 500;
+
+/// How often steps are halved: more than there are steps.
+const MOST_HALVES: usize = 64;
+
+/// The most bytes of output that are looked at.
+pub(super) const MOST_OUTPUT: usize = 16_000_000;
+
+/// Takes output up to a number of bytes, and keeps it.
+#[derive(Drop)]
+struct Kept {
+    bytes: Vec<u8>,
+    failures: u64,
+}
+
+impl Sink for Kept {
+    ghost use Rattle.std.specs.Prelude.{Some};
+
+    ghost so_far = { λ s. record { bytes = Some s.bytes.items; failures = s.failures } };
+
+    fn put(&mut self, bytes: &[u8]) -> Result<usize, SinkFault> {
+        let is_full = bytes.len() > MOST_OUTPUT.saturating_sub(self.bytes.len());
+        if is_full || self.bytes.extend_from_slice(bytes).is_err() {
+            self.failures += 1;
+            return Err(SinkFault);
+        }
+        Ok(bytes.len())
+    }
+}
+
+/// Takes output up to a number of bytes, and forgets it.
+#[derive(Drop)]
+struct Counted {
+    left: usize,
+    failures: u64,
+}
+
+impl Sink for Counted {
+    ghost use Rattle.std.specs.Prelude.{None};
+
+    ghost so_far = { λ s. record { bytes = None; failures = s.failures } };
+
+    fn put(&mut self, bytes: &[u8]) -> Result<usize, SinkFault> {
+        if bytes.len() > self.left {
+            self.failures += 1;
+            return Err(SinkFault);
+        }
+        self.left -= bytes.len();
+        Ok(bytes.len())
+    }
+}
+
+/// The template that is rendered, and the format that its output has to be of.
+#[derive(Clone, Copy)]
+pub(super) struct Writer<'w> {
+    pub(super) alloc: Global,
+    pub(super) set: &'w Set,
+    pub(super) renderer: &'w Renderer,
+    pub(super) name: &'w [u8],
+    pub(super) mode: MissingKey,
+    pub(super) format: &'w Format,
+}
+
+/// An output that is not of the format.
+#[derive(Drop)]
+pub(super) struct Broken {
+    pub(super) output: Vec<u8>,
+    pub(super) mistake: Mistake,
+}
+
+impl<'w> Writer<'w> {
+    /// The output over data; none where the run has a fault or meets a limit.
+    fn output_over(&self, tree: &Data) -> Result<Option<Vec<u8>>, AllocError>
+        ensures { IfOk result (λ output. IfSome output (λ bytes. IsOutput (output_rules self.now.mode)
+            (templates_in self.now.renderer.now) self.now.name.now (value_of tree.now) bytes.items)) }
+    {
+        let mut out = Kept {
+            bytes: Vec::new(self.alloc),
+            failures: 0,
+        };
+        let options = Options {
+            missing_key: self.mode,
+            depth: DEPTH,
+            steps: STEPS,
+        };
+        match self
+            .renderer
+            .render(self.alloc, self.name, Some(tree), &options, &mut out)
+        {
+            Ok(()) => {
+                let Kept { bytes, .. } = out;
+                Ok(Some(bytes))
+            }
+            Err(RenderError::OutOfMemory) => Err(AllocError),
+            Err(_) => Ok(None),
+        }
+    }
+
+    /// The output over data, where it is not of the format; none also where the run has a fault or meets a limit.
+    pub(super) fn broken_over(&self, tree: &Data) -> Result<Option<Broken>, AllocError>
+        ensures { IfOk result (λ found. IfSome found (λ broken. IsBroken (output_rules self.now.mode)
+            (templates_in self.now.renderer.now) self.now.name.now (value_of tree.now) self.now.format.now
+            broken.output.items)) }
+    {
+        let Some(output) = self.output_over(tree)? else {
+            return Ok(None);
+        };
+        let found = first_mistake(self.alloc, self.format, output.as_slice())?;
+        match found {
+            Some(mistake) => Ok(Some(Broken { output, mistake })),
+            None => Ok(None),
+        }
+    }
+
+    /// The fault of a run of the spread templates of so many steps, if it is that no step is left before more bytes are
+    /// written than these.
+    fn cut_at<'r>(
+        &self,
+        renderer: &'r Renderer,
+        tree: &'r Data,
+        steps: u64,
+        bytes: usize,
+    ) -> Result<Option<RunFault<'r>>, AllocError>
+    where
+        'w: 'r,
+    {
+        let mut out = Counted {
+            left: bytes,
+            failures: 0,
+        };
+        let options = Options {
+            missing_key: self.mode,
+            depth: DEPTH,
+            steps: steps.max(1).min(STEPS),
+        };
+        match renderer.render(self.alloc, self.name, Some(tree), &options, &mut out) {
+            Err(RenderError::OutOfMemory) => Err(AllocError),
+            Err(RenderError::Fault(fault)) if matches!(&fault.kind, RunFaultKind::StepsSpent(_)) =>
+                { Ok(Some(fault)) }
+            _ => Ok(None),
+        }
+    }
+
+    /// The node that writes the byte before which there are this many of the output, or the last node where it has no
+    /// more. A run of fewer steps writes a prefix of the output, so it is the one for which the steps run out first.
+    pub(super) fn origin_of<'a>(
+        &self,
+        files: &[Source<'a>],
+        tree: &Data,
+        offset: usize,
+    ) -> Result<Option<Origin<'a>>, AllocError> {
+        let Some(spread) = SpreadSet::of(self.alloc, self.set, files)? else {
+            return Ok(None);
+        };
+        let renderer = Renderer::new(self.alloc, &spread.set)?;
+        let mut few: u64 = 0;
+        let mut enough: u64 = STEPS;
+        let mut origin = None;
+        for _ in 0..MOST_HALVES {
+            if enough.saturating_sub(few) <= 1 {
+                break;
+            }
+            let middle = few.saturating_add(enough.saturating_sub(few) / 2);
+            match self.cut_at(&renderer, tree, middle, offset)? {
+                Some(fault) => {
+                    few = middle;
+                    origin = spread.origin(fault.file, fault.line);
+                }
+                None => enough = middle,
+            }
+        }
+        if few == 0 {
+            return Ok(self.first_origin(files));
+        }
+        Ok(origin)
+    }
+
+    /// The first node of the template.
+    fn first_origin<'a>(&self, files: &[Source<'a>]) -> Option<Origin<'a>> {
+        let tree = self.set.get(self.name)?;
+        let first = tree.nodes.as_slice().first()?;
+        for file in files {
+            if file.name.as_bytes() == tree.file.as_slice() {
+                return Some(Origin {
+                    file: file.name,
+                    start: first.start,
+                });
+            }
+        }
+        None
+    }
+}

@@ -1,0 +1,216 @@
+//! The output over data of a schema: values for which it is not of the format are searched for. That none is found proves
+//! nothing.
+ghost use Rattle.std.specs.Prelude.{OnOk};
+ghost use Rattle.tmpl_report.specs.computed.Entries.{AddsBroken};
+
+use crate::findings::Findings;
+use crate::output::message::{broken_entry, broken_text, shown_text};
+use crate::output::render::Writer;
+use crate::output::spread::Origin;
+use crate::output::strings::{HOSTILE, count_strings, with_string};
+use crate::schema::asked_name;
+use crate::source::{Question, Sources};
+use serde_json::Value;
+use std::alloc::{AllocError, Global};
+use tmpl_engine::{Data, DataFault, MissingKey, Renderer};
+use tmpl_formats::Format;
+use tmpl_json_schema::{Draw, Flip, LEVELS, conforms};
+use tmpl_syntax::Set;
+
+/// The most renders, and the most bytes of data and output of all of them.
+const MOST_RENDERS: usize = 2_000;
+
+const MOST_BYTES: usize = 8_000_000;
+
+/// The most actions that are reported.
+const MOST_FOUND: usize = 20;
+
+/// The most bytes of data that are shown.
+const MOST_SHOWN: usize = 500;
+
+/// An action of which an output is not of the format.
+#[derive(Drop)]
+struct Found<'a> {
+    origin: Option<Origin<'a>>,
+    text: String,
+    note: String,
+}
+
+/// What a search has found, and how much of it is left.
+#[derive(Drop)]
+struct Hunt<'a> {
+    found: Vec<Found<'a>>,
+    renders: usize,
+    bytes: usize,
+}
+
+impl Hunt<'_> {
+    fn is_over(&self) -> bool {
+        self.renders == 0 || self.bytes == 0 || self.found.len() >= MOST_FOUND
+    }
+}
+
+/// What is searched: the outputs of a template over data of a document.
+#[derive(Clone, Copy)]
+struct Search<'a, 's> {
+    writer: Writer<'s>,
+    root: &'s Value,
+    sources: &'s Sources<'a>,
+    /// The name of the format.
+    word: &'s str,
+}
+
+/// Adds where the output is not of the format for data of the schema that are found.
+pub(crate) fn add_over_schema<'a, 's>(
+    alloc: Global,
+    findings: &mut Findings<'a>,
+    set: &'s Set,
+    question: &'s Question<'a>,
+    sources: &'s Sources<'a>,
+    document: &'s Value,
+    first: &'a str,
+    format: &'s Format,
+) -> Result<(), AllocError>
+    ensures { OnOk result (AddsBroken findings.old findings.new) }
+{
+    let renderer = Renderer::new(alloc, set)?;
+    let search = Search {
+        writer: Writer {
+            alloc,
+            set,
+            renderer: &renderer,
+            name: asked_name(question, first),
+            mode: question.mode.unwrap_or(MissingKey::Default),
+            format,
+        },
+        root: document,
+        sources,
+        word: question.writes.unwrap_or(""),
+    };
+    let mut hunt = Hunt {
+        found: Vec::new(alloc),
+        renders: MOST_RENDERS,
+        bytes: MOST_BYTES,
+    };
+    search.look(&mut hunt, true)?;
+    search.look(&mut hunt, false)?;
+    let Hunt { found, .. } = hunt;
+    add_found(findings, sources, first, found)
+}
+
+/// Adds what is found.
+fn add_found<'a>(
+    findings: &mut Findings<'a>,
+    sources: &Sources<'a>,
+    first: &'a str,
+    found: Vec<Found<'a>>,
+) -> Result<(), AllocError>
+    ensures { OnOk result (AddsBroken findings.old findings.new) }
+{
+    for one in found.into_iter() {
+        let Found { origin, text, note } = one;
+        let entry = broken_entry(sources, first, origin, text, note);
+        findings.add(entry)?;
+    }
+    Ok(())
+}
+
+impl<'a> Search<'a, '_> {
+    /// Tries the usual value of the schema, and each that differs from it by one choice.
+    fn look(&self, hunt: &mut Hunt<'a>, is_lean: bool) -> Result<(), AllocError> {
+        let counts = self.try_drawn(hunt, is_lean, &[])?;
+        for (point, count) in counts.iter().enumerate() {
+            for away in 1..*count {
+                if hunt.is_over() {
+                    return Ok(());
+                }
+                self.try_drawn(hunt, is_lean, &[Flip { point, away }])?;
+            }
+        }
+        Ok(())
+    }
+
+    /// Tries the value of these choices, also with other strings in it. Gives between how many was chosen, at each point.
+    fn try_drawn(
+        &self,
+        hunt: &mut Hunt<'a>,
+        is_lean: bool,
+        flips: &[Flip],
+    ) -> Result<Vec<usize>, AllocError> {
+        let mut draw = Draw::new(self.writer.alloc, self.root, is_lean, flips);
+        let drawn = draw.whole()?;
+        let Draw { counts, .. } = draw;
+        if let Some(value) = drawn {
+            self.try_value(hunt, &value)?;
+            self.try_strings(hunt, &value)?;
+        }
+        Ok(counts)
+    }
+
+    /// Tries a value with each hostile string in the place of each of its strings.
+    fn try_strings(&self, hunt: &mut Hunt<'a>, value: &Value) -> Result<(), AllocError> {
+        let count = count_strings(value, LEVELS);
+        for number in 1..=count.min(MOST_RENDERS) {
+            for text in HOSTILE {
+                if hunt.is_over() {
+                    return Ok(());
+                }
+                let mut left = number;
+                let other = with_string(self.writer.alloc, value, text, &mut left)?;
+                self.try_value(hunt, &other)?;
+            }
+        }
+        Ok(())
+    }
+
+    /// Renders the template over a value, if that conforms, and keeps what is found.
+    fn try_value(&self, hunt: &mut Hunt<'a>, value: &Value) -> Result<(), AllocError> {
+        hunt.renders = hunt.renders.saturating_sub(1);
+        if !conforms(self.root, LEVELS, self.root, value) {
+            return Ok(());
+        }
+        let data = value.to_string(self.writer.alloc)?;
+        hunt.bytes = hunt.bytes.saturating_sub(data.len());
+        let tree = match Data::from_json(self.writer.alloc, data.as_bytes()) {
+            Ok(tree) => tree,
+            Err(DataFault::OutOfMemory) => return Err(AllocError),
+            Err(_) => return Ok(()),
+        };
+        self.try_data(hunt, &tree, data.as_str())
+    }
+
+    /// Keeps what is found of the output over data, unless it is of an action of which something is found.
+    fn try_data(&self, hunt: &mut Hunt<'a>, tree: &Data, data: &str) -> Result<(), AllocError> {
+        let alloc = self.writer.alloc;
+        let Some(broken) = self.writer.broken_over(tree)? else {
+            return Ok(());
+        };
+        hunt.bytes = hunt.bytes.saturating_sub(broken.output.len());
+        let files = self.sources.templates.as_slice();
+        let origin = self.writer.origin_of(files, tree, broken.mistake.offset)?;
+        let text = broken_text(alloc, "may write no ", self.word, &broken)?;
+        let shown = if data.len() > MOST_SHOWN {
+            None
+        } else {
+            Some(data)
+        };
+        let note = shown_text(alloc, &broken, shown)?;
+        let is_there = hunt
+            .found
+            .iter()
+            .any(|other| is_same(&other.origin, &origin));
+        if !is_there {
+            hunt.found.push(Found { origin, text, note })?;
+        }
+        Ok(())
+    }
+}
+
+/// Whether two actions are the same.
+fn is_same(one: &Option<Origin<'_>>, other: &Option<Origin<'_>>) -> bool {
+    match (one, other) {
+        (Some(one), Some(other)) => one.file == other.file && one.start == other.start,
+        (None, None) => true,
+        _ => false,
+    }
+}
