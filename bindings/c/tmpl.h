@@ -48,7 +48,8 @@ enum {
     TMPL_DATA = 5,     /* the data is not JSON, or a number of it is no integer or is out of range */
     TMPL_FULL = 6,     /* the text does not fit: `out` has it truncated to the capacity, and `needed` is its size. Or it is
                           longer than `output` of the settings: then `needed` is that, and its first bytes are there */
-    TMPL_MEMORY = 7    /* out of memory: `out` has a prefix of the text */
+    TMPL_MEMORY = 7,   /* out of memory: `out` has a prefix of the text */
+    TMPL_FORMAT = 8    /* the text is not of the format `writes` of the settings, and is not given: `out` is empty */
 };
 
 /* A template file. Both its name and its bytes are borrowed for the call. */
@@ -59,8 +60,10 @@ typedef struct tmpl_file {
     size_t size;       /* how many bytes that is; more than 16,777,216 are refused */
 } tmpl_file;
 
-/* How to run a template. All zeros are the defaults. A run that comes to the limit of steps or of depth is a fault, TMPL_FAULT. */
+/* How to run a template, as in `tmpl_settings settings = TMPL_SETTINGS;`. All zeros are the defaults. A run that comes to the limit of
+ * steps or of depth is a fault, TMPL_FAULT. */
 typedef struct tmpl_settings {
+    size_t size;         /* sizeof(tmpl_settings), by which a later library knows which settings there are; 0: those named here */
     uint64_t steps;      /* how many nodes and turns of a `range` a run may take; 0: 1,000,000,000. They are not time: one step
                             may print a large value. Nor are they bytes of text */
     uint32_t depth;      /* how deep calls of templates may be nested; 0: 1,000; above 100,000: 100,000. Each takes memory for
@@ -69,7 +72,12 @@ typedef struct tmpl_settings {
     uint8_t print;       /* 1: print the set of templates, and run nothing; the name and the data are not looked at */
     size_t output;       /* how many bytes of text a call may write; 0: any number. Where there are more it stops, gives TMPL_FULL,
                             and has written exactly those that come first. It gathers no more than one byte more than these */
+    const char *writes;  /* the format of which the text has to be: `json`, `jsonl`, `env`, `nginx`, or `csv:3` with three
+                            columns. A text that is not is not given: TMPL_FORMAT, and a line that says where */
+    size_t writes_size;  /* how many bytes that has; 0: any text will do, and `writes` may be null */
 } tmpl_settings;
+
+#define TMPL_SETTINGS {sizeof(tmpl_settings), 0, 0, 0, 0, 0, "", 0}
 
 /* A caller-provided buffer for output. A call writes it from its first byte on. */
 typedef struct tmpl_buffer {

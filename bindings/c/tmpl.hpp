@@ -40,7 +40,7 @@ class error : public std::runtime_error {
     std::shared_ptr<const std::pair<std::string, std::string>> refused; // the file that is refused
 
 public:
-    int status;                ///< TMPL_FAULT, TMPL_NOT_TEXT, TMPL_REFUSED, TMPL_DATA or TMPL_FULL
+    int status;                ///< TMPL_FAULT, TMPL_NOT_TEXT, TMPL_REFUSED, TMPL_DATA, TMPL_FULL or TMPL_FORMAT
     std::string text;          ///< the text before the fault
     std::string file;          ///< the path of the template file that the line names, where it names one ..
     unsigned long line_number; ///< .. and the line there, from 1; else 0
@@ -290,7 +290,7 @@ public:
     }
 
     /// The text of the template of this name. All zeros are the default settings.
-    std::string render(std::string_view name, const data &with, const tmpl_settings &how = {}) {
+    std::string render(std::string_view name, const data &with, const tmpl_settings &how = TMPL_SETTINGS) {
         auto it = take();
         if (how.print != 1) with.share_with(&it->with);
         const int status = how.print != 1
@@ -298,7 +298,6 @@ public:
             : print(it->text);
         tmpl_data_free(&it->with); // so that it goes with its last `data`
         std::string text = inside::copied(it->text), line = inside::copied(it->line);
-        if (status == TMPL_FULL) line = "tmpl: more than " + std::to_string(how.output) + " bytes of output";
         if (text.size() > kept_size) tmpl_text_free(&it->text);
         give(std::move(it));
         return inside::judge(status, line, text), text;

@@ -45,6 +45,8 @@ type Options struct {
 	Print      bool // print the set, and run nothing
 	Output     uint // how many bytes of text a render may write: a text that is longer is status 6, with those that come first; 0 for any
 	Memory     uint // how many bytes of memory the library may take to parse, to read data and to run; 0 for any
+	// Writes is the format of which the text has to be, as json, env or csv:3; empty for any. A text that is not is not given: status 8.
+	Writes string
 }
 
 // Problem is an error in a template file, and where it is.
@@ -101,7 +103,6 @@ const (
 	notAccepted = 4       // the status of a file that is refused
 	stopped     = 1       // the status of a run that stopped
 	asJSON      = 1       // the form of findings that is asked for
-	full        = 6       // the status of a text that is longer than its limit
 	refused     = 7       // the status for out of memory
 	most        = 1000    // problems of files where nothing else is said
 	line        = 1 << 12 // bytes of the first buffer for a line
@@ -115,9 +116,10 @@ func copied(bytes []byte) *C.char {
 	return (*C.char)(at)
 }
 
-// settingsOf is how C has the options.
+// settingsOf is how C has the options; C.free frees its writes.
 func settingsOf(options Options) C.tmpl_settings {
-	settings := C.tmpl_settings{steps: C.uint64_t(options.Steps), depth: C.uint32_t(options.Depth), missing_key: C.uint8_t(options.MissingKey), output: C.size_t(options.Output)}
+	settings := C.tmpl_settings{size: C.sizeof_tmpl_settings, steps: C.uint64_t(options.Steps), depth: C.uint32_t(options.Depth), missing_key: C.uint8_t(options.MissingKey), output: C.size_t(options.Output)}
+	settings.writes, settings.writes_size = copied([]byte(options.Writes)), C.size_t(len(options.Writes))
 	if options.Print {
 		settings.print = 1
 	}
@@ -400,6 +402,7 @@ func (w *worker) execute(to io.Writer, name string, data []byte, options Options
 	}
 	settings, template := settingsOf(options), copied([]byte(name))
 	defer C.free(unsafe.Pointer(template))
+	defer C.free(unsafe.Pointer(settings.writes))
 	status := C.tmpl_render_text(&settings, &w.program, &w.data, template, C.size_t(len(name)), &w.text, &w.line)
 	_, err := to.Write(bytesOf(&w.text))
 	if w.text.size > kept {
@@ -407,9 +410,6 @@ func (w *worker) execute(to io.Writer, name string, data []byte, options Options
 	}
 	if err != nil {
 		return err
-	}
-	if status == full {
-		return ended(status, []byte(fmt.Sprintf("tmpl: more than %d bytes of output", options.Output)))
 	}
 	return ended(status, bytesOf(&w.line))
 }

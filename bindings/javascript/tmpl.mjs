@@ -7,7 +7,7 @@ const MISSING_KEY = { default: 0, invalid: 1, zero: 2, error: 3 };
 const STEPS = 10_000_000; // the steps that a run may take by default
 const ROOM = 1 << 16; // bytes of the first buffer for text
 const LINE = 1 << 12; // bytes of the first buffer for a line
-const FILE = 32, SETTINGS = 24, BUFFER = 32, KEPT = 8, TEXT = 24, NAME = 16, QUESTION = 72; // bytes of the structs of tmpl.h, whose pointers have 64 bits
+const FILE = 32, SETTINGS = 56, BUFFER = 32, KEPT = 8, TEXT = 24, NAME = 16, QUESTION = 72; // bytes of the structs of tmpl.h, whose pointers have 64 bits
 const SET = 0, PROGRAM = 1, DATA = 2, OUT = 3, SAID_AT = 4; // the parts of what templates keep
 const MOST = 1000; // problems of files that are kept where nothing else is said
 const SAID = "tmpl: ", ERROR = ": error: "; // before what a line says
@@ -112,16 +112,17 @@ function countOf(name, { [name]: count = 0 }) {
     return count;
 }
 
-/** The three words of the settings of tmpl.h, and the bytes of memory. */
+/** The words of the settings of tmpl.h before the format of the text, that format, and the bytes of memory. */
 function settingsOf(options = {}) {
-    refuseOthers(options, ["missingKey", "depth", "steps", "printed", "output", "memory"]);
+    refuseOthers(options, ["missingKey", "depth", "steps", "printed", "output", "memory", "writes"]);
     const { missingKey = "default", depth = 1000, steps = STEPS, printed = false } = options;
     if (!Object.hasOwn(MISSING_KEY, missingKey)) throw new RangeError(`missingKey is ${missingKey}`);
     if (!(Number.isInteger(depth) && depth >= 1 && depth <= 100_000)) throw new RangeError(`depth is ${depth}`);
     const isWhole = typeof steps === "bigint" || Number.isInteger(steps);
     if (!(isWhole && steps >= 1 && steps <= 2n ** 62n)) throw new RangeError(`steps is ${steps}`);
     const flags = MISSING_KEY[missingKey] | (printed ? 1 << 8 : 0), [output, memory] = [countOf("output", options), countOf("memory", options)];
-    return { words: [BigInt(steps), (BigInt(flags) << 32n) | BigInt(depth), BigInt(output)], output, memory };
+    const words = [BigInt(SETTINGS), BigInt(steps), (BigInt(flags) << 32n) | BigInt(depth), BigInt(output)];
+    return { words, memory, writes: encoded(options.writes ?? "").slice() };
 }
 
 // ---- what the module says, taken apart. Regular expressions may end the process where the stack is at its end, so there are none
@@ -242,7 +243,7 @@ class Host {
     }
 
     /** The text of a call that takes buffers for text and line. It is made again with more room where one of them does not fit. */
-    whole(call, size = 0, output = 0, find = undefined) {
+    whole(call, size = 0, find = undefined) {
         for (let room = Math.max(this.#room, size), lineRoom = LINE; ; ) {
             const [status, text, said] = this.borrow([BUFFER, BUFFER, room, lineRoom], (borrowed) => {
                 borrowed.words(0, borrowed.at[2], room, 0, 0);
@@ -253,7 +254,7 @@ class Host {
             const line = chomped(decoder.decode(said.bytes));
             if (status === MEMORY) throw new MemoryError(line);
             // a text that fits, and is not whole, is at the limit of the settings
-            if ((status !== FULL || text.needed <= room) && said.needed <= lineRoom) throw errorOf(status, line, text.bytes, output, find);
+            if ((status !== FULL || text.needed <= room) && said.needed <= lineRoom) throw errorOf(status, line, text.bytes, find);
             [room, lineRoom] = [Math.max(room, text.needed), Math.max(lineRoom, said.needed)];
             this.#room = room;
         }
@@ -318,9 +319,8 @@ class Borrowed {
 // ---- what others call
 
 /** How a call ended that did not end well. */
-function errorOf(status, line, text, output, find) {
-    const said = status === FULL ? `tmpl: more than ${output} bytes of output` : line;
-    return new TemplateError(status, said, text, status === REFUSED ? find : undefined);
+function errorOf(status, line, text, find) {
+    return new TemplateError(status, line, text, status === REFUSED ? find : undefined);
 }
 
 class Engine {
@@ -331,17 +331,17 @@ class Engine {
     }
 
     renderBytes(files, name, data, options) {
-        const pairs = pairsOf(files), { words, output, memory } = settingsOf(options), json = jsonOf(data);
+        const pairs = pairsOf(files), { words, memory, writes } = settingsOf(options), json = jsonOf(data);
         const run = encoded(name ?? (pairs.length ? baseOf(pairs[0][0]) : ""));
-        const texts = [run, json, ...pairs.flat()], sizes = texts.map((it) => it.length);
+        const texts = [run, json, writes, ...pairs.flat()], sizes = texts.map((it) => it.length);
         const borrowed = (borrowed) => {
             const spans = sizes.map((size, number) => [borrowed.pointer(number + 2), BigInt(size)]);
             texts.forEach((it, number) => borrowed.put(number + 2, it));
-            borrowed.words(0, ...words);
-            borrowed.words(1, ...spans.slice(2).flat());
+            borrowed.words(0, ...words, ...spans[2]);
+            borrowed.words(1, ...spans.slice(3).flat());
             const given = [borrowed.pointer(0), borrowed.pointer(1), BigInt(pairs.length), ...spans[0], ...spans[1]];
             const call = (out, err) => this.#host.call("tmpl_render", ...given, out, err);
-            return this.#host.whole(call, 2 * json.length, output, problemsIn(this.#host, pairs, memory));
+            return this.#host.whole(call, 2 * json.length, problemsIn(this.#host, pairs, memory));
         };
         return this.#host.enter(memory, () => this.#host.borrow([SETTINGS, FILE * pairs.length, ...sizes], borrowed));
     }
@@ -455,35 +455,36 @@ class Templates {
     }
 
     renderBytes(name, data, options) {
-        const { words, output, memory } = settingsOf(options), json = jsonOf(data);
+        const { words, memory, writes } = settingsOf(options), json = jsonOf(data);
         const run = encoded(name ?? (this.#files.length ? baseOf(this.#files[0][0]) : ""));
         const at = (part) => this.#borrowed.pointer(part);
         this.#host.enter(0, () => this.#settle());
         return this.#host.enter(memory, () => {
-            if (options?.printed) return this.#whole(this.#host.call("tmpl_set_print", at(SET), at(OUT)), output);
-            return this.#run(json, run, words, output);
+            if (options?.printed) return this.#whole(this.#host.call("tmpl_set_print", at(SET), at(OUT)));
+            return this.#run(json, run, words, writes);
         });
     }
 
-    #run(json, run, settings, output) {
+    #run(json, run, settings, writes) {
         const at = (part) => this.#borrowed.pointer(part);
         this.#readAnew(json);
         if (!this.#isMade) this.#whole(this.#host.call("tmpl_program_make", at(SET), at(PROGRAM)));
         this.#isMade = true;
-        return this.#host.borrow([SETTINGS, run.length], (borrowed) => {
-            borrowed.words(0, ...settings);
+        return this.#host.borrow([SETTINGS, run.length, writes.length], (borrowed) => {
+            borrowed.words(0, ...settings, borrowed.pointer(2), writes.length);
             borrowed.put(1, run);
+            borrowed.put(2, writes);
             const words = [borrowed.pointer(0), at(PROGRAM), at(DATA), borrowed.pointer(1), BigInt(run.length), at(OUT), at(SAID_AT)];
-            return this.#whole(this.#host.call("tmpl_render_text", ...words), output);
+            return this.#whole(this.#host.call("tmpl_render_text", ...words));
         });
     }
 
     /** The text of a call that ended with this status, which was put into a text of the module's own. */
-    #whole(status, output) {
+    #whole(status) {
         if (status === MEMORY) throw new MemoryError("tmpl: out of memory");
         const text = this.#borrowed.text(OUT);
         if (status === OK) return text;
-        throw errorOf(status, chomped(decoder.decode(this.#borrowed.text(SAID_AT))), text, output);
+        throw errorOf(status, chomped(decoder.decode(this.#borrowed.text(SAID_AT))), text);
     }
 
     render(name, data, options) {

@@ -19,7 +19,7 @@ MissingKey = Literal["default", "invalid", "zero", "error"]
 Floats = Literal["refuse", "text"]
 Files = Union[Mapping[Text, Text], Iterable[Tuple[Text, Text]]]
 
-OK, FAULT, NOT_TEXT, REFUSED, DATA, FULL, MEMORY = 0, 1, 2, 4, 5, 6, 7
+OK, FAULT, NOT_TEXT, REFUSED, DATA, FULL, MEMORY, FORMAT = 0, 1, 2, 4, 5, 6, 7, 8
 MISSING_KEY = {"default": 0, "invalid": 1, "zero": 2, "error": 3}
 JSON = 1  # the form of findings that is asked for
 LINE = 1 << 12  # bytes of the first buffer for a line
@@ -86,7 +86,7 @@ def _problem(line, names):
 
 
 class TemplateError(Exception):
-    """A render that failed: its `status` (FAULT, NOT_TEXT, REFUSED, DATA, FULL), the `line` that says why, and the `text` before
+    """A render that failed: its `status` (FAULT, NOT_TEXT, REFUSED, DATA, FULL, FORMAT), the `line` that says why, and the `text` before
     the fault. Where the line names a place of a template file, `file` and `line_number`, from 1, are that place, and for a FAULT `template`
     is the name of the template that ran. Where a number of a Python value is refused, `where` is its place, as in `.prices.0`. What
     it does not have is None."""
@@ -143,8 +143,8 @@ class _Question(ctypes.Structure):
 
 class _Settings(ctypes.Structure):
     _fields_ = [
-        ("steps", ctypes.c_uint64), ("depth", ctypes.c_uint32), ("missing_key", ctypes.c_uint8), ("print", ctypes.c_uint8),
-        ("output", ctypes.c_size_t),
+        ("size", ctypes.c_size_t), ("steps", ctypes.c_uint64), ("depth", ctypes.c_uint32), ("missing_key", ctypes.c_uint8),
+        ("print", ctypes.c_uint8), ("output", ctypes.c_size_t), ("writes", ctypes.c_char_p), ("writes_size", ctypes.c_size_t),
     ]
 
 
@@ -246,11 +246,12 @@ def _refused_number(data, at=""):
     return next(filter(None, (_refused_number(it, f"{at}.{key}") for key, it in held)), None)
 
 
-def _settings(missing_key, depth, steps, printed, output):
+def _settings(missing_key, depth, steps, printed, output, writes=""):
     depth, steps = operator.index(depth), operator.index(steps)
     if not 0 <= depth < 1 << 32 or not 0 <= steps < 1 << 64:
         raise ValueError("depth is from 0 to 2^32 - 1, and steps from 0 to 2^64 - 1")
-    return _Settings(steps, depth, _mode(missing_key), bool(printed), _count("output", output))
+    asked, size = _encoded(writes, "a format"), ctypes.sizeof(_Settings)
+    return _Settings(size, steps, depth, _mode(missing_key), bool(printed), _count("output", output), asked, len(asked))
 
 
 def _count(name, count):
@@ -386,19 +387,21 @@ def _accepted(call, data=None):
 
 def render_bytes(
     files: Files, name: Optional[Text] = None, data: Any = None, *, missing_key: MissingKey = "default", depth: int = 0, steps: int = 0,
-    printed: bool = False, floats: Floats = "refuse", output: int = 0, memory: int = 0,
+    printed: bool = False, floats: Floats = "refuse", output: int = 0, memory: int = 0, writes: str = "",
 ) -> bytes:
     """What `render` gives, as bytes."""
     with _memory_up_to(memory):
         templates = Templates()
         for path, what in _pairs(files):
             templates._add(path, what, memory)
-        return templates.render_bytes(name, data, missing_key=missing_key, depth=depth, steps=steps, printed=printed, floats=floats, output=output)
+        return templates.render_bytes(
+            name, data, missing_key=missing_key, depth=depth, steps=steps, printed=printed, floats=floats, output=output, writes=writes
+        )
 
 
 def render(
     files: Files, name: Optional[Text] = None, data: Any = None, *, missing_key: MissingKey = "default", depth: int = 0, steps: int = 0,
-    printed: bool = False, floats: Floats = "refuse", output: int = 0, memory: int = 0,
+    printed: bool = False, floats: Floats = "refuse", output: int = 0, memory: int = 0, writes: str = "",
 ) -> str:
     """The text of the template of this name: by default that of the first file.
 
@@ -406,10 +409,12 @@ def render(
     json.dumps takes. Options: missing_key, what a missing key gives; depth, of calls of templates, and steps (0 for the defaults);
     printed=True for the printed set; floats="text", by which a float and a Decimal of a value are the text that `str` gives, where else a
     float is refused; output, the most bytes of text, and memory, the most that the library may take to parse, to read data and to run (0
-    for any number). Raises TemplateError, MemoryError where memory runs out, ValueError for an option out of its range, and TypeError
+    for any number); writes, the format of which the text has to be, as "json", "env" or "csv:3": a text that is not is not given, and is
+    a TemplateError of status FORMAT. Raises TemplateError, MemoryError where memory runs out, ValueError for an option out of its range, and TypeError
     for what is of another type."""
     return render_bytes(
-        files, name, data, missing_key=missing_key, depth=depth, steps=steps, printed=printed, floats=floats, output=output, memory=memory
+        files, name, data, missing_key=missing_key, depth=depth, steps=steps, printed=printed, floats=floats, output=output, memory=memory,
+        writes=writes,
     ).decode("utf-8", "replace")
 
 
@@ -476,7 +481,7 @@ class _Worker:
         text, line = self.text.copied(), self.line.copied()
         if self.text.size > KEPT:
             _LIBRARY.tmpl_text_free(self.text)
-        _said(status, b"tmpl: more than %d bytes of output" % settings.output if status == FULL else line, text)
+        _said(status, line, text)
         return text
 
     def __del__(self):
@@ -546,10 +551,10 @@ class Templates:
 
     def render_bytes(
         self, name: Optional[Text] = None, data: Any = None, *, missing_key: MissingKey = "default", depth: int = 0, steps: int = 0,
-        printed: bool = False, floats: Floats = "refuse", output: int = 0, memory: int = 0,
+        printed: bool = False, floats: Floats = "refuse", output: int = 0, memory: int = 0, writes: str = "",
     ) -> bytes:
         """What `render` gives, as bytes."""
-        settings, data = _settings(missing_key, depth, steps, printed, output), _value(data, floats)
+        settings, data = _settings(missing_key, depth, steps, printed, output, writes), _value(data, floats)
         read, name = data if isinstance(data, Data) else _json(data), (self._first or b"") if name is None else _encoded(name)
         with _memory_up_to(memory):
             if printed:
@@ -564,21 +569,23 @@ class Templates:
 
     def render(
         self, name: Optional[Text] = None, data: Any = None, *, missing_key: MissingKey = "default", depth: int = 0, steps: int = 0,
-        printed: bool = False, floats: Floats = "refuse", output: int = 0, memory: int = 0,
+        printed: bool = False, floats: Floats = "refuse", output: int = 0, memory: int = 0, writes: str = "",
     ) -> str:
         """The text of the template of this name: by default that of the first file. Options and errors are those of `render`."""
         return self.render_bytes(
-            name, data, missing_key=missing_key, depth=depth, steps=steps, printed=printed, floats=floats, output=output, memory=memory
+            name, data, missing_key=missing_key, depth=depth, steps=steps, printed=printed, floats=floats, output=output, memory=memory,
+            writes=writes,
         ).decode("utf-8", "replace")
 
     def render_many(
         self, name: Optional[Text], datas: Iterable[Any], *, missing_key: MissingKey = "default", depth: int = 0, steps: int = 0,
-        printed: bool = False, floats: Floats = "refuse", output: int = 0, memory: int = 0,
+        printed: bool = False, floats: Floats = "refuse", output: int = 0, memory: int = 0, writes: str = "",
     ) -> Iterator[str]:
         """The text for each of these data, one after the other. The first that does not end well raises its error."""
         for data in datas:
             yield self.render(
-                name, data, missing_key=missing_key, depth=depth, steps=steps, printed=printed, floats=floats, output=output, memory=memory
+                name, data, missing_key=missing_key, depth=depth, steps=steps, printed=printed, floats=floats, output=output, memory=memory,
+                writes=writes,
             )
 
     def close(self) -> None:

@@ -6,9 +6,8 @@ use std::sync::{Mutex, MutexGuard, PoisonError};
 const KEPT: usize = 1 << 20;
 
 /// How to run a template. The default is all zeros.
-#[repr(C)]
 #[derive(Clone, Copy, Debug, Default)]
-pub struct Settings {
+pub struct Settings<'a> {
     /// At most this many steps; 0 for 1,000,000,000.
     pub steps: u64,
     /// Calls of templates at most so deep; 0 for 1,000.
@@ -19,6 +18,35 @@ pub struct Settings {
     pub print: u8,
     /// At most this many bytes of text; 0 for any number. A text that is longer is status 6, with the bytes that come first.
     pub output: usize,
+    /// The format of which the text has to be, as `json`, `env` or `csv:3`; empty for any. A text that is not is not given: status 8.
+    pub writes: &'a str,
+}
+
+/// The settings as the library has them.
+#[repr(C)]
+struct RawSettings {
+    size: usize,
+    steps: u64,
+    depth: u32,
+    missing_key: u8,
+    print: u8,
+    output: usize,
+    writes: *const u8,
+    writes_size: usize,
+}
+
+fn raw_settings(settings: &Settings) -> RawSettings {
+    let Settings { steps, depth, missing_key, print, output, writes } = *settings;
+    RawSettings {
+        size: std::mem::size_of::<RawSettings>(),
+        steps,
+        depth,
+        missing_key,
+        print,
+        output,
+        writes: writes.as_ptr(),
+        writes_size: writes.len(),
+    }
 }
 
 #[repr(C)]
@@ -70,7 +98,7 @@ struct RawText {
 
 #[rustfmt::skip]
 extern "C" {
-    fn tmpl_render(settings: *const Settings, files: *const RawFile, file_count: usize, name: *const u8, name_size: usize,
+    fn tmpl_render(settings: *const RawSettings, files: *const RawFile, file_count: usize, name: *const u8, name_size: usize,
         data: *const u8, data_size: usize, out: *mut RawBuffer, err: *mut RawBuffer) -> u8;
     fn tmpl_check(files: *const RawFile, file_count: usize, text: *mut RawText) -> u8;
     fn tmpl_check_schema(files: *const RawFile, file_count: usize, question: *const RawQuestion, text: *mut RawText) -> u8;
@@ -80,7 +108,7 @@ extern "C" {
     fn tmpl_set_print(set: *mut RawKept, text: *mut RawText) -> u8;
     fn tmpl_program_make(set: *mut RawKept, program: *mut RawKept) -> u8;
     fn tmpl_program_share(program: *mut RawKept, copy: *mut RawKept) -> u8;
-    fn tmpl_render_text(settings: *const Settings, program: *mut RawKept, data: *mut RawKept, name: *const u8, name_size: usize,
+    fn tmpl_render_text(settings: *const RawSettings, program: *mut RawKept, data: *mut RawKept, name: *const u8, name_size: usize,
         text: *mut RawText, line: *mut RawText) -> u8;
     fn tmpl_set_free(set: *mut RawKept);
     fn tmpl_program_free(program: *mut RawKept);
@@ -216,7 +244,7 @@ pub fn render_into(
     let (mut o, mut e) = (raw_buffer(out), raw_buffer(line));
     // SAFETY: each pointer and size are those of one slice, which is borrowed for the call; `out` and `line` are borrowed by it alone.
     let status = unsafe {
-        tmpl_render(settings, array.as_ptr(), array.len(), name.as_ptr(), name.len(), data.as_ptr(), data.len(), &mut o, &mut e)
+        tmpl_render(&raw_settings(settings), array.as_ptr(), array.len(), name.as_ptr(), name.len(), data.as_ptr(), data.len(), &mut o, &mut e)
     };
     (status, Extent { taken: o.taken, needed: o.needed }, Extent { taken: e.taken, needed: e.needed })
 }
@@ -408,18 +436,16 @@ impl Worker {
 
     fn render(&mut self, name: &str, data: &[u8], settings: &Settings) -> Result<Vec<u8>, Error> {
         self.read(data)?;
-        // SAFETY: the handles are four, no other call has them, and the name is borrowed for the call.
+        let settings_here = raw_settings(settings);
+        // SAFETY: the handles are four, no other call has them, and the name and the settings are borrowed for the call.
         let status = unsafe {
-            tmpl_render_text(settings, &mut self.program, &mut self.data, name.as_ptr(), name.len(), &mut self.text, &mut self.line)
+            tmpl_render_text(&settings_here, &mut self.program, &mut self.data, name.as_ptr(), name.len(), &mut self.text, &mut self.line)
         };
         let text = self.text.to_vec();
         if text.len() > KEPT {
             self.text = RawText::EMPTY;
         }
-        match status {
-            6 => ended(status, format!("tmpl: more than {} bytes of output\n", settings.output).as_bytes(), text),
-            _ => ended(status, self.line.as_slice(), text),
-        }
+        ended(status, self.line.as_slice(), text)
     }
 }
 

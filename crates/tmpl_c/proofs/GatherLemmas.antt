@@ -2,12 +2,13 @@
 use Rattle.std.proofs.Common.{◌≡◌, ◌≢◌, ◌∙◌, ◌+◌, ◌-◌, ◌++◌, ◌<◌, ◌≤◌, ◌⊎◌, ◌||◌, ℕ, Bool, true, false, [], ◌∷◌, Some, ap, arith, length, refl, subst, sym, inl, inr}
 use Rattle.std.proofs.lemmas.Bool.{le-leb, leb-false, leb-true, lt-leb}
 use Rattle.std.proofs.lemmas.List.{append-nil, length-append, take-append-le}
+use Rattle.std.proofs.Common.{append_assoc}
 use Rattle.std.proofs.Math.Seq.{take-append-add}
-use Rattle.std.specs.Prelude.{eqb, leb, take, if◌then◌else◌}
+use Rattle.std.specs.Prelude.{codes, decimal, eqb, leb, take, if◌then◌else◌}
 use Rattle.tmpl_meaning.specs.Sink.{Begun, Sunk, Told, sunk}
 use Rattle.tmpl_tool.specs.Outcome.{Answer, Outcome, memory_line, write_line}
 use Rattle.tmpl_tool.specs.Source.{Bytes}
-use Rattle.tmpl_c.specs.Filled.{Fills, Rendered, Seen, fits, limit_text}
+use Rattle.tmpl_c.specs.Filled.{Fills, Rendered, Seen, fits, limit_line, limit_text}
 use Rattle.tmpl_c.specs.Texts.{Holds}
 use Rattle.tmpl_c.specs.computed.Gathering.{nothing_put}
 
@@ -47,6 +48,11 @@ outcome_exact a all line f g code (inr (inl cut)) fine = absurd (one f cut.0.cou
 outcome_exact a all line f g code (inr (inr refused)) fine = absurd (fine.0 refused.1)
 
 -- ---- a limit of the text
+
+-- its line, said part by part
+pub limit_said : (most : ℕ) → (codes "tmpl: more than " ++ decimal most) ++ codes " bytes of output\n" ≡ limit_line most
+limit_said most = simp (append_assoc)
+
 abbrev pub within : ℕ → Bytes → Bool
 within most text = eqb most 0 || leb (length text) most
 
@@ -73,11 +79,11 @@ module _ (a : Answer) (most : ℕ) where
 
   -- a text that is past the limit is cut
   limited_past : (all rest : Bytes) → a.text ≡ all ++ rest → within most all ≡ false
-      → (take most all ≡ (limit_text most a).text) × (write_line ≡ (limit_text most a).line) × (6 ≡ (limit_text most a).status)
+      → (take most all ≡ (limit_text most a).text) × (limit_line most ≡ (limit_text most a).line) × (6 ≡ (limit_text most a).status)
   limited_past all rest is past = by (eqb most 0) refl (leb (length all) most) refl
     where
       by : (none : Bool) → eqb most 0 ≡ none → (fit : Bool) → leb (length all) most ≡ fit
-          → (take most all ≡ (limit_text most a).text) × (write_line ≡ (limit_text most a).line) × (6 ≡ (limit_text most a).status)
+          → (take most all ≡ (limit_text most a).text) × (limit_line most ≡ (limit_text most a).line) × (6 ≡ (limit_text most a).status)
       by true e fit w = let wrong : true ≡ false = rw e at past in cc
       by false e true w = let wrong : true ≡ false = rw (e, w) at past in cc
       by false e false w =
@@ -104,7 +110,7 @@ module _ (a : Answer) (all line : Bytes) (f g code : ℕ) (o : Outcome a (sunk (
 
   -- the text is past the limit, and is cut; of which the line may be refused memory
   pub cut_holds : within most all ≡ false → (text said : Bytes) (status : ℕ) → text ≡ take most all
-      → ((said ≡ write_line) × (status ≡ 6)) ⊎ ((said ≡ []) × (status ≡ 7)) → Holds (limit_text most a) text said status
+      → ((said ≡ limit_line most) × (status ≡ 6)) ⊎ ((said ≡ []) × (status ≡ 7)) → Holds (limit_text most a) text said status
   cut_holds past text said status cut (inl h) =
       let front = outcome_prefix a all f _ code o in
       let is = limited_past a most all front.0 front.1 past in inl (cut ∙ is.0, h.0 ∙ is.1, h.1 ∙ is.2)

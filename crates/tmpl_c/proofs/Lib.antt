@@ -1,10 +1,12 @@
 mod CheckLemmas
 mod GatherLemmas
+mod GivenLemmas
 mod HandleForms
 mod HandleLemmas
 mod HandleWalks
 mod LawLemmas
 mod PassedLemmas
 mod QuestionLemmas
+mod SafeLemmas
 mod LooseLemmas
 mod SeenLemmas

@@ -1,14 +1,18 @@
 -- What is seen of the caller's buffers and the status, where a call ends.
-use Rattle.std.specs.Prelude.{◌≡◌, ◌⊎◌, ◌++◌, ◌||◌, ℕ, Bool, eqb, leb, length, take, if◌then◌else◌}
-use Rattle.tmpl_tool.specs.Outcome.{Answer, memory_line, write_line}
+use Rattle.std.specs.Prelude.{◌≡◌, ◌⊎◌, ◌++◌, ◌||◌, ℕ, Bool, codes, decimal, eqb, leb, length, take, if◌then◌else◌}
+use Rattle.tmpl_tool.specs.Outcome.{Answer, line, memory_line, write_line}
 use Rattle.tmpl_tool.specs.Source.{Bytes}
 use Rattle.tmpl_c.specs.declared.buffer.Buffer.{Buffer}
 
+-- the line about a text that has more bytes than this
+abbrev pub limit_line : ℕ → Bytes
+limit_line most = line (codes "more than " ++ decimal most ++ codes " bytes of output")
+
 -- an answer of whose text this many bytes are written at most, or all for 0: where it has more, those that come first,
--- with the line and the status of a write that failed
+-- with a line of that and the status of a write that failed
 abbrev pub limit_text : ℕ → Answer → Answer
 limit_text most a = if eqb most 0 || leb (length a.text) most then a
-    else record a { text = take most a.text; line = write_line; status = 6 }
+    else record a { text = take most a.text; line = limit_line most; status = 6 }
 
 -- memory, how many bytes of it hold output, and how many the output has
 pub record Seen : Type 0 where

@@ -14,6 +14,7 @@ use Rattle.tmpl_tool.specs.Tool.{Parse, Early, asked_by, asked_name, bad_words, 
 use Rattle.tmpl_tool.specs.Tool.{run_answer, stop_answer, tool_answer, unnamed}
 use Rattle.tmpl_tool.specs.Words.{Wanted, wanted_in}
 use Rattle.tmpl_c.specs.Filled.{Rendered, Seen, limit_text}
+use Rattle.tmpl_c.specs.Given.{HoldsBy, IsOfNamed, RenderedBy}
 use Rattle.tmpl_c.specs.Held.{Keeps, Replaces, held_answer}
 use Rattle.tmpl_c.specs.Passed.{data_passed, each_added, passed_answer, render_answer, rules_in, with_passed}
 use Rattle.tmpl_c.specs.Texts.{Holds}
@@ -165,6 +166,16 @@ TextHoldsWhole = (a : Answer) (text line : Bytes) → Holds a text line 0
 abbrev pub TextHoldsPrefix : Type 0
 TextHoldsPrefix = (a : Answer) (text line : Bytes) (code : ℕ) → Holds a text line code
     → (rest : Bytes) × (a.text ≡ text ++ rest)
+
+-- where a format is asked for, with status 0 the text is of it: that in a text
+abbrev pub TextOfFormat : Type 0
+TextOfFormat = (b : ℕ) (bs : Bytes) (a : Answer) (text line : Bytes) → HoldsBy (b ∷ bs) a text line 0
+    → IsOfNamed (b ∷ bs) text
+
+-- .. and that in the caller's memory
+abbrev pub RendersOfFormat : Type 0
+RendersOfFormat = (b : ℕ) (bs : Bytes) (a : Answer) (room line_room : ℕ) (out err : Seen)
+    → RenderedBy (b ∷ bs) a room out line_room err 0 → IsOfNamed (b ∷ bs) (take out.taken out.memory)
 
 -- the status of a render into a text is 0, 1, 4 or 7, or 6 where it has a limit: without one none says that the text does
 -- not fit

@@ -1,9 +1,11 @@
 pub mod computed
 pub mod Checked
 pub mod Filled
+pub mod Given
 pub mod Laws
 pub mod Passed
 pub mod Question
+pub mod SafeCommand
 pub mod Handles
 pub mod Held
 pub mod Texts

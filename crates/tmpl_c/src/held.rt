@@ -5,13 +5,15 @@ ghost use Rattle.tmpl_meaning.specs.Sink.{sunk};
 ghost use Rattle.tmpl_tool.specs.Outcome.{Outcome};
 ghost use Rattle.tmpl_tool.specs.Tool.{printed, stop_answer};
 ghost use Rattle.tmpl_c.specs.Filled.{limit_text};
+ghost use Rattle.tmpl_c.specs.Given.{HoldsBy};
 ghost use Rattle.tmpl_c.specs.Held.{templates_in, templates_run, value_in};
 ghost use Rattle.tmpl_c.specs.Texts.{Holds, bytes_in};
-ghost use Rattle.tmpl_c.specs.computed.Extents.{IsFilled, answer_by, run_by, templates_borrowed};
+ghost use Rattle.tmpl_c.specs.computed.Extents.{IsFilledBy, answer_by, run_by, templates_borrowed};
 ghost use Rattle.tmpl_c.specs.computed.Gathering.{told_of, nothing_put};
 
 use crate::data_handle::DataHandle;
 use crate::gathered::Gathered;
+use crate::give::give;
 use crate::program_handle::ProgramHandle;
 use crate::render::{Filled, PIECE_SIZE, fill_held, finish, settle};
 use crate::set_handle::SetHandle;
@@ -25,14 +27,14 @@ use tmpl_values::Data;
 /// Renders a set that is kept, or one of no templates, with this data.
 fn render_with(
     alloc: Global,
-    settings: &Settings,
+    settings: &Settings<'_>,
     set: &mut SetHandle,
     data: Option<&Data>,
     name: &[u8],
     out: &mut [u8],
     err: &mut [u8],
 ) -> Filled
-    ensures outcome { IsFilled (limit_text settings.now.output
+    ensures outcome { IsFilledBy settings.now.writes.now (limit_text settings.now.output
         (answer_by settings.now (templates_in set.old.held) name.now (option_map (λ d. value_of d.now) «data».entry)))
         out.old out.new err.old err.new result }
     ensures set { set.new.held ≡ set.old.held }
@@ -58,14 +60,14 @@ fn render_with(
 /// Renders what is kept into the caller's buffers. It is taken out for that, and put back.
 pub(crate) fn render(
     alloc: Global,
-    settings: &Settings,
+    settings: &Settings<'_>,
     set: &mut SetHandle,
     data: &mut DataHandle,
     name: &[u8],
     out: &mut [u8],
     err: &mut [u8],
 ) -> Filled
-    ensures outcome { IsFilled (limit_text settings.now.output
+    ensures outcome { IsFilledBy settings.now.writes.now (limit_text settings.now.output
         (answer_by settings.now (templates_in set.old.held) name.now (value_in «data».old.held)))
         out.old out.new err.old err.new result }
     ensures set { set.new.held ≡ set.old.held }
@@ -84,7 +86,7 @@ pub(crate) fn render(
 /// Runs the template of this name of a program, or of one of no templates.
 fn run_with(
     alloc: Global,
-    settings: &Settings,
+    settings: &Settings<'_>,
     renderer: Option<&Renderer>,
     name: &[u8],
     data: Option<&Data>,
@@ -112,7 +114,7 @@ fn run_with(
 /// Runs the template of this name of a program that is kept, with this data.
 fn run_kept(
     alloc: Global,
-    settings: &Settings,
+    settings: &Settings<'_>,
     program: &mut ProgramHandle,
     name: &[u8],
     data: Option<&Data>,
@@ -140,7 +142,7 @@ fn run_kept(
 /// put back.
 fn run_program(
     alloc: Global,
-    settings: &Settings,
+    settings: &Settings<'_>,
     program: &mut ProgramHandle,
     data: &mut DataHandle,
     name: &[u8],
@@ -167,14 +169,14 @@ fn run_program(
 /// Renders a program into the caller's buffers.
 pub(crate) fn render_program(
     alloc: Global,
-    settings: &Settings,
+    settings: &Settings<'_>,
     program: &mut ProgramHandle,
     data: &mut DataHandle,
     name: &[u8],
     out: &mut [u8],
     err: &mut [u8],
 ) -> Filled
-    ensures outcome { IsFilled (limit_text settings.now.output
+    ensures outcome { IsFilledBy settings.now.writes.now (limit_text settings.now.output
         (run_by settings.now (templates_run program.old.held) name.now (value_in «data».old.held)))
         out.old out.new err.old err.new result }
     ensures program { program.new.held ≡ program.old.held }
@@ -183,13 +185,13 @@ pub(crate) fn render_program(
     let mut text = Gathered::new(alloc, settings.output);
     let mut line = Gathered::new(alloc, 0);
     let code = run_program(alloc, settings, program, data, name, &mut text, &mut line);
-    finish(settings.output, code, text, line, out, err)
+    finish(alloc, settings, code, text, line, out, err)
 }
 
 /// Renders a program to two sinks that hold nothing yet.
 fn gather(
     alloc: Global,
-    settings: &Settings,
+    settings: &Settings<'_>,
     program: &mut ProgramHandle,
     data: &mut DataHandle,
     name: &[u8],
@@ -197,27 +199,28 @@ fn gather(
     err: &mut Gathered,
 ) -> u8
     requires empty { (told_of out.old ≡ nothing_put) × (told_of err.old ≡ nothing_put) }
-    ensures outcome { Holds (limit_text settings.now.output
+    ensures outcome { HoldsBy settings.now.writes.now (limit_text settings.now.output
         (run_by settings.now (templates_run program.old.held) name.now (value_in «data».old.held)))
         out.new.bytes.items err.new.bytes.items result }
     ensures program { program.new.held ≡ program.old.held }
     ensures kept { «data».new.held ≡ «data».old.held }
 {
     let code = run_program(alloc, settings, program, data, name, out, err);
-    settle(settings.output, code, out, err)
+    let status = settle(alloc, settings.output, code, out, err);
+    give(alloc, settings.writes, status, out, err)
 }
 
 /// Renders a program into texts of the library's own.
 pub(crate) fn render_text(
     alloc: Global,
-    settings: &Settings,
+    settings: &Settings<'_>,
     program: &mut ProgramHandle,
     data: &mut DataHandle,
     name: &[u8],
     text: &mut Text,
     line: &mut Text,
 ) -> u8
-    ensures outcome { Holds (limit_text settings.now.output
+    ensures outcome { HoldsBy settings.now.writes.now (limit_text settings.now.output
         (run_by settings.now (templates_run program.old.held) name.now (value_in «data».old.held)))
         (bytes_in text.new.held) (bytes_in line.new.held) result }
     ensures program { program.new.held ≡ program.old.held }
@@ -263,7 +266,7 @@ fn gather_printed(alloc: Global, set: &mut SetHandle, out: &mut Gathered) -> u8
 {
     let mut line = Gathered::new(alloc, 0);
     let code = print_kept(alloc, set, out, &mut line);
-    settle(0, code, out, &mut line)
+    settle(alloc, 0, code, out, &mut line)
 }
 
 /// Prints a set into a text of the library's own.

@@ -1,8 +1,9 @@
 //! The laws of the library: its stages, and that it answers as the command does.
 ghost use Rattle.tmpl_c.specs.Laws.{AddsInTurn, AnswersAsCommand, AnswersButForName, HasDefaults, HoldsPrefix};
 ghost use Rattle.tmpl_c.specs.Laws.{HoldsWhole, KeepsAsBefore, KeepsLimit, KeepsOffered, Prints, RefusesName};
-ghost use Rattle.tmpl_c.specs.Laws.{RendersAsKept, ReplacesAsOffered, Runs, StopsAtData, StopsAtFile, StopsAtTemplate};
+ghost use Rattle.tmpl_c.specs.Laws.{RendersAsKept, RendersOfFormat, TextOfFormat, ReplacesAsOffered, Runs, StopsAtData, StopsAtFile, StopsAtTemplate};
 ghost use Rattle.tmpl_c.specs.Laws.{TextHasStatus, TextHoldsPrefix, TextHoldsWhole};
+ghost use Rattle.tmpl_c.specs.SafeCommand.{SafeCommand};
 
 use crate::gathered::Gathered;
 use crate::shared_data::SharedData;
@@ -59,6 +60,20 @@ pub fn text_seen_by_caller()
     ensures prefix { TextHoldsPrefix }
     ensures status { TextHasStatus }
     ensures replaces { ReplacesAsOffered }
+{}
+
+/// The law of formats: where one is asked for, with status 0 the text that is given is of it.
+#[tactic(auto, using(crate::proofs::GivenLemmas::of_format))]
+pub fn of_format()
+    ensures text { TextOfFormat }
+    ensures memory { RendersOfFormat }
+{}
+
+/// The law from a check to the command: where `findings_of` finds no error, the command over the same files, and over data
+/// that conforms to the schema, ends well, or at a limit or a stop.
+#[tactic(auto, using(crate::proofs::SafeLemmas::safe_command))]
+pub fn safe_command()
+    ensures { SafeCommand }
 {}
 
 /// What may be owned and seen by several threads.

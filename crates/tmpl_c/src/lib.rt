@@ -5,7 +5,8 @@
 ghost use Rattle.std.specs.Prelude.{◌≡◌, [], None, codes, eqb, false};
 ghost use Rattle.tmpl_tool.specs.Tool.{IsParse, Parse, printed, stop_answer};
 ghost use Rattle.tmpl_c.specs.Checked.{Checks};
-ghost use Rattle.tmpl_c.specs.Filled.{Rendered, limit_text, room, buffer_seen};
+ghost use Rattle.tmpl_c.specs.Filled.{limit_text, room, buffer_seen};
+ghost use Rattle.tmpl_c.specs.Given.{HoldsBy, RenderedBy};
 ghost use Rattle.tmpl_c.specs.Held.{Keeps, Replaces, held_answer, templates_in, templates_run, value_in};
 ghost use Rattle.tmpl_c.specs.Passed.{data_passed, pair_of, pairs_of, render_answer, rules_in, with_passed};
 ghost use Rattle.tmpl_c.specs.Question.{Answers};
@@ -16,6 +17,7 @@ mod buffer;
 mod check;
 mod data_handle;
 mod gathered;
+mod give;
 mod held;
 mod keep;
 mod keys;
@@ -37,7 +39,10 @@ pub use buffer::Buffer;
 pub use data_handle::DataHandle;
 pub use gathered::Gathered;
 pub use keys::Keys;
-pub use laws::{as_command, crosses_threads, kept, seen_by_caller, stages, text_seen_by_caller};
+pub use laws::{
+    as_command, crosses_threads, kept, of_format, safe_command, seen_by_caller, stages,
+    text_seen_by_caller,
+};
 pub use passed::{File, Name, Question};
 pub use program_handle::ProgramHandle;
 pub use set_handle::SetHandle;
@@ -52,21 +57,22 @@ pub use text_handle::TextHandle;
 /// The text goes to `out`, and where not all went well one line to `err`; of each as much as there is room for. Both
 /// buffers say how much they hold, and how many bytes there are in all. The status is that of the command: 0 done, 1 a
 /// fault of the run, 2 a file's name is not UTF-8, 4 a file is refused or no template has the name, 5 the data is
-/// refused, 6 the text has more bytes than there is room for or than the settings allow, 7 memory ran out.
+/// refused, 6 the text has more bytes than there is room for or than the settings allow, 7 memory ran out, 8 the text is
+/// not of the format that the settings ask for.
 ///
 /// C calls it as `tmpl_render`, with no keys, as it does the other calls that take keys.
 #[unsafe(no_mangle)]
 pub extern "C" fn keyed_render(
     alloc: Global,
     keys: &Keys,
-    settings: &Settings,
+    settings: &Settings<'_>,
     files: &[File<'_>],
     name: &[u8],
     input: &[u8],
     out: &mut Buffer<'_>,
     err: &mut Buffer<'_>,
 ) -> u8
-    ensures outcome { (parse : Parse) → IsParse parse → Rendered (limit_text settings.now.output
+    ensures outcome { (parse : Parse) → IsParse parse → RenderedBy settings.now.writes.now (limit_text settings.now.output
         (render_answer parse (rules_in settings.now) (eqb settings.now.print 1) (pairs_of files.now) name.now input.now))
         (room out.old) (buffer_seen out.new) (room err.old) (buffer_seen err.new) result }
     ensures borrows { (out.new.bytes.ghost_name ≡ out.old.bytes.ghost_name)
@@ -183,17 +189,19 @@ pub extern "C" fn tmpl_data_share(alloc: Global, kept: &mut DataHandle, copy: &m
 
 /// Renders the template of this name of a set that the caller keeps, with data that it keeps, as `tmpl_render` does of
 /// the files and the data that these were made of. Both stay as they are.
+///
+/// C calls it as `tmpl_render_set`, with the settings that it has, and so the other renders.
 #[unsafe(no_mangle)]
-pub extern "C" fn tmpl_render_set(
+pub extern "C" fn inner_render_set(
     alloc: Global,
-    settings: &Settings,
+    settings: &Settings<'_>,
     set: &mut SetHandle,
     kept: &mut DataHandle,
     name: &[u8],
     out: &mut Buffer<'_>,
     err: &mut Buffer<'_>,
 ) -> u8
-    ensures outcome { Rendered (limit_text settings.now.output
+    ensures outcome { RenderedBy settings.now.writes.now (limit_text settings.now.output
         (held_answer (rules_in settings.now) (eqb settings.now.print 1) (templates_in set.old.held) name.now
         (value_in kept.old.held)))
         (room out.old) (buffer_seen out.new) (room err.old) (buffer_seen err.new) result }
@@ -261,16 +269,16 @@ pub extern "C" fn tmpl_program_free(alloc: Global, program: &mut ProgramHandle)
 /// Renders the template of this name of a program, with data that the caller keeps, as `tmpl_render_set` does of the
 /// set when the program was made. `print` of the settings is not looked at. Both stay as they are.
 #[unsafe(no_mangle)]
-pub extern "C" fn tmpl_render_program(
+pub extern "C" fn inner_render_program(
     alloc: Global,
-    settings: &Settings,
+    settings: &Settings<'_>,
     program: &mut ProgramHandle,
     kept: &mut DataHandle,
     name: &[u8],
     out: &mut Buffer<'_>,
     err: &mut Buffer<'_>,
 ) -> u8
-    ensures outcome { Rendered (limit_text settings.now.output
+    ensures outcome { RenderedBy settings.now.writes.now (limit_text settings.now.output
         (held_answer (rules_in settings.now) false (templates_run program.old.held) name.now (value_in kept.old.held)))
         (room out.old) (buffer_seen out.new) (room err.old) (buffer_seen err.new) result }
     ensures borrows { (out.new.bytes.ghost_name ≡ out.old.bytes.ghost_name)
@@ -289,16 +297,16 @@ pub extern "C" fn tmpl_render_program(
 /// Does what `tmpl_render_program` does, and keeps text and line in memory of the library's own, which is used again by
 /// the next call. Nothing is cut but past the limit of the settings. With status 7 there is no line.
 #[unsafe(no_mangle)]
-pub extern "C" fn tmpl_render_text(
+pub extern "C" fn inner_render_text(
     alloc: Global,
-    settings: &Settings,
+    settings: &Settings<'_>,
     program: &mut ProgramHandle,
     kept: &mut DataHandle,
     name: &[u8],
     text: &mut Text,
     line: &mut Text,
 ) -> u8
-    ensures outcome { Holds (limit_text settings.now.output
+    ensures outcome { HoldsBy settings.now.writes.now (limit_text settings.now.output
         (held_answer (rules_in settings.now) false (templates_run program.old.held) name.now (value_in kept.old.held)))
         (bytes_in text.new.held) (bytes_in line.new.held) result }
     ensures program { program.new.held ≡ program.old.held }

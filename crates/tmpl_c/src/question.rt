@@ -165,6 +165,7 @@ fn asked_of<'a>(
         mode: mode_asked(question.mode),
         stops: stops_of(alloc, question.stops)?,
         is_searched: true,
+        writes: None,
     })
 }
 

@@ -1,5 +1,5 @@
 //! A render into the caller's buffers.
-ghost use Rattle.std.specs.Prelude.{◌≡◌, ◌≢◌, ◌⊎◌, ◌<◌, ◌^◌, ◌-◌, ◌||◌, List, [], eqb, false, leb, length, option_map};
+ghost use Rattle.std.specs.Prelude.{◌≡◌, ◌≢◌, ◌⊎◌, ◌<◌, ◌^◌, ◌-◌, ◌||◌, IfOk, List, [], eqb, false, leb, length, option_map, string_bytes};
 ghost use Rattle.tmpl_values.specs.View.{value_of};
 ghost use Rattle.tmpl_syntax.specs.Set.{Template};
 ghost use Rattle.tmpl_meaning.specs.Sink.{sunk};
@@ -7,18 +7,20 @@ ghost use Rattle.tmpl_engine.specs.Prepared.{IsPrepared};
 ghost use Rattle.tmpl_engine.specs.View.{templates_of};
 ghost use Rattle.tmpl_tool.specs.Outcome.{Answer, Outcome, memory_line, write_line};
 ghost use Rattle.tmpl_tool.specs.Tool.{IsParse, Parse, answer_of, named_run};
-ghost use Rattle.tmpl_c.specs.Filled.{Fills, limit_text};
+ghost use Rattle.tmpl_c.specs.Filled.{Fills, limit_line, limit_text};
 ghost use Rattle.tmpl_c.specs.Passed.{pairs_of, render_answer, rules_in};
 ghost use Rattle.tmpl_c.specs.Texts.{Holds};
-ghost use Rattle.tmpl_c.specs.computed.Extents.{IsFilled, answer_by, extent_seen};
+ghost use Rattle.tmpl_c.specs.computed.Extents.{IsFilled, IsFilledBy, answer_by, extent_seen};
 ghost use Rattle.tmpl_c.specs.computed.Gathering.{told_of, nothing_put};
 
 use crate::gathered::Gathered;
+use crate::give::give;
 use crate::load::{add_files, read_data, tell};
 use crate::passed::File;
 use crate::settings::{Settings, options_in};
-use std::alloc::Global;
+use std::alloc::{AllocError, Global};
 use tmpl_engine::{Engine, NameHash, RenderError, Renderer};
+use tmpl_hints::Sentence;
 use tmpl_tool::{print, render_prepared};
 use tmpl_values::Data;
 
@@ -50,7 +52,7 @@ pub(crate) struct Filled {
 fn render_to(
     alloc: Global,
     hash: NameHash,
-    settings: &Settings,
+    settings: &Settings<'_>,
     files: &[File<'_>],
     name: &[u8],
     input: &[u8],
@@ -84,7 +86,7 @@ fn render_to(
 /// Runs the template of this name with what its render was prepared with.
 fn run_prepared(
     alloc: Global,
-    settings: &Settings,
+    settings: &Settings<'_>,
     prepared: Result<Renderer, RenderError<'_>>,
     name: &[u8],
     data: Option<&Data>,
@@ -117,26 +119,49 @@ fn fits(limit: usize, size: usize) -> bool
     limit == 0 || size <= limit
 }
 
-/// Says that a text is longer than its limit, and gives the status of that.
-fn say_limit(line: &mut Gathered) -> u8
-    ensures { ((line.new.bytes.items ≡ write_line) × (result ≡ 6)) ⊎ ((line.new.bytes.items ≡ []) × (result ≡ 7)) }
+/// The line about a text that is longer than its limit.
+#[tactic(auto, using(crate::proofs::GatherLemmas::limit_said))]
+fn limit_line(alloc: Global, limit: usize) -> Result<String, AllocError>
+    ensures { IfOk result (λ said. string_bytes said ≡ limit_line limit) }
 {
-    line.bytes.clear();
-    match line.bytes.extend_from_slice(FULL) {
-        Ok(()) => 6,
-        Err(_) => 7,
+    Sentence::new(alloc)
+        .say("tmpl: more than ")
+        .count(limit as u64)
+        .say(" bytes of output\n")
+        .finish()
+}
+
+/// Says that a text is longer than its limit, and gives the status of that.
+fn say_limit(alloc: Global, limit: usize, line: &mut Gathered) -> u8
+    ensures { ((line.new.bytes.items ≡ limit_line limit) × (result ≡ 6)) ⊎ ((line.new.bytes.items ≡ []) × (result ≡ 7)) }
+{
+    match limit_line(alloc, limit) {
+        Ok(said) => {
+            line.bytes = said.into_bytes();
+            6
+        }
+        Err(AllocError) => {
+            line.bytes.clear();
+            7
+        }
     }
 }
 
 /// The status of a render whose text and line are gathered, and which may write this many bytes: a text that is longer
 /// is cut. There is no line where memory ran out.
-pub(crate) fn settle(limit: usize, code: u8, text: &mut Gathered, line: &mut Gathered) -> u8
+pub(crate) fn settle(
+    alloc: Global,
+    limit: usize,
+    code: u8,
+    text: &mut Gathered,
+    line: &mut Gathered,
+) -> u8
     ensures { (a : Answer) → Outcome a (sunk nothing_put (told_of text.old)) (sunk nothing_put (told_of line.old)) code
         → Holds (limit_text limit a) text.new.bytes.items line.new.bytes.items result }
 {
     if !fits(limit, text.bytes.len()) {
         text.bytes.truncate(limit);
-        return say_limit(line);
+        return say_limit(alloc, limit, line);
     }
     if is_refused(code, text, line) {
         line.bytes.clear();
@@ -198,10 +223,11 @@ fn hand_over(code: u8, text: &[u8], line: &[u8], out: &mut [u8], err: &mut [u8])
     }
 }
 
-/// Copies what was gathered to the caller's buffers, of the text this many bytes at most, and says why it is not all
-/// there.
+/// Copies what was gathered to the caller's buffers, of the text what the settings let through, and says why it is not
+/// all there.
 pub(crate) fn finish(
-    limit: usize,
+    alloc: Global,
+    settings: &Settings<'_>,
     code: u8,
     mut text: Gathered,
     mut line: Gathered,
@@ -209,9 +235,10 @@ pub(crate) fn finish(
     err: &mut [u8],
 ) -> Filled
     ensures { (a : Answer) → Outcome a (sunk nothing_put (told_of text)) (sunk nothing_put (told_of line)) code
-        → IsFilled (limit_text limit a) out.old out.new err.old err.new result }
+        → IsFilledBy settings.now.writes.now (limit_text settings.now.output a) out.old out.new err.old err.new result }
 {
-    let status = settle(limit, code, &mut text, &mut line);
+    let status = settle(alloc, settings.output, code, &mut text, &mut line);
+    let status = give(alloc, settings.writes, status, &mut text, &mut line);
     hand_over(
         status,
         text.bytes.as_slice(),
@@ -225,14 +252,14 @@ pub(crate) fn finish(
 pub(crate) fn fill(
     alloc: Global,
     hash: NameHash,
-    settings: &Settings,
+    settings: &Settings<'_>,
     files: &[File<'_>],
     name: &[u8],
     input: &[u8],
     out: &mut [u8],
     err: &mut [u8],
 ) -> Filled
-    ensures { (parse : Parse) → IsParse parse → IsFilled (limit_text settings.now.output
+    ensures { (parse : Parse) → IsParse parse → IsFilledBy settings.now.writes.now (limit_text settings.now.output
         (render_answer parse (rules_in settings.now) (eqb settings.now.print 1) (pairs_of files.now) name.now input.now))
         out.old out.new err.old err.new result }
 {
@@ -241,13 +268,13 @@ pub(crate) fn fill(
     let code = render_to(
         alloc, hash, settings, files, name, input, &mut text, &mut line,
     );
-    finish(settings.output, code, text, line, out, err)
+    finish(alloc, settings, code, text, line, out, err)
 }
 
 /// Prints a set, or runs the template of this name of it.
 fn render_held(
     alloc: Global,
-    settings: &Settings,
+    settings: &Settings<'_>,
     engine: &mut Engine,
     name: &[u8],
     data: Option<&Data>,
@@ -271,14 +298,14 @@ fn render_held(
 /// Renders what is kept into the caller's buffers, and says why the text is not all there.
 pub(crate) fn fill_held(
     alloc: Global,
-    settings: &Settings,
+    settings: &Settings<'_>,
     engine: &mut Engine,
     name: &[u8],
     data: Option<&Data>,
     out: &mut [u8],
     err: &mut [u8],
 ) -> Filled
-    ensures outcome { IsFilled (limit_text settings.now.output
+    ensures outcome { IsFilledBy settings.now.writes.now (limit_text settings.now.output
         (answer_by settings.now (templates_of engine.old) name.now (option_map (λ d. value_of d.now) «data».entry)))
         out.old out.new err.old err.new result }
     ensures same { engine.new ≡ engine.old }
@@ -286,5 +313,5 @@ pub(crate) fn fill_held(
     let mut text = Gathered::new(alloc, settings.output);
     let mut line = Gathered::new(alloc, 0);
     let code = render_held(alloc, settings, engine, name, data, &mut text, &mut line);
-    finish(settings.output, code, text, line, out, err)
+    finish(alloc, settings, code, text, line, out, err)
 }

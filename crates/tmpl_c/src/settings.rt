@@ -9,7 +9,9 @@ use tmpl_tool::{DEFAULT_DEPTH, DEFAULT_STEPS, MOST_DEPTH, MOST_STEPS};
 /// How a template is to be run. All zeros ask for the defaults.
 #[repr(C)]
 #[derive(Clone, Copy, Debug)]
-pub struct Settings {
+pub struct Settings<'a> {
+    /// How many bytes the caller has of it, which is looked at before: here all of it is there.
+    pub size: usize,
     /// How many steps a run may take; 0 for 1,000,000,000.
     pub steps: u64,
     /// How deep calls may go; 0 for 1,000, and 100,000 for more than that.
@@ -20,6 +22,8 @@ pub struct Settings {
     pub print: u8,
     /// How many bytes of text are written at most; 0 for as many as there are.
     pub output: usize,
+    /// The name of the format of which the text has to be; empty for any text.
+    pub writes: &'a [u8],
 }
 
 /// The mode for missing keys that has this number.
@@ -49,7 +53,7 @@ fn limit(default: u64, most: u64, number: u64) -> u64
 }
 
 /// The options of a run.
-pub(crate) fn options_in(settings: &Settings) -> Options
+pub(crate) fn options_in(settings: &Settings<'_>) -> Options
     ensures { rules_of result ≡ rules_in settings.now }
 {
     Options {

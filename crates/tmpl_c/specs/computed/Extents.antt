@@ -6,6 +6,7 @@ use Rattle.tmpl_syntax.specs.Set.{Template}
 use Rattle.tmpl_tool.specs.Outcome.{Answer}
 use Rattle.tmpl_tool.specs.Source.{Bytes}
 use Rattle.tmpl_c.specs.Filled.{Rendered, Seen}
+use Rattle.tmpl_c.specs.Given.{RenderedBy}
 use Rattle.tmpl_engine.specs.declared.rendering.Renderer.{Renderer}
 use Rattle.tmpl_c.specs.Held.{held_answer, templates_run}
 use Rattle.tmpl_c.specs.Passed.{rules_in}
@@ -19,6 +20,11 @@ extent_seen memory e = record { memory = memory; taken = e.taken; needed = e.nee
 -- the answer was copied to memory for the text and memory for the line, each as it was before and is now
 abbrev pub IsFilled : Answer → Bytes → Bytes → Bytes → Bytes → Filled → Type 0
 IsFilled a out out_now err err_now f = Rendered a (length out) (extent_seen out_now f.text)
+    (length err) (extent_seen err_now f.line) f.status
+
+-- .. what is given of it, where its text has to be of the format of this name
+abbrev pub IsFilledBy : Bytes → Answer → Bytes → Bytes → Bytes → Bytes → Filled → Type 0
+IsFilledBy word a out out_now err err_now f = RenderedBy word a (length out) (extent_seen out_now f.text)
     (length err) (extent_seen err_now f.line) f.status
 
 -- the answer of a render of kept templates and data, by these settings
