@@ -92,7 +92,7 @@ def of_changes(calls, count, seed=1):
     draw, small = random.Random(seed), [it for it in calls if it.size() <= LONGEST]
     while count:
         it = changed(draw, *draw.sample(small, 2))
-        status, out, err = tmpl.render_into(it.files, it.name, it.data, tmpl._Settings(*it.settings), ROOM, ROOM)
+        status, out, err = tmpl.render_into(it.files, it.name, it.data, tmpl._Settings(0, *it.settings), ROOM, ROOM)
         if status not in (tmpl.FULL, tmpl.MEMORY):
             it.came = status, out.output(), err.output()
             yield it

@@ -4,6 +4,7 @@
 #include "tmpl.h"
 #include <pthread.h>
 #include <stdatomic.h>
+#include <stddef.h>
 #include <stdio.h>
 #include <stdlib.h>
 #include <string.h>
@@ -46,43 +47,50 @@ static void judge(int is_right, const char *what, long number) {
 struct row {
     const char *template, *data, *text, *line;
     int status, print;
+    const char *writes; /* the format of which the text has to be, if any */
 };
 
 static const struct row rows[] = {
-    {"Hello, {{.name}}!", "{\"name\":\"Ada\"}", "Hello, Ada!", "", TMPL_OK, 0},
+    {"Hello, {{.name}}!", "{\"name\":\"Ada\"}", "Hello, Ada!", "", TMPL_OK, 0, 0},
     {"{{define \"row\"}}{{printf \"%d %s\" .n .s}}\n{{end}}{{range .}}{{template \"row\" .}}{{end}}",
-     "[{\"n\":1,\"s\":\"a\"},{\"n\":2,\"s\":\"b\"}]", "1 a\n2 b\n", "", TMPL_OK, 0},
-    {"{{$x := printf \"%q\" .}}{{html $x}} {{len $x}}", "\"<a>\"", "&#34;&lt;a&gt;&#34; 5", "", TMPL_OK, 0},
-    {"{{with .a}}{{index . 9}}{{end}}", "{\"a\":[1]}", "", "tmpl: t:1: in \"t\": index: out of range\n", TMPL_FAULT, 0},
-    {"before {{.a.b}}", "{\"a\":1}", "before ", "tmpl: t:1: in \"t\": no field \"b\" here\n", TMPL_FAULT, 0},
-    {"{{if .}}", "", "", "tmpl: t:1: file ends inside a control\n", TMPL_REFUSED, 0},
-    {"{{.}}", "{\"a\":[1.5]}", "", "tmpl: data: number not whole or out of range\n", TMPL_DATA, 0},
-    {"{{.}}", "{\"a\":[1,", "", "tmpl: data: not JSON\n", TMPL_DATA, 0},
-    {"{{ .a|len }}{{if .b}}x{{end}}", "", "{{define \"t\"}}{{.a | len}}{{if .b}}x{{end}}{{end}}\n", "", TMPL_OK, 1},
+     "[{\"n\":1,\"s\":\"a\"},{\"n\":2,\"s\":\"b\"}]", "1 a\n2 b\n", "", TMPL_OK, 0, 0},
+    {"{{$x := printf \"%q\" .}}{{html $x}} {{len $x}}", "\"<a>\"", "&#34;&lt;a&gt;&#34; 5", "", TMPL_OK, 0, 0},
+    {"{{with .a}}{{index . 9}}{{end}}", "{\"a\":[1]}", "", "tmpl: t:1: in \"t\": index: out of range\n", TMPL_FAULT, 0, 0},
+    {"before {{.a.b}}", "{\"a\":1}", "before ", "tmpl: t:1: in \"t\": no field \"b\" here\n", TMPL_FAULT, 0, 0},
+    {"{{if .}}", "", "", "tmpl: t:1: file ends inside a control\n", TMPL_REFUSED, 0, 0},
+    {"{{.}}", "{\"a\":[1.5]}", "", "tmpl: data: number not whole or out of range\n", TMPL_DATA, 0, 0},
+    {"{{.}}", "{\"a\":[1,", "", "tmpl: data: not JSON\n", TMPL_DATA, 0, 0},
+    {"{\"a\": {{.}}}", "5", "{\"a\": 5}", "", TMPL_OK, 0, "json"},
+    {"{\"a\": {{.}}}", "\"x\"", "", "tmpl: output:1:7: not json: expected a value\n", TMPL_FORMAT, 0, "json"},
+    {"a {{.b.c}}", "{\"b\":5}", "", "tmpl: t:1: in \"t\": no field \"c\" here\n", TMPL_FAULT, 0, "env"},
+    {"A={{.}}\n", "\"x\"", "A=x\n", "", TMPL_OK, 0, "env"},
+    {"A={{.}}\n", "\"x y\"", "", "tmpl: output:1:4: not env: expected a value that needs no quotes, or the end of the line\n", TMPL_FORMAT, 0, "env"},
+    {"x", "", "", "tmpl: no such format\n", TMPL_FORMAT, 0, "xml"},
+    {"{{ .a|len }}{{if .b}}x{{end}}", "", "{{define \"t\"}}{{.a | len}}{{if .b}}x{{end}}{{end}}\n", "", TMPL_OK, 1, 0},
 };
 enum { ROWS = sizeof rows / sizeof *rows };
 
 /* What a check says of a file. */
 static const struct row checked[] = {
-    {"Hello, {{.name}}!", "", "", "", TMPL_OK, 0},
+    {"Hello, {{.name}}!", "", "", "", TMPL_OK, 0, 0},
     {"a\n{{if name}}{{end}} {{end}}", "",
      "t:2:1: error: action not understood: no function \"name\": write .name\n"
      "t:2:20: error: out of place: \"end\" closes nothing: no if, with, range, define or block is open\n",
-     "", TMPL_REFUSED, 0},
+     "", TMPL_REFUSED, 0, 0},
     {"{{define \"a\"}}x{{end}}{{define \"a\"}}y{{end}}", "", "t:1:23: error: second definition: second definition of \"a\", the first in line 1\n", "",
-     TMPL_REFUSED, 0},
+     TMPL_REFUSED, 0, 0},
     {"{{.a.b-c}}\n{{name}}", "", "t:1:1: error: unclosed or unreadable action: unexpected \"-\": write index .a \"b-c\"\n"
-     "t:2:1: error: action not understood: no function \"name\": write .name\n", "", TMPL_REFUSED, 0},
+     "t:2:1: error: action not understood: no function \"name\": write .name\n", "", TMPL_REFUSED, 0, 0},
 };
 enum { CHECKED = sizeof checked / sizeof *checked };
 
 /* What a check of a file over a schema says, which is the row's data. */
 static const struct row over_schema[] = {
-    {"{{len .a}}", "{\"type\":\"object\",\"properties\":{\"a\":{\"type\":\"string\"}},\"required\":[\"a\"]}", "", "", TMPL_OK, 0},
+    {"{{len .a}}", "{\"type\":\"object\",\"properties\":{\"a\":{\"type\":\"string\"}},\"required\":[\"a\"]}", "", "", TMPL_OK, 0, 0},
     {"x\n {{.a}}", "{\"type\":\"object\",\"properties\":{\"a\":{\"type\":\"string\"}}}",
      "t:2:2: error: may fail: .a may be absent: no \"required\" at s:1\n"
-     "t:2:2: note: fails with --missingkey error for {}: no entry for key \"a\"\n", "", TMPL_REFUSED, 0},
-    {"{{name}}", "{", "t:1:1: error: action not understood: no function \"name\": write .name\n", "", TMPL_REFUSED, 0},
+     "t:2:2: note: fails with --missingkey error for {}: no entry for key \"a\"\n", "", TMPL_REFUSED, 0, 0},
+    {"{{name}}", "{", "t:1:1: error: action not understood: no function \"name\": write .name\n", "", TMPL_REFUSED, 0, 0},
 };
 enum { OVER_SCHEMA = sizeof over_schema / sizeof *over_schema };
 
@@ -97,9 +105,16 @@ static int are_lent(const struct told *told, size_t size, size_t line_size) {
     return told->text.bytes == told->out && told->text.size == size && told->said.bytes == told->line && told->said.size == line_size;
 }
 
+static tmpl_settings settings_of(const struct row *row) {
+    tmpl_settings settings = TMPL_SETTINGS;
+    settings.print = (uint8_t)row->print;
+    if (row->writes) settings.writes = row->writes, settings.writes_size = strlen(row->writes);
+    return settings;
+}
+
 static void render(const struct row *row, size_t size, size_t line_size, struct told *told) {
     told->is_quiet = 0;
-    tmpl_settings settings = {.print = (uint8_t)row->print};
+    const tmpl_settings settings = settings_of(row);
     tmpl_file file = {"t", 1, row->template, strlen(row->template)};
     told->text = (tmpl_buffer){told->out, size, 99, 99};
     told->said = (tmpl_buffer){told->line, line_size, 99, 99};
@@ -120,7 +135,7 @@ static int read_again(const struct row *row, tmpl_data *data, tmpl_buffer *said)
 /* The same by what is kept: the file is added, the data read after others, and both rendered twice; or what stopped it. All is freed,
    twice. */
 static void keep(const struct row *row, size_t size, size_t line_size, struct told *told) {
-    tmpl_settings settings = {.print = (uint8_t)row->print};
+    const tmpl_settings settings = settings_of(row);
     tmpl_file file = {"t", 1, row->template, strlen(row->template)};
     tmpl_set set = {0};
     tmpl_data data = {0};
@@ -145,7 +160,7 @@ static void lend(const tmpl_text *text, tmpl_buffer *it) {
 
 /* The same by a second handle of a program and of data, after the first ones and the set are freed, and twice into one text. */
 static void keep_text(const struct row *row, size_t size, size_t line_size, struct told *told) {
-    tmpl_settings settings = {.print = (uint8_t)row->print};
+    const tmpl_settings settings = settings_of(row);
     tmpl_file file = {"t", 1, row->template, strlen(row->template)};
     tmpl_set set = {0};
     tmpl_program program = {0}, copy = {0};
@@ -178,7 +193,7 @@ static void keep_text(const struct row *row, size_t size, size_t line_size, stru
 
 /* .. and into memory that is lent. */
 static void keep_program(const struct row *row, size_t size, size_t line_size, struct told *told) {
-    tmpl_settings settings = {.print = (uint8_t)row->print};
+    const tmpl_settings settings = settings_of(row);
     tmpl_file file = {"t", 1, row->template, strlen(row->template)};
     tmpl_set set = {0};
     tmpl_program program = {0};
@@ -433,8 +448,33 @@ static void give_back_older(void) {
     for (int i = 0; i < OLDER; i++) tmpl_data_free(older + i), tmpl_data_free(none + i);
 }
 
+/* Settings of a caller that was compiled with fewer, of one that has more, and of one that leaves out their size. */
+static void render_by_size(void) {
+    struct {
+        tmpl_settings known;
+        char more[16];
+    } settings = {.known = {.output = 1, .writes = "json", .writes_size = 4}, .more = "what comes later"};
+    const struct {
+        size_t size;
+        int status;
+    } sizes[] = {{offsetof(tmpl_settings, output), TMPL_OK}, {offsetof(tmpl_settings, writes), TMPL_FULL}, {sizeof(tmpl_settings), TMPL_FULL},
+                 {sizeof settings, TMPL_FULL}, {0, TMPL_FULL}};
+    for (size_t i = 0; i < sizeof sizes / sizeof *sizes; i++) {
+        char text[8], line[128];
+        tmpl_buffer out = {text, sizeof text, 0, 0}, err = {line, sizeof line, 0, 0};
+        const tmpl_file file = {"t", 1, "ab", 2};
+        settings.known.size = sizes[i].size;
+        const int status = tmpl_render(&settings.known, &file, 1, "t", 1, "", 0, &out, &err);
+        judge(status == sizes[i].status, "settings of a size", (long)sizes[i].size);
+        const char *wanted = status == TMPL_OK ? "" : "tmpl: more than 1 bytes of output\n";
+        judge(holds(&err, wanted), "the line of settings of a size", (long)sizes[i].size);
+        judge(holds(&out, status == TMPL_OK ? "ab" : sizes[i].size == offsetof(tmpl_settings, writes) ? "a" : ""), "their text", (long)sizes[i].size);
+    }
+}
+
 int main(int argc, char **argv) {
     (void)argv;
+    render_by_size();
     long refusals = 0;
     struct told told;
     for (int i = 0; i < ROWS; i++) {

@@ -58,7 +58,8 @@ int main(int argc, char **) {
     tmpl::data none, ada(R"({"name": "Ada"})");
     pages.add("m", "Hello, {{.name}}!");
     pages.add("loud", "a{{range 30000}}0123456789{{end}}{{len .}}");
-    const tmpl_settings printed = {0, 0, 0, 1, 0}, strict = {0, 0, 3, 0, 0}, short_run = {1, 0, 0, 0, 0}, short_text = {0, 0, 0, 0, 9};
+    tmpl_settings printed = TMPL_SETTINGS, strict = TMPL_SETTINGS, short_run = TMPL_SETTINGS, short_text = TMPL_SETTINGS;
+    printed.print = 1, strict.missing_key = 3, short_run.steps = 1, short_text.output = 9;
     tell("with data", [&] { return pages.render("m", ada); });
     tell("without", [&] { return pages.render("m", none); });
     tell("a missing key", [&] { return pages.render("m", none, strict); });

@@ -80,7 +80,7 @@ class Call:
         self.row, self.files, self.name, self.data, self.settings, self.line = row, files, name, data, settings, line
 
     def into(self, size, line_size):
-        return tmpl.render_into(self.files, self.name, self.data, tmpl._Settings(*self.settings), size, line_size)
+        return tmpl.render_into(self.files, self.name, self.data, tmpl._Settings(0, *self.settings), size, line_size)
 
 
 def options_of(words):
@@ -169,7 +169,7 @@ def judge_kept(call):
 
 def lent_by(templates, call):
     """What is wrong of the renders of what is kept into lent memory: of the set, and of the program where the set is not printed."""
-    worker, wrong, settings = templates._worker(), [], tmpl._Settings(*call.settings)
+    worker, wrong, settings = templates._worker(), [], tmpl._Settings(0, *call.settings)
     tmpl._LIBRARY.tmpl_data_read(worker.data, call.data, len(call.data), tmpl._Lent(99).buffer)
     handles = {"set": templates._set} if settings.print else {"set": templates._set, "program": worker.program}
     for name, handle in handles.items():
@@ -182,24 +182,24 @@ def lent_by(templates, call):
 
 
 def judge_limits(call):
-    """Renders with each limit of the text, into lent memory and into a text: the first bytes of it are there, just so many, with status 6;
-    where it has no more, it is as without a limit."""
+    """Renders with each limit of the text, into lent memory and into a text: the first bytes of it are there, just so many, with status 6 and
+    the line of that; where it has no more, it is as without a limit."""
     row, count, wrong = call.row, 0, []
     steps, depth, mode, is_print = call.settings
     how = {"missing_key": list(tmpl.MISSING_KEY)[mode], "depth": depth, "steps": steps, "printed": bool(is_print)}
     with tmpl.Templates(call.files) as templates:
         for limit in range(1, len(row.out) + 2):
             is_over = limit < len(row.out)
-            wanted = (tmpl.FULL, row.out[:limit], b"tmpl: write failed\n") if is_over else (row.status, row.out, call.line)
-            by_wrapper = (*wanted[:2], b"tmpl: more than %d bytes of output\n" % limit if is_over else wanted[2])
-            settings = tmpl._Settings(*call.settings, limit)
+            line = b"tmpl: more than %d bytes of output\n" % limit
+            wanted = (tmpl.FULL, row.out[:limit], line) if is_over else (row.status, row.out, call.line)
+            settings = tmpl._Settings(0, *call.settings, limit)
             status, out, err = tmpl.render_into(call.files, call.name, call.data, settings, len(row.out) + 1, 64 + len(call.line))
             got = [(status, out.output(), err.output())]
             wrong += [f"    a limit of {limit}: {it}" for it in got if it != wanted]
             if not is_print:
                 status, text, line = came_of(lambda: templates.render_bytes(call.name, call.data, output=limit, **how))
                 got.append((status, text, f"{line}\n".encode() if line else b""))
-                wrong += [f"    the wrapper, with a limit of {limit}: {got[1]}"] * (got[1] != by_wrapper)
+                wrong += [f"    the wrapper, with a limit of {limit}: {got[1]}"] * (got[1] != wanted)
             wrong += [f"    a limit of {limit}: it needs {out.buffer.needed}"] * (out.buffer.needed != min(limit, len(row.out)))
             count += len(got)
     return f"{row.name}, each limit", count, wrong
@@ -770,7 +770,7 @@ HEADER = r"""
 #include <stdio.h>
 int main(void) {
     char text[16], line[64];
-    tmpl_settings settings = {0, 0, 0, 0, 0};
+    tmpl_settings settings = TMPL_SETTINGS;
     tmpl_file file = {"m", 1, "{{.}}", 5};
     tmpl_buffer out = {text, sizeof text, 0, 0}, err = {line, sizeof line, 0, 0};
     int status = tmpl_render(&settings, &file, 1, "m", 1, "[1,2]", 5, &out, &err);

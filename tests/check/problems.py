@@ -17,7 +17,7 @@ from tests.lib.harness import CHECKER as CHECK
 from tests.lib.harness import PROGRAM as TMPL
 from tests.lib.harness import ROWS as NAMED
 from tests.lib.harness import SECONDS, build_shim, closing, is_built
-from tests.rows.problem_rows import DATA, FAILING, FAILING_DATA, FILES, HIDDEN, ROWS
+from tests.rows.problem_rows import DATA, FAILING, FAILING_DATA, FILES, HIDDEN, LENGTH, ROWS, RUN_DATA, RUNS
 
 LINE = re.compile(r"(.+?):([1-9][0-9]*):([1-9][0-9]*): (error|warning): (.*)")
 
@@ -97,6 +97,36 @@ def failing(folder, failures):
             write(folder, "m", "{{" + cure + "}}")
             hold(title, "what it says to write, checked", b"", run(CHECK, ["m"], folder)[1], failures)
             hold(title, "what it says to write, rendered", 0, run(TMPL, ["--data", "d", "m"], folder)[0], failures)
+
+
+def runs(folder, failures):
+    """Runs over data: what is found of each, that tmpl fails with that message where an error is found, and that nothing is found beside
+    other errors, a file that is missing, or a schema."""
+    write(folder, "d", json.dumps(RUN_DATA))
+    for title, template, mode, lines in named(RUNS):
+        write(folder, "m", template)
+        given = ["--missingkey", mode, "--data", "d"]
+        status, out, err = run(CHECK, [*given, "m"], folder)
+        wrong = any(": error: " in line for line in lines)
+        hold(title, "lines", "".join(f"m:{line}\n" for line in lines), out.decode(), failures)
+        hold(title, "status and errors", (int(wrong), b""), (status, err), failures)
+        forms(folder, [*given, "m"], title, lines, failures)
+        status, _, err = run(TMPL, [*given, "m"], folder)
+        if any(": warning: " in line for line in lines):
+            continue
+        hold(title, "status of tmpl", int(wrong), status, failures)
+        if wrong:
+            said = err.decode().rstrip("\n").split(": ")
+            place, told = lines[0].partition(": error: ")[::2]
+            hold(title, "line of tmpl", place.split(":")[0], said[1].split(":")[1], failures)
+            hold(title, "message of tmpl", True, told == ": ".join(said[3:]) or told.startswith(": ".join(said[3:]) + ": "), failures)
+    write(folder, "m", "{{len .ports}}")
+    write(folder, "n", "{{name}}")
+    write(folder, "s", "{}")
+    for words in (["m", "n"], ["m", "nosuch"], ["--schema", "s", "m"]):
+        out = run(CHECK, ["--data", "d", *words], folder)[1].decode()
+        hold(" ".join(words), "nothing of the run", False, LENGTH in out, failures)
+    hold("no data", "lines", b"", run(CHECK, ["m"], folder)[1], failures)
 
 
 def forms(folder, words, title, lines, failures):
@@ -339,9 +369,10 @@ def main():
     with tempfile.TemporaryDirectory(dir="/dev/shm" if os.access("/dev/shm", os.W_OK) else None) as folder:
         rows(folder, failures)
         failing(folder, failures)
+        runs(folder, failures)
         if NAMED:
             print(*failures, sep="\n", end="\n" * bool(failures))
-            return closing(len(named(ROWS + FILES + DATA + FAILING)) - len(failures), len(failures))
+            return closing(len(named(ROWS + FILES + DATA + FAILING + RUNS)) - len(failures), len(failures))
         hidden(folder, failures)
         words(folder, failures)
         uris(folder, failures)
@@ -351,7 +382,7 @@ def main():
         draws(folder, count, seed, failures)
     for failure in failures[:20]:
         print(failure)
-    passed = len(ROWS) + len(FILES) + len(DATA) + len(FAILING) + 4 * len(HIDDEN) + count - len(failures)
+    passed = len(ROWS) + len(FILES) + len(DATA) + len(FAILING) + len(RUNS) + 4 * len(HIDDEN) + count - len(failures)
     return closing(max(passed, 0), len(failures))
 
 

@@ -138,6 +138,7 @@ QUOTES = {
     "to json": (by_json, False, None),
     "toml": (by_toml if tomllib else None, False, None),
     "yaml": (by_yaml if yaml else None, False, None),
+    "to yaml": (by_yaml if yaml else None, False, None),
     "nginx": (by_nginx, True, "stop: nginx has no parameter with a NUL"),
     "systemd": (by_systemd, True, "stop: systemd has no word with a NUL"),
     "systemd command": (by_command, True, "stop: systemd has no word with a NUL"),
@@ -280,7 +281,7 @@ def drawn(random_, depth):
     """Data of any kind."""
     kind = random_.randrange(7 if depth else 5)
     if kind < 5:
-        return random_.choice([None, True, False, 0, -(2**63), 42, "", "[1 2]", "map[a:1]", "<no value>", "é'\"\\\n", "true", "5", "\0"])
+        return random_.choice([None, True, False, 0, -(2**63), 42, "", "[1 2]", "map[a:1]", "<no value>", "é'\"\\\n", "true", "5", "\0", "a\x85b\x9f"])
     if kind == 5:
         return [drawn(random_, depth - 1) for _ in range(random_.randrange(4))]
     return {random_.choice(PARTS): drawn(random_, depth - 1) for _ in range(random_.randrange(4))}
@@ -292,6 +293,9 @@ def data_cases():
         data = drawn(random_, 4)
         got = of_data('{{template "to json" .}}', data)
         yield f"to json {data!r}", [] if got[0] == 0 and json.loads(got[1]) == data else [f"    it comes to {got}"]
+        if yaml:
+            got = of_data('{{template "to yaml" .}}', data)
+            yield f"to yaml {data!r}", [] if got[0] == 0 and yaml.safe_load(got[1]) == data else [f"    it comes to {got}"]
     for data in ([], ["\0"], [1, True, False, -5], [*texts()], *([*texts()][at : at + 3] for at in range(40))):
         wanted = ", ".join(it if isinstance(it, str) else json.dumps(it) for it in data).encode()
         got = of_data('{{template "join" .}}', data)

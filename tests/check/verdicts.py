@@ -207,6 +207,14 @@ def loop_results(folder):
     for title, template, words in schema_rows.LOOPS:
         came = checked(folder, schema_rows.of({"name": schema_rows.TEXT}), template, words)
         yield f"loop: {title}", 1, [] if came[0] == 0 and ": error: " not in came[1] else [f"    {came}, and not accepted"]
+    for file, names in schema_rows.QUOTES.items():
+        for name in names:
+            words = ["--library", f"{harness.TOP}/examples/quotes/{file}"]
+            came = checked(folder, schema_rows.of({"name": schema_rows.TEXT}), '{{template "%s" .name}}' % name, words)
+            yield f"quotes: {name}", 1, [] if came == (0, "") else [f"    {came}, and not accepted"]
+    for name in schema_rows.NO_STOPS:
+        came = checked(folder, {}, '{{template "%s"}}' % name, [])
+        yield f"no stop: {name}", 1, [] if came == (1, f't:1:1: error: may fail: there is no template "{name}"\n') else [f"    {came}"]
     for title, template, name, kind in schema_rows.NEAR_LOOPS:
         status, out = checked(folder, schema_rows.of({"name": kind}), template, [])
         write(folder, "d", json.dumps({"name": name}))
@@ -239,6 +247,30 @@ def beside_results(folder):
         lines = [line for line in came.stdout.decode().splitlines() if ": note: " not in line]
         good = came.returncode == (1 if wanted else 0) and len(lines) == len(wanted) and all(line.startswith(front) for line, front in zip(lines, wanted))
         yield f"beside: {title}", 1, [] if good else [f"    {came.returncode} {lines}, and not {wanted}"]
+
+
+def held_results(folder):
+    """Data that is held to a schema: an error at each place at which it does not conform, with the line of the keyword."""
+    for title, schema, data, wanted in schema_rows.HELD:
+        write(folder, "s", schema)
+        write(folder, "t", "text")
+        write(folder, "d", data)
+        came = ran([harness.CHECKER, "--schema", "s", "--data", "d", "t"], folder)
+        lines = ["d:" + it.replace(": ", ": error: does not conform: ", 1) + " at s:1" for it in wanted]
+        good = (came.returncode, came.stdout.decode().splitlines(), came.stderr) == (int(bool(wanted)), lines, b"")
+        yield f"held: {title}", 1, [] if good else [f"    {came.returncode} {came.stdout.decode()}, and not {lines}"]
+    for title, schema, data in schema_rows.UNSEEN:
+        write(folder, "s", schema)
+        write(folder, "d", data)
+        came = ran([harness.CHECKER, "--schema", "s", "--data", "d", "t"], folder)
+        lines = [line for line in came.stdout.decode().splitlines() if ": warning: " not in line]
+        good = (came.returncode, lines) == (1, ["d:1:1: error: does not conform: it is not seen that it does"])
+        yield f"held: {title}", 1, [] if good else [f"    {came.returncode} {lines}"]
+    write(folder, "s", '{\n "type": "object",\n "properties": {\n  "a": {\n   "minimum": 1}}}')
+    write(folder, "d", '{"a": 0}')
+    came = ran([harness.CHECKER, "--schema", "s", "--data", "d", "t"], folder).stdout.decode()
+    wanted = 'd:1:2: error: does not conform: .a: 0 is below "minimum": 1 at s:5\n'
+    yield "held: the line of the keyword", 1, [] if came == wanted else [f"    {came}, and not {wanted}"]
 
 
 def example_results(folder):
@@ -303,6 +335,7 @@ def row_results():
             wanted = f"s:{placed(schema, token)}: error: schema not understood: {said}\n"
             came = checked(folder, schema, "text", [])
             yield f"schema: {title}", 1, [] if came == (1, wanted) else [f"    {came}, and not {wanted!r}"]
+        yield from warned_rows(folder)
         for title, schema, wanted in schema_rows.EMPTY:
             write(folder, "s", schema)
             write(folder, "t", "text")
@@ -313,19 +346,36 @@ def row_results():
         yield from loop_results(folder)
         yield from hostile_results(folder)
         yield from beside_results(folder)
+        yield from held_results(folder)
         yield from example_results(folder)
         yield from cookbook_results(folder)
         came = checked(folder, '{"type": "object",}', "text", [])
         yield "schema that is not JSON", 1, [] if came[0] == 1 and came[1].startswith("s:1:19: error: not JSON: ") else [f"    {came}"]
 
 
-def inferred(folder, texts):
-    """The status of tmpl-check --infer over files of these texts, and what it puts out."""
+def warned_rows(folder):
+    """Warnings of a schema that is read, with which `--strict` makes the exit status 1, and keywords that need none."""
+    write(folder, "t", "text")
+    for title, schema, token, said in schema_rows.WARNED:
+        write(folder, "s", schema)
+        wanted = "" if said is None else f"s:{placed(schema, token)}: warning: {said}\n"
+        for words, status in ([], 0), (["--strict"], int(said is not None)):
+            came = ran([harness.CHECKER, "--schema", "s", *words, "t"], folder)
+            good = (came.returncode, came.stdout.decode(), came.stderr) == (status, wanted, b"")
+            yield f"warned: {title} {words}", 1, [] if good else [f"    {came}, and not {wanted!r}"]
+    for keyword in schema_rows.KEYWORDS:
+        write(folder, "s", {keyword: {}})
+        came = ran([harness.CHECKER, "--schema", "s", "--strict", "t"], folder)
+        yield f"the keyword {keyword}", 1, [] if (came.returncode, came.stdout, came.stderr) == (0, b"", b"") else [f"    {came}"]
+
+
+def inferred(folder, texts, words=()):
+    """The status of tmpl-check --infer with these words over files of these texts, and what it puts out."""
     names = []
     for number, text in enumerate(texts):
         names.append(f"d{number}")
         write(folder, names[-1], text)
-    ended = ran([harness.CHECKER, "--infer", *names], folder)
+    ended = ran([harness.CHECKER, "--infer", *words, *names], folder)
     return ended.returncode, (ended.stdout + ended.stderr).decode()
 
 
@@ -379,6 +429,16 @@ def inferred_rows(folder):
         good = status == 0 and json.loads(out) == schema
         yield f"inferred: {title}", 1, [] if good else [f"    {status} {out}, and not {schema}"]
         yield f"samples of: {title}", 1, list(inferred_faults(folder, samples, out)) if status == 0 else []
+    for paths, samples, wanted in schema_rows.INFERRED_BY:
+        words = [word for path in paths for word in ("--map", path)]
+        status, out = inferred(folder, map(json.dumps, samples), words)
+        good = status == 0 and json.loads(out) == {"$schema": conforming.HEAD, **wanted}
+        yield f"inferred: by {paths}", 1, [] if good else [f"    {status} {out}, and not {wanted}"]
+        yield f"samples of: {paths}", 1, list(inferred_faults(folder, samples, out)) if status == 0 else []
+    before = resource.getrusage(resource.RUSAGE_CHILDREN).ru_utime
+    status, out = inferred(folder, [json.dumps([{f"k{number}": number} for number in range(16_000)])])
+    took = resource.getrusage(resource.RUSAGE_CHILDREN).ru_utime - before
+    yield "time of 16,000 maps of a key each", 1, [] if status == 0 and took < 3 else [f"    {status}, {took} s"]
     for title, texts, wanted in schema_rows.NOT_INFERRED:
         came = inferred(folder, texts)
         yield f"not inferred: {title}", 1, [] if came == wanted else [f"    {came}, and not {wanted}"]
@@ -519,6 +579,28 @@ def drawn_results(seed, count):
     yield "renders of drawn templates", 1, [] if tried > count else [f"    {tried} alone"]
 
 
+def drawn_held(seed, count):
+    """Random schemas and data: data in which no error is found conforms, and data of which a place is named does not."""
+    found = {True: 0, False: 0}
+    with tempfile.TemporaryDirectory(dir=harness.MEMORY) as folder:
+        write(folder, "t", "text")
+        for number in range(seed, seed + count):
+            draw = random.Random(number)
+            schema = conforming.drawn_document(draw)
+            write(folder, "s", schema)
+            for value in (conforming.drawn_value(draw, schema, schema, 5) for _ in range(4)):
+                write(folder, "d", json.dumps(value))
+                came = ran([harness.CHECKER, "--schema", "s", "--data", "d", "t"], folder)
+                lines = [line for line in came.stdout.decode().splitlines() if ": error: " in line]
+                if any(not line.startswith("d:") or line.endswith("it is not seen that it does") for line in lines):
+                    continue
+                fits = conforming.conforms(schema, schema, value) and (jsonschema is None or is_valid(schema, value))
+                found[fits] += 1
+                good = came.returncode == (1 if lines else 0) and fits == (not lines)
+                yield f"held {number}", 1, [] if good else [f"    {json.dumps(schema)}: {json.dumps(value)}: {lines}"]
+    yield "data that was held", 1, [] if min(found.values()) > count / 8 else [f"    {found} alone"]
+
+
 def modes_of(mode):
     return MODES if mode == "each" else (mode,)
 
@@ -556,7 +638,13 @@ def main():
     seed, count = map(int, sys.argv[1:3]) if len(sys.argv) > 2 else (1, 400)
     passed, failed, _ = harness.tally(
         itertools.chain(
-            results(), row_results(), drawn_results(seed, count), drawn_values(seed, count // 4), drawn_reasons(seed, count // 8), drawn_samples(seed, count // 4)
+            results(),
+            row_results(),
+            drawn_results(seed, count),
+            drawn_held(seed, count // 4),
+            drawn_values(seed, count // 4),
+            drawn_reasons(seed, count // 8),
+            drawn_samples(seed, count // 4),
         )
     )
     return harness.closing(passed, failed)

@@ -86,7 +86,7 @@ static void need(int holds, const char *what) {
 
 /* A block of its own for each part, so that a read past it is seen. */
 static void cut(struct input *it, const uint8_t *bytes, size_t size) {
-    it->settings = (tmpl_settings){1 + bytes[1] * bytes[1] / 16, bytes[0] & 4 ? 0 : 1 + bytes[2] % 64, bytes[0] & 3, 0, 0};
+    it->settings = (tmpl_settings){sizeof(tmpl_settings), 1 + bytes[1] * bytes[1] / 16, bytes[0] & 4 ? 0 : 1 + bytes[2] % 64, bytes[0] & 3, 0, 0, "", 0};
     it->pick = bytes[3];
     const uint8_t *at = bytes + HEAD, *end = bytes + size;
     size_t count = 0;

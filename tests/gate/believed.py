@@ -1,5 +1,5 @@
 """Counts the definitions on which the contracts rest, and holds the trusted specification of docs/PROOFS.md against them. It follows the
-names in the contracts of `tool`, of the C library and of the check, then those in the definitions, and compares the files, and its lines by
+names in the contracts of `tool`, of the formats, of the C library and of the check, then those in the definitions, and compares the files, and its lines by
 crate. They are counted without blank lines, comments and imports, so they change only where the page does. Each clause that the table of
 the crates names has to be one of its crate, or a part of the relation by which a clause is stated.
 
@@ -22,8 +22,8 @@ TOOL = (
 )
 # .. those of the C library
 LIBRARY = tuple(("tmpl_c", "src/lib.rt", f'pub extern "C" fn {name}(') for name in (
-    "keyed_render", "keyed_set_add", "keyed_check", "tmpl_data_read", "tmpl_data_share", "tmpl_render_set", "tmpl_set_print",
-    "tmpl_program_make", "tmpl_program_share", "tmpl_render_program", "tmpl_render_text",
+    "keyed_render", "keyed_set_add", "keyed_check", "tmpl_data_read", "tmpl_data_share", "inner_render_set", "tmpl_set_print",
+    "tmpl_program_make", "tmpl_program_share", "inner_render_program", "inner_render_text",
 ))
 # .. and those of what `tmpl-check` says
 CHECK = (
@@ -36,8 +36,10 @@ CHECK = (
 )
 # .. and the same check for C
 IN_C = (("tmpl_c", "src/lib.rt", 'pub extern "C" fn keyed_check_schema('),)
+# .. and of the formats of output
+FORMATS = (("tmpl_formats", "src/check.rt", "pub fn first_mistake"), ("tmpl_formats", "src/name.rt", "pub fn named"))
 # each group of contracts, as the page names it; a definition counts for the first group that comes to it
-GROUPS = {"tool": TOOL, "C library": LIBRARY, "check": CHECK, "check in C": IN_C}
+GROUPS = {"tool": TOOL, "formats": FORMATS, "C library": LIBRARY, "check": CHECK, "check in C": IN_C}
 
 WORD = r"[^\s(){}.,;]+"
 BEGINS = re.compile(r"(abbrev|unfoldable|pub|data|record|mutual|module)\b|\S+ :( |$)")

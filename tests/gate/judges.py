@@ -15,8 +15,8 @@ from tests.lib import harness, programs
 # the tests, each with the program that is put in place
 JUDGED = {
     **dict.fromkeys(("check.rendered", "check.places", "check.tables", "check.printing", "check.quotes", "check.hostile", "gate.generated"), "tmpl"),
-    **dict.fromkeys(("check.problems", "check.migration", "check.verdicts", "gate.documents"), "tmpl-check"),
-    **dict.fromkeys(("check.prefixes", "check.instructions"), "tmpl_probe"),
+    **dict.fromkeys(("check.problems", "check.migration", "check.verdicts", "check.outputs", "gate.documents"), "tmpl-check"),
+    **dict.fromkeys(("check.prefixes", "check.instructions", "check.formats"), "tmpl_probe"),
     "check.host": "tmpl_host",
 }
 ONLY_FAILS = ("check.printing", "check.quotes", "check.hostile", "check.places", "check.tables")  # that are long over any other

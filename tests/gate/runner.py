@@ -47,21 +47,22 @@ TESTS = {
     **{name: f"fault.{name}" for name in ("calls", "kept", "lent_memory", "writes", "sweep", "memory", "counts")},
     **{name: f"gate.{name}" for name in ("generated", "documents", "wording")},
     **{name: f"check.{name}" for name in (
-        "instructions", "host", "hostile", "quotes", "library", "ports", "web", "problems", "migration", "verdicts", "highlighting",
+        "instructions", "host", "hostile", "quotes", "library", "ports", "web", "problems", "migration", "verdicts", "outputs", "highlighting",
+        "formats",
     )},
 }
 MODULE = re.compile(r"(gate|check|fault)\.\w+")
 # what `make test` runs, the longest first, with the words that make it shorter than in the gate
 QUICK = {
-    **dict.fromkeys(("random_sets", "quotes", "printing", "verdicts", "problems", "hostile", "rendered", "places", "tables", "migration")),
-    "highlighting": None,
+    **dict.fromkeys(("random_sets", "quotes", "printing", "verdicts", "outputs", "problems", "hostile", "rendered", "places", "tables", "migration")),
+    "highlighting": None, "formats": None,
     **dict.fromkeys(("documents", "generated", "wording", "believed", "unused")), "prefixes": "--some", "instructions": None, "host": None,
 }
 # the programs that a test runs, where these are not tmpl alone
 RUNS = {
-    **dict.fromkeys(("problems", "migration", "verdicts", "documents", "generated", "hostile", "library"), ("tmpl", "tmpl-check")),
+    **dict.fromkeys(("problems", "migration", "verdicts", "outputs", "documents", "generated", "hostile", "library"), ("tmpl", "tmpl-check")),
     "judges": programs.ALL,
-    **dict.fromkeys(("calls", "kept", "lent_memory", "memory", "prefixes", "instructions"), ("tmpl", "tmpl_probe")),
+    **dict.fromkeys(("calls", "kept", "lent_memory", "memory", "prefixes", "instructions", "formats"), ("tmpl", "tmpl_probe")),
     "host": ("tmpl_host", "tmpl_probe"),
     **dict.fromkeys((PROOFS, "edits", "tried", "believed", "wording", "unused", "recipe", "highlighting"), ()),
 }

@@ -1,4 +1,4 @@
-"""Tries some sixty mutants of edits/ on every run of the gate: the prover must refuse each.
+"""Tries some seventy mutants of edits/ on every run of the gate: the prover must refuse each.
 
 `rt ci` proves a crate once more before it tries the first body of its must-fail/, so only one small crate has some there. Those that are
 named here are tried on a copy of the repository, over the libraries that `rt ci` left. Of a crate all are put in at once, and only the
@@ -35,6 +35,7 @@ TRIED = {
     "tmpl_values": "map_printed_out_of_order map_visited_backwards number_visited_from_one",
     "tmpl_loops": "a_body_that_sees_its_index",
     "tmpl_lex": "dash_is_a_left_marker left_marker_goes_past_a_comment vertical_tab_is_space",
+    "tmpl_formats": "a_column_too_few stack_forgotten single_quote_left_open",
     "tmpl_grammar": "range_assigns octal_escape_past_a_byte",
     "tmpl_hints": "end_told_as_a_jump broken_byte_told_by_a_mark",
     "tmpl_json_schema": "keyword_of_no_list second_type_left_out most_items_taken_for_least type_of_the_last_sample_only",

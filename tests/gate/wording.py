@@ -50,9 +50,9 @@ EXCEPTIONS = (
     ("crates/tmpl_hints/src/instead.rt", r"puts out", "names of functions of other tools, one after the other"),
 )
 # the crates whose strings are messages or help
-SPOKEN = ["tmpl_hints", "tmpl_problems", "tmpl_shape", "tmpl_schema", "tmpl_json_schema", "tmpl_report", "tmpl_check", "tmpl_tool"]
+SPOKEN = ["tmpl_formats", "tmpl_hints", "tmpl_problems", "tmpl_shape", "tmpl_schema", "tmpl_json_schema", "tmpl_report", "tmpl_check", "tmpl_tool"]
 # .. and those whose comments are held to this too
-COMMENTED = ["tmpl_hints", "tmpl_problems", "tmpl_shape", "tmpl_loops", "tmpl_schema", "tmpl_json_schema", "tmpl_report", "tmpl_tool", "tmpl_check", "tmpl_c"]
+COMMENTED = ["tmpl_formats", "tmpl_hints", "tmpl_problems", "tmpl_shape", "tmpl_loops", "tmpl_schema", "tmpl_json_schema", "tmpl_report", "tmpl_tool", "tmpl_check", "tmpl_c"]
 # .. and of these the whole text, or comments and strings
 WHOLE = ["bindings/python/*.py", "completions/*"]
 BOUND = ["bindings/c/*.[ch]", "bindings/c/*.hpp", "bindings/go/tmpl.go", "bindings/rust/src/*.rs", "bindings/javascript/*.mjs", "bindings/javascript/*.ts"]

@@ -1,5 +1,6 @@
 """Which values conform to a JSON Schema, by a reading of its own, and schemas, values and templates that are drawn at random."""
 import json
+import re
 
 TYPES = {"null": type(None), "boolean": bool, "integer": int, "number": int, "string": str, "array": list, "object": dict}
 NARROWING = ("minimum", "maximum", "exclusiveMinimum", "exclusiveMaximum", "minLength", "minItems")
@@ -8,6 +9,9 @@ FORMS = ("%v", "%v", "%v", "%s", "%s", "%d", "%d", "%q", "%x", "%X", "%o", "%b",
 HEAD = "https://json-schema.org/draft/2020-12/schema"
 DRAFT_04 = "http://json-schema.org/draft-04/schema#"
 DRAFTS = (HEAD, "https://json-schema.org/draft/2019-09/schema", "http://json-schema.org/draft-07/schema#", "http://json-schema.org/draft-06/schema", DRAFT_04)
+
+
+SCHEMAS = ("items", "additionalProperties", "additionalItems", "contains", "not", "if", "then", "else", "propertyNames")
 
 
 def has_type(name, value):
@@ -27,28 +31,87 @@ def pointed(root, reference):
     return at
 
 
+def year(root):
+    """The draft of a document, as a number that grows."""
+    head = root.get("$schema", HEAD) if isinstance(root, dict) else HEAD
+    return {HEAD: 2020, DRAFTS[1]: 2019, DRAFTS[2]: 7, DRAFTS[3]: 6, DRAFT_04: 4}[head]
+
+
+def map_rules(root, schema, value):
+    """The keywords that speak of a map."""
+    patterns = schema.get("patternProperties", {})
+
+    def is_other(key):
+        return key not in schema.get("properties", {}) and not any(re.search(pattern, key) for pattern in patterns)
+
+    def is_met(it):
+        return all(key in value for key in it) if isinstance(it, list) else conforms(root, it, value)
+
+    return {
+        "required": lambda it: all(key in value for key in it),
+        "properties": lambda it: all(conforms(root, it[key], value[key]) for key in it if key in value),
+        "patternProperties": lambda it: all(conforms(root, it[pattern], value[key]) for pattern in it for key in value if re.search(pattern, key)),
+        "additionalProperties": lambda it: all(conforms(root, it, value[key]) for key in value if is_other(key)),
+        "propertyNames": lambda it: year(root) < 6 or all(conforms(root, it, key) for key in value),
+        "dependentSchemas": lambda it: year(root) < 2019 or all(is_met(it[key]) for key in it if key in value),
+        "dependencies": lambda it: year(root) >= 2019 or all(is_met(it[key]) for key in it if key in value),
+    }
+
+
+def list_rules(root, schema, value):
+    """The keywords that speak of a list."""
+    prefixes = schema.get("prefixItems", []) if year(root) == 2020 else []
+
+    def first(it):
+        return all(conforms(root, one, item) for one, item in zip(it, value))
+
+    return {
+        "items": lambda it: first(it) if isinstance(it, list) else all(conforms(root, it, one) for one in value[len(prefixes):]),
+        "prefixItems": lambda it: first(prefixes),
+        "additionalItems": lambda it: not isinstance(schema.get("items"), list) or all(conforms(root, it, one) for one in value[len(schema["items"]):]),
+        "contains": lambda it: year(root) < 6 or any(conforms(root, it, one) for one in value),
+        "minItems": lambda it: len(value) >= it,
+    }
+
+
+def number_rules(schema, value):
+    """The keywords that speak of a number."""
+    return {
+        "minimum": lambda it: value > it or value == it and schema.get("exclusiveMinimum") is not True,
+        "maximum": lambda it: value < it or value == it and schema.get("exclusiveMaximum") is not True,
+        "exclusiveMinimum": lambda it: type(it) is bool or value > it,
+        "exclusiveMaximum": lambda it: type(it) is bool or value < it,
+    }
+
+
+def rules_of(root, schema, value):
+    """The keywords that speak of a value of this kind."""
+    if isinstance(value, dict):
+        return map_rules(root, schema, value)
+    if isinstance(value, list):
+        return list_rules(root, schema, value)
+    if isinstance(value, str):
+        return {"minLength": lambda it: len(value) >= it}
+    return number_rules(schema, value) if type(value) is int else {}
+
+
 def conforms(root, schema, value):
     """Whether a value conforms to a schema of a document: each keyword says so by itself."""
     if isinstance(schema, bool):
         return schema
+    if "$ref" in schema and year(root) < 2019:
+        return conforms(root, pointed(root, schema["$ref"]), value)
     rules = {
         "type": lambda it: any(has_type(name, value) for name in ([it] if isinstance(it, str) else it)),
-        "const": lambda it: is_equal(it, value),
+        "const": lambda it: year(root) < 6 or is_equal(it, value),
         "enum": lambda it: any(is_equal(one, value) for one in it),
-        "required": lambda it: not isinstance(value, dict) or all(key in value for key in it),
-        "properties": lambda it: not isinstance(value, dict) or all(conforms(root, it[key], value[key]) for key in it if key in value),
-        "additionalProperties": lambda it: not isinstance(value, dict)
-        or all(conforms(root, it, value[key]) for key in value if key not in schema.get("properties", {})),
-        "items": lambda it: not isinstance(value, list) or all(conforms(root, it, one) for one in value),
         "anyOf": lambda it: any(conforms(root, one, value) for one in it),
         "oneOf": lambda it: sum(conforms(root, one, value) for one in it) == 1,
+        "allOf": lambda it: all(conforms(root, one, value) for one in it),
+        "not": lambda it: not conforms(root, it, value),
+        "if": lambda it: year(root) < 7 or conforms(root, schema.get("then" if conforms(root, it, value) else "else", True), value),
         "$ref": lambda it: conforms(root, pointed(root, it), value),
-        "minimum": lambda it: type(value) is not int or value > it or value == it and schema.get("exclusiveMinimum") is not True,
-        "maximum": lambda it: type(value) is not int or value < it or value == it and schema.get("exclusiveMaximum") is not True,
-        "exclusiveMinimum": lambda it: type(value) is not int or type(it) is bool or value > it,
-        "exclusiveMaximum": lambda it: type(value) is not int or type(it) is bool or value < it,
-        "minLength": lambda it: not isinstance(value, str) or len(value) >= it,
-        "minItems": lambda it: not isinstance(value, list) or len(value) >= it,
+        **rules_of(root, schema, value),
     }
     return all(rules[keyword](it) for keyword, it in schema.items() if keyword in rules)
 
@@ -56,23 +119,58 @@ def conforms(root, schema, value):
 def drawn_schema(draw, depth):
     """A schema, in which names of definitions may stand."""
     kind = draw.random()
-    if depth == 0 or kind < 0.25:
+    if depth <= 0 or kind < 0.25:
         return draw.choice([
             True, {}, {"type": "string"}, {"type": "integer"}, {"type": "boolean"}, {"type": "null"}, {"type": ["string", "null"]},
             {"type": "number", draw.choice(NARROWING[:4]): draw.randrange(-2, 3)}, {"type": "string", "minLength": draw.randrange(2)},
             {"const": draw.choice([None, True, 0, 1, "", "x", [], {}, [1], {"a": 1}])}, {"enum": draw.sample([None, False, True, 0, 1, "", "x", []], 3)},
             {"type": "array", "items": {"type": "string"}, "minItems": draw.randrange(3)}, {"type": "array", "items": {"type": "string"}},
             {"type": "string", "enum": ["", "x", 1]}, {"$ref": "#/$defs/" + draw.choice(["n", "m~1o", "p%25q"])}, {"$ref": "#"}])
-    if kind < 0.5:
+    if kind < 0.45:
         return {"type": "array", "items": drawn_schema(draw, depth - 1), **({"minItems": draw.randrange(4)} if draw.random() < 0.5 else {})}
-    if kind < 0.6:
+    if kind < 0.5:
+        return drawn_tuple(draw, depth)
+    if kind < 0.55:
+        return drawn_parts(draw, depth)
+    if kind < 0.63:
         out = {draw.choice(["anyOf", "oneOf"]): [drawn_schema(draw, depth - 1) for _ in range(draw.randrange(1, 4))]}
         return {**out, "type": ["object", "string"]} if draw.random() < 0.3 else out
     return drawn_object(draw, depth)
 
 
+def drawn_tuple(draw, depth):
+    """A schema of lists whose first items have schemas of their own, as 2020-12 or earlier drafts write them."""
+    first, more = [drawn_schema(draw, depth - 1) for _ in range(draw.randrange(3))], drawn_schema(draw, depth - 1)
+    out = {"type": "array", "minItems": draw.randrange(3)}
+    if draw.random() < 0.5:
+        return {**out, "prefixItems": first, **({"items": more} if draw.random() < 0.7 else {})}
+    return {**out, "items": first, **({"additionalItems": more} if draw.random() < 0.7 else {})}
+
+
+def drawn_parts(draw, depth):
+    """Schemas together, or one beside a reference."""
+    if draw.random() < 0.3:
+        return {**drawn_object(draw, depth - 1), "$ref": "#/$defs/" + draw.choice(["n", "m~1o", "p%25q"])}
+    return {"allOf": [drawn_schema(draw, depth - 1) for _ in range(draw.randrange(1, 3))]}
+
+
+def narrowing(draw):
+    """A keyword that narrows a schema of maps further, as a schema of some keys."""
+    some = draw.choice([{"required": [draw.choice(FIELDS)]}, {"properties": {draw.choice(FIELDS): draw.choice([{"type": "string"}, {"const": 1}, False])}}, {"minLength": 1}])
+    return draw.choice([{"not": some}, {"if": some, "then": {"required": ["a"]}}, {"if": some, "else": {"required": ["b"]}}, {"propertyNames": {"enum": ["a", "b"]}},
+                        {"dependentSchemas": {draw.choice(FIELDS): some}}, {"dependencies": {draw.choice(FIELDS): draw.choice([some, ["a"]])}}, {"contains": {"type": "string"}},
+                        {"patternProperties": {draw.choice(["^a", "b$", "^[bc]$", "^.$"]): draw.choice([{"type": "string"}, {"type": ["integer", "string"]}, True, {"minLength": 1}])}},
+                        {"patternProperties": {"^[abc]$": {"type": ["string", "array", "object"]}}}, {"allOf": [some]}, {"x-order": 1}])
+
+
 def drawn_object(draw, depth):
     """A schema of maps, mostly."""
+    out = drawn_fields(draw, depth)
+    return {**out, **narrowing(draw)} if draw.random() < 0.25 else out
+
+
+def drawn_fields(draw, depth):
+    """A schema of maps, mostly, by their fields alone."""
     names = [name for name in FIELDS if draw.random() < 0.6]
     out = {"properties": {name: drawn_schema(draw, depth - 1) for name in names}}
     if draw.random() < 0.85:
@@ -93,7 +191,21 @@ def drawn_document(draw):
              for name in ("n", "m/o", "p%q")}
     head = draw.choice(DRAFTS)
     schema = {"$schema": head, "title": "drawn", **drawn_object(draw, 3), "$defs": names}
-    return in_draft_04(schema) if head == DRAFT_04 else schema
+    return in_draft_04(schema) if head == DRAFT_04 else in_2020(schema) if head == HEAD else schema
+
+
+def in_2020(it):
+    """A schema that is drawn, as 2020-12 writes it: without a list of schemas as `items`."""
+    if isinstance(it, list):
+        return [in_2020(one) for one in it]
+    if not isinstance(it, dict):
+        return it
+    out = {key: in_2020(one) for key, one in it.items()}
+    if isinstance(out.get("items"), list):
+        out["prefixItems"] = out.pop("items")
+        if "additionalItems" in out:
+            out["items"] = out.pop("additionalItems")
+    return out
 
 
 def in_draft_04(schema):
@@ -104,16 +216,16 @@ def in_draft_04(schema):
         return schema
     out = {}
     for keyword, it in schema.items():
-        if keyword in ("properties", "$defs"):
+        if keyword in ("properties", "$defs", "patternProperties", "dependentSchemas", "dependencies"):
             out[keyword] = {name: in_draft_04(one) for name, one in it.items()}
-        elif keyword in ("anyOf", "oneOf"):
+        elif keyword in ("anyOf", "oneOf", "allOf", "prefixItems") or keyword == "items" and isinstance(it, list):
             out[keyword] = [in_draft_04(one) for one in it]
         elif keyword == "const":
             out["enum"] = [it]
         elif keyword in ("exclusiveMinimum", "exclusiveMaximum"):
             out[keyword[9:].lower()], out[keyword] = it, True
         else:
-            out[keyword] = in_draft_04(it) if keyword in ("items", "additionalProperties") else it
+            out[keyword] = in_draft_04(it) if keyword in SCHEMAS else it
     return out
 
 
@@ -129,8 +241,8 @@ def drawn_value(draw, root, schema, depth):
         return schema["const"]
     if "enum" in schema:
         return draw.choice(schema["enum"])
-    for keyword in ("anyOf", "oneOf"):
-        if keyword in schema:
+    for keyword in ("anyOf", "oneOf", "allOf"):
+        if keyword in schema and "properties" not in schema:
             return drawn_value(draw, root, draw.choice(schema[keyword]), depth)
     types = schema.get("type", "object")
     name = types if isinstance(types, str) else draw.choice(types)
@@ -141,13 +253,28 @@ def drawn_of_type(draw, root, schema, depth, name):
     if name == "object":
         listed = schema.get("properties", {})
         wanted = [key for key in FIELDS if key in schema.get("required", []) or draw.random() < 0.4]
-        more = schema.get("additionalProperties", True)
-        return {key: drawn_value(draw, root, listed.get(key, more), depth - 1) for key in wanted if listed.get(key, more) is not False}
+        schemas = {key: schema_of_key(schema, listed, key) for key in wanted}
+        return {key: drawn_value(draw, root, one, depth - 1) for key, one in schemas.items() if one is not False}
     if name == "array":
         count = schema.get("minItems", 0) + draw.choice((0, 0, 1, 2)) - (draw.random() < 0.1)
-        return [drawn_value(draw, root, schema.get("items", True), depth - 1) for _ in range(max(0, count))]
+        return [drawn_value(draw, root, schema_of_item(schema, index), depth - 1) for index in range(max(0, count))]
     return {"null": None, "boolean": draw.random() < 0.5, "integer": draw.randrange(-2, 4), "number": draw.randrange(-2, 4),
             "string": draw.choice(["x", "", "long"])}[name]
+
+
+def schema_of_key(schema, listed, key):
+    """A schema to which the value of a key has to conform."""
+    found = [one for pattern, one in schema.get("patternProperties", {}).items() if re.search(pattern, key)]
+    return listed.get(key, found[0] if found else schema.get("additionalProperties", True))
+
+
+def schema_of_item(schema, index):
+    """A schema to which the item of this index has to conform, by one draft or another."""
+    items = schema.get("items", True)
+    first = schema.get("prefixItems", items if isinstance(items, list) else [])
+    if index < len(first):
+        return first[index]
+    return schema.get("additionalItems", True) if isinstance(items, list) else items
 
 
 def drawn_path(draw, scope):

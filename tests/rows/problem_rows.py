@@ -185,7 +185,10 @@ FAILING = [
     ("a length before a comparison", "len .list gt 1", '"len" takes 1 argument and has 3', "gt (len .list) 1"),
     ("a function without parentheses", "print len .list", AMONG.format("len"), "print (len .list)"),
     ("in parentheses", 'and .a (.b eq "x")', AMONG.format("eq"), 'eq .b "x"'),
-    ("of several strings", 'eq .a "x" or "y"', AMONG.format("or"), None),
+    ("of several strings", 'eq .a "x" or "y"', AMONG.format("or"), 'eq .a "x" "y"'),
+    ("of three strings, after the value", '.a eq "x" or "y" or "z"', AMONG.format("eq"), 'eq .a "x" "y" "z"'),
+    ("of a string and a field", 'eq .a "x" or .b', AMONG.format("or"), 'or (eq .a "x") .b'),
+    ("not of several strings", 'ne .a "x" or "y"', '"ne" takes 2 arguments and has 4', None),
     ("too many arguments", "len .a .b", '"len" takes 1 argument and has 2', None),
     ("too few arguments", "eq .a", '"eq" takes 2 or more arguments and has 1', None),
     ("a value that is piped is an argument", ".a | len .b", '"len" takes 1 argument and has 2', None),
@@ -332,4 +335,38 @@ HIDDEN = [
      ['1:1: warning: variable "$a\\u2028" is never used', '1:13: warning: variable "$b\\u202e" is never used',
       '1:25: warning: variable "$\u00e9" is never used', '1:36: warning: variable "$c\\u0085" is never used'],
      ['variable "$a\u2028" is never used', 'variable "$b\u202e" is never used', 'variable "$\u00e9" is never used', 'variable "$c\u0085" is never used']),
+]
+
+# runs over data: a title, the template, the mode, and what is found after the name of the file: each error is the fault of tmpl, with its
+# message, and more about it
+RUN_DATA = {"name": "Ada", "ports": 8080, "list": [1, "x"], "user": {"mail": "a@b"}, "none": None, "ok": True}
+LENGTH = "len: wrong kind of argument: "
+RUNS = [
+    ("no fault", "{{.name}}{{len .list}}{{range .user}}{{.}}{{end}}", "default", []),
+    ("a length of an integer", "Dear\n{{.name}}\né {{len .ports}}", "default", ["3:3: error: " + LENGTH + ".ports is an integer (8080), which has no length"]),
+    ("of the data", "{{len $.ok}}", "default", ["1:1: error: " + LENGTH + "$.ok is a boolean (true), which has no length"]),
+    ("that is piped", "{{.none | len}}", "default", ["1:1: error: " + LENGTH + ".none is null, which has no length"]),
+    ("the second of two", "{{len .list}} {{len .ports}}", "default", ["1:15: error: " + LENGTH + ".ports is an integer (8080), which has no length"]),
+    ("of an item", "{{range .list}}{{len .}}{{end}}", "default", ["1:16: error: " + LENGTH + "it takes a string, a list or a map"]),
+    ("in a template that is called", '{{define "t"}}{{len .}}{{end}}{{template "t" .ports}}', "default", ["1:15: error: " + LENGTH + "it takes a string, a list or a map"]),
+    ("in a with", "{{with .user}}\n{{.mail.x}}{{end}}", "default", ['2:1: error: no field "x" here: .mail is a string ("a@b"), which has no fields']),
+    ("a field of a string", "{{.name.first}}", "default", ['1:1: error: no field "first" here: .name is a string ("Ada"), which has no fields']),
+    ("a field that is absent", "{{.user.age}}", "error", ['1:1: error: no entry for key "age": .user has "mail": where it may be absent write index .user "age"']),
+    ("a field that may be absent", "{{.user.age}}", "default", []),
+    ("a field of dot that is absent", "{{with .user}}{{.age}}{{end}}", "error",
+     ['1:15: error: no entry for key "age": dot has "mail": where it may be absent write index . "age"']),
+    ("a range over a string", "{{range .name}}{{end}}", "default",
+     ["1:1: error: can't range over this value: .name is a string (\"Ada\"): a range visits a list, a map or the numbers below an integer"]),
+    ("a comparison of two kinds", '{{if lt .ports "a"}}{{end}}', "default",
+     ["1:1: error: lt: can't be compared: .ports is an integer (8080), \"a\" is a string; it compares two integers or two strings"]),
+    ("an index past the end", "{{index .list 2}}", "default",
+     ["1:1: error: index: out of range: .list is a list of 2 items, 2 is an integer; an index is from 0 to one below the length"]),
+    ("an integer as a string", '{{printf "%s" .ports}}', "default", ['1:1: error: printf: format refused: "%s" is a string, .ports is an integer (8080); '
+                                                                       "each form of the format takes one argument, of its kind"]),
+    ("a stop", 'x{{template "stop: no port"}}', "default", ['1:2: error: no template "stop: no port"']),
+    ("where no run gets to", "{{if .none}}{{len .ports}}{{end}}", "default", []),
+    ("more steps than are taken", "{{range 1000000}}{{end}}", "default", ["1:1: warning: the run over the data ended at a limit of this check, and what comes "
+     "after is not checked: 1,000,000 steps, 500 templates inside one another or 16,000,000 bytes of output"]),
+    ("calls without end", '{{define "r"}}{{template "r"}}{{end}}{{template "r"}}', "default", ["1:1: warning: the run over the data ended at a limit of this "
+     "check, and what comes after is not checked: 1,000,000 steps, 500 templates inside one another or 16,000,000 bytes of output"]),
 ]

@@ -1,5 +1,7 @@
 """Rows of tmpl-check over a JSON Schema, worked out by hand: the schema, the template, more words, and what is said; nothing where it is accepted."""
 
+import json
+
 OBJECT = {"type": "object", "additionalProperties": False}
 
 
@@ -25,6 +27,11 @@ def few(place, func, count, where=None):
 def low(count, line=1):
     """That a schema tells of fewer items than this."""
     return f'"minItems" at s:{line} is below {count}'
+
+
+def near(name, keyword):
+    """That a keyword is not known, and is near another."""
+    return f': the keyword "{name}" is not known: write "{keyword}"'
 
 
 NO_LEAST = 'no "minItems" at s:%d'
@@ -139,6 +146,30 @@ ACCEPTED = [
     ("printf without arguments", of({}), '{{printf "100%%"}}{{printf ""}}', []),
     ("printf of what is piped", of({"a": TEXT, "b": WHOLE}), '{{.b | printf "%s: %d" .a}}{{.a | printf "%q"}}', []),
     ("what printf gives is a text", of({"a": WHOLE}), '{{len (printf "%d" .a)}}{{lt (printf "%d" .a) "x"}}', []),
+    ("pattern properties and no others", {"type": "object", "patternProperties": {"^a": TEXT}, "additionalProperties": False}, "{{range .}}{{len .}}{{end}}", []),
+    ("pattern properties and others", {"type": "object", "patternProperties": {"^a": TEXT, "^b": ITEMS}, "additionalProperties": ITEMS}, "{{range .}}{{len .}}{{end}}", []),
+    ("required by a pattern", {"type": "object", "required": ["a"], "patternProperties": {"^a": TEXT}, "additionalProperties": False}, "{{len .a}}", []),
+    ("a property beside a pattern", of({"a": TEXT}, patternProperties={"^a": {"minLength": 1}, "^b": WHOLE}), "{{len .a}}", []),
+    ("allOf of one part", of({"a": {"allOf": [TEXT]}}), "{{len .a}}", []),
+    ("the first part of allOf", {"allOf": [of({"a": TEXT}), {"required": ["b"]}]}, "{{len .a}}", []),
+    ("allOf by a reference", of({"a": {"title": "t", "allOf": [{"$ref": "#/$defs/x"}]}}, **{"$defs": {"x": of({"b": TEXT})}}), "{{len .a.b}}", []),
+    ("type beside allOf", of({"a": {"type": "object", "allOf": [{"anyOf": [of({"b": TEXT}), TEXT]}]}}), "{{len .a.b}}", []),
+    ("prefix items", of({"a": {"type": "array", "minItems": 1, "prefixItems": [TEXT], "items": WHOLE}}), "{{range .a}}{{print .}}{{end}}{{index .a 0}}", []),
+    ("a list of items", of({"a": {"type": "array", "items": [TEXT], "additionalItems": False}}, **DRAFT_07), "{{range .a}}{{print .}}{{end}}", []),
+    ("beside a reference", {"$ref": "#/$defs/x", "type": "object", "$defs": {"x": of({"a": TEXT})}}, "{{len .a}}", []),
+    ("beside a reference to elsewhere", of({"a": {"$ref": "other.json", "type": "string"}}), "{{len .a}}", []),
+    ("beside a reference of draft-07", of({"a": {"$ref": "#/definitions/x", "type": "integer"}}, definitions={"x": TEXT}, **DRAFT_07), "{{len .a}}", []),
+    ("names below the top that begin with #", of({"a": {"$ref": "#/definitions/x"}}, definitions={"x": {"$id": "#x", "type": "string"}}, **DRAFT_07), "{{len .a}}", []),
+    ("id of later drafts", of({"a": {"$ref": "#/definitions/x"}}, definitions={"x": {"id": "x", "type": "string"}}, **DRAFT_07), "{{len .a}}", []),
+    ("identifiers where nothing is looked up", of({"a": {"$id": "x", "type": "string"}}), "{{len .a}}", []),
+    ("definitions in groups", of({"a": {"$ref": "#/$defs/g/x"}}, **{"$defs": {"g": {"x": TEXT, "type": TEXT, "titel": TEXT}}}), "{{len .a}}", []),
+    ("what is left out", of({"a": {"type": "string", "not": {"const": "x"}, "if": {}, "then": {}, "else": False}, "b": {
+        **ITEMS, "contains": TEXT, "minContains": 1, "maxContains": 2, "unevaluatedItems": False}}, propertyNames={"maxLength": 3}, dependentSchemas={"a": {"required": ["b"]}},
+        dependencies={"a": ["b"]}, unevaluatedProperties=False), "{{len .a}}{{range .b}}{{len .}}{{end}}", []),
+    ("a whole number with a point", of({"a": {**ITEMS, "minItems": 2.0, "maxItems": 1e1}}), "{{range .a}}{{len .}}{{end}}", []),
+    ("a bound that is a truth value", of({"n": {"type": "integer", "minimum": 1, "exclusiveMinimum": True}}), "{{lt .n 3}}", []),
+    ("draft 2019-09 by http", of({"a": TEXT}, **{"$schema": "http://json-schema.org/draft/2019-09/schema#"}), "{{len .a}}", []),
+    ("draft 2020-12 by http", of({"a": TEXT}, **{"$schema": "http://json-schema.org/draft/2020-12/schema"}), "{{len .a}}", []),
     ("printf of a recursive definition", {"$ref": "#/$defs/node", **NODE}, '{{printf "%v" .}}{{range .kids}}{{printf "%s%v" .name .}}{{end}}', []),
 ]
 
@@ -171,6 +202,7 @@ LISTS = """{
 }"""
 NULL = "1:%d: error: may fail: .b of null, which may come here (s:1) and has no fields"
 FIRST = few("1:1", "index", 1, NO_LEAST % 1)
+LENGTH = '1:%d: error: may fail: "len" may get what it refuses'
 INDEX, PRINTF = (f'1:1: error: may fail: "{name}" may get what it refuses' for name in ("index", "printf"))
 REFUSED = [
     ("optional field", of({"a": TEXT}, []), "x\n {{.a}}", [], "2:2: error: may fail: .a may be absent: not in \"required\" of s:1"),
@@ -241,8 +273,8 @@ REFUSED = [
     ("a part from past the end", of({"a": ITEMS}), "{{slice .a 1}}", [], FIRST.replace("index", "slice")),
     ("a part that is turned round", of({"a": {**ITEMS, "minItems": 3}}), "{{slice .a 2 1}}", [], '1:1: error: may fail: "slice" may get what it refuses'),
     ("a variable that is assigned before a break", of({"x": ITEMS}), "{{$x := 1}}{{range .x}}{{$x = .}}{{break}}{{end}}{{print $x}}", [],
-     "1:1: error: may fail: what the variables hold after it is not followed"),
-    ("variables that settle in 13 rounds", of({"x": ITEMS}), hands_on(12), [], "1:1: error: may fail: what the variables hold after it is not followed"),
+     "1:34: error: may fail: what the variables hold after it is not followed"),
+    ("variables that settle in 13 rounds", of({"x": ITEMS}), hands_on(12), [], "1:147: error: may fail: what the variables hold after it is not followed"),
     ("a part by a bound of the data", of({"a": {**ITEMS, "minItems": 3}, "b": WHOLE}), "{{slice .a .b}}", [], '1:1: error: may fail: "slice" is not followed by this check'),
     ("a part of a map", of({"a": of({})}), "{{slice .a}}", [], '1:1: error: may fail: "slice" may get what it refuses'),
     ("what is left of a part", of({"a": {**ITEMS, "minItems": 3}}), "{{index (slice .a 2) 1}}", [], few("1:1", "index", 2)),
@@ -256,7 +288,11 @@ REFUSED = [
     ("items of a list by a reference", LISTS, "{{with .more}}{{index . 3}}{{end}}", DEFAULT, few("1:15", "index", 4, low(4, 25))),
     ("items of a list or null", LISTS, "{{with .maybe}}{{slice . 0 2}}{{end}}", DEFAULT, few("1:16", "slice", 2, NO_LEAST % 19)),
     ("items of lists of two places", LISTS, '{{define "w"}}{{index . 0}}{{end}}{{template "w" .names}}{{range .rows}}{{template "w" .}}{{end}}', [], few("1:15", "index", 1)),
-    ("items of two lists in a line", LISTS, "{{index .names 0}}{{index .rows 0 0}}", [], few("1:1", "index", 1)),
+    ("a field that another text of its line names", of({"a": TEXT, "b": TEXT}, ["a"]), "{{.a}} .b {{.b}}", [],
+     '1:11: error: may fail: .b may be absent: not in "required" of s:1'),
+    ("a field whose name begins another", of({"names": TEXT, "name": TEXT}, ["names"]), "{{.names}} {{.name}}", [],
+     '1:12: error: may fail: .name may be absent: not in "required" of s:1'),
+
     ("index of a list by a text", of({"a": ITEMS}), '{{index .a "0"}}', [], INDEX),
     ("index of a map by a number", of({"a": of({"b": TEXT})}), "{{index .a 0}}", [], INDEX),
     ("index of null", of({"a": {"type": ["object", "null"]}}), '{{index .a "b"}}', [], INDEX),
@@ -304,6 +340,20 @@ REFUSED = [
     ("printf of a second argument of two kinds", of({"a": TEXT, "b": {"type": ["string", "boolean"]}}), '{{printf "%s%s" .a .b}}', [], PRINTF),
     ("printf of an item of two kinds", of({"a": {"type": "array", "items": {"type": ["string", "array"]}}}), '{{range .a}}{{printf "%s" .}}{{end}}', [], '1:13: error: may fail: "printf" may get what it refuses'),
     ("printf by a format of the data", of({"a": TEXT}), "{{printf .a}}", [], '1:1: error: may fail: "printf" is not followed by this check'),
+    ("a pattern beside other properties", {"type": "object", "patternProperties": {"^a": WHOLE}, "additionalProperties": TEXT}, "{{range .}}{{len .}}{{end}}", [], LENGTH % 12),
+    ("a pattern without other properties", {"type": "object", "patternProperties": {"^a": TEXT}}, "{{range .}}{{len .}}{{end}}", [], LENGTH % 12),
+    ("required by a pattern of another kind", {"type": "object", "required": ["a"], "patternProperties": {"^a": WHOLE}, "additionalProperties": TEXT}, "{{len .a}}", [], LENGTH % 1),
+    ("the second part of allOf", of({"a": {"allOf": [{}, TEXT]}}), "{{len .a}}", [], LENGTH % 1),
+    ("allOf beside properties", of({"a": {"properties": {}, "allOf": [TEXT]}}), "{{len .a}}", [], LENGTH % 1),
+    ("a property in a part of allOf", {**of({"a": {}}), "allOf": [{"properties": {"a": TEXT}}]}, "{{len .a}}", [], LENGTH % 1),
+    ("items after a prefix", of({"a": {"type": "array", "prefixItems": [WHOLE], "items": TEXT}}), "{{range .a}}{{len .}}{{end}}", [], LENGTH % 13),
+    ("items of a list", of({"a": {"type": "array", "items": [TEXT]}}, **DRAFT_07), "{{range .a}}{{len .}}{{end}}", [], LENGTH % 13),
+    ("a reference to elsewhere", of({"a": {"$ref": "other.json"}}), "{{len .a}}", [], LENGTH % 1),
+    ("beside a reference to elsewhere of draft-07", of({"a": {"$ref": "other.json", "type": "string"}}, **DRAFT_07), "{{len .a}}", [], LENGTH % 1),
+    ("type beside a reference", of({"a": {"$ref": "#/$defs/x", "type": "string"}}, **{"$defs": {"x": {}}}), "{{len .a}}", [], LENGTH % 1),
+    ("a name within the document", of({"a": {"$ref": "#x"}}, **{"$defs": {"x": {"$anchor": "x", "type": "string"}}}), "{{len .a}}", [], LENGTH % 1),
+    ("an identifier below the top", of({"a": {"$ref": "#/$defs/x"}}, **{"$defs": {"x": {"$id": "x", "type": "string"}}}), "{{len .a}}", [], LENGTH % 1),
+    ("an identifier of draft-04 below the top", of({"a": {"$ref": "#/definitions/x"}}, definitions={"x": {"id": "x", "type": "string"}}, **DRAFT_04), "{{len .a}}", [], LENGTH % 1),
     ("slice", of({"a": TEXT}), "{{slice .a 1}}", [], '1:1: error: may fail: "slice" is not followed by this check'),
 ]
 
@@ -318,6 +368,13 @@ SEVERAL = [
     ("nothing follows", of({}), "{{$x := .a}}{{$x.b}}{{range $x}}{{.c}}{{end}}{{with .d}}{{.e}}{{end}}{{len $x}}", [], [ABSENT % ("1:1", "a"), ABSENT % ("1:46", "d")]),
     ("in a template that is called twice", of({}), '{{define "w"}}{{.x}}{{end}}{{.y}}{{template "w" .}}\n{{template "w" .}}', [], [ABSENT % ("1:28", "y"), ABSENT % ("1:15", "x")]),
     ("in a template that calls itself", of({"a": TEXT}), '{{define "w"}}{{.a}}{{.x}}{{template "w" .}}{{end}}{{template "w" .}}', [], [ABSENT % ("1:21", "x")]),
+    ("items of two lists in a line", LISTS, "{{index .names 0}}{{index .rows 0 0}}", [],
+     [few("1:1", "index", 1, NO_LEAST % 13), few("1:19", "index", 1, NO_LEAST % 8)]),
+    ("fields of one name in a line", of({"b": TEXT}, []), "x {{.b}}{{if .b}}{{end}}{{with $x := .b}}{{$x}}{{end}}", [],
+     [OPTIONAL % (f"1:{column}", "b") for column in (3, 9, 25)]),
+    ("an else branch, a call, a control and a template on one line", of({"b": TEXT}, []),
+     'é {{if true}}{{else if .b}}{{end}} {{template "w" .b}}{{define "w"}}{{.}}{{end}}{{with .b}}{{end}}{{template "v" .}}{{define "v"}}{{.b}}{{end}}', [],
+     [OPTIONAL % (f"1:{column}", "b") for column in (14, 36, 81, 131)]),
     ("templates that are not there", of({}), 'x\n{{template "one"}}\n{{if true}}{{template "two"}}{{end}}', ["--stop", "three"],
      ['2:1: error: may fail: there is no template "one"', '3:12: error: may fail: there is no template "two"']),
 ]
@@ -345,6 +402,15 @@ PORTS = """{
     }
   }
 }"""
+CALL = '{{template "u"}}'
+
+
+def shown(*values):
+    """What is said of a call of a template that is not there, and over which value, if one is shown."""
+    notes = [f'1:1: note: fails for {json.dumps(value, separators=(",", ":"))}: no template "u"' for value in values]
+    return ['1:1: error: may fail: there is no template "u"', *notes]
+
+
 SHOWN = [
     ("a bound that draft-04 excludes", of({"n": {"type": "integer", "minimum": 5, "exclusiveMinimum": True}}, **DRAFT_04), "{{len .n}}", [],
      ['1:1: error: may fail: "len" may get what it refuses', '1:1: note: fails for {"n":6}: len: wrong kind of argument']),
@@ -402,6 +468,33 @@ SHOWN = [
     ("a variable that is assigned", of({"a": of({"b": TEXT}, [])}), "{{$x := .a}}{{$x = .a}}{{$x.b}}", [],
      ["1:24: error: may fail: .b may be absent: the schema does not require it", '1:24: note: fails with --missingkey error for {"a":{}}: no entry for key "b"']),
     ("a template that is not there", of({}), '{{template "u"}}', [], ['1:1: error: may fail: there is no template "u"', '1:1: note: fails for {}: no template "u"']),
+    ("not", of({"a": {"enum": [None, 1], "not": {"type": "null"}}}), CALL, [], shown({"a": 1})),
+    ("allOf", of({"a": {"allOf": [{"enum": [1, 2]}, {"enum": [2, 3]}]}}), CALL, [], shown({"a": 2})),
+    ("maps of allOf", {"allOf": [{"type": "object", "required": ["a"], "properties": {"a": WHOLE}}, {"type": "object", "required": ["b"], "properties": {"b": TEXT}}]}, CALL, [],
+     shown({"a": 1, "b": "a"})),
+    ("if and then", of({"a": {"enum": [1, 2], "if": {"const": 1}, "then": False}}), CALL, [], shown({"a": 2})),
+    ("if and else", of({"a": {"enum": [1, 2], "if": {"const": 2}, "else": False}}), CALL, [], shown({"a": 2})),
+    ("if of draft-06", of({"a": {"enum": [1], "if": {"const": 1}, "then": False}}, **DRAFT_06), CALL, [], shown()),
+    ("pattern properties", {"type": "object", "minProperties": 1, "patternProperties": {"^x": {"const": 5}}}, CALL, [], shown({"x": 5})),
+    ("pattern properties that are not among the others", {"type": "object", "minProperties": 1, "patternProperties": {"^x": {"const": 5}}, "additionalProperties": False}, CALL, [], shown()),
+    ("a key that no pattern matches", of({"b": WHOLE}, patternProperties={"^x": {"const": 5}}), CALL, [], shown({"b": 1})),
+    ("a pattern that a key may match", of({"b": WHOLE}, patternProperties={"^(?=x)": {"const": 5}}), CALL, [], shown()),
+    ("prefix items", of({"a": {"type": "array", "prefixItems": [{"const": 5}], "items": False, "minItems": 1}}), CALL, [], shown({"a": [5]})),
+    ("items after a prefix", of({"a": {"type": "array", "prefixItems": [{"const": 5}], "items": {"const": 6}, "minItems": 2}}), CALL, [], shown({"a": [5, 6]})),
+    ("a list of items", of({"a": {"type": "array", "items": [{"const": 5}], "additionalItems": {"const": 6}, "minItems": 2}}, **DRAFT_07), CALL, [], shown({"a": [5, 6]})),
+    ("contains", of({"a": {"const": [5, 6], "contains": {"const": 6}}}), CALL, [], shown({"a": [5, 6]})),
+    ("contains nothing", of({"a": {"const": [5, 6], "contains": {"const": 7}}}), CALL, [], shown()),
+    ("names of properties", {"type": "object", "enum": [{"ab": 1}, {"c": 2}], "propertyNames": {"maxLength": 1}}, CALL, [], shown({"c": 2})),
+    ("dependent schemas", of({"a": TEXT, "b": TEXT}, ["a"], dependentSchemas={"a": {"required": ["b"]}}), CALL, [], shown({"a": "a", "b": "a"})),
+    ("dependencies", of({"a": TEXT, "b": TEXT}, ["a"], dependencies={"a": ["b"]}, **DRAFT_07), CALL, [], shown({"a": "a", "b": "a"})),
+    ("an alternative that is not decided", of({"a": {"oneOf": [TEXT, {"type": "string", "pattern": "^(?=x)"}]}}), CALL, [], shown()),
+    ("an alternative of another kind than what is not decided", of({"a": {"oneOf": [WHOLE, {"type": "string", "pattern": "^(?=x)"}]}}), CALL, [], shown({"a": 1})),
+    ("not of what is not decided", of({"a": {"type": "string", "not": {"pattern": "^(?=x)"}}}), CALL, [], shown()),
+    ("a reference to elsewhere", of({"a": {"$ref": "other.json"}}), CALL, [], shown()),
+    ("a reference beside an identifier below the top", of({"a": {"$ref": "#/$defs/x"}}, **{"$defs": {"x": {"$id": "x", "const": 1}}}), CALL, [], shown()),
+    ("a reference that is not followed", of({"a": {"$dynamicRef": "#x"}}), CALL, [], shown()),
+    ("unevaluated items", of({"a": {"const": [1], "unevaluatedItems": False}}), CALL, [], shown()),
+    ("unevaluated properties", of({"a": WHOLE}, unevaluatedProperties=False), CALL, [], shown()),
     ("a range over two variables", of({"a": WHOLE}), "{{range $i, $e := .a}}{{end}}", [],
      ["1:1: error: may fail: a range over a number, which may come here (s:1)", '1:1: note: fails for {"a":1}: can\'t range over this value']),
 ]
@@ -428,6 +521,23 @@ INFERRED = [
     ("maps in a list", [[{"a": 1, "b": 1}, {"a": 1}]], {"type": "array", "items": {"type": "object", "properties": {"a": {"type": "integer"}, "b": {"type": "integer"}}, "required": ["a"]}}),
     ("no key that each has", [{"a": 1}, {}], {"type": "object", "properties": {"a": {"type": "integer"}}, "required": []}),
     ("names with escapes", [{'a"/~b': 1}], {"type": "object", "properties": {'a"/~b': {"type": "integer"}}, "required": ['a"/~b']}),
+]
+MANY_KEYS = {f"k{number}": "x" for number in range(41)}
+TOO_MANY_KEYS = {f"k{number}": number if number % 2 else "x" for number in range(301)}
+INFERRED += [
+    ("other keys in each map", [{"a": 1}, {"b": 2}], {"type": "object", "additionalProperties": {"type": "integer"}}),
+    ("other keys, and values of two types", [{"a": 1}, {"b": "x"}],
+     {"type": "object", "properties": {"a": {"type": "integer"}, "b": {"type": "string"}}, "required": []}),
+    ("many keys with values of one type", [MANY_KEYS], {"type": "object", "additionalProperties": {"type": "string"}}),
+    ("too many keys", [TOO_MANY_KEYS], {"type": "object", "additionalProperties": {"type": ["string", "integer"]}}),
+]
+# the paths of maps whose keys are data, the samples, and the schema
+INFERRED_BY = [
+    ([".labels"], [{"labels": {"app": "a"}}], {"type": "object", "properties": {"labels": {"type": "object", "additionalProperties": {"type": "string"}}}, "required": ["labels"]}),
+    ([".a.b", "."], [{"a": {"b": 1}}], {"type": "object", "additionalProperties": {"type": "object", "properties": {"b": {"type": "integer"}}, "required": ["b"]}}),
+    ([".a.b"], [{"a": [{"b": {"c": 1}}], "ab": {"c": 1}}], {"type": "object", "properties": {
+        "a": {"type": "array", "items": {"type": "object", "properties": {"b": {"type": "object", "additionalProperties": {"type": "integer"}}}, "required": ["b"]}},
+        "ab": {"type": "object", "properties": {"c": {"type": "integer"}}, "required": ["c"]}}, "required": ["a", "ab"]}),
 ]
 NOT_INFERRED = [
     ("not JSON", ["{,}"], (1, "d0:1:2: error: not JSON: a key in double quotes is wanted\n")),
@@ -462,57 +572,73 @@ MISREAD = [
     ("alternatives of draft-03", {"$schema": "http://json-schema.org/draft-03/schema#", "type": "object", "properties": {"a": {"anyOf": [TEXT]}}}, "{{len .a}}", {"a": 5}),
     ("type beside a reference of draft-07", {**DRAFT_07, "type": "object", "required": ["a"], "properties": {"a": {"$ref": "#/definitions/x", "type": "string"}}, "definitions": {"x": True}},
      "{{len .a}}", {"a": 5}),
+    ("other properties beside a pattern", {"type": "object", "patternProperties": {"^a": WHOLE}, "additionalProperties": TEXT}, "{{range .}}{{len .}}{{end}}", {"a": 5}),
+    ("items beside a prefix", {"type": "array", "prefixItems": [WHOLE], "items": TEXT}, "{{range .}}{{len .}}{{end}}", [5]),
+    ("a list of items of draft-07", {**DRAFT_07, "type": "array", "items": [TEXT]}, "{{range .}}{{len .}}{{end}}", ["x", 5]),
     ("required beside a reference of draft-06", {**DRAFT_06, "$ref": "#/definitions/x", "required": ["a"], "definitions": {"x": {"type": "object", "properties": {"a": TEXT}}}}, "{{len .a}}", {}),
 ]
 
 # a schema that is not read, by its text; before what in it the place is, or none for its beginning; and what is said
 UNREAD = [
-    ("misspelled keyword", '{"type": "object",\n "propertys": {}}', '"propertys"', '/propertys: the keyword "propertys" is not understood'),
-    ("misspelled keyword inside", '{"properties": {"a": {"items": {"minimun": 1}}}}', '"minimun"', '/properties/a/items/minimun: the keyword "minimun" is not understood'),
-    ("in an alternative", '{"anyOf": [true, {"x": 1}]}', '"x"', '/anyOf/1/x: the keyword "x" is not understood'),
-    ("in an alternative beside properties", '{"properties": {}, "anyOf": [{"x": 1}]}', '"x"', '/anyOf/0/x: the keyword "x" is not understood'),
-    ("in the other alternatives", '{"anyOf": [true], "oneOf": [{"x": 1}]}', '"x"', '/oneOf/0/x: the keyword "x" is not understood'),
-    ("in a definition that nothing uses", '{"$defs": {"a": {"x": 1}}}', '"x"', '/$defs/a/x: the keyword "x" is not understood'),
-    ("in a definition of earlier drafts", '{"definitions": {"a/b": {"x": 1}}}', '"x"', '/definitions/a~1b/x: the keyword "x" is not understood'),
+    ("a letter too few", '{"type": "object",\n "propertie": {}}', '"propertie"', '/propertie' + near("propertie", "properties")),
+    ("a letter too many", '{"type": "object",\n "titles": {}}', '"titles"', '/titles' + near("titles", "title")),
+    ("another letter inside", '{"properties": {"a": {"items": {"minimun": 1}}}}', '"minimun"', '/properties/a/items/minimun' + near("minimun", "minimum")),
+    ("two letters exchanged", '{"requierd": []}', '"requierd"', '/requierd' + near("requierd", "required")),
+    ("the first letters exchanged", '{"ytpe": "string"}', '"ytpe"', '/ytpe' + near("ytpe", "type")),
+    ("in an alternative", '{"anyOf": [true, {"titel": 1}]}', '"titel"', '/anyOf/1/titel' + near("titel", "title")),
+    ("in an alternative beside properties", '{"properties": {}, "anyOf": [{"titel": 1}]}', '"titel"', '/anyOf/0/titel' + near("titel", "title")),
+    ("in the other alternatives", '{"anyOf": [true], "oneOf": [{"titel": 1}]}', '"titel"', '/oneOf/0/titel' + near("titel", "title")),
+    ("in what is left out", '{"not": {"titel": 1}}', '"titel"', '/not/titel' + near("titel", "title")),
+    ("in a list of items", '{"items": [true, {"titel": 1}]}', '"titel"', '/items/1/titel' + near("titel", "title")),
+    ("in a definition", '{"items": {"$ref": "#/$defs/a"}, "$defs": {"a": {"titel": 1}}}', '"titel"', '/$defs/a/titel' + near("titel", "title")),
+    ("in a definition of earlier drafts", '{"items": {"$ref": "#/definitions/a~1b"}, "definitions": {"a/b": {"titel": 1}}}', '"titel"', '/definitions/a~1b/titel' + near("titel", "title")),
+    ("no type in a definition", '{"items": {"$ref": "#/$defs/a"}, "$defs": {"a": {"type": "text"}}}', '"type"', '/$defs/a/type: no type "text"'),
     ("minimum of draft 4", '{"minimum": true}', '"minimum"', "/minimum: a number is wanted"),
-    ("exclusive minimum of draft 4", '{"minimum": 1, "exclusiveMinimum": true}', '"exclusiveMinimum"', "/exclusiveMinimum: a number is wanted"),
+    ("a text for a bound", '{"exclusiveMinimum": "1"}', '"exclusiveMinimum"', "/exclusiveMinimum: a number is wanted"),
+    ("a part for a count", '{"minItems": 1.5}', '"minItems"', "/minItems: an integer from 0 on is wanted"),
     ("a text for a count", '{"minLength": "1"}', '"minLength"', "/minLength: an integer from 0 on is wanted"),
     ("a count below zero", '{"minItems": -1}', '"minItems"', "/minItems: an integer from 0 on is wanted"),
     ("no such type", '{"type": "text"}', '"type"', '/type: no type "text"'),
     ("no such type in a list", '{"type": ["string", "text"]}', '"text"', '/type/1: no type "text"'),
     ("a type that is no text", '{"type": 1}', '"type"', "/type: the name of a type is wanted, or a list of them"),
-    ("items of draft 7", '{"items": [true]}', '"items"', "/items: a list of schemas is not understood"),
-    ("items of draft 7 by its name", '{"$schema": "http://json-schema.org/draft-07/schema#", "items": [true]}', '"items"', "/items: a list of schemas is not understood"),
-    ("in a definition below the top", '{"items": {"$defs": {"a": {"x": 1}}}}', '"x"', '/items/$defs/a/x: the keyword "x" is not understood'),
-    ("in a definition of earlier drafts below the top", '{"properties": {"b": {"definitions": {"a": {"x": 1}}}}}', '"x"', '/properties/b/definitions/a/x: the keyword "x" is not understood'),
-    ("in a definition of a definition", '{"$defs": {"a": {"$defs": {"b": {"items": {"x": 1}}}}}}', '"x"', '/$defs/a/$defs/b/items/x: the keyword "x" is not understood'),
-    ("in a definition beside a reference", '{"items": {"$ref": "#/$defs/a", "$defs": {"b": {"x": 1}}}, "$defs": {"a": true}}', '"x"', '/items/$defs/b/x: the keyword "x" is not understood'),
-    ("a name inside a definition below the top", '{"items": {"$defs": {"a": {"$id": "x"}}}}', '"$id"', '/items/$defs/a/$id: "$id" is understood at the top of a document alone'),
+    ("in a definition below the top", '{"items": {"$ref": "#/items/$defs/a", "$defs": {"a": {"titel": 1}}}}', '"titel"', '/items/$defs/a/titel' + near("titel", "title")),
     ("draft-03", '{"$schema": "http://json-schema.org/draft-03/schema#"}', '"$schema"', NO_DRAFT % "http://json-schema.org/draft-03/schema#"),
     ("a draft by another scheme", '{"$schema": "https://json-schema.org/draft-07/schema#"}', '"$schema"', NO_DRAFT % "https://json-schema.org/draft-07/schema#"),
     ("a draft that is no text", '{"$schema": 7}', '"$schema"', "/$schema: a text is wanted"),
-    ("a draft below the top", '{"items": {"$schema": "https://json-schema.org/draft/2020-12/schema"}}', '"$schema"', '/items/$schema: "$schema" is understood at the top of a document alone'),
+    ("a draft below the top", '{"items": {"$schema": "https://json-schema.org/draft/2020-12/schema"}}', '"$schema"', '/items/$schema: another "$schema" than that of the document is not understood'),
     ("const of draft-04", '{"$schema": "http://json-schema.org/draft-04/schema#", "items": {"const": 1}}', '"const"', '/items/const: "const" has no effect in draft-04'),
-    ("name of draft-04", '{"$schema": "http://json-schema.org/draft-04/schema#", "$id": "x"}', '"$id"', '/$id: the keyword "$id" is not understood'),
-    ("name of draft-04 below the top", '{"$schema": "http://json-schema.org/draft-04/schema#", "items": {"id": "x"}}', '"id"', '/items/id: "id" is understood at the top of a document alone'),
-    ("bound of draft-04", '{"$schema": "http://json-schema.org/draft-04/schema#", "exclusiveMaximum": 1}', '"exclusiveMaximum"', "/exclusiveMaximum: true or false is wanted"),
-    ("later keyword", '{"$schema": "http://json-schema.org/draft-07/schema#", "dependentRequired": {}}', '"dependentRequired"', '/dependentRequired: "dependentRequired" has no effect before draft 2019-09'),
-    ("type beside a reference of draft-07", '{"$schema": "http://json-schema.org/draft-07/schema#", "$ref": "#/definitions/a", "type": "object", "definitions": {"a": true}}', '"type"',
-     '/type: "type" has no effect beside "$ref" before draft 2019-09'),
-    ("bound beside a reference of draft-06", '{"$schema": "http://json-schema.org/draft-06/schema#", "items": {"$ref": "#/definitions/a", "maximum": 1}, "definitions": {"a": true}}', '"maximum"',
-     '/items/maximum: "maximum" has no effect beside "$ref" before draft 2019-09'),
     ("required of draft 3", '{"properties": {"a": {"required": true}}}', '"required"', "/properties/a/required: a list of names is wanted"),
-    ("reference beside others", '{"$ref": "#/$defs/a", "type": "object", "$defs": {"a": true}}', '"type"', '/type: the keyword "type" is not understood beside "$ref"'),
-    ("reference to another file", '{"$ref": "other.json"}', '"$ref"', '/$ref: only what begins with "#" is looked up, and not "other.json"'),
+    ("a reference that is no text", '{"$ref": 1}', '"$ref"', "/$ref: a text is wanted"),
     ("reference to nothing", '{"$ref": "#/$defs/a"}', '"$ref"', '/$ref: nothing is at "#/$defs/a" in the document'),
-    ("a name inside the document", '{"items": {"$id": "x"}}', '"$id"', '/items/$id: "$id" is understood at the top of a document alone'),
     ("reference to itself", '{"$ref": "#"}', None, 'what is at "" stands for itself'),
     ("reference in a circle", '{"$ref": "#/$defs/a", "$defs": {"a": {"anyOf": [true, {"$ref": "#/$defs/a"}]}}}', None, 'what is at "/$defs/a" stands for itself'),
     ("no schema", "[]", None, "a schema is wanted: an object, true or false"),
-    ("too many values", '{"examples": [%s0]}' % ("0, " * 10000), None, "more than 10000 values"),
-] + [("the keyword " + word, '{"%s": {}}' % word, '"%s"' % word, '/%s: the keyword "%s" is not understood' % (word, word)) for word in
-     ("allOf", "not", "if", "then", "else", "prefixItems", "contains", "patternProperties", "propertyNames", "dependentSchemas", "unevaluatedItems",
-      "unevaluatedProperties", "$anchor", "$dynamicRef", "$dynamicAnchor", "$vocabulary", "id", "dependencies", "additionalItems", "nullable")]
+    ("too many values", '{"examples": [%s0]}' % ("0, " * 30000), None, "more than 30000 values"),
+]
+
+# a schema that is read, before what in it a warning has its place, and the warning; or nothing
+UNUSED, ELSEWHERE = ': the keyword "%s" is not known, and has no effect', ': "%s" is not looked up: any value may be there'
+WARNED = [
+    ("a keyword", '{"type": "object",\n "x-order": 1}', '"x-order"', "/x-order" + UNUSED % "x-order"),
+    ("a keyword inside", '{"items": {"properties": {"a/b": {"optional": true}}}}', '"optional"', "/items/properties/a~1b/optional" + UNUSED % "optional"),
+    ("a keyword that stands twice", '{"anyOf": [{"form": 1}, {"form": 2}]}', '"form"', "/anyOf/0/form" + UNUSED % "form"),
+    ("two edits away", '{"propertys": {}}', '"propertys"', "/propertys" + UNUSED % "propertys"),
+    ("one edit from a short keyword", '{"note": 1}', '"note"', "/note" + UNUSED % "note"),
+    ("in a definition", '{"items": {"$ref": "#/$defs/a"}, "$defs": {"a": {"form": 1}}}', '"form"', "/$defs/a/form" + UNUSED % "form"),
+    ("in a definition that nothing uses", '{"$defs": {"a": {"form": 1}}}', None, None),
+    ("names of properties", '{"properties": {"form": true, "titel": true}, "patternProperties": {"form": {}}, "dependentSchemas": {"form": {}}}', None, None),
+    ("values", '{"default": {"form": 1}, "enum": [{"form": 1}], "examples": [{"form": 1}]}', None, None),
+    ("another document", '{"items": {"$ref": "other.json"}}', '"$ref"', "/items/$ref" + ELSEWHERE % "other.json"),
+    ("a part of another document", '{"items": {"$ref": "other.json#/$defs/a"}}', '"$ref"', "/items/$ref" + ELSEWHERE % "other.json#/$defs/a"),
+    ("a name", '{"items": {"$ref": "#a"}, "$defs": {"x": {"$anchor": "a"}}}', '"$ref"', "/items/$ref" + ELSEWHERE % "#a"),
+    ("where something has an identifier", '{"items": {"$ref": "#/$defs/a"}, "$defs": {"a": {"$id": "a"}}}', '"$ref"', "/items/$ref" + ELSEWHERE % "#/$defs/a"),
+    ("what OpenAPI adds", '{"type": "string", "nullable": true, "example": 1}', '"nullable"', "/nullable" + UNUSED % "nullable"),
+]
+
+# the keywords that are read, and need nothing of what stands under them
+KEYWORDS = ("allOf", "not", "if", "then", "else", "prefixItems", "contains", "minContains", "maxContains", "patternProperties", "propertyNames", "dependentSchemas",
+            "dependencies", "dependentRequired", "unevaluatedItems", "unevaluatedProperties", "additionalItems", "$anchor", "$dynamicRef", "$dynamicAnchor", "$recursiveRef",
+            "$recursiveAnchor", "$vocabulary", "id", "contentSchema", "example", "default", "title", "deprecated")
 
 # the templates of examples/ with a schema each, and what is said of them where they are refused
 PERSON = {"$ref": "#/$defs/person", "$defs": {"person": {"type": "object", "required": ["name"], "properties": {
@@ -547,17 +673,15 @@ COOKBOOK = [
     ("deployment.tmpl", {**DEPLOYMENT, "properties": {**DEPLOYMENT["properties"], "version": {"type": ["string", "integer"]}, "app": WHOLE}}, ["quotes.tmpl"], [],
      '"printf" may get what it refuses'),
     ("nginx.tmpl", of({"pid": TEXT, "sites": {"type": "array", "items": SITE}}), [], ["--stop", "nginx"], None),
-    ("nginx.tmpl", of({"pid": TEXT, "sites": {"type": "array", "items": SITE}}), ["quotes.tmpl"], [], 'there is no template "stop: nginx has no parameter with a NUL"'),
-    ("nginx.tmpl", of({"pid": TEXT, "sites": {"type": "array", "items": SITE}}), ["quotes.tmpl"],
-     ["--stop", "stop: nginx has no parameter with a NUL", "--stop", "stop: nginx has no quote for a $"], None),
+    ("nginx.tmpl", of({"pid": TEXT, "sites": {"type": "array", "items": SITE}}), ["quotes.tmpl"], [], None),
+    ("nginx.tmpl", of({"pid": TEXT, "sites": {"type": "array", "items": SITE}}), [], [], 'there is no template "nginx"'),
     ("app.tmpl", of({"description": TEXT, "greeting": TEXT, "title": TEXT}), [], ["--stop", "replace", "--stop", "systemd", "--stop", "systemd command"], None),
     ("{{range .hosts}}{{.}}; {{end}}", of({"hosts": ITEMS}), [], [], None),
     ("Hello, {{.GREETED}}!", of({"GREETED": TEXT}), [], [], None),
     ("Hello, {{.GREETED}}!", of({"GREETED": TEXT}, []), [], [], '.GREETED may be absent: not in "required" of s:1'),
     ("{{.port}} {{.tls.on}} {{.tls.versions}}", of({"port": WHOLE, "tls": of({"on": {"type": "boolean"}, "versions": ITEMS})}), [], [], None),
     ("listen {{.port}};", of({"port": WHOLE}), [], [], None),
-    ('{{if gt .port 65535}}{{template "stop: a port is at most 65535"}}{{end}}port {{.port}}', of({"port": WHOLE}), [], ["--stop", "stop: a port is at most 65535"], None),
-    ('{{if gt .port 65535}}{{template "stop: a port is at most 65535"}}{{end}}port {{.port}}', of({"port": WHOLE}), [], [], 'there is no template "stop: a port is at most 65535"'),
+    ('{{if gt .port 65535}}{{template "stop: a port is at most 65535"}}{{end}}port {{.port}}', of({"port": WHOLE}), [], [], None),
     ('{{range .rows}}{{.count}} at {{printf "%6s" .price}}; {{end}}', of({"rows": {"type": "array", "items": of({"price": TEXT, "count": WHOLE})}, "limit": TEXT}), [], [], None),
     ('{{range .rows}}{{.count}} at {{printf "%6s" .price}}; {{end}}', of({"rows": {"type": "array", "items": of({"price": {"type": ["string", "integer"]}, "count": WHOLE})}}), [], [],
      '"printf" may get what it refuses'),
@@ -583,7 +707,17 @@ LOOPS = [
     ("an if of nothing", loop("{{if eq $byte 0}}{{end}}"), []),
     ("begun anew first", loop("{{if eq $byte 'a'}}{{$is_new = true}}{{slice $text $from $i}}A{{end}}"), []),
     ("a stop", loop("{{if eq $byte 0}}{{template \"stop\"}}{{end}}"), ["--stop", "stop"]),
+    ("a stop by its name", loop("{{if eq $byte 0}}{{template \"stop: a NUL\"}}{{end}}"), []),
 ]
+
+# the templates of examples/quotes that are accepted for any string, by their files
+QUOTES = {
+    "quotes.tmpl": ("sh", "env", "sql", "csv", "json", "toml", "yaml", "nginx", "systemd", "systemd command", "attribute"),
+    "texts.tmpl": ("upper", "lower"),
+}
+
+# calls of what is not there that are no stops: a name that is a stop's but for a letter, or that has the words later
+NO_STOPS = ["stop", "stop:", "stop:x", "Stop: x", "a stop: x", " stop: x"]
 
 # near these, each with data for which it fails, and the type of its name
 NEAR_LOOPS = [
@@ -607,7 +741,51 @@ BESIDE = [
     ("the data is refused", "{{len .a}}", '{"a":', ["d:1:6: error: not JSON: "]),
     ("a number in the data is refused", "{{len .a}}", {"a": 1.5}, ["d:1:7: error: "]),
     ("both are refused", "{{len .b}}", '{"a":', ["t:1:1: error: may fail: .b ", "d:1:6: error: not JSON: "]),
-    ("the data does not conform", "{{len .a}}", {"a": 7}, []),
+    ("the data does not conform", "{{len .a}}", {"a": 7}, ['d:1:2: error: does not conform: .a: 7 is not of "type": "string" at s:1']),
+    ("nor does it beside a template that is refused", "{{len .b}}", {"a": 7}, ["t:1:1: error: may fail: .b ", "d:1:2: error: does not conform: .a: 7 "]),
+    ("nor does it beside a template that is not read", "{{b}}", {"a": 7}, ["t:1:1: error: action not understood: ", "d:1:2: error: does not conform: .a: 7 "]),
+]
+
+# data that is held to a schema: a title, the schema, the data, and what is said of the data and then of a line of the schema
+PORT = of({"port": {"type": "integer", "minimum": 1, "maximum": 9}})
+HELD = [
+    ("all conforms", PORT, '{"port": 5}', []),
+    ("below the minimum", PORT, '{"port":\n 0}', ['1:2: .port: 0 is below "minimum": 1']),
+    ("above the maximum", PORT, '{"port": 10}', ['1:2: .port: 10 is above "maximum": 9']),
+    ("of another type", PORT, '{"port": "5"}', ['1:2: .port: "5" is not of "type": "integer"']),
+    ("a key that is missing", PORT, "{}", ['1:1: no "port", which is in "required"']),
+    ("a key too many", PORT, '{"port": 5, "x": null}', ['1:13: .x: not in "properties", and "additionalProperties" is false']),
+    ("another kind", PORT, "[]", ['1:1: [] is not of "type": "object"']),
+    ("several", PORT, '{"port": 0, "x": 1}', ['1:13: .x: not in "properties", and "additionalProperties" is false', '1:2: .port: 0 is below "minimum": 1']),
+    ("items", {"type": "array", "minItems": 2, "items": {"enum": ["a", "b"]}}, '["c"]',
+     ['1:2: [0]: "c" is none of "enum": ["a","b"]', '1:1: ["c"] has fewer than "minItems": 2']),
+    ("a reference", {"type": "array", "items": {"$ref": "#/$defs/x"}, "$defs": {"x": {"type": "string", "minLength": 2, "maxLength": 3}}}, '["ab", "a",\n "abcd"]',
+     ['1:8: [1]: "a" is shorter than "minLength": 2', '2:2: [2]: "abcd" is longer than "maxLength": 3']),
+    ("alternatives", {"anyOf": [{"type": "string"}, {"type": "integer", "minimum": 3}]}, "2", ['1:1: 2 conforms to none of "anyOf"']),
+    ("one of them", {"oneOf": [{"type": "integer"}, {"minimum": 3}]}, "3", ['1:1: 3 conforms to more than one of "oneOf"']),
+    ("a constant", of({"a": {"const": "x"}}), '{"a": "y"}', ['1:2: .a: "y" is not "const": "x"']),
+    ("exclusive bounds", {"exclusiveMinimum": 1, "exclusiveMaximum": 1}, "1", ['1:1: 1 is not below "exclusiveMaximum": 1', '1:1: 1 is not above "exclusiveMinimum": 1']),
+    ("an exclusive bound of draft-04", {**DRAFT_04, "minimum": 1, "exclusiveMinimum": True}, "1", ['1:1: 1 is below "minimum": 1']),
+    ("no multiple", {"multipleOf": 3}, "4", ['1:1: 4 is no multiple of "multipleOf": 3']),
+    ("an item twice", {"uniqueItems": True}, "[1, 1]", ['1:1: [1,1] has an item twice, against "uniqueItems": true']),
+    ("what a pattern asks is not looked at", of({"a": {"type": "string", "pattern": "^x"}}), '{"a": "y"}', []),
+    ("nor a format", of({"a": {"type": "string", "format": "email"}}), '{"a": "y"}', []),
+    ("beside a pattern", of({"a": {"type": "string", "pattern": "^x"}, "b": TEXT}), '{"a": "y", "b": 1}', ['1:12: .b: 1 is not of "type": "string"']),
+    ("an alternative with a pattern", {"anyOf": [{"type": "string", "pattern": "^x"}, {"type": "null"}]}, '"y"', []),
+    ("a key that may not be there", {"properties": {"a": False}}, '{"a": 1}', ["1:2: .a: the schema there allows no value"]),
+]
+# .. and data without such a place, which does not conform, or of which that is not decided
+UNSEEN = [
+    ("what is not allowed", {"not": {"type": "integer"}}, "3"),
+    ("a then", {"if": {"type": "integer"}, "then": False}, "3"),
+    ("no item of a kind", {"contains": {"type": "integer"}}, '["a"]'),
+    ("a first item", {"prefixItems": [{"type": "string"}]}, "[1]"),
+    ("the name of a key", {"propertyNames": {"maxLength": 2}}, '{"abc": 1}'),
+    ("the value of a key that a regular expression matches", {"patternProperties": {"^a": {"type": "integer"}}}, '{"a": "b"}'),
+    ("a fraction", {"minimum": 1.5}, "1"),
+    ("properties that are not evaluated", {"properties": {"a": {}}, "unevaluatedProperties": False}, '{"a": 1}'),
+    ("a dynamic reference", {"$dynamicRef": "#node"}, "1"),
+    ("a reference that is not looked up", {"$ref": "other.json"}, "1"),
 ]
 
 # schemas that are as large as may be, or lead to much work, with a template each, more words, and what is said; each is checked within SECONDS of a processor,
@@ -641,7 +819,7 @@ HOSTILE = [
     ("5,000 alternatives", {"anyOf": [True] * 5_000}, "{{len .}}", [], "more than 1500 alternatives"),
     ("5,000 alternatives beside a type", {"type": "string", "oneOf": [True] * 5_000}, "{{len .}}", [], "more than 1500 alternatives"),
     ("5,000 alternatives in two lists", {"anyOf": [{"anyOf": [True] * 1_000}] * 5}, "{{len .}}", [], "more than 1500 alternatives"),
-    ("5,000 alternatives that are not looked at", {"type": "object", "properties": {}, "anyOf": [True] * 5_000}, "x", [], "more than 1500 alternatives"),
+    ("5,000 alternatives that are not looked at", {"type": "object", "properties": {}, "anyOf": [True] * 5_000}, "x", [], None),
     ("5,000 types", {"type": ["string"] * 5_000}, "{{len .}}", [], None),
     ("9,900 constants", {"enum": MANY}, "{{len .}}", [], None),
     ("9,900 constants, none of which is a map", {"enum": MANY}, "{{.x}}", DEFAULT, ".x of a text, which may come here"),
@@ -650,7 +828,7 @@ HOSTILE = [
     ("1,000 maps in a map, each of its own form", of({name: of({name: TEXT}) for name in MANY[:1_000]}), "{{range .}}{{if .}}x{{end}}{{end}}", [], None),
     ("1,100 alternatives", {"anyOf": [of({name: TEXT}) for name in MANY[:1_100]]}, "{{if .}}{{print .}}{{end}}", [], None),
     ("names that each stand for two others", {"$ref": "#/$defs/d0", "$defs": DOUBLED}, ASKS, [], "more than 1000 alternatives of one definition"),
-    ("names beside a large rest", {"type": "object", "required": MANY[:4_900], "additionalProperties": of({name: TEXT for name in MANY[:1_600]})}, "{{if .name7}}x{{end}}", [], "more than 10000 values"),
+    ("names beside a large rest", {"type": "object", "required": MANY[:4_900], "additionalProperties": of({name: TEXT for name in MANY[:1_600]})}, "{{if .name7}}x{{end}}", [], "more than 30000 values"),
     ("500 templates that call one another", of({"x": TEXT}), "".join('{{define "t%d"}}{{.x}}{{template "t%d" .}}{{end}}' % (number, number + 1) for number in range(500))
      + '{{define "t500"}}{{len .x}}{{end}}{{template "t0" .}}', [], None),
     ("300 definitions in a circle of lists", LISTS_ROUND, WALKS[0], [], None),

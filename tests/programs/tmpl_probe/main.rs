@@ -7,6 +7,8 @@
 //! that is shared. A template: `parse` into a set, `compile` the set; `code` puts out how many bytes its code takes,
 //! and `list` puts out the code.
 //!
+//! `formats FILE` puts out a line for each text of the file: where it ceases to be of its format, or `-`.
+//!
 //! `room DEPTH`, and the words of a command, puts out how many cells the set of its files needs at this depth, and
 //! whether it makes text; after no words the set is empty.
 //!
@@ -29,6 +31,7 @@ mod calls;
 mod case;
 mod disk;
 mod files;
+mod formats;
 mod limited;
 mod listing;
 mod often;

@@ -1,5 +1,6 @@
 //! Parts of the work with one file, which put out how long they took, or what came of them.
 use crate::calls::{call_often, share_often};
+use crate::formats::put_mistakes;
 use crate::listing::put_listing;
 use crate::single::{data_of, set_of};
 use std::alloc::Global;
@@ -149,6 +150,7 @@ fn with_bytes(rt: &HostRuntime, part: &str, file: &str, bytes: &[u8]) -> io::Res
         "parse" => parse(rt, alloc, file, bytes),
         "compile" => compile_set(rt, alloc, file, bytes, true),
         "code" => compile_set(rt, alloc, file, bytes, false),
+        "formats" => put_mistakes(rt, bytes),
         "list" => list(alloc, file, bytes, BufWriter::new(alloc, rt.stdout())?),
         _ => Ok(false),
     }

@@ -1,0 +1,43 @@
+//! Texts of formats.
+use crate::reader::Reader;
+use std::io::{self, BufWriter, Write};
+use tmpl_formats::{Format, Mistake, first_mistake};
+
+/// The format of a name, with a number after the name of CSV.
+fn format_of(name: &str) -> Option<Format> {
+    match name {
+        "json" => Some(Format::Json),
+        "jsonl" => Some(Format::JsonLines),
+        "env" => Some(Format::Env),
+        "nginx" => Some(Format::Nginx),
+        _ => Some(Format::Csv(name.strip_prefix("csv:")?.parse::<u32>().ok()?)),
+    }
+}
+
+/// Puts out where a text ceases to be of its format, and what is wanted there; or that it is of the format.
+fn put_mistake(out: &mut impl Write, mistake: Option<Mistake>) -> io::Result<()> {
+    match mistake {
+        None => writeln!(out, "-"),
+        Some(mistake) => writeln!(out, "{} {}", mistake.offset, mistake.wanted),
+    }
+}
+
+/// Puts out a line for each text that the bytes hold, after the name of its format.
+pub(crate) fn put_mistakes(rt: &HostRuntime, bytes: &[u8]) -> io::Result<bool> {
+    let mut reader = Reader::new(bytes);
+    let mut out = BufWriter::new(rt.alloc(), rt.stdout())?;
+    let Some(count) = reader.number() else {
+        return Ok(false);
+    };
+    for _ in 0..count {
+        let (Some(name), Some(text)) = (reader.text(), reader.bytes()) else {
+            return Ok(false);
+        };
+        let Some(format) = format_of(name) else {
+            return Ok(false);
+        };
+        put_mistake(&mut out, first_mistake(rt.alloc(), &format, text)?)?;
+    }
+    out.flush()?;
+    Ok(true)
+}
