@@ -18,11 +18,13 @@ _tmpl_check() {
     --schema) compopt -o filenames 2>/dev/null; mapfile -t COMPREPLY < <(compgen -f -- "$word"); return ;;
     --missingkey) mapfile -t COMPREPLY < <(compgen -W "default invalid zero error" -- "$word"); return ;;
     --stop) :; return ;;
+    --writes) :; return ;;
     --library) compopt -o filenames 2>/dev/null; mapfile -t COMPREPLY < <(compgen -f -- "$word"); return ;;
     --format) mapfile -t COMPREPLY < <(compgen -W "text json sarif" -- "$word"); return ;;
+    --map) :; return ;;
     esac
     if [[ $word == -* ]]; then
-        mapfile -t COMPREPLY < <(compgen -W "--data --name --schema --missingkey --stop --no-counterexamples --library --strict --format --infer --help" -- "$word")
+        mapfile -t COMPREPLY < <(compgen -W "--data --name --schema --missingkey --stop --no-counterexamples --writes --library --strict --format --infer --map --help" -- "$word")
     else
         compopt -o filenames 2>/dev/null
         mapfile -t COMPREPLY < <(compgen -f -- "$word")
