@@ -7,8 +7,11 @@ NEEDS_ARM = command -v aarch64-linux-gnu-gcc > /dev/null || { echo "aarch64-linu
 and libc6-dev-arm64-cross" >&2; false; }
 NEEDS_WASM_OPT = command -v wasm-opt > /dev/null || { echo "wasm-opt is missing: install binaryen" >&2; false; }
 
-# the object of a program: it is compiled once more, for each processor; for the tests alone it is the one that the check of the program left
-OBJECT = $(if $(FOR_TESTS),cp crates/$(subst -,_,$(@F))/out/$(subst -,_,$(@F)).o $@.o,python3 packaging/build.py $(subst -,_,$(@F)) $@.o --cpu=x86-64)
+# the object of a program: it is compiled once more, for each processor; for the tests alone it is the one that the check of the program left,
+# or where there is none, since `rt ci` kept the program from an earlier run, one that is compiled without proofs
+LEFT = crates/$(subst -,_,$(@F))/out/$(subst -,_,$(@F)).o
+OBJECT_FOR_TESTS = $(if $(wildcard $(LEFT)),cp $(LEFT) $@.o,python3 packaging/unproved.py --object $(@F) $@.o)
+OBJECT = $(if $(FOR_TESTS),$(OBJECT_FOR_TESTS),python3 packaging/build.py $(subst -,_,$(@F)) $@.o --cpu=x86-64)
 
 # links tmpl and tmpl-check statically, for each processor of x86-64, in packaging/out/static
 static: $(addprefix $(STATIC)/,$(PROGRAMS))

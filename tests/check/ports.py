@@ -6,7 +6,7 @@ eighth of those, go through the program. With --long all of them do. The package
 
 What needs a program that is not installed is left out, with a line that says so. Where nothing is tried but the static programs, and those of
 `make static` are not up to date, they are linked of the objects that the check of the programs left: these are proved too, but for x86-64-v2,
-and stand in out/tests/packages."""
+and stand in out/tests/packages. A program that `rt ci` kept from an earlier run left none: its object is compiled without proofs."""
 import json
 import multiprocessing
 import os
@@ -205,7 +205,7 @@ def build(is_old, is_arm):
     if not is_proved:
         os.environ["FOR_TESTS"], PORTS = "1", PORTS_FOR_TESTS
     status, said = ran("make", "-s", "-C", harness.TOP, "static", *["aarch64", "lib"] * is_arm)
-    print("for each processor" if is_proved else "of the objects of the proved programs, for x86-64-v2", said * bool(status), sep="\n")
+    print("for each processor" if is_proved else "of objects for the tests alone", said * bool(status), sep="\n")
     return not status
 
 
