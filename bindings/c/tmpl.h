@@ -131,7 +131,8 @@ uint8_t tmpl_set_add(tmpl_set *set, const tmpl_file *file, tmpl_buffer *err);
 uint8_t tmpl_set_print(tmpl_set *set, tmpl_text *text);
 
 /* Reports every error in these files, added one after the other: in `text` a line for each, as compilers write it,
- * `FILE:LINE:COLUMN: error: REASON: DETAIL`, as tmpl-check writes it too. Lines and columns are from 1, columns by characters. A
+ * `FILE:LINE:COLUMN: error: REASON: DETAIL`, as tmpl-check writes it too. Lines and columns are from 1, columns by characters. Of
+ * a file the first 1,000 are reported; then a line of the reason `too many errors` says at least how many more there are. A
  * file that is refused adds nothing to those after it. Gives TMPL_OK where nothing is wrong, TMPL_REFUSED where a file is
  * refused, TMPL_NOT_TEXT where the name of one is not UTF-8, or TMPL_MEMORY. But with TMPL_REFUSED `text` is empty. */
 uint8_t tmpl_check(const tmpl_file *files, size_t file_count, tmpl_text *text);

@@ -85,6 +85,7 @@ inline const char *rule_of(std::string_view text) {
         {"nested too deeply", "nested-too-deeply"},
         {"file longer than 16777216 bytes", "too-long"},
         {"second definition", "second-definition"},
+        {"too many errors", "too-many-errors"},
     };
     for (const auto &[reason, rule] : rules) {
         const std::string_view rest = text.substr(std::min(reason.size(), text.size()));

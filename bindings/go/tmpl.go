@@ -183,6 +183,7 @@ var rules = map[string]string{
 	"nested too deeply":               "nested-too-deeply",
 	"file longer than 16777216 bytes": "too-long",
 	"second definition":               "second-definition",
+	"too many errors":                 "too-many-errors",
 }
 
 // problem is what follows the path in a line of a check

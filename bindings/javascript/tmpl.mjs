@@ -21,6 +21,7 @@ const RULES = {
     "nested too deeply": "nested-too-deeply",
     "file longer than 16777216 bytes": "too-long",
     "second definition": "second-definition",
+    "too many errors": "too-many-errors",
 };
 
 const encoder = new TextEncoder();

@@ -37,6 +37,7 @@ RULES = {
     "nested too deeply": "nested-too-deeply",
     "file longer than 16777216 bytes": "too-long",
     "second definition": "second-definition",
+    "too many errors": "too-many-errors",
 }
 # what follows the path in a line of a check
 PROBLEM = re.compile(rf":(\d+):(\d+): error: (({'|'.join(RULES)})(?:: .*)?)$", re.DOTALL)

@@ -1,11 +1,12 @@
 "use strict";
 
-const SECONDS = 2; // that a run may take
-const STOPPED = `stopped: the run had not ended after ${SECONDS} seconds`;
+const RUN = { what: "run", seconds: 2 }; // that it may take
+const CHECK = { what: "check", seconds: 10 };
 const PAUSE = 150; // milliseconds without a key before a run
 const SHOWN = 1 << 20; // bytes of output that are shown
 const TYPED = 1 << 18; // bytes of data that are put where one types; a field with more of them is slow, so they are held beside it
 const LINES = 20_000; // up to which each line of a template has its number
+const LISTED = 200; // findings that are listed
 const LINKED = 1 << 25; // characters that a link may stand for
 const KEPT = "tmpl"; // the name under which the browser keeps what was typed
 
@@ -14,7 +15,7 @@ const encoder = new TextEncoder();
 const decoder = new TextDecoder("utf-8", { ignoreBOM: true });
 const textIn = (id) => at(id).textContent;
 
-// ---- the engine, in a worker
+// ---- the engine, in workers
 
 /** Bytes that were packed by gzip and spelled in base64. */
 async function unpacked(spelled) {
@@ -24,49 +25,58 @@ async function unpacked(spelled) {
 
 const script = URL.createObjectURL(new Blob([textIn("engine")], { type: "text/javascript" }));
 const compiled = unpacked(textIn("module")).then((bytes) => WebAssembly.compile(bytes));
-let worker, stop;
 
-/** Ends the worker, with this answer to what it was asked. */
-function end(answer) {
-    const tell = stop;
-    worker?.terminate();
-    [worker, stop] = [undefined, undefined];
-    tell?.(answer);
+/** A function that asks the engine in a worker of its own. An earlier question is not waited for, and one that takes too long is ended
+ * with its worker. */
+function asker({ what, seconds }) {
+    let worker, stop;
+
+    /** Ends the worker, with this answer to what it was asked. */
+    function end(answer) {
+        const tell = stop;
+        worker?.terminate();
+        [worker, stop] = [undefined, undefined];
+        tell?.(answer);
+    }
+
+    return async (question) => {
+        const module = await compiled;
+        if (stop) end({ status: "ended" });
+        worker ??= new Worker(script);
+        const asked = worker, line = `stopped: the ${what} had not ended after ${seconds} seconds`;
+        let clock;
+        const answer = await new Promise((answered) => {
+            stop = answered;
+            asked.onerror = ({ message }) => end({ status: "failed", line: `this browser cannot run it: ${message}` });
+            asked.onmessage = ({ data: told }) => {
+                if (!told.isBegun) return answered(told);
+                clock = setTimeout(() => end({ status: "stopped", line }), seconds * 1000);
+            };
+            asked.postMessage({ module, ...question });
+        });
+        clearTimeout(clock);
+        if (asked === worker) stop = undefined;
+        return { line: "", text: new Uint8Array(), ...answer };
+    };
 }
 
-/** The answer of the engine. One that was asked before is not waited for, and a run that lasts too long is ended with its worker. */
-async function render(files, name, data, options) {
-    const module = await compiled;
-    if (stop) end({ status: "ended" });
-    worker ??= new Worker(script);
-    const asked = worker;
-    let clock;
-    const answer = await new Promise((answered) => {
-        stop = answered;
-        asked.onerror = ({ message }) => end({ status: "failed", line: `this browser cannot run it: ${message}` });
-        asked.onmessage = ({ data: told }) => {
-            if (!told.isBegun) return answered(told);
-            clock = setTimeout(() => end({ status: "stopped", line: STOPPED }), SECONDS * 1000);
-        };
-        asked.postMessage({ module, files, name, data, options });
-    });
-    clearTimeout(clock);
-    if (asked === worker) stop = undefined;
-    return { line: "", text: new Uint8Array(), ...answer };
-}
+const askRun = asker(RUN), askCheck = asker(CHECK);
+
+/** The answer of a run. */
+const render = (files, name, data, options) => askRun({ call: "render", files, name, data, options });
 
 // ---- what was typed
 
-const EMPTY = { files: [["template", ""]], data: "", name: "", missingKey: "default", depth: 1000, steps: 10_000_000, printed: false };
+const EMPTY = { files: [["template", ""]], data: "", schema: "", name: "", missingKey: "default", depth: 1000, steps: 10_000_000, printed: false };
 const FIRST = { ...EMPTY, files: [["hello.tmpl", "Hello, {{.name}}!\n{{range $i, $it := .items}}{{$i}}. {{$it}}\n{{end}}"]],
     data: '{\n  "name": "Ada",\n  "items": ["a pen", "paper & ink"]\n}\n' };
-let state = FIRST, current = 0, before, held, answer;
+let state = FIRST, current = 0, before, held, answer, findings = [];
 
 /** What a link or the browser held, as far as it has the right form. */
 function shaped(it) {
     const files = Array.isArray(it?.files) ? it.files.filter((file) => Array.isArray(file) && file.length === 2) : [];
     const shape = { ...EMPTY, files: files.length ? files.map((file) => file.map(String)) : EMPTY.files };
-    for (const key of ["data", "name", "missingKey"]) shape[key] = String(it?.[key] ?? EMPTY[key]);
+    for (const key of ["data", "schema", "name", "missingKey"]) shape[key] = String(it?.[key] ?? EMPTY[key]);
     for (const key of ["depth", "steps"]) shape[key] = Number(it?.[key]) || EMPTY[key];
     shape.printed = Boolean(it?.printed);
     return shape;
@@ -165,7 +175,7 @@ function showFile() {
 function showState() {
     current = Math.min(current, state.files.length - 1);
     showFile();
-    [at("data").value, at("name").value, at("missing-key").value] = [state.data, state.name, state.missingKey];
+    [at("data").value, at("schema").value, at("name").value, at("missing-key").value] = [state.data, state.schema, state.name, state.missingKey];
     [at("depth").value, at("steps").value] = [state.depth, state.steps];
     at(state.printed ? "as-set" : "as-text").checked = true;
     at("held").hidden = !held;
@@ -201,8 +211,43 @@ function showAnswer(came) {
     at("template").setAttribute("aria-invalid", fault?.file === current);
     at("data").setAttribute("aria-invalid", ofData);
     at("data").classList.toggle("wrong", ofData);
-    state.files.forEach((_, number) => at(`tab-${number}`)?.classList.toggle("wrong", fault?.file === number));
+    markTabs();
     follow();
+}
+
+/** Marks the files in which a fault or an error is. */
+function markTabs() {
+    const wrong = new Set(findings.filter((it) => it.level === "error").map((it) => it.file)), fault = faultOf(answer);
+    state.files.forEach(([path], number) => at(`tab-${number}`)?.classList.toggle("wrong", fault?.file === number || wrong.has(path)));
+}
+
+const counted = (count, what) => (count ? [`${count.toLocaleString("en")} ${what}${count === 1 ? "" : "s"}`] : []);
+
+/** How many findings there are, and what it means where none is an error. */
+function foundOf(isOfSchema) {
+    const errors = findings.filter((it) => it.level === "error").length;
+    const counts = [...counted(errors, "error"), ...counted(findings.length - errors, "warning")].join(", ");
+    const more = findings.length > LISTED ? ` The first ${LISTED} are listed.` : "";
+    if (errors) return `${counts}.${more}`;
+    const none = isOfSchema ? "The template fails over no data of the schema, but by limits and stops." : "The template files have no errors.";
+    return counts ? `${counts}. ${none}${more}` : none;
+}
+
+/** A finding as a button that goes to its place. */
+function itemOf(finding) {
+    const { file, line, column, level, text, note } = finding;
+    const item = document.createElement("li"), button = document.createElement("button");
+    Object.assign(button, { type: "button", className: level, onclick: () => goTo(finding) });
+    button.textContent = `${file}:${line}:${column}: ${level}: ${text}${note ? `\n${note}` : ""}`;
+    item.append(button);
+    return item;
+}
+
+function showFindings(came, isOfSchema) {
+    findings = came.findings ?? [];
+    at("found").textContent = came.line || foundOf(isOfSchema);
+    at("findings").replaceChildren(...findings.slice(0, LISTED).map(itemOf));
+    markTabs();
 }
 
 // ---- what is done
@@ -213,12 +258,21 @@ function optionsOf({ missingKey, depth, steps, printed }) {
     return { missingKey, depth, steps, printed };
 }
 
+async function renderAll() {
+    const data = held ? held.bytes : state.data.trim() ? encoder.encode(state.data) : undefined;
+    const came = await render(state.files, state.name || undefined, data, optionsOf(state));
+    if (came.status !== "ended") showAnswer(came);
+}
+
+async function checkAll() {
+    const { files, name, missingKey } = state, schema = state.schema.trim() ? encoder.encode(state.schema) : undefined;
+    const came = await askCheck({ call: "check", files, name: name || undefined, schema, missingKey });
+    if (came.status !== "ended") showFindings(came, Boolean(schema));
+}
+
 async function run() {
     at("text").classList.add("old");
-    const files = state.files.map(([path, what]) => [path, what]);
-    const data = held ? held.bytes : state.data.trim() ? encoder.encode(state.data) : undefined;
-    const came = await render(files, state.name || undefined, data, optionsOf(state));
-    if (came.status !== "ended") showAnswer(came);
+    await Promise.all([renderAll(), checkAll()]);
 }
 
 /** Has what was typed run as soon as nobody types. */
@@ -255,7 +309,7 @@ function select(number) {
     current = number;
     showFile();
     at("template").setAttribute("aria-invalid", faultOf(answer)?.file === current);
-    state.files.forEach((_, it) => at(`tab-${it}`).classList.toggle("wrong", faultOf(answer)?.file === it));
+    markTabs();
 }
 
 function add() {
@@ -283,6 +337,23 @@ function go() {
     at("template").focus();
     at("template").setSelectionRange(begin, begin + lines[fault.line - 1].length);
     at("template").scrollTop = Math.max(0, (fault.line - 4) * lineHeight());
+    follow();
+}
+
+/** Where a line and a column, which counts characters, are in a text. */
+function offsetOf(text, line, column) {
+    const lines = text.split("\n"), above = lines.slice(0, line - 1).reduce((sum, it) => sum + it.length + 1, 0);
+    return above + [...(lines[line - 1] ?? "")].slice(0, column - 1).join("").length;
+}
+
+/** Goes to the place of a finding, in a template file or in the schema. */
+function goTo({ file, line, column }) {
+    const number = state.files.findIndex(([path]) => path === file);
+    if (number >= 0 && number !== current) select(number);
+    const field = at(number >= 0 ? "template" : "schema"), begin = offsetOf(field.value, line, column);
+    field.focus();
+    field.setSelectionRange(begin, begin);
+    field.scrollTop = Math.max(0, (line - 4) * lineHeight());
     follow();
 }
 
@@ -320,6 +391,13 @@ async function openTemplate([file]) {
     state.files = state.files.map((it, number) => (number === current ? [file.name, ""] : it));
     state.files[current][1] = decoder.decode(await file.arrayBuffer());
     showFile();
+    typed();
+}
+
+async function openSchema([file]) {
+    if (!file) return;
+    state.schema = decoder.decode(await file.arrayBuffer());
+    showState();
     typed();
 }
 
@@ -373,6 +451,7 @@ function listen() {
         typed();
     });
     field("data", "data");
+    field("schema", "schema");
     field("name", "name");
     field("missing-key", "missingKey");
     field("depth", "depth", (it) => it.valueAsNumber || EMPTY.depth);
@@ -393,6 +472,7 @@ function listen() {
     });
     on("data", "paste", pasted);
     on("data", "drop", (event) => dropped(event, openData));
+    on("schema", "drop", (event) => dropped(event, openSchema));
     on("template", "drop", (event) => dropped(event, openTemplate));
     on("let-go", "click", () => {
         held = undefined;
@@ -400,7 +480,8 @@ function listen() {
         at("data").focus();
         typed();
     });
-    for (const [button, input, read] of [["open-template", "template-file", openTemplate], ["open-data", "data-file", openData]]) {
+    const opened = [["open-template", "template-file", openTemplate], ["open-data", "data-file", openData], ["open-schema", "schema-file", openSchema]];
+    for (const [button, input, read] of opened) {
         on(button, "click", () => at(input).click());
         on(input, "change", () => read(at(input).files));
     }

@@ -183,6 +183,34 @@ def judge_typing(page):
     return "typing", 12, wrong
 
 
+def judge_findings(page):
+    """What tmpl-check finds is listed while one types, with its place, and over a schema with a counterexample."""
+    page.click("anew")
+    page.put("template", "\u00e9\U0001f600 {{.a}} {{name}}\n{{end}}")
+    listed = "Array.from(document.querySelectorAll('#findings button'), (it) => it.textContent).join('|') === %s"
+    both = 'template:1:11: error: action not understood: no function "name": write .name|template:2:1: error: out of place: ' \
+        '"end" closes nothing: no if, with, range, define or block is open'
+    wrong = page.is_so(listed % json.dumps(both), 20)
+    wrong += page.is_so("document.getElementById('found').textContent === '2 errors.'")
+    page.browser.value("document.querySelector('#findings button').click()")
+    wrong += page.is_so("document.activeElement.id === 'template' && document.getElementById('template').selectionStart === 11")
+    page.put("template", "{{len .a}}")
+    wrong += page.is_so("document.getElementById('found').textContent === 'The template files have no errors.'", 20)
+    page.put("schema", '{"type": "object", "required": ["a"], "properties": {"a": {"type": ["string", "integer"]}}}')
+    found = "template:1:1: error: may fail: len of an integer, which may come here (schema:1)\nfails for {\"a\":1}: len: wrong kind of argument"
+    wrong += page.is_so(listed % json.dumps(found), 20)
+    page.put("schema", '{"type": "object", "required": ["a"], "properties": {"a": {"type": "string"}}}')
+    wrong += page.is_so("document.getElementById('found').textContent.startsWith('The template fails over no data of the schema')", 20)
+    page.put("schema", '{"type": "object",\n "requierd": ["a"]}')
+    wrong += page.is_so("document.querySelector('#findings button')?.textContent.startsWith('schema:2:2: error: ')", 20)
+    page.browser.value("document.querySelector('#findings button').click()")
+    wrong += page.is_so("document.activeElement.id === 'schema' && document.getElementById('schema').selectionStart === 20")
+    page.put("template", "{{f}}" * 300)
+    page.put("schema", "")
+    wrong += page.is_so("document.getElementById('found').textContent === '300 errors. The first 200 are listed.'", 20)
+    return "findings", 9, wrong
+
+
 def judge_keys(page):
     """The tabs by keys alone."""
     page.browser.value("document.getElementById('tab-1').focus()")
@@ -328,6 +356,7 @@ def results(folder):
         yield judge_keys(page)
         yield judge_kept(page)
         yield judge_link(page)
+        yield judge_findings(page)
         yield judge_endless(page)
         yield judge_much(page, folder)
         yield judge_examples(page)

@@ -4,6 +4,7 @@ NOT_UNDERSTOOD = "error: action not understood: "
 OUT_OF_PLACE = "error: out of place: "
 UNDECLARED = "error: undeclared variable: "
 OPEN = "error: file ends inside a control: "
+TOO_MANY = "1:1: error: too many errors: the first 1000 are reported, and at least %d are not"
 PIPED = ", and its lines with the indentation that they need: a template can't be piped"
 END = '"end" closes nothing: no if, with, range, define or block is open'
 
@@ -16,6 +17,16 @@ def undeclared(name):
 
 ROWS = [
     ("nothing wrong", "{{if .x}}{{.y}}{{end}}", []),
+    ("a thousand errors", "{{f}}" * 1000, [f'1:{1 + 5 * at}: {NOT_UNDERSTOOD}no function "f": write .f' for at in range(1000)]),
+    ("more than a thousand", "{{f}}" * 1003, [f'1:{1 + 5 * at}: {NOT_UNDERSTOOD}no function "f": write .f' for at in range(1000)] + [TOO_MANY % 3]),
+    ("more than a thousand actions that can't be read", "{{\n" * 1005,
+     [f'{at}:1: {UNREADABLE}"{{{{" inside an action: is "}}}}" missing before it?' for at in range(1, 1001)] + [TOO_MANY % 5]),
+    ("more than a thousand errors, and an action that can't be read", "{{f}}" * 1003 + "{{",
+     [f'1:{1 + 5 * at}: {NOT_UNDERSTOOD}no function "f": write .f' for at in range(1000)] + [TOO_MANY % 4]),
+    ("more than a thousand warnings", "}}" * 1002, [f'1:{1 + 2 * at}: warning: "}}}}" closes no action: it is text' for at in range(1000)]
+     + ["1:1: warning: such warnings that are left out: 2"]),
+    ("more than a thousand calls of a template that is not there", '{{template "x"}}' * 1001,
+     [f'1:{1 + 16 * at}: warning: no file defines the template "x"' for at in range(1000)] + ["1:1: warning: such warnings that are left out: 1"]),
     # as people write them who come from other tools
     ("a name without its dot", "{{name}}", ["1:1: " + NOT_UNDERSTOOD + 'no function "name": write .name']),
     ("arithmetic", "{{.n | add 1}}", ["1:1: " + NOT_UNDERSTOOD + 'no function "add": there is no arithmetic: compute it in the data']),
@@ -54,7 +65,12 @@ ROWS = [
     ("not equal", '{{if .a != "b"}}x{{end}}', ["1:1: " + UNREADABLE + '"!=" is no operand: write ne .a "b"']),
     ("less", "{{if .n<3}}x{{end}}", ["1:1: " + UNREADABLE + '"<" is no operand: write lt .n 3']),
     ("at least", "{{if $.n >= 3}}x{{end}}", ["1:1: " + UNREADABLE + '">=" is no operand: write ge $.n 3']),
-    ("brackets", "{{.list[0]}}", ["1:1: " + UNREADABLE + 'unexpected "[": write index, as in index .list 0']),
+    ("brackets", "{{.list[0]}}", ["1:1: " + UNREADABLE + 'unexpected "[": write index .list 0']),
+    ("brackets with a key", '{{$.a.b["k"]}}', ["1:1: " + UNREADABLE + 'unexpected "[": write index $.a.b "k"']),
+    ("brackets of another kind", "{{.list['k']}}", ["1:1: " + UNREADABLE + 'unexpected "[": write index, as in index .list 0']),
+    ("brackets alone", "{{[1, 2]}}", ["1:1: " + UNREADABLE + 'unexpected "[": write index, as in index .list 0']),
+    ("a partial template", "{{> part}}", ["1:1: " + UNREADABLE + '">" begins no action: write {{template "part" .}}']),
+    ("a range of another tool", "{{range $x in .xs}}{{end}}", ["1:1: " + NOT_UNDERSTOOD + 'no function "in": write {{range .list}}; to ask for a member put a boolean into the data']),
     ("a key with a dash", "{{.a.b-c}}", ["1:1: " + UNREADABLE + 'unexpected "-": write index .a "b-c"']),
     ("a key with a dash alone", "{{.app-name}}", ["1:1: " + UNREADABLE + 'unexpected "-": write index . "app-name"']),
     ("a difference", "{{.a - .b}}", ["1:1: " + UNREADABLE + 'unexpected "-": there is no arithmetic; compute it in the data']),
@@ -88,7 +104,7 @@ ROWS = [
     ("texts without a space", '{{print "a""b"}}', ["1:1: " + NOT_UNDERSTOOD + 'a space is wanted before ""b""']),
     ("a keyword inside", "{{print if}}", ["1:1: " + NOT_UNDERSTOOD + '"if" stands first in an action of its own']),
     ("an if with no value", "{{if}}x{{end}}", ["1:1: " + NOT_UNDERSTOOD + 'after "if" stands a value']),
-    ("an end with more", "{{if .x}}x{{end if}}", ["1:11: " + NOT_UNDERSTOOD + '"if" stands first in an action of its own']),
+    ("an end with more", "{{if .x}}x{{end if}}", ["1:11: " + NOT_UNDERSTOOD + '"end" stands alone: write {{end}}']),
     ("an end with a value", "{{if .x}}x{{end .x}}", ["1:11: " + NOT_UNDERSTOOD + '"end" stands alone']),
     ("an else with a value", "{{if .x}}x{{else .x}}y{{end}}",
      ["1:11: " + NOT_UNDERSTOOD + 'after "else" stands nothing, or "if" or "with" and a value']),
@@ -197,6 +213,7 @@ FAILING = [
     ("two numbers of two", "lt .n", '"lt" takes 2 arguments and has 1', None),
     ("a constant without a length", "len 5", '"len" refuses 5', None),
     ("constants that can't be compared", 'lt 1 "x"', '"lt" refuses 1 "x"', None),
+    ("an argument of a string", '"a" "b"', '"a" is no function, and has an argument', None),
     ("an argument of a field", '.a "x"', '".a" is no function, and has an argument', None),
     ("a pipe into a field", ".a | .b", 'nothing can be piped to ".b", which is no function', None),
     ("nil alone", "nil", '"nil" is no command', None),

@@ -128,7 +128,7 @@ fn raw_buffer(memory: &mut [u8]) -> RawBuffer {
 pub const MOST: usize = 1_000;
 
 /// The rules of `tmpl-check`, by the reason for which a file is refused.
-const RULES: [(&str, &str); 8] = [
+const RULES: [(&str, &str); 9] = [
     ("unclosed or unreadable action", "unreadable"),
     ("action not understood", "not-understood"),
     ("out of place", "out-of-place"),
@@ -137,6 +137,7 @@ const RULES: [(&str, &str); 8] = [
     ("nested too deeply", "nested-too-deeply"),
     ("file longer than 16777216 bytes", "too-long"),
     ("second definition", "second-definition"),
+    ("too many errors", "too-many-errors"),
 ];
 
 /// An error in a template file, and where it is. It displays as a line as compilers write it: `FILE:LINE:COLUMN: error: TEXT`.

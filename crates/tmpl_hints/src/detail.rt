@@ -288,9 +288,7 @@ fn flaw_text(alloc: Global, tokens: &[Token<'_>], at: (usize, Flaw)) -> Result<S
     let said = match flaw {
         Flaw::Operator(operator) => operator.text(said, tokens, index),
         Flaw::NoFunction => no_function(said, tokens, index, bytes),
-        Flaw::Keyword => said
-            .quote(bytes)
-            .say(" stands first in an action of its own"),
+        Flaw::Keyword => keyword_text(said, tokens, bytes),
         Flaw::Index => index_text(said, tokens, index, bytes),
         Flaw::Constant => constant_text(said, bytes),
         Flaw::Unopened => said.say("\")\" closes no \"(\""),
@@ -303,6 +301,18 @@ fn flaw_text(alloc: Global, tokens: &[Token<'_>], at: (usize, Flaw)) -> Result<S
         Flaw::Joined => said.say("a space is wanted before ").quote(bytes),
     };
     said.finish()
+}
+
+/// The message about a keyword that is not the first word.
+fn keyword_text(said: Sentence, tokens: &[Token<'_>], word: &[u8]) -> Sentence {
+    match tokens.first() {
+        Some(first) if first.bytes == b"end".as_slice() => said.say(
+            "\"end\" stands alone: write {{end}}",
+        ),
+        _ => said
+            .quote(word)
+            .say(" stands first in an action of its own"),
+    }
 }
 
 /// The message about a word that names no function.

@@ -116,7 +116,7 @@ static SPRIG: [Row; 52] = [
         text: "write printf \"%s %s\" .a .b",
     },
     Row {
-        names: "contains hasPrefix hasSuffix regexMatch matches startswith endswith in",
+        names: "contains hasPrefix hasSuffix regexMatch matches startswith endswith",
         text: "put a boolean into the data",
     },
     Row {
@@ -298,7 +298,7 @@ static CONSUL_TEMPLATE: [Row; 6] = [
 ];
 
 /// Of Jinja.
-static JINJA: [Row; 17] = [
+static JINJA: [Row; 18] = [
     Row {
         names: "unless",
         text: "write {{if not .x}}",
@@ -318,6 +318,10 @@ static JINJA: [Row; 17] = [
     Row {
         names: "for foreach each",
         text: "write {{range .list}}",
+    },
+    Row {
+        names: "in",
+        text: "write {{range .list}}; to ask for a member put a boolean into the data",
     },
     Row {
         names: "var let assign",

@@ -55,6 +55,11 @@ fn read_len(tokens: &[Token<'_>], after: &[u8]) -> usize {
 
 /// The message about bytes with which no token begins.
 fn said_of(said: Sentence, tokens: &[Token<'_>], bytes: &[u8]) -> Sentence {
+    match bytes {
+        [b'>', rest @ ..] if tokens.len() == 0 => return partial_text(said, first_word(rest)),
+        [b'[', rest @ ..] => return subscript_text(said, tokens, rest),
+        _ => {}
+    }
     if let Some(operator) = operator_in(bytes) {
         let rest = bytes.get(operator.sign.len()..).unwrap_or(&[]);
         return operator.text_between(said, tokens, rest);
@@ -76,7 +81,6 @@ fn said_of(said: Sentence, tokens: &[Token<'_>], bytes: &[u8]) -> Sentence {
             "a comment stands between \"{{/*\" and \"*/}}\"",
         ),
         [b'!', rest @ ..] => not_text(said, first_word(rest)),
-        [b'[', ..] => said.say("unexpected \"[\": write index, as in index .list 0"),
         [b'/', b'*', ..] => said.say("a comment begins right after its \"{{\": write {{/* .. */}}"),
         [b'}', ..] => said.say("unexpected \"}\": an action ends with \"}}\""),
         [b'-', b'}', b'}', ..] => said.say("a trim marker has a space before it: write \" -}}\""),
@@ -101,6 +105,36 @@ fn said_of(said: Sentence, tokens: &[Token<'_>], bytes: &[u8]) -> Sentence {
         [b'&', ..] => said.say("unexpected \"&\": write and"),
         _ => said.say("unexpected ").quote(first_byte(bytes)),
     }
+}
+
+/// The message about a partial template of this name, as Handlebars and Mustache have it.
+fn partial_text(said: Sentence, name: &[u8]) -> Sentence {
+    said.say("\">\" begins no action: write {{template \"")
+        .show(name)
+        .say("\" .}}")
+}
+
+/// The message about a `[` after these tokens and before these bytes.
+fn subscript_text(said: Sentence, tokens: &[Token<'_>], after: &[u8]) -> Sentence {
+    let said = said.say("unexpected \"[\": write index");
+    let taken = after
+        .iter()
+        .take_while(|b| **b != b']' && !b.is_ascii_whitespace())
+        .count();
+    let (key, _) = after.split_at(taken);
+    match key {
+        [b'"' | b'$' | b'.' | b'0'..=b'9', ..] if ends_with_value(tokens) && key.len() < 50 => {
+            show_left(said.say(" "), tokens, tokens.len())
+                .say(" ")
+                .show(key)
+        }
+        _ => said.say(", as in index .list 0"),
+    }
+}
+
+/// Whether the last token is a field or a variable.
+fn ends_with_value(tokens: &[Token<'_>]) -> bool {
+    matches!(tokens.last(), Some(token) if is_chained(token.kind))
 }
 
 /// Whether a curly quote comes in a line before its `}}`.

@@ -1,5 +1,5 @@
 -- What is wrong in a file, as lines.
-use Rattle.std.specs.Prelude.{◌==◌, ◌&&◌, ◌||◌, ℕ, Bool, false, List, ◌++◌, length, nat_le, codes, decimal, string_bytes, if◌then◌else◌}
+use Rattle.std.specs.Prelude.{◌==◌, ◌&&◌, ◌||◌, ℕ, Bool, false, List, [], ◌++◌, length, nat_le, codes, decimal, string_bytes, if◌then◌else◌}
 use Rattle.std.specs.Char.{encode_utf8}
 use Rattle.std.specs.List.{flat_map}
 use Rattle.std.specs.Str.{chars}
@@ -43,6 +43,14 @@ abbrev pub lines_for : List ℕ → List Problem → List ℕ
 lines_for file problems =
     flat_map (λ p. line_of file (p.refused.line, p.refused.column) (codes "error") (text_of p)) problems
 
--- all of them: first what is refused
+-- that at least so many more problems are in a file
+abbrev pub left_words : ℕ → List ℕ
+left_words left = codes "too many errors: the first 1000 are reported, and at least " ++ (decimal left ++ codes " are not")
+
+-- a line that says so, where some are left
+abbrev pub left_line : List ℕ → ℕ → List ℕ
+left_line file left = if left == 0 then [] else line_of file (1, 1) (codes "error") (left_words left)
+
+-- all that is reported: first what is refused
 abbrev pub all_lines : List ℕ → Problems → List ℕ
-all_lines file all = lines_for file all.refused.items ++ lines_for file all.beyond.items
+all_lines file all = lines_for file all.refused.items ++ (lines_for file all.beyond.items ++ left_line file all.left)

@@ -77,10 +77,11 @@ fn say_no_function(
     }
     let mut text = Vec::new(alloc);
     print_operand(first, &mut text)?;
-    Ok(
-        said.quote(text.as_slice())
-            .say(" is no function, and has an argument"),
-    )
+    let said = match first {
+        Operand::Text(_) => said.show(text.as_slice()),
+        _ => said.quote(text.as_slice()),
+    };
+    Ok(said.say(" is no function, and has an argument"))
 }
 
 /// Says that a function stands after its first argument, or without parentheses around it and its own.

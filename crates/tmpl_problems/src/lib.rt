@@ -18,7 +18,7 @@ mod variables;
 
 pub use check::check_file;
 pub use data_check::{DataProblem, DataReason, DataReport, check_data};
-pub use line::{Finding, problem_lines, problem_text, reason_text};
-pub use problem::{Problem, Problems};
+pub use line::{Finding, left_text, problem_lines, problem_text, reason_text};
+pub use problem::{MOST_PROBLEMS, Problem, Problems};
 pub use reason::reason_words;
 pub use survey::{Named, Survey, Warning, survey_file};

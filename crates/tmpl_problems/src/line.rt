@@ -3,7 +3,7 @@ ghost use Rattle.std.specs.Prelude.{◌≡◌, ◌++◌, ◌∷◌, ◌<◌, [],
 ghost use Rattle.std.specs.Fmt.{digit_glyph};
 ghost use Rattle.tmpl_values.specs.Quote.{letter_of, letters, spelling};
 ghost use Rattle.tmpl_values.specs.Rune.{char};
-ghost use Rattle.tmpl_problems.specs.Line.{all_lines, is_hidden, line_of, lines_for, place_in_line, reason_with, shown_char, shown_in_line, text_of};
+ghost use Rattle.tmpl_problems.specs.Line.{all_lines, is_hidden, left_line, left_words, line_of, lines_for, place_in_line, reason_with, shown_char, shown_in_line, text_of};
 
 use crate::problem::{Problem, Problems};
 use crate::reason::reason_words;
@@ -138,14 +138,44 @@ pub fn problem_text(alloc: Global, problem: &Problem) -> Result<String, AllocErr
     )
 }
 
-/// All that is wrong in a file, in a line each: what is refused, and then what is found beyond.
+/// That at least so many more problems are in a file.
+pub fn left_text(alloc: Global, left: usize) -> Result<String, AllocError>
+    ensures { IfOk result (λ t. string_bytes t ≡ left_words left) }
+{
+    let mut text = String::new(alloc);
+    write!(
+        text,
+        "too many errors: the first 1000 are reported, and at least {left} are not"
+    )?;
+    Ok(text)
+}
+
+/// What is reported of a file, in a line each: what is refused, what is found beyond, and how many more there are.
 pub fn problem_lines(alloc: Global, file: &str, all: &Problems) -> Result<String, AllocError>
     ensures { IfOk result (λ t. string_bytes t ≡ all_lines file.now all.now) }
 {
     let mut out = String::new(alloc);
     push_problems(alloc, &mut out, file, all.refused.as_slice())?;
     push_problems(alloc, &mut out, file, all.beyond.as_slice())?;
+    push_left(alloc, &mut out, file, all.left)?;
     Ok(out)
+}
+
+/// Adds a line that says how many more there are, where some are left.
+fn push_left(alloc: Global, out: &mut String, file: &str, left: usize) -> Result<(), AllocError>
+    ensures { OnOk result (string_bytes out.new ≡ string_bytes out.old ++ left_line file.now left) }
+{
+    if left == 0 {
+        return Ok(());
+    }
+    let text = left_text(alloc, left)?;
+    Finding {
+        file,
+        place: (1, 1),
+        level: "error",
+        text: text.as_str(),
+    }
+    .push_to(out)
 }
 
 /// Adds the lines of what is wrong in a file.

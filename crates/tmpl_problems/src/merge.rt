@@ -46,16 +46,17 @@ fn start_of_last(problems: &Vec<Problem>) -> Option<usize> {
     Some(problems.last()?.refused.start)
 }
 
-/// These, of which the last comes first, in their order in the file, with its lines and columns.
+/// The first of these, of which the last comes first: at most so many, in their order in the file, with its lines and columns.
 pub(crate) fn beyond_of(
     alloc: Global,
     bytes: &[u8],
     reversed: Vec<Problem>,
+    most: usize,
 ) -> Result<Vec<Problem>, AllocError> {
     let mut reversed = reversed;
     let mut beyond = Vec::new(alloc);
     let mut place = Place::first();
-    for _ in 0..reversed.len() {
+    for _ in 0..reversed.len().min(most) {
         if let Some(mut problem) = reversed.pop() {
             place = place_in(place, bytes, problem.refused.start);
             problem.refused.line = place.line;

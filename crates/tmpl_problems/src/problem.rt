@@ -10,12 +10,17 @@ pub struct Problem {
     pub detail: String,
 }
 
-/// All that is wrong in a file.
+/// The most problems of a file that are reported.
+pub const MOST_PROBLEMS: usize = 1000;
+
+/// What is wrong in a file: the first problems of it.
 #[derive(Debug, Drop)]
 pub struct Problems {
-    /// All that is refused of it; nothing where it is accepted.
+    /// What is refused of it; nothing where it is accepted.
     pub refused: Vec<Problem>,
     /// What is found after an action that can't be read, which is then the last that is refused: if that ends where it
     /// seems to end, and so does each other one that can't be read.
     pub beyond: Vec<Problem>,
+    /// At least how many more there are; none where all are here.
+    pub left: usize,
 }

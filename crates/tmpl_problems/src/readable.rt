@@ -1,19 +1,22 @@
 //! A file in which each action that can't be read is one that can, so that what stands after it is read too.
 
-use crate::problem::Problem;
+use crate::problem::{MOST_PROBLEMS, Problem};
 use crate::scan::{place_in, rest_after};
 use std::alloc::{AllocError, Global};
 use tmpl_hints::{Opening, Role, marker_len, role_named, unreadable};
 use tmpl_lex::{AfterText, Part, Rest, Token, first_part};
 use tmpl_syntax::{About, ParseKind, Place, Refused};
 
-/// As many bytes as a file has, which are the same but in actions that can't be read; and what is wrong with these.
+/// The bytes of a file, which are the same but in actions that can't be read, up to the first of these that is left out;
+/// and what is wrong with them.
 #[derive(Drop)]
 pub(crate) struct Readable {
     pub(crate) bytes: Vec<u8>,
     pub(crate) gaps: Vec<Problem>,
     /// How many pieces were read.
     count: usize,
+    /// How many more actions can't be read.
+    pub(crate) left: usize,
 }
 
 /// Reads on after each action that can't be read: from its first `}}` on, or from the next `{{` on, if that comes
@@ -75,10 +78,12 @@ impl Readable {
             bytes: Vec::new(alloc),
             gaps: Vec::new(alloc),
             count: 0,
+            left: 0,
         }
     }
 
-    /// Passes a part, which stands there if its action can't be read.
+    /// Passes a part, which stands there if its action can't be read. After the most problems that are reported it only
+    /// counts.
     fn pass(
         &mut self,
         alloc: Global,
@@ -87,6 +92,10 @@ impl Readable {
         tokens: &[Token<'_>],
         part: Part<'_>,
     ) -> Result<(), AllocError> {
+        if self.gaps.len() == MOST_PROBLEMS && is_gap(part) || self.left > 0 {
+            self.left = self.left.saturating_add(usize::from(is_gap(part)));
+            return Ok(());
+        }
         self.bytes.extend_from_slice(stretch.before)?;
         if !part.text.is_empty() {
             self.count = self.count.saturating_add(1);
@@ -130,6 +139,11 @@ impl Readable {
         }
         Ok(())
     }
+}
+
+/// Whether the action of a part can't be read.
+fn is_gap(part: Part<'_>) -> bool {
+    matches!(part.after, AfterText::Unreadable(_))
 }
 
 /// What is wrong at the place of an action that can't be read and stands after this many pieces.

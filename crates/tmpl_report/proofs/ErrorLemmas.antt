@@ -1,5 +1,5 @@
 -- For `findings_of`: the errors among what is found, those of one more file, and those of data.
-use Rattle.std.proofs.Common.{◌≡◌, ◌∙◌, ◌++◌, ◌||◌, Bool, true, false, ℕ, List, [], ◌∷◌, Option, Some, None, Ok, IfSome, ap, append-nil, append_assoc, cond, if◌then◌else◌, is_none, map, not, refl, sym}
+use Rattle.std.proofs.Common.{◌≡◌, ◌∙◌, ◌++◌, ◌||◌, Bool, true, false, ℕ, List, [], ◌∷◌, Option, Some, None, Ok, IfSome, ap, append-nil, append_assoc, cond, if◌then◌else◌, is_none, map, not, refl, suc, sym, take, zero}
 use Rattle.std.specs.List.{AllByRecursion}
 use Rattle.std.proofs.lemmas.List.Elements.{filter-append}
 use Rattle.tmpl_values.specs.Json.{data_of}
@@ -7,7 +7,8 @@ use Rattle.tmpl_values.specs.Value.{Value}
 use Rattle.tmpl_syntax.specs.Set.{Template}
 use Rattle.tmpl_syntax.specs.Examine.{Examined}
 use Rattle.tmpl_syntax.specs.Parse.{Parses}
-use Rattle.tmpl_problems.specs.Checked.{refused_in}
+use Rattle.tmpl_syntax.specs.declared.refused.Refused.{Refused}
+use Rattle.tmpl_problems.specs.Checked.{most, refused_in}
 use Rattle.tmpl_problems.specs.Judged.{IsJudgedData}
 use Rattle.tmpl_problems.specs.declared.data_check.DataReason.{DataReason}
 use Rattle.tmpl_problems.specs.declared.problem.Problem.{Problem}
@@ -15,7 +16,7 @@ use Rattle.tmpl_problems.specs.declared.problem.Problems.{Problems}
 use Rattle.tmpl_report.specs.declared.source.Source.{Source}
 use Rattle.tmpl_report.specs.declared.entry.Level.{Level}
 use Rattle.tmpl_report.specs.declared.entry.Level.TheVariants.{Error, Warning}
-use Rattle.tmpl_report.specs.Errors.{AreOfData, AreOfFile, AreOfFiles, AreOfReason, IsOfReason, MayBeOfSchema, error_of, errors_in, errors_of}
+use Rattle.tmpl_report.specs.Errors.{AreOfData, AreOfFile, AreOfFiles, AreOfReason, IsOfReason, MayBeOfSchema, error_of, errors_in, errors_of, left_in}
 use Rattle.tmpl_report.specs.Finding.{Finding, has_error}
 use Rattle.tmpl_report.specs.Level.{is_error}
 use Rattle.tmpl_report.specs.Safe.{AreAccepted}
@@ -60,11 +61,20 @@ all_errors : (file : List ℕ) (ps : List Problem) → errors_in (map (error_of 
 all_errors file [] = refl
 all_errors file (p ∷ ps) = ap (λ xs. error_of file p ∷ xs) (all_errors file ps)
 
+left_errors : (file : List ℕ) (left : ℕ) → errors_in (left_in file left) ≡ left_in file left
+left_errors file zero = refl
+left_errors file (suc n) = refl
+
 pub errors_in-errors_of : (file : List ℕ) (all : Problems) → errors_in (errors_of file all) ≡ errors_of file all
 errors_in-errors_of file all =
-    errors_in-append (map (error_of file) all.refused.items) (map (error_of file) all.beyond.items)
-    ∙ ap (λ xs. xs ++ errors_in (map (error_of file) all.beyond.items)) (all_errors file all.refused.items)
-    ∙ ap (λ ys. map (error_of file) all.refused.items ++ ys) (all_errors file all.beyond.items)
+    let refused = map (error_of file) all.refused.items in
+    let beyond = map (error_of file) all.beyond.items in
+    let left = left_in file all.left in
+    errors_in-append refused (beyond ++ left)
+    ∙ ap (λ xs. xs ++ errors_in (beyond ++ left)) (all_errors file all.refused.items)
+    ∙ ap (λ ys. refused ++ ys) (errors_in-append beyond left)
+    ∙ ap (λ ys. refused ++ (ys ++ errors_in left)) (all_errors file all.beyond.items)
+    ∙ ap (λ ys. refused ++ (beyond ++ ys)) (left_errors file all.left)
 
 -- the errors of one more file
 pub of_more : (old mid new : List Template) (files : List Source) (file : Source) (errors here : List Finding)
@@ -79,7 +89,7 @@ pub told_more : (before after : List Finding) (old new : List Template) (file : 
     → AreOfFile old file new here → after ≡ before ++ here → errors_in after ≡ errors_in before ++ here
 told_more before after old new file here p e =
     ap errors_in e ∙ errors_in-append before here
-    ∙ ap (λ xs. errors_in before ++ xs) (ap errors_in p.1 ∙ errors_in-errors_of file.name.now p.0 ∙ sym p.1)
+    ∙ ap (λ xs. errors_in before ++ xs) (ap errors_in p.2 ∙ errors_in-errors_of file.name.now p.1 ∙ sym p.2)
 
 -- ---- more errors
 
@@ -126,14 +136,15 @@ none-after old new more e h = right-false (has_error old) (has_error more) (none
 
 file-accepted : (old : List Template) (file : Source) (new : List Template) (errors : List Finding) → AreOfFile old file new errors
     → has_error errors ≡ false → Parses old file.name.now file.bytes.items (Ok new)
-file-accepted old file new errors p h = by p.0.refused.items refl h p.2
+file-accepted old file new errors (all, p, same, examined, located, reports) h = by p.refused.items refl all reports.first examined
   where
-    by : (ps : List Problem) → p.0.refused.items ≡ ps → has_error errors ≡ false → Examined old file.name.now file.bytes.items new (map refused_in ps)
-        → Parses old file.name.now file.bytes.items (Ok new)
-    by [] e none x = x
-    by (q ∷ qs) e none x =
-        let some : has_error errors ≡ true = ap has_error p.1
-        ∙ ap (λ ps. has_error (map (error_of file.name.now) ps ++ map (error_of file.name.now) p.0.beyond.items)) e in cc
+    by : (ps : List Problem) → p.refused.items ≡ ps → (rs : List Refused) → map refused_in p.refused.items ≡ take most rs
+        → Examined old file.name.now file.bytes.items new rs → Parses old file.name.now file.bytes.items (Ok new)
+    by ps e [] first x = x
+    by [] e (r ∷ rs) first x = let none : map refused_in p.refused.items ≡ [] = ap (map refused_in) e in cc
+    by (q ∷ qs) e (r ∷ rs) first x =
+        let some : has_error errors ≡ true = ap has_error same
+        ∙ ap (λ ps. has_error (map (error_of file.name.now) ps ++ (map (error_of file.name.now) p.beyond.items ++ left_in file.name.now p.left))) e in cc
 
 pub files-accepted : (old : List Template) (files : List Source) (new : List Template) (errors : List Finding) → AreOfFiles old files new errors
     → has_error errors ≡ false → AreAccepted old files new

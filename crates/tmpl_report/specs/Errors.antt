@@ -1,13 +1,14 @@
 -- Which errors are reported of template files and of data.
-use Rattle.std.specs.Prelude.{◌≡◌, ℕ, true, List, [], ◌∷◌, ◌++◌, All, Option, Some, None, codes, filter, map}
+use Rattle.std.specs.Prelude.{◌≡◌, ◌==◌, ℕ, true, List, [], ◌∷◌, ◌++◌, All, Option, Some, None, codes, filter, map, if◌then◌else◌}
 use Rattle.std.specs.List.{AllByRecursion}
 use Rattle.tmpl_syntax.specs.Set.{Template}
 use Rattle.tmpl_syntax.specs.declared.fault.ParseKind.{ParseKind}
 use Rattle.tmpl_syntax.specs.declared.fault.ParseKind.TheVariants as kind
 use Rattle.tmpl_syntax.specs.Examine.{Examined, IsLocated}
-use Rattle.tmpl_problems.specs.Checked.{IsBeyond, refused_in}
+use Rattle.tmpl_syntax.specs.declared.refused.Refused.{Refused}
+use Rattle.tmpl_problems.specs.Checked.{Reports}
 use Rattle.tmpl_problems.specs.Judged.{IsJudgedData, words_for}
-use Rattle.tmpl_problems.specs.Line.{reason_with, text_of}
+use Rattle.tmpl_problems.specs.Line.{left_words, reason_with, text_of}
 use Rattle.tmpl_problems.specs.declared.data_check.DataReason.{DataReason}
 use Rattle.tmpl_problems.specs.declared.data_check.DataReason.TheVariants as reason
 use Rattle.tmpl_problems.specs.declared.problem.Problem.{Problem}
@@ -48,17 +49,22 @@ error_of file p = record {
   note = None;
 }
 
--- all of it: first what is refused
-abbrev pub errors_of : List ℕ → Problems → List Finding
-errors_of file all = map (error_of file) all.refused.items ++ map (error_of file) all.beyond.items
+-- that there are at least so many more, where some are left out
+abbrev pub left_in : List ℕ → ℕ → List Finding
+left_in file left =
+    if left == 0 then []
+    else record { file = file; line = 1; column = 1; level = Error; rule = codes "too-many-errors"; text = left_words left; note = None } ∷ []
 
--- these are the errors of a file, which makes the new set of the old one or is refused: all that is refused of it, in
--- order and at its places, and then, only where one of these is of an action that can't be read, what is found beyond, of
--- which nothing else is said
+-- all that is reported of it: first what is refused
+abbrev pub errors_of : List ℕ → Problems → List Finding
+errors_of file all = map (error_of file) all.refused.items ++ (map (error_of file) all.beyond.items ++ left_in file all.left)
+
+-- these are the errors of a file, which makes the new set of the old one or is refused: the first 1,000 of all that is
+-- refused of it, in order and at their places; then, only where one of these is of an action that can't be read, what is
+-- found beyond, of which nothing else is said; and how many more there are
 abbrev pub AreOfFile : List Template → Source → List Template → List Finding → Type 0
-AreOfFile old file new errors = (all : Problems) × (errors ≡ errors_of file.name.now all)
-    × Examined old file.name.now file.bytes.items new (map refused_in all.refused.items)
-    × All (IsLocated file.bytes.items) (map refused_in all.refused.items) × IsBeyond all
+AreOfFile old file new errors = (all : List Refused) × (reported : Problems) × (errors ≡ errors_of file.name.now reported)
+    × Examined old file.name.now file.bytes.items new all × All (IsLocated file.bytes.items) all × Reports all reported
 
 -- these are the errors of files, one file after the other
 abbrev pub AreOfFiles : List Template → List Source → List Template → List Finding → Type 0

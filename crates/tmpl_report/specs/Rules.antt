@@ -12,6 +12,7 @@ rules =
     ∷ (codes "nested-too-deeply", codes "At most 500 controls and blocks are open, and 100 parentheses.")
     ∷ (codes "too-long", codes "A file has at most 16,777,216 bytes.")
     ∷ (codes "second-definition", codes "A file defines a template once.")
+    ∷ (codes "too-many-errors", codes "A file has at most 1,000 errors.")
     ∷ (codes "not-json", codes "Data is JSON.")
     ∷ (codes "number-not-whole", codes "A number of data is whole and has 64 signed bits.")
     ∷ (codes "suspicious", codes "A variable is used, and a text does not look like an action.")

@@ -6,7 +6,7 @@ ghost use Rattle.tmpl_values.specs.Json.{data_of, Flaw};
 ghost use Rattle.tmpl_values.specs.Value.{Value};
 ghost use Rattle.tmpl_syntax.specs.View.{set_view};
 ghost use Rattle.tmpl_report.specs.Errors.{AreErrors, AreOfData, AreOfFile, AreOfFiles, AreOfReason, AreOfSources, IsOfReason};
-ghost use Rattle.tmpl_report.specs.Errors.{error_of, errors_in, errors_of};
+ghost use Rattle.tmpl_report.specs.Errors.{error_of, errors_in, errors_of, left_in};
 ghost use Rattle.tmpl_report.specs.Finding.{Finding, has_error};
 ghost use Rattle.tmpl_report.specs.Level.{is_error};
 ghost use Rattle.tmpl_report.specs.Rendered.{IsValued};
@@ -19,7 +19,7 @@ use crate::output::add_output;
 use crate::reasons::position_of;
 use crate::rule::{
     ALWAYS_FAILS, KEY_GIVEN_TWICE, MAY_FAIL, NEVER_CALLED, NO_SUCH_TEMPLATE, Rule, SUSPICIOUS,
-    data_rule_of, rule_of,
+    TOO_MANY_ERRORS, data_rule_of, rule_of,
 };
 use crate::schema::{add_schema, part_text, say_name};
 use crate::source::{Question, Source, Sources};
@@ -31,8 +31,8 @@ use std::marker::Model;
 use tmpl_hints::Sentence;
 use tmpl_json_schema::Refused;
 use tmpl_problems::{
-    DataProblem, DataReason, DataReport, Named, Problem, Problems, Survey, Warning, check_data,
-    check_file, problem_text, reason_text, survey_file,
+    DataProblem, DataReason, DataReport, MOST_PROBLEMS, Named, Problem, Problems, Survey, Warning,
+    check_data, check_file, left_text, problem_text, reason_text, survey_file,
 };
 use tmpl_syntax::{NameHash, Set, base_name};
 
@@ -143,7 +143,26 @@ impl<'a> Findings<'a> {
         ensures { OnOk result (self.new ≡ self.old ++ errors_of file.now problems.now) }
     {
         self.add_errors(alloc, file, problems.refused.as_slice())?;
-        self.add_errors(alloc, file, problems.beyond.as_slice())
+        self.add_errors(alloc, file, problems.beyond.as_slice())?;
+        self.add_left(alloc, file, problems.left)
+    }
+
+    /// Adds how many errors of a file are left out, where some are.
+    fn add_left(&mut self, alloc: Global, file: &'a str, left: usize) -> Result<(), AllocError>
+        ensures { OnOk result (self.new ≡ self.old ++ left_in file.now left) }
+    {
+        if left == 0 {
+            return Ok(());
+        }
+        self.add(Entry {
+            file,
+            level: Level::Error,
+            line: 1,
+            column: 1,
+            rule: TOO_MANY_ERRORS,
+            text: left_text(alloc, left)?,
+            note: None,
+        })
     }
 
     /// Adds errors of a file.
@@ -186,19 +205,43 @@ impl<'a> Findings<'a> {
         })
     }
 
-    /// Adds warnings of a file by a rule.
+    /// Adds warnings of a file by a rule: the first, and how many more there are.
     fn add_warnings(
         &mut self,
+        alloc: Global,
         file: &'a str,
         rule: Rule,
         warnings: Vec<Warning>,
     ) -> Result<(), AllocError>
         ensures { OnOk result (errors_in self.new ≡ errors_in self.old) }
     {
+        let mut warnings = warnings;
+        let left = warnings.len().saturating_sub(MOST_PROBLEMS);
+        warnings.truncate(MOST_PROBLEMS);
         for warning in warnings.into_iter() {
             self.warn(file, (warning.line, warning.column), rule, warning.text)?;
         }
-        Ok(())
+        self.warn_of_more(alloc, file, rule, left)
+    }
+
+    /// Adds how many warnings of a file by a rule are left out, where some are.
+    fn warn_of_more(
+        &mut self,
+        alloc: Global,
+        file: &'a str,
+        rule: Rule,
+        left: usize,
+    ) -> Result<(), AllocError>
+        ensures { OnOk result (errors_in self.new ≡ errors_in self.old) }
+    {
+        if left == 0 {
+            return Ok(());
+        }
+        let text = Sentence::new(alloc)
+            .say("such warnings that are left out: ")
+            .count(left as u64)
+            .finish()?;
+        self.warn(file, (1, 1), rule, text)
     }
 
     /// Adds what is suspicious in a file, the actions in it that always fail, and the names in it that no file has.
@@ -217,15 +260,36 @@ impl<'a> Findings<'a> {
             called,
             ..
         } = survey;
-        self.add_warnings(file, SUSPICIOUS, warnings)?;
-        self.add_warnings(file, ALWAYS_FAILS, failing)?;
-        for call in called.as_slice() {
-            if !templates.defined.contains(call.name) && !call.name.starts_with(STOP) {
-                let text = about(alloc, "no file defines the template ", call.name, "")?;
-                self.warn(file, (call.line, call.column), NO_SUCH_TEMPLATE, text)?;
+        self.add_warnings(alloc, file, SUSPICIOUS, warnings)?;
+        self.add_warnings(alloc, file, ALWAYS_FAILS, failing)?;
+        self.add_calls(alloc, file, called.as_slice(), templates)
+    }
+
+    /// Adds the calls in a file of templates that no file has.
+    fn add_calls(
+        &mut self,
+        alloc: Global,
+        file: &'a str,
+        called: &[Named<'_>],
+        templates: &Templates<'_>,
+    ) -> Result<(), AllocError>
+        ensures { OnOk result (errors_in self.new ≡ errors_in self.old) }
+    {
+        let mut left: usize = 0;
+        let mut found: usize = 0;
+        for call in called {
+            if templates.defined.contains(call.name) || call.name.starts_with(STOP) {
+                continue;
             }
+            if found == MOST_PROBLEMS {
+                left = left.saturating_add(1);
+                continue;
+            }
+            found = found.saturating_add(1);
+            let text = about(alloc, "no file defines the template ", call.name, "")?;
+            self.warn(file, (call.line, call.column), NO_SUCH_TEMPLATE, text)?;
         }
-        Ok(())
+        self.warn_of_more(alloc, file, NO_SUCH_TEMPLATE, left)
     }
 
     /// Adds the definitions of a file that nothing calls.
@@ -599,7 +663,7 @@ fn unseen_entry<'a>(alloc: Global, file: &'a str) -> Result<Entry<'a>, AllocErro
 /// suspicious. Where all files are accepted, the template that is asked for is checked against the schema. Names are
 /// hashed as is said.
 ///
-/// The errors are, file by file, all that is refused of it, as `check_file` says it, and what is found beyond; then
+/// The errors are, file by file, what `check_file` reports of it: the first 1,000 of what is refused and found beyond; then
 /// those of the schema, of which there are none where none is given or a file has an error; then those of the data, of
 /// which there are none exactly where it has a value; then where the data does not conform to the schema, or, if none is
 /// given and nothing else is wrong, the fault of the run over the data; then, if a format is asked for and nothing else is

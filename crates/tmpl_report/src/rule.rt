@@ -53,6 +53,11 @@ pub(crate) const SECOND_DEFINITION: Rule = Rule {
     text: "A file defines a template once.",
 };
 
+pub(crate) const TOO_MANY_ERRORS: Rule = Rule {
+    id: "too-many-errors",
+    text: "A file has at most 1,000 errors.",
+};
+
 pub(crate) const NOT_JSON: Rule = Rule {
     id: "not-json",
     text: "Data is JSON.",
@@ -124,7 +129,7 @@ pub(crate) const NOT_OF_FORMAT: Rule = Rule {
 };
 
 /// All rules, in the order in which they are printed.
-pub(crate) fn all_rules() -> [Rule; 22]
+pub(crate) fn all_rules() -> [Rule; 23]
     ensures { map (λ rule. (rule.id.now, rule.text.now)) result ≡ rules }
 {
     [
@@ -136,6 +141,7 @@ pub(crate) fn all_rules() -> [Rule; 22]
         NESTED_TOO_DEEPLY,
         TOO_LONG,
         SECOND_DEFINITION,
+        TOO_MANY_ERRORS,
         NOT_JSON,
         NUMBER_NOT_WHOLE,
         SUSPICIOUS,

@@ -8,6 +8,7 @@ returns-in_default c =
 
 pub loop-file-preserved : goal.loop-file-preserved
 loop-file-preserved c =
+    let (all, examined, located, reports) = c.in_ok-problems.ensures in
     c.loop-file.invariant
     ∙ goes_on_at c.loop-file.status _ c.args.files.now c.loop-file.file-index _ c.loop-file-test.true c.in-Ok.name.now c.in-Ok.ensures.cases.0
-    c.in-Ok.ensures.cases.1 _ c.in_ok-problems.problems.refused.items c.in_ok-status.status c.in_ok-problems.ensures.examined c.in_ok-status.ensures
+    c.in-Ok.ensures.cases.1 _ all c.in_ok-problems.problems.refused.items c.in_ok-status.status examined reports.first c.in_ok-status.ensures
