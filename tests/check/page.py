@@ -197,7 +197,7 @@ def judge_findings(page):
     page.put("template", "{{len .a}}")
     wrong += page.is_so("document.getElementById('found').textContent === 'The template files have no errors.'", 20)
     page.put("schema", '{"type": "object", "required": ["a"], "properties": {"a": {"type": ["string", "integer"]}}}')
-    found = "template:1:1: error: may fail: len of an integer, which may come here (schema:1)\nfails for {\"a\":1}: len: wrong kind of argument"
+    found = "template:1:1: error: may fail: \"len\" may get what it refuses\nfails for {\"a\":1}: len: wrong kind of argument"
     wrong += page.is_so(listed % json.dumps(found), 20)
     page.put("schema", '{"type": "object", "required": ["a"], "properties": {"a": {"type": "string"}}}')
     wrong += page.is_so("document.getElementById('found').textContent.startsWith('The template fails over no data of the schema')", 20)
