@@ -7,3 +7,5 @@ pub mod Lines
 pub mod JsonLines
 pub mod Nginx
 pub mod Name
+pub mod YamlScalar
+pub mod Yaml
