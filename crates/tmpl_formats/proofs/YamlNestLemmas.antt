@@ -124,14 +124,15 @@ level_items : (ls : List Level) (d c : ℕ) (ts : List Token) → d ≡ c → Wa
 level_items ls d c ts e (both n (in_sequence {more} is b)) =
     let P : ℕ → Type 0 = λ m. HasValue m (token.Item c ∷ ts) more in both (subst P (sym e) (level (an_item n is))) b
 
+beyond_of : (d c : ℕ) → (d == c) ≡ false → d ≤ c → suc d ≤ c
+beyond_of d c = grind (arith, common_steps)
+
 order_of : (d c : ℕ) → d ≤ c → (d ≡ c) ⊎ (suc d ≤ c)
 order_of d c le = by_test (d == c) refl
   where
     by_test : (t : Bool) → (d == c) ≡ t → (d ≡ c) ⊎ (suc d ≤ c)
     by_test true e = inl (same_of d c e)
     by_test false e = inr (beyond_of d c e le)
-    beyond_of : (d c : ℕ) → (d == c) ≡ false → d ≤ c → suc d ≤ c
-    beyond_of d c = grind (arith, common_steps)
 
 item_under_map : (ls : List Level) (d c : ℕ) (ts : List Token) → (d ≡ c) ⊎ (suc d ≤ c) → Waiting (lev.Sequence c ∷ lev.Map d ∷ ls) [] ts
     → Waiting (lev.Map d ∷ ls) [] (token.Item c ∷ ts)
@@ -318,11 +319,12 @@ one_ends (lev.Sequence c) ls ts b = in_sequence no_item b
 unwound_fits : (ls : List Level) (c : ℕ) (is_item : Bool) (e : Expects) (ts : List Token) → Left (unwound_from c is_item e ls []) ts → LeftAt e ls [] ts
 unfolding unwound_from
 unwound_fits [] c is_item e ts p = p
-unwound_fits (l ∷ ls) c is_item e ts p = by_test (is_over l c is_item) p
+unwound_fits (l ∷ ls) c is_item e ts p = by_test (is_over l c is_item) (λ q. unwound_fits ls c is_item expects.Nothing ts q) p
   where
-    by_test : (t : Bool) → Left (cond t (unwound_from c is_item expects.Nothing ls []) (nest_at e (l ∷ ls) [])) ts → LeftAt e (l ∷ ls) [] ts
-    by_test true p = null_value e (l ∷ ls) ts (one_ends l ls ts (levels_behind ls ts (unwound_fits ls c is_item expects.Nothing ts p)))
-    by_test false p = p
+    by_test : (t : Bool) → (Left (unwound_from c is_item expects.Nothing ls []) ts → Behind ls [] ts)
+        → Left (cond t (unwound_from c is_item expects.Nothing ls []) (nest_at e (l ∷ ls) [])) ts → LeftAt e (l ∷ ls) [] ts
+    by_test true less_one p = null_value e (l ∷ ls) ts (one_ends l ls ts (levels_behind ls ts (less_one p)))
+    by_test false less_one p = p
 
 settled_fits : (t : Bool) (c : ℕ) (is_item : Bool) (e : Expects) (ls : List Level) (ts : List Token)
     → Left (cond t (nest_at e ls []) (unwound_from c is_item e ls [])) ts → LeftAt e ls [] ts

@@ -50,6 +50,15 @@ fn is_unprintable(before: u8, last: u8, byte: u8) -> bool
         || is_mark(before, last, byte)
 }
 
+/// Begins a plain scalar with dashes and a byte.
+fn begin(scalar: &mut Vec<u8>, dashes: &[u8], byte: u8) -> Result<(), AllocError>
+    ensures { OnOk result (scalar.new.items ≡ dashes.now ++ byte ∷ []) }
+{
+    scalar.clear();
+    scalar.extend_from_slice(dashes)?;
+    Ok(scalar.push(byte)?)
+}
+
 /// Writes what becomes of a plain scalar.
 fn write(scalar: &mut Vec<u8>, write: Write) -> Result<(), AllocError>
     ensures { OnOk result (scalar.new.items ≡ computed.written write scalar.old.items) }
@@ -61,6 +70,8 @@ fn write(scalar: &mut Vec<u8>, write: Write) -> Result<(), AllocError>
             Ok(scalar.push(byte)?)
         }
         Write::Add(byte) => Ok(scalar.push(byte)?),
+        Write::Dash(byte) => begin(scalar, b"-", byte),
+        Write::Dashes(byte) => begin(scalar, b"--", byte),
     }
 }
 

@@ -96,6 +96,10 @@ pub enum Write {
     Keep,
     Start(u8),
     Add(u8),
+    /// A dash, and a byte after it.
+    Dash(u8),
+    /// Two dashes, and a byte after them.
+    Dashes(u8),
 }
 
 /// What a byte does.
@@ -166,6 +170,28 @@ fn start(control: Control, byte: u8, event: Event) -> Option<Move>
     Some(Move {
         control,
         write: Write::Start(byte),
+        event,
+    })
+}
+
+/// To a control, after a dash that begins a plain scalar and the byte after it.
+fn dashed(control: Control, byte: u8, event: Event) -> Option<Move>
+    ensures { result ≡ computed.dashed control byte event }
+{
+    Some(Move {
+        control,
+        write: Write::Dash(byte),
+        event,
+    })
+}
+
+/// To a control, after two dashes that begin a plain scalar and the byte after them.
+fn twice_dashed(control: Control, byte: u8, event: Event) -> Option<Move>
+    ensures { result ≡ computed.twice_dashed control byte event }
+{
+    Some(Move {
+        control,
+        write: Write::Dashes(byte),
         event,
     })
 }
@@ -289,7 +315,7 @@ fn at_node(spot: Spot, sign: Sign, byte: u8) -> Option<Move>
     ensures { result ≡ computed.at_node spot sign byte }
 {
     match sign {
-        Sign::Dash => start(Control::Dash(spot), byte, Event::Nothing),
+        Sign::Dash => to(Control::Dash(spot), Event::Nothing),
         Sign::Start => start(Control::Plain(spot), byte, begin(spot)),
         Sign::Double => to(Control::Double(spot), begin(spot)),
         Sign::Single => to(Control::Single(spot), begin(spot)),
@@ -432,9 +458,9 @@ fn at_second_dash(spot: Spot, byte: u8) -> Option<Move>
     ensures { result ≡ computed.at_second_dash spot byte }
 {
     if is_margin(spot) {
-        add(Control::Dashes, byte, Event::Nothing)
+        to(Control::Dashes, Event::Nothing)
     } else {
-        add(Control::Plain(spot), byte, begin(spot))
+        dashed(Control::Plain(spot), byte, begin(spot))
     }
 }
 
@@ -445,7 +471,7 @@ fn after_dash(spot: Spot, sign: Sign, byte: u8) -> Option<Move>
     match sign {
         Sign::Space | Sign::Newline => item_if(spot, sign),
         Sign::Dash => at_second_dash(spot, byte),
-        Sign::Start => add(Control::Plain(spot), byte, begin(spot)),
+        Sign::Start => dashed(Control::Plain(spot), byte, begin(spot)),
         _ => None,
     }
 }
@@ -456,7 +482,7 @@ fn after_dashes(sign: Sign, byte: u8) -> Option<Move>
 {
     match sign {
         Sign::Dash => to(Control::Closed, Event::One(Token::Marker)),
-        Sign::Start => add(
+        Sign::Start => twice_dashed(
             Control::Plain(spot_at(Place::Line, 0)),
             byte,
             Event::Begin(0),

@@ -1,5 +1,6 @@
 -- The machine for YAML.
 use Rattle.std.specs.Prelude.{ℕ, Bool, true, false, not, ◌&&◌, ◌==◌, List, [], ◌∷◌, ◌++◌, Option, Some, None, option_map, option_and_then, if◌then◌else◌}
+use Rattle.std.specs.Str.{byte}
 use Rattle.tmpl_formats.specs.YamlScalar.{is_unprintable}
 use Rattle.tmpl_formats.specs.computed.Machine.{mistake}
 use Rattle.tmpl_formats.specs.computed.YamlLine.{move_of, spot_at}
@@ -23,6 +24,8 @@ abbrev pub written : Write → List ℕ → List ℕ
 written write.Keep text = text
 written (write.Start b) text = b ∷ []
 written (write.Add b) text = text ++ b ∷ []
+written (write.Dash b) text = byte "-" ∷ b ∷ []
+written (write.Dashes b) text = byte "-" ∷ byte "-" ∷ b ∷ []
 
 abbrev pub with_nest : ℕ → ℕ → Control → List ℕ → nest.Nest → Config
 with_nest a b q text n = record { before = a; last = b; control = q; scalar = text; nest = n }

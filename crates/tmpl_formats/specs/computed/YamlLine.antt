@@ -50,6 +50,12 @@ add q b e = Some (record { control = q; write = write.Add b; event = e })
 abbrev pub start : Control → ℕ → Event → Option Move
 start q b e = Some (record { control = q; write = write.Start b; event = e })
 
+abbrev pub dashed : Control → ℕ → Event → Option Move
+dashed q b e = Some (record { control = q; write = write.Dash b; event = e })
+
+abbrev pub twice_dashed : Control → ℕ → Event → Option Move
+twice_dashed q b e = Some (record { control = q; write = write.Dashes b; event = e })
+
 abbrev pub next_column : ℕ → Option ℕ
 next_column c = if nat_lt (c + 1) (2 ^ 64) then Some (c + 1) else None
 
@@ -92,7 +98,7 @@ at_mark x = mark_if (parent_of x.place) x.column
 
 -- where a key or a value begins
 abbrev pub at_node : Spot → Sign → ℕ → Option Move
-at_node x sign.Dash b = start (at.Dash x) b event.Nothing
+at_node x sign.Dash b = to (at.Dash x) event.Nothing
 at_node x sign.Start b = start (at.Plain x) b (begin x)
 at_node x sign.Double b = to (at.Double x) (begin x)
 at_node x sign.Single b = to (at.Single x) (begin x)
@@ -153,18 +159,18 @@ abbrev pub is_margin : Spot → Bool
 is_margin x = is_margin_in x.place x.column
 
 abbrev pub at_second_dash : Spot → ℕ → Option Move
-at_second_dash x b = if is_margin x then add at.Dashes b event.Nothing else add (at.Plain x) b (begin x)
+at_second_dash x b = if is_margin x then to at.Dashes event.Nothing else dashed (at.Plain x) b (begin x)
 
 abbrev pub after_dash : Spot → Sign → ℕ → Option Move
 after_dash x sign.Space b = item_if x sign.Space
 after_dash x sign.Newline b = item_if x sign.Newline
 after_dash x sign.Dash b = at_second_dash x b
-after_dash x sign.Start b = add (at.Plain x) b (begin x)
+after_dash x sign.Start b = dashed (at.Plain x) b (begin x)
 after_dash x _ b = None
 
 abbrev pub after_dashes : Sign → ℕ → Option Move
 after_dashes sign.Dash b = to at.Closed (event.One token.Marker)
-after_dashes sign.Start b = add (at.Plain (spot_at place.Line 0)) b (event.Begin 0)
+after_dashes sign.Start b = twice_dashed (at.Plain (spot_at place.Line 0)) b (event.Begin 0)
 after_dashes _ b = None
 
 abbrev pub after_closed : Bool → Sign → ℕ → Option Move
