@@ -14,4 +14,5 @@ pub mod KitValueLemmas
 pub mod YamlScalarLemmas
 pub mod YamlUnwindLemmas
 pub mod YamlNestLemmas
+pub mod YamlLineLemmas
 pub mod YamlLemmas

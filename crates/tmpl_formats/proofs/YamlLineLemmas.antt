@@ -1,0 +1,379 @@
+-- What is left of a text at each control of the machine for YAML.
+use Rattle.std.proofs.Common.{◌≡◌, ◌≤◌, ◌<◌, ℕ, suc, ◌+◌, ◌-◌, ◌*◌, ◌^◌, ◌==◌, Bool, true, false, cond, ◌&&◌, ◌||◌, List, [], ◌∷◌, ◌++◌, length, take, drop, replicate, Option, Some, None, slice_get, bytes_eq, arith, refl, sym, ◌∙◌, ap, subst, add-one, nat_lt, nat_le, append_assoc, take-append-drop}
+use Rattle.std.proofs.lemmas.Grind.{common_steps}
+use Rattle.std.specs.List.{list_all}
+use Rattle.std.specs.Prelude.{option_map, not}
+use Rattle.tmpl_formats.proofs.YamlNestLemmas.{Left, Fits, happened_fits, tokens_of}
+use Rattle.tmpl_formats.specs.Yaml.{HasLine, line_end, a_byte, HasBlank, blank_end, a_space, HasHeader, clipped, chomped, spaces, HasLines, no_line, blank, line, HasBlock, empty, first_blank, first_line, IsGap, gap_end, gap_space, is_flow, takes_values, takes_keys, parent_of, after_key, after_value, MayFollow, opening, closing, HasTokens, ends, newline, space, comment, marker, item, key, quoted_key, scalar, block, open_, comma, close, close_last}
+use Rattle.tmpl_formats.specs.YamlScalar.{is_start, passes, may_follow, is_sign, is_plain, is_escape, digits_after, is_character, HasDigits, complete, digit, HasDouble, close_double, plain_double, escape, coded, HasSingle, close_single, plain_single, doubled, HasQuoted, double, single, HasScalar, plain, quoted}
+use Rattle.tmpl_formats.specs.computed.JsonBytes.{hex_value}
+use Rattle.tmpl_formats.specs.computed.YamlScalar.{is_scalar, is_spaced_scalar, is_name}
+use Rattle.tmpl_formats.specs.computed.Yaml.{written}
+use Rattle.tmpl_formats.specs.computed.YamlLine.{sign_of, spot_at, to, add, start, dashed, twice_dashed, next_column, spot_if, next_spot, next_line, at_gap, gap_if, at_next_gap, begin_in, begin, mark_if, at_mark, at_node, at_value, at_flow, on_line, at_place_in, at_place, after_flow_scalar, after_scalar_in, after_scalar, value_if, key_if, item_if, is_margin_in, is_margin, at_second_dash, after_dash, after_dashes, after_closed, in_comment, more_plain, ends_entry, whole_value, in_plain, named_key, after_colon, comment_if, spaced_value, after_space, in_double, in_escape, after_digit, in_code, in_single, at_quoted_colon_in, at_quoted_colon, after_quoted, after_quote, at_header_end, at_header, block_if, more_block, blank_block, first_text, in_block, after_block, indent_if, more_indent, before_indent, text_or, in_indent, in_text, move_of}
+use Rattle.tmpl_formats.specs.computed.YamlNest.{Nest, nest_at, happened, is_in_brackets}
+use Rattle.tmpl_formats.specs.declared.yaml_nest.Bracket.{Bracket}
+use Rattle.tmpl_formats.specs.declared.yaml_nest.Bracket.TheVariants as bracket
+use Rattle.tmpl_formats.specs.declared.yaml_nest.Event.{Event}
+use Rattle.tmpl_formats.specs.declared.yaml_nest.Event.TheVariants as event
+use Rattle.tmpl_formats.specs.declared.yaml_nest.Token.{Token}
+use Rattle.tmpl_formats.specs.declared.yaml_nest.Token.TheVariants as token
+use Rattle.tmpl_formats.specs.declared.yaml_line.Control.{Control}
+use Rattle.tmpl_formats.specs.declared.yaml_line.Control.TheVariants as at
+use Rattle.tmpl_formats.specs.declared.yaml_line.Move.{Move}
+use Rattle.tmpl_formats.specs.declared.yaml_line.Place.{Place}
+use Rattle.tmpl_formats.specs.declared.yaml_line.Place.TheVariants as place
+use Rattle.tmpl_formats.specs.declared.yaml_line.Sign.{Sign}
+use Rattle.tmpl_formats.specs.declared.yaml_line.Sign.TheVariants as sign
+use Rattle.tmpl_formats.specs.declared.yaml_line.Spot.{Spot}
+
+-- ---- bytes of a kind
+
+abbrev code_of : Sign → ℕ
+code_of sign.Newline = 10
+code_of sign.Space = 32
+code_of sign.Hash = 35
+code_of sign.Dash = 45
+code_of sign.Colon = 58
+code_of sign.Comma = 44
+code_of sign.Double = 34
+code_of sign.Single = 39
+code_of (sign.Open k) = opening k
+code_of (sign.Close k) = closing k
+code_of _ = 0
+
+abbrev is_code : Sign → Bool
+is_code sign.Mark = false
+is_code sign.Start = false
+is_code sign.Other = false
+is_code _ = true
+
+same_of : (a b : ℕ) → (a == b) ≡ true → a ≡ b
+same_of a b = grind (arith, common_steps)
+
+no_code : (b : ℕ) {n : ℕ} → false ≡ true → b ≡ n
+no_code b e = cc
+
+pick : (t : Bool) (b : ℕ) (x y : Sign) → (t ≡ true → is_code x ≡ true → b ≡ code_of x) → (is_code y ≡ true → b ≡ code_of y) → is_code (cond t x y) ≡ true
+    → b ≡ code_of (cond t x y)
+pick true b x y f g i = f refl i
+pick false b x y f g i = g i
+
+codes_of : (b : ℕ) → is_code (sign_of b) ≡ true → b ≡ code_of (sign_of b)
+codes_of b =
+    pick (b == 10) b sign.Newline _ (λ e i. same_of b 10 e)
+    (pick (b == 32) b sign.Space _ (λ e i. same_of b 32 e)
+    (pick (b == 35) b sign.Hash _ (λ e i. same_of b 35 e)
+    (pick (b == 45) b sign.Dash _ (λ e i. same_of b 45 e)
+    (pick (b == 58) b sign.Colon _ (λ e i. same_of b 58 e)
+    (pick (b == 44) b sign.Comma _ (λ e i. same_of b 44 e)
+    (pick (b == 34) b sign.Double _ (λ e i. same_of b 34 e)
+    (pick (b == 39) b sign.Single _ (λ e i. same_of b 39 e)
+    (pick (b == 124 || b == 62) b sign.Mark _ (λ e i. no_code b i)
+    (pick (b == 91) b (sign.Open bracket.List) _ (λ e i. same_of b 91 e)
+    (pick (b == 123) b (sign.Open bracket.Map) _ (λ e i. same_of b 123 e)
+    (pick (b == 93) b (sign.Close bracket.List) _ (λ e i. same_of b 93 e)
+    (pick (b == 125) b (sign.Close bracket.Map) _ (λ e i. same_of b 125 e)
+    (pick (b == 43 || b == 46 || is_start b) b sign.Start sign.Other (λ e i. no_code b i) (λ i. no_code b i))))))))))))))
+
+-- the byte of a kind that has one
+byte_of : (s : Sign) (b : ℕ) → sign_of b ≡ s → is_code s ≡ true → b ≡ code_of s
+byte_of s b e i = codes_of b (ap is_code e ∙ i) ∙ ap code_of e
+
+abbrev mark_sign : Sign → Bool
+mark_sign sign.Mark = true
+mark_sign _ = false
+
+marks : (b : ℕ) → mark_sign (sign_of b) ≡ true → (b == 124 || b == 62) ≡ true
+marks b = grind (arith, common_steps)
+
+abbrev line_sign : Sign → Bool
+line_sign sign.Newline = false
+line_sign _ = true
+
+no_newlines : (b : ℕ) → line_sign (sign_of b) ≡ true → not (b == 10) ≡ true
+no_newlines b = grind (arith, common_steps)
+
+abbrev single_sign : Sign → Bool
+single_sign sign.Newline = false
+single_sign sign.Single = false
+single_sign _ = true
+
+singles : (b : ℕ) → single_sign (sign_of b) ≡ true → (not (b == 39) && not (b == 10)) ≡ true
+singles b = grind (arith, common_steps)
+
+abbrev text_sign : Sign → Bool
+text_sign sign.Newline = false
+text_sign sign.Space = false
+text_sign _ = true
+
+texts : (b : ℕ) → text_sign (sign_of b) ≡ true → (b == 9) ≡ false → (not (b == 32) && not (b == 9) && not (b == 10)) ≡ true
+texts b = grind (arith, common_steps)
+
+-- ---- what is left
+
+-- from a place on the tokens of the text pass a test
+pub data Rest (p : Place) (c : ℕ) (L : List Token → Type 0) (text : List ℕ) : Type 0 where
+  rest_of : {ts : List Token} → HasTokens p c text ts → L ts → Rest p c L text
+
+-- one thing and then another
+pub data After (P : List ℕ → List ℕ → Type 0) (Q : List ℕ → Type 0) : List ℕ → Type 0 where
+  after : {text rest : List ℕ} → P text rest → Q rest → After P Q text
+
+-- after a closing bracket
+abbrev ClosedAt : List Bracket → (List Token → Type 0) → List ℕ → Type 0
+ClosedAt [] L text = IsGap text × Rest place.End 0 L text
+ClosedAt (k ∷ bs) L text = Rest place.Flow 0 L text
+
+-- in quoted scalars: whatever the whole scalar is
+abbrev QuotedRest : Spot → (List Token → Type 0) → List ℕ → Type 0
+QuotedRest x L text = (whole : List ℕ) → HasQuoted whole text → Rest x.place x.column L whole
+
+abbrev DoubleRest : Spot → (List Token → Type 0) → List ℕ → Type 0
+DoubleRest x L text = (whole : List ℕ) → ((rest : List ℕ) → HasDouble text rest → HasQuoted whole rest) → Rest x.place x.column L whole
+
+abbrev CodeRest : Spot → ℕ → ℕ → (List Token → Type 0) → List ℕ → Type 0
+CodeRest x left code L text =
+    (whole : List ℕ) → ((more rest : List ℕ) → HasDigits left code text more → HasDouble more rest → HasQuoted whole rest) → Rest x.place x.column L whole
+
+abbrev SingleRest : Spot → (List Token → Type 0) → List ℕ → Type 0
+SingleRest x L text = (whole : List ℕ) → ((rest : List ℕ) → HasSingle text rest → HasQuoted whole rest) → Rest x.place x.column L whole
+
+abbrev LineRest : (List Token → Type 0) → List ℕ → Type 0
+LineRest L text = Rest place.Line 0 L text
+
+abbrev BlockRest : ℕ → (List Token → Type 0) → List ℕ → Type 0
+BlockRest parent L text = After (HasBlock parent) (LineRest L) text
+
+abbrev LinesRest : ℕ → (List Token → Type 0) → List ℕ → Type 0
+LinesRest own L text = After (HasLines own) (LineRest L) text
+
+-- a plain scalar is written out before the text; the brackets matter after one
+abbrev pub Goes : Control → List ℕ → (List Token → Type 0) → List Bracket → List ℕ → Type 0
+Goes (at.At x) s L bs text = Rest x.place x.column L text
+Goes (at.Dash x) s L bs text = Rest x.place x.column L (45 ∷ text)
+Goes at.Dashes s L bs text = Rest place.Line 0 L (45 ∷ 45 ∷ text)
+Goes at.Closed s L bs text = ClosedAt bs L text
+Goes at.Comment s L bs text = After HasLine (LineRest L) text
+Goes (at.Plain x) s L bs text = Rest x.place x.column L (s ++ text)
+Goes (at.PlainColon x end) s L bs text = Rest x.place x.column L (s ++ text)
+Goes (at.PlainSpace x end) s L bs text = Rest x.place x.column L (s ++ text)
+Goes (at.Double x) s L bs text = DoubleRest x L text
+Goes (at.Escape x) s L bs text = DoubleRest x L (92 ∷ text)
+Goes (at.Code x left code) s L bs text = CodeRest x left code L text
+Goes (at.Single x) s L bs text = SingleRest x L text
+Goes (at.Quote x) s L bs text = SingleRest x L (39 ∷ text)
+Goes (at.Quoted x) s L bs text = QuotedRest x L text
+Goes (at.QuotedColon x) s L bs text = QuotedRest x L (58 ∷ text)
+Goes (at.Header parent) s L bs text = After HasHeader (BlockRest parent L) text
+Goes (at.HeaderEnd parent) s L bs text = After HasBlank (BlockRest parent L) text
+Goes (at.Block parent c) s L bs text = BlockRest parent L (spaces c ++ text)
+Goes (at.Indent parent own c) s L bs text = LinesRest own L (spaces c ++ text)
+Goes (at.Text parent own) s L bs text = After HasLine (LinesRest own L) text
+
+-- ---- a test for another
+
+rest_map : (p : Place) (c : ℕ) (L M : List Token → Type 0) (text : List ℕ) → ((ts : List Token) → L ts → M ts) → Rest p c L text → Rest p c M text
+rest_map p c L M text f (rest_of {ts} h l) = rest_of h (f ts l)
+
+after_map : {P : List ℕ → List ℕ → Type 0} (Q R : List ℕ → Type 0) (text : List ℕ) → ((rest : List ℕ) → Q rest → R rest) → After P Q text → After P R text
+after_map Q R text f (after {rest} p q) = after p (f rest q)
+
+closed_map : (bs : List Bracket) (L M : List Token → Type 0) (text : List ℕ) → ((ts : List Token) → L ts → M ts) → ClosedAt bs L text → ClosedAt bs M text
+closed_map [] L M text f h = (h.0, rest_map place.End 0 L M text f h.1)
+closed_map (k ∷ bs) L M text f h = rest_map place.Flow 0 L M text f h
+
+block_map : (parent : ℕ) (L M : List Token → Type 0) (text : List ℕ) → ((ts : List Token) → L ts → M ts) → BlockRest parent L text → BlockRest parent M text
+block_map parent L M text f h = after_map (LineRest L) (LineRest M) text (λ rest q. rest_map place.Line 0 L M rest f q) h
+
+lines_map : (own : ℕ) (L M : List Token → Type 0) (text : List ℕ) → ((ts : List Token) → L ts → M ts) → LinesRest own L text → LinesRest own M text
+lines_map own L M text f h = after_map (LineRest L) (LineRest M) text (λ rest q. rest_map place.Line 0 L M rest f q) h
+
+goes_map : (q : Control) (s : List ℕ) (L M : List Token → Type 0) (bs : List Bracket) (text : List ℕ) → ((ts : List Token) → L ts → M ts) → Goes q s L bs text → Goes q s M bs text
+goes_map (at.At x) s L M bs text f h = rest_map x.place x.column L M text f h
+goes_map (at.Dash x) s L M bs text f h = rest_map x.place x.column L M (45 ∷ text) f h
+goes_map at.Dashes s L M bs text f h = rest_map place.Line 0 L M (45 ∷ 45 ∷ text) f h
+goes_map at.Closed s L M bs text f h = closed_map bs L M text f h
+goes_map at.Comment s L M bs text f h = after_map (LineRest L) (LineRest M) text (λ rest q. rest_map place.Line 0 L M rest f q) h
+goes_map (at.Plain x) s L M bs text f h = rest_map x.place x.column L M (s ++ text) f h
+goes_map (at.PlainColon x end) s L M bs text f h = rest_map x.place x.column L M (s ++ text) f h
+goes_map (at.PlainSpace x end) s L M bs text f h = rest_map x.place x.column L M (s ++ text) f h
+goes_map (at.Double x) s L M bs text f h = λ whole g. rest_map x.place x.column L M whole f (h whole g)
+goes_map (at.Escape x) s L M bs text f h = λ whole g. rest_map x.place x.column L M whole f (h whole g)
+goes_map (at.Code x left code) s L M bs text f h = λ whole g. rest_map x.place x.column L M whole f (h whole g)
+goes_map (at.Single x) s L M bs text f h = λ whole g. rest_map x.place x.column L M whole f (h whole g)
+goes_map (at.Quote x) s L M bs text f h = λ whole g. rest_map x.place x.column L M whole f (h whole g)
+goes_map (at.Quoted x) s L M bs text f h = λ whole g. rest_map x.place x.column L M whole f (h whole g)
+goes_map (at.QuotedColon x) s L M bs text f h = λ whole g. rest_map x.place x.column L M whole f (h whole g)
+goes_map (at.Header parent) s L M bs text f h = after_map (BlockRest parent L) (BlockRest parent M) text (λ rest q. block_map parent L M rest f q) h
+goes_map (at.HeaderEnd parent) s L M bs text f h = after_map (BlockRest parent L) (BlockRest parent M) text (λ rest q. block_map parent L M rest f q) h
+goes_map (at.Block parent c) s L M bs text f h = block_map parent L M (spaces c ++ text) f h
+goes_map (at.Indent parent own c) s L M bs text f h = lines_map own L M (spaces c ++ text) f h
+goes_map (at.Text parent own) s L M bs text f h = after_map (LinesRest own L) (LinesRest own M) text (λ rest q. lines_map own L M rest f q) h
+
+-- ---- after a move
+
+abbrev pub Moved : Control → List ℕ → Option Nest → List ℕ → Type 0
+Moved q s None text = ⊥
+Moved q s (Some n) text = Goes q s (Left n) n.brackets text
+
+abbrev pub Went : Option Move → List ℕ → Nest → List ℕ → Type 0
+Went None s n text = ⊥
+Went (Some m) s n text = Moved m.control (written m.write s) (happened m.event n) text
+
+data Reaches (q : Control) (s : List ℕ) (L : List Token → Type 0) (text : List ℕ) : Type 0 where
+  reaches : (bs : List Bracket) → Goes q s L bs text → Reaches q s L text
+
+moved_reaches : (q : Control) (s : List ℕ) (r : Option Nest) (text : List ℕ) → Moved q s r text → Reaches q s (Fits r) text
+moved_reaches q s None text h = absurd h
+moved_reaches q s (Some n) text h = reaches n.brackets h
+
+reaches_map : (q : Control) (s : List ℕ) (L M : List Token → Type 0) (text : List ℕ) → ((ts : List Token) → L ts → M ts) → Reaches q s L text → Reaches q s M text
+reaches_map q s L M text f (reaches bs h) = reaches bs (goes_map q s L M bs text f h)
+
+-- what is left before the tokens of an event
+abbrev Before : Event → Nest → List Token → Type 0
+Before e n ts = Left n (tokens_of e ++ ts)
+
+reach : (q : Control) (s : List ℕ) (e : Event) (n : Nest) (text : List ℕ) → Moved q s (happened e n) text → Reaches q s (Before e n) text
+reach q s e n text h = reaches_map q s (Fits (happened e n)) (Before e n) text (λ ts p. happened_fits e n ts p) (moved_reaches q s (happened e n) text h)
+
+rest_reached : (p : Place) (c : ℕ) (s : List ℕ) (L : List Token → Type 0) (text : List ℕ) → Reaches (at.At (spot_at p c)) s L text → Rest p c L text
+rest_reached p c s L text (reaches bs h) = h
+
+at_reach : (p : Place) (c : ℕ) (s : List ℕ) (e : Event) (n : Nest) (text : List ℕ) → Moved (at.At (spot_at p c)) s (happened e n) text → Rest p c (Before e n) text
+at_reach p c s e n text h = rest_reached p c s (Before e n) text (reach (at.At (spot_at p c)) s e n text h)
+
+-- ---- a space, and the end of a line
+
+spot_space : (t : Bool) (p : Place) (c : ℕ) (e : Event) (s : List ℕ) (n : Nest) (text : List ℕ) → Went (spot_if p (cond t (Some (c + 1)) None) e) s n text
+    → Rest p c (Before e n) (32 ∷ text)
+spot_space true p c e s n text h = spaced (subst P (add-one c) (at_reach p (c + 1) s e n text h))
+  where
+    P : ℕ → Type 0
+    P m = Rest p m (Before e n) text
+    spaced : Rest p (suc c) (Before e n) text → Rest p c (Before e n) (32 ∷ text)
+    spaced (rest_of h l) = rest_of (space h) l
+spot_space false p c e s n text h = absurd h
+
+line_newline : (t : Bool) (p : Place) (c : ℕ) (e : Event) (s : List ℕ) (n : Nest) (text : List ℕ) → is_flow p ≡ t
+    → Went (cond t None (to (at.At (spot_at place.Line 0)) e)) s n text → Rest p c (Before e n) (10 ∷ text)
+line_newline true p c e s n text f h = absurd h
+line_newline false p c e s n text f h = lined (at_reach place.Line 0 s e n text h)
+  where
+    lined : Rest place.Line 0 (Before e n) text → Rest p c (Before e n) (10 ∷ text)
+    lined (rest_of h l) = rest_of (newline f h) l
+
+gap_goes : (x : Sign) (p : Place) (c : ℕ) (e : Event) (b : ℕ) (s : List ℕ) (n : Nest) (text : List ℕ) → sign_of b ≡ x → Went (at_gap p c x e) s n text
+    → IsGap (b ∷ text) × Rest p c (Before e n) (b ∷ text)
+gap_goes sign.Space p c e b s n text i h =
+    let P : ℕ → Type 0 = λ m. IsGap (m ∷ text) × Rest p c (Before e n) (m ∷ text) in
+    subst P (sym (byte_of sign.Space b i refl)) (gap_space, spot_space (nat_lt (c + 1) (2 ^ 64)) p c e s n text h)
+gap_goes sign.Newline p c e b s n text i h =
+    let P : ℕ → Type 0 = λ m. IsGap (m ∷ text) × Rest p c (Before e n) (m ∷ text) in
+    subst P (sym (byte_of sign.Newline b i refl)) (gap_end, line_newline (is_flow p) p c e s n text refl h)
+gap_goes _ p c e b s n text i h = absurd h
+
+next_gap_goes : (t : Bool) (x : Sign) (p : Place) (c : ℕ) (e : Event) (b : ℕ) (s : List ℕ) (n : Nest) (text : List ℕ) → sign_of b ≡ x
+    → Went (gap_if p (cond t (Some (c + 1)) None) x e) s n text → IsGap (b ∷ text) × Rest p (suc c) (Before e n) (b ∷ text)
+next_gap_goes true x p c e b s n text i h =
+    let P : ℕ → Type 0 = λ m. IsGap (b ∷ text) × Rest p m (Before e n) (b ∷ text) in subst P (add-one c) (gap_goes x p (c + 1) e b s n text i h)
+next_gap_goes false x p c e b s n text i h = absurd h
+
+-- ---- where a key or a value begins
+
+begin_reach : (p : Place) (c : ℕ) (q : Control) (s : List ℕ) (n : Nest) (text : List ℕ) → Moved q s (happened (begin_in p c) n) text → Reaches q s (Left n) text
+begin_reach place.Line c q s n text h = reach q s (event.Begin c) n text h
+begin_reach (place.Item d) c q s n text h = reach q s (event.Begin c) n text h
+begin_reach (place.Value d) c q s n text h = reach q s (event.Begin c) n text h
+begin_reach place.End c q s n text h = reach q s (event.Begin c) n text h
+begin_reach place.Flow c q s n text h = reach q s event.Enter n text h
+
+plain_reached : (p : Place) (c : ℕ) (s : List ℕ) (L : List Token → Type 0) (text : List ℕ) → Reaches (at.Plain (spot_at p c)) s L text → Rest p c L (s ++ text)
+plain_reached p c s L text (reaches bs h) = h
+
+double_reached : (p : Place) (c : ℕ) (s : List ℕ) (L : List Token → Type 0) (text : List ℕ) → Reaches (at.Double (spot_at p c)) s L text → Rest p c L (34 ∷ text)
+double_reached p c s L text (reaches bs h) = h (34 ∷ text) (λ rest d. double d)
+
+single_reached : (p : Place) (c : ℕ) (s : List ℕ) (L : List Token → Type 0) (text : List ℕ) → Reaches (at.Single (spot_at p c)) s L text → Rest p c L (39 ∷ text)
+single_reached p c s L text (reaches bs h) = h (39 ∷ text) (λ rest d. single d)
+
+header_reached : (p : Place) (c parent b : ℕ) (s : List ℕ) (n : Nest) (text : List ℕ) → parent_of p ≡ Some parent → (b == 124 || b == 62) ≡ true
+    → Reaches (at.Header parent) s (Before (event.One (token.Scalar c)) n) text → Rest p c (Left n) (b ∷ text)
+header_reached p c parent b s n text e m (reaches bs (after h (after l (rest_of t left)))) = rest_of (block e m h l t) left
+
+mark_goes : (r : Option ℕ) (p : Place) (c b : ℕ) (s : List ℕ) (n : Nest) (text : List ℕ) → parent_of p ≡ r → (b == 124 || b == 62) ≡ true → Went (mark_if r c) s n text
+    → Rest p c (Left n) (b ∷ text)
+mark_goes None p c b s n text e m h = absurd h
+mark_goes (Some parent) p c b s n text e m h = header_reached p c parent b s n text e m (reach (at.Header parent) s (event.One (token.Scalar c)) n text h)
+
+opened_rest : (p : Place) (c : ℕ) (k : Bracket) (n : Nest) (text : List ℕ) → takes_values p ≡ true → Rest place.Flow 0 (Before (event.One (token.Open k c)) n) text
+    → Rest p c (Left n) (opening k ∷ text)
+opened_rest p c k n text v (rest_of h l) = rest_of (open_ k v h) l
+
+node_goes : (x : Sign) (p : Place) (c b : ℕ) (s : List ℕ) (n : Nest) (text : List ℕ) → sign_of b ≡ x → takes_values p ≡ true → Went (at_node (spot_at p c) x b) s n text
+    → Rest p c (Left n) (b ∷ text)
+node_goes sign.Dash p c b s n text i v h = let P : ℕ → Type 0 = λ m. Rest p c (Left n) (m ∷ text) in subst P (sym (byte_of sign.Dash b i refl)) h
+node_goes sign.Start p c b s n text i v h =
+    plain_reached p c (b ∷ []) (Left n) text (begin_reach p c (at.Plain (spot_at p c)) (b ∷ []) n text h)
+node_goes sign.Double p c b s n text i v h =
+    let P : ℕ → Type 0 = λ m. Rest p c (Left n) (m ∷ text) in
+    subst P (sym (byte_of sign.Double b i refl)) (double_reached p c s (Left n) text (begin_reach p c (at.Double (spot_at p c)) s n text h))
+node_goes sign.Single p c b s n text i v h =
+    let P : ℕ → Type 0 = λ m. Rest p c (Left n) (m ∷ text) in
+    subst P (sym (byte_of sign.Single b i refl)) (single_reached p c s (Left n) text (begin_reach p c (at.Single (spot_at p c)) s n text h))
+node_goes sign.Mark p c b s n text i v h = mark_goes (parent_of p) p c b s n text refl (marks b (ap mark_sign i)) h
+node_goes (sign.Open k) p c b s n text i v h =
+    let P : ℕ → Type 0 = λ m. Rest p c (Left n) (m ∷ text) in
+    subst P (sym (byte_of (sign.Open k) b i refl)) (opened_rest p c k n text v (at_reach place.Flow 0 s (event.One (token.Open k c)) n text h))
+node_goes _ p c b s n text i v h = absurd h
+
+-- ---- in brackets
+
+comma_rest : (c : ℕ) (e : Event) (n : Nest) (text : List ℕ) (M : List Token → Type 0) → ((ts : List Token) → Before e n ts → M (token.Comma ∷ ts))
+    → Rest place.Flow 0 (Before e n) text → Rest place.Flow c M (44 ∷ text)
+comma_rest c e n text M f (rest_of {ts} h l) = rest_of (comma h) (f ts l)
+
+closed_rest : (bs : List Bracket) (c : ℕ) (k : Bracket) (L M : List Token → Type 0) (text : List ℕ) → ((ts : List Token) → L ts → M (token.Close k ∷ ts)) → ClosedAt bs L text
+    → Rest place.Flow c M (closing k ∷ text)
+closed_rest [] c k L M text f (g, rest_of {ts} h l) = rest_of (close_last k g h) (f ts l)
+closed_rest (own ∷ bs) c k L M text f (rest_of {ts} h l) = rest_of (close k h) (f ts l)
+
+close_reached : (c : ℕ) (k : Bracket) (s : List ℕ) (L M : List Token → Type 0) (text : List ℕ) → ((ts : List Token) → L ts → M (token.Close k ∷ ts)) → Reaches at.Closed s L text
+    → Rest place.Flow c M (closing k ∷ text)
+close_reached c k s L M text f (reaches bs h) = closed_rest bs c k L M text f h
+
+flow_goes : (x : Sign) (c b : ℕ) (s : List ℕ) (n : Nest) (text : List ℕ) → sign_of b ≡ x → Went (at_flow c x b) s n text → Rest place.Flow c (Left n) (b ∷ text)
+flow_goes sign.Space c b s n text i h = (gap_goes sign.Space place.Flow c event.Nothing b s n text i h).1
+flow_goes sign.Comma c b s n text i h =
+    let P : ℕ → Type 0 = λ m. Rest place.Flow c (Left n) (m ∷ text) in
+    subst P (sym (byte_of sign.Comma b i refl)) (comma_rest c (event.One token.Comma) n text (Left n) (λ ts l. l) (at_reach place.Flow 0 s (event.One token.Comma) n text h))
+flow_goes (sign.Close k) c b s n text i h =
+    let P : ℕ → Type 0 = λ m. Rest place.Flow c (Left n) (m ∷ text) in
+    subst P (sym (byte_of (sign.Close k) b i refl))
+    (close_reached c k s (Before (event.One (token.Close k)) n) (Left n) text (λ ts l. l) (reach at.Closed s (event.One (token.Close k)) n text h))
+flow_goes x c b s n text i h = node_goes x place.Flow c b s n text i refl h
+
+-- ---- on a line
+
+comment_rest : (p : Place) (c : ℕ) (L : List Token → Type 0) (text : List ℕ) → is_flow p ≡ false → After HasLine (LineRest L) text → Rest p c L (35 ∷ text)
+comment_rest p c L text f (after l (rest_of h left)) = rest_of (comment f l h) left
+
+value_goes : (t : Bool) (x : Sign) (p : Place) (c b : ℕ) (s : List ℕ) (n : Nest) (text : List ℕ) → sign_of b ≡ x → takes_values p ≡ t
+    → Went (cond t (at_node (spot_at p c) x b) None) s n text → Rest p c (Left n) (b ∷ text)
+value_goes true x p c b s n text i v h = node_goes x p c b s n text i v h
+value_goes false x p c b s n text i v h = absurd h
+
+line_goes : (x : Sign) (p : Place) (c b : ℕ) (s : List ℕ) (n : Nest) (text : List ℕ) → sign_of b ≡ x → is_flow p ≡ false → Went (on_line (spot_at p c) x b) s n text
+    → Rest p c (Left n) (b ∷ text)
+line_goes sign.Space p c b s n text i f h = (gap_goes sign.Space p c event.Nothing b s n text i h).1
+line_goes sign.Newline p c b s n text i f h = (gap_goes sign.Newline p c event.Nothing b s n text i h).1
+line_goes sign.Hash p c b s n text i f h =
+    let P : ℕ → Type 0 = λ m. Rest p c (Left n) (m ∷ text) in subst P (sym (byte_of sign.Hash b i refl)) (comment_rest p c (Left n) text f h)
+line_goes x p c b s n text i f h = value_goes (takes_values p) x p c b s n text i refl h
+
+place_goes : (p : Place) (x : Sign) (c b : ℕ) (s : List ℕ) (n : Nest) (text : List ℕ) → sign_of b ≡ x → Went (at_place (spot_at p c) x b) s n text → Rest p c (Left n) (b ∷ text)
+place_goes place.Flow x c b s n text i h = flow_goes x c b s n text i h
+place_goes place.Line x c b s n text i h = line_goes x place.Line c b s n text i refl h
+place_goes (place.Item d) x c b s n text i h = line_goes x (place.Item d) c b s n text i refl h
+place_goes (place.Value d) x c b s n text i h = line_goes x (place.Value d) c b s n text i refl h
+place_goes place.End x c b s n text i h = line_goes x place.End c b s n text i refl h
