@@ -15,6 +15,7 @@ use Rattle.tmpl_formats.specs.declared.yaml_nest.Bracket.{Bracket}
 use Rattle.tmpl_formats.specs.declared.yaml_nest.Bracket.TheVariants as bracket
 use Rattle.tmpl_formats.specs.declared.yaml_nest.Event.{Event}
 use Rattle.tmpl_formats.specs.declared.yaml_nest.Event.TheVariants as event
+use Rattle.tmpl_formats.specs.declared.yaml_nest.Expects.TheVariants as expects
 use Rattle.tmpl_formats.specs.declared.yaml_nest.Token.{Token}
 use Rattle.tmpl_formats.specs.declared.yaml_nest.Token.TheVariants as token
 use Rattle.tmpl_formats.specs.declared.yaml_line.Control.{Control}
@@ -377,3 +378,177 @@ place_goes place.Line x c b s n text i h = line_goes x place.Line c b s n text i
 place_goes (place.Item d) x c b s n text i h = line_goes x (place.Item d) c b s n text i refl h
 place_goes (place.Value d) x c b s n text i h = line_goes x (place.Value d) c b s n text i refl h
 place_goes place.End x c b s n text i h = line_goes x place.End c b s n text i refl h
+
+-- ---- the end of a value
+
+-- the same at each column
+data AnyRest (p : Place) (L : List Token → Type 0) (text : List ℕ) : Type 0 where
+  any_of : {ts : List Token} → ((c : ℕ) → HasTokens p c text ts) → L ts → AnyRest p L text
+
+abbrev AfterScalar : ℕ → Nest → List Token → Type 0
+AfterScalar c n ts = Left n (token.Scalar c ∷ ts)
+
+abbrev is_ending : Sign → Bool
+is_ending sign.Newline = true
+is_ending s = ends_entry s
+
+comma_ending : (c : ℕ) (n : Nest) (text : List ℕ) → Rest place.Flow 0 (Before (event.Two (token.Scalar c) token.Comma) n) text → AnyRest place.Flow (AfterScalar c n) (44 ∷ text)
+comma_ending c n text (rest_of h l) = any_of (λ j. comma h) l
+
+close_ending : (bs : List Bracket) (c : ℕ) (k : Bracket) (n : Nest) (text : List ℕ) → ClosedAt bs (Before (event.Two (token.Scalar c) (token.Close k)) n) text
+    → AnyRest place.Flow (AfterScalar c n) (closing k ∷ text)
+close_ending [] c k n text (g, rest_of h l) = any_of (λ j. close_last k g h) l
+close_ending (own ∷ bs) c k n text (rest_of h l) = any_of (λ j. close k h) l
+
+close_ending_reached : (c : ℕ) (k : Bracket) (s : List ℕ) (n : Nest) (text : List ℕ) → Reaches at.Closed s (Before (event.Two (token.Scalar c) (token.Close k)) n) text
+    → AnyRest place.Flow (AfterScalar c n) (closing k ∷ text)
+close_ending_reached c k s n text (reaches bs h) = close_ending bs c k n text h
+
+flow_ending : (x : Sign) (c b : ℕ) (s : List ℕ) (n : Nest) (text : List ℕ) → sign_of b ≡ x → is_ending x ≡ true → Went (after_flow_scalar (token.Scalar c) x) s n text
+    → AnyRest place.Flow (AfterScalar c n) (b ∷ text)
+flow_ending sign.Comma c b s n text i e h =
+    let P : ℕ → Type 0 = λ m. AnyRest place.Flow (AfterScalar c n) (m ∷ text) in
+    subst P (sym (byte_of sign.Comma b i refl)) (comma_ending c n text (at_reach place.Flow 0 s (event.Two (token.Scalar c) token.Comma) n text h))
+flow_ending (sign.Close k) c b s n text i e h =
+    let P : ℕ → Type 0 = λ m. AnyRest place.Flow (AfterScalar c n) (m ∷ text) in
+    subst P (sym (byte_of (sign.Close k) b i refl)) (close_ending_reached c k s n text (reach at.Closed s (event.Two (token.Scalar c) (token.Close k)) n text h))
+flow_ending sign.Newline c b s n text i e h = absurd h
+flow_ending _ c b s n text i e h = cc
+
+newline_ending : (c : ℕ) (n : Nest) (text : List ℕ) → Rest place.Line 0 (Before (event.One (token.Scalar c)) n) text → AnyRest place.End (AfterScalar c n) (10 ∷ text)
+newline_ending c n text (rest_of h l) = any_of (λ j. newline refl h) l
+
+line_ending : (x : Sign) (c b : ℕ) (s : List ℕ) (n : Nest) (text : List ℕ) → sign_of b ≡ x → is_ending x ≡ true
+    → Went (at_gap place.End 0 x (event.One (token.Scalar c))) s n text → AnyRest place.End (AfterScalar c n) (b ∷ text)
+line_ending sign.Newline c b s n text i e h =
+    let P : ℕ → Type 0 = λ m. AnyRest place.End (AfterScalar c n) (m ∷ text) in
+    subst P (sym (byte_of sign.Newline b i refl)) (newline_ending c n text (at_reach place.Line 0 s (event.One (token.Scalar c)) n text h))
+line_ending sign.Comma c b s n text i e h = absurd h
+line_ending (sign.Close k) c b s n text i e h = absurd h
+line_ending _ c b s n text i e h = cc
+
+ending_goes : (p : Place) (x : Sign) (c b : ℕ) (s : List ℕ) (n : Nest) (text : List ℕ) → sign_of b ≡ x → is_ending x ≡ true → Went (after_scalar_in p c x) s n text
+    → AnyRest (after_value p) (AfterScalar c n) (b ∷ text)
+ending_goes place.Flow x c b s n text i e h = flow_ending x c b s n text i e h
+ending_goes place.Line x c b s n text i e h = line_ending x c b s n text i e h
+ending_goes (place.Item d) x c b s n text i e h = line_ending x c b s n text i e h
+ending_goes (place.Value d) x c b s n text i e h = line_ending x c b s n text i e h
+ending_goes place.End x c b s n text i e h = line_ending x c b s n text i e h
+
+-- a value, and what is after it
+a_value : (p : Place) (c : ℕ) (n : Nest) (whole more : List ℕ) → takes_values p ≡ true → HasScalar (is_flow p) whole more → MayFollow p more
+    → Rest (after_value p) 0 (AfterScalar c n) more → Rest p c (Left n) whole
+a_value p c n whole more v q m (rest_of h l) = rest_of (scalar v q m h) l
+
+an_end : (p : Place) (c : ℕ) (n : Nest) (more : List ℕ) → AnyRest (after_value p) (AfterScalar c n) more → Rest (after_value p) 0 (AfterScalar c n) more
+an_end p c n more (any_of h l) = rest_of (h 0) l
+
+flow_scalar_goes : (x : Sign) (c b : ℕ) (s : List ℕ) (n : Nest) (text : List ℕ) → sign_of b ≡ x → Went (after_flow_scalar (token.Scalar c) x) s n text
+    → Rest place.Flow 0 (AfterScalar c n) (b ∷ text)
+flow_scalar_goes sign.Space c b s n text i h = (gap_goes sign.Space place.Flow 0 (event.One (token.Scalar c)) b s n text i h).1
+flow_scalar_goes sign.Comma c b s n text i h = an_end place.Flow c n (b ∷ text) (flow_ending sign.Comma c b s n text i refl h)
+flow_scalar_goes (sign.Close k) c b s n text i h = an_end place.Flow c n (b ∷ text) (flow_ending (sign.Close k) c b s n text i refl h)
+flow_scalar_goes _ c b s n text i h = absurd h
+
+scalar_goes : (p : Place) (x : Sign) (c b : ℕ) (s : List ℕ) (n : Nest) (text whole : List ℕ) → sign_of b ≡ x → takes_values p ≡ true
+    → HasScalar (is_flow p) whole (b ∷ text) → Went (after_scalar_in p c x) s n text → Rest p c (Left n) whole
+scalar_goes place.Flow x c b s n text whole i v q h = a_value place.Flow c n whole (b ∷ text) v q tt (flow_scalar_goes x c b s n text i h)
+scalar_goes place.Line x c b s n text whole i v q h =
+    let g = gap_goes x place.End 0 (event.One (token.Scalar c)) b s n text i h in a_value place.Line c n whole (b ∷ text) v q g.0 g.1
+scalar_goes (place.Item d) x c b s n text whole i v q h =
+    let g = gap_goes x place.End 0 (event.One (token.Scalar c)) b s n text i h in a_value (place.Item d) c n whole (b ∷ text) v q g.0 g.1
+scalar_goes (place.Value d) x c b s n text whole i v q h =
+    let g = gap_goes x place.End 0 (event.One (token.Scalar c)) b s n text i h in a_value (place.Value d) c n whole (b ∷ text) v q g.0 g.1
+scalar_goes place.End x c b s n text whole i v q h = cc
+
+value_if_goes : (t u : Bool) (p : Place) (x : Sign) (c b : ℕ) (s : List ℕ) (n : Nest) (text whole : List ℕ) → sign_of b ≡ x → takes_values p ≡ u
+    → (t ≡ true → HasScalar (is_flow p) whole (b ∷ text)) → Went (cond (t && u) (after_scalar_in p c x) None) s n text → Rest p c (Left n) whole
+value_if_goes true true p x c b s n text whole i v q h = scalar_goes p x c b s n text whole i v (q refl) h
+value_if_goes true false p x c b s n text whole i v q h = absurd h
+value_if_goes false u p x c b s n text whole i v q h = absurd h
+
+-- ---- keys and items
+
+key_rest : (p : Place) (c : ℕ) (n : Nest) (whole more : List ℕ) → takes_keys p ≡ true → HasScalar (is_flow p) whole (58 ∷ more)
+    → IsGap more × Rest (after_key p c) (suc c) (Before (event.One (token.Key c)) n) more → Rest p c (Left n) whole
+key_rest p c n whole more v q (g, rest_of h l) = rest_of (key v q g h) l
+
+key_if_goes : (t u : Bool) (p : Place) (x : Sign) (c b : ℕ) (s : List ℕ) (n : Nest) (text whole : List ℕ) → sign_of b ≡ x → takes_keys p ≡ u
+    → (t ≡ true → HasScalar (is_flow p) whole (58 ∷ b ∷ text))
+    → Went (cond (t && u) (at_next_gap (after_key p c) c x (event.One (token.Key c))) None) s n text → Rest p c (Left n) whole
+key_if_goes true true p x c b s n text whole i v q h =
+    key_rest p c n whole (b ∷ text) v (q refl) (next_gap_goes (nat_lt (c + 1) (2 ^ 64)) x (after_key p c) c (event.One (token.Key c)) b s n text i h)
+key_if_goes true false p x c b s n text whole i v q h = absurd h
+key_if_goes false u p x c b s n text whole i v q h = absurd h
+
+item_rest : (p : Place) (c : ℕ) (n : Nest) (text : List ℕ) → takes_keys p ≡ true → is_flow p ≡ false
+    → IsGap text × Rest (place.Item c) (suc c) (Before (event.Item c) n) text → Rest p c (Left n) (45 ∷ text)
+item_rest p c n text v f (g, rest_of h l) = rest_of (item v f g h) l
+
+item_if_goes : (t u : Bool) (p : Place) (x : Sign) (c b : ℕ) (s : List ℕ) (n : Nest) (text : List ℕ) → sign_of b ≡ x → takes_keys p ≡ t → is_flow p ≡ u
+    → Went (cond (t && not u) (at_next_gap (place.Item c) c x (event.Item c)) None) s n text → Rest p c (Left n) (45 ∷ b ∷ text)
+item_if_goes true false p x c b s n text i v f h =
+    item_rest p c n (b ∷ text) v f (next_gap_goes (nat_lt (c + 1) (2 ^ 64)) x (place.Item c) c (event.Item c) b s n text i h)
+item_if_goes true true p x c b s n text i v f h = absurd h
+item_if_goes false u p x c b s n text i v f h = absurd h
+
+-- ---- dashes
+
+margin_of : (p : Place) (c : ℕ) (L : List Token → Type 0) (text : List ℕ) → is_margin_in p c ≡ true → Rest place.Line 0 L text → Rest p c L text
+margin_of place.Line c L text e h = let P : ℕ → Type 0 = λ m. Rest place.Line m L text in subst P (sym (same_of c 0 e)) h
+margin_of (place.Item d) c L text e h = cc
+margin_of (place.Value d) c L text e h = cc
+margin_of place.End c L text e h = cc
+margin_of place.Flow c L text e h = cc
+
+dashed_goes : (p : Place) (c b : ℕ) (s : List ℕ) (n : Nest) (text : List ℕ) → Went (dashed (at.Plain (spot_at p c)) b (begin_in p c)) s n text
+    → Rest p c (Left n) (45 ∷ b ∷ text)
+dashed_goes p c b s n text h = plain_reached p c (45 ∷ b ∷ []) (Left n) text (begin_reach p c (at.Plain (spot_at p c)) (45 ∷ b ∷ []) n text h)
+
+second_dash_goes : (t : Bool) (p : Place) (c b : ℕ) (s : List ℕ) (n : Nest) (text : List ℕ) → is_margin_in p c ≡ t → b ≡ 45
+    → Went (cond t (to at.Dashes event.Nothing) (dashed (at.Plain (spot_at p c)) b (begin_in p c))) s n text → Rest p c (Left n) (45 ∷ b ∷ text)
+second_dash_goes true p c b s n text m e h =
+    let P : ℕ → Type 0 = λ k. Rest p c (Left n) (45 ∷ k ∷ text) in subst P (sym e) (margin_of p c (Left n) (45 ∷ 45 ∷ text) m h)
+second_dash_goes false p c b s n text m e h = dashed_goes p c b s n text h
+
+dash_goes : (x : Sign) (p : Place) (c b : ℕ) (s : List ℕ) (n : Nest) (text : List ℕ) → sign_of b ≡ x → Went (after_dash (spot_at p c) x b) s n text
+    → Rest p c (Left n) (45 ∷ b ∷ text)
+dash_goes sign.Space p c b s n text i h = item_if_goes (takes_keys p) (is_flow p) p sign.Space c b s n text i refl refl h
+dash_goes sign.Newline p c b s n text i h = item_if_goes (takes_keys p) (is_flow p) p sign.Newline c b s n text i refl refl h
+dash_goes sign.Dash p c b s n text i h = second_dash_goes (is_margin_in p c) p c b s n text refl (byte_of sign.Dash b i refl) h
+dash_goes sign.Start p c b s n text i h = dashed_goes p c b s n text h
+dash_goes _ p c b s n text i h = absurd h
+
+marker_rest : (n : Nest) (L : List Token → Type 0) (text : List ℕ) → ((ts : List Token) → L ts → Left n (token.Marker ∷ ts)) → IsGap text × Rest place.End 0 L text
+    → Rest place.Line 0 (Left n) (45 ∷ 45 ∷ 45 ∷ text)
+marker_rest n L text f (g, rest_of {ts} h l) = rest_of (marker g h) (f ts l)
+
+marker_goes : (n : Nest) (bs : List Bracket) (s : List ℕ) (text : List ℕ) → n.brackets ≡ bs → Went (to at.Closed (event.One token.Marker)) s (nest_at n.awaited n.levels bs) text
+    → Rest place.Line 0 (Left (nest_at n.awaited n.levels bs)) (45 ∷ 45 ∷ 45 ∷ text)
+marker_goes n [] s text e h =
+    let m = nest_at n.awaited n.levels [] in
+    marker_rest m (Left (nest_at expects.Value [] [])) text (λ ts l. happened_fits (event.One token.Marker) m ts l) h
+marker_goes n (k ∷ bs) s text e h = absurd h
+
+dashes_goes : (x : Sign) (b : ℕ) (s : List ℕ) (n : Nest) (text : List ℕ) → sign_of b ≡ x → Went (after_dashes x b) s n text → Rest place.Line 0 (Left n) (45 ∷ 45 ∷ b ∷ text)
+dashes_goes sign.Dash b s n text i h =
+    let P : ℕ → Type 0 = λ m. Rest place.Line 0 (Left n) (45 ∷ 45 ∷ m ∷ text) in
+    subst P (sym (byte_of sign.Dash b i refl)) (marker_goes n n.brackets s text refl h)
+dashes_goes sign.Start b s n text i h =
+    plain_reached place.Line 0 (45 ∷ 45 ∷ b ∷ []) (Left n) text (reach (at.Plain (spot_at place.Line 0)) (45 ∷ 45 ∷ b ∷ []) (event.Begin 0) n text h)
+dashes_goes _ b s n text i h = absurd h
+
+-- ---- after brackets, and comments
+
+closed_goes : (x : Sign) (bs : List Bracket) (n : Nest) (b : ℕ) (s : List ℕ) (text : List ℕ) → sign_of b ≡ x → n.brackets ≡ bs
+    → Went (after_closed (is_in_brackets (nest_at n.awaited n.levels bs)) x b) s n text → ClosedAt bs (Left n) (b ∷ text)
+closed_goes x [] n b s text i e h = gap_goes x place.End 0 event.Nothing b s n text i h
+closed_goes x (k ∷ bs) n b s text i e h = flow_goes x 0 b s n text i h
+
+comment_more : (b : ℕ) (Q : List ℕ → Type 0) (text : List ℕ) → not (b == 10) ≡ true → After HasLine Q text → After HasLine Q (b ∷ text)
+comment_more b Q text e (after h q) = after (a_byte e h) q
+
+comment_goes : (x : Sign) (b : ℕ) (s : List ℕ) (n : Nest) (text : List ℕ) → sign_of b ≡ x → Went (in_comment x) s n text → After HasLine (LineRest (Left n)) (b ∷ text)
+comment_goes sign.Newline b s n text i h =
+    let P : ℕ → Type 0 = λ m. After HasLine (LineRest (Left n)) (m ∷ text) in subst P (sym (byte_of sign.Newline b i refl)) (after line_end h)
+comment_goes x b s n text i h = comment_more b (LineRest (Left n)) text (no_newlines b (ap line_sign i)) h
