@@ -1,6 +1,7 @@
 -- What is left of a text at each control of the machine for YAML.
-use Rattle.std.proofs.Common.{◌≡◌, ◌≤◌, ◌<◌, ℕ, suc, ◌+◌, ◌-◌, ◌*◌, ◌^◌, ◌==◌, Bool, true, false, cond, ◌&&◌, ◌||◌, List, [], ◌∷◌, ◌++◌, length, take, drop, replicate, Option, Some, None, slice_get, bytes_eq, arith, refl, sym, ◌∙◌, ap, subst, add-one, nat_lt, nat_le, append_assoc, take-append-drop}
+use Rattle.std.proofs.Common.{◌≡◌, ◌≤◌, ◌<◌, ℕ, zero, suc, ◌+◌, ◌-◌, ◌*◌, ◌^◌, ◌==◌, Bool, true, false, cond, ◌&&◌, ◌||◌, List, [], ◌∷◌, ◌++◌, length, take, drop, replicate, Option, Some, None, slice_get, bytes_eq, arith, refl, sym, ◌∙◌, ap, subst, add-one, nat_lt, nat_le, append_assoc, take-append-drop, take_all, le_refl}
 use Rattle.std.proofs.lemmas.Grind.{common_steps}
+use Rattle.std.proofs.lemmas.Slice.Eq.{bytes_eq-Decides}
 use Rattle.std.specs.List.{list_all}
 use Rattle.std.specs.Prelude.{option_map, not}
 use Rattle.tmpl_formats.proofs.YamlNestLemmas.{Left, Fits, happened_fits, tokens_of}
@@ -552,3 +553,385 @@ comment_goes : (x : Sign) (b : ℕ) (s : List ℕ) (n : Nest) (text : List ℕ) 
 comment_goes sign.Newline b s n text i h =
     let P : ℕ → Type 0 = λ m. After HasLine (LineRest (Left n)) (m ∷ text) in subst P (sym (byte_of sign.Newline b i refl)) (after line_end h)
 comment_goes x b s n text i h = comment_more b (LineRest (Left n)) text (no_newlines b (ap line_sign i)) h
+
+-- ---- plain scalars
+
+and_left : (t u : Bool) → (t && u) ≡ true → t ≡ true
+and_left true u h = refl
+and_left false u h = cc
+
+and_right : (t u : Bool) → (t && u) ≡ true → u ≡ true
+and_right true u h = h
+and_right false u h = cc
+
+three_of : (t u v : Bool) → (t && u && v) ≡ true → (t ≡ true) × (u ≡ true) × (v ≡ true)
+three_of true true v h = (refl, refl, h)
+three_of true false v h = cc
+three_of false u v h = cc
+
+-- one byte more of a scalar
+plain_more : (p : Place) (c b : ℕ) (s : List ℕ) (L : List Token → Type 0) (text : List ℕ) → Rest p c L ((s ++ b ∷ []) ++ text) → Rest p c L (s ++ b ∷ text)
+plain_more p c b s L text h = let P : List ℕ → Type 0 = λ t. Rest p c L t in subst P (append_assoc s (b ∷ []) text) h
+
+more_plain_goes : (t : Bool) (p : Place) (c b : ℕ) (s : List ℕ) (n : Nest) (text : List ℕ) → Went (cond t (add (at.Plain (spot_at p c)) b event.Nothing) None) s n text
+    → Rest p c (Left n) (s ++ b ∷ text)
+more_plain_goes true p c b s n text h = plain_more p c b s (Left n) text h
+more_plain_goes false p c b s n text h = absurd h
+
+whole_scalar : (f : Bool) (s more : List ℕ) → is_scalar f s (length s) ≡ true → HasScalar f (s ++ more) more
+whole_scalar f s more h =
+    let P : List ℕ → Type 0 = λ t. is_plain f t ≡ true in
+    plain s more (subst P (take_all (length s) s (le_refl (length s))) (and_left (is_plain f (take (length s) s)) (list_all (λ b. b == 32) (drop (length s) s)) h))
+
+whole_goes : (x : Sign) (p : Place) (c b : ℕ) (s : List ℕ) (n : Nest) (text : List ℕ) → sign_of b ≡ x → Went (whole_value (spot_at p c) s x) s n text
+    → Rest p c (Left n) (s ++ b ∷ text)
+whole_goes x p c b s n text i h =
+    value_if_goes (is_scalar (is_flow p) s (length s)) (takes_values p) p x c b s n text (s ++ b ∷ text) i refl (λ e. whole_scalar (is_flow p) s (b ∷ text) e) h
+
+either_plain : (t : Bool) (x : Sign) (p : Place) (c b : ℕ) (s : List ℕ) (n : Nest) (text : List ℕ) → sign_of b ≡ x
+    → Went (cond t (whole_value (spot_at p c) s x) (more_plain (spot_at p c) b)) s n text → Rest p c (Left n) (s ++ b ∷ text)
+either_plain true x p c b s n text i h = whole_goes x p c b s n text i h
+either_plain false x p c b s n text i h = more_plain_goes (may_follow (is_flow p) 0 b) p c b s n text h
+
+plain_goes : (x : Sign) (p : Place) (c b : ℕ) (s : List ℕ) (n : Nest) (text : List ℕ) → sign_of b ≡ x → Went (in_plain (spot_at p c) s x b) s n text
+    → Rest p c (Left n) (s ++ b ∷ text)
+plain_goes sign.Newline p c b s n text i h = whole_goes sign.Newline p c b s n text i h
+plain_goes sign.Colon p c b s n text i h = plain_more p c b s (Left n) text h
+plain_goes sign.Space p c b s n text i h = plain_more p c b s (Left n) text h
+plain_goes x p c b s n text i h = either_plain (is_flow p && ends_entry x) x p c b s n text i h
+
+-- a key, and its colon
+named_scalar : (f : Bool) (end : ℕ) (s more : List ℕ) → is_name f s end ≡ true → HasScalar f (s ++ more) (58 ∷ more)
+named_scalar f end s more h =
+    let is : drop end s ≡ 58 ∷ [] = (bytes_eq-Decides (drop end s) (58 ∷ [])).0 (and_right (is_plain f (take end s)) (bytes_eq (drop end s) (58 ∷ [])) h) in
+    let P : List ℕ → Type 0 = λ t. HasScalar f t (58 ∷ more) in
+    let same : take end s ++ 58 ∷ more ≡ s ++ more =
+        sym (ap (λ d. take end s ++ (d ++ more)) is) ∙ (sym (append_assoc (take end s) (drop end s) more) ∙ ap (λ t. t ++ more) (take-append-drop end s)) in
+    subst P same (plain (take end s) (58 ∷ more) (and_left (is_plain f (take end s)) (bytes_eq (drop end s) (58 ∷ [])) h))
+
+named_goes : (x : Sign) (p : Place) (c end b : ℕ) (s : List ℕ) (n : Nest) (text : List ℕ) → sign_of b ≡ x → Went (named_key (spot_at p c) s end x) s n text
+    → Rest p c (Left n) (s ++ b ∷ text)
+named_goes x p c end b s n text i h =
+    key_if_goes (is_name (is_flow p) s end) (takes_keys p) p x c b s n text (s ++ b ∷ text) i refl (λ e. named_scalar (is_flow p) end s (b ∷ text) e) h
+
+colon_goes : (x : Sign) (p : Place) (c end b : ℕ) (s : List ℕ) (n : Nest) (text : List ℕ) → sign_of b ≡ x → Went (after_colon (spot_at p c) s end x b) s n text
+    → Rest p c (Left n) (s ++ b ∷ text)
+colon_goes sign.Space p c end b s n text i h = named_goes sign.Space p c end b s n text i h
+colon_goes sign.Newline p c end b s n text i h = named_goes sign.Newline p c end b s n text i h
+colon_goes sign.Colon p c end b s n text i h = plain_more p c b s (Left n) text h
+colon_goes x p c end b s n text i h = more_plain_goes (may_follow (is_flow p) 0 b) p c b s n text h
+
+-- spaces after a scalar
+more_space : (p : Place) (L : List Token → Type 0) (text : List ℕ) → AnyRest p L text → AnyRest p L (32 ∷ text)
+more_space p L text (any_of h l) = any_of (λ j. space (h (suc j))) l
+
+all_spaces : (p : Place) (L : List Token → Type 0) (xs text : List ℕ) → list_all (λ b. b == 32) xs ≡ true → AnyRest p L text → AnyRest p L (xs ++ text)
+all_spaces p L [] text e h = h
+all_spaces p L (y ∷ ys) text e h =
+    let P : ℕ → Type 0 = λ m. AnyRest p L (m ∷ ys ++ text) in
+    subst P (sym (same_of y 32 (and_left (y == 32) (list_all (λ b. b == 32) ys) e)))
+    (more_space p L (ys ++ text) (all_spaces p L ys text (and_right (y == 32) (list_all (λ b. b == 32) ys) e) h))
+
+gap_of : (xs text : List ℕ) → passes (λ b. b == 32) (slice_get xs 0) ≡ true → IsGap (xs ++ text)
+gap_of [] text e = cc
+gap_of (y ∷ ys) text e = let P : ℕ → Type 0 = λ m. IsGap (m ∷ ys ++ text) in subst P (sym (same_of y 32 e)) gap_space
+
+may_come : (p : Place) (text : List ℕ) → IsGap text → MayFollow p text
+may_come place.Flow text g = tt
+may_come place.Line text g = g
+may_come (place.Item d) text g = g
+may_come (place.Value d) text g = g
+may_come place.End text g = g
+
+spaced_scalar : (p : Place) (c end : ℕ) (s more : List ℕ) (n : Nest) → takes_values p ≡ true → is_spaced_scalar (is_flow p) s end ≡ true
+    → AnyRest (after_value p) (AfterScalar c n) more → Rest p c (Left n) (s ++ more)
+spaced_scalar p c end s more n v e h =
+    let q = three_of (is_plain (is_flow p) (take end s)) (passes (λ b. b == 32) (slice_get (drop end s) 0)) (list_all (λ b. b == 32) (drop end s)) e in
+    let P : List ℕ → Type 0 = λ t. Rest p c (Left n) t in
+    let same : take end s ++ (drop end s ++ more) ≡ s ++ more = sym (append_assoc (take end s) (drop end s) more) ∙ ap (λ t. t ++ more) (take-append-drop end s) in
+    subst P same
+    (a_value p c n (take end s ++ (drop end s ++ more)) (drop end s ++ more) v (plain (take end s) (drop end s ++ more) q.0)
+    (may_come p (drop end s ++ more) (gap_of (drop end s) more q.1))
+    (an_end p c n (drop end s ++ more) (all_spaces (after_value p) (AfterScalar c n) (drop end s) more q.2 h)))
+
+spaced_if : (t u : Bool) (x : Sign) (p : Place) (c end b : ℕ) (s : List ℕ) (n : Nest) (text : List ℕ) → sign_of b ≡ x → is_ending x ≡ true
+    → is_spaced_scalar (is_flow p) s end ≡ t → takes_values p ≡ u → Went (cond (t && u) (after_scalar_in p c x) None) s n text → Rest p c (Left n) (s ++ b ∷ text)
+spaced_if true true x p c end b s n text i e d v h = spaced_scalar p c end s (b ∷ text) n v d (ending_goes p x c b s n text i e h)
+spaced_if true false x p c end b s n text i e d v h = absurd h
+spaced_if false u x p c end b s n text i e d v h = absurd h
+
+spaced_goes : (x : Sign) (p : Place) (c end b : ℕ) (s : List ℕ) (n : Nest) (text : List ℕ) → sign_of b ≡ x → is_ending x ≡ true
+    → Went (spaced_value (spot_at p c) s end x) s n text → Rest p c (Left n) (s ++ b ∷ text)
+spaced_goes x p c end b s n text i e h = spaced_if (is_spaced_scalar (is_flow p) s end) (takes_values p) x p c end b s n text i e refl refl h
+
+either_spaced : (t : Bool) (x : Sign) (p : Place) (c end b : ℕ) (s : List ℕ) (n : Nest) (text : List ℕ) → sign_of b ≡ x → ends_entry x ≡ t
+    → (u : Bool) → Went (cond (u && t) (spaced_value (spot_at p c) s end x) (more_plain (spot_at p c) b)) s n text → is_ending x ≡ ends_entry x → Rest p c (Left n) (s ++ b ∷ text)
+either_spaced true x p c end b s n text i e true h j = spaced_goes x p c end b s n text i (j ∙ e) h
+either_spaced true x p c end b s n text i e false h j = more_plain_goes (may_follow (is_flow p) 0 b) p c b s n text h
+either_spaced false x p c end b s n text i e true h j = more_plain_goes (may_follow (is_flow p) 0 b) p c b s n text h
+either_spaced false x p c end b s n text i e false h j = more_plain_goes (may_follow (is_flow p) 0 b) p c b s n text h
+
+no_flow_after : (p : Place) → is_flow p ≡ false → is_flow (after_value p) ≡ false
+no_flow_after place.Flow e = cc
+no_flow_after place.Line e = refl
+no_flow_after (place.Item d) e = refl
+no_flow_after (place.Value d) e = refl
+no_flow_after place.End e = refl
+
+comment_any : (p : Place) (L : List Token → Type 0) (text : List ℕ) → is_flow p ≡ false → After HasLine (LineRest L) text → AnyRest p L (35 ∷ text)
+comment_any p L text f (after l (rest_of h left)) = any_of (λ j. comment f l h) left
+
+comment_reached : (s : List ℕ) (L : List Token → Type 0) (text : List ℕ) → Reaches at.Comment s L text → After HasLine (LineRest L) text
+comment_reached s L text (reaches bs h) = h
+
+spaced_comment : (t u v : Bool) (p : Place) (c end b : ℕ) (s : List ℕ) (n : Nest) (text : List ℕ) → b ≡ 35 → is_spaced_scalar (is_flow p) s end ≡ t → takes_values p ≡ u
+    → is_flow p ≡ v → Went (cond (t && u && not v) (to at.Comment (event.One (token.Scalar c))) None) s n text → Rest p c (Left n) (s ++ b ∷ text)
+spaced_comment true true false p c end b s n text i d v f h =
+    let P : ℕ → Type 0 = λ m. Rest p c (Left n) (s ++ m ∷ text) in
+    subst P (sym i)
+    (spaced_scalar p c end s (35 ∷ text) n v d
+    (comment_any (after_value p) (AfterScalar c n) text (no_flow_after p f)
+    (comment_reached s (AfterScalar c n) text (reach at.Comment s (event.One (token.Scalar c)) n text h))))
+spaced_comment true true true p c end b s n text i d v f h = absurd h
+spaced_comment true false w p c end b s n text i d v f h = absurd h
+spaced_comment false u w p c end b s n text i d v f h = absurd h
+
+space_goes : (x : Sign) (p : Place) (c end b : ℕ) (s : List ℕ) (n : Nest) (text : List ℕ) → sign_of b ≡ x → Went (after_space (spot_at p c) s end x b) s n text
+    → Rest p c (Left n) (s ++ b ∷ text)
+space_goes sign.Space p c end b s n text i h = plain_more p c b s (Left n) text h
+space_goes sign.Newline p c end b s n text i h = spaced_goes sign.Newline p c end b s n text i refl h
+space_goes sign.Hash p c end b s n text i h =
+    spaced_comment (is_spaced_scalar (is_flow p) s end) (takes_values p) (is_flow p) p c end b s n text (byte_of sign.Hash b i refl) refl refl refl h
+space_goes sign.Colon p c end b s n text i h = absurd h
+space_goes x p c end b s n text i h = either_spaced (ends_entry x) x p c end b s n text i refl (is_flow p) h refl
+
+-- ---- quoted scalars
+
+double_goes : (t u v : Bool) (x : Spot) (b : ℕ) (s : List ℕ) (n : Nest) (text : List ℕ) → (b == 34) ≡ t → (b == 92) ≡ u → (b == 10) ≡ v
+    → Went (cond t (to (at.Quoted x) event.Nothing) (cond u (to (at.Escape x) event.Nothing) (cond v None (to (at.Double x) event.Nothing)))) s n text
+    → DoubleRest x (Left n) (b ∷ text)
+double_goes true u v x b s n text e f g h =
+    let P : ℕ → Type 0 = λ m. DoubleRest x (Left n) (m ∷ text) in subst P (sym (same_of b 34 e)) (λ whole q. h whole (q text close_double))
+double_goes false true v x b s n text e f g h = let P : ℕ → Type 0 = λ m. DoubleRest x (Left n) (m ∷ text) in subst P (sym (same_of b 92 f)) h
+double_goes false false true x b s n text e f g h = absurd h
+double_goes false false false x b s n text e f g h =
+    let i : (not (b == 34) && not (b == 92) && not (b == 10)) ≡ true = rw (e, f, g) refl in λ whole q. h whole (λ rest d. q rest (plain_double i d))
+
+positive : (a : ℕ) → nat_lt 0 a ≡ true → 0 < a
+positive a = grind (arith, common_steps)
+
+escape_goes : (t u : Bool) (x : Spot) (b : ℕ) (s : List ℕ) (n : Nest) (text : List ℕ) → is_escape b ≡ t → nat_lt 0 (digits_after b) ≡ u
+    → Went (cond t (to (at.Double x) event.Nothing) (cond u (to (at.Code x (digits_after b) 0) event.Nothing) None)) s n text → DoubleRest x (Left n) (92 ∷ b ∷ text)
+escape_goes true u x b s n text e f h = λ whole q. h whole (λ rest d. q rest (escape e d))
+escape_goes false true x b s n text e f h = λ whole q. h whole (λ more rest hd d. q rest (coded (positive (digits_after b) f) hd d))
+escape_goes false false x b s n text e f h = absurd h
+
+less_of : (a b : ℕ) → nat_lt a b ≡ true → a < b
+less_of a b = grind (arith, common_steps)
+
+one_less : (left : ℕ) → nat_lt 1 left ≡ true → suc (left - 1) ≡ left
+one_less left h = let lt : 1 < left = less_of 1 left h in omega arith
+
+digit_goes : (t u : Bool) (x : Spot) (left code b : ℕ) (s : List ℕ) (n : Nest) (text : List ℕ) → hex_value b < 16 → nat_lt 1 left ≡ t
+    → ((left == 1) && is_character (code * 16 + hex_value b)) ≡ u
+    → Went (cond t (to (at.Code x (left - 1) (code * 16 + hex_value b)) event.Nothing) (cond u (to (at.Double x) event.Nothing) None)) s n text
+    → CodeRest x left code (Left n) (b ∷ text)
+digit_goes true u x left code b s n text lt e f h =
+    let P : ℕ → Type 0 = λ m. CodeRest x m code (Left n) (b ∷ text) in
+    subst P (one_less left e) (λ whole q. h whole (λ more rest hd d. q more rest (digit lt hd) d))
+digit_goes false true x left code b s n text lt e f h =
+    let P : ℕ → Type 0 = λ m. CodeRest x m code (Left n) (b ∷ text) in
+    subst P (sym (same_of left 1 (and_left (left == 1) (is_character (code * 16 + hex_value b)) f)))
+    (λ whole q. h whole (λ rest d. q text rest (digit lt (complete (and_right (left == 1) (is_character (code * 16 + hex_value b)) f))) d))
+digit_goes false false x left code b s n text lt e f h = absurd h
+
+code_goes : (t u : Bool) (x : Spot) (left code b : ℕ) (s : List ℕ) (n : Nest) (text : List ℕ) → nat_lt (hex_value b) 16 ≡ t
+    → Went (cond (t && u) (after_digit x left (code * 16 + hex_value b)) None) s n text → CodeRest x left code (Left n) (b ∷ text)
+code_goes true true x left code b s n text e h =
+    digit_goes (nat_lt 1 left) ((left == 1) && is_character (code * 16 + hex_value b)) x left code b s n text (less_of (hex_value b) 16 e) refl refl h
+code_goes true false x left code b s n text e h = absurd h
+code_goes false u x left code b s n text e h = absurd h
+
+single_goes : (z : Sign) (x : Spot) (b : ℕ) (s : List ℕ) (n : Nest) (text : List ℕ) → sign_of b ≡ z → Went (in_single x z) s n text → SingleRest x (Left n) (b ∷ text)
+single_goes sign.Single x b s n text i h = let P : ℕ → Type 0 = λ m. SingleRest x (Left n) (m ∷ text) in subst P (sym (byte_of sign.Single b i refl)) h
+single_goes sign.Newline x b s n text i h = absurd h
+single_goes z x b s n text i h = λ whole q. h whole (λ rest d. q rest (plain_single (singles b (ap single_sign i)) d))
+
+flow_key_rest : (c : ℕ) (n : Nest) (text whole : List ℕ) → HasQuoted whole (58 ∷ text) → Rest place.Flow (suc c) (Before (event.One (token.Key c)) n) text
+    → Rest place.Flow c (Left n) whole
+flow_key_rest c n text whole q (rest_of h l) = rest_of (quoted_key q h) l
+
+flow_key_goes : (t : Bool) (c : ℕ) (s : List ℕ) (n : Nest) (text whole : List ℕ) → HasQuoted whole (58 ∷ text)
+    → Went (spot_if place.Flow (cond t (Some (c + 1)) None) (event.One (token.Key c))) s n text → Rest place.Flow c (Left n) whole
+flow_key_goes true c s n text whole q h =
+    let P : ℕ → Type 0 = λ m. Rest place.Flow m (Before (event.One (token.Key c)) n) text in
+    flow_key_rest c n text whole q (subst P (add-one c) (at_reach place.Flow (c + 1) s (event.One (token.Key c)) n text h))
+flow_key_goes false c s n text whole q h = absurd h
+
+colon_if : (t : Bool) (x : Spot) (s : List ℕ) (n : Nest) (text : List ℕ) → Went (cond t (to (at.QuotedColon x) event.Nothing) None) s n text → QuotedRest x (Left n) (58 ∷ text)
+colon_if true x s n text h = h
+colon_if false x s n text h = absurd h
+
+quoted_colon_goes : (p : Place) (c : ℕ) (s : List ℕ) (n : Nest) (text : List ℕ) → Went (at_quoted_colon (spot_at p c)) s n text → QuotedRest (spot_at p c) (Left n) (58 ∷ text)
+quoted_colon_goes place.Flow c s n text h = λ whole q. flow_key_goes (nat_lt (c + 1) (2 ^ 64)) c s n text whole q h
+quoted_colon_goes place.Line c s n text h = colon_if true (spot_at place.Line c) s n text h
+quoted_colon_goes (place.Item d) c s n text h = colon_if true (spot_at (place.Item d) c) s n text h
+quoted_colon_goes (place.Value d) c s n text h = colon_if false (spot_at (place.Value d) c) s n text h
+quoted_colon_goes place.End c s n text h = colon_if false (spot_at place.End c) s n text h
+
+quoted_goes : (z : Sign) (x : Spot) (b : ℕ) (s : List ℕ) (n : Nest) (text : List ℕ) → sign_of b ≡ z → Went (after_quoted x z) s n text → QuotedRest x (Left n) (b ∷ text)
+quoted_goes sign.Colon x b s n text i h =
+    let P : ℕ → Type 0 = λ m. QuotedRest x (Left n) (m ∷ text) in subst P (sym (byte_of sign.Colon b i refl)) (quoted_colon_goes x.place x.column s n text h)
+quoted_goes z x b s n text i h =
+    λ whole q. value_if_goes true (takes_values x.place) x.place z x.column b s n text whole i refl (λ e. quoted q) h
+
+quote_goes : (z : Sign) (x : Spot) (b : ℕ) (s : List ℕ) (n : Nest) (text : List ℕ) → sign_of b ≡ z → Went (after_quote x z) s n text → SingleRest x (Left n) (39 ∷ b ∷ text)
+quote_goes sign.Single x b s n text i h =
+    let P : ℕ → Type 0 = λ m. SingleRest x (Left n) (39 ∷ m ∷ text) in subst P (sym (byte_of sign.Single b i refl)) (λ whole q. h whole (λ rest d. q rest (doubled d)))
+quote_goes z x b s n text i h = λ whole q. quoted_goes z x b s n text i h whole (q (b ∷ text) close_single)
+
+quoted_key_goes : (z : Sign) (x : Spot) (b : ℕ) (s : List ℕ) (n : Nest) (text : List ℕ) → sign_of b ≡ z → Went (key_if true x z) s n text → QuotedRest x (Left n) (58 ∷ b ∷ text)
+quoted_key_goes z x b s n text i h =
+    λ whole q. key_if_goes true (takes_keys x.place) x.place z x.column b s n text whole i refl (λ e. quoted q) h
+
+-- ---- block scalars
+
+blank_more : (Q : List ℕ → Type 0) (text : List ℕ) → After HasBlank Q text → After HasBlank Q (32 ∷ text)
+blank_more Q text (after h q) = after (a_space h) q
+
+header_end_goes : (x : Sign) (parent b : ℕ) (s : List ℕ) (n : Nest) (text : List ℕ) → sign_of b ≡ x → Went (at_header_end parent x) s n text
+    → After HasBlank (BlockRest parent (Left n)) (b ∷ text)
+header_end_goes sign.Space parent b s n text i h =
+    let P : ℕ → Type 0 = λ m. After HasBlank (BlockRest parent (Left n)) (m ∷ text) in
+    subst P (sym (byte_of sign.Space b i refl)) (blank_more (BlockRest parent (Left n)) text h)
+header_end_goes sign.Newline parent b s n text i h =
+    let P : ℕ → Type 0 = λ m. After HasBlank (BlockRest parent (Left n)) (m ∷ text) in subst P (sym (byte_of sign.Newline b i refl)) (after blank_end h)
+header_end_goes _ parent b s n text i h = absurd h
+
+chomp : (Q : List ℕ → Type 0) (b : ℕ) (text : List ℕ) → is_sign b ≡ true → After HasBlank Q text → After HasHeader Q (b ∷ text)
+chomp Q b text e (after h q) = after (chomped e h) q
+
+clip : (Q : List ℕ → Type 0) (text : List ℕ) → After HasBlank Q text → After HasHeader Q text
+clip Q text (after h q) = after (clipped h) q
+
+header_goes : (t : Bool) (parent b : ℕ) (s : List ℕ) (n : Nest) (text : List ℕ) → is_sign b ≡ t
+    → Went (cond t (to (at.HeaderEnd parent) event.Nothing) (at_header_end parent (sign_of b))) s n text → After HasHeader (BlockRest parent (Left n)) (b ∷ text)
+header_goes true parent b s n text e h = chomp (BlockRest parent (Left n)) b text e h
+header_goes false parent b s n text e h = clip (BlockRest parent (Left n)) (b ∷ text) (header_end_goes (sign_of b) parent b s n text refl h)
+
+more_spaces : (c : ℕ) (text : List ℕ) → spaces (suc c) ++ text ≡ spaces c ++ 32 ∷ text
+more_spaces zero text = refl
+more_spaces (suc c) text = ap (λ t. 32 ∷ t) (more_spaces c text)
+
+spaced_line : (c : ℕ) (L : List Token → Type 0) (text : List ℕ) → Rest place.Line c L text → Rest place.Line 0 L (spaces c ++ text)
+spaced_line zero L text h = h
+spaced_line (suc c) L text (rest_of h l) =
+    let P : List ℕ → Type 0 = λ t. Rest place.Line 0 L t in subst P (sym (more_spaces c text)) (spaced_line c L (32 ∷ text) (rest_of (space h) l))
+
+few_spaces : (c parent : ℕ) → ((c == 0) || nat_le (c - 1) parent) ≡ true → c ≤ suc parent
+few_spaces c parent = grind (arith, common_steps)
+
+blank_first : (t : Bool) (parent c : ℕ) (s : List ℕ) (n : Nest) (text : List ℕ) → ((c == 0) || nat_le (c - 1) parent) ≡ t
+    → Went (cond t (to (at.Block parent 0) event.Nothing) None) s n text → BlockRest parent (Left n) (spaces c ++ 10 ∷ text)
+blank_first true parent c s n text e (after h q) = after (first_blank c (few_spaces c parent e) h) q
+blank_first false parent c s n text e h = absurd h
+
+block_space : (t : Bool) (parent c : ℕ) (s : List ℕ) (n : Nest) (text : List ℕ) → Went (block_if parent (cond t (Some (c + 1)) None)) s n text
+    → BlockRest parent (Left n) (spaces c ++ 32 ∷ text)
+block_space true parent c s n text h =
+    let P : List ℕ → Type 0 = λ t. BlockRest parent (Left n) t in
+    subst P (ap (λ m. spaces m ++ text) (add-one c) ∙ more_spaces c text) h
+block_space false parent c s n text h = absurd h
+
+greater : (a b : ℕ) → nat_le a b ≡ false → b < a
+greater a b = grind (arith, common_steps)
+
+begun_block : (parent c b : ℕ) (L : List Token → Type 0) (text : List ℕ) → parent < c → (not (b == 32) && not (b == 9) && not (b == 10)) ≡ true
+    → After HasLine (LinesRest c L) text → BlockRest parent L (spaces c ++ b ∷ text)
+begun_block parent c b L text lt e (after h (after hs q)) = after (first_line c b lt e h hs) q
+
+first_text_goes : (t u : Bool) (x : Sign) (parent c b : ℕ) (s : List ℕ) (n : Nest) (text : List ℕ) → sign_of b ≡ x → text_sign x ≡ true → nat_le c parent ≡ t
+    → (b == 9) ≡ u → Went (cond t (at_place (spot_at place.Line c) x b) (cond u None (to (at.Text parent c) event.Nothing))) s n text
+    → BlockRest parent (Left n) (spaces c ++ b ∷ text)
+first_text_goes true u x parent c b s n text i j e f h = after empty (spaced_line c (Left n) (b ∷ text) (place_goes place.Line x c b s n text i h))
+first_text_goes false true x parent c b s n text i j e f h = absurd h
+first_text_goes false false x parent c b s n text i j e f h =
+    begun_block parent c b (Left n) text (greater c parent e) (texts b (ap text_sign i ∙ j) f) h
+
+block_goes : (x : Sign) (parent c b : ℕ) (s : List ℕ) (n : Nest) (text : List ℕ) → sign_of b ≡ x → Went (in_block parent c x b) s n text
+    → BlockRest parent (Left n) (spaces c ++ b ∷ text)
+block_goes sign.Newline parent c b s n text i h =
+    let P : ℕ → Type 0 = λ m. BlockRest parent (Left n) (spaces c ++ m ∷ text) in
+    subst P (sym (byte_of sign.Newline b i refl)) (blank_first ((c == 0) || nat_le (c - 1) parent) parent c s n text refl h)
+block_goes sign.Space parent c b s n text i h =
+    let P : ℕ → Type 0 = λ m. BlockRest parent (Left n) (spaces c ++ m ∷ text) in
+    subst P (sym (byte_of sign.Space b i refl)) (block_space (nat_lt (c + 1) (2 ^ 64)) parent c s n text h)
+block_goes x parent c b s n text i h = first_text_goes (nat_le c parent) (b == 9) x parent c b s n text i refl refl refl h
+
+blank_rest : (own c : ℕ) (L : List Token → Type 0) (text : List ℕ) → LinesRest own L text → LinesRest own L (spaces c ++ 10 ∷ text)
+blank_rest own c L text (after h q) = after (blank c h) q
+
+line_rest : (own b : ℕ) (L : List Token → Type 0) (text : List ℕ) → not (b == 10) ≡ true → After HasLine (LinesRest own L) text → LinesRest own L (spaces own ++ b ∷ text)
+line_rest own b L text e (after h (after hs q)) = after (line (a_byte e h) hs) q
+
+indent_space : (t : Bool) (parent own c : ℕ) (s : List ℕ) (n : Nest) (text : List ℕ) → Went (indent_if parent own (cond t (Some (c + 1)) None)) s n text
+    → LinesRest own (Left n) (spaces c ++ 32 ∷ text)
+indent_space true parent own c s n text h =
+    let P : List ℕ → Type 0 = λ t. LinesRest own (Left n) t in subst P (ap (λ m. spaces m ++ text) (add-one c) ∙ more_spaces c text) h
+indent_space false parent own c s n text h = absurd h
+
+after_block_goes : (t : Bool) (x : Sign) (own c b : ℕ) (s : List ℕ) (n : Nest) (text : List ℕ) → sign_of b ≡ x → Went (cond t (at_place (spot_at place.Line c) x b) None) s n text
+    → LinesRest own (Left n) (spaces c ++ b ∷ text)
+after_block_goes true x own c b s n text i h = after no_line (spaced_line c (Left n) (b ∷ text) (place_goes place.Line x c b s n text i h))
+after_block_goes false x own c b s n text i h = absurd h
+
+before_goes : (x : Sign) (parent own c b : ℕ) (s : List ℕ) (n : Nest) (text : List ℕ) → sign_of b ≡ x → Went (before_indent parent own c x b) s n text
+    → LinesRest own (Left n) (spaces c ++ b ∷ text)
+before_goes sign.Space parent own c b s n text i h =
+    let P : ℕ → Type 0 = λ m. LinesRest own (Left n) (spaces c ++ m ∷ text) in
+    subst P (sym (byte_of sign.Space b i refl)) (indent_space (nat_lt (c + 1) (2 ^ 64)) parent own c s n text h)
+before_goes x parent own c b s n text i h = after_block_goes (nat_le c parent) x own c b s n text i h
+
+text_or_goes : (t : Bool) (x : Sign) (parent own c b : ℕ) (s : List ℕ) (n : Nest) (text : List ℕ) → sign_of b ≡ x → line_sign x ≡ true → (c == own) ≡ t
+    → Went (text_or t parent own c x b) s n text → LinesRest own (Left n) (spaces c ++ b ∷ text)
+text_or_goes true x parent own c b s n text i j e h =
+    let P : ℕ → Type 0 = λ m. LinesRest own (Left n) (spaces m ++ b ∷ text) in
+    subst P (sym (same_of c own e)) (line_rest own b (Left n) text (no_newlines b (ap line_sign i ∙ j)) h)
+text_or_goes false x parent own c b s n text i j e h = before_goes x parent own c b s n text i h
+
+indent_goes : (x : Sign) (parent own c b : ℕ) (s : List ℕ) (n : Nest) (text : List ℕ) → sign_of b ≡ x → Went (in_indent parent own c x b) s n text
+    → LinesRest own (Left n) (spaces c ++ b ∷ text)
+indent_goes sign.Newline parent own c b s n text i h =
+    let P : ℕ → Type 0 = λ m. LinesRest own (Left n) (spaces c ++ m ∷ text) in
+    subst P (sym (byte_of sign.Newline b i refl)) (blank_rest own c (Left n) text h)
+indent_goes x parent own c b s n text i h = text_or_goes (c == own) x parent own c b s n text i refl refl h
+
+text_goes : (x : Sign) (parent own b : ℕ) (s : List ℕ) (n : Nest) (text : List ℕ) → sign_of b ≡ x → Went (in_text parent own x) s n text
+    → After HasLine (LinesRest own (Left n)) (b ∷ text)
+text_goes sign.Newline parent own b s n text i h =
+    let P : ℕ → Type 0 = λ m. After HasLine (LinesRest own (Left n)) (m ∷ text) in subst P (sym (byte_of sign.Newline b i refl)) (after line_end h)
+text_goes x parent own b s n text i h = comment_more b (LinesRest own (Left n)) text (no_newlines b (ap line_sign i)) h
+
+-- ---- each control
+
+pub byte_goes : (q : Control) (s : List ℕ) (n : Nest) (b : ℕ) (text : List ℕ) → Went (move_of q s (is_in_brackets n) b) s n text → Goes q s (Left n) n.brackets (b ∷ text)
+byte_goes (at.At x) s n b text h = place_goes x.place (sign_of b) x.column b s n text refl h
+byte_goes (at.Dash x) s n b text h = dash_goes (sign_of b) x.place x.column b s n text refl h
+byte_goes at.Dashes s n b text h = dashes_goes (sign_of b) b s n text refl h
+byte_goes at.Closed s n b text h = closed_goes (sign_of b) n.brackets n b s text refl refl h
+byte_goes at.Comment s n b text h = comment_goes (sign_of b) b s n text refl h
+byte_goes (at.Plain x) s n b text h = plain_goes (sign_of b) x.place x.column b s n text refl h
+byte_goes (at.PlainColon x end) s n b text h = colon_goes (sign_of b) x.place x.column end b s n text refl h
+byte_goes (at.PlainSpace x end) s n b text h = space_goes (sign_of b) x.place x.column end b s n text refl h
+byte_goes (at.Double x) s n b text h = double_goes (b == 34) (b == 92) (b == 10) x b s n text refl refl refl h
+byte_goes (at.Escape x) s n b text h = escape_goes (is_escape b) (nat_lt 0 (digits_after b)) x b s n text refl refl h
+byte_goes (at.Code x left code) s n b text h = code_goes (nat_lt (hex_value b) 16) (nat_lt (code * 16 + hex_value b) 0x110000) x left code b s n text refl h
+byte_goes (at.Single x) s n b text h = single_goes (sign_of b) x b s n text refl h
+byte_goes (at.Quote x) s n b text h = quote_goes (sign_of b) x b s n text refl h
+byte_goes (at.Quoted x) s n b text h = quoted_goes (sign_of b) x b s n text refl h
+byte_goes (at.QuotedColon x) s n b text h = quoted_key_goes (sign_of b) x b s n text refl h
+byte_goes (at.Header parent) s n b text h = header_goes (is_sign b) parent b s n text refl h
+byte_goes (at.HeaderEnd parent) s n b text h = header_end_goes (sign_of b) parent b s n text refl h
+byte_goes (at.Block parent c) s n b text h = block_goes (sign_of b) parent c b s n text refl h
+byte_goes (at.Indent parent own c) s n b text h = indent_goes (sign_of b) parent own c b s n text refl h
+byte_goes (at.Text parent own) s n b text h = text_goes (sign_of b) parent own b s n text refl h

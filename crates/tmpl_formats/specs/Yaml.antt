@@ -34,13 +34,13 @@ spaces count = replicate count (byte " ")
 -- lines of a block scalar, blank ones and others that begin at this column
 pub data HasLines (column : ℕ) : List ℕ → List ℕ → Type 0 where
   no_line : {rest : List ℕ} → HasLines column rest rest
-  blank : (count : ℕ) {text rest : List ℕ} → HasLines column text rest → HasLines column (spaces count ++ codes "\n" ++ text) rest
+  blank : (count : ℕ) {text rest : List ℕ} → HasLines column text rest → HasLines column (spaces count ++ (codes "\n" ++ text)) rest
   line : {text more rest : List ℕ} → HasLine text more → HasLines column more rest → HasLines column (spaces column ++ text) rest
 
 -- a block scalar, whose first line that is not blank begins beyond a column
 pub data HasBlock (column : ℕ) : List ℕ → List ℕ → Type 0 where
   empty : {rest : List ℕ} → HasBlock column rest rest
-  first_blank : (count : ℕ) {text rest : List ℕ} → count ≤ suc column → HasBlock column text rest → HasBlock column (spaces count ++ codes "\n" ++ text) rest
+  first_blank : (count : ℕ) {text rest : List ℕ} → count ≤ suc column → HasBlock column text rest → HasBlock column (spaces count ++ (codes "\n" ++ text)) rest
   first_line : (own b : ℕ) {text more rest : List ℕ} → column < own → (not (b == byte " ") && not (b == byte "\t") && not (b == byte "\n")) ≡ true
       → HasLine text more → HasLines own more rest → HasBlock column (spaces own ++ b ∷ text) rest
 
