@@ -1,6 +1,6 @@
-"""Compares the machines of tmpl_formats with readers: Python's json and csv, dash, and nginx's rules and nginx itself, on texts made by random and spoiled by a few bytes. What a
-machine accepts its reader reads, and reads as the same values; what it refuses as JSON or a file of nginx the reader refuses too. No text with the prefix up to a
-mistake is accepted: each is tried with bytes after it. ROWS are worked out by hand from the grammars.
+"""Compares the machines of tmpl_formats with readers: Python's json and csv, dash, nginx's rules and nginx itself, and PyYAML and ruamel, on texts made by random and spoiled by a few bytes. What a
+machine accepts its reader reads, and reads as the same values; YAML is read by the rules of YAML 1.1 and of YAML 1.2, as the same values. What it refuses as JSON or a file of nginx the reader
+refuses too. No text with the prefix up to a mistake is accepted: each is tried with bytes after it. ROWS are worked out by hand from the grammars.
 
     python3 -m tests.check.formats SEED COUNT     so many texts of each format, of this seed"""
 import csv
@@ -13,6 +13,11 @@ import sys
 import tempfile
 
 from tests.lib import harness, tools
+
+try:
+    import yaml
+except ImportError:  # see tests/lib/tools.py
+    yaml = None
 
 COUNT, LEAST = 4000, 800  # texts of each format, and how many of them have to be accepted
 SHELL, SERVER = 400, 100  # files that dash reads, and nginx itself
@@ -43,6 +48,23 @@ ROWS = [
     ("nginx", b"a {b}", 5), ("nginx", b"a 'b'c;", 5), ("nginx", b"a 'b", 4), ("nginx", b"a # c", 5), ("nginx", b"a\\", 2), ("nginx", b"a \0;", 2), ("nginx", b"$", 1),
     ("nginx", b"a \xff;", 2), ("nginx", b"a '\n';", None), ("nginx", b"a {} b;", None), ("nginx", b"a{{", 2), ("nginx", b"a${{;", None),
     ("csv:0", b"", None), ("csv:0", b"a", 1), ("csv:4294967295", b"a,b\n", 3),
+    ("yaml", b"", None), ("yaml", b"\n\n", None), ("yaml", b"a", None), ("yaml", b"a: 1", None), ("yaml", b"a: 1\nb:\n  c: true\n  d:\n", None),
+    ("yaml", b"# c\n---\na: x # c\n--- # c\n- b\n", None), ("yaml", b"a:\n- b\n- c: d\n  e: f\ng:\n  - h\n", None), ("yaml", b"- - a\n  - b\n-\n  c: d\n-   e: f\n    g: h\n", None),
+    ("yaml", b"a: |\n  x\n\n   # y\n\tz\nb: 1", 18), ("yaml", b"a: |\n  x\n\n   # y: |\nb: >-\n    z\nc: |+\n\nd: >\n", None), ("yaml", b"- |\n  a\n -b\n- c", 9),
+    ("yaml", b"a: [1, {b: c, \"d\":'e'}, [], {}, f g, ]\n", None), ("yaml", b"{}", None), ("yaml", b"[[[", 3), ("yaml", b"[a\n]", 2), ("yaml", b"[a b]: c", 5), ("yaml", b"[a]b", 3),
+    ("yaml", b"[a: b]", 3), ("yaml", b"{a}", 2), ("yaml", b"{a:b}", 4), ("yaml", b"[a}", 2), ("yaml", b"[,]", 1), ("yaml", b"[a,,b]", 3), ("yaml", b"[a, b", 5), ("yaml", b"{a: }", 4),
+    ("yaml", b"a: \"b\\n\\x41\\u00e9\\U0001f600\"\n'c': 'd''e'\n", None), ("yaml", b'"\\ud800"', 6), ("yaml", b'"\\U00110000"', 10), ("yaml", b'"\\/"', 2), ("yaml", b'"a\nb"', 2),
+    ("yaml", b"'a\nb'", 2), ("yaml", b'"a" b', 4), ("yaml", b'"a":b', 4), ("yaml", b'a: "b": c', 6), ("yaml", b"a: b: c", 5), ("yaml", b"a: - b", 4), ("yaml", b"a:b", None),
+    ("yaml", b"a:b: c::d\n", None), ("yaml", b"no", 2), ("yaml", b"no: 1", 3), ("yaml", b"- y\n", 3), ("yaml", b"- Off # c", 6), ("yaml", b"nope", None), ("yaml", b"null", None),
+    ("yaml", b"a: 0", None), ("yaml", b"a: -12", None), ("yaml", b"a: 00", 5), ("yaml", b"a: 1.5", 6), ("yaml", b"a: 1.2.3", None), ("yaml", b"a: 0x1f", 7), ("yaml", b"a: 1e3", 6), ("yaml", b"a: 12:30", 8),
+    ("yaml", b"a: 2001-12-14", 13), ("yaml", b"a: 100m", None), ("yaml", b"a: +1", 5), ("yaml", b"a: .5", None and 5), ("yaml", b"a: .env", None), ("yaml", b"a: -x", None), ("yaml", b"--x: 1", None),
+    ("yaml", b"a: ~", 3), ("yaml", b"a: &b c", 3), ("yaml", b"a: !b c", 3), ("yaml", b"*a", 0), ("yaml", b"? a", 0), ("yaml", b"%a", 0), ("yaml", b"a: %", 3), ("yaml", b"@a", 0),
+    ("yaml", b"a: 1\n b: 2", 6), ("yaml", b" a: 1\nb: 2", 6), ("yaml", b"a:\n  b: 1\n c: 2", 11), ("yaml", b"- a\nb: 1", 4), ("yaml", b"a: 1\n- b", 6), ("yaml", b"a: b\n c", 6), ("yaml", b"a\nb", 2),
+    ("yaml", b"a: 1\nb", 6), ("yaml", b"a:\n  b\nc: 1\n", None), ("yaml", b"a:\n- b\n - c", 8), ("yaml", b"a: |x\n", 4), ("yaml", b"|\n a", 0), ("yaml", b"a: |\n\tb", 5), ("yaml", b"a: |\n    \n  b", 9),
+    ("yaml", b"a: |\n  b\n c", 10), ("yaml", b"a\t: b", 1), ("yaml", b"a:\tb", 2), ("yaml", b"\ta", 0), ("yaml", b"a: b\r\n", 4), ("yaml", b"a: b #c", None), ("yaml", b"a: b#c", None), ("yaml", b"a :b", 2),
+    ("yaml", b"--- a", 4), ("yaml", b"---a", 3), ("yaml", b"...", 0 and 0), ("yaml", b"-\n---\n---", None), ("yaml", b"- a\n---\nb: c", None), ("yaml", b"  ---", 5), ("yaml", b"a: b, c", None), ("yaml", b"a: b]", None),
+    ("yaml", "é: ü\n".encode(), None), ("yaml", "a: \x85".encode(), 4), ("yaml", "a: '\u2028'".encode(), 6), ("yaml", "\ufeffa".encode(), 2), ("yaml", "# \ufffe".encode(), 4), ("yaml", b"a: \x7f", 3),
+    ("yaml", b"a: '\0'", 4), ("yaml", b"a: \xff", 3), ("yaml", b"- " * 50000 + b"a", None), ("yaml", b"[" * 50000 + b"]" * 50000, None),
 ]
 BYTES = {
     "json": [b'"', b"\\", b"{", b"}", b"[", b"]", b",", b":", b"0", b"7", b"-", b".", b"e", b"u", b"d8", b"\\ud83d", b"\\udc00", b" ", b"\n", b"t", b"null", b"\xc3\xa9", b"\x80", b"\0"],

@@ -8,9 +8,9 @@ use Rattle.tmpl_formats.proofs.YamlNestLemmas.{Left, Fits, happened_fits, tokens
 use Rattle.tmpl_formats.specs.Yaml.{HasLine, line_end, a_byte, HasBlank, blank_end, a_space, HasHeader, clipped, chomped, spaces, HasLines, no_line, blank, line, HasBlock, empty, first_blank, first_line, IsGap, gap_end, gap_space, is_flow, takes_values, takes_keys, parent_of, after_key, after_value, MayFollow, opening, closing, HasTokens, ends, newline, space, comment, marker, item, key, quoted_key, scalar, block, open_, comma, close, close_last}
 use Rattle.tmpl_formats.specs.YamlScalar.{is_start, passes, may_follow, is_sign, is_plain, is_escape, digits_after, is_character, HasDigits, complete, digit, HasDouble, close_double, plain_double, escape, coded, HasSingle, close_single, plain_single, doubled, HasQuoted, double, single, HasScalar, plain, quoted}
 use Rattle.tmpl_formats.specs.computed.JsonBytes.{hex_value}
-use Rattle.tmpl_formats.specs.computed.YamlScalar.{is_scalar, is_spaced_scalar, is_name}
+use Rattle.tmpl_formats.specs.computed.YamlScalar.{starts_well, is_scalar, is_spaced_scalar, is_name}
 use Rattle.tmpl_formats.specs.computed.Yaml.{written}
-use Rattle.tmpl_formats.specs.computed.YamlLine.{sign_of, spot_at, to, add, start, dashed, twice_dashed, next_column, spot_if, next_spot, next_line, at_gap, gap_if, at_next_gap, begin_in, begin, mark_if, at_mark, at_node, at_value, at_flow, on_line, at_place_in, at_place, after_flow_scalar, after_scalar_in, after_scalar, value_if, key_if, item_if, is_margin_in, is_margin, at_second_dash, after_dash, after_dashes, after_closed, in_comment, more_plain, ends_entry, whole_value, in_plain, named_key, after_colon, comment_if, spaced_value, after_space, in_double, in_escape, after_digit, in_code, in_single, at_quoted_colon_in, at_quoted_colon, after_quoted, after_quote, at_header_end, at_header, block_if, more_block, blank_block, first_text, in_block, after_block, indent_if, more_indent, before_indent, text_or, in_indent, in_text, move_of}
+use Rattle.tmpl_formats.specs.computed.YamlLine.{sign_of, spot_at, to, add, start, dashed, twice_dashed, next_column, spot_if, next_spot, next_line, at_gap, gap_if, at_next_gap, begin_in, begin, lead_in, lead, mark_if, at_mark, at_node, at_value, at_flow, on_line, at_place_in, at_place, after_flow_scalar, after_scalar_in, after_scalar, value_if, key_if, item_if, is_margin_in, is_margin, at_second_dash, after_dash, after_dashes, after_closed, in_comment, more_plain, ends_entry, whole_value, after_plain, in_plain, named_key, after_colon, comment_if, spaced_value, after_space, in_double, in_escape, after_digit, in_code, in_single, at_quoted_colon_in, at_quoted_colon, after_quoted, after_quote, at_header_end, at_header, block_if, more_block, blank_block, first_text, in_block, after_block, indent_if, more_indent, before_indent, text_or, in_indent, in_text, move_of}
 use Rattle.tmpl_formats.specs.computed.YamlNest.{Nest, nest_at, happened, is_in_brackets}
 use Rattle.tmpl_formats.specs.declared.yaml_nest.Bracket.{Bracket}
 use Rattle.tmpl_formats.specs.declared.yaml_nest.Bracket.TheVariants as bracket
@@ -46,6 +46,7 @@ code_of _ = 0
 abbrev is_code : Sign → Bool
 is_code sign.Mark = false
 is_code sign.Start = false
+is_code sign.Lead = false
 is_code sign.Other = false
 is_code _ = true
 
@@ -75,7 +76,8 @@ codes_of b =
     (pick (b == 123) b (sign.Open bracket.Map) _ (λ e i. same_of b 123 e)
     (pick (b == 93) b (sign.Close bracket.List) _ (λ e i. same_of b 93 e)
     (pick (b == 125) b (sign.Close bracket.Map) _ (λ e i. same_of b 125 e)
-    (pick (b == 43 || b == 46 || is_start b) b sign.Start sign.Other (λ e i. no_code b i) (λ i. no_code b i))))))))))))))
+    (pick (b == 43 || b == 46) b sign.Lead _ (λ e i. no_code b i)
+    (pick (is_start b) b sign.Start sign.Other (λ e i. no_code b i) (λ i. no_code b i)))))))))))))))
 
 -- the byte of a kind that has one
 byte_of : (s : Sign) (b : ℕ) → sign_of b ≡ s → is_code s ≡ true → b ≡ code_of s
@@ -293,6 +295,20 @@ begin_reach place.Flow c q s n text h = reach q s event.Enter n text h
 plain_reached : (p : Place) (c : ℕ) (s : List ℕ) (L : List Token → Type 0) (text : List ℕ) → Reaches (at.Plain (spot_at p c)) s L text → Rest p c L (s ++ text)
 plain_reached p c s L text (reaches bs h) = h
 
+line_lead : (t : Bool) (c : ℕ) (q : Control) (s : List ℕ) (n : Nest) (text : List ℕ) → Moved q s (happened (cond t event.Nothing (event.Dash c)) n) text → Reaches q s (Left n) text
+line_lead true c q s n text h = reach q s event.Nothing n text h
+line_lead false c q s n text h = reach q s (event.Dash c) n text h
+
+lead_reach : (p : Place) (c : ℕ) (q : Control) (s : List ℕ) (n : Nest) (text : List ℕ) → Moved q s (happened (lead_in p c) n) text → Reaches q s (Left n) text
+lead_reach place.Line c q s n text h = line_lead (c == 0) c q s n text h
+lead_reach (place.Item d) c q s n text h = reach q s (event.Dash c) n text h
+lead_reach (place.Value d) c q s n text h = reach q s (event.Dash c) n text h
+lead_reach place.End c q s n text h = reach q s (event.Dash c) n text h
+lead_reach place.Flow c q s n text h = reach q s event.Enter n text h
+
+dash_reached : (p : Place) (c : ℕ) (s : List ℕ) (L : List Token → Type 0) (text : List ℕ) → Reaches (at.Dash (spot_at p c)) s L text → Rest p c L (45 ∷ text)
+dash_reached p c s L text (reaches bs h) = h
+
 double_reached : (p : Place) (c : ℕ) (s : List ℕ) (L : List Token → Type 0) (text : List ℕ) → Reaches (at.Double (spot_at p c)) s L text → Rest p c L (34 ∷ text)
 double_reached p c s L text (reaches bs h) = h (34 ∷ text) (λ rest d. double d)
 
@@ -314,8 +330,12 @@ opened_rest p c k n text v (rest_of h l) = rest_of (open_ k v h) l
 
 node_goes : (x : Sign) (p : Place) (c b : ℕ) (s : List ℕ) (n : Nest) (text : List ℕ) → sign_of b ≡ x → takes_values p ≡ true → Went (at_node (spot_at p c) x b) s n text
     → Rest p c (Left n) (b ∷ text)
-node_goes sign.Dash p c b s n text i v h = let P : ℕ → Type 0 = λ m. Rest p c (Left n) (m ∷ text) in subst P (sym (byte_of sign.Dash b i refl)) h
+node_goes sign.Dash p c b s n text i v h =
+    let P : ℕ → Type 0 = λ m. Rest p c (Left n) (m ∷ text) in
+    subst P (sym (byte_of sign.Dash b i refl)) (dash_reached p c s (Left n) text (lead_reach p c (at.Dash (spot_at p c)) s n text h))
 node_goes sign.Start p c b s n text i v h =
+    plain_reached p c (b ∷ []) (Left n) text (begin_reach p c (at.Plain (spot_at p c)) (b ∷ []) n text h)
+node_goes sign.Lead p c b s n text i v h =
     plain_reached p c (b ∷ []) (Left n) text (begin_reach p c (at.Plain (spot_at p c)) (b ∷ []) n text h)
 node_goes sign.Double p c b s n text i v h =
     let P : ℕ → Type 0 = λ m. Rest p c (Left n) (m ∷ text) in
@@ -593,7 +613,11 @@ either_plain : (t : Bool) (x : Sign) (p : Place) (c b : ℕ) (s : List ℕ) (n :
 either_plain true x p c b s n text i h = whole_goes x p c b s n text i h
 either_plain false x p c b s n text i h = more_plain_goes (may_follow (is_flow p) 0 b) p c b s n text h
 
-plain_goes : (x : Sign) (p : Place) (c b : ℕ) (s : List ℕ) (n : Nest) (text : List ℕ) → sign_of b ≡ x → Went (in_plain (spot_at p c) s x b) s n text
+guarded : (t : Bool) (r : Option Move) (s : List ℕ) (n : Nest) (text : List ℕ) → Went (cond t r None) s n text → Went r s n text
+guarded true r s n text h = h
+guarded false r s n text h = absurd h
+
+plain_goes : (x : Sign) (p : Place) (c b : ℕ) (s : List ℕ) (n : Nest) (text : List ℕ) → sign_of b ≡ x → Went (after_plain (spot_at p c) s x b) s n text
     → Rest p c (Left n) (s ++ b ∷ text)
 plain_goes sign.Newline p c b s n text i h = whole_goes sign.Newline p c b s n text i h
 plain_goes sign.Colon p c b s n text i h = plain_more p c b s (Left n) text h
@@ -920,7 +944,8 @@ byte_goes (at.Dash x) s n b text h = dash_goes (sign_of b) x.place x.column b s 
 byte_goes at.Dashes s n b text h = dashes_goes (sign_of b) b s n text refl h
 byte_goes at.Closed s n b text h = closed_goes (sign_of b) n.brackets n b s text refl refl h
 byte_goes at.Comment s n b text h = comment_goes (sign_of b) b s n text refl h
-byte_goes (at.Plain x) s n b text h = plain_goes (sign_of b) x.place x.column b s n text refl h
+byte_goes (at.Plain x) s n b text h =
+    plain_goes (sign_of b) x.place x.column b s n text refl (guarded (starts_well s b) (after_plain x s (sign_of b) b) s n text h)
 byte_goes (at.PlainColon x end) s n b text h = colon_goes (sign_of b) x.place x.column end b s n text refl h
 byte_goes (at.PlainSpace x end) s n b text h = space_goes (sign_of b) x.place x.column end b s n text refl h
 byte_goes (at.Double x) s n b text h = double_goes (b == 34) (b == 92) (b == 10) x b s n text refl refl refl h

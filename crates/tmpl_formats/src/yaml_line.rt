@@ -6,7 +6,9 @@ ghost use Rattle.tmpl_formats.specs.computed.YamlLine as computed;
 
 use crate::json_text::hex_value;
 use crate::yaml_nest::{Bracket, Event, Token};
-use crate::yaml_scalar::{is_name, is_scalar, is_sign, is_spaced_scalar, is_start, may_follow};
+use crate::yaml_scalar::{
+    is_name, is_scalar, is_sign, is_spaced_scalar, is_start, may_follow, starts_well,
+};
 
 /// What may stand at a place of a line.
 #[derive(Clone, Copy, Debug, PartialEq, Eq)]
@@ -85,8 +87,10 @@ pub enum Sign {
     Mark,
     Open(Bracket),
     Close(Bracket),
-    /// A byte that a plain scalar may begin with, except a dash.
+    /// A byte that a plain scalar may begin with.
     Start,
+    /// `+` and `.`, after which not all bytes may come at the start of a plain scalar.
+    Lead,
     Other,
 }
 
@@ -128,7 +132,7 @@ fn sign_of(byte: u8) -> Sign
         b'{' => Sign::Open(Bracket::Map),
         b']' => Sign::Close(Bracket::List),
         b'}' => Sign::Close(Bracket::Map),
-        b'+' | b'.' => Sign::Start,
+        b'+' | b'.' => Sign::Lead,
         _ if is_start(byte) => Sign::Start,
         _ => Sign::Other,
     }
@@ -300,6 +304,21 @@ fn begin(spot: Spot) -> Event
     }
 }
 
+/// A dash comes at a spot, which may begin an item, a key or a value, and at the start of a line another document.
+fn lead(spot: Spot) -> Event
+    ensures { result ≡ computed.lead spot }
+{
+    match spot.place {
+        Place::Flow => Event::Enter,
+        Place::Line => if spot.column == 0 {
+            Event::Nothing
+        } else {
+            Event::Dash(spot.column)
+        },
+        _ => Event::Dash(spot.column),
+    }
+}
+
 /// A block scalar, which stands after an item or a key.
 fn at_mark(spot: Spot) -> Option<Move>
     ensures { result ≡ computed.at_mark spot }
@@ -315,8 +334,8 @@ fn at_node(spot: Spot, sign: Sign, byte: u8) -> Option<Move>
     ensures { result ≡ computed.at_node spot sign byte }
 {
     match sign {
-        Sign::Dash => to(Control::Dash(spot), Event::Nothing),
-        Sign::Start => start(Control::Plain(spot), byte, begin(spot)),
+        Sign::Dash => to(Control::Dash(spot), lead(spot)),
+        Sign::Start | Sign::Lead => start(Control::Plain(spot), byte, begin(spot)),
         Sign::Double => to(Control::Double(spot), begin(spot)),
         Sign::Single => to(Control::Single(spot), begin(spot)),
         Sign::Mark => at_mark(spot),
@@ -530,9 +549,20 @@ fn ends_entry(sign: Sign) -> bool
     matches!(sign, Sign::Comma | Sign::Close(_))
 }
 
-/// In a plain scalar.
+/// In a plain scalar, whose start a byte does not spoil.
 fn in_plain(spot: Spot, scalar: &[u8], sign: Sign, byte: u8) -> Option<Move>
     ensures { result ≡ computed.in_plain spot scalar.now sign byte }
+{
+    if starts_well(scalar, byte) {
+        after_plain(spot, scalar, sign, byte)
+    } else {
+        None
+    }
+}
+
+/// After bytes of a plain scalar.
+fn after_plain(spot: Spot, scalar: &[u8], sign: Sign, byte: u8) -> Option<Move>
+    ensures { result ≡ computed.after_plain spot scalar.now sign byte }
 {
     let in_flow = is_flow(spot.place);
     match sign {

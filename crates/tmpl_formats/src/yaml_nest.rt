@@ -60,6 +60,8 @@ pub enum Event {
     Nothing,
     /// A key or a value begins at a column.
     Begin(u64),
+    /// A dash comes at a column, with which an item, a key or a value may begin.
+    Dash(u64),
     /// A key or a value begins in brackets.
     Enter,
     /// An item of a sequence begins at a column.
@@ -409,6 +411,29 @@ fn begin(nest: &mut Nest, column: u64) -> bool
     }
 }
 
+/// Whether an item, a key or a value may begin at a column.
+fn may_dash(column: u64, expects: Expects, top: Option<Level>) -> bool
+    ensures { result ≡ computed.may_dash column expects top }
+{
+    match top {
+        Some(Level::Sequence(own)) => own == column || holds(column, expects, top),
+        _ => may_begin(column, expects, top),
+    }
+}
+
+/// Ends what ends before an item, a key or a value at a column; whether one may begin there.
+fn dash(nest: &mut Nest, column: u64) -> bool
+    ensures { computed.dashed column (nest_of nest.old) ≡ (if result then Some (nest_of nest.new) else None) }
+{
+    match innermost_bracket(&nest.brackets) {
+        None => {
+            settle(nest, column, true);
+            may_dash(column, nest.expects, innermost(&nest.levels))
+        }
+        Some(_) => false,
+    }
+}
+
 /// Ends what ends before an item at a column, and reads its token; whether it may come.
 fn take_item(nest: &mut Nest, column: u64) -> Result<bool, AllocError>
     ensures { IfOk result (λ went. computed.taken_item column (nest_of nest.old) ≡ (if went then Some (nest_of nest.new) else None)) }
@@ -440,6 +465,7 @@ pub(crate) fn happen(nest: &mut Nest, event: Event) -> Result<bool, AllocError>
     match event {
         Event::Nothing => Ok(true),
         Event::Begin(column) => Ok(begin(nest, column)),
+        Event::Dash(column) => Ok(dash(nest, column)),
         Event::Enter => Ok(!is_nothing(nest.expects)),
         Event::Item(column) => take_item(nest, column),
         Event::One(token) => take(nest, token),

@@ -69,6 +69,19 @@ fn may_begin(first: Option<u8>, second: Option<u8>, third: Option<u8>) -> bool
         || is_byte(first, b'-') && (starts(second) || is_byte(second, b'-') && starts(third))
 }
 
+/// Whether a byte may come at the start of a plain scalar after these.
+pub(crate) fn starts_well(scalar: &[u8], byte: u8) -> bool
+    ensures { result ≡ computed.starts_well scalar.now byte }
+{
+    if is_same(scalar, b".") {
+        may_follow_dot(byte)
+    } else if is_same(scalar, b"+") || is_same(scalar, b"--") {
+        is_start(byte)
+    } else {
+        true
+    }
+}
+
 /// A bracket.
 fn is_bracket(byte: u8) -> bool
     ensures { result ≡ spec.is_bracket byte }

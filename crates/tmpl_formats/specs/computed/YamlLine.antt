@@ -4,7 +4,7 @@ use Rattle.std.specs.Str.{byte}
 use Rattle.tmpl_formats.specs.Yaml.{is_flow, takes_values, takes_keys, parent_of, after_key}
 use Rattle.tmpl_formats.specs.YamlScalar.{is_start, may_follow, is_sign, is_escape, digits_after, is_character}
 use Rattle.tmpl_formats.specs.computed.JsonBytes.{hex_value}
-use Rattle.tmpl_formats.specs.computed.YamlScalar.{is_scalar, is_spaced_scalar, is_name}
+use Rattle.tmpl_formats.specs.computed.YamlScalar.{starts_well, is_scalar, is_spaced_scalar, is_name}
 use Rattle.tmpl_formats.specs.declared.yaml_nest.Bracket.TheVariants as bracket
 use Rattle.tmpl_formats.specs.declared.yaml_nest.Event.{Event}
 use Rattle.tmpl_formats.specs.declared.yaml_nest.Event.TheVariants as event
@@ -36,7 +36,7 @@ sign_of b =
     else (if b == byte "{" then sign.Open bracket.Map
     else (if b == byte "]" then sign.Close bracket.List
     else (if b == byte "}" then sign.Close bracket.Map
-    else (if b == byte "+" || b == byte "." || is_start b then sign.Start else sign.Other)))))))))))))
+    else (if b == byte "+" || b == byte "." then sign.Lead else (if is_start b then sign.Start else sign.Other))))))))))))))
 
 abbrev pub spot_at : Place → ℕ → Spot
 spot_at p c = record { place = p; column = c }
@@ -89,6 +89,14 @@ begin_in _ c = event.Begin c
 abbrev pub begin : Spot → Event
 begin x = begin_in x.place x.column
 
+abbrev pub lead_in : Place → ℕ → Event
+lead_in place.Flow c = event.Enter
+lead_in place.Line c = if c == 0 then event.Nothing else event.Dash c
+lead_in _ c = event.Dash c
+
+abbrev pub lead : Spot → Event
+lead x = lead_in x.place x.column
+
 abbrev pub mark_if : Option ℕ → ℕ → Option Move
 mark_if None c = None
 mark_if (Some parent) c = to (at.Header parent) (event.One (token.Scalar c))
@@ -98,8 +106,9 @@ at_mark x = mark_if (parent_of x.place) x.column
 
 -- where a key or a value begins
 abbrev pub at_node : Spot → Sign → ℕ → Option Move
-at_node x sign.Dash b = to (at.Dash x) event.Nothing
+at_node x sign.Dash b = to (at.Dash x) (lead x)
 at_node x sign.Start b = start (at.Plain x) b (begin x)
+at_node x sign.Lead b = start (at.Plain x) b (begin x)
 at_node x sign.Double b = to (at.Double x) (begin x)
 at_node x sign.Single b = to (at.Single x) (begin x)
 at_node x sign.Mark b = at_mark x
@@ -192,11 +201,14 @@ ends_entry _ = false
 abbrev pub whole_value : Spot → List ℕ → Sign → Option Move
 whole_value x text s = value_if (is_scalar (is_flow x.place) text (length text)) x s
 
+abbrev pub after_plain : Spot → List ℕ → Sign → ℕ → Option Move
+after_plain x text sign.Newline b = whole_value x text sign.Newline
+after_plain x text sign.Colon b = add (at.PlainColon x (length text)) b event.Nothing
+after_plain x text sign.Space b = add (at.PlainSpace x (length text)) b event.Nothing
+after_plain x text s b = if is_flow x.place && ends_entry s then whole_value x text s else more_plain x b
+
 abbrev pub in_plain : Spot → List ℕ → Sign → ℕ → Option Move
-in_plain x text sign.Newline b = whole_value x text sign.Newline
-in_plain x text sign.Colon b = add (at.PlainColon x (length text)) b event.Nothing
-in_plain x text sign.Space b = add (at.PlainSpace x (length text)) b event.Nothing
-in_plain x text s b = if is_flow x.place && ends_entry s then whole_value x text s else more_plain x b
+in_plain x text s b = if starts_well text b then after_plain x text s b else None
 
 abbrev pub named_key : Spot → List ℕ → ℕ → Sign → Option Move
 named_key x text end s = key_if (is_name (is_flow x.place) text end) x s

@@ -153,6 +153,20 @@ begun_in c n (Some k) = None
 abbrev pub begun : ℕ → Nest → Option Nest
 begun c n = begun_in c n (head_of n.brackets)
 
+abbrev pub may_dash : ℕ → Expects → Option Level → Bool
+may_dash c e (Some (level.Sequence d)) = (d == c) || holds c e (Some (level.Sequence d))
+may_dash c e top = may_begin c e top
+
+abbrev pub if_dashes : ℕ → Nest → Option Nest
+if_dashes c n = if may_dash c n.awaited (head_of n.levels) then Some n else None
+
+abbrev pub dashed_in : ℕ → Nest → Option Bracket → Option Nest
+dashed_in c n None = if_dashes c (settled c true n)
+dashed_in c n (Some k) = None
+
+abbrev pub dashed : ℕ → Nest → Option Nest
+dashed c n = dashed_in c n (head_of n.brackets)
+
 abbrev pub taken_item_in : ℕ → Nest → Option Bracket → Option Nest
 taken_item_in c n None = taken (token.Item c) (settled c true n)
 taken_item_in c n (Some k) = None
@@ -166,6 +180,7 @@ taken_two t u n = option_and_then (λ m. taken u m) (taken t n)
 abbrev pub happened : Event → Nest → Option Nest
 happened event.Nothing n = Some n
 happened (event.Begin c) n = begun c n
+happened (event.Dash c) n = dashed c n
 happened event.Enter n = if is_nothing n.awaited then None else Some n
 happened (event.Item c) n = taken_item c n
 happened (event.One t) n = taken t n
