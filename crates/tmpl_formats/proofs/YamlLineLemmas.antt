@@ -255,6 +255,7 @@ spot_space true p c e s n text h = spaced (subst P (add-one c) (at_reach p (c + 
   where
     P : ℕ → Type 0
     P m = Rest p m (Before e n) text
+
     spaced : Rest p (suc c) (Before e n) text → Rest p c (Before e n) (32 ∷ text)
     spaced (rest_of h l) = rest_of (space h) l
 spot_space false p c e s n text h = absurd h
@@ -630,7 +631,7 @@ named_scalar f end s more h =
     let is : drop end s ≡ 58 ∷ [] = (bytes_eq-Decides (drop end s) (58 ∷ [])).0 (and_right (is_plain f (take end s)) (bytes_eq (drop end s) (58 ∷ [])) h) in
     let P : List ℕ → Type 0 = λ t. HasScalar f t (58 ∷ more) in
     let same : take end s ++ 58 ∷ more ≡ s ++ more =
-        sym (ap (λ d. take end s ++ (d ++ more)) is) ∙ (sym (append_assoc (take end s) (drop end s) more) ∙ ap (λ t. t ++ more) (take-append-drop end s)) in
+    sym (ap (λ d. take end s ++ (d ++ more)) is) ∙ (sym (append_assoc (take end s) (drop end s) more) ∙ ap (λ t. t ++ more) (take-append-drop end s)) in
     subst P same (plain (take end s) (58 ∷ more) (and_left (is_plain f (take end s)) (bytes_eq (drop end s) (58 ∷ [])) h))
 
 named_goes : (x : Sign) (p : Place) (c end b : ℕ) (s : List ℕ) (n : Nest) (text : List ℕ) → sign_of b ≡ x → Went (named_key (spot_at p c) s end x) s n text

@@ -158,6 +158,7 @@ item_fits c e (lev.Sequence d ∷ ls) ts p = in_sequence_at (d == c) refl p
         sequence_node (lev.Sequence d ∷ ls) c ts (less d c q.0) q.1
     push_at expects.Entry p = absurd p
     push_at expects.Nothing p = absurd p
+
     in_sequence_at : (t : Bool) → (d == c) ≡ t
         → Changed (cond t (Some (change.Expect expects.Value)) (push_if (is_value e && nat_lt d c) (lev.Sequence c))) (nest_at e (lev.Sequence d ∷ ls) []) ts
         → LeftAt e (lev.Sequence d ∷ ls) [] (token.Item c ∷ ts)
@@ -182,6 +183,7 @@ key_fits c e (lev.Map d ∷ ls) ts p = in_map_at (d == c) refl p
     push_at expects.Value p = let q = push_fits (nat_lt d c) (lev.Map c) expects.Value (lev.Map d ∷ ls) ts p in map_node (lev.Map d ∷ ls) c ts (less d c q.0) q.1
     push_at expects.Entry p = absurd p
     push_at expects.Nothing p = absurd p
+
     in_map_at : (t : Bool) → (d == c) ≡ t
         → Changed (cond t (Some (change.Expect expects.Value)) (push_if (is_value e && nat_lt d c) (lev.Map c))) (nest_at e (lev.Map d ∷ ls) []) ts
         → LeftAt e (lev.Map d ∷ ls) [] (token.Key c ∷ ts)

@@ -324,7 +324,10 @@ fn at_mark(spot: Spot) -> Option<Move>
     ensures { result ≡ computed.at_mark spot }
 {
     match parent_of(spot.place) {
-        Some(parent) => to(Control::Header(parent), Event::One(Token::Scalar(spot.column))),
+        Some(parent) => to(
+            Control::Header(parent),
+            Event::One(Token::Scalar(spot.column)),
+        ),
         None => None,
     }
 }
@@ -364,7 +367,10 @@ fn at_flow(column: u64, sign: Sign, byte: u8) -> Option<Move>
 {
     match sign {
         Sign::Space => next_spot(Place::Flow, column, Event::Nothing),
-        Sign::Comma => to(Control::At(spot_at(Place::Flow, 0)), Event::One(Token::Comma)),
+        Sign::Comma => to(
+            Control::At(spot_at(Place::Flow, 0)),
+            Event::One(Token::Comma),
+        ),
         Sign::Close(bracket) => to(Control::Closed, Event::One(Token::Close(bracket))),
         _ => at_node(spot_at(Place::Flow, column), sign, byte),
     }
@@ -411,10 +417,7 @@ fn after_flow_scalar(token: Token, sign: Sign) -> Option<Move>
             Control::At(spot_at(Place::Flow, 0)),
             Event::Two(token, Token::Comma),
         ),
-        Sign::Close(bracket) => to(
-            Control::Closed,
-            Event::Two(token, Token::Close(bracket)),
-        ),
+        Sign::Close(bracket) => to(Control::Closed, Event::Two(token, Token::Close(bracket))),
         _ => None,
     }
 }
@@ -567,8 +570,16 @@ fn after_plain(spot: Spot, scalar: &[u8], sign: Sign, byte: u8) -> Option<Move>
     let in_flow = is_flow(spot.place);
     match sign {
         Sign::Newline => value_if(is_scalar(in_flow, scalar, scalar.len()), spot, sign),
-        Sign::Colon => add(Control::PlainColon(spot, scalar.len()), byte, Event::Nothing),
-        Sign::Space => add(Control::PlainSpace(spot, scalar.len()), byte, Event::Nothing),
+        Sign::Colon => add(
+            Control::PlainColon(spot, scalar.len()),
+            byte,
+            Event::Nothing,
+        ),
+        Sign::Space => add(
+            Control::PlainSpace(spot, scalar.len()),
+            byte,
+            Event::Nothing,
+        ),
         _ => if in_flow && ends_entry(sign) {
             value_if(is_scalar(in_flow, scalar, scalar.len()), spot, sign)
         } else {
@@ -587,7 +598,11 @@ fn after_colon(spot: Spot, scalar: &[u8], end: usize, sign: Sign, byte: u8) -> O
             spot,
             sign,
         ),
-        Sign::Colon => add(Control::PlainColon(spot, scalar.len()), byte, Event::Nothing),
+        Sign::Colon => add(
+            Control::PlainColon(spot, scalar.len()),
+            byte,
+            Event::Nothing,
+        ),
         _ => more_plain(spot, byte),
     }
 }
@@ -637,7 +652,10 @@ fn in_double(spot: Spot, byte: u8) -> Option<Move>
 fn is_escape(byte: u8) -> bool
     ensures { result ≡ scalar_spec.is_escape byte }
 {
-    matches!(byte, b'0' | b'a' | b'b' | b't' | b'n' | b'v' | b'f' | b'r' | b'e' | b'"' | b'\\')
+    matches!(
+        byte,
+        b'0' | b'a' | b'b' | b't' | b'n' | b'v' | b'f' | b'r' | b'e' | b'"' | b'\\'
+    )
 }
 
 /// How many hexadecimal digits there are after a letter.
@@ -870,12 +888,7 @@ fn in_text(parent: u64, own: u64, sign: Sign) -> Option<Move>
 }
 
 /// What a byte does, or none where no text goes on so.
-pub(crate) fn move_of(
-    control: Control,
-    scalar: &[u8],
-    in_brackets: bool,
-    byte: u8,
-) -> Option<Move>
+pub(crate) fn move_of(control: Control, scalar: &[u8], in_brackets: bool, byte: u8) -> Option<Move>
     ensures { result ≡ computed.move_of control scalar.now in_brackets byte }
 {
     let sign = sign_of(byte);

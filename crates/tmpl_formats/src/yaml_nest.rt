@@ -158,19 +158,25 @@ fn item(column: u64, expects: Expects, top: Option<Level>) -> Option<Change>
 {
     match top {
         None => push_if(is_value(expects), Level::Sequence(column)),
-        Some(Level::Map(own)) =>
-            push_if(is_value(expects) && own <= column, Level::Sequence(column)),
-        Some(Level::Sequence(own)) =>
-            if own == column {
-                Some(Change::Expect(Expects::Value))
-            } else {
-                push_if(is_value(expects) && own < column, Level::Sequence(column))
-            },
+        Some(Level::Map(own)) => push_if(
+            is_value(expects) && own <= column,
+            Level::Sequence(column),
+        ),
+        Some(Level::Sequence(own)) => if own == column {
+            Some(Change::Expect(Expects::Value))
+        } else {
+            push_if(is_value(expects) && own < column, Level::Sequence(column))
+        },
     }
 }
 
 /// An item, which stands in no brackets.
-fn item_at(column: u64, expects: Expects, top: Option<Level>, bracket: Option<Bracket>) -> Option<Change>
+fn item_at(
+    column: u64,
+    expects: Expects,
+    top: Option<Level>,
+    bracket: Option<Bracket>,
+) -> Option<Change>
     ensures { result ≡ computed.item_at column expects top bracket }
 {
     match bracket {
@@ -185,19 +191,25 @@ fn key(column: u64, expects: Expects, top: Option<Level>) -> Option<Change>
 {
     match top {
         None => push_if(is_value(expects), Level::Map(column)),
-        Some(Level::Map(own)) =>
-            if own == column {
-                Some(Change::Expect(Expects::Value))
-            } else {
-                push_if(is_value(expects) && own < column, Level::Map(column))
-            },
-        Some(Level::Sequence(own)) =>
-            push_if(is_value(expects) && own < column, Level::Map(column)),
+        Some(Level::Map(own)) => if own == column {
+            Some(Change::Expect(Expects::Value))
+        } else {
+            push_if(is_value(expects) && own < column, Level::Map(column))
+        },
+        Some(Level::Sequence(own)) => push_if(
+            is_value(expects) && own < column,
+            Level::Map(column),
+        ),
     }
 }
 
 /// A key of a map, perhaps in brackets.
-fn key_at(column: u64, expects: Expects, top: Option<Level>, bracket: Option<Bracket>) -> Option<Change>
+fn key_at(
+    column: u64,
+    expects: Expects,
+    top: Option<Level>,
+    bracket: Option<Bracket>,
+) -> Option<Change>
     ensures { result ≡ computed.key_at column expects top bracket }
 {
     match bracket {
@@ -271,8 +283,10 @@ fn change_of(
     match token {
         Token::Item(column) => item_at(column, expects, top, bracket),
         Token::Key(column) => key_at(column, expects, top, bracket),
-        Token::Scalar(column) =>
-            expect_if(holds_at(column, expects, top, bracket), Expects::Nothing),
+        Token::Scalar(column) => expect_if(
+            holds_at(column, expects, top, bracket),
+            Expects::Nothing,
+        ),
         Token::Open(own, column) => open_if(holds_at(column, expects, top, bracket), own),
         Token::Close(own) => close(own, expects, bracket),
         Token::Comma => comma(expects, bracket),
@@ -326,11 +340,7 @@ fn is_over(level: Level, column: u64, is_item: bool) -> bool
 {
     match level {
         Level::Map(own) => column < own,
-        Level::Sequence(own) => if is_item {
-            column < own
-        } else {
-            column <= own
-        },
+        Level::Sequence(own) => if is_item { column < own } else { column <= own },
     }
 }
 
