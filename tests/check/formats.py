@@ -410,18 +410,26 @@ def read_yaml(text):
         raise ValueError(error) from error
 
 
+def tree_of(node):
+    """The tags and texts of a node, PyYAML's or ruamel's."""
+    if not isinstance(node.value, list):
+        return node.tag, node.value
+    return node.tag, [tuple(map(tree_of, it)) if isinstance(it, tuple) else tree_of(it) for it in node.value]
+
+
 def wrong_in_ruamel(text):
-    """What is wrong with how ruamel reads a text that was accepted: by YAML 1.2, as PyYAML does."""
+    """What is wrong with how ruamel reads a text that was accepted: by YAML 1.2, as PyYAML does by YAML 1.1."""
     import ruamel.yaml
 
-    loader = ruamel.yaml.YAML(typ="safe", pure=True)
-    loader.allow_duplicate_keys = True
     try:
-        newer = list(loader.load_all(text.decode()))
-        older = list(yaml.safe_load_all(text.decode()))
+        composer = ruamel.yaml.YAML(typ="safe", pure=True).get_constructor_parser(text.decode())[0].composer
+        newer = []
+        while composer.check_node():
+            newer.append(tree_of(composer.get_node()))
+        older = list(map(tree_of, yaml.compose_all(text.decode(), yaml.SafeLoader)))
     except (ruamel.yaml.YAMLError, yaml.YAMLError) as error:
         return [f"    {error}"]
-    return [] if repr(newer) == repr(older) else [f"    ruamel reads {newer}", f"    and PyYAML {older}"]
+    return [] if newer == older else [f"    ruamel reads {newer}", f"    and PyYAML {older}"]
 
 
 READERS = {"nginx": read_nginx, "json": read_json, "jsonl": read_lines, "yaml": read_yaml}

@@ -1,11 +1,11 @@
 -- What the machine for YAML accepts is YAML.
-use Rattle.std.proofs.Common.{◌≡◌, ℕ, ◌+◌, ◌==◌, Bool, true, false, cond, ◌&&◌, List, [], ◌∷◌, ◌++◌, Option, Some, None, refl, sym, ◌∙◌, ap, subst, arith}
+use Rattle.std.proofs.Common.{◌≡◌, ℕ, ◌==◌, Bool, true, false, cond, ◌&&◌, List, [], ◌∷◌, ◌++◌, Option, Some, None, refl, sym, ap, subst, arith}
 use Rattle.std.proofs.lemmas.Grind.{common_steps}
 use Rattle.std.specs.Prelude.{option_map, not}
 use Rattle.tmpl_formats.proofs.MachineLemmas.{went}
 use Rattle.tmpl_formats.proofs.YamlNestLemmas.{Left, left_end, documents_of}
-use Rattle.tmpl_formats.proofs.YamlLineLemmas.{Rest, rest_of, After, after, Goes, Moved, Went, byte_goes}
-use Rattle.tmpl_formats.specs.Yaml.{HasTokens, ends as tokens_end, no_line, empty, spaces, IsYaml}
+use Rattle.tmpl_formats.proofs.YamlLineLemmas.{Rest, rest_of, after, Goes, Moved, Went, byte_goes}
+use Rattle.tmpl_formats.specs.Yaml.{ends as tokens_end, no_line, empty, IsYaml}
 use Rattle.tmpl_formats.specs.YamlScalar.{is_unprintable, is_printable}
 use Rattle.tmpl_formats.specs.computed.Machine.{mistake, after_step}
 use Rattle.tmpl_formats.specs.computed.Yaml.{Config, with_nest, written, went_if, moved, kept, step, is_margin, begins_line, is_done, done_if, ends, start, yaml_mistake}

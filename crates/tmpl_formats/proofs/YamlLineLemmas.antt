@@ -1,16 +1,16 @@
 -- What is left of a text at each control of the machine for YAML.
-use Rattle.std.proofs.Common.{◌≡◌, ◌≤◌, ◌<◌, ℕ, zero, suc, ◌+◌, ◌-◌, ◌*◌, ◌^◌, ◌==◌, Bool, true, false, cond, ◌&&◌, ◌||◌, List, [], ◌∷◌, ◌++◌, length, take, drop, replicate, Option, Some, None, slice_get, bytes_eq, arith, refl, sym, ◌∙◌, ap, subst, add-one, nat_lt, nat_le, append_assoc, take-append-drop, take_all, le_refl}
+use Rattle.std.proofs.Common.{◌≡◌, ◌≤◌, ◌<◌, ℕ, zero, suc, ◌+◌, ◌-◌, ◌*◌, ◌^◌, ◌==◌, Bool, true, false, cond, ◌&&◌, ◌||◌, List, [], ◌∷◌, ◌++◌, length, take, drop, Option, Some, None, slice_get, bytes_eq, arith, refl, sym, ◌∙◌, ap, subst, add-one, nat_lt, nat_le, append_assoc, take-append-drop, take_all, le_refl}
 use Rattle.std.proofs.lemmas.Grind.{common_steps}
 use Rattle.std.proofs.lemmas.Slice.Eq.{bytes_eq-Decides}
 use Rattle.std.specs.List.{list_all}
-use Rattle.std.specs.Prelude.{option_map, not}
+use Rattle.std.specs.Prelude.{not}
 use Rattle.tmpl_formats.proofs.YamlNestLemmas.{Left, Fits, happened_fits, tokens_of}
-use Rattle.tmpl_formats.specs.Yaml.{HasLine, line_end, a_byte, HasBlank, blank_end, a_space, HasHeader, clipped, chomped, spaces, HasLines, no_line, blank, line, HasBlock, empty, first_blank, first_line, IsGap, gap_end, gap_space, is_flow, takes_values, takes_keys, parent_of, after_key, after_value, MayFollow, opening, closing, HasTokens, ends, newline, space, comment, marker, item, key, quoted_key, scalar, block, open_, comma, close, close_last}
+use Rattle.tmpl_formats.specs.Yaml.{HasLine, line_end, a_byte, HasBlank, blank_end, a_space, HasHeader, clipped, chomped, spaces, HasLines, no_line, blank, line, HasBlock, empty, first_blank, first_line, IsGap, gap_end, gap_space, is_flow, takes_values, takes_keys, parent_of, after_key, after_value, MayFollow, opening, closing, HasTokens, newline, space, comment, marker, item, key, quoted_key, scalar, block, open_, comma, close, close_last}
 use Rattle.tmpl_formats.specs.YamlScalar.{is_start, passes, may_follow, is_sign, is_plain, is_escape, digits_after, is_character, HasDigits, complete, digit, HasDouble, close_double, plain_double, escape, coded, HasSingle, close_single, plain_single, doubled, HasQuoted, double, single, HasScalar, plain, quoted}
 use Rattle.tmpl_formats.specs.computed.JsonBytes.{hex_value}
 use Rattle.tmpl_formats.specs.computed.YamlScalar.{starts_well, is_scalar, is_spaced_scalar, is_name}
 use Rattle.tmpl_formats.specs.computed.Yaml.{written}
-use Rattle.tmpl_formats.specs.computed.YamlLine.{sign_of, spot_at, to, add, start, dashed, twice_dashed, next_column, spot_if, next_spot, next_line, at_gap, gap_if, at_next_gap, begin_in, begin, lead_in, lead, mark_if, at_mark, at_node, at_value, at_flow, on_line, at_place_in, at_place, after_flow_scalar, after_scalar_in, after_scalar, value_if, key_if, item_if, is_margin_in, is_margin, at_second_dash, after_dash, after_dashes, after_closed, in_comment, more_plain, ends_entry, whole_value, after_plain, in_plain, named_key, after_colon, comment_if, spaced_value, after_space, in_double, in_escape, after_digit, in_code, in_single, at_quoted_colon_in, at_quoted_colon, after_quoted, after_quote, at_header_end, at_header, block_if, more_block, blank_block, first_text, in_block, after_block, indent_if, more_indent, before_indent, text_or, in_indent, in_text, move_of}
+use Rattle.tmpl_formats.specs.computed.YamlLine.{sign_of, spot_at, to, add, dashed, spot_if, at_gap, gap_if, at_next_gap, begin_in, lead_in, mark_if, at_node, at_flow, on_line, at_place, after_flow_scalar, after_scalar_in, key_if, is_margin_in, after_dash, after_dashes, after_closed, in_comment, more_plain, ends_entry, whole_value, after_plain, named_key, after_colon, spaced_value, after_space, after_digit, in_single, at_quoted_colon, after_quoted, after_quote, at_header_end, block_if, in_block, indent_if, before_indent, text_or, in_indent, in_text, move_of}
 use Rattle.tmpl_formats.specs.computed.YamlNest.{Nest, nest_at, happened, is_in_brackets}
 use Rattle.tmpl_formats.specs.declared.yaml_nest.Bracket.{Bracket}
 use Rattle.tmpl_formats.specs.declared.yaml_nest.Bracket.TheVariants as bracket

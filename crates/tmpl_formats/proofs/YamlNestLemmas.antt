@@ -1,9 +1,9 @@
 -- Tokens that the nest takes are documents.
-use Rattle.std.proofs.Common.{◌≡◌, ◌⊎◌, inl, inr, ◌≤◌, ◌<◌, ℕ, suc, ◌==◌, Bool, true, false, cond, ◌&&◌, List, [], ◌∷◌, ◌++◌, Option, Some, None, arith, refl, sym, ◌∙◌, ap, subst, nat_lt, nat_le, zero-le}
+use Rattle.std.proofs.Common.{◌≡◌, ◌⊎◌, inl, inr, ◌≤◌, ℕ, suc, ◌==◌, Bool, true, false, cond, ◌&&◌, List, [], ◌∷◌, ◌++◌, Option, Some, None, arith, refl, sym, subst, nat_lt, nat_le, zero-le}
 use Rattle.std.proofs.lemmas.Grind.{common_steps}
-use Rattle.std.specs.Prelude.{option_map, option_and_then, not}
+use Rattle.std.specs.Prelude.{option_map, option_and_then}
 use Rattle.tmpl_formats.specs.Yaml.{HasFlow, flow_scalar, flow_open, HasEntry, element, member, HasInside, closed, last_entry, more_entries, HasNode, nothing, a_scalar, brackets, a_map, a_sequence, HasKeys, no_key, a_key, HasValue, beyond, level, HasItems, no_item, an_item, IsDocuments, last_document, more_documents}
-use Rattle.tmpl_formats.specs.computed.YamlNest.{Nest, nest_at, head_of, tail_of, push_if, expect_if, open_if, is_value, is_entry, is_nothing, holds, holds_in, holds_at, item, item_at, key, key_at, close_if, close as close_change, comma as comma_change, marker as marker_change, change_of, applied, taken, is_over, unwound_from, unwound, settled, may_begin, if_begins, begun, begun_in, may_dash, if_dashes, dashed, dashed_in, taken_item, taken_item_in, taken_two, happened, start}
+use Rattle.tmpl_formats.specs.computed.YamlNest.{Nest, nest_at, head_of, push_if, expect_if, open_if, is_value, is_nothing, holds, holds_in, holds_at, item, item_at, key, key_at, close_if, close as close_change, comma as comma_change, marker as marker_change, applied, taken, is_over, unwound_from, settled, may_begin, begun, may_dash, dashed, taken_item, happened}
 use Rattle.tmpl_formats.specs.declared.yaml_nest.Bracket.{Bracket}
 use Rattle.tmpl_formats.specs.declared.yaml_nest.Bracket.TheVariants as bracket
 use Rattle.tmpl_formats.specs.declared.yaml_nest.Change.{Change}

@@ -1,6 +1,6 @@
 -- The levels that end before an entry, one by one.
 use Rattle.std.proofs.Common.{◌≡◌, ℕ, Bool, true, false, List, [], ◌∷◌, refl}
-use Rattle.tmpl_formats.specs.computed.YamlNest.{nest_at, head_of, tail_of, is_over, is_top_over, unwound_from}
+use Rattle.tmpl_formats.specs.computed.YamlNest.{nest_at, head_of, tail_of, is_top_over, unwound_from}
 use Rattle.tmpl_formats.specs.declared.yaml_nest.Bracket.{Bracket}
 use Rattle.tmpl_formats.specs.declared.yaml_nest.Expects.{Expects}
 use Rattle.tmpl_formats.specs.declared.yaml_nest.Expects.TheVariants as expects

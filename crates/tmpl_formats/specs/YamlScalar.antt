@@ -87,9 +87,13 @@ unfoldable pub is_numeric_text : Bool → List ℕ → Bool
 is_numeric_text has_dot [] = true
 is_numeric_text has_dot (b ∷ bs) = if b == byte "." then not has_dot && is_numeric_text true bs else is_numeric b && is_numeric_text has_dot bs
 
+-- a byte of what some readers take for a number without digits
+abbrev pub is_digit_mark : ℕ → Bool
+is_digit_mark b = is_ascii_digit b || is_sign b || b == byte "_"
+
 -- a text that may be a number, a time or a date
 abbrev pub is_number : List ℕ → Bool
-is_number text = (passes is_ascii_digit (slice_get text 0) || passes is_sign (slice_get text 0) && passes is_ascii_digit (slice_get text 1)) && is_numeric_text false text
+is_number text = list_all is_digit_mark text || (passes is_ascii_digit (slice_get text 0) || passes is_sign (slice_get text 0) && passes is_ascii_digit (slice_get text 1)) && is_numeric_text false text
 
 -- digits that do not begin with a zero
 abbrev pub is_decimal : List ℕ → Bool

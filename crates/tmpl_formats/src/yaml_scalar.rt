@@ -214,12 +214,27 @@ fn is_signed(byte: Option<u8>) -> bool
     }
 }
 
+/// A byte of what some readers take for a number without digits.
+fn is_digit_mark(byte: u8) -> bool
+    ensures { result ≡ spec.is_digit_mark byte }
+{
+    byte.is_ascii_digit() || is_sign(byte) || byte == b'_'
+}
+
+/// Whether a text has such bytes alone.
+fn has_digit_marks(text: &[u8]) -> bool
+    ensures { result ≡ list_all spec.is_digit_mark text.now }
+{
+    text.iter().all(|byte| is_digit_mark(*byte))
+}
+
 /// A text that may be a number, a time or a date.
 fn is_number(text: &[u8]) -> bool
     ensures { result ≡ spec.is_number text.now }
 {
-    (is_digit(byte_at(text, 0)) || is_signed(byte_at(text, 0)) && is_digit(byte_at(text, 1)))
-        && is_numeric_text(text)
+    has_digit_marks(text)
+        || (is_digit(byte_at(text, 0)) || is_signed(byte_at(text, 0)) && is_digit(byte_at(text, 1)))
+            && is_numeric_text(text)
 }
 
 /// Whether a text has digits alone.

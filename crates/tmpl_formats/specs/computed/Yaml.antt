@@ -1,5 +1,5 @@
 -- The machine for YAML.
-use Rattle.std.specs.Prelude.{ℕ, Bool, true, false, not, ◌&&◌, ◌==◌, List, [], ◌∷◌, ◌++◌, Option, Some, None, option_map, option_and_then, if◌then◌else◌}
+use Rattle.std.specs.Prelude.{ℕ, Bool, false, not, ◌&&◌, ◌==◌, List, [], ◌∷◌, ◌++◌, Option, Some, None, option_map, if◌then◌else◌}
 use Rattle.std.specs.Str.{byte}
 use Rattle.tmpl_formats.specs.YamlScalar.{is_unprintable}
 use Rattle.tmpl_formats.specs.computed.Machine.{mistake}
