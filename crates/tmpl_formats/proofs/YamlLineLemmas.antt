@@ -7,7 +7,7 @@ use Rattle.std.specs.Prelude.{not}
 use Rattle.tmpl_formats.proofs.YamlNestLemmas.{Left, Fits, happened_fits, tokens_of}
 use Rattle.tmpl_formats.specs.Yaml.{HasLine, line_end, a_byte, HasBlank, blank_end, a_space, HasHeader, clipped, chomped, spaces, HasLines, no_line, blank, line, HasBlock, empty, first_blank, first_line, IsGap, gap_end, gap_space, is_flow, takes_values, takes_keys, parent_of, after_key, after_value, MayFollow, opening, closing, HasTokens, newline, space, comment, marker, item, key, quoted_key, scalar, block, open_, comma, close, close_last}
 use Rattle.tmpl_formats.specs.YamlScalar.{is_start, passes, may_follow, is_sign, is_plain, is_escape, digits_after, is_character, HasDigits, complete, digit, HasDouble, close_double, plain_double, escape, coded, HasSingle, close_single, plain_single, doubled, HasQuoted, double, single, HasScalar, plain, quoted}
-use Rattle.tmpl_formats.specs.computed.JsonBytes.{hex_value}
+use Rattle.tmpl_formats.specs.Hex.{hex_value}
 use Rattle.tmpl_formats.specs.computed.YamlScalar.{starts_well, is_scalar, is_spaced_scalar, is_name}
 use Rattle.tmpl_formats.specs.computed.Yaml.{written}
 use Rattle.tmpl_formats.specs.computed.YamlLine.{sign_of, spot_at, to, add, dashed, spot_if, at_gap, gap_if, at_next_gap, begin_in, lead_in, mark_if, at_node, at_flow, on_line, at_place, after_flow_scalar, after_scalar_in, key_if, is_margin_in, after_dash, after_dashes, after_closed, in_comment, more_plain, ends_entry, whole_value, after_plain, named_key, after_colon, spaced_value, after_space, after_digit, in_single, at_quoted_colon, after_quoted, after_quote, at_header_end, block_if, in_block, indent_if, before_indent, text_or, in_indent, in_text, move_of}

@@ -2,6 +2,7 @@ pub mod computed
 pub mod Csv
 pub mod Env
 pub mod Format
+pub mod Hex
 pub mod Json
 pub mod Lines
 pub mod JsonLines

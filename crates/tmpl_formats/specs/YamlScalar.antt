@@ -3,7 +3,7 @@ use Rattle.std.specs.Prelude.{◌≡◌, ◌<◌, ℕ, suc, ◌+◌, ◌*◌, Bo
 use Rattle.std.specs.Char.{is_ascii_alphanumeric, is_ascii_digit}
 use Rattle.std.specs.List.{list_all, slice_get}
 use Rattle.std.specs.Str.{byte, bytes_eq}
-use Rattle.tmpl_formats.specs.computed.JsonBytes.{hex_value}
+use Rattle.tmpl_formats.specs.Hex.{hex_value}
 
 -- ---- characters
 
@@ -65,7 +65,7 @@ unfoldable pub is_joined : Bool → ℕ → List ℕ → Bool
 is_joined in_flow a [] = may_end a
 is_joined in_flow a (b ∷ bs) = may_follow in_flow a b && is_joined in_flow b bs
 
--- what YAML 1.1 takes for a truth value, and YAML 1.2 for a string
+-- what YAML 1.1 takes for a boolean, and YAML 1.2 for a string
 abbrev pub is_boolean : List ℕ → Bool
 is_boolean text =
     bytes_eq text (codes "y") || bytes_eq text (codes "Y") || bytes_eq text (codes "yes") || bytes_eq text (codes "Yes") || bytes_eq text (codes "YES")

@@ -1,5 +1,5 @@
 //! Lines of YAML: what each byte says of scalars and tokens.
-ghost use Rattle.std.specs.Prelude.{◌≡◌, ◌+◌, ◌^◌, nat_lt, Some, None, if◌then◌else◌};
+ghost use Rattle.std.specs.Prelude.{◌≡◌};
 ghost use Rattle.tmpl_formats.specs.Yaml as spec;
 ghost use Rattle.tmpl_formats.specs.YamlScalar as scalar_spec;
 ghost use Rattle.tmpl_formats.specs.computed.YamlLine as computed;

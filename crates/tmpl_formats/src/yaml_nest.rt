@@ -1,5 +1,5 @@
 //! What is open at a place of a YAML text: maps, sequences and brackets.
-ghost use Rattle.std.specs.Prelude.{◌≡◌, ◌∷◌, IfOk, OnOk, Some, reverse, if◌then◌else◌};
+ghost use Rattle.std.specs.Prelude.{◌≡◌, IfOk, OnOk, Some, reverse, if◌then◌else◌};
 ghost use Rattle.tmpl_formats.specs.computed.YamlNest as computed;
 ghost use Rattle.tmpl_formats.specs.computed.YamlNestView.{nest_of};
 

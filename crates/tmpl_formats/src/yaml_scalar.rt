@@ -128,7 +128,7 @@ fn is_same(text: &[u8], word: &[u8]) -> bool
     text == word
 }
 
-/// What YAML 1.1 takes for a truth value, and YAML 1.2 for a string.
+/// What YAML 1.1 takes for a boolean, and YAML 1.2 for a string.
 fn is_boolean(text: &[u8]) -> bool
     ensures { result ≡ spec.is_boolean text.now }
 {

@@ -3,7 +3,7 @@ use Rattle.std.specs.Prelude.{ℕ, ◌+◌, ◌-◌, ◌*◌, ◌^◌, Bool, tru
 use Rattle.std.specs.Str.{byte}
 use Rattle.tmpl_formats.specs.Yaml.{is_flow, takes_values, takes_keys, parent_of, after_key}
 use Rattle.tmpl_formats.specs.YamlScalar.{is_start, may_follow, is_sign, is_escape, digits_after, is_character}
-use Rattle.tmpl_formats.specs.computed.JsonBytes.{hex_value}
+use Rattle.tmpl_formats.specs.Hex.{hex_value}
 use Rattle.tmpl_formats.specs.computed.YamlScalar.{starts_well, is_scalar, is_spaced_scalar, is_name}
 use Rattle.tmpl_formats.specs.declared.yaml_nest.Bracket.TheVariants as bracket
 use Rattle.tmpl_formats.specs.declared.yaml_nest.Event.{Event}
