@@ -1,6 +1,6 @@
 -- YAML: a subset that readers of YAML 1.1 and of YAML 1.2 read the same. The bytes of a text spell tokens with their columns
--- (HasTokens), and the tokens are documents (IsDocuments). No tags, anchors, aliases, directives and `?`. Each scalar but one after
--- `|` or `>` ends on its line, and so does a collection in brackets. Not stated: that no key comes twice.
+-- (HasTokens), and the tokens are documents (IsDocuments). There are no tags, anchors, aliases, directives and `?`. Each scalar but one
+-- after `|` or `>` ends on its line, and so does a collection in brackets. That no key comes twice is not stated.
 use Rattle.std.specs.Prelude.{◌≡◌, ◌≤◌, ◌<◌, ℕ, suc, Bool, true, false, not, ◌||◌, ◌&&◌, ◌==◌, List, [], ◌∷◌, ◌++◌, codes, replicate, Option, Some, None}
 use Rattle.std.specs.Str.{byte}
 use Rattle.tmpl_formats.specs.YamlScalar.{is_printable, is_sign, HasQuoted, HasScalar}
@@ -49,7 +49,7 @@ pub data IsGap : List ℕ → Type 0 where
   gap_end : {text : List ℕ} → IsGap (codes "\n" ++ text)
   gap_space : {text : List ℕ} → IsGap (codes " " ++ text)
 
--- where nothing but a comment may come, in brackets, and where items, keys and values may
+-- which places are in brackets, and where values may come, and items and keys
 abbrev pub is_flow : Place → Bool
 is_flow place.Flow = true
 is_flow _ = false
@@ -76,7 +76,7 @@ abbrev pub after_value : Place → Place
 after_value place.Flow = place.Flow
 after_value _ = place.End
 
--- after a value in brackets anything may come, which the tokens rule
+-- after a value comes a space or the end of the line; in brackets the tokens state what may come
 abbrev pub MayFollow : Place → List ℕ → Type 0
 MayFollow place.Flow text = Unit {0}
 MayFollow _ text = IsGap text
@@ -89,7 +89,8 @@ abbrev pub closing : Bracket → ℕ
 closing bracket.List = byte "]"
 closing bracket.Map = byte "}"
 
--- from a place and a column on, the text, whose lines all have a newline, has these tokens. After the key of a line the column only has to be beyond the key's
+-- from a place and a column on, the text, of which each line has a newline, has these tokens. A value on the line of its key counts
+-- as at the columns right after the start of the key, and in brackets columns do not matter
 pub data HasTokens : Place → ℕ → List ℕ → List Token → Type 0 where
   ends : HasTokens place.Line 0 [] []
   newline : {p : Place} {c : ℕ} {text : List ℕ} {ts : List Token} → is_flow p ≡ false → HasTokens place.Line 0 text ts → HasTokens p c (codes "\n" ++ text) ts

@@ -177,10 +177,10 @@ fn wanted(control: Control) -> &'static str {
         Control::Plain(_) | Control::PlainColon(_, _) | Control::PlainSpace(_, _) =>
             "a scalar or a key that YAML 1.1 and YAML 1.2 take for the same",
         Control::Double(_) => "a printable character or a closing \"",
-        Control::Escape(_) => "an escape of YAML and JSON",
+        Control::Escape(_) => "an escape of YAML",
         Control::Code(_, _, _) => "a hexadecimal digit of a character",
         Control::Single(_) => "a printable character or a closing '",
-        Control::Quote(_) | Control::Quoted(_) => "what may follow a quoted scalar",
+        Control::Quote(_) | Control::Quoted(_) => "a colon after a key, or the end of a value",
         Control::QuotedColon(_) => "a space after the colon of a key",
         Control::Header(_) | Control::HeaderEnd(_) => "the end of the line",
         Control::Block(_, _) | Control::Indent(_, _, _) =>
