@@ -1,6 +1,6 @@
-"""Compares the machines of tmpl_formats with readers: Python's json and csv, dash, and nginx's rules and nginx itself, on texts made by random and spoiled by a few bytes. What a
-machine accepts its reader reads, and reads as the same values; what it refuses as JSON or a file of nginx the reader refuses too. No text with the prefix up to a
-mistake is accepted: each is tried with bytes after it. ROWS are worked out by hand from the grammars.
+"""Compares the machines of tmpl_formats with readers: Python's json and csv, dash, nginx's rules and nginx itself, and PyYAML and ruamel, on texts made by random and spoiled by a few bytes. What a
+machine accepts its reader reads, and reads as the same values; YAML is read by the rules of YAML 1.1 and of YAML 1.2, as the same values. What it refuses as JSON or a file of nginx the reader
+refuses too. No text with the prefix up to a mistake is accepted: each is tried with bytes after it. ROWS are worked out by hand from the grammars.
 
     python3 -m tests.check.formats SEED COUNT     so many texts of each format, of this seed"""
 import csv
@@ -13,6 +13,11 @@ import sys
 import tempfile
 
 from tests.lib import harness, tools
+
+try:
+    import yaml
+except ImportError:  # see tests/lib/tools.py
+    yaml = None
 
 COUNT, LEAST = 4000, 800  # texts of each format, and how many of them have to be accepted
 SHELL, SERVER = 400, 100  # files that dash reads, and nginx itself
@@ -43,6 +48,23 @@ ROWS = [
     ("nginx", b"a {b}", 5), ("nginx", b"a 'b'c;", 5), ("nginx", b"a 'b", 4), ("nginx", b"a # c", 5), ("nginx", b"a\\", 2), ("nginx", b"a \0;", 2), ("nginx", b"$", 1),
     ("nginx", b"a \xff;", 2), ("nginx", b"a '\n';", None), ("nginx", b"a {} b;", None), ("nginx", b"a{{", 2), ("nginx", b"a${{;", None),
     ("csv:0", b"", None), ("csv:0", b"a", 1), ("csv:4294967295", b"a,b\n", 3),
+    ("yaml", b"", None), ("yaml", b"\n\n", None), ("yaml", b"a", None), ("yaml", b"a: 1", None), ("yaml", b"a: 1\nb:\n  c: true\n  d:\n", None),
+    ("yaml", b"# c\n---\na: x # c\n--- # c\n- b\n", None), ("yaml", b"a:\n- b\n- c: d\n  e: f\ng:\n  - h\n", None), ("yaml", b"- - a\n  - b\n-\n  c: d\n-   e: f\n    g: h\n", None),
+    ("yaml", b"a: |\n  x\n\n   # y\n\tz\nb: 1", 17), ("yaml", b"a: |\n  x\n\n   # y: |\nb: >-\n    z\nc: |+\n\nd: >\n", None), ("yaml", b"- |\n  a\n -b\n- c", 9),
+    ("yaml", b"a: [1, {b: c, \"d\":'e'}, [], {}, f g, ]\n", None), ("yaml", b"{}", None), ("yaml", b"[[[", 3), ("yaml", b"[a\n]", 2), ("yaml", b"[a b]: c", 5), ("yaml", b"[a]b", 3),
+    ("yaml", b"[a: b]", 3), ("yaml", b"{a}", 2), ("yaml", b"{a:b}", 4), ("yaml", b"[a}", 2), ("yaml", b"[,]", 1), ("yaml", b"[a,,b]", 3), ("yaml", b"[a, b", 5), ("yaml", b"{a: }", 4),
+    ("yaml", b"a: \"b\\n\\x41\\u00e9\\U0001f600\"\n'c': 'd''e'\n", None), ("yaml", b'"\\ud800"', 6), ("yaml", b'"\\U00110000"', 10), ("yaml", b'"\\/"', 2), ("yaml", b'"a\nb"', 2),
+    ("yaml", b"'a\nb'", 2), ("yaml", b'"a" b', 4), ("yaml", b'"a":b', 4), ("yaml", b'a: "b": c', 6), ("yaml", b"a: b: c", 5), ("yaml", b"a: - b", 4), ("yaml", b"a:b", None),
+    ("yaml", b"a:b: c::d\n", None), ("yaml", b"no", 2), ("yaml", b"no: 1", 3), ("yaml", b"- y\n", 3), ("yaml", b"- Off # c", 6), ("yaml", b"nope", None), ("yaml", b"null", None),
+    ("yaml", b"a: 0", None), ("yaml", b"a: -12", None), ("yaml", b"a: 00", 5), ("yaml", b"a: 1.5", 6), ("yaml", b"a: 1.2.3", None), ("yaml", b"a: 0x1f", 7), ("yaml", b"a: 1e3", 6), ("yaml", b"a: 12:30", 8),
+    ("yaml", b"a: 2001-12-14", 13), ("yaml", b"a: 100m", None), ("yaml", b"a: +1", 5), ("yaml", b"a: .5", 4), ("yaml", b"a: .env", None), ("yaml", b"a: -x", None), ("yaml", b"--x: 1", None),
+    ("yaml", b"a: ~", 3), ("yaml", b"a: &b c", 3), ("yaml", b"a: !b c", 3), ("yaml", b"*a", 0), ("yaml", b"? a", 0), ("yaml", b"%a", 0), ("yaml", b"a: %", 3), ("yaml", b"@a", 0),
+    ("yaml", b"a: 1\n b: 2", 6), ("yaml", b" a: 1\nb: 2", 6), ("yaml", b"a:\n  b: 1\n c: 2", 11), ("yaml", b"- a\nb: 1", 4), ("yaml", b"a: 1\n- b", 6), ("yaml", b"a: b\n c", 6), ("yaml", b"a\nb", 2),
+    ("yaml", b"a: 1\nb", 6), ("yaml", b"a:\n  b\nc: 1\n", None), ("yaml", b"a:\n- b\n - c", 8), ("yaml", b"a: |x\n", 4), ("yaml", b"|\n a", 0), ("yaml", b"a: |\n\tb", 5), ("yaml", b"a: |\n    \n  b", 9),
+    ("yaml", b"a: |\n  b\n c", 10), ("yaml", b"a\t: b", 1), ("yaml", b"a:\tb", 2), ("yaml", b"\ta", 0), ("yaml", b"a: b\r\n", 4), ("yaml", b"a: b #c", None), ("yaml", b"a: b#c", None), ("yaml", b"a :b", 2),
+    ("yaml", b"--- a", 4), ("yaml", b"---a", 3), ("yaml", b"...", 1), ("yaml", b"-\n---\n---", None), ("yaml", b"- a\n---\nb: c", None), ("yaml", b"  ---", 4), ("yaml", b"a: b, c", None), ("yaml", b"a: b]", None),
+    ("yaml", "é: ü\n".encode(), None), ("yaml", "a: \x85".encode(), 4), ("yaml", "a: '\u2028'".encode(), 6), ("yaml", "\ufeffa".encode(), 2), ("yaml", "# \ufffe".encode(), 4), ("yaml", b"a: \x7f", 3),
+    ("yaml", b"a: '\0'", 4), ("yaml", b"a: \xff", 3), ("yaml", b"- " * 50000 + b"a", None), ("yaml", b"[" * 50000 + b"]" * 50000, None),
 ]
 BYTES = {
     "json": [b'"', b"\\", b"{", b"}", b"[", b"]", b",", b":", b"0", b"7", b"-", b".", b"e", b"u", b"d8", b"\\ud83d", b"\\udc00", b" ", b"\n", b"t", b"null", b"\xc3\xa9", b"\x80", b"\0"],
@@ -51,6 +73,8 @@ BYTES = {
 }
 BYTES["nginx"] = [b"'", b'"', b"\\", b"$", b"${", b"{", b"}", b";", b"#", b"\n", b" ", b"a", b")", b"\xc3\xa9", b"\x80", b"\0"]
 BYTES["jsonl"] = BYTES["json"]
+BYTES["yaml"] = [b" ", b"  ", b"\n", b"\n  ", b"- ", b"-", b": ", b":", b"a", b"no", b"0", b"1", b".", b"+", b"_", b"e", b"#", b" # ", b'"', b"'", b"\\", b"[", b"]", b"{", b"}", b", ", b"|\n", b">", b"---",
+    b"\t", b"?", b"&", b"*", b"!", b"~", b"=", b"<<", b"%", b"@", b"`", "é".encode(), b"\xc2\x85", "\u2028".encode(), "\ufeff".encode(), b"\x7f", b"\0", b"\xff"]
 
 
 # ---- texts
@@ -111,6 +135,74 @@ def a_directive(drawn, depth=0):
     return words + "{" + "".join(drawn.choice(["", " ", "\n"]) + a_directive(drawn, depth + 1) for _ in range(drawn.randrange(3))) + drawn.choice(["", "\n"]) + "}"
 
 
+PLAIN = ["a", "b c", "x y z", "no", "y", "on", "Yes", "True", "null", "nope", "0", "7", "-12", "010", "1.5", "1.2.3", "10.0.0.1", "1e3", "0x1f", "12:30", "2001-12-14", "100m", "+1", ".5", ".env", ".inf",
+    "-x", "--flag", "./x", "a:b", "a::b", "a#b", "$x", "(a)", "/b", "_", "é", "^a$", "a, b", "1_000", "-.5", "0o17", "+x", "1 2", "e3", "=", "<<", "1:2:3", "0b1", "a?"]
+
+
+def a_scalar(drawn):
+    kind = drawn.randrange(6)
+    if kind == 0:
+        parts = ["a", " ", "#", ": ", "é", "\\n", '\\"', "\\\\", "\\x41", "\\u00e9", "\\U0001f600", "\\0", "\\e", "'", "\t", ", ", "\\ud7ff"]
+        return '"' + "".join(drawn.choices(parts, k=drawn.randrange(4))) + '"'
+    if kind == 1:
+        return "'" + "".join(drawn.choices(["a", " ", "#", ": ", "é", "''", '"', "\\", "\t", "]"], k=drawn.randrange(4))) + "'"
+    return drawn.choice(PLAIN) + drawn.choice(["", "", "", " d", "z"])
+
+
+def a_flow(drawn, depth=0):
+    kind, space = drawn.randrange(4), drawn.choice(["", "", " "])
+    if depth > 2 or kind < 2:
+        return a_scalar(drawn)
+    items = [a_flow(drawn, depth + 1) for _ in range(drawn.randrange(4))]
+    if kind == 2:
+        return "[" + space + ", ".join(items) + space + drawn.choice(["", "", ","]) + "]"
+    return "{" + space + ", ".join(drawn.choice([a_scalar(drawn) + ": ", '"a":']) + it for it in items) + space + "}"
+
+
+def a_block(drawn, indent):
+    lines = [drawn.choice(["", " ", " " * indent + drawn.choice(["a", "# b", " c", "d: e", "\tf", "é", "- g"])]) for _ in range(drawn.randrange(4))]
+    return drawn.choice("|>") + drawn.choice(["", "", "-", "+"]) + "\n" + "".join(it + "\n" for it in lines)
+
+
+def a_node(drawn, indent, depth=0):
+    """What stands after an item or a key at a column: on its line, and on the lines after it, which it ends."""
+    kind = drawn.randrange(8 if depth < 3 else 5)
+    end = drawn.choice(["\n", "\n", "\n", " # c\n", "\n\n", "\n  # c\n"])
+    if kind == 0:
+        return end
+    if kind == 1:
+        return " " + a_block(drawn, indent + drawn.randrange(1, 4))
+    if kind == 2:
+        return " " + a_flow(drawn) + end
+    if kind < 5:
+        return drawn.choice([" ", " ", "  "]) + a_scalar(drawn) + end
+    if kind == 5:
+        return end + entries(drawn, indent + drawn.choice([1, 2, 2, 4]), depth + 1)
+    return end + items(drawn, indent + drawn.choice([0, 1, 2, 2]), depth + 1)
+
+
+def entries(drawn, indent, depth, is_begun=False):
+    """Keys of a map at a column, of which the first may be begun on a line."""
+    them = ["" if is_begun and not i else " " * indent for i in range(drawn.randrange(1, 4))]
+    return "".join(it + drawn.choice([a_scalar(drawn), "k"]) + ":" + a_node(drawn, indent, depth) for it in them)
+
+
+def items(drawn, indent, depth):
+    told = ""
+    for _ in range(drawn.randrange(1, 4)):
+        gap = drawn.choice([1, 1, 1, 3])
+        told += " " * indent + "-" + (" " * gap + entries(drawn, indent + 1 + gap, depth + 1, True) if depth < 3 and not drawn.randrange(3) else a_node(drawn, indent, depth))
+    return told
+
+
+def a_document(drawn):
+    kind = drawn.randrange(5)
+    if kind == 0:
+        return drawn.choice([a_flow(drawn), a_scalar(drawn), "", "# c"]) + "\n"
+    indent = drawn.choice([0, 0, 0, 1])
+    return entries(drawn, indent, 0) if kind < 4 else items(drawn, indent, 0)
+
+
 def made(name, drawn):
     """A text that is mostly of the format."""
     end = drawn.choice(["", "\n"])
@@ -122,6 +214,8 @@ def made(name, drawn):
         return "\n".join(an_assignment(drawn) for _ in range(drawn.randrange(1, 4))) + end
     if name == "nginx":
         return "".join(drawn.choice(["", " ", "# c }\n"]) + a_directive(drawn) + drawn.choice(["", "\n"]) for _ in range(drawn.randrange(4))) + drawn.choice(["", "", "# end"])
+    if name == "yaml":
+        return drawn.choice(["", "", "---\n", "# c\n"]) + "---\n".join(a_document(drawn) for _ in range(drawn.choice([1, 1, 1, 2])))
     columns = int(name[4:])
     lines = [",".join(a_field(drawn) for _ in range(columns)) for _ in range(drawn.randrange(4))]
     return drawn.choice(["\n", "\r\n"]).join(lines) + end
@@ -262,7 +356,83 @@ def wrong_in_nginx(folder, text):
     return [f"    nginx says {ran.stdout}"] if ran.returncode else []
 
 
-READERS = {"nginx": read_nginx, "json": read_json, "jsonl": read_lines}
+class Newer:
+    """What the core schema of YAML 1.2 takes a plain scalar for."""
+
+    RULES = (
+        ("null", r"~|null|Null|NULL|", lambda it: None),
+        ("bool", r"true|True|TRUE|false|False|FALSE", lambda it: it.lower() == "true"),
+        ("int", r"[-+]?[0-9]+", int),
+        ("int", r"0o[0-7]+", lambda it: int(it[2:], 8)),
+        ("int", r"0x[0-9a-fA-F]+", lambda it: int(it[2:], 16)),
+        ("float", r"[-+]?(\.[0-9]+|[0-9]+(\.[0-9]*)?)([eE][-+]?[0-9]+)?", float),
+        ("float", r"[-+]?\.(inf|Inf|INF)|\.(nan|NaN|NAN)", str.lower),
+    )
+
+    @classmethod
+    def value(cls, text):
+        for tag, rule, read in cls.RULES:
+            if re.fullmatch(rule, text):
+                return tag, read(text)
+        return "str", text
+
+
+def value_of(node, plain):
+    """The value of a node, with what a function takes plain scalars for."""
+    if isinstance(node, yaml.ScalarNode):
+        return plain(node) if node.style is None else ("str", node.value)
+    if isinstance(node, yaml.SequenceNode):
+        return "seq", [value_of(it, plain) for it in node.value]
+    return "map", [(value_of(key, plain), value_of(it, plain)) for key, it in node.value]
+
+
+def older(loader, node):
+    """What YAML 1.1 takes a plain scalar for, with the truth values that PyYAML leaves out."""
+    if node.value in ("y", "Y", "n", "N"):
+        return "bool", node.value in "yY"
+    tag = loader.resolve(yaml.ScalarNode, node.value, (True, False)).rpartition(":")[2]
+    if tag in ("value", "merge", "timestamp"):
+        return tag, node.value
+    return tag, loader.construct_object(yaml.ScalarNode("tag:yaml.org,2002:" + tag, node.value))
+
+
+def read_yaml(text):
+    """As YAML 1.1 and YAML 1.2, and as the same values."""
+    shown = text.decode()
+    try:
+        loader = yaml.SafeLoader(shown)
+        while loader.check_node():
+            node = loader.get_node()
+            values = value_of(node, lambda it: older(loader, it)), value_of(node, lambda it: Newer.value(it.value))
+            if repr(values[0]) != repr(values[1]):
+                raise ValueError(f"two values: {values}")
+    except yaml.YAMLError as error:
+        raise ValueError(error) from error
+
+
+def tree_of(node):
+    """The tags and texts of a node, PyYAML's or ruamel's."""
+    if not isinstance(node.value, list):
+        return node.tag, node.value
+    return node.tag, [tuple(map(tree_of, it)) if isinstance(it, tuple) else tree_of(it) for it in node.value]
+
+
+def wrong_in_ruamel(text):
+    """What is wrong with how ruamel reads a text that was accepted: by YAML 1.2, as PyYAML does by YAML 1.1."""
+    import ruamel.yaml
+
+    try:
+        composer = ruamel.yaml.YAML(typ="safe", pure=True).get_constructor_parser(text.decode())[0].composer
+        newer = []
+        while composer.check_node():
+            newer.append(tree_of(composer.get_node()))
+        older = list(map(tree_of, yaml.compose_all(text.decode(), yaml.SafeLoader)))
+    except (ruamel.yaml.YAMLError, yaml.YAMLError) as error:
+        return [f"    {error}"]
+    return [] if newer == older else [f"    ruamel reads {newer}", f"    and PyYAML {older}"]
+
+
+READERS = {"nginx": read_nginx, "json": read_json, "jsonl": read_lines, "yaml": read_yaml}
 EXACT = ("json", "jsonl", "nginx")  # what the machine refuses the reader refuses too
 
 
@@ -297,7 +467,7 @@ def wrong_of(name, text, mistake):
     """What is wrong with a verdict."""
     if mistake and not 0 <= mistake[0] <= len(text):
         return [f"    the place {mistake[0]} is not in the text"]
-    if name == "env" or mistake and name not in EXACT:
+    if name == "env" or name == "yaml" and yaml is None or mistake and name not in EXACT:
         return []
     if mistake is None and not reads(name, text):
         return ["    its reader refuses it"]
@@ -318,8 +488,9 @@ def judged(folder, name, seed, count):
     if name == "env":
         for text in [it for it, mistake in zip(them, told) if mistake is None][:SHELL]:
             yield f"{name} of {text!r}", 0, wrong_in_shell(folder, text)
-
-
+    if name == "yaml" and yaml and not tools.lack("ruamel", "what it reads of texts that are accepted"):
+        for text in [it for it, mistake in zip(them, told) if mistake is None]:
+            yield f"{name} of {text!r}", 0, wrong_in_ruamel(text)
     if name == "nginx" and not tools.lack("nginx", "what it reads of texts that are accepted"):
         simple = [it for it, mistake in zip(them, told) if mistake is None and it.strip() and not re.search(rb"[{}]|include", it)]
         for text in simple[:SERVER]:
@@ -335,7 +506,8 @@ def main(seed="1", count=COUNT):
         for (name, text, at), mistake in zip(ROWS, told):
             is_right = (mistake and mistake[0]) == at
             results.append((f"{name} of {text[:60]!r}", 0, [] if is_right else [f"    a mistake at {at} is wanted: {mistake}"]))
-        for name in ("json", "jsonl", "env", "nginx", "csv:1", "csv:2", "csv:3"):
+        tools.lack("yaml", "what it reads of texts that are accepted")
+        for name in ("json", "jsonl", "env", "nginx", "yaml", "csv:1", "csv:2", "csv:3"):
             these = list(judged(folder, name, seed, int(count)))
             few += harness.too_few(f"texts of {name} were accepted", sum(it[1] for it in these), LEAST * int(count) // COUNT)
             results += these

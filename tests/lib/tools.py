@@ -20,6 +20,7 @@ PACKAGES = {
     "pkg-config": "pkg-config",
     "qemu-aarch64": "qemu-user",
     "qemu-x86_64": "qemu-user",
+    "ruamel": "python3-ruamel.yaml",
     "tsc": "node-typescript",
     "valgrind": "valgrind",
     "vim": "vim",
@@ -28,7 +29,7 @@ PACKAGES = {
     "yq": "yq",
     "zsh": "zsh",
 }
-MODULES = ("jsonschema", "yaml", "tomllib")  # of Python
+MODULES = ("jsonschema", "ruamel", "yaml", "tomllib")  # of Python
 SKIPPED = re.compile(r"^skipped, since (\S+) is missing: ")
 
 

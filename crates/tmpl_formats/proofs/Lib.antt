@@ -11,3 +11,8 @@ pub mod NameLemmas
 pub mod KitStringLemmas
 pub mod KitNumberLemmas
 pub mod KitValueLemmas
+pub mod YamlScalarLemmas
+pub mod YamlUnwindLemmas
+pub mod YamlNestLemmas
+pub mod YamlLineLemmas
+pub mod YamlLemmas

@@ -2,8 +2,11 @@ pub mod computed
 pub mod Csv
 pub mod Env
 pub mod Format
+pub mod Hex
 pub mod Json
 pub mod Lines
 pub mod JsonLines
 pub mod Nginx
 pub mod Name
+pub mod YamlScalar
+pub mod Yaml

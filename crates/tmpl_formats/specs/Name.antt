@@ -24,7 +24,7 @@ abbrev pub plain_named : List ℕ → Option Format
 plain_named name =
     if bytes_eq name (codes "json") then Some format.Json
     else (if bytes_eq name (codes "jsonl") then Some format.JsonLines
-    else (if bytes_eq name (codes "env") then Some format.Env else (if bytes_eq name (codes "nginx") then Some format.Nginx else None)))
+    else (if bytes_eq name (codes "env") then Some format.Env else (if bytes_eq name (codes "nginx") then Some format.Nginx else (if bytes_eq name (codes "yaml") then Some format.Yaml else None))))
 
 -- the format of a name: that of CSV has its columns
 abbrev pub format_named : List ℕ → Option Format

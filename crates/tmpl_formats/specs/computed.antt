@@ -9,3 +9,9 @@ pub mod JsonLines
 pub mod LineView
 pub mod Nginx
 pub mod Laws
+pub mod YamlNest
+pub mod YamlNestView
+pub mod YamlScalar
+pub mod YamlLine
+pub mod Yaml
+pub mod YamlView

@@ -10,6 +10,7 @@ use crate::json_lines::json_lines_mistake;
 use crate::json_text::json_mistake;
 use crate::mistake::{Mistake, earlier_of, not_utf8};
 use crate::nginx::nginx_mistake;
+use crate::yaml::yaml_mistake;
 use std::alloc::{AllocError, Global};
 
 /// Where the machine of a format refuses a text.
@@ -26,6 +27,7 @@ fn machine_mistake(
         Format::Env => Ok(env_mistake(text)),
         Format::Csv(columns) => Ok(csv_mistake(columns, text)),
         Format::Nginx => Ok(nginx_mistake(text)),
+        Format::Yaml => yaml_mistake(alloc, text),
     }
 }
 

@@ -13,4 +13,6 @@ pub enum Format {
     Csv(u32),
     /// A configuration file of nginx.
     Nginx,
+    /// YAML that readers of YAML 1.1 and YAML 1.2 read the same.
+    Yaml,
 }

@@ -305,7 +305,7 @@ fn next(passes: bool, control: Control) -> Option<Action>
 }
 
 /// The value of a hexadecimal digit, and 16 for another byte.
-fn hex_value(byte: u8) -> u8
+pub(crate) fn hex_value(byte: u8) -> u8
     ensures { result ≡ spec.hex_value byte }
 {
     match byte {

@@ -12,6 +12,10 @@ mod machine;
 mod mistake;
 mod name;
 mod nginx;
+mod yaml;
+mod yaml_line;
+mod yaml_nest;
+mod yaml_scalar;
 
 pub use check::first_mistake;
 pub use format::Format;

@@ -53,13 +53,15 @@ fn plain_named(name: &[u8]) -> Option<Format>
         Some(Format::Env)
     } else if is_same(name, b"nginx") {
         Some(Format::Nginx)
+    } else if is_same(name, b"yaml") {
+        Some(Format::Yaml)
     } else {
         None
     }
 }
 
 impl Format {
-    /// The format of this name: `json`, `jsonl`, `env`, `nginx`, or `csv:N` of N columns.
+    /// The format of this name: `json`, `jsonl`, `env`, `nginx`, `yaml`, or `csv:N` of N columns.
     pub fn named(name: &[u8]) -> Option<Format>
         ensures { result ≡ format_named name.now }
     {

@@ -10,6 +10,7 @@ fn format_of(name: &str) -> Option<Format> {
         "jsonl" => Some(Format::JsonLines),
         "env" => Some(Format::Env),
         "nginx" => Some(Format::Nginx),
+        "yaml" => Some(Format::Yaml),
         _ => Some(Format::Csv(name.strip_prefix("csv:")?.parse::<u32>().ok()?)),
     }
 }
