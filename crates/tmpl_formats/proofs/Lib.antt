@@ -11,3 +11,7 @@ pub mod NameLemmas
 pub mod KitStringLemmas
 pub mod KitNumberLemmas
 pub mod KitValueLemmas
+pub mod PatternPlaces
+pub mod PatternLemmas
+pub mod PatternSearchLemmas
+pub mod PatternRunLemmas

@@ -7,3 +7,4 @@ pub mod Lines
 pub mod JsonLines
 pub mod Nginx
 pub mod Name
+pub mod Pattern

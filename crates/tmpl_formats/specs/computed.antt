@@ -9,3 +9,6 @@ pub mod JsonLines
 pub mod LineView
 pub mod Nginx
 pub mod Laws
+pub mod PatternView
+pub mod PatternMarks
+pub mod SearchView

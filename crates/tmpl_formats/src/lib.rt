@@ -12,8 +12,12 @@ mod machine;
 mod mistake;
 mod name;
 mod nginx;
+mod pattern;
+mod pattern_search;
 
 pub use check::first_mistake;
 pub use format::Format;
 pub use laws::refused_prefix;
 pub use mistake::Mistake;
+pub use pattern::{Class, Node, Pattern, Span};
+pub use pattern_search::has_match;
