@@ -15,3 +15,9 @@ pub mod PatternPlaces
 pub mod PatternLemmas
 pub mod PatternSearchLemmas
 pub mod PatternRunLemmas
+pub mod PatternTextLemmas
+pub mod PatternClassLemmas
+pub mod PatternPartsLemmas
+pub mod PatternTreeLemmas
+pub mod PatternLinesLemmas
+pub mod LinesLoopLemmas

@@ -8,3 +8,5 @@ pub mod JsonLines
 pub mod Nginx
 pub mod Name
 pub mod Pattern
+pub mod PatternText
+pub mod PatternLines

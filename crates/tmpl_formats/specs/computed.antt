@@ -12,3 +12,5 @@ pub mod Laws
 pub mod PatternView
 pub mod PatternMarks
 pub mod SearchView
+pub mod PatternRows
+pub mod Lines

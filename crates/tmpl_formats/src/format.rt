@@ -1,7 +1,9 @@
 //! The formats of output.
 
+use crate::pattern::Pattern;
+
 /// A format of output.
-#[derive(Clone, Copy, Debug, PartialEq, Eq)]
+#[derive(Drop)]
 pub enum Format {
     /// One JSON value, with white space around it.
     Json,
@@ -13,4 +15,6 @@ pub enum Format {
     Csv(u32),
     /// A configuration file of nginx.
     Nginx,
+    /// Lines in each of which there is a match of this pattern.
+    Lines(Pattern),
 }

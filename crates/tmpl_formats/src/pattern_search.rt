@@ -7,7 +7,7 @@ ghost use Rattle.tmpl_formats.specs.computed.PatternMarks.{passes, ends, shifted
 ghost use Rattle.tmpl_formats.specs.computed.PatternMarks as computed;
 ghost use Rattle.tmpl_formats.specs.computed.SearchView.{search_of};
 
-use crate::pattern::{Node, copy, holds};
+use crate::pattern::{Node, Pattern, copy, holds};
 use std::alloc::{AllocError, Global};
 
 /// A character, and whether it is the first of the text.
@@ -165,7 +165,7 @@ impl Search {
 }
 
 /// Whether some part of the text is a match.
-pub fn has_match(alloc: Global, root: &Node, text: &str) -> Result<bool, AllocError>
+pub(crate) fn has_match(alloc: Global, root: &Node, text: &str) -> Result<bool, AllocError>
     ensures { IfOk result (λ found. IsTrue found ↔ Finds (tree_of root.now) (chars text.now)) }
 {
     let mut search = Search::new(copy(alloc, root)?);
@@ -173,4 +173,13 @@ pub fn has_match(alloc: Global, root: &Node, text: &str) -> Result<bool, AllocEr
         search.read(u32::from(character));
     }
     Ok(search.has_found())
+}
+
+impl Pattern {
+    /// Whether some part of the text is a match.
+    pub fn is_in(&self, alloc: Global, text: &str) -> Result<bool, AllocError>
+        ensures { IfOk result (λ found. IsTrue found ↔ Finds (tree_of self.now.root) (chars text.now)) }
+    {
+        has_match(alloc, &self.root, text)
+    }
 }
