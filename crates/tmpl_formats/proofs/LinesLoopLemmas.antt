@@ -5,7 +5,6 @@ use Rattle.std.proofs.lemmas.List.{at_drop_more, at_drop_all, take_more, get_or-
 use Rattle.std.proofs.lemmas.Str.{IsUtf8-from_is_utf8, is_utf8-from_IsUtf8}
 use Rattle.std.specs.Prelude.{◌↔◌, IsTrue, option_map}
 use Rattle.std.specs.Str.{IsUtf8, chars, is_utf8}
-use Rattle.std.specs.Str.Lossy.{utf8_valid_len}
 use Rattle.tmpl_formats.proofs.PatternLinesLemmas.{line_within}
 use Rattle.tmpl_formats.proofs.PatternSearchLemmas.{finds_so, finds_back}
 use Rattle.tmpl_formats.specs.Pattern.{Finds}

@@ -1,14 +1,14 @@
 -- Lines without a fault have a match.
-use Rattle.std.proofs.Common.{◌≡◌, ◌≤◌, ◌<◌, ◌+◌, ◌==◌, ℕ, Bool, true, false, cond, List, [], ◌∷◌, ◌++◌, length, Option, Some, None, refl, ap, sym, ◌∙◌, subst, arith, append_assoc, length-append}
+use Rattle.std.proofs.Common.{◌≡◌, ◌≤◌, ◌+◌, ◌==◌, ℕ, Bool, true, false, cond, List, [], ◌∷◌, ◌++◌, length, Option, Some, None, refl, ap, sym, subst, arith, append_assoc, length-append}
 use Rattle.std.proofs.lemmas.Grind.{common_steps}
 use Rattle.std.proofs.lemmas.Str.{utf8_valid_len_le}
-use Rattle.std.specs.Prelude.{not, ◌&&◌, option_map}
+use Rattle.std.specs.Prelude.{not, ◌&&◌}
 use Rattle.std.specs.List.{list_all}
 use Rattle.std.specs.Str.{chars, is_utf8}
 use Rattle.std.specs.Str.Lossy.{utf8_valid_len}
 use Rattle.tmpl_formats.proofs.PatternPlaces.{append_nil}
 use Rattle.tmpl_formats.proofs.PatternSearchLemmas.{finds_so}
-use Rattle.tmpl_formats.specs.Pattern.{Tree, Finds}
+use Rattle.tmpl_formats.specs.Pattern.{Finds}
 use Rattle.tmpl_formats.specs.PatternLines.{is_inside, HaveMatch, no_line, last_line, more_lines}
 use Rattle.tmpl_formats.specs.computed.Lines.{line_fault, or_behind, last_fault, faults, lines_mistake}
 use Rattle.tmpl_formats.specs.computed.PatternMarks.{begun, finds}

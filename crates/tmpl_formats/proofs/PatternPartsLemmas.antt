@@ -1,9 +1,9 @@
 -- Repetitions and rows of parts of regular expressions.
-use Rattle.std.proofs.Common.{◌≡◌, ◌≤◌, ◌+◌, ◌-◌, ℕ, zero, suc, Bool, true, false, List, [], ◌∷◌, ◌++◌, length, map, Option, Some, None, refl, ap, sym, ◌∙◌, subst, arith}
+use Rattle.std.proofs.Common.{◌≡◌, ◌≤◌, ◌+◌, ◌-◌, ℕ, Bool, true, false, List, [], ◌∷◌, ◌++◌, length, Option, Some, None, refl, ap, sym, ◌∙◌, subst, arith}
 use Rattle.std.specs.Prelude.{IfSome}
 use Rattle.tmpl_formats.specs.Pattern as tree
 use Rattle.tmpl_formats.specs.Pattern.{Tree}
-use Rattle.tmpl_formats.specs.PatternText.{HasTimes, HasQuantifier, IsRepeated, HasSequence, HasAlternatives, sum_of, none, once, maybe, any, sum, both, either, star, plus, question, exactly, at_least, between, no_quantifier, greedy, lazy}
+use Rattle.tmpl_formats.specs.PatternText.{HasTimes, HasQuantifier, IsRepeated, none, once, maybe, any, sum, both, either, star, plus, question, exactly, at_least, between, no_quantifier, greedy, lazy}
 use Rattle.tmpl_formats.specs.computed.PatternView.{tree_of}
 use Rattle.tmpl_formats.specs.computed.PatternRows.{trees_of, joint, separator, HasPiece, HasRow, no_piece, piece, further}
 use Rattle.tmpl_formats.specs.declared.pattern.Node.{Node}

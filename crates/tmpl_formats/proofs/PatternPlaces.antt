@@ -1,5 +1,5 @@
 -- Matches by what holds behind them: at a place in a text, so that no part of the text has to be named.
-use Rattle.std.proofs.Common.{◌≡◌, ◌⊎◌, inl, inr, ℕ, zero, suc, Bool, true, List, [], ◌∷◌, ◌++◌, refl, ap, sym, ◌∙◌, subst, append_assoc}
+use Rattle.std.proofs.Common.{◌≡◌, ◌⊎◌, inl, inr, ℕ, zero, suc, true, List, [], ◌∷◌, ◌++◌, refl, ap, sym, ◌∙◌, subst, append_assoc}
 use Rattle.tmpl_formats.specs.Pattern.{Tree, Empty, One, Begin, End, Both, Either, Many, Part, Turns, Has, Finds, in_class}
 
 pub case_of : {A B C : Type 0} → A ⊎ B → (A → C) → (B → C) → C

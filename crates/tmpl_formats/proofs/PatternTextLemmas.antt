@@ -1,5 +1,5 @@
 -- Characters and numbers of regular expressions.
-use Rattle.std.proofs.Common.{◌≡◌, ◌<◌, ◌+◌, ◌*◌, ℕ, suc, List, [], ◌∷◌, Option, Some, None, refl, ap, sym, ◌∙◌, subst, arith, add-one}
+use Rattle.std.proofs.Common.{◌≡◌, ◌<◌, ◌+◌, ◌*◌, ℕ, suc, List, ◌∷◌, Option, Some, None, ap, sym, ◌∙◌, subst, add-one}
 use Rattle.std.specs.Prelude.{IfSome}
 use Rattle.tmpl_formats.specs.PatternText.{digit_value, HasDigits, no_more, one_more}
 

@@ -1,10 +1,10 @@
 -- Atoms and terms of regular expressions.
-use Rattle.std.proofs.Common.{◌≡◌, ℕ, Bool, true, false, List, [], ◌∷◌, ◌++◌, length, arith, ap, ◌∙◌, Option, Some, None, Result, Ok, Err, refl, sym, subst}
+use Rattle.std.proofs.Common.{◌≡◌, ℕ, Bool, false, List, [], ◌∷◌, ◌++◌, length, arith, ap, ◌∙◌, Option, Some, None, Result, Ok, Err, refl, sym, subst}
 use Rattle.std.specs.Prelude.{IfOk, IfSome}
 use Rattle.tmpl_formats.specs.Pattern as tree
 use Rattle.tmpl_formats.specs.Pattern.{Tree}
 use Rattle.tmpl_formats.proofs.PatternPartsLemmas.{trees-push, row-push}
-use Rattle.tmpl_formats.specs.PatternText.{HasAtom, HasTerm, HasSequence, HasAlternatives, HasQuantifier, IsRepeated, repeated, nothing, term, alternative, group, plain_group}
+use Rattle.tmpl_formats.specs.PatternText.{HasAtom, HasTerm, HasSequence, HasAlternatives, HasQuantifier, IsRepeated, repeated, nothing}
 use Rattle.tmpl_formats.specs.computed.PatternRows.{HasRow, HasPiece, no_piece, separator, trees_of}
 use Rattle.tmpl_formats.specs.computed.PatternView.{tree_of}
 use Rattle.tmpl_formats.specs.declared.pattern.Node.{Node}

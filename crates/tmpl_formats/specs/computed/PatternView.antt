@@ -1,7 +1,6 @@
 -- What the trees of regular expressions stand for.
-use Rattle.std.specs.Prelude.{ℕ, Bool, List}
+use Rattle.std.specs.Prelude.{Bool, List}
 use Rattle.tmpl_formats.specs.declared.pattern.Span.{Span}
-use Rattle.tmpl_formats.specs.declared.pattern.Class.{Class}
 use Rattle.tmpl_formats.specs.declared.pattern.Node as held
 use Rattle.tmpl_formats.specs.declared.pattern.Node.{Node}
 use Rattle.tmpl_formats.specs.Pattern as tree

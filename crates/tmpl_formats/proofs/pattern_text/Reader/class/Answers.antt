@@ -2,7 +2,6 @@ use Rattle.std.proofs.Common.{ℕ, List, ◌∷◌, sym, subst}
 use Rattle.tmpl_formats.specs.Pattern as tree
 use Rattle.tmpl_formats.specs.Pattern.{Tree}
 use Rattle.tmpl_formats.specs.PatternText.{HasAtom}
-use Rattle.tmpl_formats.specs.computed.PatternView.{tree_of}
 use Rattle.tmpl_formats.proofs.PatternTextLemmas.{with_some}
 use Rattle.tmpl_formats.proofs.PatternClassLemmas.{class_of}
 use Rattle.tmpl_formats.proofs.pattern_text.Reader.class.Goals as goal

@@ -1,4 +1,4 @@
-use Rattle.std.proofs.Common.{ℕ, List, ◌∷◌, sym, ap, ◌∙◌, subst}
+use Rattle.std.proofs.Common.{ℕ, List, sym, subst}
 use Rattle.tmpl_formats.specs.PatternText as says
 use Rattle.tmpl_formats.specs.PatternText.{HasDigits, HasEscape}
 use Rattle.tmpl_formats.proofs.PatternTextLemmas.{at_letter, with_some}

@@ -1,4 +1,3 @@
-use Rattle.std.proofs.Common.{arith}
 use Rattle.tmpl_formats.specs.PatternText.{no_more}
 use Rattle.tmpl_formats.proofs.PatternTextLemmas.{digit-at}
 use Rattle.tmpl_formats.proofs.pattern_text.Reader.hexadecimal.Goals as goal

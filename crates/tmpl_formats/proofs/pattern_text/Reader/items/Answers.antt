@@ -1,6 +1,4 @@
-use Rattle.std.proofs.Common.{ℕ, List, [], ◌∷◌, ◌++◌, refl, sym, subst}
-use Rattle.tmpl_formats.specs.PatternText.{HasItems, no_item}
-use Rattle.tmpl_formats.specs.declared.pattern.Span.{Span}
+use Rattle.std.proofs.Common.{refl}
 use Rattle.tmpl_formats.proofs.PatternClassLemmas.{items-end, items-more}
 use Rattle.tmpl_formats.proofs.pattern_text.Reader.items.Goals as goal
 

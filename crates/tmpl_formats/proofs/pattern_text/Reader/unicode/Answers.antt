@@ -1,6 +1,5 @@
 use Rattle.std.proofs.Common.{ℕ, List, ◌∷◌, refl, sym, subst}
 use Rattle.tmpl_formats.specs.PatternText.{HasDigits, HasEscape, four_digits, in_braces}
-use Rattle.tmpl_formats.proofs.PatternTextLemmas.{at_letter}
 use Rattle.tmpl_formats.proofs.pattern_text.Reader.unicode.Goals as goal
 
 pub returns-then-is_character : goal.returns-then-is_character
