@@ -8,6 +8,7 @@ import io
 import json
 import random
 import re
+import resource
 import subprocess
 import sys
 import tempfile
@@ -17,6 +18,7 @@ from tests.lib import harness, tools
 COUNT, LEAST = 4000, 800  # texts of each format, and how many of them have to be accepted
 SHELL, SERVER = 400, 100  # files that dash reads, and nginx itself
 UTF8 = "a character in UTF-8"
+STACK = 512 << 10  # bytes that the machines have
 # the name of a format, a text, and where it ceases to be of it: None where it is of it
 ROWS = [
     ("json", b"0", None), ("json", b" [1, 2.50, -0, 1e9, -3.1E+05] ", None), ("json", b'{"a":{},"b":[[]],"\\u00e9\\/":"\\n"}', None),
@@ -50,8 +52,9 @@ ROWS = [
     ("lines:^.$", "é\n\U0001f600".encode(), None), ("lines:^.$", "\u2028".encode(), 0), ("lines:^\\u{1F600}\\u00e9\\x41$", "\U0001f600\u00e9A".encode(), None),
     ("lines:^[a-c\\d_\\-]+$", b"a-b_9c\nd", 7), ("lines:^[^a-c]$", b"d\n]\na", 4), ("lines:^[^]$", b"a\n\n", 2), ("lines:[]", b"a", 0), ("lines:^[a-]$", b"-\nb", 2), ("lines:^[\\]\\b]$", b"]\n\b", None),
     ("lines:^\\w\\W\\s\\S\\D$", "_-\u00a0xy".encode(), None), ("lines:^\\S$", "\ufeff".encode(), 0), ("lines:^\\0\\t\\/\\.$", b"\0\t/.", None), ("lines:a", b"a\nb\xff", 3), ("lines:b", b"a\xff", 1), ("lines:b", b"a\n\xff", 0),
-    ("lines:" + "(?:" * 100 + "a" + ")" * 100, b"a\nb", 2), ("lines:" + "(" * 101 + "a" + ")" * 101, b"", -1), ("lines:^(?:a?){500}a{500}$", b"a" * 500, None), ("lines:" + "a" * 9000, b"a" * 8999, 0),
-    ("lines:" + "a|" * 4000 + "b", b"b\nc", 2), ("lines:" + "(?:(?:a*)*b|" * 99 + "c" + ")" * 99, b"aab\nc\nd", 6), ("lines:a{30000}", b"", -1), ("lines:((a{99}){99}){99}", b"", -1),
+    ("lines:" + "(?:" * 50 + "a" + ")" * 50, b"a\nb", 2), ("lines:" + "(" * 51 + "a" + ")" * 51, b"", -1), ("lines:^(?:a?){500}a{500}$", b"a" * 500, None), ("lines:" + "a" * 6000, b"a" * 5999, 0),
+    ("lines:" + "a|" * 4000 + "b", b"b\nc", 2), ("lines:" + "(?:(?:a*)*b|" * 49 + "c" + ")" * 49, b"aab\nc\nd", 6), ("lines:" + ("(?:" + "abcd" * 25) * 49 + ")*" * 49, b"ab\nabcd", None),
+    ("lines:^" + "(?:a|b|c|d|e|f|g|h|(?:xyz){7}|" * 49 + ")*" * 49 + "$", b"abba\ni", 5), ("lines:a{30000}", b"", -1), ("lines:((a{99}){99}){99}", b"", -1),
     *((f"lines:{it}", b"", -1) for it in ("(", ")", "a)", "a**", "a+*", "*", "^*", "$?", "[b-a]", "[a", "[\\d-z]", "[a-\\w]", "\\1", "\\-", "\\a", "\\", "\\b", "\\p{L}", "\\cA", "(?=a)", "(?<n>a)",
        "(?", "{", "a{", "a{1", "a{,2}", "a{2,1}", "]", "}", "\\x4", "\\u12", "\\u{}", "\\u{110000}", "\\ud800", "\\00")),
 ]
@@ -316,7 +319,8 @@ def asked(folder, cases):
         it.write(b"%d\n" % len(cases))
         for name, text in cases:
             it.write(b"%d\n%s%d\n%s" % (len(name.encode()), name.encode(), len(text), text))
-    ran = subprocess.run([harness.PROBE, "formats", path], stdout=subprocess.PIPE, check=True)
+    stack = lambda: resource.setrlimit(resource.RLIMIT_STACK, (STACK, STACK))
+    ran = subprocess.run([harness.PROBE, "formats", path], stdout=subprocess.PIPE, check=True, preexec_fn=stack)
     lines = ran.stdout.decode().split("\n")[:-1]
     if len(lines) != len(cases):
         raise ValueError(f"{len(lines)} lines for {len(cases)} texts")

@@ -153,7 +153,7 @@ impl<'t> Reader<'t> {
         true
     }
 
-    /// Whether there may be as many nodes more as turns of this size have, which are counted.
+    /// Whether there may be as many nodes more as turns of this size have beside the first, which are counted.
     pub(crate) fn affords(&mut self, size: usize, times: Times) -> bool
         ensures { self.new.rest.now ≡ self.old.rest.now }
     {
@@ -161,7 +161,8 @@ impl<'t> Reader<'t> {
             Some(most) => most as usize,
             None => times.least as usize + 1,
         };
-        let cost = turns.saturating_mul(size.saturating_add(2));
+        let more = turns.saturating_sub(1).saturating_mul(size);
+        let cost = more.saturating_add(turns.saturating_mul(2));
         if cost > self.left {
             return false;
         }

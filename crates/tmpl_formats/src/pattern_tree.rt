@@ -13,10 +13,10 @@ use crate::pattern_text::{Reader, has_meaning, starts};
 use std::alloc::{AllocError, Global};
 
 /// The most groups inside one another.
-const MOST_GROUPS: u32 = 100;
+const MOST_GROUPS: u32 = 50;
 
 /// The most nodes and ranges.
-const MOST_NODES: usize = 30_000;
+const MOST_NODES: usize = 20_000;
 
 impl<'t> Reader<'t> {
     /// A leaf of one character.
@@ -225,7 +225,7 @@ fn characters_of(alloc: Global, text: &str) -> Result<Vec<char>, AllocError>
 impl Pattern {
     /// Reads a regular expression of ECMA-262 with the flag `u`. None where the text is no such expression, or has what is
     /// not supported: look-around, back references, `\b`, `\B`, `\p`, `\P`, `\c`, names of groups and surrogates; or more than
-    /// 100 groups inside one another, or more than 30,000 nodes and ranges, where a repetition has as many as its turns.
+    /// 50 groups inside one another, or more than 20,000 nodes and ranges, where a repetition has as many as its turns.
     pub fn read(alloc: Global, text: &str) -> Result<Option<Pattern>, AllocError>
         ensures { IfOk result (λ read. IfSome read (λ pattern. Writes (chars text.now) (tree_of pattern.root))) }
     {
