@@ -1,6 +1,6 @@
-"""Compares the machines of tmpl_formats with readers: Python's json and csv, dash, nginx's rules and nginx itself, and PyYAML and ruamel, on texts made by random and spoiled by a few bytes. What a
+"""Compares the machines of tmpl_formats with readers: Python's json and csv, dash, nginx's rules and nginx itself, PyYAML and ruamel, on texts made by random and spoiled by a few bytes. What a
 machine accepts its reader reads, and reads as the same values; YAML is read by the rules of YAML 1.1 and of YAML 1.2, as the same values. What it refuses as JSON or a file of nginx the reader
-refuses too. No text with the prefix up to a mistake is accepted: each is tried with bytes after it. ROWS are worked out by hand from the grammars.
+refuses too. Patterns are compared with node's. No text with the prefix up to a mistake is accepted: each is tried with bytes after it. ROWS are worked out by hand from the grammars.
 
     python3 -m tests.check.formats SEED COUNT     so many texts of each format, of this seed"""
 import csv
@@ -8,6 +8,7 @@ import io
 import json
 import random
 import re
+import resource
 import subprocess
 import sys
 import tempfile
@@ -22,6 +23,7 @@ except ImportError:  # see tests/lib/tools.py
 COUNT, LEAST = 4000, 800  # texts of each format, and how many of them have to be accepted
 SHELL, SERVER = 400, 100  # files that dash reads, and nginx itself
 UTF8 = "a character in UTF-8"
+STACK = 512 << 10  # bytes that the machines have
 # the name of a format, a text, and where it ceases to be of it: None where it is of it
 ROWS = [
     ("json", b"0", None), ("json", b" [1, 2.50, -0, 1e9, -3.1E+05] ", None), ("json", b'{"a":{},"b":[[]],"\\u00e9\\/":"\\n"}', None),
@@ -65,6 +67,18 @@ ROWS = [
     ("yaml", b"--- a", 4), ("yaml", b"---a", 3), ("yaml", b"...", 1), ("yaml", b"-\n---\n---", None), ("yaml", b"- a\n---\nb: c", None), ("yaml", b"  ---", 4), ("yaml", b"a: b, c", None), ("yaml", b"a: b]", None),
     ("yaml", "é: ü\n".encode(), None), ("yaml", "a: \x85".encode(), 4), ("yaml", "a: '\u2028'".encode(), 6), ("yaml", "\ufeffa".encode(), 2), ("yaml", "# \ufffe".encode(), 4), ("yaml", b"a: \x7f", 3),
     ("yaml", b"a: '\0'", 4), ("yaml", b"a: \xff", 3), ("yaml", b"- " * 50000 + b"a", None), ("yaml", b"[" * 50000 + b"]" * 50000, None),
+    ("lines:a", b"", None), ("lines:a", b"a", None), ("lines:a", b"ba\nab\n", None), ("lines:a", b"a\nb\na", 2), ("lines:a", b"\n", 0), ("lines:a", b"a\n\n", 2),
+    ("lines:", b"\n\nx", None), ("lines:^$", b"\n\n", None), ("lines:^$", b"\na", 1), ("lines:^a$", b"a\na", None), ("lines:^a$", b"a\r\n", 0), ("lines:^a|b$", b"ax\nxb\nxa", 6),
+    ("lines:^(?:a|b)*$", b"abba\n\nabc", 6), ("lines:(^a)+b", b"ab\naab", 3), ("lines:(a|ab)(c|bcd)$", b"abcd\nac\nabd", 8), ("lines:^(a*)*b$", b"aaab\naaa", 5),
+    ("lines:^a{2,3}$", b"aa\naaa\na", 7), ("lines:^a{2,3}$", b"aaaa", 0), ("lines:^a{2,}?$", b"aaaaa\na", 6), ("lines:^a{0}$", b"\na", 1), ("lines:^ab{2}$", b"abb\nab", 4),
+    ("lines:^.$", "é\n\U0001f600".encode(), None), ("lines:^.$", "\u2028".encode(), 0), ("lines:^\\u{1F600}\\u00e9\\x41$", "\U0001f600\u00e9A".encode(), None),
+    ("lines:^[a-c\\d_\\-]+$", b"a-b_9c\nd", 7), ("lines:^[^a-c]$", b"d\n]\na", 4), ("lines:^[^]$", b"a\n\n", 2), ("lines:[]", b"a", 0), ("lines:^[a-]$", b"-\nb", 2), ("lines:^[\\]\\b]$", b"]\n\b", None),
+    ("lines:^\\w\\W\\s\\S\\D$", "_-\u00a0xy".encode(), None), ("lines:^\\S$", "\ufeff".encode(), 0), ("lines:^\\0\\t\\/\\.$", b"\0\t/.", None), ("lines:a", b"a\nb\xff", 3), ("lines:b", b"a\xff", 1), ("lines:b", b"a\n\xff", 0),
+    ("lines:" + "(?:" * 50 + "a" + ")" * 50, b"a\nb", 2), ("lines:" + "(" * 51 + "a" + ")" * 51, b"", -1), ("lines:^(?:a?){500}a{500}$", b"a" * 500, None), ("lines:" + "a" * 6000, b"a" * 5999, 0),
+    ("lines:" + "a|" * 4000 + "b", b"b\nc", 2), ("lines:" + "(?:(?:a*)*b|" * 49 + "c" + ")" * 49, b"aab\nc\nd", 6), ("lines:" + ("(?:" + "abcd" * 25) * 49 + ")*" * 49, b"ab\nabcd", None),
+    ("lines:^" + "(?:a|b|c|d|e|f|g|h|(?:xyz){7}|" * 49 + ")*" * 49 + "$", b"abba\ni", 5), ("lines:a{30000}", b"", -1), ("lines:((a{99}){99}){99}", b"", -1),
+    *((f"lines:{it}", b"", -1) for it in ("(", ")", "a)", "a**", "a+*", "*", "^*", "$?", "[b-a]", "[a", "[\\d-z]", "[a-\\w]", "\\1", "\\-", "\\a", "\\", "\\b", "\\p{L}", "\\cA", "(?=a)", "(?<n>a)",
+       "(?", "{", "a{", "a{1", "a{,2}", "a{2,1}", "]", "}", "\\x4", "\\u12", "\\u{}", "\\u{110000}", "\\ud800", "\\00")),
 ]
 BYTES = {
     "json": [b'"', b"\\", b"{", b"}", b"[", b"]", b",", b":", b"0", b"7", b"-", b".", b"e", b"u", b"d8", b"\\ud83d", b"\\udc00", b" ", b"\n", b"t", b"null", b"\xc3\xa9", b"\x80", b"\0"],
@@ -233,6 +247,26 @@ def texts(name, seed, count):
     drawn = random.Random(f"{name} {seed}")
     alphabet = BYTES[name.partition(":")[0]]
     return [spoiled(made(name, drawn).encode(), alphabet, drawn) for _ in range(count)]
+
+
+ATOMS = ["a", "b", "c", "é", "\U0001f600", ".", "\\d", "\\D", "\\w", "\\W", "\\s", "\\S", "[ab]", "[^a]", "[a-c\\d]", "[^\\s-]", "[\\]\\-b]", "[]", "[^]", "[-a]", "[é-\U0001f600]",
+         "\\x61", "\\u0062", "\\u{63}", "\\t", "\\.", "\\/", "-", " "]
+TIMES = ["", "", "", "*", "+", "?", "{2}", "{0,1}", "{1,}", "{0}", "{1,3}?", "*?", "+?", "??"]
+UNREAD = re.compile(r"\\[1-9bBpPcku]|\(\?[=!<]|\\u")  # what may be in a pattern that is valid and not read
+
+
+def a_pattern(drawn, depth=0):
+    def a_term():
+        kind = drawn.randrange(8)
+        if kind == 0:
+            return drawn.choice("^$")
+        atom = drawn.choice(["(", "(?:"]) + a_pattern(drawn, depth + 1) + ")" if kind < 3 and depth < 3 else drawn.choice(ATOMS)
+        return atom + drawn.choice(TIMES)
+    return "|".join("".join(a_term() for _ in range(drawn.randrange(4))) for _ in range(drawn.choice([1, 1, 2, 3])))
+
+
+def a_line(drawn):
+    return "".join(drawn.choices(["a", "a", "b", "c", "é", "1", "-", "\t", " ", ".", "]", "\U0001f600", "\u2028"], k=drawn.randrange(7)))
 
 
 # ---- readers: each raises ValueError where it reads no such text
@@ -454,8 +488,9 @@ def asked(folder, cases):
     with open(path, "wb") as it:
         it.write(b"%d\n" % len(cases))
         for name, text in cases:
-            it.write(b"%d\n%s%d\n%s" % (len(name), name.encode(), len(text), text))
-    ran = subprocess.run([harness.PROBE, "formats", path], stdout=subprocess.PIPE, check=True)
+            it.write(b"%d\n%s%d\n%s" % (len(name.encode()), name.encode(), len(text), text))
+    stack = lambda: resource.setrlimit(resource.RLIMIT_STACK, (STACK, STACK))
+    ran = subprocess.run([harness.PROBE, "formats", path], stdout=subprocess.PIPE, check=True, preexec_fn=stack)
     lines = ran.stdout.decode().split("\n")[:-1]
     if len(lines) != len(cases):
         raise ValueError(f"{len(lines)} lines for {len(cases)} texts")
@@ -497,6 +532,30 @@ def judged(folder, name, seed, count):
             yield f"{name} of {text!r}", 0, wrong_in_nginx(folder, text)
 
 
+SEARCH = """
+const cases = JSON.parse(require("fs").readFileSync(0));
+const found = ([pattern, lines]) => { let it; try { it = new RegExp(pattern, "u"); } catch (e) { return null; } return lines.map((line) => it.test(line)); };
+console.log(JSON.stringify(cases.map(found)));"""
+
+
+def searched(folder, seed, count):
+    """Of random patterns and lines: whether node finds a match in the same lines, and has each pattern that is read. A few patterns are spoiled."""
+    drawn = random.Random(f"patterns {seed}")
+    spoils = ["(", ")", "[", "]", "{", "}", "*", "?", "|", "\\", "^", "-", "1", "a", ","]
+    patterns = [a_pattern(drawn) for _ in range(count)]
+    patterns += [spoiled(a_pattern(drawn).encode(), [it.encode() for it in spoils], drawn).decode(errors="ignore") for _ in range(count)]
+    cases = [(it, [a_line(drawn) for _ in range(4)]) for it in patterns]
+    ran = subprocess.run(["node", "-e", SEARCH], input=json.dumps(cases).encode(), stdout=subprocess.PIPE, check=True)
+    told = iter(asked(folder, [(f"lines:{pattern}", line.encode() + b"\n") for pattern, lines in cases for line in lines]))
+    for (pattern, lines), wanted in zip(cases, json.loads(ran.stdout)):
+        these = [next(told) for _ in lines]
+        if these[0] and these[0][0] == -1:
+            is_right = wanted is None or UNREAD.search(pattern)
+        else:
+            is_right = wanted is not None and [it is None for it in these] == wanted
+        yield f"lines:{pattern!r} over {lines}", int(is_right and wanted is not None), [] if is_right else [f"    node finds {wanted}, and not {these}"]
+
+
 def main(seed="1", count=COUNT):
     if not harness.is_built(harness.PROBE):
         return harness.closing(0, 1)
@@ -510,6 +569,10 @@ def main(seed="1", count=COUNT):
         for name in ("json", "jsonl", "env", "nginx", "yaml", "csv:1", "csv:2", "csv:3"):
             these = list(judged(folder, name, seed, int(count)))
             few += harness.too_few(f"texts of {name} were accepted", sum(it[1] for it in these), LEAST * int(count) // COUNT)
+            results += these
+        if not tools.lack("node", "whether the same patterns have matches"):
+            these = list(searched(folder, seed, int(count)))
+            few += harness.too_few("patterns were read", sum(it[1] for it in these), int(count))
             results += these
     passed, failed, _ = harness.tally(results)
     return harness.closing(passed, failed + few)

@@ -1,7 +1,7 @@
 -- The text of a render is given only where it is of the format that is asked for.
-use Rattle.std.specs.Prelude.{◌≡◌, ◌≢◌, ◌⊎◌, ℕ, [], ◌∷◌, Some, false}
+use Rattle.std.specs.Prelude.{◌≡◌, ◌≢◌, ◌⊎◌, ℕ, [], ◌∷◌, false}
 use Rattle.tmpl_formats.specs.Format.{IsOf}
-use Rattle.tmpl_formats.specs.Name.{format_named}
+use Rattle.tmpl_formats.specs.Name.{IsNamed}
 use Rattle.tmpl_formats.specs.declared.format.Format.{Format}
 use Rattle.tmpl_tool.specs.Outcome.{Answer}
 use Rattle.tmpl_tool.specs.Source.{Bytes}
@@ -10,7 +10,7 @@ use Rattle.tmpl_c.specs.Texts.{Holds}
 
 -- there is a format of this name, and the text is of it
 abbrev pub IsOfNamed : Bytes → Bytes → Type 0
-IsOfNamed word text = (format : Format) × (format_named word ≡ Some format) × IsOf format text
+IsOfNamed word text = (format : Format) × IsNamed word format × IsOf format text
 
 -- nothing is given, and a line says why
 abbrev pub held_back : Bytes → Answer

@@ -43,7 +43,7 @@ fn unknown_line(alloc: Global) -> Result<String, AllocError> {
 fn line_about(alloc: Global, word: &[u8], text: &[u8]) -> Result<Option<String>, AllocError>
     ensures { IfOk result (λ line. line ≡ None → IsOfNamed word.now text.now) }
 {
-    let Some(format) = Format::named(word) else {
+    let Some(format) = Format::named(alloc, word)? else {
         return Ok(Some(unknown_line(alloc)?));
     };
     match first_mistake(alloc, &format, text)? {

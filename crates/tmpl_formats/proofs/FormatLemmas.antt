@@ -11,6 +11,7 @@ use Rattle.tmpl_formats.proofs.KitValueLemmas.{json_read}
 use Rattle.tmpl_formats.proofs.JsonLinesLemmas.{json_lines_within}
 use Rattle.tmpl_formats.proofs.NginxLemmas.{nginx_within}
 use Rattle.tmpl_formats.proofs.YamlLemmas.{yaml_within}
+use Rattle.tmpl_formats.proofs.PatternLinesLemmas.{lines_within, lines_mistake_within}
 use Rattle.tmpl_formats.proofs.MachineLemmas.{mistake_within, mistake-same}
 use Rattle.tmpl_formats.specs.Format.{IsOf, HasForm}
 use Rattle.tmpl_formats.specs.computed.Format.{machine_mistake, utf8_mistake, earlier, mistake_of}
@@ -21,6 +22,7 @@ use Rattle.tmpl_formats.specs.computed.Json as json
 use Rattle.tmpl_formats.specs.computed.JsonLines as lines
 use Rattle.tmpl_formats.specs.computed.Nginx as nginx
 use Rattle.tmpl_formats.specs.computed.Yaml as yaml
+use Rattle.tmpl_formats.specs.computed.PatternView.{marks_of}
 use Rattle.tmpl_formats.specs.declared.format.Format.{Format}
 use Rattle.tmpl_formats.specs.declared.format.Format.TheVariants as format
 use Rattle.tmpl_formats.specs.declared.mistake.Mistake.{Mistake}
@@ -71,6 +73,7 @@ has_form format.Env text h = env_within text h
 has_form (format.Csv columns) text h = csv_within columns text h
 has_form format.Nginx text h = nginx_within text h
 has_form format.Yaml text h = yaml_within text h
+has_form (format.Lines pattern) text h = lines_within (marks_of pattern.root) text h
 
 machine_within : (asked : Format) (text : List ℕ) (n : ℕ) → machine_mistake asked text ≡ Some n → n ≤ length text
 machine_within format.Json text n e = mistake_within json.step json.ends text json.start n e
@@ -79,6 +82,7 @@ machine_within format.Env text n e = mistake_within env.step env.ends text (env.
 machine_within (format.Csv columns) text n e = mistake_within csv.step csv.ends text (csv.start columns) n e
 machine_within format.Nginx text n e = mistake_within nginx.step nginx.ends text nginx.start n e
 machine_within format.Yaml text n e = mistake_within yaml.step yaml.ends text yaml.start n e
+machine_within (format.Lines pattern) text n e = lines_mistake_within (marks_of pattern.root) text n e
 
 is_of : (asked : Format) (text : List ℕ) → mistake_of asked text ≡ None → IsOf asked text
 is_of asked text h =
@@ -109,3 +113,4 @@ refuses-prefix format.Env text more place e lt = mistake-same env.step env.ends 
 refuses-prefix (format.Csv columns) text more place e lt = mistake-same csv.step csv.ends text more (csv.start columns) place e lt
 refuses-prefix format.Nginx text more place e lt = mistake-same nginx.step nginx.ends text more nginx.start place e lt
 refuses-prefix format.Yaml text more place e lt = mistake-same yaml.step yaml.ends text more yaml.start place e lt
+refuses-prefix (format.Lines pattern) text more place e lt = tt

@@ -16,3 +16,13 @@ pub mod YamlUnwindLemmas
 pub mod YamlNestLemmas
 pub mod YamlLineLemmas
 pub mod YamlLemmas
+pub mod PatternPlaces
+pub mod PatternLemmas
+pub mod PatternSearchLemmas
+pub mod PatternRunLemmas
+pub mod PatternTextLemmas
+pub mod PatternClassLemmas
+pub mod PatternPartsLemmas
+pub mod PatternTreeLemmas
+pub mod PatternLinesLemmas
+pub mod LinesLoopLemmas

@@ -7,6 +7,8 @@ use Rattle.tmpl_formats.specs.Json.{IsJson}
 use Rattle.tmpl_formats.specs.JsonLines.{IsJsonLines}
 use Rattle.tmpl_formats.specs.Nginx.{IsNginx}
 use Rattle.tmpl_formats.specs.Yaml.{IsYaml}
+use Rattle.tmpl_formats.specs.PatternLines.{HaveMatch}
+use Rattle.tmpl_formats.specs.computed.PatternView.{tree_of}
 use Rattle.tmpl_formats.specs.declared.format.Format.{Format}
 use Rattle.tmpl_formats.specs.declared.format.Format.TheVariants as format
 
@@ -18,6 +20,7 @@ HasForm format.Env text = IsEnv text
 HasForm (format.Csv columns) text = IsCsv columns text
 HasForm format.Nginx text = IsNginx text
 HasForm format.Yaml text = IsYaml text
+HasForm (format.Lines pattern) text = HaveMatch (tree_of pattern.root) text
 
 pub record IsOf (asked : Format) (text : List ℕ) : Type 0 where
   pub utf8 : IsUtf8 text

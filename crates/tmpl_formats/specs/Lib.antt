@@ -10,3 +10,6 @@ pub mod Nginx
 pub mod Name
 pub mod YamlScalar
 pub mod Yaml
+pub mod Pattern
+pub mod PatternText
+pub mod PatternLines

@@ -8,6 +8,7 @@ use crate::env::env_mistake;
 use crate::format::Format;
 use crate::json_lines::json_lines_mistake;
 use crate::json_text::json_mistake;
+use crate::lines::lines_mistake;
 use crate::mistake::{Mistake, earlier_of, not_utf8};
 use crate::nginx::nginx_mistake;
 use crate::yaml::yaml_mistake;
@@ -21,13 +22,14 @@ fn machine_mistake(
 ) -> Result<Option<Mistake>, AllocError>
     ensures { IfOk result (λ m. option_map (λ m. m.offset) m ≡ computed.machine_mistake format.now text.now) }
 {
-    match *format {
+    match format {
         Format::Json => json_mistake(alloc, text),
         Format::JsonLines => json_lines_mistake(alloc, text),
         Format::Env => Ok(env_mistake(text)),
-        Format::Csv(columns) => Ok(csv_mistake(columns, text)),
+        Format::Csv(columns) => Ok(csv_mistake(*columns, text)),
         Format::Nginx => Ok(nginx_mistake(text)),
         Format::Yaml => yaml_mistake(alloc, text),
+        Format::Lines(pattern) => lines_mistake(alloc, pattern, text),
     }
 }
 

@@ -1,7 +1,9 @@
 //! The formats of output.
 
+use crate::pattern::Pattern;
+
 /// A format of output.
-#[derive(Clone, Copy, Debug, PartialEq, Eq)]
+#[derive(Drop)]
 pub enum Format {
     /// One JSON value, with white space around it.
     Json,
@@ -15,4 +17,6 @@ pub enum Format {
     Nginx,
     /// YAML that readers of YAML 1.1 and YAML 1.2 read the same.
     Yaml,
+    /// Lines in each of which there is a match of this pattern.
+    Lines(Pattern),
 }

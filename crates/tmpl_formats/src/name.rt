@@ -1,9 +1,13 @@
 //! The names of formats.
-ghost use Rattle.std.specs.Prelude.{◌≡◌};
+ghost use Rattle.std.specs.Prelude.{◌≡◌, ◌++◌, false, codes, nat_eq, IfOk, IfSome};
+ghost use Rattle.std.specs.List.{starts_with};
 ghost use Rattle.std.specs.Str.{bytes_eq};
-ghost use Rattle.tmpl_formats.specs.Name.{with_digit, columns_of, plain_named, format_named};
+ghost use Rattle.tmpl_formats.specs.Name.{with_digit, columns_of, plain_named, format_named, IsNamed};
 
 use crate::format::Format;
+use crate::pattern::Pattern;
+use std::alloc::{AllocError, Global};
+use std::str::from_utf8;
 
 /// One digit more of a number of columns.
 fn with_digit(columns: u32, byte: u8) -> Option<u32>
@@ -60,18 +64,42 @@ fn plain_named(name: &[u8]) -> Option<Format>
     }
 }
 
-impl Format {
-    /// The format of this name: `json`, `jsonl`, `env`, `nginx`, `yaml`, or `csv:N` of N columns.
-    pub fn named(name: &[u8]) -> Option<Format>
-        ensures { result ≡ format_named name.now }
-    {
-        if name.starts_with(b"csv:") {
-            match columns_of(&name[4..]) {
-                Some(columns) => Some(Format::Csv(columns)),
-                None => None,
-            }
-        } else {
-            plain_named(name)
+/// The format of a name that has no pattern.
+fn simply_named(name: &[u8]) -> Option<Format>
+    ensures { result ≡ format_named name.now }
+{
+    if name.starts_with(b"csv:") {
+        match columns_of(&name[4..]) {
+            Some(columns) => Some(Format::Csv(columns)),
+            None => None,
         }
+    } else {
+        plain_named(name)
+    }
+}
+
+/// Lines with a match of the pattern that this writes.
+fn lines_named(alloc: Global, written: &[u8]) -> Result<Option<Format>, AllocError>
+    ensures { IfOk result (λ read. IfSome read (λ format. IsNamed (codes "lines:" ++ written.now) format)) }
+{
+    let Ok(text) = from_utf8(written) else {
+        return Ok(None);
+    };
+    let Some(pattern) = Pattern::read(alloc, text)? else {
+        return Ok(None);
+    };
+    Ok(Some(Format::Lines(pattern)))
+}
+
+impl Format {
+    /// The format of this name: `json`, `jsonl`, `env`, `nginx`, `yaml`, `csv:N` of N columns, or `lines:PATTERN`.
+    pub fn named(alloc: Global, name: &[u8]) -> Result<Option<Format>, AllocError>
+        ensures named { IfOk result (λ read. IfSome read (λ format. IsNamed name.now format)) }
+        ensures no_pattern { starts_with nat_eq name.now (codes "lines:") ≡ false → IfOk result (λ read. read ≡ format_named name.now) }
+    {
+        if name.starts_with(b"lines:") {
+            return lines_named(alloc, &name[6..]);
+        }
+        Ok(simply_named(name))
     }
 }

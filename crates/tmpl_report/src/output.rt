@@ -54,7 +54,7 @@ fn add_written<'a>(
 ) -> Result<(), AllocError>
     ensures { OnOk result (AddsBroken findings.old findings.new) }
 {
-    let Some(format) = Format::named(word.as_bytes()) else {
+    let Some(format) = Format::named(alloc, word.as_bytes())? else {
         return Ok(());
     };
     let Some(set) = set_of(alloc, hash, sources)? else {

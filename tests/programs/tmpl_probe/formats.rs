@@ -1,10 +1,19 @@
 //! Texts of formats.
 use crate::reader::Reader;
 use std::io::{self, BufWriter, Write};
-use tmpl_formats::{Format, Mistake, first_mistake};
+use std::alloc::{AllocError, Global};
+use tmpl_formats::{Format, Mistake, Pattern, first_mistake};
 
-/// The format of a name, with a number after the name of CSV.
-fn format_of(name: &str) -> Option<Format> {
+/// The format of a name, with any number after the name of CSV.
+fn format_of(alloc: Global, name: &str) -> Result<Option<Format>, AllocError> {
+    if let Some(pattern) = name.strip_prefix("lines:") {
+        return Ok(Pattern::read(alloc, pattern)?.map(Format::Lines));
+    }
+    Ok(plain_format(name))
+}
+
+/// .. of a name without a pattern.
+fn plain_format(name: &str) -> Option<Format> {
     match name {
         "json" => Some(Format::Json),
         "jsonl" => Some(Format::JsonLines),
@@ -34,8 +43,9 @@ pub(crate) fn put_mistakes(rt: &HostRuntime, bytes: &[u8]) -> io::Result<bool> {
         let (Some(name), Some(text)) = (reader.text(), reader.bytes()) else {
             return Ok(false);
         };
-        let Some(format) = format_of(name) else {
-            return Ok(false);
+        let Some(format) = format_of(rt.alloc(), name)? else {
+            writeln!(out, "-1 no such format")?;
+            continue;
         };
         put_mistake(&mut out, first_mistake(rt.alloc(), &format, text)?)?;
     }

@@ -6,8 +6,10 @@ use Rattle.tmpl_formats.specs.computed.Csv.{csv_mistake}
 use Rattle.tmpl_formats.specs.computed.Env.{env_mistake}
 use Rattle.tmpl_formats.specs.computed.Json.{json_mistake}
 use Rattle.tmpl_formats.specs.computed.JsonLines.{json_lines_mistake}
+use Rattle.tmpl_formats.specs.computed.Lines.{lines_mistake}
 use Rattle.tmpl_formats.specs.computed.Nginx.{nginx_mistake}
 use Rattle.tmpl_formats.specs.computed.Yaml.{yaml_mistake}
+use Rattle.tmpl_formats.specs.computed.PatternView.{marks_of}
 use Rattle.tmpl_formats.specs.declared.format.Format.{Format}
 use Rattle.tmpl_formats.specs.declared.format.Format.TheVariants as format
 
@@ -19,6 +21,7 @@ machine_mistake format.Env text = env_mistake text
 machine_mistake (format.Csv columns) text = csv_mistake columns text
 machine_mistake format.Nginx text = nginx_mistake text
 machine_mistake format.Yaml text = yaml_mistake text
+machine_mistake (format.Lines pattern) text = lines_mistake (marks_of pattern.root) text
 
 -- the text is no UTF-8 from there on
 abbrev pub utf8_mistake : List ℕ → Option ℕ
