@@ -16,7 +16,7 @@ use crate::stop::Stop;
 use crate::stops::with_stops;
 use crate::words::{Request, command, request_of};
 use clap::error::ErrorKind;
-use std::alloc::Global;
+use std::alloc::{AllocError, Global};
 use std::env;
 use std::io::{ErrorKind as IoErrorKind, Write};
 use std::process::ExitCode;
@@ -77,7 +77,7 @@ fn check(rt: &HostRuntime, request: &Request<'_>) -> Result<u8, Stop> {
     if request.is_to_infer {
         return infer(rt, request);
     }
-    if !can_look_at_output(request) {
+    if !can_look_at_output(rt.alloc(), request)? {
         return Err(Stop::Words);
     }
     let sources = load_all(rt, request)?;
@@ -106,13 +106,13 @@ fn called_in<'x>(sources: &'x Sources<'x>) -> &'x [Source<'x>] {
 }
 
 /// Whether the name of the format is one, and there is something to render over; so too where none is asked for.
-fn can_look_at_output(request: &Request<'_>) -> bool {
+fn can_look_at_output(alloc: Global, request: &Request<'_>) -> Result<bool, AllocError> {
     match request.question.writes {
         Some(word) => {
             let is_over = request.data_file.is_some() || request.schema_file.is_some();
-            is_over && Written::named(word.as_bytes()).is_some()
+            Ok(is_over && Written::named(alloc, word.as_bytes())?.is_some())
         }
-        None => true,
+        None => Ok(true),
     }
 }
 

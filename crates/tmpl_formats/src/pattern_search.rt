@@ -1,5 +1,5 @@
 //! The search for a match, by marks in the tree: one pass over the tree for each character.
-ghost use Rattle.std.specs.Prelude.{◌≡◌, ◌&&◌, ◌↔◌, not, false, IfOk, IsTrue};
+ghost use Rattle.std.specs.Prelude.{◌≡◌, ◌||◌, ◌&&◌, ◌↔◌, not, false, IfOk, IsTrue};
 ghost use Rattle.std.specs.Str.{chars};
 ghost use Rattle.tmpl_formats.specs.Pattern.{Finds};
 ghost use Rattle.tmpl_formats.specs.computed.PatternView.{marks_of, tree_of};
@@ -22,6 +22,23 @@ struct Step {
 struct Flow {
     before: bool,
     behind: bool,
+}
+
+/// A place that is not reached.
+const NOWHERE: Flow = Flow {
+    before: false,
+    behind: false,
+};
+
+/// Whether one of two places is reached.
+fn either_of(a: Flow, b: Flow) -> Flow
+    ensures before { result.before ≡ (a.before || b.before) }
+    ensures behind { result.behind ≡ (a.behind || b.behind) }
+{
+    Flow {
+        before: a.before || b.before,
+        behind: a.behind || b.behind,
+    }
 }
 
 /// Whether a character may be read at this leaf; it is marked then.
@@ -52,10 +69,7 @@ fn shift(node: &mut Node, step: Step, enters: Flow) -> Flow
             before: enters.before && step.is_first,
             behind: false,
         },
-        Node::End => Flow {
-            before: false,
-            behind: false,
-        },
+        Node::End => NOWHERE,
         Node::Both(first, second) => {
             let between = shift(first, step, enters);
             shift(second, step, between)
@@ -63,10 +77,7 @@ fn shift(node: &mut Node, step: Step, enters: Flow) -> Flow
         Node::Either(one, other) => {
             let a = shift(one, step, enters);
             let b = shift(other, step, enters);
-            Flow {
-                before: a.before || b.before,
-                behind: a.behind || b.behind,
-            }
+            either_of(a, b)
         }
         Node::Many(turn, ended) => {
             let before = enters.before || *ended && !step.is_first;
