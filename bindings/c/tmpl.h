@@ -72,8 +72,9 @@ typedef struct tmpl_settings {
     uint8_t print;       /* 1: print the set of templates, and run nothing; the name and the data are not looked at */
     size_t output;       /* how many bytes of text a call may write; 0: any number. Where there are more it stops, gives TMPL_FULL,
                             and has written exactly those that come first. It gathers no more than one byte more than these */
-    const char *writes;  /* the format of which the text has to be: `json`, `jsonl`, `env`, `nginx`, or `csv:3` with three
-                            columns. A text that is not is not given: TMPL_FORMAT, and a line that says where */
+    const char *writes;  /* the format of which the text has to be: `json`, `jsonl`, `yaml`, `env`, `nginx`, `csv:3` with three
+                            columns, or `lines:^[a-z]+$`, lines with a match of a regular expression. A text that is not is not
+                            given: TMPL_FORMAT, and a line that says where */
     size_t writes_size;  /* how many bytes that has; 0: any text will do, and `writes` may be null */
 } tmpl_settings;
 

@@ -45,7 +45,7 @@ type Options struct {
 	Print      bool // print the set, and run nothing
 	Output     uint // how many bytes of text a render may write: a text that is longer is status 6, with those that come first; 0 for any
 	Memory     uint // how many bytes of memory the library may take to parse, to read data and to run; 0 for any
-	// Writes is the format of which the text has to be, as json, env or csv:3; empty for any. A text that is not is not given: status 8.
+	// Writes is the format of which the text has to be, as json, yaml or csv:3; empty for any. A text that is not is not given: status 8.
 	Writes string
 }
 

@@ -19,7 +19,7 @@ export interface Options {
     /** How many bytes of text a render may write: any number if left out or 0. A text that is longer is a TemplateError of status 6, with
      * the bytes that come first. */
     output?: number;
-    /** The format of which the text has to be, as `"json"`, `"env"` or `"csv:3"`: any text if left out. A text that is not is not given, and
+    /** The format of which the text has to be, as `"json"`, `"yaml"` or `"csv:3"`: any text if left out. A text that is not is not given, and
      * is a TemplateError of status 8. */
     writes?: string;
     /** How many bytes of memory the module may take for it, to parse, to read data and to run: any number if left out or 0. Where it needs more

@@ -410,7 +410,7 @@ def render(
     json.dumps takes. Options: missing_key, what a missing key gives; depth, of calls of templates, and steps (0 for the defaults);
     printed=True for the printed set; floats="text", by which a float and a Decimal of a value are the text that `str` gives, where else a
     float is refused; output, the most bytes of text, and memory, the most that the library may take to parse, to read data and to run (0
-    for any number); writes, the format of which the text has to be, as "json", "env" or "csv:3": a text that is not is not given, and is
+    for any number); writes, the format of which the text has to be, as "json", "yaml" or "csv:3": a text that is not is not given, and is
     a TemplateError of status FORMAT. Raises TemplateError, MemoryError where memory runs out, ValueError for an option out of its range, and TypeError
     for what is of another type."""
     return render_bytes(

@@ -1,6 +1,6 @@
 """Checks outputs by tmpl-check --writes: rows over data, whose place of the action and of the output were worked out by hand; and rows over a
 schema, in both directions. Of each error over a schema the data conforms, and what tmpl writes over it is refused by a reader of the
-format: Python's json and csv, and for variables the rules below with a shell. Of random data the action that is named is the one that wrote the byte: without it the output
+format: Python's json, csv and re, for variables the rules below with a shell, and for YAML PyYAML by the rules of both versions. Of random data the action that is named is the one that wrote the byte: without it the output
 is the same before that byte. TMPL and TMPL_CHECK name other builds."""
 import csv
 import io
@@ -12,6 +12,7 @@ import subprocess
 import sys
 import tempfile
 
+from tests.check import formats
 from tests.lib import harness, tools
 from tests.rows import output_rows
 
@@ -68,12 +69,25 @@ def is_env(text):
     return bool(ENV.fullmatch(text)) and told.returncode == 0 and not told.stderr and not told.stdout
 
 
+def is_yaml(text):
+    """Whether PyYAML reads it, and readers of both versions take it for the same."""
+    try:
+        formats.read_yaml(text.encode())
+        return True
+    except ValueError:
+        return False
+
+
 def is_read(kind, text):
     """Whether a reader of the format takes a text."""
     if kind == "json":
         return is_json(text)
     if kind == "jsonl":
         return all(is_json(line) for line in text.split("\n") if line.strip(" \t\r"))
+    if kind == "yaml":
+        return formats.yaml is not None and is_yaml(text)
+    if kind.startswith("lines:"):
+        return all(re.search(kind[6:], line) for line in text.removesuffix("\n").split("\n"))
     return is_csv(text, int(kind[4:])) if kind.startswith("csv:") else is_env(text)
 
 
@@ -193,6 +207,7 @@ def main():
     if not harness.is_built(harness.PROGRAM, harness.CHECKER):
         return harness.closing(0, 1)
     tools.lack("jsonschema", "whether data of counterexamples conforms")
+    tools.lack("yaml", "whether readers of YAML refuse an output")
     passed = failed = 0
     with tempfile.TemporaryDirectory(dir=harness.MEMORY) as folder:
         for part in (data_results, schema_results, refused_results, random_results):

@@ -33,6 +33,13 @@ OVER_DATA = [
     ("a value of two lines", "env", "A={{.}}\n", '"x\\ny"', ("1:8", "2:2")),
     ("two fields", "csv:2", "{{range .}}{{.}},{{len .}}\n{{end}}", '["a", "b"]', None),
     ("a comma in a field", "csv:2", "{{range .}}{{.}},{{len .}}\n{{end}}", '["a,b"]', ("1:17", "1:4")),
+    ("a word that readers take for different things", "yaml", "a: {{.}}\n", '"no"', ("1:9", "1:6")),
+    ("a quoted word", "yaml", 'a: {{printf "%q" .}}\n', '"no"', None),
+    ("a colon in a plain scalar", "yaml", "a: {{.}}\n", '"b: c"', ("1:4", "1:6")),
+    ("an item at a column that is not open", "yaml", "- a\n{{range .}} - {{.}}\n{{end}}", '["b"]', ("2:12", "2:2")),
+    ("a manifest", "yaml", "---\nkind: List\nitems:\n{{range .}}- name: {{.}}\n  port: 80\n{{end}}", '["a", "b"]', None),
+    ("lines with a match", "lines:^[a-z]+$", "{{range .}}{{.}}\n{{end}}", '["a", "bc"]', None),
+    ("a line without a match", "lines:^[a-z]+$", "{{range .}}{{.}}\n{{end}}", '["a", "b c"]', ("1:12", "2:1")),
     ("three fields", "csv:3", "{{range .}}{{.}},{{len .}},\n{{end}}", '["a"]', None),
 ]
 
@@ -50,5 +57,9 @@ OVER_SCHEMA = [
     ("a quoted field", "csv:2", LINES, '{{range .rows}}{{template "csv" .a}},{{.b}}\n{{end}}', False),
     ("a column too few", "csv:3", LINES, '{{range .rows}}{{template "csv" .a}},{{.b}}\n{{end}}', True),
     ("a line of a string", "jsonl", LISTED, "{{range .l}}{{.}}\n{{end}}", True),
+    ("a string as a plain scalar", "yaml", NAMED, "a: {{.a}}\n", True),
+    ("a string in quotes of YAML", "yaml", NAMED, 'a: {{template "yaml" .a}}\n', False),
+    ("a string as a line", "lines:^[a-z]*$", NAMED, "{{.a}}\n", True),
+    ("a count as a line", "lines:^[0-9]+$", LISTED, "{{range .l}}{{len .}}\n{{end}}", False),
     ("a line of a quoted string", "jsonl", LISTED, '{{range .l}}{{template "json" .}}\n{{end}}', False),
 ]

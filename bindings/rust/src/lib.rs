@@ -18,7 +18,7 @@ pub struct Settings<'a> {
     pub print: u8,
     /// At most this many bytes of text; 0 for any number. A text that is longer is status 6, with the bytes that come first.
     pub output: usize,
-    /// The format of which the text has to be, as `json`, `env` or `csv:3`; empty for any. A text that is not is not given: status 8.
+    /// The format of which the text has to be, as `json`, `yaml` or `csv:3`; empty for any. A text that is not is not given: status 8.
     pub writes: &'a str,
 }
 

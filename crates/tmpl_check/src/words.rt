@@ -75,7 +75,7 @@ pub(crate) fn command<'a>(alloc: Global) -> Result<Command<'a>, AllocError> {
             "With --schema: don't search for counterexamples",
         ))?
         .arg(option_arg(alloc, "writes", "FORMAT").help(
-            "With --data or --schema: report where the output is not of this format: json, jsonl, env, csv:COLUMNS, nginx",
+            "With --data or --schema: report where the output is not of this format: json, jsonl, yaml, env, nginx, csv:COLUMNS, lines:PATTERN",
         ))?
         .arg(
             option_arg(alloc, "library", "FILE")
