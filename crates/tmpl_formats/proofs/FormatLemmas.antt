@@ -22,7 +22,7 @@ use Rattle.tmpl_formats.specs.computed.Json as json
 use Rattle.tmpl_formats.specs.computed.JsonLines as lines
 use Rattle.tmpl_formats.specs.computed.Nginx as nginx
 use Rattle.tmpl_formats.specs.computed.Yaml as yaml
-use Rattle.tmpl_formats.specs.computed.PatternView.{marks_of}
+use Rattle.tmpl_formats.specs.PatternView.{marks_of}
 use Rattle.tmpl_formats.specs.declared.format.Format.{Format}
 use Rattle.tmpl_formats.specs.declared.format.Format.TheVariants as format
 use Rattle.tmpl_formats.specs.declared.mistake.Mistake.{Mistake}

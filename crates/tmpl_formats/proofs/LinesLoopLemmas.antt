@@ -11,7 +11,7 @@ use Rattle.tmpl_formats.specs.Pattern.{Finds}
 use Rattle.tmpl_formats.specs.computed.Format.{utf8_mistake}
 use Rattle.tmpl_formats.specs.computed.Lines.{line_fault, or_behind, last_fault, faults, lines_mistake}
 use Rattle.tmpl_formats.specs.computed.PatternMarks.{begun, finds}
-use Rattle.tmpl_formats.specs.computed.PatternView.{Marks, plain}
+use Rattle.tmpl_formats.specs.PatternView.{Marks, plain}
 
 -- ---- one line
 
@@ -42,13 +42,6 @@ no_match t line text r same u e both =
 pub record IsAtLine (t : Marks) (text : List ℕ) (start offset : ℕ) : Type 0 where
   pub before : start ≤ offset
   pub same : option_map (λ n. start + n) (faults t (take (offset - start) (drop start text)) (drop offset text)) ≡ lines_mistake t text
-
-map_zero : (r : Option ℕ) → option_map (λ n. 0 + n) r ≡ r
-map_zero None = refl
-map_zero (Some n) = let e : 0 + n ≡ n = omega arith in ap Some e
-
-pub line-begins : (t : Marks) (text : List ℕ) → IsAtLine t text 0 0
-line-begins t text = record { before = omega arith; same = map_zero (faults t [] text) }
 
 not_newline : (b : ℕ) → b ≢ 10 → (b == 10) ≡ false
 not_newline b h = grind (arith, common_steps)

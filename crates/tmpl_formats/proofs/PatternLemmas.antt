@@ -4,7 +4,7 @@ use Rattle.std.specs.Prelude.{not, ◌||◌, ◌&&◌}
 use Rattle.tmpl_formats.specs.Pattern as tree
 use Rattle.tmpl_formats.specs.Pattern.{Tree, in_class}
 use Rattle.tmpl_formats.proofs.PatternPlaces.{Place, Rounds, Leads, case_of}
-use Rattle.tmpl_formats.specs.computed.PatternView.{Marks, Empty, One, Begin, End, Both, Either, Many, plain}
+use Rattle.tmpl_formats.specs.PatternView.{Marks, Empty, One, Begin, End, Both, Either, Many, plain}
 use Rattle.tmpl_formats.specs.computed.PatternMarks.{passes, shifted}
 
 -- ---- tests

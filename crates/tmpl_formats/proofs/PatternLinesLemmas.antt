@@ -12,7 +12,7 @@ use Rattle.tmpl_formats.specs.Pattern.{Finds}
 use Rattle.tmpl_formats.specs.PatternLines.{is_inside, HaveMatch, no_line, last_line, more_lines}
 use Rattle.tmpl_formats.specs.computed.Lines.{line_fault, or_behind, last_fault, faults, lines_mistake}
 use Rattle.tmpl_formats.specs.computed.PatternMarks.{begun, finds}
-use Rattle.tmpl_formats.specs.computed.PatternView.{Marks, plain}
+use Rattle.tmpl_formats.specs.PatternView.{Marks, plain}
 
 fine_cases : (u f : Bool) (n : ℕ) → cond u (cond {A = Option ℕ} f None (Some 0)) (Some n) ≡ None → f ≡ true
 fine_cases true true n h = refl

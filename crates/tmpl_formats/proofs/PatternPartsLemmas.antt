@@ -4,7 +4,7 @@ use Rattle.std.specs.Prelude.{IfSome}
 use Rattle.tmpl_formats.specs.Pattern as tree
 use Rattle.tmpl_formats.specs.Pattern.{Tree}
 use Rattle.tmpl_formats.specs.PatternText.{HasTimes, HasQuantifier, IsRepeated, none, once, maybe, any, sum, both, either, star, plus, question, exactly, at_least, between, no_quantifier, greedy, lazy}
-use Rattle.tmpl_formats.specs.computed.PatternView.{tree_of}
+use Rattle.tmpl_formats.specs.PatternView.{tree_of}
 use Rattle.tmpl_formats.specs.computed.PatternRows.{trees_of, joint, separator, HasPiece, HasRow, no_piece, piece, further}
 use Rattle.tmpl_formats.specs.declared.pattern.Node.{Node}
 
@@ -33,9 +33,6 @@ pub one_maybe : (turn copy all : Tree) → all ≡ tree.Either copy tree.Empty �
 one_maybe turn copy all e same =
     let P : Tree → Type 0 = λ t. IsRepeated turn 0 (Some 1) t in
     subst P (sym (e ∙ ap (λ t. tree.Either t tree.Empty) same)) maybe
-
-pub maybe_at : (turn all : Tree) (n : ℕ) → n ≡ 1 → IsRepeated turn 0 (Some 1) all → IsRepeated turn 0 (Some n) all
-maybe_at turn all n e h = let P : ℕ → Type 0 = λ k. IsRepeated turn 0 (Some k) all in subst P (sym e) h
 
 pub more_maybes : (turn some others all : Tree) (m n count : ℕ) → m + n ≡ count → all ≡ tree.Both some others → IsRepeated turn 0 (Some m) some → IsRepeated turn 0 (Some n) others
     → IsRepeated turn 0 (Some count) all

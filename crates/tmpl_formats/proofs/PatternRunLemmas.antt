@@ -4,7 +4,7 @@ use Rattle.std.proofs.lemmas.List.{at_drop_more, at_drop_all, length_push}
 use Rattle.std.specs.Prelude.{◌↔◌, IsTrue}
 use Rattle.tmpl_formats.proofs.PatternSearchLemmas.{finds_so, finds_back}
 use Rattle.tmpl_formats.specs.Pattern.{Finds}
-use Rattle.tmpl_formats.specs.computed.PatternView.{Marks, plain}
+use Rattle.tmpl_formats.specs.PatternView.{Marks, plain}
 use Rattle.tmpl_formats.specs.computed.PatternMarks.{Search, begun, read, has_found, finds}
 
 pub finds-step : (search next : Search) (cs ys : List ℕ) (c : ℕ) (whole : Bool) → finds search (drop (length ys) cs) ≡ whole → (length ys < length cs) × (c ≡ get_or cs (length ys) c)

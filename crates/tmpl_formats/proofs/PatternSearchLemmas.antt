@@ -3,9 +3,9 @@ use Rattle.std.proofs.Common.{◌≡◌, ◌⊎◌, inl, inr, ℕ, zero, suc, Bo
 use Rattle.std.specs.Prelude.{◌||◌}
 use Rattle.tmpl_formats.proofs.PatternLemmas.{and_of, and_both, or_cases, or_left, or_right, is_nil, nil_of, not_nil, and_false, Rest, Goes, Kept, kept-first, kept-shifted, plain-shifted, reads, from_read}
 use Rattle.tmpl_formats.specs.Pattern as tree
-use Rattle.tmpl_formats.specs.Pattern.{Tree, Finds, in_class}
+use Rattle.tmpl_formats.specs.Pattern.{Tree, Finds}
 use Rattle.tmpl_formats.proofs.PatternPlaces.{case_of, Place, Rounds, Leads, Any, append_nil, finds-leads, leads-finds}
-use Rattle.tmpl_formats.specs.computed.PatternView.{Marks, Empty, One, Begin, End, Both, Either, Many, plain}
+use Rattle.tmpl_formats.specs.PatternView.{Marks, Empty, One, Begin, End, Both, Either, Many, plain}
 use Rattle.tmpl_formats.specs.computed.PatternMarks.{passes, ends, shifted, Search, begun, finds}
 
 -- ---- the end of the text

@@ -6,7 +6,7 @@ use Rattle.tmpl_formats.specs.Pattern.{Tree}
 use Rattle.tmpl_formats.proofs.PatternPartsLemmas.{trees-push, row-push}
 use Rattle.tmpl_formats.specs.PatternText.{HasAtom, HasTerm, HasSequence, HasAlternatives, HasQuantifier, IsRepeated, repeated, nothing}
 use Rattle.tmpl_formats.specs.computed.PatternRows.{HasRow, HasPiece, no_piece, separator, trees_of}
-use Rattle.tmpl_formats.specs.computed.PatternView.{tree_of}
+use Rattle.tmpl_formats.specs.PatternView.{tree_of}
 use Rattle.tmpl_formats.specs.declared.pattern.Node.{Node}
 
 -- a leaf that was made of what was read

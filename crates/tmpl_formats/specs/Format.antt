@@ -8,7 +8,7 @@ use Rattle.tmpl_formats.specs.JsonLines.{IsJsonLines}
 use Rattle.tmpl_formats.specs.Nginx.{IsNginx}
 use Rattle.tmpl_formats.specs.Yaml.{IsYaml}
 use Rattle.tmpl_formats.specs.PatternLines.{HaveMatch}
-use Rattle.tmpl_formats.specs.computed.PatternView.{tree_of}
+use Rattle.tmpl_formats.specs.PatternView.{tree_of}
 use Rattle.tmpl_formats.specs.declared.format.Format.{Format}
 use Rattle.tmpl_formats.specs.declared.format.Format.TheVariants as format
 

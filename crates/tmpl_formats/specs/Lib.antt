@@ -11,5 +11,6 @@ pub mod Name
 pub mod YamlScalar
 pub mod Yaml
 pub mod Pattern
+pub mod PatternView
 pub mod PatternText
 pub mod PatternLines

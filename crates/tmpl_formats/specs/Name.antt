@@ -4,7 +4,7 @@ use Rattle.std.specs.Char.{is_ascii_digit}
 use Rattle.std.specs.List.{starts_with}
 use Rattle.std.specs.Str.{bytes_eq, chars}
 use Rattle.tmpl_formats.specs.PatternText.{Writes}
-use Rattle.tmpl_formats.specs.computed.PatternView.{tree_of}
+use Rattle.tmpl_formats.specs.PatternView.{tree_of}
 use Rattle.tmpl_formats.specs.declared.format.Format.{Format}
 use Rattle.tmpl_formats.specs.declared.format.Format.TheVariants as format
 use Rattle.tmpl_formats.specs.declared.pattern.Pattern.{Pattern}

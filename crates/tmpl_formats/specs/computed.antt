@@ -15,7 +15,6 @@ pub mod YamlScalar
 pub mod YamlLine
 pub mod Yaml
 pub mod YamlView
-pub mod PatternView
 pub mod PatternMarks
 pub mod SearchView
 pub mod PatternRows

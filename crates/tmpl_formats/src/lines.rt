@@ -1,7 +1,7 @@
 //! Lines with a match of a regular expression.
 ghost use Rattle.std.specs.Prelude.{◌≡◌, ◌+◌, ◌<◌, ◌^◌, IfOk, option_map};
 ghost use Rattle.tmpl_formats.specs.computed.Lines as computed;
-ghost use Rattle.tmpl_formats.specs.computed.PatternView.{marks_of};
+ghost use Rattle.tmpl_formats.specs.PatternView.{marks_of};
 
 use crate::mistake::{Mistake, not_utf8};
 use crate::pattern::Pattern;

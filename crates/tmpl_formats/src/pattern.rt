@@ -1,8 +1,8 @@
 //! Regular expressions as trees.
-ghost use Rattle.std.specs.Prelude.{◌≡◌, IfOk, if◌then◌else◌};
+ghost use Rattle.std.specs.Prelude.{◌≡◌, IfOk};
 ghost use Rattle.std.specs.List.{list_any};
 ghost use Rattle.tmpl_formats.specs.Pattern.{is_in, in_class};
-ghost use Rattle.tmpl_formats.specs.computed.PatternView.{tree_of, marks_of};
+ghost use Rattle.tmpl_formats.specs.PatternView.{marks_of};
 
 use std::alloc::{AllocError, Global};
 

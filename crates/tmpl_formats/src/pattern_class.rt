@@ -3,7 +3,7 @@ ghost use Rattle.std.specs.Prelude.{◌≡◌, ℕ, List, true, ◌∷◌, ◌++
 ghost use Rattle.std.specs.Str.{byte};
 ghost use Rattle.tmpl_formats.specs.Pattern as tree;
 ghost use Rattle.tmpl_formats.specs.PatternText.{IsKind, has_hyphen, HasMember, HasItem, HasItems, HasAtom, line_ends};
-ghost use Rattle.tmpl_formats.specs.computed.PatternView.{tree_of};
+ghost use Rattle.tmpl_formats.specs.PatternView.{tree_of};
 ghost use Rattle.tmpl_formats.specs.declared.pattern.Span.{Span};
 
 use crate::pattern::{Class, Node, Span};

@@ -3,7 +3,7 @@ ghost use Rattle.std.specs.Prelude.{◌≡◌, ◌<◌, ◌≤◌, ◌+◌, ℕ,
 ghost use Rattle.std.specs.Str.{byte};
 ghost use Rattle.tmpl_formats.specs.PatternText.{HasTimes, HasQuantifier, IsRepeated};
 ghost use Rattle.tmpl_formats.specs.computed.PatternRows.{trees_of, joint, separator, HasPiece, HasRow, further};
-ghost use Rattle.tmpl_formats.specs.computed.PatternView.{tree_of};
+ghost use Rattle.tmpl_formats.specs.PatternView.{tree_of};
 
 use crate::pattern::{Node, copy};
 use crate::pattern_text::{Reader, starts};

@@ -2,7 +2,7 @@
 ghost use Rattle.std.specs.Prelude.{◌≡◌, ◌||◌, ◌&&◌, ◌↔◌, not, false, IfOk, IsTrue};
 ghost use Rattle.std.specs.Str.{chars};
 ghost use Rattle.tmpl_formats.specs.Pattern.{Finds};
-ghost use Rattle.tmpl_formats.specs.computed.PatternView.{marks_of, tree_of};
+ghost use Rattle.tmpl_formats.specs.PatternView.{marks_of, tree_of};
 ghost use Rattle.tmpl_formats.specs.computed.PatternMarks.{passes, ends, shifted, begun};
 ghost use Rattle.tmpl_formats.specs.computed.PatternMarks as computed;
 ghost use Rattle.tmpl_formats.specs.computed.SearchView.{search_of};

@@ -1,8 +1,7 @@
 //! Reading a regular expression: characters, numbers and what follows a backslash.
-ghost use Rattle.std.specs.Prelude.{◌≡◌, ◌<◌, ◌+◌, ◌*◌, ◌||◌, ◌==◌, ℕ, true, false, ◌∷◌, nat_eq, codes, IfSome, MatchOption};
-ghost use Rattle.std.specs.List.{list_any};
+ghost use Rattle.std.specs.Prelude.{◌≡◌, ◌<◌, ◌+◌, ◌*◌, ◌||◌, ◌==◌, ℕ, true, false, ◌∷◌, IfSome, MatchOption};
 ghost use Rattle.std.specs.Str.{byte};
-ghost use Rattle.tmpl_formats.specs.PatternText.{IsKind, is_syntax, digit_value, HasDigits, begins_with, begins_with_digit, is_scalar, HasEscape};
+ghost use Rattle.tmpl_formats.specs.PatternText.{is_syntax, digit_value, HasDigits, begins_with, begins_with_digit, is_scalar, HasEscape};
 
 use crate::pattern::Span;
 

@@ -1,9 +1,9 @@
 //! Reading a regular expression: atoms, terms, sequences and alternatives.
-ghost use Rattle.std.specs.Prelude.{◌≡◌, ℕ, List, Option, false, ◌∷◌, IfOk, IfSome};
+ghost use Rattle.std.specs.Prelude.{◌≡◌, ℕ, Option, false, ◌∷◌, IfOk, IfSome};
 ghost use Rattle.std.specs.Str.{byte, chars};
 ghost use Rattle.tmpl_formats.specs.Pattern as tree;
 ghost use Rattle.tmpl_formats.specs.PatternText.{single, HasAtom, HasTerm, HasSequence, HasAlternatives, HasQuantifier, IsRepeated, Writes};
-ghost use Rattle.tmpl_formats.specs.computed.PatternView.{tree_of};
+ghost use Rattle.tmpl_formats.specs.PatternView.{tree_of};
 ghost use Rattle.tmpl_formats.specs.computed.PatternRows.{HasRow, trees_of};
 
 use crate::pattern::{Node, Pattern, Span};

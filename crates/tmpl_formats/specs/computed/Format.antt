@@ -9,7 +9,7 @@ use Rattle.tmpl_formats.specs.computed.JsonLines.{json_lines_mistake}
 use Rattle.tmpl_formats.specs.computed.Lines.{lines_mistake}
 use Rattle.tmpl_formats.specs.computed.Nginx.{nginx_mistake}
 use Rattle.tmpl_formats.specs.computed.Yaml.{yaml_mistake}
-use Rattle.tmpl_formats.specs.computed.PatternView.{marks_of}
+use Rattle.tmpl_formats.specs.PatternView.{marks_of}
 use Rattle.tmpl_formats.specs.declared.format.Format.{Format}
 use Rattle.tmpl_formats.specs.declared.format.Format.TheVariants as format
 

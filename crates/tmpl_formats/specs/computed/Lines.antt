@@ -3,7 +3,7 @@ use Rattle.std.specs.Prelude.{ℕ, ◌+◌, ◌==◌, List, [], ◌∷◌, ◌++
 use Rattle.std.specs.Str.{byte, chars, is_utf8}
 use Rattle.std.specs.Str.Lossy.{utf8_valid_len}
 use Rattle.tmpl_formats.specs.computed.PatternMarks.{begun, finds}
-use Rattle.tmpl_formats.specs.computed.PatternView.{Marks}
+use Rattle.tmpl_formats.specs.PatternView.{Marks}
 
 -- where a line is no UTF-8, or has no match
 abbrev pub line_fault : Marks → List ℕ → Option ℕ

@@ -1,7 +1,7 @@
 -- A search, by marks in the tree.
 use Rattle.std.specs.Prelude.{ℕ, Bool, true, false, not, ◌||◌, ◌&&◌, List, [], ◌∷◌, if◌then◌else◌}
 use Rattle.tmpl_formats.specs.Pattern.{in_class}
-use Rattle.tmpl_formats.specs.computed.PatternView.{Marks, Empty, One, Begin, End, Both, Either, Many}
+use Rattle.tmpl_formats.specs.PatternView.{Marks, Empty, One, Begin, End, Both, Either, Many}
 
 -- whether the end of the tree is reached without a further character, if its beginning is, or from a mark. Before the first
 -- character no mark counts

@@ -2,7 +2,7 @@
 use Rattle.std.specs.Prelude.{ℕ, Bool, true, false, List, [], ◌∷◌, ◌++◌, codes, map, Option, Some, None, ◌-◌, if◌then◌else◌}
 use Rattle.tmpl_formats.specs.Pattern.{Tree, Both, Either}
 use Rattle.tmpl_formats.specs.PatternText.{HasSequence, HasAlternatives}
-use Rattle.tmpl_formats.specs.computed.PatternView.{tree_of}
+use Rattle.tmpl_formats.specs.PatternView.{tree_of}
 use Rattle.tmpl_formats.specs.declared.pattern.Node.{Node}
 
 abbrev pub trees_of : List Node → List Tree

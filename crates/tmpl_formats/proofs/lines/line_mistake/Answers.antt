@@ -1,5 +1,5 @@
 use Rattle.std.proofs.Common.{◌∙◌}
-use Rattle.tmpl_formats.specs.computed.PatternView.{marks_of}
+use Rattle.tmpl_formats.specs.PatternView.{marks_of}
 use Rattle.tmpl_formats.proofs.LinesLoopLemmas.{bad_line, good_line, no_match}
 use Rattle.tmpl_formats.proofs.lines.line_mistake.Goals as goal
 

@@ -1,7 +1,7 @@
 use Rattle.std.proofs.Common.{◌≡◌, ◌-◌, ◌+◌, ℕ, length, take, drop, Some, None, ap, sym, ◌∙◌, subst, arith, length-drop}
 use Rattle.std.proofs.lemmas.List.{length-take-le}
 use Rattle.tmpl_formats.proofs.LinesLoopLemmas.{IsAtLine, line-goes_on, line-next, line-refused, text-ends, last-line, last-fits, place-fits}
-use Rattle.tmpl_formats.specs.computed.PatternView.{marks_of}
+use Rattle.tmpl_formats.specs.PatternView.{marks_of}
 use Rattle.tmpl_formats.proofs.lines.lines_mistake.Goals as goal
 use Rattle.tmpl_formats.proofs.lines.lines_mistake.Goals.{then-byte-eq10+in_ok-mistake+in_default, else-byte-eq10}
 

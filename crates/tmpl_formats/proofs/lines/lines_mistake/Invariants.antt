@@ -1,5 +1,5 @@
 use Rattle.tmpl_formats.proofs.LinesLoopLemmas.{IsAtLine}
-use Rattle.tmpl_formats.specs.computed.PatternView.{marks_of}
+use Rattle.tmpl_formats.specs.PatternView.{marks_of}
 use Rattle.tmpl_formats.proofs.lines.lines_mistake.Given as goal
 
 abbrev pub invariant-loop-offset : goal.invariant-loop-offset

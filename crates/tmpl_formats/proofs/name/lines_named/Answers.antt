@@ -2,7 +2,7 @@ use Rattle.std.proofs.Common.{ℕ, List, subst}
 use Rattle.std.specs.Str.{chars}
 use Rattle.tmpl_formats.specs.Name.{lines}
 use Rattle.tmpl_formats.specs.PatternText.{Writes}
-use Rattle.tmpl_formats.specs.computed.PatternView.{tree_of}
+use Rattle.tmpl_formats.specs.PatternView.{tree_of}
 use Rattle.tmpl_formats.proofs.name.lines_named.Goals as goal
 
 pub returns : goal.returns

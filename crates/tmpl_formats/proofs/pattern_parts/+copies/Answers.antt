@@ -1,6 +1,6 @@
 use Rattle.std.proofs.Common.{◌/◌, ◌-◌, ap, arith}
 use Rattle.std.proofs.lemmas.Result.{IfOk-weaker}
-use Rattle.tmpl_formats.specs.computed.PatternView.{plain, tree_of}
+use Rattle.tmpl_formats.specs.PatternView.{plain, tree_of}
 use Rattle.tmpl_formats.proofs.PatternPartsLemmas.{no_turn, one_turn, more_turns}
 use Rattle.tmpl_formats.proofs.pattern_parts.+copies.Goals as goal
 

@@ -1,6 +1,6 @@
 use Rattle.std.proofs.lemmas.Result.{IfOk-weaker}
 use Rattle.tmpl_formats.specs.computed.PatternRows.{trees_of}
-use Rattle.tmpl_formats.specs.computed.PatternView.{tree_of}
+use Rattle.tmpl_formats.specs.PatternView.{tree_of}
 use Rattle.tmpl_formats.proofs.PatternPartsLemmas.{last-part, two-parts}
 use Rattle.tmpl_formats.proofs.pattern_parts.+join.Goals as goal
 

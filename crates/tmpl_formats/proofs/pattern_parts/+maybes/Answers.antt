@@ -1,6 +1,6 @@
 use Rattle.std.proofs.Common.{◌/◌, ◌-◌, arith}
 use Rattle.std.proofs.lemmas.Result.{IfOk-weaker}
-use Rattle.tmpl_formats.specs.computed.PatternView.{tree_of}
+use Rattle.tmpl_formats.specs.PatternView.{tree_of}
 use Rattle.tmpl_formats.proofs.PatternPartsLemmas.{no_maybe, more_maybes}
 use Rattle.tmpl_formats.proofs.pattern_parts.+maybes.Goals as goal
 

@@ -2,7 +2,7 @@ use Rattle.std.proofs.Common.{ℕ, Option, ap, sym, ◌∙◌, subst}
 use Rattle.tmpl_formats.specs.Pattern as tree
 use Rattle.tmpl_formats.specs.PatternText.{IsRepeated}
 use Rattle.tmpl_formats.specs.computed.PatternRows.{further}
-use Rattle.tmpl_formats.specs.computed.PatternView.{plain, tree_of}
+use Rattle.tmpl_formats.specs.PatternView.{plain, tree_of}
 use Rattle.tmpl_formats.proofs.PatternPartsLemmas.{any_turns}
 use Rattle.tmpl_formats.proofs.pattern_parts.further_of.Goals as goal
 

@@ -1,6 +1,6 @@
 use Rattle.std.proofs.Common.{ap}
 use Rattle.std.proofs.lemmas.Result.{IfOk-weaker}
-use Rattle.tmpl_formats.specs.computed.PatternView.{plain, tree_of}
+use Rattle.tmpl_formats.specs.PatternView.{plain, tree_of}
 use Rattle.tmpl_formats.proofs.PatternPartsLemmas.{one_maybe}
 use Rattle.tmpl_formats.proofs.pattern_parts.maybe.Goals as goal
 

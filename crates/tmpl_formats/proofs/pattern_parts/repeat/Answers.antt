@@ -1,5 +1,5 @@
 use Rattle.std.proofs.lemmas.Result.{IfOk-weaker}
-use Rattle.tmpl_formats.specs.computed.PatternView.{tree_of}
+use Rattle.tmpl_formats.specs.PatternView.{tree_of}
 use Rattle.tmpl_formats.proofs.PatternPartsLemmas.{all_turns}
 use Rattle.tmpl_formats.proofs.pattern_parts.repeat.Goals as goal
 

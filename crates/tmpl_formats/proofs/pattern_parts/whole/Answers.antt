@@ -1,6 +1,6 @@
 use Rattle.std.proofs.Common.{◌++◌, arith}
 use Rattle.tmpl_formats.specs.computed.PatternRows.{separator}
-use Rattle.tmpl_formats.specs.computed.PatternView.{tree_of}
+use Rattle.tmpl_formats.specs.PatternView.{tree_of}
 use Rattle.tmpl_formats.proofs.PatternPartsLemmas.{whole-row}
 use Rattle.tmpl_formats.proofs.pattern_parts.whole.Goals as goal
 

@@ -3,7 +3,7 @@ use Rattle.std.proofs.lemmas.Iterator.{YieldsList-from_chars}
 use Rattle.std.proofs.lemmas.Iterator.Consumers.{YieldsList-turn, YieldsList-end}
 use Rattle.std.specs.Str.{chars}
 use Rattle.tmpl_formats.specs.computed.PatternMarks.{finds, begun, read}
-use Rattle.tmpl_formats.specs.computed.PatternView.{marks_of}
+use Rattle.tmpl_formats.specs.PatternView.{marks_of}
 use Rattle.tmpl_formats.specs.computed.SearchView.{search_of}
 use Rattle.tmpl_formats.proofs.PatternRunLemmas.{finds-step, finds-end, decides}
 use Rattle.tmpl_formats.proofs.pattern_search.has_match.Goals as goal

@@ -1,7 +1,7 @@
 use Rattle.std.proofs.Common.{◌≡◌, length, drop}
 use Rattle.std.specs.Str.{chars}
 use Rattle.tmpl_formats.specs.computed.PatternMarks.{finds, begun}
-use Rattle.tmpl_formats.specs.computed.PatternView.{marks_of}
+use Rattle.tmpl_formats.specs.PatternView.{marks_of}
 use Rattle.tmpl_formats.specs.computed.SearchView.{search_of}
 use Rattle.tmpl_formats.proofs.pattern_search.has_match.Given as goal
 

@@ -1,6 +1,6 @@
 use Rattle.std.proofs.Common.{◌≡◌, ℕ, List, [], ◌∷◌, length, arith, refl, ◌∙◌, subst}
 use Rattle.tmpl_formats.specs.PatternText.{HasAlternatives}
-use Rattle.tmpl_formats.specs.computed.PatternView.{tree_of}
+use Rattle.tmpl_formats.specs.PatternView.{tree_of}
 use Rattle.tmpl_formats.proofs.pattern.Pattern.read.Goals as goal
 
 none_left : {A : Type 0} (xs : List A) → length xs ≡ 0 → xs ≡ []

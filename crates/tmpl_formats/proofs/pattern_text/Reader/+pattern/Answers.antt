@@ -1,9 +1,8 @@
 use Rattle.std.proofs.Common.{ℕ, List, ◌∷◌, true, false, refl, ap, sym, ◌∙◌, subst, arith}
 use Rattle.tmpl_formats.specs.Pattern as tree
-use Rattle.tmpl_formats.specs.Pattern.{Tree}
 use Rattle.tmpl_formats.specs.PatternText.{HasAtom, HasTerm, HasAlternatives, begin, end, term, alternative, group, plain_group}
 use Rattle.tmpl_formats.specs.computed.PatternRows.{HasRow, trees_of}
-use Rattle.tmpl_formats.specs.computed.PatternView.{tree_of}
+use Rattle.tmpl_formats.specs.PatternView.{tree_of}
 use Rattle.tmpl_formats.proofs.PatternTreeLemmas.{term-of, group-of, row-add, row-start, row-none}
 use Rattle.tmpl_formats.proofs.pattern_text.Reader.+pattern.Goals as goal
 
