@@ -35,7 +35,7 @@ TRIED = {
     "tmpl_values": "map_printed_out_of_order map_visited_backwards number_visited_from_one",
     "tmpl_loops": "a_body_that_sees_its_index",
     "tmpl_lex": "dash_is_a_left_marker left_marker_goes_past_a_comment vertical_tab_is_space",
-    "tmpl_formats": "a_column_too_few stack_forgotten single_quote_left_open",
+    "tmpl_formats": "a_column_too_few stack_forgotten single_quote_left_open word_of_yaml_1_1_taken marks_over_an_alternative",
     "tmpl_grammar": "range_assigns octal_escape_past_a_byte",
     "tmpl_hints": "end_told_as_a_jump broken_byte_told_by_a_mark",
     "tmpl_json_schema": "keyword_of_no_list second_type_left_out most_items_taken_for_least type_of_the_last_sample_only",
