@@ -279,7 +279,8 @@ def same_refusal(folder, title, failures):
     hold(title, "first error beside tmpl", err.decode(), told, failures)
     # what is said of it is found apart, by what begins at the same place
     hold(title, "what is said of the first error", True, bool(first) and ": " in first[5], failures)
-    places = [(int(found[2]), int(found[3])) for found in errors]
+    # that more are left out stands at the front of the file
+    places = [(int(found[2]), int(found[3])) for found in errors if not found[5].startswith("too many errors")]
     hold(title, "each place once and in order", sorted(set(places)), places, failures)
     return True
 

@@ -23,7 +23,7 @@ ROWS = [
      [f'{at}:1: {UNREADABLE}"{{{{" inside an action: is "}}}}" missing before it?' for at in range(1, 1001)] + [TOO_MANY % 5]),
     ("more than a thousand errors, and an action that can't be read", "{{f}}" * 1003 + "{{",
      [f'1:{1 + 5 * at}: {NOT_UNDERSTOOD}no function "f": write .f' for at in range(1000)] + [TOO_MANY % 4]),
-    ("more than a thousand warnings", "}}" * 1002, [f'1:{1 + 2 * at}: warning: "}}}}" closes no action: it is text' for at in range(1000)]
+    ("more than a thousand warnings", "}}{{.}}" * 1002, [f'1:{1 + 7 * at}: warning: "}}}}" closes no action: it is text' for at in range(1000)]
      + ["1:1: warning: such warnings that are left out: 2"]),
     ("more than a thousand calls of a template that is not there", '{{template "x"}}' * 1001,
      [f'1:{1 + 16 * at}: warning: no file defines the template "x"' for at in range(1000)] + ["1:1: warning: such warnings that are left out: 1"]),
@@ -322,7 +322,7 @@ root {{ key "web/root" }};
 {{.a.b-c}}
 {{end}}
 """, ["1:1: " + UNREADABLE + '">=" is no operand: write ge .age 18',
-      "2:1: " + UNREADABLE + 'unexpected "[": write index, as in index .list 0',
+      "2:1: " + UNREADABLE + 'unexpected "[": write index .list 0',
       "3:1: " + UNREADABLE + 'unexpected "!": write not .ok',
       "4:1: " + UNREADABLE + 'unexpected "-": write index .a "b-c"']),
     ("fields and numbers", """{{name}} {{.s.0}} {{1.5}}
