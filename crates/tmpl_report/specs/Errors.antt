@@ -50,10 +50,19 @@ error_of file p = record {
 }
 
 -- that there are at least so many more, where some are left out
+abbrev pub left_error : List ℕ → ℕ → Finding
+left_error file left = record {
+  file = file;
+  line = 1;
+  column = 1;
+  level = Error;
+  rule = codes "too-many-errors";
+  text = left_words left;
+  note = None;
+}
+
 abbrev pub left_in : List ℕ → ℕ → List Finding
-left_in file left =
-    if left == 0 then []
-    else record { file = file; line = 1; column = 1; level = Error; rule = codes "too-many-errors"; text = left_words left; note = None } ∷ []
+left_in file left = if left == 0 then [] else left_error file left ∷ []
 
 -- all that is reported of it: first what is refused
 abbrev pub errors_of : List ℕ → Problems → List Finding

@@ -6,7 +6,7 @@ ghost use Rattle.tmpl_values.specs.Json.{data_of, Flaw};
 ghost use Rattle.tmpl_values.specs.Value.{Value};
 ghost use Rattle.tmpl_syntax.specs.View.{set_view};
 ghost use Rattle.tmpl_report.specs.Errors.{AreErrors, AreOfData, AreOfFile, AreOfFiles, AreOfReason, AreOfSources, IsOfReason};
-ghost use Rattle.tmpl_report.specs.Errors.{error_of, errors_in, errors_of, left_in};
+ghost use Rattle.tmpl_report.specs.Errors.{error_of, errors_in, errors_of, left_error, left_in};
 ghost use Rattle.tmpl_report.specs.Finding.{Finding, has_error};
 ghost use Rattle.tmpl_report.specs.Level.{is_error};
 ghost use Rattle.tmpl_report.specs.Rendered.{IsValued};
@@ -154,15 +154,8 @@ impl<'a> Findings<'a> {
         if left == 0 {
             return Ok(());
         }
-        self.add(Entry {
-            file,
-            level: Level::Error,
-            line: 1,
-            column: 1,
-            rule: TOO_MANY_ERRORS,
-            text: left_text(alloc, left)?,
-            note: None,
-        })
+        let entry = left_entry(alloc, file, left)?;
+        self.add(entry)
     }
 
     /// Adds errors of a file.
@@ -600,6 +593,21 @@ fn data_entry<'a>(
         column: place.1,
         rule: data_rule_of(reason),
         text,
+        note: None,
+    })
+}
+
+/// That so many more errors are in a file.
+fn left_entry<'a>(alloc: Global, file: &'a str, left: usize) -> Result<Entry<'a>, AllocError>
+    ensures { IfOk result (λ entry. entry ≡ left_error file.now left) }
+{
+    Ok(Entry {
+        file,
+        level: Level::Error,
+        line: 1,
+        column: 1,
+        rule: TOO_MANY_ERRORS,
+        text: left_text(alloc, left)?,
         note: None,
     })
 }

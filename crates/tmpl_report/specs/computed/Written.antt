@@ -8,9 +8,9 @@ use Rattle.tmpl_syntax.specs.Tree.{Tree}
 use Rattle.tmpl_meaning.specs.Meaning.{Rules, ran}
 use Rattle.tmpl_meaning.specs.declared.missing_key.MissingKey.{MissingKey}
 
--- the rules of such a run: by this mode, so many steps, and 500 templates inside one another
-abbrev pub output_rules : MissingKey → ℕ → Rules
-output_rules mode steps = record { missing_key = mode; step_limit = steps; depth_limit = 500 }
+-- the rules of such a run: by this mode, 1,000,000 steps, and 500 templates inside one another
+abbrev pub output_rules : MissingKey → Rules
+output_rules mode = record { missing_key = mode; step_limit = 1000000; depth_limit = 500 }
 
 -- the run of the template of this name over a value has no fault, and writes this
 abbrev pub IsOutput : Rules → List Template → List ℕ → Value → List ℕ → Type 0

@@ -12,9 +12,6 @@ use tmpl_engine::{Data, DataFault, MissingKey, Renderer};
 use tmpl_formats::Format;
 use tmpl_syntax::Set;
 
-/// How many steps the render may take.
-const STEPS: u64 = 1_000_000;
-
 /// Adds where the output over the data ceases to be of the format.
 pub(crate) fn add_over_data<'a>(
     alloc: Global,
@@ -40,7 +37,6 @@ pub(crate) fn add_over_data<'a>(
         renderer: &renderer,
         name: asked_name(question, first),
         mode: question.mode.unwrap_or(MissingKey::Default),
-        steps: STEPS,
         format,
     };
     let Some(broken) = writer.broken_over(&tree)? else {

@@ -12,7 +12,9 @@ use tmpl_engine::{
 };
 use tmpl_formats::{Format, Mistake, first_mistake};
 
-/// How deep templates may be inside one another in a render.
+/// The limits of a render.
+const STEPS: u64 = 1_000_000;
+
 const DEPTH: u32 = 500;
 
 /// How often steps are halved: more than there are steps.
@@ -73,8 +75,6 @@ pub(super) struct Writer<'w> {
     pub(super) renderer: &'w Renderer,
     pub(super) name: &'w [u8],
     pub(super) mode: MissingKey,
-    /// How many steps a render may take.
-    pub(super) steps: u64,
     pub(super) format: &'w Format,
 }
 
@@ -88,7 +88,7 @@ pub(super) struct Broken {
 impl<'w> Writer<'w> {
     /// The output over data; none where the run has a fault or meets a limit.
     fn output_over(&self, tree: &Data) -> Result<Option<Vec<u8>>, AllocError>
-        ensures { IfOk result (λ output. IfSome output (λ bytes. IsOutput (output_rules self.now.mode self.now.steps)
+        ensures { IfOk result (λ output. IfSome output (λ bytes. IsOutput (output_rules self.now.mode)
             (templates_in self.now.renderer.now) self.now.name.now (value_of tree.now) bytes.items)) }
     {
         let mut out = Kept {
@@ -98,7 +98,7 @@ impl<'w> Writer<'w> {
         let options = Options {
             missing_key: self.mode,
             depth: DEPTH,
-            steps: self.steps,
+            steps: STEPS,
         };
         match self
             .renderer
@@ -115,7 +115,7 @@ impl<'w> Writer<'w> {
 
     /// The output over data, where it is not of the format; none also where the run has a fault or meets a limit.
     pub(super) fn broken_over(&self, tree: &Data) -> Result<Option<Broken>, AllocError>
-        ensures { IfOk result (λ found. IfSome found (λ broken. IsBroken (output_rules self.now.mode self.now.steps)
+        ensures { IfOk result (λ found. IfSome found (λ broken. IsBroken (output_rules self.now.mode)
             (templates_in self.now.renderer.now) self.now.name.now (value_of tree.now) self.now.format.now
             broken.output.items)) }
     {
@@ -148,7 +148,7 @@ impl<'w> Writer<'w> {
         let options = Options {
             missing_key: self.mode,
             depth: DEPTH,
-            steps: steps.max(1).min(self.steps),
+            steps: steps.max(1).min(STEPS),
         };
         match renderer.render(self.alloc, self.name, Some(tree), &options, &mut out) {
             Err(RenderError::OutOfMemory) => Err(AllocError),
@@ -171,7 +171,7 @@ impl<'w> Writer<'w> {
         };
         let renderer = Renderer::new(self.alloc, &spread.set)?;
         let mut few: u64 = 0;
-        let mut enough: u64 = self.steps;
+        let mut enough: u64 = STEPS;
         let mut origin = None;
         for _ in 0..MOST_HALVES {
             if enough.saturating_sub(few) <= 1 {

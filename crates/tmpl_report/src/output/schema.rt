@@ -17,10 +17,8 @@ use tmpl_formats::Format;
 use tmpl_json_schema::{Draw, Flip, LEVELS, conforms};
 use tmpl_syntax::Set;
 
-/// The most renders, the most steps of each, and the most bytes of data and output of all of them.
+/// The most renders, and the most bytes of data and output of all of them.
 const MOST_RENDERS: usize = 2_000;
-
-const STEPS: u64 = 50_000;
 
 const MOST_BYTES: usize = 8_000_000;
 
@@ -83,7 +81,6 @@ pub(crate) fn add_over_schema<'a, 's>(
             renderer: &renderer,
             name: asked_name(question, first),
             mode: question.mode.unwrap_or(MissingKey::Default),
-            steps: STEPS,
             format,
         },
         root: document,
