@@ -77,6 +77,7 @@ bench: $(PROGRAM) $(CHECKER) lib
 	python3 -m tests.bench.bench
 	python3 -m tests.bench.bench_servers
 	python3 -m tests.bench.bench_ports
+	python3 -m tests.bench.strangers
 	python3 -m tests.bench.plots
 
 # fuzzes the C library by coverage, 10,000,000 inputs, and holds what was kept against meaning.py; it needs clang with libFuzzer

@@ -1,6 +1,6 @@
-"""Measures what strangers choose: templates, data and schemas of families in which one thing is there very often. Each is run by a program of
-its own at a size and at a quarter of it, and the table of docs/SPEED.md tells the time, the bytes that are held for a byte that is given,
-and how much more a byte costs in the larger one: 1 where time is linear. Start-up, as that of an empty file, is taken off.
+"""Measures what strangers choose: templates, data and schemas of families in which one thing is there very often, and checks that fail. Each
+is run by a program of its own at a size and at a quarter of it. The table of docs/SPEED.md states the time, the bytes that are held for a
+byte of input, and how much more a byte costs in the larger one: 1 where time is linear. Start-up, as that of an empty file, is subtracted.
 
     strangers.py [--dry]
 
@@ -81,6 +81,11 @@ SCHEMAS = {
         + b'{{define "%d"}}{{end}}' % sum(1 for _ in chain(size))),
     "assignments in ranges": lambda size: (WHOLE, b"{{$x := 1}}" + repeated(b"{{range .l}}{{$x = .}}{{end}}", size)),
 }
+# templates of as many services of three lines each as fit the size: each line may fail, and counterexamples are looked for
+FAILING = {
+    "a template of 70 lines, each of which may fail": lambda size: services(23 * size // 70),
+    "a template of 700 lines, each of which may fail": lambda size: services(233 * size // 70),
+}
 WHOLE = schema_of(required=["a", "l"], properties={"a": {"type": "string"}, "l": {"type": "array", "items": {"type": "integer"}}})
 SAMPLES = {
     "maps of one key each": lambda size: b"[" + numbered(lambda at: b'{"k%d":0}' % at, size, b",") + b"]",
@@ -95,6 +100,13 @@ def chain(size):
         total += len(b'{{define "%d"}}{{template "%d" .}}{{end}}' % (number, number + 1))
         yield number
         number += 1
+
+
+def services(count):
+    """A schema of services of which no field is required, and a template of three lines for each."""
+    service = {"type": "object", "properties": {"name": {"type": "string"}, "port": {"type": "integer"}, "tags": {"type": "array", "items": {"type": "string"}}}}
+    lines = "{{.s%d.name}}\n{{range .s%d.tags}}{{.}}{{end}}\n{{if gt .s%d.port 80}}x{{end}}\n"
+    return schema_of(properties={f"s{at}": service for at in range(count)}), "".join(lines % (at, at, at) for at in range(count)).encode()
 
 
 def nested(levels):
@@ -178,6 +190,7 @@ def rows(folder):
     measure(table, folder, "`tmpl-check`", {**TEMPLATES, **MISTAKES}, 4 * MB, [check, file], of_files)
     measure(table, folder, "`tmpl-check --data`, data", DATA, 4 * MB, [check, "--data", file, template], of_growth)
     measure(table, folder, "`tmpl-check --schema`", SCHEMAS, MB, [check, "--schema", f"{folder}/s", file], of_check)
+    measure(table, folder, "`tmpl-check --schema`", FAILING, 70, [check, "--schema", f"{folder}/s", "--missingkey", "error", file], of_check)
     measure(table, folder, "`tmpl-check --infer`", SAMPLES, MB, [check, "--infer", file], of_check)
     os.environ["PYTHONPATH"] = f"{harness.TOP}/bindings/python"
     os.environ.setdefault("LIBTMPL", f"{harness.TOP}/bindings/out/libtmpl.so")

@@ -356,7 +356,10 @@ HIDDEN = [
 
 # runs over data: a title, the template, the mode, and what is found after the name of the file: each error is the fault of tmpl, with its
 # message, and more about it
-RUN_DATA = {"name": "Ada", "ports": 8080, "list": [1, "x"], "user": {"mail": "a@b"}, "none": None, "ok": True}
+RUN_DATA = {"name": "Ada", "ports": 8080, "list": [1, "x"], "user": {"mail": "a@b"}, "none": None, "ok": True,
+            "rows": [{"size": {"width": 1}}, {"size": 7}, {"size": "x"}]}
+NO_FIELD = 'error: no field "%s" here: '
+NO_FIELDS = ", which has no fields"
 LENGTH = "len: wrong kind of argument: "
 RUNS = [
     ("no fault", "{{.name}}{{len .list}}{{range .user}}{{.}}{{end}}", "default", []),
@@ -364,7 +367,15 @@ RUNS = [
     ("of the data", "{{len $.ok}}", "default", ["1:1: error: " + LENGTH + "$.ok is a boolean (true), which has no length"]),
     ("that is piped", "{{.none | len}}", "default", ["1:1: error: " + LENGTH + ".none is null, which has no length"]),
     ("the second of two", "{{len .list}} {{len .ports}}", "default", ["1:15: error: " + LENGTH + ".ports is an integer (8080), which has no length"]),
-    ("of an item", "{{range .list}}{{len .}}{{end}}", "default", ["1:16: error: " + LENGTH + "it takes a string, a list or a map"]),
+    ("of an item", "{{range .list}}{{len .}}{{end}}", "default", ["1:16: error: " + LENGTH + "dot is an integer (1), which has no length"]),
+    ("of the first item that has no such field", "{{range .rows}}{{.size.width}}{{end}}", "default", ["1:16: " + NO_FIELD % "width" + ".size is an integer (7)" + NO_FIELDS]),
+    ("of an item past a jump", "{{range .rows}}{{if .skip}}{{continue}}{{end}}{{.size.width}}{{end}}", "default", ["1:47: " + NO_FIELD % "width" + "only a map has fields"]),
+    ("of an item under a condition", "{{range .rows}}{{if eq 1 1}}{{.size.width}}{{end}}{{end}}", "default", ["1:29: " + NO_FIELD % "width" + "only a map has fields"]),
+    ("of parentheses", "{{(.name).first}}", "default", ["1:1: " + NO_FIELD % "first" + '(..) is a string ("Ada")' + NO_FIELDS]),
+    ("of a field of parentheses", "{{(.user).mail.x}}", "default", ["1:1: " + NO_FIELD % "x" + '(..).mail is a string ("a@b")' + NO_FIELDS]),
+    ("of an item by its index", "{{(index .list 0).x}}", "default", ["1:1: " + NO_FIELD % "x" + "(..) is an integer (1)" + NO_FIELDS]),
+    ("of one part of a condition", "{{if .ok}}{{.name.x}}{{else}}{{.ports.x}}{{end}}", "default", ["1:11: " + NO_FIELD % "x" + '.name is a string ("Ada")' + NO_FIELDS]),
+    ("beside what `and` leaves out", "{{or (and .none .ports.x) .name.x}}", "default", ["1:1: " + NO_FIELD % "x" + "only a map has fields"]),
     ("in a template that is called", '{{define "t"}}{{len .}}{{end}}{{template "t" .ports}}', "default", ["1:15: error: " + LENGTH + "it takes a string, a list or a map"]),
     ("in a with", "{{with .user}}\n{{.mail.x}}{{end}}", "default", ['2:1: error: no field "x" here: .mail is a string ("a@b"), which has no fields']),
     ("a field of a string", "{{.name.first}}", "default", ['1:1: error: no field "first" here: .name is a string ("Ada"), which has no fields']),

@@ -10,13 +10,18 @@ use tmpl_values::Bytes;
 /// How deep controls and parentheses nest that are visited, so that the stack suffices.
 const MOST_LEVELS: usize = 200;
 
+/// The most items of lists that are visited.
+const MOST_ITEMS: usize = 1_000;
+
 /// What a fault speaks of.
 #[derive(Clone, Copy)]
 pub(crate) enum Wanted<'w> {
     /// A call of a function.
     Call(Func),
-    /// A field of this name.
+    /// A field of this name, of a value that has no fields.
     Field(&'w [u8]),
+    /// A field of this name, of a map that lacks it.
+    Entry(&'w [u8]),
     /// What a range visits.
     Range,
     /// A call of a template of this name.
@@ -28,9 +33,9 @@ pub(crate) enum Wanted<'w> {
 /// An operand: with what is piped to its command, if that is one operand too.
 #[derive(Clone, Copy)]
 pub(crate) enum Given<'w> {
-    /// A chain of fields, from dot or from `$`, and the value at its end or at the place where it ends.
+    /// A chain of fields, and the value at its end or at the place where it ends.
     Chain {
-        is_start: bool,
+        root: Root,
         names: &'w [Bytes],
         value: &'w Value,
     },
@@ -41,15 +46,44 @@ pub(crate) enum Given<'w> {
     Unknown,
 }
 
+/// Where a chain of fields begins.
+#[derive(Clone, Copy)]
+pub(crate) enum Root {
+    Dot,
+    /// The data, by `$`.
+    Start,
+    Parentheses,
+}
+
 /// What is found: the operands of a command, or the value that is asked for a field, in an action.
 #[derive(Drop)]
 pub(crate) struct Found<'w> {
     /// How many bytes of the file stand before the action.
     pub(crate) start: usize,
     pub(crate) operands: Vec<Given<'w>>,
+    /// Whether a run surely gets there, if it gets to the end of what stands before.
+    pub(crate) is_sure: bool,
 }
 
-/// A walk over a template. Its dot is the value of the data that is known there.
+/// What is known where a node stands.
+#[derive(Clone, Copy)]
+struct Scope<'w> {
+    dot: Option<&'w Value>,
+    /// Whether a run surely gets there.
+    is_sure: bool,
+}
+
+impl<'w> Scope<'w> {
+    /// That of what is only reached under a condition.
+    fn sure_if(self, is_known: bool) -> Scope<'w> {
+        Scope {
+            dot: self.dot,
+            is_sure: self.is_sure && is_known,
+        }
+    }
+}
+
+/// A walk over a template.
 #[derive(Drop)]
 struct Walk<'w> {
     alloc: Global,
@@ -59,6 +93,8 @@ struct Walk<'w> {
     here: usize,
     /// The data with which the template starts, where that is known.
     start: Option<&'w Value>,
+    /// How many items of lists may still be visited.
+    items: usize,
     found: Vec<Found<'w>>,
 }
 
@@ -76,38 +112,53 @@ pub(crate) fn commands_at<'w>(
         wanted,
         here: 0,
         start,
+        items: MOST_ITEMS,
         found: Vec::new(alloc),
     };
-    walk.visit_all(tree.nodes.as_slice(), start, MOST_LEVELS)?;
+    let scope = Scope {
+        dot: start,
+        is_sure: true,
+    };
+    walk.visit_all(tree.nodes.as_slice(), scope, MOST_LEVELS)?;
     Ok(walk.found)
+}
+
+/// What is looked for among nodes.
+#[derive(Clone, Copy)]
+enum Sought<'s> {
+    /// A call of the template of this name.
+    Call(&'s [u8]),
+    /// What ends a turn of a range.
+    Jump,
 }
 
 /// Whether a template of the set calls the one of this name, so that it may start with other data.
 pub(crate) fn is_called(set: &Set, name: &[u8]) -> bool {
     for number in 0..set.len() {
         let (_, tree) = set.template(number);
-        if calls(tree.nodes.as_slice(), name, MOST_LEVELS) {
+        if has(tree.nodes.as_slice(), Sought::Call(name), MOST_LEVELS) {
             return true;
         }
     }
     false
 }
 
-/// Whether one of these nodes calls the template of this name, or they nest too deep to see it.
-fn calls(nodes: &[Node], name: &[u8], levels: usize) -> bool {
+/// Whether one of these nodes is what is looked for, or they nest too deep to see it.
+fn has(nodes: &[Node], sought: Sought<'_>, levels: usize) -> bool {
     if levels == 0 {
         return true;
     }
     for node in nodes {
-        let is_call = match &node.what {
-            NodeKind::Template(called, _) => called.as_slice() == name,
-            NodeKind::Control(control) => {
-                calls(control.body.as_slice(), name, levels - 1)
-                    || calls(control.other.as_slice(), name, levels - 1)
+        let is_found = match (&node.what, sought) {
+            (NodeKind::Template(called, _), Sought::Call(name)) => called.as_slice() == name,
+            (NodeKind::Break | NodeKind::Continue, Sought::Jump) => true,
+            (NodeKind::Control(control), _) => {
+                has(control.body.as_slice(), sought, levels - 1)
+                    || has(control.other.as_slice(), sought, levels - 1)
             }
             _ => false,
         };
-        if is_call {
+        if is_found {
             return true;
         }
     }
@@ -123,6 +174,27 @@ pub(crate) fn value_at<'w>(start: &'w Value, names: &[Bytes]) -> Option<&'w Valu
     Some(value)
 }
 
+/// What `index` gives for a key that is written out.
+fn item_at<'w>(value: &'w Value, key: &Operand) -> Option<&'w Value> {
+    match (value, key) {
+        (Value::Object(_), Operand::Text(name)) => value.get(from_utf8(name.as_slice()).ok()?),
+        (Value::Array(items), Operand::Number(index)) => items.get(usize::try_from(*index).ok()?),
+        _ => None,
+    }
+}
+
+/// Whether a value counts as true in a condition.
+fn is_true(value: &Value) -> bool {
+    match value {
+        Value::Null => false,
+        Value::Bool(is_true) => *is_true,
+        Value::Number(number) => number.as_i64() != Some(0),
+        Value::String(text) => !text.is_empty(),
+        Value::Array(items) => !items.is_empty(),
+        Value::Object(members) => !members.is_empty(),
+    }
+}
+
 /// The only operand of a command, if it has one.
 fn only_operand(command: &Command) -> Option<&Operand> {
     match command.operands.as_slice() {
@@ -132,64 +204,112 @@ fn only_operand(command: &Command) -> Option<&Operand> {
 }
 
 impl<'w> Walk<'w> {
-    /// Visits nodes, whose dot is this, where it is known.
+    /// Visits nodes.
     #[cycle(nodes)]
     fn visit_all(
         &mut self,
         nodes: &'w [Node],
-        dot: Option<&'w Value>,
+        scope: Scope<'w>,
         levels: usize,
     ) -> Result<(), AllocError> {
         if levels == 0 {
             return Ok(());
         }
         for node in nodes {
-            self.visit(node, dot, levels - 1)?;
+            self.visit(node, scope, levels - 1)?;
         }
         Ok(())
     }
 
     /// Visits a node.
     #[cycle(nodes)]
-    fn visit(
-        &mut self,
-        node: &'w Node,
-        dot: Option<&'w Value>,
-        levels: usize,
-    ) -> Result<(), AllocError> {
+    fn visit(&mut self, node: &'w Node, scope: Scope<'w>, levels: usize) -> Result<(), AllocError> {
         if node.line == self.line {
             self.here = node.start;
-            self.visit_here(node, dot)?;
+            self.visit_here(node, scope)?;
         }
-        match &node.what {
-            NodeKind::Control(control) => {
-                let inside = self.dot_inside(control, dot);
-                self.visit_all(control.body.as_slice(), inside, levels)?;
-                self.visit_all(control.other.as_slice(), dot, levels)
+        let NodeKind::Control(control) = &node.what else {
+            return Ok(());
+        };
+        let commands = control.header.pipeline.commands.as_slice();
+        let value = self.value_of(commands, scope, MOST_LEVELS);
+        match (control.control, value) {
+            (Control::Range, Some(Value::Array(items))) => {
+                self.visit_items(control, items.as_slice(), scope, levels)
             }
-            _ => Ok(()),
+            _ => self.visit_parts(control, value, scope, levels),
         }
     }
 
+    /// Visits the body of a range for each item of a list, or its else part.
+    #[cycle(nodes)]
+    fn visit_items(
+        &mut self,
+        control: &'w ControlNode,
+        items: &'w [Value],
+        scope: Scope<'w>,
+        levels: usize,
+    ) -> Result<(), AllocError> {
+        if items.is_empty() {
+            return self.visit_all(control.other.as_slice(), scope, levels);
+        }
+        let nodes = control.body.as_slice();
+        let inside = scope.sure_if(!has(nodes, Sought::Jump, MOST_LEVELS));
+        for item in items {
+            let dot = if self.items > 0 { Some(item) } else { None };
+            self.visit_all(nodes, Scope { dot, ..inside }, levels)?;
+            if self.items == 0 {
+                return Ok(());
+            }
+            self.items -= 1;
+        }
+        Ok(())
+    }
+
+    /// Visits the parts of a control of which this is the value, where it is known: one of them, or each that may be.
+    #[cycle(nodes)]
+    fn visit_parts(
+        &mut self,
+        control: &'w ControlNode,
+        value: Option<&'w Value>,
+        scope: Scope<'w>,
+        levels: usize,
+    ) -> Result<(), AllocError> {
+        let is_true = value.map(is_true);
+        let outside = scope.sure_if(is_true.is_some());
+        let dot = match control.control {
+            Control::If => scope.dot,
+            Control::With => value,
+            Control::Range => None,
+        };
+        if is_true != Some(false) {
+            self.visit_all(control.body.as_slice(), Scope { dot, ..outside }, levels)?;
+        }
+        if is_true != Some(true) {
+            self.visit_all(control.other.as_slice(), outside, levels)?;
+        }
+        Ok(())
+    }
+
     /// Visits a node of the line.
-    fn visit_here(&mut self, node: &'w Node, dot: Option<&'w Value>) -> Result<(), AllocError> {
+    fn visit_here(&mut self, node: &'w Node, scope: Scope<'w>) -> Result<(), AllocError> {
         if matches!(self.wanted, Wanted::Any) && !matches!(node.what, NodeKind::Text(_)) {
-            return self.add(Vec::new(self.alloc));
+            return self.add(Vec::new(self.alloc), scope);
         }
         match &node.what {
-            NodeKind::Action(header) => self.visit_pipeline(&header.pipeline, dot),
+            NodeKind::Action(header) => self.visit_pipeline(&header.pipeline, scope),
             NodeKind::Template(name, pipeline) => {
                 if let Wanted::Template(wanted) = self.wanted {
                     if name.as_slice() == wanted {
-                        self.add(Vec::new(self.alloc))?;
+                        self.add(Vec::new(self.alloc), scope)?;
                     }
                 }
                 match pipeline {
-                    Some(pipeline) => self.visit_pipeline(pipeline, dot),
+                    Some(pipeline) => self.visit_pipeline(pipeline, scope),
                     None => Ok(()),
                 }
             }
-            NodeKind::Control(control) => self.visit_header(control, dot),
+            NodeKind::Control(control) => self.visit_header(control, scope),
             _ => Ok(()),
         }
     }
@@ -198,44 +318,29 @@ impl<'w> Walk<'w> {
     fn visit_header(
         &mut self,
         control: &'w ControlNode,
-        dot: Option<&'w Value>,
+        scope: Scope<'w>,
     ) -> Result<(), AllocError> {
         let pipeline = &control.header.pipeline;
         if matches!(control.control, Control::Range) && matches!(self.wanted, Wanted::Range) {
             let operands = match pipeline.commands.as_slice() {
                 [command] => match only_operand(command) {
-                    Some(operand) => vec![in self.alloc; self.given(operand, dot)]?,
+                    Some(operand) => vec![in self.alloc; self.given(operand, scope)]?,
                     None => Vec::new(self.alloc),
                 },
                 _ => Vec::new(self.alloc),
             };
-            return self.add(operands);
+            return self.add(operands, scope);
         }
-        self.visit_pipeline(pipeline, dot)
-    }
-
-    /// The dot in the body of a control, where it is known.
-    fn dot_inside(&self, control: &'w ControlNode, dot: Option<&'w Value>) -> Option<&'w Value> {
-        match control.control {
-            Control::If => dot,
-            Control::Range => None,
-            Control::With => match control.header.pipeline.commands.as_slice() {
-                [command] => match self.given(only_operand(command)?, dot) {
-                    Given::Chain { value, .. } => Some(value),
-                    _ => None,
-                },
-                _ => None,
-            },
-        }
+        self.visit_pipeline(pipeline, scope)
     }
 
     /// Visits a pipeline.
     fn visit_pipeline(
         &mut self,
         pipeline: &'w Pipeline,
-        dot: Option<&'w Value>,
+        scope: Scope<'w>,
     ) -> Result<(), AllocError> {
-        self.visit_commands(pipeline.commands.as_slice(), dot, MOST_LEVELS)
+        self.visit_commands(pipeline.commands.as_slice(), scope, MOST_LEVELS)
     }
 
     /// Visits the commands of a pipeline.
@@ -243,7 +348,7 @@ impl<'w> Walk<'w> {
     fn visit_commands(
         &mut self,
         commands: &'w [Command],
-        dot: Option<&'w Value>,
+        scope: Scope<'w>,
         levels: usize,
     ) -> Result<(), AllocError> {
         if levels == 0 {
@@ -251,29 +356,36 @@ impl<'w> Walk<'w> {
         }
         let mut piped: Option<Given<'w>> = None;
         for command in commands {
-            self.visit_command(command, piped, dot)?;
-            self.visit_operands(command, dot, levels - 1)?;
+            self.visit_command(command, piped, scope)?;
+            self.visit_operands(command, scope, levels - 1)?;
             piped = Some(match (piped, only_operand(command)) {
-                (None, Some(operand)) => self.given(operand, dot),
+                (None, Some(operand)) => self.given(operand, scope),
                 _ => Given::Unknown,
             });
         }
         Ok(())
     }
 
-    /// Visits what stands in parentheses among the operands of a command, and the fields that are wanted.
+    /// Visits what stands in parentheses among the operands of a command, and the fields that are wanted. Of `and` and `or`
+    /// not each operand is evaluated.
     #[cycle(commands)]
     fn visit_operands(
         &mut self,
         command: &'w Command,
-        dot: Option<&'w Value>,
+        scope: Scope<'w>,
         levels: usize,
     ) -> Result<(), AllocError> {
-        for operand in command.operands.as_slice() {
+        let operands = command.operands.as_slice();
+        let is_junction = matches!(
+            operands.first(),
+            Some(Operand::Function(Func::And | Func::Or))
+        );
+        let scope = scope.sure_if(!is_junction);
+        for operand in operands {
             if let Operand::Group { commands, .. } = operand {
-                self.visit_commands(commands.as_slice(), dot, levels)?;
+                self.visit_commands(commands.as_slice(), scope, levels)?;
             }
-            self.visit_fields(operand, dot)?;
+            self.visit_fields(operand, scope)?;
         }
         Ok(())
     }
@@ -283,7 +395,7 @@ impl<'w> Walk<'w> {
         &mut self,
         command: &'w Command,
         piped: Option<Given<'w>>,
-        dot: Option<&'w Value>,
+        scope: Scope<'w>,
     ) -> Result<(), AllocError> {
         let (Wanted::Call(wanted), [Operand::Function(func), rest @ ..]) = (
             self.wanted,
@@ -296,21 +408,17 @@ impl<'w> Walk<'w> {
         }
         let mut operands = Vec::new(self.alloc);
         for operand in rest {
-            operands.push(self.given(operand, dot))?;
+            operands.push(self.given(operand, scope))?;
         }
         if let Some(piped) = piped {
             operands.push(piped)?;
         }
-        self.add(operands)
+        self.add(operands, scope)
     }
 
     /// Looks whether a field of an operand is the one that is wanted, and adds the value that is asked for it.
-    fn visit_fields(
-        &mut self,
-        operand: &'w Operand,
-        dot: Option<&'w Value>,
-    ) -> Result<(), AllocError> {
-        let Wanted::Field(wanted) = self.wanted else {
+    fn visit_fields(&mut self, operand: &'w Operand, scope: Scope<'w>) -> Result<(), AllocError> {
+        let (Wanted::Field(wanted) | Wanted::Entry(wanted)) = self.wanted else {
             return Ok(());
         };
         let names = match operand {
@@ -321,36 +429,35 @@ impl<'w> Walk<'w> {
         };
         for index in 0..names.len() {
             if names[index].as_slice() == wanted {
-                let given = self.before(operand, names.get(..index).unwrap_or(&[]), dot);
-                self.add(vec![in self.alloc; given]?)?;
+                let given = self.before(operand, names.get(..index).unwrap_or(&[]), scope);
+                self.add(vec![in self.alloc; given]?, scope)?;
             }
         }
         Ok(())
     }
 
     /// What is known of the value to which these fields of an operand lead.
-    fn before(
-        &self,
-        operand: &'w Operand,
-        names: &'w [Bytes],
-        dot: Option<&'w Value>,
-    ) -> Given<'w> {
+    fn before(&self, operand: &'w Operand, names: &'w [Bytes], scope: Scope<'w>) -> Given<'w> {
         match operand {
-            Operand::Fields(_) => chain(false, names, dot),
+            Operand::Fields(_) => chain(Root::Dot, names, scope.dot),
             Operand::Variable { name, .. } if name.as_slice().is_empty() => {
-                chain(true, names, self.start)
+                chain(Root::Start, names, self.start)
+            }
+            Operand::Group { commands, .. } => {
+                let value = self.value_of(commands.as_slice(), scope, MOST_LEVELS);
+                chain(Root::Parentheses, names, value)
             }
             _ => Given::Unknown,
         }
     }
 
     /// What is known of an operand.
-    fn given(&self, operand: &'w Operand, dot: Option<&'w Value>) -> Given<'w> {
+    fn given(&self, operand: &'w Operand, scope: Scope<'w>) -> Given<'w> {
         match operand {
-            Operand::Dot => chain(false, &[], dot),
-            Operand::Fields(names) => chain(false, names.as_slice(), dot),
-            Operand::Variable { name, fields } if name.as_slice().is_empty() => {
-                chain(true, fields.as_slice(), self.start)
+            Operand::Dot => chain(Root::Dot, &[], scope.dot),
+            Operand::Fields(names) => self.before(operand, names.as_slice(), scope),
+            Operand::Variable { fields, .. } | Operand::Group { fields, .. } => {
+                self.before(operand, fields.as_slice(), scope)
             }
             Operand::Number(number) => Given::Number(*number),
             Operand::Text(text) => Given::Text(text.as_slice()),
@@ -359,22 +466,54 @@ impl<'w> Walk<'w> {
         }
     }
 
+    /// The value of a pipeline of a chain of fields, or of `index` with keys that are written out, where it is known.
+    fn value_of(
+        &self,
+        commands: &'w [Command],
+        scope: Scope<'w>,
+        levels: usize,
+    ) -> Option<&'w Value> {
+        let [command] = commands else {
+            return None;
+        };
+        let (operand, keys): (&'w Operand, &'w [Operand]) = match command.operands.as_slice() {
+            [operand] => (operand, &[]),
+            [Operand::Function(Func::Index), operand, keys @ ..] => (operand, keys),
+            _ => return None,
+        };
+        let mut value = match operand {
+            Operand::Dot => scope.dot?,
+            Operand::Fields(names) => value_at(scope.dot?, names.as_slice())?,
+            Operand::Variable { name, fields } if name.as_slice().is_empty() => {
+                value_at(self.start?, fields.as_slice())?
+            }
+            Operand::Group { commands, fields } if levels > 0 => value_at(
+                self.value_of(commands.as_slice(), scope, levels - 1)?,
+                fields.as_slice(),
+            )?,
+            _ => return None,
+        };
+        for key in keys {
+            value = item_at(value, key)?;
+        }
+        Some(value)
+    }
+
     /// Adds a command.
-    fn add(&mut self, operands: Vec<Given<'w>>) -> Result<(), AllocError> {
-        let start = self.here;
-        self.found.push(Found { start, operands })?;
+    fn add(&mut self, operands: Vec<Given<'w>>, scope: Scope<'w>) -> Result<(), AllocError> {
+        self.found.push(Found {
+            start: self.here,
+            operands,
+            is_sure: scope.is_sure,
+        })?;
         Ok(())
     }
 }
 
 /// What is known of a chain of fields from a value.
-fn chain<'w>(is_start: bool, names: &'w [Bytes], from: Option<&'w Value>) -> Given<'w> {
-    match from.and_then(|start| value_at(start, names)) {
-        Some(value) => Given::Chain {
-            is_start,
-            names,
-            value,
-        },
+fn chain<'w>(root: Root, names: &'w [Bytes], start: Option<&'w Value>) -> Given<'w> {
+    match start.and_then(|start| value_at(start, names)) {
+        Some(value) => Given::Chain { root, names, value },
         None => Given::Unknown,
     }
 }

@@ -1,6 +1,6 @@
 //! What a fault of a run is about: the operands of its command, and of which kind their values are.
 
-use crate::commands::{Found, Given, Wanted, commands_at, is_called};
+use crate::commands::{Found, Given, Root, Wanted, commands_at, is_called};
 use serde_json::{Map, Value};
 use std::alloc::{AllocError, Global};
 use std::str::from_utf8;
@@ -67,7 +67,8 @@ fn found_for<'w>(
 ) -> Result<Vec<Found<'w>>, AllocError> {
     let wanted = match fault.kind {
         RunFaultKind::Call(func, _) => Wanted::Call(func),
-        RunFaultKind::NoField(field) | RunFaultKind::NoEntry(field) => Wanted::Field(field),
+        RunFaultKind::NoField(field) => Wanted::Field(field),
+        RunFaultKind::NoEntry(field) => Wanted::Entry(field),
         RunFaultKind::NotARange => Wanted::Range,
         RunFaultKind::NoTemplate(called) => Wanted::Template(called),
         _ => Wanted::Any,
@@ -79,17 +80,35 @@ fn found_for<'w>(
     let start = if is_known { Some(data) } else { None };
     let mut found = commands_at(alloc, tree, fault.line, wanted, start)?;
     found.retain(|found| !is_fine(wanted, found));
+    if fails_at_first(wanted, found.as_slice()) {
+        found.truncate(1);
+    }
     Ok(found)
 }
 
-/// Whether a command is seen not to fail: one that asks for the length of what has one, or for a field that is there.
+/// Whether it is the first of these commands that fails, since they are all of one action, and what does not fail is left
+/// out.
+fn fails_at_first(wanted: Wanted<'_>, found: &[Found<'_>]) -> bool {
+    let [first, rest @ ..] = found else {
+        return false;
+    };
+    let is_exact = matches!(
+        wanted,
+        Wanted::Call(Func::Len) | Wanted::Field(_) | Wanted::Entry(_)
+    );
+    is_exact && first.is_sure && rest.iter().all(|other| other.start == first.start)
+}
+
+/// Whether a command is seen not to fail: one that asks for the length of what has one, or for a field that is none of
+/// these faults.
 fn is_fine(wanted: Wanted<'_>, found: &Found<'_>) -> bool {
     let [given] = found.operands.as_slice() else {
         return false;
     };
     match (wanted, value_in(given)) {
         (Wanted::Call(Func::Len), Some(value)) => has_length(value),
-        (Wanted::Field(name), Some(value)) => has_field(value, name),
+        (Wanted::Field(_), Some(value)) => value.is_object(),
+        (Wanted::Entry(name), Some(value)) => !value.is_object() || has_field(value, name),
         _ => false,
     }
 }
@@ -248,7 +267,7 @@ fn say_known(said: Sentence, given: &Given<'_>) -> Sentence {
 fn say_subject(said: Sentence, given: &Given<'_>) -> Sentence {
     match given {
         Given::Chain {
-            is_start: false,
+            root: Root::Dot,
             names,
             ..
         } if names.is_empty() => said.say("dot"),
@@ -259,15 +278,7 @@ fn say_subject(said: Sentence, given: &Given<'_>) -> Sentence {
 /// Says an operand as a template has it.
 fn say_given(said: Sentence, given: &Given<'_>) -> Sentence {
     match given {
-        Given::Chain {
-            is_start,
-            names,
-            ..
-        } => say_chain(
-            if *is_start { said.say("$") } else { said },
-            *is_start,
-            *names,
-        ),
+        Given::Chain { root, names, .. } => say_chain(said, *root, *names),
         Given::Number(number) => say_number(said, *number),
         Given::Text(text) => said.quote(*text),
         Given::Bool(is_true) => said.say(if *is_true { "true" } else { "false" }),
@@ -276,11 +287,13 @@ fn say_given(said: Sentence, given: &Given<'_>) -> Sentence {
 }
 
 /// Says a chain of fields.
-fn say_chain(said: Sentence, is_start: bool, names: &[Bytes]) -> Sentence {
-    if names.is_empty() && !is_start {
-        return said.say(".");
-    }
-    let mut said = said;
+fn say_chain(said: Sentence, root: Root, names: &[Bytes]) -> Sentence {
+    let mut said = match root {
+        Root::Dot if names.is_empty() => said.say("."),
+        Root::Dot => said,
+        Root::Start => said.say("$"),
+        Root::Parentheses => said.say("(..)"),
+    };
     for name in names {
         said = said.say(".").show(name.as_slice());
     }

@@ -2,6 +2,7 @@
 
 use crate::reasons::origin::{Document, Lost, Origin};
 use std::alloc::AllocError;
+use std::mem;
 use std::str::from_utf8;
 use tmpl_funcs::Func;
 use tmpl_schema::{Cause, Doubt};
@@ -19,8 +20,8 @@ const MOST_CONTROLS: usize = 200;
 /// How often templates are visited, until what is passed to them reaches a fixpoint.
 const MOST_ROUNDS: usize = 12;
 
-/// The name by which dot is kept among the variables: none has it.
-const DOT: &[u8] = b".";
+/// How many variables are in scope at once, and how many names are assigned, where reasons are found.
+const MOST_VARIABLES: usize = 1_000;
 
 /// A template, or a variable, and where its value comes from: none where that is not known.
 #[derive(Drop)]
@@ -45,10 +46,14 @@ struct Walk<'w> {
     asked: Vec<Asked>,
     /// What is handed to templates that are called.
     handed: Vec<Source<'w>>,
-    /// The variables in scope, and dot, the innermost last.
+    /// Where dot comes from.
+    dot: Option<Origin>,
+    /// The variables in scope, the innermost last.
     scope: Vec<Source<'w>>,
     /// The names of variables that are assigned: nothing is known of them.
     assigned: Vec<&'w [u8]>,
+    /// Whether there are more variables than are followed.
+    is_crowded: bool,
 }
 
 /// A copy of where a value comes from.
@@ -138,20 +143,28 @@ fn if_whole(found: Result<Origin, Lost>) -> Result<Origin, Lost> {
 }
 
 impl<'w> Walk<'w> {
-    /// Where the value of a variable, or of dot, comes from.
-    fn value(&self, name: &[u8]) -> Result<Origin, Lost> {
-        if self.assigned.iter().any(|other| *other == name) {
+    /// Where dot comes from.
+    fn dot(&self) -> Result<Origin, Lost> {
+        self.copy(&self.dot)
+    }
+
+    /// Where the value of a variable comes from.
+    fn variable(&self, name: &[u8]) -> Result<Origin, Lost> {
+        if self.is_crowded || self.assigned.iter().any(|other| *other == name) {
             return Err(Lost::Untold);
         }
-        for source in self.scope.iter().rev() {
-            if source.name == name {
-                return match &source.origin {
-                    Some(origin) => Ok(origin.copy(self.document.alloc)?),
-                    None => Err(Lost::Untold),
-                };
-            }
+        match self.scope.iter().rev().find(|source| source.name == name) {
+            Some(source) => self.copy(&source.origin),
+            None => Err(Lost::Untold),
         }
-        Err(Lost::Untold)
+    }
+
+    /// A copy of where a value comes from, where that is known.
+    fn copy(&self, origin: &Option<Origin>) -> Result<Origin, Lost> {
+        match origin {
+            Some(origin) => Ok(origin.copy(self.document.alloc)?),
+            None => Err(Lost::Untold),
+        }
     }
 
     /// Where the field of the field of .. comes from, by these names.
@@ -217,10 +230,10 @@ impl<'w> Walk<'w> {
     #[cycle(value)]
     fn operand(&self, levels: usize, operand: &Operand) -> Result<Origin, Lost> {
         match operand {
-            Operand::Dot => self.value(DOT),
-            Operand::Fields(fields) => self.chain(self.value(DOT)?, fields.as_slice()),
+            Operand::Dot => self.dot(),
+            Operand::Fields(fields) => self.chain(self.dot()?, fields.as_slice()),
             Operand::Variable { name, fields } => {
-                self.chain(self.value(name.as_slice())?, fields.as_slice())
+                self.chain(self.variable(name.as_slice())?, fields.as_slice())
             }
             Operand::Group { commands, fields } => self.chain(
                 self.pipeline(levels, commands.as_slice())?,
@@ -343,8 +356,8 @@ impl<'w> Walk<'w> {
         operand: &Operand,
     ) -> Result<(), AllocError> {
         let (start, fields) = match operand {
-            Operand::Fields(fields) => (self.value(DOT), fields),
-            Operand::Variable { name, fields } => (self.value(name.as_slice()), fields),
+            Operand::Fields(fields) => (self.dot(), fields),
+            Operand::Variable { name, fields } => (self.variable(name.as_slice()), fields),
             Operand::Group { commands, fields } => {
                 self.look_into(levels, index, wanted, commands.as_slice())?;
                 (self.pipeline(levels, commands.as_slice()), fields)
@@ -381,8 +394,12 @@ impl<'w> Walk<'w> {
         Ok(())
     }
 
-    /// Puts a variable, or dot, into scope.
+    /// Puts a variable into scope.
     fn declare(&mut self, name: &'w [u8], origin: &Option<Origin>) -> Result<(), AllocError> {
+        if self.scope.len() >= MOST_VARIABLES {
+            self.is_crowded = true;
+            return Ok(());
+        }
         let origin = copy_known(self.document, origin)?;
         self.scope.push(Source { name, origin })?;
         Ok(())
@@ -469,10 +486,13 @@ impl<'w> Walk<'w> {
             _ => copy_known(self.document, &value)?,
         };
         self.bind(&control.header.binding, &inside)?;
-        if control.control != Control::If {
-            self.declare(DOT, &inside)?;
-        }
+        let dot = match control.control {
+            Control::If => copy_known(self.document, &self.dot)?,
+            _ => copy_known(self.document, &inside)?,
+        };
+        let before = mem::replace(&mut self.dot, dot);
         self.nodes(levels, control.body.as_slice())?;
+        self.dot = before;
         self.scope.truncate(mark);
         let outside = if is_range { None } else { inside };
         self.bind(&control.header.binding, &outside)?;
@@ -480,6 +500,14 @@ impl<'w> Walk<'w> {
         self.scope.truncate(mark);
         Ok(())
     }
+}
+
+/// Adds a name that is not there yet, up to as many as are followed.
+fn add_name<'w>(name: &'w [u8], names: &mut Vec<&'w [u8]>) -> Result<(), AllocError> {
+    if names.len() < MOST_VARIABLES && !names.iter().any(|other| *other == name) {
+        names.push(name)?;
+    }
+    Ok(())
 }
 
 /// Adds the names of the variables that nodes assign.
@@ -509,7 +537,7 @@ fn add_assigned<'w>(
             },
         ) = header
         {
-            names.push(name.as_slice())?;
+            add_name(name.as_slice(), names)?;
         }
     }
     Ok(())
@@ -532,11 +560,12 @@ fn walked<'w>(
         doubts,
         asked,
         handed: Vec::new(alloc),
+        dot: copy_known(document, &dot.origin)?,
         scope: Vec::new(alloc),
+        is_crowded: assigned.len() >= MOST_VARIABLES,
         assigned,
     };
     walk.declare(b"", &dot.origin)?;
-    walk.declare(DOT, &dot.origin)?;
     walk.nodes(MOST_CONTROLS, tree.nodes.as_slice())?;
     Ok(walk)
 }
