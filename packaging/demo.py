@@ -26,7 +26,7 @@ def check(tmpl_check):
 
 
 def main(name):
-    print(f"Building {name} without proofs, about a minute ..", file=sys.stderr, flush=True)
+    print(f"Building {name} without proofs, one to two minutes ..", file=sys.stderr, flush=True)
     (path,) = unproved.build_all([name])
     status = {"tmpl": render, "tmpl-check": check}[name](path)
     folder = os.path.relpath(os.path.dirname(path), TOP)

@@ -860,6 +860,10 @@ BOUNDED = [
     ("10,000 templates that call one another in ranges", of({"l": ITEMS}),
      "".join('{{define "t%d"}}{{range $.l}}{{template "t%d" $}}{{end}}{{end}}' % (number, number + 1) for number in range(10_000))
      + '{{define "t10000"}}{{len .l}}{{end}}{{template "t0" .}}', [], None),
+    ("13,000 templates that call one another", of({"l": ITEMS}), "".join('{{define "t%d"}}{{template "t%d" .}}{{end}}' % (number, number + 1) for number in range(13_000))
+     + '{{define "t13000"}}{{len .l}}{{end}}{{template "t0" .}}', [], COMPLEX),
+    ("10,000 guards beside 10,000 variables of a few names", of({"a": TEXT}), "".join("{{$x%d := .a}}" % (number % 300) for number in range(10_000)) + "{{if .a}}x{{end}}" * 10_000,
+     [], COMPLEX),
     ("10,000 assignments in a range", of({"l": ITEMS}), "".join("{{$x%d := 1}}" % number for number in range(100)) + "{{range .l}}"
      + "".join("{{$x%d = $x%d}}" % (number % 100, (number + 1) % 100) for number in range(10_000)) + "{{end}}", [], None),
     ("5,000 operands of or", of({"a": TEXT}), "{{or" + " $.a" * 5_000 + "}}", [], COMPLEX),

@@ -13,7 +13,7 @@ use crate::findings::Findings;
 use crate::output::data::add_over_data;
 use crate::output::schema::add_over_schema;
 use crate::output::spread::add_file;
-use crate::source::{Question, Source, Sources};
+use crate::source::{Question, Source, Sources, Task};
 use std::alloc::{AllocError, Global};
 use tmpl_formats::Format;
 use tmpl_json_schema::read_document;
@@ -60,38 +60,31 @@ fn add_written<'a>(
     let Some(set) = set_of(alloc, hash, sources)? else {
         return Ok(());
     };
-    if let Some(data) = &sources.data {
-        return add_over_data(
-            alloc, findings, &set, question, sources, data, first, &format,
-        );
-    }
-    let Some(schema) = &sources.schema else {
-        return Ok(());
+    let task = Task {
+        alloc,
+        set: &set,
+        question,
+        sources,
+        first,
     };
-    add_of_schema(
-        alloc, findings, &set, question, sources, schema, first, &format,
-    )
+    match (&sources.data, &sources.schema) {
+        (Some(data), _) => add_over_data(&task, findings, data, &format),
+        (None, Some(schema)) => add_of_schema(&task, findings, schema, &format),
+        (None, None) => Ok(()),
+    }
 }
 
 /// Adds where the output is not of the format over data of the schema that are found.
-fn add_of_schema<'a>(
-    alloc: Global,
+fn add_of_schema<'t, 'a>(
+    task: &Task<'t, 'a>,
     findings: &mut Findings<'a>,
-    set: &Set,
-    question: &Question<'a>,
-    sources: &Sources<'a>,
     schema: &Source<'a>,
-    first: &'a str,
-    format: &Format,
+    format: &'t Format,
 ) -> Result<(), AllocError>
     ensures { OnOk result (AddsBroken findings.old findings.new) }
 {
-    match read_document(alloc, schema.bytes.as_slice())? {
-        Some(document) => {
-            add_over_schema(
-                alloc, findings, set, question, sources, &document, first, format,
-            )
-        }
+    match read_document(task.alloc, schema.bytes.as_slice())? {
+        Some(document) => add_over_schema(task, findings, &document, format),
         None => Ok(()),
     }
 }

@@ -3,7 +3,7 @@ ghost use Rattle.std.specs.Prelude.{◌≡◌, ◌++◌, List, false, IfOk, OnOk
 ghost use Rattle.tmpl_syntax.specs.View.{set_view};
 ghost use Rattle.tmpl_report.specs.Errors.{MayBeOfSchema, errors_in};
 ghost use Rattle.tmpl_report.specs.Finding.{Finding, has_error};
-ghost use Rattle.tmpl_report.specs.Safe.{IsSafeOver, asked_name};
+ghost use Rattle.tmpl_report.specs.Safe.{IsSafeOver};
 ghost use Rattle.tmpl_report.specs.computed.Entries.{HasMore};
 
 use crate::entry::{Entry, Level};
@@ -11,7 +11,7 @@ use crate::findings::Findings;
 use crate::reasons::{Reason, Why, position_of, reasons_of};
 use crate::rule::{MAY_FAIL, SCHEMA_NOT_UNDERSTOOD, SCHEMA_WITHOUT_VALUES};
 use crate::samples::{Failure, failures_of};
-use crate::source::{Question, Source, Sources};
+use crate::source::{Question, Source, Sources, Task};
 use serde_json::Value;
 use std::alloc::{AllocError, Global};
 use std::str::from_utf8;
@@ -21,9 +21,8 @@ use tmpl_json_schema::{
     CheckFault, Refused, SchemaFault, check_document, part_without_values, read_document,
     warnings_of,
 };
-use tmpl_meaning::MissingKey;
 use tmpl_schema::{Cause, Doubt, Refusal};
-use tmpl_syntax::{Place, Set, base_name};
+use tmpl_syntax::{Place, Set};
 use tmpl_values::Bytes;
 
 /// Adds the findings about the template that is asked for over data of the schema, once the files are accepted.
@@ -71,31 +70,23 @@ fn add_judged<'a>(
     if sources.is_short {
         return Ok(());
     }
-    let render = Render {
+    let task = Task {
+        alloc,
         set,
-        first,
-        name: asked_name(question, first),
-        mode: question.mode,
-        is_searched: question.is_searched,
+        question,
         sources,
-        schema,
+        first,
     };
     let stops = names_of(alloc, question.stops.as_slice())?;
+    let stops = stops.as_slice();
     let Some(document) = read_document(alloc, schema.bytes.as_slice())? else {
         findings.add_unread(alloc, question, schema)?;
         return Ok(());
     };
-    match check_document(
-        alloc,
-        set,
-        render.name,
-        &document,
-        render.mode,
-        stops.as_slice(),
-    ) {
+    match check_document(alloc, set, task.name(), &document, question.mode, stops) {
         Ok(()) => warn_of_schema(alloc, findings, schema, &document),
         Err(fault) => {
-            render.add_fault(alloc, &mut *findings, &document, stops.as_slice(), fault)?;
+            add_fault(&task, &mut *findings, schema, &document, stops, fault)?;
             findings.add_unseen(alloc, question)?;
             Ok(())
         }
@@ -145,93 +136,61 @@ fn warn_of_keywords<'a>(
     Ok(())
 }
 
-/// The name of the template that is rendered, where this is the first file.
-pub(crate) fn asked_name<'a>(question: &Question<'a>, first: &'a str) -> &'a [u8]
-    ensures { result.now ≡ asked_name question.now first.now }
+/// Adds why it is not seen that the template never fails.
+fn add_fault<'a>(
+    task: &Task<'_, 'a>,
+    findings: &mut Findings<'a>,
+    schema: &Source<'a>,
+    document: &Value,
+    stops: &[Bytes],
+    fault: CheckFault,
+) -> Result<(), AllocError>
+    ensures { OnOk result (HasMore findings.old findings.new) }
 {
-    match question.name {
-        Some(name) => name.as_bytes(),
-        None => base_name(first),
+    match fault {
+        CheckFault::Schema(SchemaFault::Refused(refused)) => {
+            let entry = schema_entry(task.alloc, schema, &refused)?;
+            findings.add_once(entry)
+        }
+        CheckFault::Template(Refusal::MayFail(doubts)) => {
+            add_doubts(task, findings, schema, document, stops, doubts.as_slice())
+        }
+        CheckFault::Schema(SchemaFault::OutOfMemory) => Err(AllocError),
+        CheckFault::Template(Refusal::OutOfMemory) => Err(AllocError),
     }
 }
 
-/// The template that is rendered, how, and over data of which schema.
-#[derive(Clone, Copy)]
-struct Render<'a, 's> {
-    set: &'s Set,
-    /// The path of the first file.
-    first: &'a str,
-    name: &'a [u8],
-    mode: Option<MissingKey>,
-    is_searched: bool,
-    sources: &'s Sources<'a>,
-    schema: &'s Source<'a>,
-}
-
-impl<'a> Render<'a, '_> {
-    /// Adds why it is not seen that the template never fails.
-    fn add_fault(
-        &self,
-        alloc: Global,
-        findings: &mut Findings<'a>,
-        document: &Value,
-        stops: &[Bytes],
-        fault: CheckFault,
-    ) -> Result<(), AllocError>
-        ensures { OnOk result (HasMore findings.old findings.new) }
-    {
-        match fault {
-            CheckFault::Schema(SchemaFault::Refused(refused)) => {
-                let entry = schema_entry(alloc, self.schema, &refused)?;
-                findings.add_once(entry)
-            }
-            CheckFault::Template(Refusal::MayFail(doubts)) => {
-                self.add_doubts(alloc, findings, document, stops, doubts.as_slice())
-            }
-            CheckFault::Schema(SchemaFault::OutOfMemory) => Err(AllocError),
-            CheckFault::Template(Refusal::OutOfMemory) => Err(AllocError),
+/// Adds each place at which the template may fail, with the reason in the schema and a value for which it does, where
+/// these are found.
+fn add_doubts<'a>(
+    task: &Task<'_, 'a>,
+    findings: &mut Findings<'a>,
+    schema: &Source<'a>,
+    document: &Value,
+    stops: &[Bytes],
+    doubts: &[Doubt],
+) -> Result<(), AllocError>
+    ensures { OnOk result (HasMore findings.old findings.new) }
+{
+    let Task { alloc, set, .. } = *task;
+    let mode = task.question.mode;
+    let bytes = schema.bytes.as_slice();
+    let reasons = reasons_of(alloc, set, task.name(), document, bytes, doubts)?;
+    let failures = if task.question.is_searched {
+        failures_of(alloc, set, task.name(), document, mode, stops, doubts)?
+    } else {
+        Vec::new(alloc)
+    };
+    for (index, doubt) in doubts.iter().enumerate() {
+        let mut entry = doubt_entry(task, doubt);
+        let reason = reasons.get(index).and_then(Option::as_ref);
+        entry.text = cause_text(alloc, &doubt.cause, schema.name, reason)?;
+        if let Some(Some(failure)) = failures.get(index) {
+            entry.note = Some(failure_text(alloc, failure, mode.is_some())?);
         }
+        findings.add_once(entry)?;
     }
-
-    /// Adds each place at which the template may fail, with the reason in the schema and a value for which it does, where
-    /// these are found.
-    fn add_doubts(
-        &self,
-        alloc: Global,
-        findings: &mut Findings<'a>,
-        document: &Value,
-        stops: &[Bytes],
-        doubts: &[Doubt],
-    ) -> Result<(), AllocError>
-        ensures { OnOk result (HasMore findings.old findings.new) }
-    {
-        let Render {
-            set,
-            first,
-            name,
-            mode,
-            is_searched,
-            sources,
-            schema,
-        } = *self;
-        let bytes = schema.bytes.as_slice();
-        let reasons = reasons_of(alloc, set, name, document, bytes, doubts)?;
-        let failures = if is_searched {
-            failures_of(alloc, set, name, document, mode, stops, doubts)?
-        } else {
-            Vec::new(alloc)
-        };
-        for (index, doubt) in doubts.iter().enumerate() {
-            let mut entry = doubt_entry(alloc, set, first, sources, doubt)?;
-            let reason = reasons.get(index).and_then(Option::as_ref);
-            entry.text = cause_text(alloc, &doubt.cause, schema.name, reason)?;
-            if let Some(Some(failure)) = failures.get(index) {
-                entry.note = Some(failure_text(alloc, failure, mode.is_some())?);
-            }
-            findings.add_once(entry)?;
-        }
-        Ok(())
-    }
+    Ok(())
 }
 
 /// The message about a value for which a template fails, by the mode that was asked for or by each.
@@ -317,33 +276,19 @@ fn say_part(said: Sentence, part: &str) -> Sentence {
 }
 
 /// Where a template may fail.
-fn doubt_entry<'a>(
-    alloc: Global,
-    set: &Set,
-    first: &'a str,
-    sources: &Sources<'a>,
-    doubt: &Doubt,
-) -> Result<Entry<'a>, AllocError> {
-    let mut entry = Entry {
-        file: first,
+fn doubt_entry<'a>(task: &Task<'_, 'a>, doubt: &Doubt) -> Entry<'a> {
+    let tree = task.set.get(doubt.template.as_slice());
+    let found = tree.and_then(|tree| task.sources.place(tree.file.as_slice(), doubt.start));
+    let (file, place) = found.unwrap_or((task.first, Place::first()));
+    Entry {
+        file,
         level: Level::Error,
         line: doubt.line.max(1),
-        column: 1,
+        column: place.column,
         rule: MAY_FAIL,
-        text: String::new(alloc),
+        text: String::new(task.alloc),
         note: None,
-    };
-    let Some(tree) = set.get(doubt.template.as_slice()) else {
-        return Ok(entry);
-    };
-    let file: &[u8] = tree.file.as_slice();
-    for template in sources.templates.as_slice() {
-        if template.name.as_bytes() == file {
-            entry.file = template.name;
-            entry.column = column_at(template.bytes.as_slice(), doubt.start);
-        }
     }
-    Ok(entry)
 }
 
 /// The message about a cause, for which there may be a reason in the schema of this name.
@@ -444,9 +389,4 @@ fn say_func(said: Sentence, func: Func) -> Sentence {
 /// Says a name, or a question mark where it is no text.
 pub(crate) fn say_name(said: Sentence, name: &[u8]) -> Sentence {
     said.say(from_utf8(name).unwrap_or("?"))
-}
-
-/// The column of the byte of a file before which this many stand.
-pub(crate) fn column_at(file: &[u8], start: usize) -> u64 {
-    Place::first().at(file, start.min(file.len())).column
 }

@@ -1,6 +1,10 @@
 //! What is checked.
+ghost use Rattle.std.specs.Prelude.{◌≡◌};
+ghost use Rattle.tmpl_report.specs.Safe.{asked_name};
 
+use std::alloc::Global;
 use tmpl_meaning::MissingKey;
+use tmpl_syntax::{Place, Set, base_name};
 
 /// A file that was read.
 #[derive(Drop)]
@@ -22,6 +26,16 @@ pub struct Sources<'a> {
     pub is_short: bool,
 }
 
+impl<'a> Sources<'a> {
+    /// The template file of this path, and the place in it before which this many bytes stand.
+    pub(crate) fn place(&self, path: &[u8], start: usize) -> Option<(&'a str, Place)> {
+        let mut files = self.templates.as_slice().iter();
+        let file = files.find(|file| file.name.as_bytes() == path)?;
+        let bytes = file.bytes.as_slice();
+        Some((file.name, Place::first().at(bytes, start.min(bytes.len()))))
+    }
+}
+
 /// What is asked about them.
 #[derive(Drop)]
 pub struct Question<'a> {
@@ -37,4 +51,27 @@ pub struct Question<'a> {
     pub is_searched: bool,
     /// The name of the format of which the output has to be; none for any output.
     pub writes: Option<&'a str>,
+}
+
+/// The template that is checked beside data or a schema: of which files, and what is asked about it.
+#[derive(Clone, Copy)]
+pub(crate) struct Task<'t, 'a> {
+    pub(crate) alloc: Global,
+    pub(crate) set: &'t Set,
+    pub(crate) question: &'t Question<'a>,
+    pub(crate) sources: &'t Sources<'a>,
+    /// The path of the first file.
+    pub(crate) first: &'a str,
+}
+
+impl<'a> Task<'_, 'a> {
+    /// The name of the template.
+    pub(crate) fn name(&self) -> &'a [u8]
+        ensures { result.now ≡ asked_name self.now.question.now self.now.first.now }
+    {
+        match self.question.name {
+            Some(name) => name.as_bytes(),
+            None => base_name(self.first),
+        }
+    }
 }

@@ -20,13 +20,12 @@ use crate::held::add_held;
 use crate::rendered::{End, MOST_RENDERED, Render};
 use crate::rule::{FAILS_OVER_DATA, NOT_RENDERED_WHOLE};
 use crate::samples::{Nowhere, said_of};
-use crate::schema::{asked_name, column_at};
-use crate::source::{Question, Source, Sources};
+use crate::source::{Question, Source, Sources, Task};
 use serde_json::Value;
 use std::alloc::{AllocError, Global};
 use tmpl_engine::{Data, DataFault, MissingKey, Renderer, RunFault};
 use tmpl_problems::reason_text;
-use tmpl_syntax::Set;
+use tmpl_syntax::{Place, Set};
 
 /// The warning where a run meets a limit.
 const CUT: &str =
@@ -50,52 +49,53 @@ pub(crate) fn add_values<'a>(
     let Some(data) = &sources.data else {
         return Ok(());
     };
-    match &sources.schema {
-        Some(schema) => add_held(alloc, findings, schema, data),
-        None => match question.first {
-            Some(first) => add_rendered(alloc, findings, set, question, sources, data, first),
-            None => Ok(()),
-        },
+    if let Some(schema) = &sources.schema {
+        return add_held(alloc, findings, schema, data);
     }
+    let Some(first) = question.first else {
+        return Ok(());
+    };
+    let task = Task {
+        alloc,
+        set,
+        question,
+        sources,
+        first,
+    };
+    add_rendered(&task, findings, data)
 }
 
 /// Adds the fault of the run over the data, if nothing else is wrong.
 fn add_rendered<'a>(
-    alloc: Global,
+    task: &Task<'_, 'a>,
     findings: &mut Findings<'a>,
-    set: &Set,
-    question: &Question<'a>,
-    sources: &Sources<'a>,
     data: &Source<'a>,
-    first: &'a str,
 ) -> Result<(), AllocError>
-    ensures whole { OnOk result (has_error findings.new ≡ false → sources.now.is_short ≡ false
-        → IsRenderedOver question.now first.now «data».now (set_view set.now) findings.new) }
-    ensures told { OnOk result (AddsFaults question.now first.now «data».now (set_view set.now) findings.old findings.new) }
+    ensures whole { OnOk result (has_error findings.new ≡ false → task.now.sources.now.is_short ≡ false
+        → IsRenderedOver task.now.question.now task.now.first.now «data».now (set_view task.now.set.now) findings.new) }
+    ensures told { OnOk result (AddsFaults task.now.question.now task.now.first.now «data».now (set_view task.now.set.now)
+        findings.old findings.new) }
 {
-    if sources.is_short || findings.has_errors() {
+    if task.sources.is_short || findings.has_errors() {
         return Ok(());
     }
-    add_run(alloc, findings, set, question, sources, data, first)
+    add_run(task, findings, data)
 }
 
 /// The same, whatever else is wrong.
 #[tactic(auto, using(crate::proofs::ValueLemmas::runs))]
 fn add_run<'a>(
-    alloc: Global,
+    task: &Task<'_, 'a>,
     findings: &mut Findings<'a>,
-    set: &Set,
-    question: &Question<'a>,
-    sources: &Sources<'a>,
     data: &Source<'a>,
-    first: &'a str,
 ) -> Result<(), AllocError>
     ensures whole { OnOk result (has_error findings.new ≡ false
-        → IsRenderedOver question.now first.now «data».now (set_view set.now) findings.new) }
-    ensures told { OnOk result (AddsFaults question.now first.now «data».now (set_view set.now) findings.old findings.new) }
+        → IsRenderedOver task.now.question.now task.now.first.now «data».now (set_view task.now.set.now) findings.new) }
+    ensures told { OnOk result (AddsFaults task.now.question.now task.now.first.now «data».now (set_view task.now.set.now)
+        findings.old findings.new) }
 {
-    match Data::from_json(alloc, data.bytes.as_slice()) {
-        Ok(tree) => add_run_over(alloc, findings, set, question, sources, data, first, &tree),
+    match Data::from_json(task.alloc, data.bytes.as_slice()) {
+        Ok(tree) => add_run_over(task, findings, data, &tree),
         Err(DataFault::OutOfMemory) => Err(AllocError),
         Err(_) => Ok(()),
     }
@@ -103,104 +103,87 @@ fn add_run<'a>(
 
 /// The same, over data that was read.
 fn add_run_over<'a>(
-    alloc: Global,
+    task: &Task<'_, 'a>,
     findings: &mut Findings<'a>,
-    set: &Set,
-    question: &Question<'a>,
-    sources: &Sources<'a>,
     data: &Source<'a>,
-    first: &'a str,
     tree: &Data,
 ) -> Result<(), AllocError>
     requires { data_of «data».now.bytes.items ≡ Ok (value_of tree.now) }
     ensures whole { OnOk result (has_error findings.new ≡ false
-        → IsRenderedOver question.now first.now «data».now (set_view set.now) findings.new) }
-    ensures told { OnOk result (AddsFaults question.now first.now «data».now (set_view set.now) findings.old findings.new) }
+        → IsRenderedOver task.now.question.now task.now.first.now «data».now (set_view task.now.set.now) findings.new) }
+    ensures told { OnOk result (AddsFaults task.now.question.now task.now.first.now «data».now (set_view task.now.set.now)
+        findings.old findings.new) }
 {
-    let renderer = Renderer::new(alloc, set)?;
+    let renderer = Renderer::new(task.alloc, task.set)?;
     let render = Render {
         renderer: &renderer,
-        name: asked_name(question, first),
-        mode: question.mode.unwrap_or(MissingKey::Default),
+        name: task.name(),
+        mode: task.question.mode.unwrap_or(MissingKey::Default),
     };
-    let end = render.over(alloc, tree, &mut Nowhere::of(MOST_RENDERED))?;
-    add_end(
-        alloc, findings, set, question, sources, data, first, tree, end,
-    )
+    let end = render.over(task.alloc, tree, &mut Nowhere::of(MOST_RENDERED))?;
+    add_end(task, findings, data, tree, end)
 }
 
 /// Adds the fault at which the run over the data ended, or warns that it met a limit.
 fn add_end<'a>(
-    alloc: Global,
+    task: &Task<'_, 'a>,
     findings: &mut Findings<'a>,
-    set: &Set,
-    question: &Question<'a>,
-    sources: &Sources<'a>,
     data: &Source<'a>,
-    first: &'a str,
     tree: &Data,
     end: End<'_>,
 ) -> Result<(), AllocError>
     requires value { data_of «data».now.bytes.items ≡ Ok (value_of tree.now) }
-    requires end { IsEnd (run_rules (unwrap_or question.now.mode Default)) (set_view set.now)
-        (asked_name question.now first.now) (value_of tree.now) end }
+    requires end { IsEnd (run_rules (unwrap_or task.now.question.now.mode Default)) (set_view task.now.set.now)
+        (asked_name task.now.question.now task.now.first.now) (value_of tree.now) end }
     ensures whole { OnOk result (has_error findings.new ≡ false
-        → IsRenderedOver question.now first.now «data».now (set_view set.now) findings.new) }
-    ensures told { OnOk result (AddsFaults question.now first.now «data».now (set_view set.now) findings.old findings.new) }
+        → IsRenderedOver task.now.question.now task.now.first.now «data».now (set_view task.now.set.now) findings.new) }
+    ensures told { OnOk result (AddsFaults task.now.question.now task.now.first.now «data».now (set_view task.now.set.now)
+        findings.old findings.new) }
 {
     match end {
         End::Whole => Ok(()),
-        End::Limit => add_cut(alloc, findings, first),
-        End::Fault(fault) => add_fault(
-            alloc, findings, set, question, sources, data, first, &fault,
-        ),
+        End::Limit => add_cut(task, findings),
+        End::Fault(fault) => add_fault(task, findings, data, &fault),
     }
 }
 
 /// Warns that the run met a limit.
 #[tactic(auto, using(crate::proofs::ValueLemmas::values))]
-fn add_cut<'a>(alloc: Global, findings: &mut Findings<'a>, first: &'a str) -> Result<(), AllocError>
+fn add_cut<'a>(task: &Task<'_, 'a>, findings: &mut Findings<'a>) -> Result<(), AllocError>
     ensures found { OnOk result (is_cut findings.new ≡ true) }
     ensures errors { OnOk result (errors_in findings.new ≡ errors_in findings.old) }
 {
-    let text = String::from_str(alloc, CUT)?;
-    findings.warn(first, (1, 1), NOT_RENDERED_WHOLE, text)
+    let text = String::from_str(task.alloc, CUT)?;
+    findings.warn(task.first, (1, 1), NOT_RENDERED_WHOLE, text)
 }
 
 /// Adds the fault of the run.
 #[tactic(auto, using(crate::proofs::ValueLemmas::values))]
 fn add_fault<'a>(
-    alloc: Global,
+    task: &Task<'_, 'a>,
     findings: &mut Findings<'a>,
-    set: &Set,
-    question: &Question<'a>,
-    sources: &Sources<'a>,
     data: &Source<'a>,
-    first: &'a str,
     fault: &RunFault<'_>,
 ) -> Result<(), AllocError>
     ensures found { OnOk result (has_error findings.new ≡ true) }
     ensures added { OnOk result (AddsFault (fault_seen fault.now) findings.old findings.new) }
 {
-    let name = asked_name(question, first);
-    let detail = detail_over(alloc, set, name, data.bytes.as_slice(), fault)?;
-    let entry = fault_entry(alloc, sources, first, fault, &detail)?;
+    let detail = detail_over(task, data.bytes.as_slice(), fault)?;
+    let entry = fault_entry(task, fault, &detail)?;
     findings.add(entry)
 }
 
 /// What is known of a fault over these data.
 fn detail_over(
-    alloc: Global,
-    set: &Set,
-    name: &[u8],
+    task: &Task<'_, '_>,
     data: &[u8],
     fault: &RunFault<'_>,
 ) -> Result<Detail, AllocError> {
-    match Value::from_slice(alloc, data) {
-        Ok(value) => detail_of(alloc, set, name, &value, fault),
+    match Value::from_slice(task.alloc, data) {
+        Ok(value) => detail_of(task.alloc, task.set, task.name(), &value, fault),
         Err(error) if error.is_memory() => Err(AllocError),
         Err(_) => Ok(Detail {
-            text: String::new(alloc),
+            text: String::new(task.alloc),
             start: None,
         }),
     }
@@ -208,42 +191,22 @@ fn detail_over(
 
 /// The fault of a run.
 fn fault_entry<'a>(
-    alloc: Global,
-    sources: &Sources<'a>,
-    first: &'a str,
+    task: &Task<'_, 'a>,
     fault: &RunFault<'_>,
     detail: &Detail,
 ) -> Result<Entry<'a>, AllocError>
     ensures { IfOk result (IsOfFault (fault_seen fault.now)) }
 {
-    let said = said_of(alloc, &fault.kind)?;
-    let (file, column) = place_of(sources, first, fault.file, detail.start);
+    let said = said_of(task.alloc, &fault.kind)?;
+    let found = task.sources.place(fault.file, detail.start.unwrap_or(0));
+    let (file, place) = found.unwrap_or((task.first, Place::first()));
     Ok(Entry {
         file,
         level: Level::Error,
         line: fault.line,
-        column,
+        column: place.column,
         rule: FAILS_OVER_DATA,
-        text: reason_text(alloc, said.as_str(), detail.text.as_str())?,
+        text: reason_text(task.alloc, said.as_str(), detail.text.as_str())?,
         note: None,
     })
-}
-
-/// The file of this path, and the column of the action before which so many bytes stand.
-fn place_of<'a>(
-    sources: &Sources<'a>,
-    first: &'a str,
-    file: &[u8],
-    start: Option<usize>,
-) -> (&'a str, u64) {
-    for template in sources.templates.as_slice() {
-        if template.name.as_bytes() == file {
-            let column = match start {
-                Some(start) => column_at(template.bytes.as_slice(), start),
-                None => 1,
-            };
-            return (template.name, column);
-        }
-    }
-    (first, 1)
 }

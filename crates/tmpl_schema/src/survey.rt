@@ -34,6 +34,9 @@ pub(crate) const MOST_ROUNDS: usize = 16;
 /// The most work that all searches and checks take, and again the survey of what they found to be too much.
 pub(crate) const MOST_EFFORT: u64 = 120_000_000;
 
+/// How many templates that are called are followed: each call looks for its own among all.
+const MOST_CALLED: usize = 12_000;
+
 /// What a template is asked for: the set and the name in it, the shape of its data, the mode for missing keys or else each,
 /// and the templates that need not be there.
 #[derive(Clone, Copy)]
@@ -489,6 +492,9 @@ fn grow(
     call: &Call,
 ) -> Result<Shape, AllocError> {
     base.effort.spend(table.len() as u64 / 8);
+    if table.len() >= MOST_CALLED {
+        base.effort.spend(MOST_EFFORT);
+    }
     let Some(place) = place(table.as_slice(), call.name.as_slice()) else {
         return add_entry(base, set, table, call.name.as_slice(), &call.shape);
     };

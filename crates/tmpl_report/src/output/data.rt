@@ -5,66 +5,45 @@ ghost use Rattle.tmpl_report.specs.computed.Entries.{AddsBroken};
 use crate::findings::Findings;
 use crate::output::message::{broken_entry, broken_text, shown_text};
 use crate::output::render::{Broken, Writer};
-use crate::schema::asked_name;
-use crate::source::{Question, Source, Sources};
-use std::alloc::{AllocError, Global};
-use tmpl_engine::{Data, DataFault, MissingKey, Renderer};
+use crate::source::{Source, Task};
+use std::alloc::AllocError;
+use tmpl_engine::{Data, DataFault, Renderer};
 use tmpl_formats::Format;
-use tmpl_syntax::Set;
 
 /// Adds where the output over the data ceases to be of the format.
-pub(crate) fn add_over_data<'a>(
-    alloc: Global,
+pub(crate) fn add_over_data<'t, 'a>(
+    task: &Task<'t, 'a>,
     findings: &mut Findings<'a>,
-    set: &Set,
-    question: &Question<'a>,
-    sources: &Sources<'a>,
     data: &Source<'a>,
-    first: &'a str,
-    format: &Format,
+    format: &'t Format,
 ) -> Result<(), AllocError>
     ensures { OnOk result (AddsBroken findings.old findings.new) }
 {
-    let tree = match Data::from_json(alloc, data.bytes.as_slice()) {
+    let tree = match Data::from_json(task.alloc, data.bytes.as_slice()) {
         Ok(tree) => tree,
         Err(DataFault::OutOfMemory) => return Err(AllocError),
         Err(_) => return Ok(()),
     };
-    let renderer = Renderer::new(alloc, set)?;
-    let writer = Writer {
-        alloc,
-        set,
-        renderer: &renderer,
-        name: asked_name(question, first),
-        mode: question.mode.unwrap_or(MissingKey::Default),
-        format,
-    };
-    let Some(broken) = writer.broken_over(&tree)? else {
-        return Ok(());
-    };
-    add_broken(
-        alloc, findings, question, sources, first, &writer, &tree, &broken,
-    )
+    let renderer = Renderer::new(task.alloc, task.set)?;
+    let writer = Writer::new(task, &renderer, format);
+    match writer.broken_over(&tree)? {
+        Some(broken) => add_broken(&writer, findings, &tree, &broken),
+        None => Ok(()),
+    }
 }
 
 /// Adds where an output over the data ceases to be of the format.
 fn add_broken<'a>(
-    alloc: Global,
+    writer: &Writer<'_, 'a>,
     findings: &mut Findings<'a>,
-    question: &Question<'a>,
-    sources: &Sources<'a>,
-    first: &'a str,
-    writer: &Writer<'_>,
     tree: &Data,
     broken: &Broken,
 ) -> Result<(), AllocError>
     ensures { OnOk result (AddsBroken findings.old findings.new) }
 {
-    let word = question.writes.unwrap_or("");
-    let text = broken_text(alloc, "writes no ", word, broken)?;
-    let note = shown_text(alloc, broken, None)?;
-    let files = sources.templates.as_slice();
-    let origin = writer.origin_of(files, tree, broken.mistake.offset)?;
-    let entry = broken_entry(sources, first, origin, text, note);
+    let text = broken_text(&writer.task, "writes no ", broken)?;
+    let note = shown_text(writer.task.alloc, broken, None)?;
+    let origin = writer.origin_of(tree, broken.mistake.offset)?;
+    let entry = broken_entry(&writer.task, origin, text, note);
     findings.add(entry)
 }

@@ -5,7 +5,7 @@ use crate::entry::{Entry, Level};
 use crate::output::render::Broken;
 use crate::output::spread::Origin;
 use crate::rule::NOT_OF_FORMAT;
-use crate::source::Sources;
+use crate::source::Task;
 use std::alloc::{AllocError, Global};
 use tmpl_hints::Sentence;
 use tmpl_syntax::Place;
@@ -17,16 +17,15 @@ const AFTER: usize = 20;
 
 /// The message: that an output is of no such format, and what the format has where it ceases to be.
 pub(super) fn broken_text(
-    alloc: Global,
+    task: &Task<'_, '_>,
     words: &str,
-    format: &str,
     broken: &Broken,
 ) -> Result<String, AllocError> {
     let output = broken.output.as_slice();
     let place = Place::first().at(output, broken.mistake.offset.min(output.len()));
-    Sentence::new(alloc)
+    Sentence::new(task.alloc)
         .say(words)
-        .say(format)
+        .say(task.question.writes.unwrap_or(""))
         .say(": expected ")
         .say(broken.mistake.wanted)
         .say(" at output:")
@@ -60,21 +59,17 @@ pub(super) fn shown_text(
     }
 }
 
-/// What is reported of the action that wrote it.
+/// What is reported of the action that wrote it; the first line and column, where it is not known.
 pub(super) fn broken_entry<'a>(
-    sources: &Sources<'a>,
-    first: &'a str,
+    task: &Task<'_, 'a>,
     origin: Option<Origin<'a>>,
     text: String,
     note: String,
 ) -> Entry<'a>
     ensures { IsNotOfFormat result }
 {
-    let file = match &origin {
-        Some(origin) => origin.file,
-        None => first,
-    };
-    let place = place_of(sources, origin);
+    let found = origin.and_then(|o| task.sources.place(o.file.as_bytes(), o.start));
+    let (file, place) = found.unwrap_or((task.first, Place::first()));
     Entry {
         file,
         level: Level::Error,
@@ -84,19 +79,4 @@ pub(super) fn broken_entry<'a>(
         text,
         note: Some(note),
     }
-}
-
-/// The line and column of a node; the first, where it is not known.
-fn place_of(sources: &Sources<'_>, origin: Option<Origin<'_>>) -> Place {
-    let mut place = Place::first();
-    let Some(origin) = origin else {
-        return place;
-    };
-    for template in sources.templates.as_slice() {
-        if template.name == origin.file {
-            let bytes = template.bytes.as_slice();
-            place = Place::first().at(bytes, origin.start.min(bytes.len()));
-        }
-    }
-    place
 }

@@ -5,10 +5,10 @@ ghost use Rattle.tmpl_engine.specs.View.{templates_in};
 ghost use Rattle.tmpl_report.specs.computed.Written.{IsBroken, IsOutput, output_rules};
 
 use crate::output::spread::{Origin, SpreadSet};
-use crate::source::Source;
-use std::alloc::{AllocError, Global};
+use crate::source::Task;
+use std::alloc::AllocError;
 use tmpl_engine::{
-    Data, MissingKey, Options, RenderError, Renderer, RunFault, RunFaultKind, Set, Sink, SinkFault,
+    Data, MissingKey, Options, RenderError, Renderer, RunFault, RunFaultKind, Sink, SinkFault,
 };
 use tmpl_formats::{Format, Mistake, first_mistake};
 
@@ -16,6 +16,9 @@ use tmpl_formats::{Format, Mistake, first_mistake};
 const STEPS: u64 = 1_000_000;
 
 const DEPTH: u32 = 500;
+
+/// The most steps of a run that is not long.
+const FEW_STEPS: u64 = 20_000;
 
 /// How often steps are halved: more than there are steps.
 const MOST_HALVES: usize = 64;
@@ -69,13 +72,12 @@ impl Sink for Counted {
 
 /// The template that is rendered, and the format that its output has to be of.
 #[derive(Clone, Copy)]
-pub(super) struct Writer<'w> {
-    pub(super) alloc: Global,
-    pub(super) set: &'w Set,
+pub(super) struct Writer<'w, 'a> {
+    pub(super) task: Task<'w, 'a>,
     pub(super) renderer: &'w Renderer,
-    pub(super) name: &'w [u8],
-    pub(super) mode: MissingKey,
     pub(super) format: &'w Format,
+    name: &'a [u8],
+    mode: MissingKey,
 }
 
 /// An output that is not of the format.
@@ -85,14 +87,29 @@ pub(super) struct Broken {
     pub(super) mistake: Mistake,
 }
 
-impl<'w> Writer<'w> {
+impl<'w, 'a> Writer<'w, 'a> {
+    /// That of a task, whose set is compiled.
+    pub(super) fn new(
+        task: &Task<'w, 'a>,
+        renderer: &'w Renderer,
+        format: &'w Format,
+    ) -> Writer<'w, 'a> {
+        Writer {
+            task: *task,
+            renderer,
+            format,
+            name: task.name(),
+            mode: task.question.mode.unwrap_or(MissingKey::Default),
+        }
+    }
+
     /// The output over data; none where the run has a fault or meets a limit.
     fn output_over(&self, tree: &Data) -> Result<Option<Vec<u8>>, AllocError>
         ensures { IfOk result (λ output. IfSome output (λ bytes. IsOutput (output_rules self.now.mode)
             (templates_in self.now.renderer.now) self.now.name.now (value_of tree.now) bytes.items)) }
     {
         let mut out = Kept {
-            bytes: Vec::new(self.alloc),
+            bytes: Vec::new(self.task.alloc),
             failures: 0,
         };
         let options = Options {
@@ -102,7 +119,7 @@ impl<'w> Writer<'w> {
         };
         match self
             .renderer
-            .render(self.alloc, self.name, Some(tree), &options, &mut out)
+            .render(self.task.alloc, self.name, Some(tree), &options, &mut out)
         {
             Ok(()) => {
                 let Kept { bytes, .. } = out;
@@ -122,15 +139,20 @@ impl<'w> Writer<'w> {
         let Some(output) = self.output_over(tree)? else {
             return Ok(None);
         };
-        let found = first_mistake(self.alloc, self.format, output.as_slice())?;
+        let found = first_mistake(self.task.alloc, self.format, output.as_slice())?;
         match found {
             Some(mistake) => Ok(Some(Broken { output, mistake })),
             None => Ok(None),
         }
     }
 
-    /// The fault of a run of the spread templates of so many steps, if it is that no step is left before more bytes are
-    /// written than these.
+    /// Whether a run over data takes long.
+    pub(super) fn is_long(&self, tree: &Data) -> Result<bool, AllocError> {
+        let cut = self.cut_at(self.renderer, tree, FEW_STEPS, MOST_OUTPUT)?;
+        Ok(cut.is_some())
+    }
+
+    /// The fault of a run of this many steps, if it is that no step is left before more bytes are written than these.
     fn cut_at<'r>(
         &self,
         renderer: &'r Renderer,
@@ -150,7 +172,7 @@ impl<'w> Writer<'w> {
             depth: DEPTH,
             steps: steps.max(1).min(STEPS),
         };
-        match renderer.render(self.alloc, self.name, Some(tree), &options, &mut out) {
+        match renderer.render(self.task.alloc, self.name, Some(tree), &options, &mut out) {
             Err(RenderError::OutOfMemory) => Err(AllocError),
             Err(RenderError::Fault(fault)) if matches!(&fault.kind, RunFaultKind::StepsSpent(_)) =>
                 { Ok(Some(fault)) }
@@ -160,16 +182,17 @@ impl<'w> Writer<'w> {
 
     /// The node that writes the byte before which there are this many of the output, or the last node where it has no
     /// more. A run of fewer steps writes a prefix of the output, so it is the one for which the steps run out first.
-    pub(super) fn origin_of<'a>(
+    pub(super) fn origin_of(
         &self,
-        files: &[Source<'a>],
         tree: &Data,
         offset: usize,
     ) -> Result<Option<Origin<'a>>, AllocError> {
-        let Some(spread) = SpreadSet::of(self.alloc, self.set, files)? else {
+        let task = &self.task;
+        let files = task.sources.templates.as_slice();
+        let Some(spread) = SpreadSet::of(task.alloc, task.set, files)? else {
             return Ok(None);
         };
-        let renderer = Renderer::new(self.alloc, &spread.set)?;
+        let renderer = Renderer::new(task.alloc, &spread.set)?;
         let mut few: u64 = 0;
         let mut enough: u64 = STEPS;
         let mut origin = None;
@@ -187,23 +210,16 @@ impl<'w> Writer<'w> {
             }
         }
         if few == 0 {
-            return Ok(self.first_origin(files));
+            return Ok(self.first_origin());
         }
         Ok(origin)
     }
 
     /// The first node of the template.
-    fn first_origin<'a>(&self, files: &[Source<'a>]) -> Option<Origin<'a>> {
-        let tree = self.set.get(self.name)?;
-        let first = tree.nodes.as_slice().first()?;
-        for file in files {
-            if file.name.as_bytes() == tree.file.as_slice() {
-                return Some(Origin {
-                    file: file.name,
-                    start: first.start,
-                });
-            }
-        }
-        None
+    fn first_origin(&self) -> Option<Origin<'a>> {
+        let tree = self.task.set.get(self.name)?;
+        let start = tree.nodes.as_slice().first()?.start;
+        let (file, _) = self.task.sources.place(tree.file.as_slice(), start)?;
+        Some(Origin { file, start })
     }
 }

@@ -8,19 +8,22 @@ use crate::output::message::{broken_entry, broken_text, shown_text};
 use crate::output::render::Writer;
 use crate::output::spread::Origin;
 use crate::output::strings::{HOSTILE, count_strings, with_string};
-use crate::schema::asked_name;
-use crate::source::{Question, Sources};
+use crate::source::Task;
 use serde_json::Value;
-use std::alloc::{AllocError, Global};
-use tmpl_engine::{Data, DataFault, MissingKey, Renderer};
+use std::alloc::AllocError;
+use tmpl_engine::{Data, DataFault, Renderer};
 use tmpl_formats::Format;
 use tmpl_json_schema::{Draw, Flip, LEVELS, conforms};
-use tmpl_syntax::Set;
 
 /// The most renders, and the most bytes of data and output of all of them.
 const MOST_RENDERS: usize = 2_000;
 
 const MOST_BYTES: usize = 8_000_000;
+
+/// How many renders one of a long run counts for, and one in whose output an action is looked for.
+const LONG: usize = 50;
+
+const LONG_AND_SEARCHED: usize = 500;
 
 /// The most actions that are reported.
 const MOST_FOUND: usize = 20;
@@ -45,6 +48,11 @@ struct Hunt<'a> {
 }
 
 impl Hunt<'_> {
+    /// Counts renders.
+    fn spend(&mut self, renders: usize) {
+        self.renders = self.renders.saturating_sub(renders);
+    }
+
     fn is_over(&self) -> bool {
         self.renders == 0 || self.bytes == 0 || self.found.len() >= MOST_FOUND
     }
@@ -53,63 +61,46 @@ impl Hunt<'_> {
 /// What is searched: the outputs of a template over data of a document.
 #[derive(Clone, Copy)]
 struct Search<'a, 's> {
-    writer: Writer<'s>,
+    writer: Writer<'s, 'a>,
     root: &'s Value,
-    sources: &'s Sources<'a>,
-    /// The name of the format.
-    word: &'s str,
 }
 
 /// Adds where the output is not of the format for data of the schema that are found.
-pub(crate) fn add_over_schema<'a, 's>(
-    alloc: Global,
+pub(crate) fn add_over_schema<'t, 'a>(
+    task: &Task<'t, 'a>,
     findings: &mut Findings<'a>,
-    set: &'s Set,
-    question: &'s Question<'a>,
-    sources: &'s Sources<'a>,
-    document: &'s Value,
-    first: &'a str,
-    format: &'s Format,
+    document: &'t Value,
+    format: &'t Format,
 ) -> Result<(), AllocError>
     ensures { OnOk result (AddsBroken findings.old findings.new) }
 {
-    let renderer = Renderer::new(alloc, set)?;
+    let renderer = Renderer::new(task.alloc, task.set)?;
     let search = Search {
-        writer: Writer {
-            alloc,
-            set,
-            renderer: &renderer,
-            name: asked_name(question, first),
-            mode: question.mode.unwrap_or(MissingKey::Default),
-            format,
-        },
+        writer: Writer::new(task, &renderer, format),
         root: document,
-        sources,
-        word: question.writes.unwrap_or(""),
     };
     let mut hunt = Hunt {
-        found: Vec::new(alloc),
+        found: Vec::new(task.alloc),
         renders: MOST_RENDERS,
         bytes: MOST_BYTES,
     };
     search.look(&mut hunt, true)?;
     search.look(&mut hunt, false)?;
     let Hunt { found, .. } = hunt;
-    add_found(findings, sources, first, found)
+    add_found(task, findings, found)
 }
 
 /// Adds what is found.
 fn add_found<'a>(
+    task: &Task<'_, 'a>,
     findings: &mut Findings<'a>,
-    sources: &Sources<'a>,
-    first: &'a str,
     found: Vec<Found<'a>>,
 ) -> Result<(), AllocError>
     ensures { OnOk result (AddsBroken findings.old findings.new) }
 {
     for one in found.into_iter() {
         let Found { origin, text, note } = one;
-        let entry = broken_entry(sources, first, origin, text, note);
+        let entry = broken_entry(task, origin, text, note);
         findings.add(entry)?;
     }
     Ok(())
@@ -137,7 +128,7 @@ impl<'a> Search<'a, '_> {
         is_lean: bool,
         flips: &[Flip],
     ) -> Result<Vec<usize>, AllocError> {
-        let mut draw = Draw::new(self.writer.alloc, self.root, is_lean, flips);
+        let mut draw = Draw::new(self.writer.task.alloc, self.root, is_lean, flips);
         let drawn = draw.whole()?;
         let Draw { counts, .. } = draw;
         if let Some(value) = drawn {
@@ -156,7 +147,7 @@ impl<'a> Search<'a, '_> {
                     return Ok(());
                 }
                 let mut left = number;
-                let other = with_string(self.writer.alloc, value, text, &mut left)?;
+                let other = with_string(self.writer.task.alloc, value, text, &mut left)?;
                 self.try_value(hunt, &other)?;
             }
         }
@@ -165,13 +156,13 @@ impl<'a> Search<'a, '_> {
 
     /// Renders the template over a value, if that conforms, and keeps what is found.
     fn try_value(&self, hunt: &mut Hunt<'a>, value: &Value) -> Result<(), AllocError> {
-        hunt.renders = hunt.renders.saturating_sub(1);
+        hunt.spend(1);
         if !conforms(self.root, LEVELS, self.root, value) {
             return Ok(());
         }
-        let data = value.to_string(self.writer.alloc)?;
+        let data = value.to_string(self.writer.task.alloc)?;
         hunt.bytes = hunt.bytes.saturating_sub(data.len());
-        let tree = match Data::from_json(self.writer.alloc, data.as_bytes()) {
+        let tree = match Data::from_json(self.writer.task.alloc, data.as_bytes()) {
             Ok(tree) => tree,
             Err(DataFault::OutOfMemory) => return Err(AllocError),
             Err(_) => return Ok(()),
@@ -181,14 +172,16 @@ impl<'a> Search<'a, '_> {
 
     /// Keeps what is found of the output over data, unless it is of an action of which something is found.
     fn try_data(&self, hunt: &mut Hunt<'a>, tree: &Data, data: &str) -> Result<(), AllocError> {
-        let alloc = self.writer.alloc;
+        let alloc = self.writer.task.alloc;
+        let is_long = self.writer.is_long(tree)?;
         let Some(broken) = self.writer.broken_over(tree)? else {
+            hunt.spend(if is_long { LONG } else { 0 });
             return Ok(());
         };
+        hunt.spend(if is_long { LONG_AND_SEARCHED } else { 0 });
         hunt.bytes = hunt.bytes.saturating_sub(broken.output.len());
-        let files = self.sources.templates.as_slice();
-        let origin = self.writer.origin_of(files, tree, broken.mistake.offset)?;
-        let text = broken_text(alloc, "may write no ", self.word, &broken)?;
+        let origin = self.writer.origin_of(tree, broken.mistake.offset)?;
+        let text = broken_text(&self.writer.task, "may write no ", &broken)?;
         let shown = if data.len() > MOST_SHOWN {
             None
         } else {

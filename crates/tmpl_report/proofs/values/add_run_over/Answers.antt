@@ -14,9 +14,9 @@ pub add_end-requires-clause-end : goal.add_end-requires-clause-end
 add_end-requires-clause-end c =
     let value = value_of c.args.tree.now in
     let end = c.in_ok-end.end in
-    let mode = unwrap_or c.args.question.now.mode Default in
+    let mode = unwrap_or c.args.task.now.question.now.mode Default in
     let ts = templates_in c.in_ok-renderer.renderer in
-    let name = c.asked_name.result.now in
+    let name = c.name.result.now in
     let by_mode = subst (λ (m : MissingKey). IsEnd (run_rules m) ts name value end) c.unwrap_or.ensures c.in_ok-end.ensures in
     let of_set = subst (λ (s : List Template). IsEnd (run_rules mode) s name value end) c.in_ok-renderer.ensures by_mode in
-    subst (λ (n : List ℕ). IsEnd (run_rules mode) (set_view c.args.set.now) n value end) c.asked_name.ensures of_set
+    subst (λ (n : List ℕ). IsEnd (run_rules mode) (set_view c.args.task.now.set.now) n value end) c.name.ensures of_set

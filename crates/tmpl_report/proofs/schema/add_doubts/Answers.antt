@@ -1,5 +1,5 @@
 use Rattle.tmpl_report.proofs.ErrorLemmas.{more-none, more-then}
-use Rattle.tmpl_report.proofs.schema.Render.add_doubts.Goals as goal
+use Rattle.tmpl_report.proofs.schema.add_doubts.Goals as goal
 
 pub loop-index-init : goal.loop-index-init
 loop-index-init c = more-none c.args.findings.now

@@ -1,5 +1,5 @@
 use Rattle.tmpl_report.specs.computed.Entries.{HasMore}
-use Rattle.tmpl_report.proofs.schema.Render.add_doubts.Given as goal
+use Rattle.tmpl_report.proofs.schema.add_doubts.Given as goal
 
 abbrev pub invariant-loop-index : goal.invariant-loop-index
 invariant-loop-index l = HasMore l.initial.findings l.findings
