@@ -133,10 +133,11 @@ uint8_t tmpl_set_print(tmpl_set *set, tmpl_text *text);
 
 /* Reports every error in these files, added one after the other: in `text` a line for each, as compilers write it,
  * `FILE:LINE:COLUMN: error: REASON: DETAIL`, as tmpl-check writes it too. Lines and columns are from 1, columns by characters. Of
- * a file the first 1,000 are reported; then a line of the reason `too many errors` says at least how many more there are. A
- * file that is refused adds nothing to those after it. Gives TMPL_OK where nothing is wrong, TMPL_REFUSED where a file is
- * refused, TMPL_NOT_TEXT where the name of one is not UTF-8, or TMPL_MEMORY. But with TMPL_REFUSED `text` is empty. */
-uint8_t tmpl_check(const tmpl_file *files, size_t file_count, tmpl_text *text);
+ * a file the first errors are reported, up to `most`, or up to 1,000 where that is 0 or above it; then a line of the reason `too
+ * many errors` says at least how many more there are. A file that is refused adds nothing to those after it. Gives TMPL_OK where
+ * nothing is wrong, TMPL_REFUSED where a file is refused, TMPL_NOT_TEXT where the name of one is not UTF-8, or TMPL_MEMORY. But with
+ * TMPL_REFUSED `text` is empty. */
+uint8_t tmpl_check(const tmpl_file *files, size_t file_count, size_t most, tmpl_text *text);
 
 /* The name of a template, any bytes that are UTF-8. It is borrowed for the call. */
 typedef struct tmpl_name {

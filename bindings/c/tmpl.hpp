@@ -162,7 +162,7 @@ inline std::vector<problem> check(const files &files, std::size_t most) {
     lent.reserve(files.size() + 1); // so that its pointer is not null
     for (const auto &[path, bytes] : files) lent.push_back(inside::file(path, bytes));
     inside::text text;
-    const int status = tmpl_check(lent.data(), lent.size(), &text);
+    const int status = tmpl_check(lent.data(), lent.size(), most, &text);
     if (status != TMPL_REFUSED) inside::judge(status, "tmpl: the name of a file is not UTF-8\n");
     std::vector<problem> found;
     const std::string_view all(text.bytes != nullptr ? text.bytes : "", text.size);

@@ -242,14 +242,15 @@ func Check(files []File, options CheckOptions) ([]Problem, error) {
 	defer freeFiles(array, len(files))
 	var text C.tmpl_text
 	defer C.tmpl_text_free(&text)
+	if options.Most == 0 {
+		options.Most = most
+	}
 	err := within(options.Memory, func() error {
-		return ended(C.tmpl_check(array, C.size_t(len(files)), &text), []byte("tmpl: the name of a file is not UTF-8"))
+		status := C.tmpl_check(array, C.size_t(len(files)), C.size_t(options.Most), &text)
+		return ended(status, []byte("tmpl: the name of a file is not UTF-8"))
 	})
 	if of, is := err.(*Error); !is || of.Status != notAccepted {
 		return nil, err
-	}
-	if options.Most == 0 {
-		options.Most = most
 	}
 	var problems []Problem
 	for rest := bytesOf(&text); len(problems) < options.Most && len(rest) > 0; {

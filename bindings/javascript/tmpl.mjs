@@ -386,7 +386,7 @@ function problemsOf(host, pairs, memory, most) {
         parts.forEach((it, number) => borrowed.put(number + 2, it));
         borrowed.words(0, 0, 0, 0);
         borrowed.words(1, ...sizes.flatMap((size, number) => [borrowed.pointer(number + 2), size]));
-        const status = host.call("tmpl_check", borrowed.pointer(1), BigInt(pairs.length), borrowed.pointer(0));
+        const status = host.call("tmpl_check", borrowed.pointer(1), BigInt(pairs.length), BigInt(most), borrowed.pointer(0));
         const said = linesOf(borrowed.seen(0), most);
         host.call("tmpl_text_free", borrowed.pointer(0));
         if (status === MEMORY) throw new MemoryError("tmpl: out of memory");

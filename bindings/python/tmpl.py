@@ -177,7 +177,7 @@ def _library():
     it.tmpl_render.argtypes = [ctypes.POINTER(_Settings), ctypes.POINTER(_File), ctypes.c_size_t, *text, *text, *buffers]
     kept, err, owned, settings = (ctypes.POINTER(it) for it in (_Kept, _Buffer, _Text, _Settings))
     calls = {
-        "tmpl_check": [ctypes.POINTER(_File), ctypes.c_size_t, owned],
+        "tmpl_check": [ctypes.POINTER(_File), ctypes.c_size_t, ctypes.c_size_t, owned],
         "tmpl_check_schema": [ctypes.POINTER(_File), ctypes.c_size_t, ctypes.POINTER(_Question), owned],
         "tmpl_set_add": [kept, ctypes.POINTER(_File), err],
         "tmpl_set_print": [kept, owned],
@@ -321,7 +321,7 @@ def check(files: Files, *, memory: int = 0, most: int = MOST) -> List[Problem]:
     held, text, most = _pairs(files), _Text(), _count("most", most)
     try:
         with _memory_up_to(memory):
-            status = _LIBRARY.tmpl_check(_array(held), len(held), text)
+            status = _LIBRARY.tmpl_check(_array(held), len(held), most, text)
         if status != REFUSED:
             _said(status, b"tmpl: the name of a file is not UTF-8" if status == NOT_TEXT else b"")
         names = [path.decode("utf-8", "replace") for path, _ in held]

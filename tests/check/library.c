@@ -240,7 +240,7 @@ static void check(const struct row *row, size_t size, size_t line_size, struct t
     tmpl_text text = {0};
     told->text = (tmpl_buffer){told->out, size, 0, 0}, told->said = (tmpl_buffer){told->line, line_size, 0, 0};
     told->is_quiet = 1, told->is_lent = 1;
-    told->status = tmpl_check(files, 2, &text);
+    told->status = tmpl_check(files, 2, 0, &text);
     lend(&text, &told->text);
     for (int i = 0; i < 2; i++) tmpl_text_free(&text), told->is_lent &= !text.size;
 }

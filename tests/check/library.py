@@ -263,6 +263,16 @@ def problems_in(memory):
         return len(error.problems)
 
 
+def lines_by_c(most):
+    """The lines of the call itself for a file with many mistakes, of which it reports so many."""
+    held, text = tmpl._pairs({"m": MISTAKES}), tmpl._Text()
+    try:
+        tmpl._LIBRARY.tmpl_check(tmpl._array(held), len(held), most, text)
+        return tmpl._lines(text, 2000)
+    finally:
+        tmpl._LIBRARY.tmpl_text_free(text)
+
+
 def judge_problems():
     """The parts of problems, and that they are looked for where somebody reads them, within the limit, and at most 1,000."""
     hostile = "b:1:1: error: out of place: c"
@@ -283,6 +293,8 @@ def judge_problems():
         ("not before they are read, and once", (before, count, after), (0, 2, 1)),
         ("at most 1,000", problems_in(0), 1000),
         ("as many as are asked for", len(tmpl.check({"m": MISTAKES}, most=7)), 7),
+        ("how many more there are", (len(lines_by_c(7)), lines_by_c(7)[7]), (8, "m:1:1: error: too many errors: at least 299993 more are not reported")),
+        ("1,000 where none are asked for", (len(lines_by_c(0)), len(lines_by_c(5000))), (1001, 1001)),
         ("in little memory", raised(lambda: problems_in(1 << 20)), "MemoryError"),
     ]
     for name, got, wanted in cases:

@@ -39,7 +39,7 @@ static int add(const struct input *it) { return tmpl_set_add(&set, &(tmpl_file){
 static int print(const struct input *it) { return (void)it, tmpl_set_print(&set, &text); }
 static int make(const struct input *it) { return (void)it, tmpl_program_make(&set, &program); }
 static int read_data(const struct input *it) { return tmpl_data_read(&data, it->data, strlen(it->data), &err); }
-static int check(const struct input *it) { return tmpl_check(&(tmpl_file){"t", 1, it->file, strlen(it->file)}, 1, &text); }
+static int check(const struct input *it) { return tmpl_check(&(tmpl_file){"t", 1, it->file, strlen(it->file)}, 1, 0, &text); }
 /* An alarm is as good an answer as none, and so is a file that is refused. */
 static int check_schema(const struct input *it) {
     const tmpl_question question = {{"s", 1, "{}", 2}, "", 0, &(tmpl_name){"x", 1}, 1, 0, 0};

@@ -4,7 +4,7 @@ NOT_UNDERSTOOD = "error: action not understood: "
 OUT_OF_PLACE = "error: out of place: "
 UNDECLARED = "error: undeclared variable: "
 OPEN = "error: file ends inside a control: "
-TOO_MANY = "1:1: error: too many errors: the first 1000 are reported, and at least %d are not"
+TOO_MANY = "1:1: error: too many errors: at least %d more are not reported"
 PIPED = ", and its lines with the indentation that they need: a template can't be piped"
 END = '"end" closes nothing: no if, with, range, define or block is open'
 

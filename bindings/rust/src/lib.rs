@@ -100,7 +100,7 @@ struct RawText {
 extern "C" {
     fn tmpl_render(settings: *const RawSettings, files: *const RawFile, file_count: usize, name: *const u8, name_size: usize,
         data: *const u8, data_size: usize, out: *mut RawBuffer, err: *mut RawBuffer) -> u8;
-    fn tmpl_check(files: *const RawFile, file_count: usize, text: *mut RawText) -> u8;
+    fn tmpl_check(files: *const RawFile, file_count: usize, most: usize, text: *mut RawText) -> u8;
     fn tmpl_check_schema(files: *const RawFile, file_count: usize, question: *const RawQuestion, text: *mut RawText) -> u8;
     fn tmpl_limit_memory(bytes: usize);
     fn tmpl_set_add(set: *mut RawKept, file: *const RawFile, err: *mut RawBuffer) -> u8;
@@ -266,7 +266,7 @@ pub fn check(files: &[(&str, &[u8])], most: usize) -> Result<Vec<Problem>, Error
     let array: Vec<RawFile> = files.iter().map(|(path, bytes)| raw_file(path, bytes)).collect();
     let mut text = RawText::EMPTY;
     // SAFETY: each pointer and size are those of one slice, which is borrowed for the call, and no other call has the handle.
-    let status = unsafe { tmpl_check(array.as_ptr(), array.len(), &mut text) };
+    let status = unsafe { tmpl_check(array.as_ptr(), array.len(), most, &mut text) };
     if status != 4 {
         ended(status, b"tmpl: the name of a file is not UTF-8\n", Vec::new())?;
     }

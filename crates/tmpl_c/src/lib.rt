@@ -95,14 +95,21 @@ pub extern "C" fn keyed_render(
     told.status
 }
 
-/// Says all that is wrong in files, added one after the other, in a text that the library owns: a line for each
-/// mistake, as compilers write it. A file that is refused adds nothing. The status is 0 where nothing is wrong, 4 where
-/// a file is refused, 2 where the name of one is not UTF-8, and 7 where memory ran out; but for 4 nothing is said.
+/// Reports what is wrong in files, added one after the other, in a text that the library owns: a line for each error, as
+/// compilers write it. Of a file the first errors are reported, up to `most`, or where that is 0 up to 1,000; then a line
+/// says at least how many more there are. A file that is refused adds nothing. The status is 0 where nothing is wrong, 4
+/// where a file is refused, 2 where the name of one is not UTF-8, and 7 where memory ran out; but for 4 the text is empty.
 #[unsafe(no_mangle)]
-pub extern "C" fn keyed_check(alloc: Global, keys: &Keys, files: &[File<'_>], text: &mut Text) -> u8
+pub extern "C" fn keyed_check(
+    alloc: Global,
+    keys: &Keys,
+    files: &[File<'_>],
+    most: usize,
+    text: &mut Text,
+) -> u8
     ensures { (parse : Parse) → IsParse parse → Checks parse (pairs_of files.now) (bytes_in text.new.held) result }
 {
-    check::check_files(alloc, keys.hash(), files, text)
+    check::check_files(alloc, keys.hash(), files, most, text)
 }
 
 /// Reports where a template may fail over data of a JSON Schema, in a text that the library owns, as `tmpl-check` does:

@@ -43,9 +43,9 @@ abbrev pub lines_for : List ℕ → List Problem → List ℕ
 lines_for file problems =
     flat_map (λ p. line_of file (p.refused.line, p.refused.column) (codes "error") (text_of p)) problems
 
--- that at least so many more problems are in a file
+-- that at least this many problems of a file are not reported
 abbrev pub left_words : ℕ → List ℕ
-left_words left = codes "too many errors: the first 1000 are reported, and at least " ++ (decimal left ++ codes " are not")
+left_words left = codes "too many errors: at least " ++ (decimal left ++ codes " more are not reported")
 
 -- a line that says so, where some are left
 abbrev pub left_line : List ℕ → ℕ → List ℕ

@@ -138,14 +138,14 @@ pub fn problem_text(alloc: Global, problem: &Problem) -> Result<String, AllocErr
     )
 }
 
-/// That at least so many more problems are in a file.
+/// That at least this many problems of a file are not reported.
 pub fn left_text(alloc: Global, left: usize) -> Result<String, AllocError>
     ensures { IfOk result (λ t. string_bytes t ≡ left_words left) }
 {
     let mut text = String::new(alloc);
     write!(
         text,
-        "too many errors: the first 1000 are reported, and at least {left} are not"
+        "too many errors: at least {left} more are not reported"
     )?;
     Ok(text)
 }
