@@ -1,6 +1,6 @@
 -- For the law `runs_safely`: the variables of a run have the shapes that are computed, and so have pipelines.
-use Rattle.std.proofs.Common.{arith, ◌≡◌, ◌∙◌, ◌+◌, ◌-◌, ◌≤◌, ◌<◌, ◌&&◌, pos, nat_lt, ◌==◌, ◌++◌, inl, inr, not, option_to_list, unwrap_or, ℕ, zero, suc, Bool, true, false, List, [], ◌∷◌, Option, Some, None, Result, Ok, Err, length, drop, ap, refl, sym, subst, ok_or, if◌then◌else◌}
-use Rattle.std.proofs.lemmas.List.{drop-drop, length-drop}
+use Rattle.std.proofs.Common.{arith, ◌≡◌, ◌∙◌, ◌+◌, ◌-◌, ◌≤◌, ◌<◌, ◌&&◌, pos, nat_lt, ◌==◌, ◌++◌, inl, inr, not, option_to_list, unwrap_or, ℕ, zero, suc, Bool, true, false, List, [], ◌∷◌, Option, Some, None, Result, Ok, Err, length, drop, map, ap, refl, sym, subst, ok_or, if◌then◌else◌}
+use Rattle.std.proofs.lemmas.List.{append-nil, drop-drop, length-drop}
 use Rattle.std.proofs.lemmas.Bool.{false≢true, and_parts, eqb-true, ltb-true, ltb-false}
 use Rattle.std.proofs.lemmas.Bool.Decides.{Decides-int_eq}
 use Rattle.std.specs.Ordering.{int_eq}
@@ -36,10 +36,10 @@ use Rattle.tmpl_shape.specs.computed.Shapes.{Key, of_name, of_text, of_place, it
 use Rattle.tmpl_shape.specs.computed.Calls.{call_shape, shape_by_function}
 use Rattle.tmpl_schema.specs.computed.Check.{Fact, call_counts, call_fact, command_call, constant_fact, count_of, counts_in, first_fact, least_by, length_fact, mirrored, more_than}
 use Rattle.tmpl_schema.specs.computed.Check.{operand_counts, pair_fact, piped_fact, tells, tells_by, narrow_all, narrow_as, narrow_by, narrow_command, narrow_operand, narrow_to}
-use Rattle.tmpl_schema.specs.computed.Check.{bounds_of, sliced_shape, call_place, index_place, deciding_shape, passing_shape, passed, operand_shapes, junction_shape, commands_shape}
+use Rattle.tmpl_schema.specs.computed.Check.{are_texts, bounds_of, sliced_shape, call_place, chain_place, index_place, texts_in, deciding_shape, passing_shape, passed, operand_shapes, junction_shape, commands_shape}
 use Rattle.tmpl_schema.specs.computed.Check as check
 use Rattle.tmpl_schema.specs.computed.Check.{Origin, narrow_from, narrow_root, origin_within, pipeline_origin, pipeline_place, place_of, place_origin, refine_all, refine_along, refine_from, rest_of, root_origin, variable_origin}
-use Rattle.tmpl_schema.proofs.OriginLemmas.{HasOrigin, IsAt, at-chain, at-gone, at-joined, at-rest, origin_within-has, origins-left, origins-right, rest_of-is}
+use Rattle.tmpl_schema.proofs.OriginLemmas.{HasOrigin, IsAt, at-chain, at-gone, at-joined, at-rest, at-root, origin_within-has, origins-left, origins-right, rest_of-is}
 use Rattle.tmpl_schema.specs.computed.Check.{Known, State, variable_shape, assigned_shape, bound_shapes, refine_variable, all_within, join_all, join_origins, last_of, if_within}
 use Rattle.tmpl_schema.specs.computed.Check.{after_both, entry_along, entry_by, operand_shape, indexed_shape, printed_shape, command_shape, pipeline_shape, narrow}
 use Rattle.tmpl_shape.proofs.KindLemmas.{has_kind-has}
@@ -584,28 +584,73 @@ module _ (base : Base) (N : Names) (means : Means base.defs N) (top : Value) whe
   IsPlaced d env None v = Unit {0}
   IsPlaced d env (Some p) v = IsAt p.path (root_value d env p.root) v
 
-  index-at : (n : List ℕ) (d v : Value) → (apply_function func.Index (d ∷ string n ∷ [])).result ≡ Ok v → IsAt (n ∷ []) d v
+  index-at : (n : List ℕ) (d v : Value) → element_at d (string n) ≡ Ok v → IsAt (n ∷ []) d v
   index-at n (mapping es) v e = at-chain mode.Zero (n ∷ []) (mapping es) v (by (entry_at n es) e)
     where
-      by : (o : Option Value) → ◌≡◌ {A = Result Value Cause} (Ok (unwrap_or o null)) (Ok v)
+      by : (o : Option Value) → ◌≡◌ {A = Result Value CallFault} (Ok (unwrap_or o null)) (Ok v)
           → and_then (field_value mode.Zero n (option_map_or found o missing)) (chain mode.Zero []) ≡ Ok v
-      by None e = e
-      by (Some w) e = e
+      by None e = let same : null ≡ v = cc in ap Ok same
+      by (Some w) e = let same : w ≡ v = cc in ap Ok same
   index-at n _ v e = cc
+
+  keys-at : (ns : List (List ℕ)) (d v : Value) → indexed_by d (map string ns) ≡ Ok v → IsAt ns d v
+  keys-at [] d v e = let same : d ≡ v = cc in subst (λ (x : Value). IsAt [] d x) same (at-root d)
+  keys-at (n ∷ ns) d v e = by (element_at d (string n)) refl e (λ w. keys-at ns w v)
+    where
+      by : (r : Result Value CallFault) → element_at d (string n) ≡ r → and_then r (λ w. indexed_by w (map string ns)) ≡ Ok v
+          → ((w : Value) → indexed_by w (map string ns) ≡ Ok v → IsAt ns w v) → IsAt (n ∷ ns) d v
+      by (Ok w) is e more = at-joined (n ∷ []) ns d w v (index-at n d w is) (more w e)
+      by (Err fault) is e more = cc
 
   -- what an `index` of these operands gives
   abbrev index_value : MissingKey → Value → Environment → Operands → Result Value Cause
   index_value m d env os = (given_then (operand_values (place m d env) os) (λ vs. apply_function func.Index (vs ++ []))).result
 
+  key-values : (m : MissingKey) (d : Value) (env : Environment) (os : Operands) → are_texts os ≡ true → (operand_values (place m d env) os).result ≡ Ok (map string (texts_in os))
+  key-values m d env no_operand e = refl
+  key-values m d env (operand (text_constant n) os) e = rw (key-values m d env os e) refl
+  key-values m d env (operand _ os) e = absurd (false≢true e)
+
+  -- a value and its keys
+  keys-ok : (x : Result Value Cause) (rs : Result (List Value) Cause) (a b c : Bool) (is : List Value) (v : Value) → rs ≡ Ok is
+      → (go_on (go_on x a (λ u. go_on rs b (λ vs. as_given (Ok (u ∷ vs))))).result c (λ vs. apply_function func.Index (vs ++ []))).result ≡ Ok v
+      → (u : Value) × (x ≡ Ok u) × (indexed_by u is ≡ Ok v)
+  keys-ok (Err cause) rs a b c is v same e = cc
+  keys-ok (Ok u) rs a b c is v same e = (
+    u,
+    refl,
+    by u (subst (λ (js : List Value). (apply_function func.Index (u ∷ js)).result ≡ Ok v) (append-nil is)
+        (subst (λ (q : Result (List Value) Cause). (go_on (go_on q b (λ vs. as_given (Ok (u ∷ vs)))).result c (λ vs. apply_function func.Index (vs ++ []))).result ≡ Ok v) same e)),
+  )
+    where
+      found-ok : (r : Result Value CallFault) → result_map_both (λ w. w) (call_failed func.Index) r ≡ Ok v → r ≡ Ok v
+      found-ok (Ok w) e = let it : w ≡ v = cc in ap Ok it
+      found-ok (Err fault) e = cc
+
+      by : (w : Value) → (apply_function func.Index (w ∷ is)).result ≡ Ok v → indexed_by w is ≡ Ok v
+      by nothing e = cc
+      by null e = cc
+      by w e = found-ok (indexed_by w is) e
+
+  chain-placed : (m : MissingKey) (o : Operand) (ns : List (List ℕ)) (d : Value) (env : Environment) (u v : Value) → (operand_value (place m d env) o).result ≡ Ok u
+      → IsAt ns u v → IsPlaced d env (chain_place o ns) v
+  chain-placed m dot ns d env u v e i = let same : u ≡ d = cc in subst (λ (x : Value). IsAt ns x v) same i
+  chain-placed m (fields names) ns d env u v e i = at-joined names ns d u v (at-chain m names d u e) i
+  chain-placed m (variable name names) ns d env u v e i = at-joined names ns (lookup name env) u v (at-chain m names (lookup name env) u e) i
+  chain-placed m _ ns d env u v e i = tt
+
   index-placed : (m : MissingKey) (os : Operands) (d : Value) (env : Environment) (v : Value) → index_value m d env os ≡ Ok v → IsPlaced d env (index_place os) v
-  index-placed m (operand dot (operand (text_constant n) no_operand)) d env v e = index-at n d v e
-  index-placed m (operand (variable name []) (operand (text_constant n) no_operand)) d env v e = index-at n (lookup name env) v e
-  index-placed m (operand (variable name (x ∷ xs)) (operand (text_constant n) no_operand)) d env v e = tt
-  index-placed m (operand _ (operand (text_constant n) no_operand)) d env v e = tt
-  index-placed m (operand _ (operand _ no_operand)) d env v e = tt
-  index-placed m (operand _ (operand _ (operand _ _))) d env v e = tt
-  index-placed m (operand _ no_operand) d env v e = tt
   index-placed m no_operand d env v e = tt
+  index-placed m (operand o os) d env v e = by (are_texts os) refl
+    where
+      by : (b : Bool) → are_texts os ≡ b → IsPlaced d env (if b then chain_place o (texts_in os) else None) v
+      by false is = tt
+      by true is =
+          let x = operand_value (place m d env) o in
+          let y = operand_values (place m d env) os in
+          let g = keys-ok x.result y.result x.made_text y.made_text (operand_values (place m d env) (operand o os)).made_text (map string (texts_in os)) v
+          (key-values m d env os is) e in
+          chain-placed m o (texts_in os) d env g.0 v g.1 (keys-at (texts_in os) g.0 v g.2)
 
   by_count-ok : (f : Func) (t : Bool) (g : Given Value) (v : Value) → (by_count f t g).result ≡ Ok v → g.result ≡ Ok v
   by_count-ok f true g v e = e
@@ -633,9 +678,6 @@ module _ (base : Base) (N : Names) (means : Means base.defs N) (top : Value) whe
   inner-ok (Err cause) b m v e = cc
 
   operand-placed : (m : MissingKey) (o : Operand) (d : Value) (env : Environment) (v : Value) → (operand_value (place m d env) o).result ≡ Ok v → IsPlaced d env (place_of o) v
-  operand-placed m dot d env v e = at-chain mode.Error [] d v e
-  operand-placed m (fields names) d env v e = at-chain m names d v e
-  operand-placed m (variable name names) d env v e = at-chain m names (lookup name env) v e
   operand-placed m (group (command (operand (function f) os) no_command) []) d env v e =
       let c = command_value (place m d env) (operand (function f) os) None in
       let p = commands_value (place m d env) (command (operand (function f) os) no_command) None in
@@ -646,7 +688,7 @@ module _ (base : Base) (N : Names) (means : Means base.defs N) (top : Value) whe
   operand-placed m (group (command no_operand no_command) []) d env v e = tt
   operand-placed m (group (command (operand _ os) no_command) []) d env v e = tt
   operand-placed m (group (command os (command us cs)) []) d env v e = tt
-  operand-placed m _ d env v e = tt
+  operand-placed m o d env v e = chain-placed m o [] d env v v e (at-root v)
 
   pipeline-placed : (m : MissingKey) (p : Pipeline) (d : Value) (env : Environment) (v : Value) → (commands_value (place m d env) p None).result ≡ Ok v
       → IsPlaced d env (pipeline_place p) v

@@ -4,12 +4,11 @@
 ghost use Rattle.std.specs.Prelude.{◌≡◌, ◌^◌, ◌<◌, IfSome, false, true};
 ghost use Rattle.std.specs.Option.{option_and_then, option_map};
 ghost use Rattle.tmpl_grammar.specs.View.{commands_in, operand_of, operands_in};
-ghost use Rattle.tmpl_schema.specs.computed.Check.{bounds_of, call_fact, call_place, command_call, constant_fact, count_of, counts_in, first_fact, group_counts, group_place, head_of, index_place, key_of, key_place};
-ghost use Rattle.tmpl_schema.specs.computed.Check.{head_place, least_by, length_fact, mirrored, more_than, one_of, operand_counts, pair_fact, piped_fact, pipeline_call, pipeline_place, place_of, tells, tells_by, text_of, two_of};
+ghost use Rattle.tmpl_schema.specs.computed.Check.{are_texts, bounds_of, call_fact, call_place, chain_place, command_call, constant_fact, count_of, counts_in, first_fact, group_counts, group_place, head_of, index_place, key_of};
+ghost use Rattle.tmpl_schema.specs.computed.Check.{head_place, least_by, length_fact, mirrored, more_than, one_of, operand_counts, pair_fact, piped_fact, pipeline_call, pipeline_place, place_of, tells, tells_by, text_of, texts_in, two_of};
 ghost use Rattle.tmpl_schema.specs.computed.View.{call_seen, fact_seen, head_seen, place_seen};
 ghost use Rattle.tmpl_shape.specs.computed.View.{key_seen, shape_seen};
 
-use std::slice::from_ref;
 use tmpl_funcs::Func;
 use tmpl_grammar::{Command, Operand};
 use tmpl_shape::{Key, Shape};
@@ -25,11 +24,12 @@ pub(crate) enum Head {
     Value,
 }
 
-/// A chain of fields, from dot or from the variable of a name.
+/// A chain of fields from dot or from the variable of a name, and of those that keys name after it.
 #[derive(Clone, Copy)]
 pub(crate) struct Place<'p> {
     pub(crate) root: Option<&'p [u8]>,
-    pub(crate) path: &'p [Bytes],
+    pub(crate) fields: &'p [Bytes],
+    pub(crate) keys: &'p [Operand],
 }
 
 /// That an operand is neither nothing nor null, and has at least as many items if it is a list.
@@ -154,37 +154,54 @@ fn tells(constant: bool, operand: &Operand) -> bool
     }
 }
 
-/// The place of the entry of a key.
-fn key_place<'p>(key: &'p Bytes, operand: &'p Operand) -> Option<Place<'p>>
-    ensures { option_map place_seen result ≡ key_place key.now (operand_of operand.now) }
+/// Whether the operands are constants of texts.
+fn are_texts(operands: &[Operand]) -> bool
+    ensures { result ≡ are_texts (operands_in operands.now) }
+{
+    match operands {
+        [] => true,
+        [first, rest @ ..] => text_of(first).is_some() && are_texts(rest),
+    }
+}
+
+/// The place at the end of a chain of fields from dot or a variable, and of these keys after it.
+fn chain_place<'p>(operand: &'p Operand, keys: &'p [Operand]) -> Option<Place<'p>>
+    ensures { option_map place_seen result
+        ≡ chain_place (operand_of operand.now) (texts_in (operands_in keys.now)) }
 {
     match operand {
         Operand::Dot => Some(Place {
             root: None,
-            path: from_ref(key),
+            fields: &[],
+            keys,
         }),
-        Operand::Variable { name, fields } => match fields.as_slice() {
-            [] => Some(Place {
-                root: Some(name.as_slice()),
-                path: from_ref(key),
-            }),
-            [_, _more @ ..] => None,
-        },
-        Operand::Fields(_) | Operand::Bool(_) | Operand::Number(_) | Operand::Text(_) => None,
+        Operand::Fields(names) => Some(Place {
+            root: None,
+            fields: names.as_slice(),
+            keys,
+        }),
+        Operand::Variable { name, fields } => Some(Place {
+            root: Some(name.as_slice()),
+            fields: fields.as_slice(),
+            keys,
+        }),
+        Operand::Bool(_) | Operand::Number(_) | Operand::Text(_) => None,
         Operand::Nil | Operand::Function(_) | Operand::Group { .. } => None,
     }
 }
 
-/// The place of what `index` gives.
+/// The place of what `index` gives by keys that are written out.
 pub(crate) fn index_place(operands: &[Operand]) -> Option<Place<'_>>
     ensures { option_map place_seen result ≡ index_place (operands_in operands.now) }
 {
-    match two_of(operands) {
-        Some((first, second)) => match text_of(second) {
-            Some(key) => key_place(key, first),
-            None => None,
-        },
-        None => None,
+    match operands {
+        [] => None,
+        [first, keys @ ..] => {
+            if are_texts(keys) {
+                return chain_place(first, keys);
+            }
+            None
+        }
     }
 }
 
@@ -240,21 +257,8 @@ pub(crate) fn place_of(operand: &Operand) -> Option<Place<'_>>
     ensures { option_map place_seen result ≡ place_of (operand_of operand.now) }
 {
     match operand {
-        Operand::Dot => Some(Place {
-            root: None,
-            path: &[],
-        }),
-        Operand::Fields(names) => Some(Place {
-            root: None,
-            path: names.as_slice(),
-        }),
-        Operand::Variable { name, fields } => Some(Place {
-            root: Some(name.as_slice()),
-            path: fields.as_slice(),
-        }),
         Operand::Group { commands, fields } => group_place(commands.as_slice(), fields.as_slice()),
-        Operand::Bool(_) | Operand::Number(_) | Operand::Text(_) => None,
-        Operand::Nil | Operand::Function(_) => None,
+        _ => chain_place(operand, &[]),
     }
 }
 

@@ -17,7 +17,7 @@ use crate::facts::{
 use crate::known::{
     Known, copy_known, put_variable, refine_all, refine_from, refine_variable, variable_origin,
 };
-use crate::origin::{copy_origin, join_paths};
+use crate::origin::{copy_origin, join_paths, place_path};
 use std::alloc::{AllocError, Global};
 use std::rc::Rc;
 use tmpl_funcs::Func;
@@ -86,7 +86,10 @@ fn place_origin(
     ensures { IfOk result (λ o. origin_of o ≡ place_origin (state_of state.now) (place_seen place.now)) }
 {
     match root_origin(state, place.root) {
-        Some(path) => Ok(Some(join_paths(alloc, path, place.path)?)),
+        Some(path) => {
+            let names = place_path(alloc, place)?;
+            Ok(Some(join_paths(alloc, path, names.as_slice())?))
+        }
         None => Ok(None),
     }
 }
@@ -117,15 +120,17 @@ fn narrow_root(
         ≡ narrow_root (base_of base.now) least (place_seen place.now) (state_of state.now)) }
 {
     let origin = copy_origin(base.alloc, &state.origin)?;
+    let path = place_path(base.alloc, place)?;
+    let names = path.as_slice();
     match place.root {
         None => {
-            let dot = Rc::new(base.alloc, refine(base, least, place.path, &state.dot)?)?;
+            let dot = Rc::new(base.alloc, refine(base, least, names, &state.dot)?)?;
             let known = copy_known(&state.known)?;
             Ok(State { dot, origin, known })
         }
         Some(name) => {
             let dot = Rc::clone(&state.dot)?;
-            let known = refine_variable(base, least, name, place.path, &state.known)?;
+            let known = refine_variable(base, least, name, names, &state.known)?;
             Ok(State { dot, origin, known })
         }
     }

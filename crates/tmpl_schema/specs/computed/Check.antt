@@ -63,6 +63,16 @@ abbrev pub text_of : Operand → Option (List ℕ)
 text_of (text_constant bytes) = Some bytes
 text_of o = None
 
+-- the operands are constants of texts, and these are their texts
+abbrev pub are_texts : Operands → Bool
+are_texts no_operand = true
+are_texts (operand (text_constant bytes) os) = are_texts os
+are_texts (operand o os) = false
+
+abbrev pub texts_in : Operands → List (List ℕ)
+texts_in (operand (text_constant bytes) os) = bytes ∷ texts_in os
+texts_in os = []
+
 -- the number of a constant that counts from 0 on
 abbrev pub count_of : Operand → Option ℕ
 count_of (number_constant (pos n)) = Some n
@@ -129,15 +139,17 @@ pub record Place : Type 0 where
   pub root : Option (List ℕ)
   pub path : List (List ℕ)
 
--- the place of an entry of a key
-abbrev pub key_place : List ℕ → Operand → Option Place
-key_place n dot = Some (record { root = None; path = n ∷ [] })
-key_place n (variable name []) = Some (record { root = Some name; path = n ∷ [] })
-key_place n o = None
+-- the place at the end of a chain of fields from dot or a variable, and of these after it
+abbrev pub chain_place : Operand → List (List ℕ) → Option Place
+chain_place dot ns = Some (record { root = None; path = ns })
+chain_place (fields names) ns = Some (record { root = None; path = names ++ ns })
+chain_place (variable name names) ns = Some (record { root = Some name; path = names ++ ns })
+chain_place o ns = None
 
--- .. of what `index` gives
+-- .. of what `index` gives by keys that are written out
 abbrev pub index_place : Operands → Option Place
-index_place os = option_and_then (λ p. option_and_then (λ n. key_place n p.0) (text_of p.1)) (two_of os)
+index_place (operand o os) = if are_texts os then chain_place o (texts_in os) else None
+index_place no_operand = None
 
 abbrev pub call_place : Func → Operands → Option Place
 call_place Index os = index_place os
@@ -149,11 +161,8 @@ group_place p names = None
 
 -- the place whose value is that of an operand, but for nothing and null
 abbrev pub place_of : Operand → Option Place
-place_of dot = Some (record { root = None; path = [] })
-place_of (fields names) = Some (record { root = None; path = names })
-place_of (variable name names) = Some (record { root = Some name; path = names })
 place_of (group p names) = group_place p names
-place_of o = None
+place_of o = chain_place o []
 
 -- the operand of which a call gives the length
 abbrev pub call_counts : Func → Operands → Option Operand
