@@ -44,6 +44,11 @@ MAYBE = {**of({"b": TEXT}), "type": ["object", "null"]}
 DRAFT_04, DRAFT_06, DRAFT_07 = ({"$schema": f"http://json-schema.org/draft-0{number}/schema#"} for number in (4, 6, 7))
 DRAFT_2019 = {"$schema": "https://json-schema.org/draft/2019-09/schema"}
 
+# alternatives that a string tells apart
+TCP, UDP, UNIX = of({"kind": {"const": "tcp"}, "port": WHOLE}), of({"kind": {"const": "udp"}, "port": WHOLE}), of({"kind": {"const": "unix"}, "path": TEXT})
+NET, PIPE = of({"kind": {"enum": ["tcp", "udp"]}, "port": WHOLE}), of({"kind": {"enum": ["pipe", "fifo"]}, "name": TEXT})
+UNION = {"oneOf": [TCP, UNIX]}
+
 # a title, a schema, a template, more words, and what is said of the template t: a line without its beginning
 ACCEPTED = [
     ("required text", of({"a": TEXT}), "{{.a}}", []),
@@ -95,6 +100,25 @@ ACCEPTED = [
     ("index of a chain of a variable tells it", of({"a": of({"b": of({"c": of({"d": TEXT})}, [])})}), '{{$x := .a}}{{if index $x.b "c"}}{{$x.b.c.d}}{{.a.b.c.d}}{{end}}', []),
     ("index of an item of a variable tells it", of({"l": {"type": "array", "items": of({"a": of({"b": TEXT}, [])})}}), '{{range $e := .l}}{{if index $e.a "b"}}{{len $e.a.b}}{{end}}{{end}}', []),
     ("the length of an entry of a field", of({"a": of({"l": ITEMS})}), '{{if gt (len (index .a "l")) 1}}{{index .a.l 1}}{{end}}', []),
+    ("a union by its tag", of({"u": UNION}), '{{if eq .u.kind "tcp"}}{{lt .u.port 3}}{{else}}{{len .u.path}}{{end}}{{if eq .u.kind "unix"}}{{len .u.path}}{{end}}', []),
+    ("a union by what its tag is not", of({"u": UNION}), '{{if ne .u.kind "tcp"}}{{len .u.path}}{{else}}{{lt .u.port 3}}{{end}}{{if not (eq .u.kind "tcp")}}{{len .u.path}}{{end}}', []),
+    ("the tag of dot", of({"u": UNION}), '{{with .u}}{{if ne .kind "tcp"}}{{len .path}}{{else}}{{lt .port 3}}{{end}}{{end}}', []),
+    ("tags one after the other", of({"u": {"oneOf": [TCP, UNIX, PIPE]}}), '{{if eq .u.kind "tcp"}}{{.u.port}}{{else if eq .u.kind "unix"}}{{.u.path}}{{else}}{{.u.name}}{{end}}', []),
+    ("several tags", of({"u": {"anyOf": [NET, UNIX]}}), '{{if eq .u.kind "tcp" "udp"}}{{.u.port}}{{else}}{{.u.path}}{{end}}{{if eq .u.kind "unix" "x"}}{{.u.path}}{{else}}{{.u.port}}{{end}}', []),
+    ("several tags one by one", of({"u": {"anyOf": [NET, UNIX]}}), '{{if eq .u.kind "tcp"}}{{.u.port}}{{else if eq .u.kind "udp"}}{{.u.port}}{{else}}{{.u.path}}{{end}}', []),
+    ("several tags in an and", of({"u": {"anyOf": [NET, UNIX]}}), '{{if and (ne .u.kind "tcp") (ne .u.kind "udp")}}{{.u.path}}{{end}}{{if or (eq .u.kind "tcp") (eq .u.kind "udp")}}{{else}}{{.u.path}}{{end}}', []),
+    ("unions in a list", of({"us": {"type": "array", "items": {"anyOf": [TCP, UDP, UNIX]}}}), '{{range .us}}{{if eq .kind "tcp" "udp"}}{{lt .port 3}}{{else}}{{len .path}}{{end}}{{end}}', []),
+    ("a union of definitions", of({"u": {"oneOf": [{"$ref": "#/$defs/t"}, {"$ref": "#/$defs/u"}]}}, **{"$defs": {"t": TCP, "u": UNIX}}),
+     '{{if eq .u.kind "tcp"}}{{.u.port}}{{else}}{{.u.path}}{{end}}', []),
+    ("the whole is a union", UNION, '{{if eq .kind "tcp"}}{{.port}}{{$.port}}{{else}}{{.path}}{{end}}', []),
+    ("the tag of a variable", of({"u": UNION}), '{{$x := .u}}{{if eq $x.kind "tcp"}}{{$x.port}}{{.u.port}}{{$.u.port}}{{end}}{{if eq .u.kind "tcp"}}{{$x.port}}{{end}}', []),
+    ("the tag of a variable of a range", of({"us": {"type": "array", "items": UNION}}), '{{range $i, $u := .us}}{{if eq $u.kind "tcp"}}{{$u.port}}{{end}}{{end}}', []),
+    ("a tag before what it guards", of({"u": UNION}), '{{if and (eq .u.kind "tcp") (lt .u.port 3)}}{{end}}{{if or (eq .u.kind "unix") (lt .u.port 3)}}{{end}}', []),
+    ("a tag that may be absent", of({"u": {"oneOf": [{**TCP, "required": ["port"]}, UNIX]}}), '{{if eq (index .u "kind") "tcp"}}{{.u.port}}{{end}}', []),
+    ("a tag in a union in a union", of({"v": {"oneOf": [of({"on": {"const": "yes"}, "u": UNION}), of({"on": {"const": "no"}})]}}),
+     '{{if eq .v.on "yes"}}{{if eq .v.u.kind "tcp"}}{{.v.u.port}}{{else}}{{.v.u.path}}{{end}}{{end}}', []),
+    ("many unions", of({f"u{number}": UNION for number in range(30)}), "".join('{{if eq .u%d.kind "tcp"}}{{.u%d.port}}{{else}}{{.u%d.path}}{{end}}' % (number, number, number) for number in range(30)), []),
+    ("constants beside other kinds", of({"a": {"enum": ["x", "y", 1, None]}, "b": {"enum": ["x"], "type": ["string", "null"]}}), '{{print .a}}{{len .b}}{{slice .b}}', []),
     ("index in an and tells it", of({"a": of({"b": TEXT})}, []), '{{if and (index . "a") (index .a "b")}}{{len .a.b}}{{end}}', []),
     ("what is not nil is there", of({"a": TEXT}, []), '{{if ne (index . "a") nil}}{{len .a}}{{end}}{{if eq (index . "a") nil}}{{else}}{{len .a}}{{end}}', []),
     ("what equals a constant is not null", of({"a": {"type": ["string", "null"]}}), '{{if eq .a "x"}}{{len .a}}{{end}}{{if ne .a ""}}{{else}}{{len .a}}{{end}}', []),
@@ -227,6 +251,20 @@ REFUSED = [
     ("what differs from a constant may be null", of({"a": {"type": ["string", "null"]}}), '{{if ne .a "x"}}{{len .a}}{{end}}', [], '1:17: error: may fail: "len" may get what it refuses'),
     ("what does not equal a constant may be null", of({"a": {"type": ["string", "null"]}}), '{{if eq .a "x"}}{{else}}{{len .a}}{{end}}', [], '1:25: error: may fail: "len" may get what it refuses'),
     ("index of another key", of({"a": TEXT, "b": TEXT}, []), '{{if index . "a"}}{{.b}}{{end}}', [], "1:19: error: may fail: .b may be absent: not in \"required\" of s:1"),
+    ("the other alternative of a union", of({"u": UNION}), '{{if eq .u.kind "tcp"}}{{.u.path}}{{end}}', [], "1:24: error: may fail: .path may be absent: not in \"properties\" of s:1"),
+    ("a union where its tag is not this", of({"u": UNION}), '{{if eq .u.kind "tcp"}}{{else}}{{.u.port}}{{end}}', [], "1:32: error: may fail: .port may be absent: not in \"properties\" of s:1"),
+    ("a union before its tag is asked", of({"u": UNION}), '{{.u.port}}{{if eq .u.kind "tcp"}}{{end}}', [], "1:1: error: may fail: .port may be absent: not in \"properties\" of s:1"),
+    ("one of two alternatives that are left", of({"u": {"oneOf": [TCP, UNIX, PIPE]}}), '{{if eq .u.kind "tcp"}}{{else}}{{.u.path}}{{end}}', [], "1:32: error: may fail: .path may be absent: the schema does not require it"),
+    ("a tag that is any string", of({"u": {"oneOf": [TCP, of({"kind": TEXT, "path": TEXT})]}}), '{{if eq .u.kind "tcp"}}{{.u.port}}{{end}}', [], "1:24: error: may fail: .port may be absent: not in \"properties\" of s:1"),
+    ("a tag that is one of several is not this", of({"u": {"anyOf": [NET, UNIX]}}), '{{if ne .u.kind "tcp"}}{{.u.path}}{{end}}', [], "1:24: error: may fail: .path may be absent: not in \"properties\" of s:1"),
+    ("a tag that may be absent is not this", of({"u": {"oneOf": [{**TCP, "required": ["port"]}, UNIX]}}), '{{if eq .u.kind "tcp"}}{{else}}{{len .u.path}}{{end}}', DEFAULT, '1:32: error: may fail: "len" may get what it refuses'),
+    ("the tag of another union", of({"u": UNION, "v": UNION}), '{{if eq .u.kind "tcp"}}{{.v.port}}{{end}}', [], "1:24: error: may fail: .port may be absent: not in \"properties\" of s:1"),
+    ("a tag that equals a field", of({"u": UNION, "t": {"const": "tcp"}}), '{{if eq .u.kind .t}}{{.u.port}}{{end}}', [], "1:21: error: may fail: .port may be absent: not in \"properties\" of s:1"),
+    ("a tag that equals a constant or a field", of({"u": UNION, "t": TEXT}), '{{if eq .u.kind "tcp" .t}}{{.u.port}}{{end}}', [], "1:27: error: may fail: .port may be absent: not in \"properties\" of s:1"),
+    ("a tag of what a variable was", of({"u": UNION, "v": UNION}), '{{$x := .u}}{{if eq $x.kind "tcp"}}{{$x = .v}}{{$x.port}}{{end}}', [], "1:47: error: may fail: .port may be absent: the schema does not require it"),
+    ("a tag in an or", of({"u": UNION, "b": {"type": "boolean"}}), '{{if or .b (eq .u.kind "tcp")}}{{.u.port}}{{end}}', [], "1:32: error: may fail: .port may be absent: not in \"properties\" of s:1"),
+    ("what a tag of a variable is not", of({"us": {"type": "array", "items": UNION}}), '{{range $u := .us}}{{if eq $u.kind "tcp"}}{{else}}{{$u.path}}{{end}}{{end}}', [], "1:51: error: may fail: .path may be absent: not in \"properties\" of s:1"),
+    ("after the test of a tag", of({"u": UNION}), '{{if eq .u.kind "tcp"}}{{end}}{{$.u.port}}', [], "1:31: error: may fail: .port may be absent: not in \"properties\" of s:1"),
     ("index of another key of a field", of({"c": of({"a": TEXT, "b": TEXT}, [])}), '{{if index .c "a"}}{{.c.b}}{{end}}', [], "1:20: error: may fail: .b may be absent: not in \"required\" of s:1"),
     ("index of another field", of({"c": of({"a": TEXT}, []), "d": of({"a": TEXT}, [])}), '{{if index .c "a"}}{{.d.a}}{{end}}', [], "1:20: error: may fail: .a may be absent: not in \"required\" of s:1"),
     ("where index of a field gives null", of({"c": of({"a": TEXT}, [])}), '{{if index .c "a"}}{{else}}{{.c.a}}{{end}}', [], "1:28: error: may fail: .a may be absent: not in \"required\" of s:1"),

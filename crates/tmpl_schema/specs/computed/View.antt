@@ -5,6 +5,7 @@ use Rattle.std.specs.Borrow.{Bor}
 use Rattle.std.specs.Global.{Global}
 use Rattle.tmpl_shape.specs.Shape as spec
 use Rattle.tmpl_shape.specs.View.{shape_of}
+use Rattle.tmpl_shape.specs.computed.View.{test_seen}
 use Rattle.tmpl_shape.specs.computed.Calls.{call_shape}
 use Rattle.tmpl_shape.specs.declared.kind.Kinds.{Kinds}
 use Rattle.tmpl_grammar.specs.View.{operand_of, operands_in}
@@ -67,7 +68,7 @@ abbrev pub place_seen : held_place.Place → Place
 place_seen p = record { root = option_map (λ name. name.now) p.root; path = p.fields.now ++ texts_in (operands_in p.keys.now) }
 
 abbrev pub fact_seen : held_fact.Fact → Fact
-fact_seen f = record { least = f.least; about = operand_of f.about.now }
+fact_seen f = record { test = test_seen f.test; about = operand_of f.about.now }
 
 -- the function and the operands of a call
 abbrev pub call_seen : Func × Bor (List held_operand.Operand) → Func × Operands
