@@ -5,6 +5,7 @@ import re
 TYPES = {"null": type(None), "boolean": bool, "integer": int, "number": int, "string": str, "array": list, "object": dict}
 NARROWING = ("minimum", "maximum", "exclusiveMinimum", "exclusiveMaximum", "minLength", "minItems")
 FIELDS = ("a", "b", "c")
+TAGS = ["x", "y", "z"]
 FORMS = ("%v", "%v", "%v", "%s", "%s", "%d", "%d", "%q", "%x", "%X", "%o", "%b", "%c", "%t", "%5d", "%05d", "%+d", "% d", "%-6s", "%6s", "%.1s", "%7v", "%-v", "%+v", "%%")
 HEAD = "https://json-schema.org/draft/2020-12/schema"
 DRAFT_04 = "http://json-schema.org/draft-04/schema#"
@@ -132,10 +133,24 @@ def drawn_schema(draw, depth):
         return drawn_tuple(draw, depth)
     if kind < 0.55:
         return drawn_parts(draw, depth)
-    if kind < 0.63:
+    if kind < 0.6:
+        return drawn_union(draw, depth)
+    if kind < 0.66:
         out = {draw.choice(["anyOf", "oneOf"]): [drawn_schema(draw, depth - 1) for _ in range(draw.randrange(1, 4))]}
         return {**out, "type": ["object", "string"]} if draw.random() < 0.3 else out
     return drawn_object(draw, depth)
+
+
+def drawn_union(draw, depth):
+    """A schema of maps that a string tells apart, mostly."""
+    def tag():
+        return draw.choice([{"const": draw.choice(TAGS)}, {"const": draw.choice(TAGS)}, {"enum": draw.sample(TAGS, 2)}, {"enum": [draw.choice(TAGS), None, 1]},
+                            {"type": "string"}, {"type": ["string", "null"], "enum": [*TAGS, None]}, {"anyOf": [{"const": "x"}, {"const": "y"}]}])
+    maps = [{"type": "object", "properties": {"a": tag(), **{name: drawn_schema(draw, draw.randrange(min(2, depth))) for name in draw.sample(["b", "c"], draw.randrange(1, 3))}},
+             "additionalProperties": False} for _ in range(draw.randrange(2, 5))]
+    for one in maps:
+        one["required"] = [name for name in one["properties"] if draw.random() < 0.9]
+    return {draw.choice(["anyOf", "oneOf"]): [*maps, {"type": "null"}] if draw.random() < 0.1 else maps}
 
 
 def drawn_tuple(draw, depth):
@@ -337,11 +352,39 @@ def drawn_comparison(draw, scope):
     return both % (f"{name} {asked} {other}", *draw.sample([used, "none"], 2))
 
 
+def drawn_tagged(draw, scope):
+    """Tests of what tells maps apart, and what may be known then."""
+    path = drawn_path(draw, scope)
+    start = "" if path == "." else path
+
+    def test(start):
+        tag = draw.choice([f"{start}.a", f"{start}.a", f'(index {start or "."} "a")'])
+        one, other = draw.sample(['"x"', '"y"', '"z"'], 2)
+        return draw.choice([f"eq {tag} {one}", f"eq {tag} {one}", f"ne {tag} {one}", f"eq {tag} {one} {other}", f"not (eq {tag} {one})", f"eq {one} {tag}",
+                            f"and {start or '.'} (eq {tag} {one})", f"or (eq {tag} {one}) (eq {tag} {other})", f"and (ne {tag} {one}) (ne {tag} {other})",
+                            f"eq {tag} {start}.b", f"eq {tag} {one} {start}.b", f"eq {tag} nil"])
+
+    def used(start):
+        return draw.choice(["{{len P.b}}", "{{P.b}}", '{{printf "%d" P.b}}', '{{printf "%s" P.b}}', "{{P.b.a}}", "{{P.c}}", "{{len P.c}}", "{{range P.b}}{{end}}",
+                            '{{index P.b "a"}}']).replace("P", start)
+    def parts(start):
+        return f"{{{{if {test(start)}}}}}{used(start)}", used(start) if draw.random() < 0.7 else "none"
+    if draw.random() < 0.2:
+        body, other = parts("$u")
+        return "{{$u := %s}}" % path + body.replace("}}", draw.choice(["}}", "}}", "}}{{$u = .b}}"]), 1) + "{{else}}" + draw.choice([other, used(start)]) + "{{end}}"
+    if draw.random() < 0.3:
+        body, other = parts("")
+        return draw.choice(["{{with ", "{{range "]) + path + "}}" + body + "{{else}}" + other + "{{end}}{{end}}"
+    body, other = parts(start)
+    more, _ = parts(start)
+    return body + draw.choice(["{{else}}", "{{else " + more[2:] + "{{else}}"]) + other + "{{end}}"
+
+
 def drawn_line(draw, depth, scope):
     """A part of a template, over dot and the variables in scope."""
     path = drawn_path(draw, scope)
     if draw.random() < 0.4:
-        return draw.choice([drawn_printf, drawn_index, drawn_part, drawn_part, drawn_comparison])(draw, scope)
+        return draw.choice([drawn_printf, drawn_index, drawn_part, drawn_part, drawn_comparison, drawn_tagged, drawn_tagged])(draw, scope)
     kind = draw.randrange(10) if depth else 0
     inner = "".join(drawn_line(draw, depth - 1, scope) for _ in range(draw.randrange(1, 3))) if depth else ""
     if kind == 0:

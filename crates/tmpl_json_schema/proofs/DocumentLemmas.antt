@@ -25,12 +25,12 @@ use Rattle.tmpl_json_schema.specs.declared.draft.Draft.{Draft}
 use Rattle.tmpl_json_schema.specs.declared.draft.Draft.TheVariants.{Draft2020}
 use Rattle.tmpl_json_schema.specs.declared.kinds.Kinds.{Kinds}
 use Rattle.tmpl_json_schema.specs.computed.Reading.{fold, fold_members, every_kind, both_kinds, types_in, const_in, enum_in, kinds_in, type_kinds, enum_kinds, constant_kind}
-use Rattle.tmpl_json_schema.specs.computed.Reading.{count_of, least_in, is_every_kind, by_kinds, keep_kinds, rest_of, shape_of_rest, has_content, choices_in, or_else, is_listed, or_shape}
+use Rattle.tmpl_json_schema.specs.computed.Reading.{count_of, least_in, texts_in, is_every_kind, by_kinds, keep_kinds, rest_of, shape_of_rest, has_content, choices_in, or_else, is_listed, or_shape}
 use Rattle.tmpl_json_schema.specs.computed.Reading.{choice_with, choice_shape, required_in, required_fields, properties_in, property_fields, with_property}
 use Rattle.tmpl_json_schema.specs.computed.Reading.{additional_in, beside_shape, first_of, if_listed, is_anything, items_shape, listed_in, part_in, with_pattern, with_patterns, whole_shape}
 use Rattle.tmpl_json_schema.specs.computed.Reading.{fields_in, content_shape, plain_shape, object_shape, is_unread, shape_by}
 use Rattle.tmpl_json_schema.specs.computed.Defined.{AreLookedUp, IsDefinition, are_defined}
-use Rattle.tmpl_json_schema.proofs.KindLemmas.{HasKind, HasParts, is-some, not-some, both-kinds, type_kinds-has, constant_kind-has, enum_kinds-has, or-one, or-other, by_kinds-has, kept-has}
+use Rattle.tmpl_json_schema.proofs.KindLemmas.{HasKind, HasParts, is-some, not-some, both-kinds, type_kinds-has, constant_kind-has, enum_kinds-has, or-one, or-other, texts-has, by_kinds-has, kept-has}
 use Rattle.tmpl_json_schema.proofs.FieldLemmas.{rest-field, rest-shape, rest-required, required-fields, required-has, properties-fields, properties-has}
 
 -- ---- kinds
@@ -269,10 +269,11 @@ module _ (N : Names) (read : Data → Option Shape) (C : Data → Value → Type
     abbrev whole : Data
     whole = json.object ms
 
-    inside : (i : Shape) (fs : Fields) → items_shape read whole ≡ Some i → fields_in read whole ≡ Some fs → HasParts N (least_in whole) i fs v
+    inside : (i : Shape) (fs : Fields) → items_shape read whole ≡ Some i → fields_in read whole ≡ Some fs → HasParts N (texts_in whole) (least_in whole) i fs v
     inside i fs e f = by v h
       where
-        by : (w : Value) → ConformsPlainly ms w → HasParts N (least_in whole) i fs w
+        by : (w : Value) → ConformsPlainly ms w → HasParts N (texts_in whole) (least_in whole) i fs w
+        by (string s) k = texts-has N s whole k.2 k.3
         by (sequence vs) k = (
           least-has (get (codes "minItems") whole) vs k.8,
           items-has (λ w. IfSome (items_in whole) (λ d. C d w)) (HasShape N i) (λ w. under-has (items_in whole) i w e) vs (items-of (items_in whole) vs k.7),
@@ -284,11 +285,11 @@ module _ (N : Names) (read : Data → Option Shape) (C : Data → Value → Type
     content-has ks s e k = by (is_every_kind ks && not (has_content whole)) (items_shape read whole) refl (fields_in read whole) refl e
       where
         by : (c : Bool) (o : Option Shape) → items_shape read whole ≡ o → (p : Option Fields) → fields_in read whole ≡ p
-            → (if c then Some anything else option_and_then (λ i. option_map (by_kinds ks (least_in whole) i) p) o) ≡ Some s → HasShape N s v
+            → (if c then Some anything else option_and_then (λ i. option_map (by_kinds ks (texts_in whole) (least_in whole) i) p) o) ≡ Some s → HasShape N s v
         by true o x p y f = is-some (λ t. HasShape N t v) anything s f tt
         by false None x p y f = absurd (not-some s f)
         by false (Some i) x None y f = absurd (not-some s f)
-        by false (Some i) x (Some fs) y f = is-some (λ t. HasShape N t v) (by_kinds ks (least_in whole) i fs) s f (by_kinds-has N ks (least_in whole) i fs v k (inside i fs x y))
+        by false (Some i) x (Some fs) y f = is-some (λ t. HasShape N t v) (by_kinds ks (texts_in whole) (least_in whole) i fs) s f (by_kinds-has N ks (texts_in whole) (least_in whole) i fs v k (inside i fs x y))
 
     chosen : (c : Data) → choices_in whole ≡ Some c → FitsSome C v c
     chosen c e = by (has_content whole) (get (codes "anyOf") whole) (get (codes "oneOf") whole) h.9 h.10 e

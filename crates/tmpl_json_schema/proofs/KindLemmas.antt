@@ -1,16 +1,19 @@
 -- For the call `read_schema`: what is computed of kinds holds of the values that have them.
-use Rattle.std.proofs.Common.{◌≡◌, ◌⊎◌, Bool, true, false, ◌||◌, ◌&&◌, List, ℕ, Option, Some, None, inl, inr, refl, subst, if◌then◌else◌, codes}
-use Rattle.std.specs.Option.{option_map, option_and_then}
+use Rattle.std.proofs.Common.{◌≡◌, ◌⊎◌, Bool, true, false, ◌||◌, ◌&&◌, List, [], ◌∷◌, length, ℕ, suc, Option, Some, None, IfSome, inl, inr, ap, refl, subst, unwrap_or, if◌then◌else◌, codes}
+use Rattle.std.specs.Option.{option_map, option_map_or, option_and_then}
 use Rattle.std.proofs.lemmas.Bool.{false≢true}
 use Rattle.serde_json.specs.Data as json
 use Rattle.serde_json.specs.Data.{Data, Items, no_items}
+use Rattle.serde_json.specs.Find.{get}
+use Rattle.serde_json.specs.View.{items_view}
+use Rattle.serde_json.specs.declared.value.Value as tree
 use Rattle.tmpl_values.specs.Value.{Value, nothing, null, boolean, number, string, sequence, mapping}
-use Rattle.tmpl_shape.specs.Shape.{Shape, never, nothings, nulls, truths, numbers, texts, anything, list_of, record_of, either, named, Names, Fields}
+use Rattle.tmpl_shape.specs.Shape.{Shape, never, nothings, nulls, truths, numbers, texts, exactly, anything, list_of, record_of, either, named, Names, Fields}
 use Rattle.tmpl_shape.specs.Shape.{HasShape}
 use Rattle.tmpl_json_schema.specs.Document.{IsInstance, HasType, type_of, SomeItem, IsNameOfType, IsOfType, IsConstant, IsOneOf}
 use Rattle.tmpl_json_schema.specs.declared.kinds.Kinds.{Kinds}
 use Rattle.tmpl_json_schema.specs.computed.Reading.{fold, either_kinds, both_kinds, no_kind, kind_named, kind_with, type_kinds}
-use Rattle.tmpl_json_schema.specs.computed.Reading.{constant_kind, constant_with, enum_kinds, is_never, or_shape, or_if, by_kinds, if_kind, keep_kinds}
+use Rattle.tmpl_json_schema.specs.computed.Reading.{text_with, const_texts, item_count, is_short, enum_texts, texts_in, constant_kind, constant_with, enum_kinds, is_never, or_shape, or_if, by_kinds, if_kind, keep_kinds}
 
 -- a value is of one of the kinds
 abbrev pub HasKind : Kinds → Value → Type 0
@@ -132,6 +135,12 @@ pub enum_kinds-has : (d : Data) (ks : Kinds) (v : Value) → enum_kinds d ≡ So
 enum_kinds-has (json.array ds) ks v e h = constants-has ds no_kind ks v e (inr h)
 enum_kinds-has d ks v e h = absurd (not-some ks e)
 
+pub items-count : (vs : List tree.Value) → item_count (items_view vs) ≡ length vs
+items-count [] = refl
+items-count (v ∷ vs) = ap suc (items-count vs)
+
+pub ruleset item_counts = (items-count)
+
 -- ---- shapes
 
 module _ (N : Names) where
@@ -163,13 +172,52 @@ module _ (N : Names) where
   or_if-other true s t v h = or-other s t v h
   or_if-other false s t v h = h
 
-  -- what is inside has the shapes of items, of which there are at least as many, and of fields
-  abbrev pub HasParts : ℕ → Shape → Fields → Value → Type 0
-  HasParts n i fs (sequence vs) = HasShape N (list_of n i) (sequence vs)
-  HasParts n i fs (mapping es) = HasShape N (record_of fs) (mapping es)
-  HasParts n i fs v = Unit {0}
+  -- ---- strings
 
-  module _ (ks : Kinds) (n : ℕ) (i : Shape) (fs : Fields) (v : Value) where
+  texts_with-has : (s : List ℕ) (ds : Items) (a b : Shape) → fold text_with a ds ≡ Some b → HasShape N a (string s) ⊎ SomeItem (IsConstant (string s)) ds
+      → HasShape N b (string s)
+  texts_with-has s no_items a b e h = elim h [ inl x ↦ is-some (λ t. HasShape N t (string s)) a b e x | inr x ↦ absurd x ]
+  texts_with-has s (json.item (json.string t) ds) a b e h = texts_with-has s ds (or_shape (exactly t) a) b e (elim h [
+    | inl x ↦ inl (or-other (exactly t) a (string s) x)
+    | inr x ↦ elim x [ inl y ↦ inl (or-one (exactly t) a (string s) y) | inr y ↦ inr y ]
+  ])
+  texts_with-has s (json.item json.null ds) a b e h = texts_with-has s ds a b e (elim h [ inl x ↦ inl x | inr x ↦ elim x [ inl y ↦ absurd y | inr y ↦ inr y ] ])
+  texts_with-has s (json.item (json.boolean c) ds) a b e h = texts_with-has s ds a b e (elim h [ inl x ↦ inl x | inr x ↦ elim x [ inl y ↦ absurd y | inr y ↦ inr y ] ])
+  texts_with-has s (json.item (json.number c) ds) a b e h = texts_with-has s ds a b e (elim h [ inl x ↦ inl x | inr x ↦ elim x [ inl y ↦ absurd y | inr y ↦ inr y ] ])
+  texts_with-has s (json.item (json.array c) ds) a b e h = texts_with-has s ds a b e (elim h [ inl x ↦ inl x | inr x ↦ elim x [ inl y ↦ absurd y | inr y ↦ inr y ] ])
+  texts_with-has s (json.item (json.object c) ds) a b e h = texts_with-has s ds a b e (elim h [ inl x ↦ inl x | inr x ↦ elim x [ inl y ↦ absurd y | inr y ↦ inr y ] ])
+
+  enum_texts-has : (s : List ℕ) (d : Data) → IsOneOf (string s) d → HasShape N (enum_texts d) (string s)
+  enum_texts-has s (json.array ds) h = by (is_short ds) (fold text_with never ds) refl
+    where
+      by : (c : Bool) (o : Option Shape) → fold text_with never ds ≡ o → HasShape N (if c then unwrap_or o texts else texts) (string s)
+      by false o e = tt
+      by true None e = tt
+      by true (Some t) e = texts_with-has s ds never t e (inr h)
+  enum_texts-has s d h = tt
+
+  const_texts-has : (s : List ℕ) (d : Data) → IsConstant (string s) d → HasShape N (const_texts d) (string s)
+  const_texts-has s (json.string t) h = h
+  const_texts-has s _ h = absurd h
+
+  pub texts-has : (s : List ℕ) (d : Data) → IfSome (get (codes "const") d) (IsConstant (string s)) → IfSome (get (codes "enum") d) (IsOneOf (string s))
+      → HasShape N (texts_in d) (string s)
+  texts-has s d c n = by (get (codes "const") d) c (get (codes "enum") d) n
+    where
+      by : (o : Option Data) → IfSome o (IsConstant (string s)) → (p : Option Data) → IfSome p (IsOneOf (string s))
+          → HasShape N (option_map_or const_texts o (option_map_or enum_texts p texts)) (string s)
+      by (Some x) h p k = const_texts-has s x h
+      by None h (Some x) k = enum_texts-has s x k
+      by None h None k = tt
+
+  -- strings have this shape, and what is inside has the shapes of items, of which there are at least as many, and of fields
+  abbrev pub HasParts : Shape → ℕ → Shape → Fields → Value → Type 0
+  HasParts ts n i fs (sequence vs) = HasShape N (list_of n i) (sequence vs)
+  HasParts ts n i fs (mapping es) = HasShape N (record_of fs) (mapping es)
+  HasParts ts n i fs (string s) = HasShape N ts (string s)
+  HasParts ts n i fs v = Unit {0}
+
+  module _ (ks : Kinds) (ts : Shape) (n : ℕ) (i : Shape) (fs : Fields) (v : Value) where
     abbrev maps : Shape
     maps = or_if ks.map (record_of fs) never
 
@@ -177,7 +225,7 @@ module _ (N : Names) where
     lists = or_if ks.list (list_of n i) maps
 
     abbrev strings : Shape
-    strings = or_if ks.text texts lists
+    strings = or_if ks.text ts lists
 
     abbrev wholes : Shape
     wholes = or_if ks.number numbers strings
@@ -185,29 +233,29 @@ module _ (N : Names) where
     abbrev bools : Shape
     bools = or_if ks.truth truths wholes
 
-    from-bools : HasShape N bools v → HasShape N (by_kinds ks n i fs) v
+    from-bools : HasShape N bools v → HasShape N (by_kinds ks ts n i fs) v
     from-bools h = or_if-other ks.null nulls bools v h
 
-    from-wholes : HasShape N wholes v → HasShape N (by_kinds ks n i fs) v
+    from-wholes : HasShape N wholes v → HasShape N (by_kinds ks ts n i fs) v
     from-wholes h = from-bools (or_if-other ks.truth truths wholes v h)
 
-    from-strings : HasShape N strings v → HasShape N (by_kinds ks n i fs) v
+    from-strings : HasShape N strings v → HasShape N (by_kinds ks ts n i fs) v
     from-strings h = from-wholes (or_if-other ks.number numbers strings v h)
 
-    from-lists : HasShape N lists v → HasShape N (by_kinds ks n i fs) v
-    from-lists h = from-strings (or_if-other ks.text texts lists v h)
+    from-lists : HasShape N lists v → HasShape N (by_kinds ks ts n i fs) v
+    from-lists h = from-strings (or_if-other ks.text ts lists v h)
 
-    from-maps : HasShape N maps v → HasShape N (by_kinds ks n i fs) v
+    from-maps : HasShape N maps v → HasShape N (by_kinds ks ts n i fs) v
     from-maps h = from-lists (or_if-other ks.list (list_of n i) maps v h)
 
-  pub by_kinds-has : (ks : Kinds) (n : ℕ) (i : Shape) (fs : Fields) (v : Value) → HasKind ks v → HasParts n i fs v → HasShape N (by_kinds ks n i fs) v
-  by_kinds-has ks n i fs nothing h p = absurd h
-  by_kinds-has ks n i fs null h p = or_if-one ks.null nulls (bools ks n i fs null) null h tt
-  by_kinds-has ks n i fs (boolean b) h p = from-bools ks n i fs (boolean b) (or_if-one ks.truth truths (wholes ks n i fs (boolean b)) (boolean b) h tt)
-  by_kinds-has ks n i fs (number m) h p = from-wholes ks n i fs (number m) (or_if-one ks.number numbers (strings ks n i fs (number m)) (number m) h tt)
-  by_kinds-has ks n i fs (string s) h p = from-strings ks n i fs (string s) (or_if-one ks.text texts (lists ks n i fs (string s)) (string s) h tt)
-  by_kinds-has ks n i fs (sequence vs) h p = from-lists ks n i fs (sequence vs) (or_if-one ks.list (list_of n i) (maps ks n i fs (sequence vs)) (sequence vs) h p)
-  by_kinds-has ks n i fs (mapping es) h p = from-maps ks n i fs (mapping es) (or_if-one ks.map (record_of fs) never (mapping es) h p)
+  pub by_kinds-has : (ks : Kinds) (ts : Shape) (n : ℕ) (i : Shape) (fs : Fields) (v : Value) → HasKind ks v → HasParts ts n i fs v → HasShape N (by_kinds ks ts n i fs) v
+  by_kinds-has ks ts n i fs nothing h p = absurd h
+  by_kinds-has ks ts n i fs null h p = or_if-one ks.null nulls (bools ks ts n i fs null) null h tt
+  by_kinds-has ks ts n i fs (boolean b) h p = from-bools ks ts n i fs (boolean b) (or_if-one ks.truth truths (wholes ks ts n i fs (boolean b)) (boolean b) h tt)
+  by_kinds-has ks ts n i fs (number m) h p = from-wholes ks ts n i fs (number m) (or_if-one ks.number numbers (strings ks ts n i fs (number m)) (number m) h tt)
+  by_kinds-has ks ts n i fs (string s) h p = from-strings ks ts n i fs (string s) (or_if-one ks.text ts (lists ks ts n i fs (string s)) (string s) h p)
+  by_kinds-has ks ts n i fs (sequence vs) h p = from-lists ks ts n i fs (sequence vs) (or_if-one ks.list (list_of n i) (maps ks ts n i fs (sequence vs)) (sequence vs) h p)
+  by_kinds-has ks ts n i fs (mapping es) h p = from-maps ks ts n i fs (mapping es) (or_if-one ks.map (record_of fs) never (mapping es) h p)
 
   if_kind-has : (c : Bool) (s : Shape) (v : Value) → c ≡ true → HasShape N s v → HasShape N (if_kind c s) v
   if_kind-has true s v e h = h
@@ -225,6 +273,8 @@ module _ (N : Names) where
   kept-has ks numbers v k h = absurd h
   kept-has ks texts (string s) k h = if_kind-has ks.text texts (string s) k h
   kept-has ks texts v k h = absurd h
+  kept-has ks (exactly t) (string s) k h = if_kind-has ks.text (exactly t) (string s) k h
+  kept-has ks (exactly t) v k h = absurd h
   kept-has ks (list_of n s) (sequence vs) k h = if_kind-has ks.list (list_of n s) (sequence vs) k h
   kept-has ks (list_of n s) v k h = absurd h
   kept-has ks (record_of fs) (mapping es) k h = if_kind-has ks.map (record_of fs) (mapping es) k h

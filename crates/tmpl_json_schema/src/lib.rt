@@ -20,6 +20,7 @@ mod read;
 mod reference;
 mod schema;
 mod shapes;
+mod texts;
 mod violation;
 
 pub use check::{CheckFault, check_document};

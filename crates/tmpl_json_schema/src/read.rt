@@ -18,6 +18,7 @@ use crate::fields::{has_content, is_required, least_in, required_in};
 use crate::kinds::{Kinds, is_every_kind, kinds_in};
 use crate::reference::{fragment_of, is_listed};
 use crate::shapes::{by_kinds, is_anything, kept, or_shape, rest_of};
+use crate::texts::texts_in;
 use serde_json::{Map, Value};
 use std::alloc::Global;
 use tmpl_schema::{Fields, Shape, put_field};
@@ -282,7 +283,8 @@ fn content_shape(
     }
     let item = items_shape(reader, steps, schema)?;
     let fields = fields_in(reader, steps, schema)?;
-    Ok(by_kinds(reader.alloc, kinds, least_in(schema), item, fields)?)
+    let texts = texts_in(reader.alloc, schema)?;
+    Ok(by_kinds(reader.alloc, kinds, texts, least_in(schema), item, fields)?)
 }
 
 /// The schema of each item, if there is one.

@@ -21,6 +21,7 @@ fn is_never(shape: &Shape) -> bool
         | Shape::Truths
         | Shape::Numbers
         | Shape::Texts
+        | Shape::Exactly(_)
         | Shape::Anything => false,
         Shape::List { .. } | Shape::Record(_) | Shape::Either(..) | Shape::Named(_) => false,
     }
@@ -37,6 +38,7 @@ pub(crate) fn is_anything(shape: &Shape) -> bool
         | Shape::Truths
         | Shape::Numbers
         | Shape::Texts
+        | Shape::Exactly(_)
         | Shape::Never => false,
         Shape::List { .. } | Shape::Record(_) | Shape::Either(..) | Shape::Named(_) => false,
     }
@@ -65,20 +67,21 @@ fn or_if(alloc: Global, is_asked: bool, one: Shape, other: Shape) -> Result<Shap
     Ok(other)
 }
 
-/// The values of these kinds, with at least as many such items, and such fields.
+/// The values of these kinds, with these strings, at least as many such items, and such fields.
 pub(crate) fn by_kinds(
     alloc: Global,
     kinds: Kinds,
+    texts: Shape,
     least: u64,
     item: Shape,
     fields: Fields,
 ) -> Result<Shape, AllocError>
-    ensures { IfOk result (λ s. shape_of s ≡ by_kinds kinds least (shape_of item) (fields_of fields)) }
+    ensures { IfOk result (λ s. shape_of s ≡ by_kinds kinds (shape_of texts) least (shape_of item) (fields_of fields)) }
 {
     let shape = or_if(alloc, kinds.map, Shape::Record(fields), Shape::Never)?;
     let list = list_of(alloc, least, item)?;
     let shape = or_if(alloc, kinds.list, list, shape)?;
-    let shape = or_if(alloc, kinds.text, Shape::Texts, shape)?;
+    let shape = or_if(alloc, kinds.text, texts, shape)?;
     let shape = or_if(alloc, kinds.number, Shape::Numbers, shape)?;
     let shape = or_if(alloc, kinds.truth, Shape::Truths, shape)?;
     or_if(alloc, kinds.null, Shape::Nulls, shape)
@@ -103,6 +106,7 @@ pub(crate) fn kept(alloc: Global, kinds: Kinds, shape: Shape) -> Result<Shape, A
         Shape::Truths => Ok(if_kind(kinds.truth, Shape::Truths)),
         Shape::Numbers => Ok(if_kind(kinds.number, Shape::Numbers)),
         Shape::Texts => Ok(if_kind(kinds.text, Shape::Texts)),
+        Shape::Exactly(text) => Ok(if_kind(kinds.text, Shape::Exactly(text))),
         Shape::List { least, items } => Ok(if_kind(kinds.list, Shape::List { least, items })),
         Shape::Record(fields) => Ok(if_kind(kinds.map, Shape::Record(fields))),
         Shape::Either(one, other) => {

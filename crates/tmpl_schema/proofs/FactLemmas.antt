@@ -4,18 +4,13 @@ use Rattle.tmpl_grammar.specs.Tree.{Operand, Operands, no_operand, operand, Pipe
 use Rattle.tmpl_grammar.specs.View.{commands_in, operands_in}
 use Rattle.tmpl_grammar.specs.declared.tree.Operand as held
 use Rattle.tmpl_grammar.specs.declared.tree.Command as held_command
-use Rattle.std.specs.Option.{option_and_then}
 use Rattle.tmpl_funcs.specs.declared.func.Func.{Func}
 use Rattle.tmpl_funcs.specs.declared.func.Func.TheVariants as func
-use Rattle.tmpl_schema.specs.computed.Check.{bounds_of, call_fact, one_of, pair_fact, pipeline_call, pipeline_place, two_of}
+use Rattle.tmpl_schema.specs.computed.Check.{bounds_of, call_fact, compare_fact, one_of, pipeline_call, pipeline_place}
 
 pub not-one : (o : Operand) (os : List held.Operand) → 1 ≤ length os → one_of (operand o (operands_in os)) ≡ None
 not-one o [] h = absurd (omega arith)
 not-one o (p ∷ os) h = refl
-
-pub not-two : (o p : Operand) (os : List held.Operand) → 1 ≤ length os → two_of (operand o (operand p (operands_in os))) ≡ None
-not-two o p [] h = absurd (omega arith)
-not-two o p (q ∷ os) h = refl
 
 pub not-one-call : (cs : List held_command.Command) → 2 ≤ length cs → pipeline_call (commands_in cs) ≡ None
 not-one-call [] h = absurd (omega arith)
@@ -28,9 +23,13 @@ not-bounds (o ∷ []) h = absurd (omega arith)
 not-bounds (o ∷ p ∷ []) h = absurd (omega arith)
 not-bounds (o ∷ p ∷ q ∷ os) h = refl
 
-pub other-call : (c : Bool) (f : Func) (os : Operands) → (f ≡ func.Len → ⊥) → call_fact c f os ≡ option_and_then (λ p. pair_fact c f p.0 p.1) (two_of os)
-other-call c func.Len os h = absurd (h refl)
-other-call c _ os h = refl
+pub no-call : (c : Bool) (f : Func) → (f ≡ func.Len → ⊥) → call_fact c f no_operand ≡ None
+no-call c func.Len h = absurd (h refl)
+no-call c _ h = refl
+
+pub other-call : (c : Bool) (f : Func) (o : Operand) (os : Operands) → (f ≡ func.Len → ⊥) → call_fact c f (operand o os) ≡ compare_fact c f o os
+other-call c func.Len o os h = absurd (h refl)
+other-call c _ o os h = refl
 
 no-place : (os : Operands) (p : Pipeline) → pipeline_place (command os p) ≡ None ⊎ (p ≡ no_command)
 no-place os no_command = inr refl
@@ -42,4 +41,4 @@ not-one-place [] h = absurd (omega arith)
 not-one-place (c ∷ []) h = absurd (omega arith)
 not-one-place (c ∷ d ∷ cs) h = elim (no-place (operands_in c.operands.items) (commands_in (d ∷ cs))) [ inl e ↦ e | inr e ↦ cc ]
 
-pub ruleset rests = (not-one, not-two, not-one-call, not-one-place, not-bounds, other-call)
+pub ruleset rests = (not-one, not-one-call, not-one-place, not-bounds, no-call, other-call)

@@ -1,6 +1,6 @@
 -- For the law `runs_safely`: the variables of a run have the shapes that are computed, and so have pipelines.
-use Rattle.std.proofs.Common.{arith, ◌≡◌, ◌∙◌, ◌+◌, ◌-◌, ◌≤◌, ◌<◌, ◌&&◌, pos, nat_lt, ◌==◌, ◌++◌, inl, inr, not, option_to_list, unwrap_or, ℕ, zero, suc, Bool, true, false, List, [], ◌∷◌, Option, Some, None, Result, Ok, Err, length, drop, ap, refl, sym, subst, ok_or, if◌then◌else◌}
-use Rattle.std.proofs.lemmas.List.{drop-drop, length-drop}
+use Rattle.std.proofs.Common.{arith, ◌≡◌, ◌∙◌, ◌+◌, ◌-◌, ◌≤◌, ◌<◌, ◌&&◌, ◌||◌, pos, nat_lt, ◌==◌, ◌++◌, inl, inr, not, option_to_list, unwrap_or, ℕ, zero, suc, Bool, true, false, List, [], ◌∷◌, Option, Some, None, Result, Ok, Err, length, drop, map, ap, refl, sym, subst, ok_or, if◌then◌else◌}
+use Rattle.std.proofs.lemmas.List.{append-nil, drop-drop, length-drop}
 use Rattle.std.proofs.lemmas.Bool.{false≢true, and_parts, eqb-true, ltb-true, ltb-false}
 use Rattle.std.proofs.lemmas.Bool.Decides.{Decides-int_eq}
 use Rattle.std.specs.Ordering.{int_eq}
@@ -31,21 +31,21 @@ use Rattle.tmpl_shape.specs.Shape.{Fields, Shape, never, nothings, nulls, texts,
 use Rattle.tmpl_shape.specs.declared.kind.Kind.TheVariants.{Blank}
 use Rattle.tmpl_shape.specs.computed.Formats.{printf_shape}
 use Rattle.tmpl_shape.specs.computed.Means.{Means}
-use Rattle.tmpl_shape.specs.computed.Shapes.{Base, within, both, any_field, fill, has_kind, join, keyed_shape, null_gone, refine, chain_shape, entry_shape, index_shape, index_shape_by}
+use Rattle.tmpl_shape.specs.computed.Shapes.{Base, Test, has_least, is_among, is_apart, shows_there, least_of, lets_text, is_constant, within, both, any_field, fill, has_kind, join, keyed_shape, null_gone, refine, chain_shape, entry_shape, index_shape, index_shape_by}
 use Rattle.tmpl_shape.specs.computed.Shapes.{Key, of_name, of_text, of_place, item_shape, part_shape}
 use Rattle.tmpl_shape.specs.computed.Calls.{call_shape, shape_by_function}
-use Rattle.tmpl_schema.specs.computed.Check.{Fact, call_counts, call_fact, command_call, constant_fact, count_of, counts_in, first_fact, least_by, length_fact, mirrored, more_than}
-use Rattle.tmpl_schema.specs.computed.Check.{operand_counts, pair_fact, piped_fact, tells, tells_by, narrow_all, narrow_as, narrow_by, narrow_command, narrow_operand, narrow_to}
-use Rattle.tmpl_schema.specs.computed.Check.{bounds_of, sliced_shape, call_place, index_place, deciding_shape, passing_shape, passed, operand_shapes, junction_shape, commands_shape}
+use Rattle.tmpl_schema.specs.computed.Check.{Fact, call_counts, call_fact, command_call, count_of, counts_in, first_fact, least_by, length_fact, mirrored, more_than, one_of}
+use Rattle.tmpl_schema.specs.computed.Check.{operand_counts, are_constants, is_nil_alone, equal_test, constant_test, pair_fact, compare_fact, piped_fact, tells, narrow_all, narrow_as, narrow_by, narrow_command, narrow_operand, narrow_to}
+use Rattle.tmpl_schema.specs.computed.Check.{are_texts, bounds_of, sliced_shape, call_place, chain_place, index_place, texts_in, deciding_shape, passing_shape, passed, operand_shapes, junction_shape, commands_shape}
 use Rattle.tmpl_schema.specs.computed.Check as check
 use Rattle.tmpl_schema.specs.computed.Check.{Origin, narrow_from, narrow_root, origin_within, pipeline_origin, pipeline_place, place_of, place_origin, refine_all, refine_along, refine_from, rest_of, root_origin, variable_origin}
-use Rattle.tmpl_schema.proofs.OriginLemmas.{HasOrigin, IsAt, at-chain, at-gone, at-joined, at-rest, origin_within-has, origins-left, origins-right, rest_of-is}
+use Rattle.tmpl_schema.proofs.OriginLemmas.{HasOrigin, IsAt, at-chain, at-gone, at-joined, at-rest, at-root, origin_within-has, origins-left, origins-right, rest_of-is}
 use Rattle.tmpl_schema.specs.computed.Check.{Known, State, variable_shape, assigned_shape, bound_shapes, refine_variable, all_within, join_all, join_origins, last_of, if_within}
 use Rattle.tmpl_schema.specs.computed.Check.{after_both, entry_along, entry_by, operand_shape, indexed_shape, printed_shape, command_shape, pipeline_shape, narrow}
 use Rattle.tmpl_shape.proofs.KindLemmas.{has_kind-has}
 use Rattle.tmpl_shape.proofs.ShapeLemmas.{same_name, within-has, join-left, join-right, null_gone-has}
 use Rattle.tmpl_shape.proofs.FormatLemmas.{printf-gives}
-use Rattle.tmpl_shape.proofs.FieldLemmas.{Gives, IsThere, any-has, any-least, at-entry, both-left, both-right, entry-gives, chain-gives, fill-has, full-thing, refine-has}
+use Rattle.tmpl_shape.proofs.FieldLemmas.{Ends, Gives, Passes, Shows, any-has, at-entry, both-left, both-right, entry-gives, chain-gives, fill-has, full-thing, only-there, refine-has}
 use Rattle.tmpl_shape.proofs.PartLemmas.{item-at, part-gives, part_told}
 use Rattle.tmpl_shape.proofs.CallLemmas.{HaveShapes, call-gives}
 use Rattle.tmpl_funcs.specs.Func.{takes}
@@ -57,14 +57,18 @@ use Rattle.tmpl_meaning.proofs.PartLemmas.{by_count, decided}
 -- ---- numbers of items
 
 -- a value has as many items, and so it is there
-sized-there : (u : Value) (i l : ℕ) → size_of u ≡ Some i → l ≤ i → IsThere l u
+sized-there : (u : Value) (i l : ℕ) → size_of u ≡ Some i → l ≤ i → Shows (has_least l) u
 sized-there nothing i l e h = cc
 sized-there null i l e h = cc
 sized-there (boolean b) i l e h = cc
 sized-there (number n) i l e h = cc
-sized-there (string s) i l e h = (refl, tt)
-sized-there (mapping es) i l e h = (refl, tt)
-sized-there (sequence vs) i l e h = let same : length (values_of_items vs) ≡ i = cc in (refl, omega arith)
+sized-there (string s) i l e h = (λ x. refl, refl)
+sized-there (mapping es) i l e h = (λ x. refl, tt)
+sized-there (sequence vs) i l e h = let same : length (values_of_items vs) ≡ i = cc in (λ x. refl, omega arith)
+
+or_true : (b : Bool) → (b || true) ≡ true
+or_true true = refl
+or_true false = refl
 
 full-number : (i : ℕ) → truth (number (pos i)) ≡ true → 1 ≤ i
 full-number zero t = absurd (false≢true t)
@@ -320,35 +324,43 @@ module _ (base : Base) (N : Names) (means : Means base.defs N) (top : Value) whe
       by true more = h.3
       by false more = more
 
-  refine-known : (least : ℕ) (m : MissingKey) (name : List ℕ) (ns : List (List ℕ)) (x : Value) → IsThere least x → (ks : Known) (env : Environment) → HasKnown ks env
-      → chain m ns (lookup name env) ≡ Ok x → HasKnown (refine_variable base least name ns ks) env
-  refine-known least m name ns x t [] [] h e = tt
-  refine-known least m name ns x t (k ∷ ks) (v ∷ env) h e = by (bytes_eq k.0 name) (rw h.0 at e) (refine-known least m name ns x t ks env h.2)
+  refine-known : (test : Test) (name : List ℕ) (ns : List (List ℕ)) (ks : Known) (env : Environment) → HasKnown ks env
+      → Ends test ns (lookup name env) → HasKnown (refine_variable base test name ns ks) env
+  refine-known test name ns [] [] h e = tt
+  refine-known test name ns (k ∷ ks) (v ∷ env) h e = by (bytes_eq k.0 name) (rw h.0 at e) (refine-known test name ns ks env h.2)
     where
-      by : (b : Bool) → chain m ns (option_map_or (λ v. v.1) (if b then Some (k.0, v.1) else find (λ v. bytes_eq v.0 name) env) nothing) ≡ Ok x
-          → (chain m ns (lookup name env) ≡ Ok x → HasKnown (refine_variable base least name ns ks) env)
-          → HasKnown (if b then (k.0, refine base least ns k.1, k.2) ∷ ks else k ∷ refine_variable base least name ns ks) (v ∷ env)
-      by true y more = (h.0, (refine-has base N means) least k.1 m ns v.1 x h.1 y t, h.2, h.3)
+      by : (b : Bool) → Ends test ns (option_map_or (λ v. v.1) (if b then Some (k.0, v.1) else find (λ v. bytes_eq v.0 name) env) nothing)
+          → (Ends test ns (lookup name env) → HasKnown (refine_variable base test name ns ks) env)
+          → HasKnown (if b then (k.0, refine base test ns k.1, k.2) ∷ ks else k ∷ refine_variable base test name ns ks) (v ∷ env)
+      by true y more = (h.0, (refine-has base N means) test k.1 ns v.1 h.1 y, h.2, h.3)
       by false y more = (h.0, h.1, more y, h.3)
-  refine-known least m name ns x t _ _ h e = absurd h
+  refine-known test name ns _ _ h e = absurd h
 
-  -- where the end of a chain from the data of the template is there, so is what has its origin
-  along-has : (least : ℕ) (ns : List (List ℕ)) (x : Value) → IsThere least x → chain mode.Error ns top ≡ Ok x → (o : Origin) (s : Shape) (y : Value) → HasShape N s y → HasOrigin top o y
-      → HasShape N (refine_from base least ns o s) y
-  along-has least ns x t e None s y h i = h
-  along-has least ns x t e (Some ps) s y h i = by (rest_of ps ns) refl
+  -- what a test shows of what is at a place, it shows of the chain to it, and of what is left of the chain after a part of it
+  at-ends : (test : Test) (ps : List (List ℕ)) (u x : Value) → IsAt ps u x → Shows test x → Ends test ps u
+  at-ends test ps u x i t = (λ e. (x, i.1 (t.0 e) mode.Error, t.0 e), λ w e k. subst (Passes test) (sym (i.0 mode.Error w e k)) t.1)
+
+  rest-ends : (test : Test) (ps ms : List (List ℕ)) (y : Value) → IsAt ps top y → Ends test (ps ++ ms) top → Ends test ms y
+  rest-ends test ps ms y i t = (
+    λ e. let x = t.0 e in (x.0, at-rest mode.Error ps ms top y x.0 i x.1 x.2, x.2),
+    λ x e k. t.1 x ((at-joined ps ms top y x i (at-chain mode.Error ms y x e)).1 k mode.Error) k,
+  )
+
+  -- where a test shows what it does of a chain from the data of the template, so it does of what has its origin
+  along-has : (test : Test) (ns : List (List ℕ)) → Ends test ns top → (o : Origin) (s : Shape) (y : Value) → HasShape N s y → HasOrigin top o y
+      → HasShape N (refine_from base test ns o s) y
+  along-has test ns t None s y h i = h
+  along-has test ns t (Some ps) s y h i = by (rest_of ps ns) refl
     where
-      by : (r : Option (List (List ℕ))) → rest_of ps ns ≡ r → HasShape N (refine_along base least ns s r) y
+      by : (r : Option (List (List ℕ))) → rest_of ps ns ≡ r → HasShape N (refine_along base test ns s r) y
       by None is = h
       by (Some ms) is =
-          let whole : chain mode.Error (ps ++ ms) top ≡ Ok x = subst (λ (qs : List (List ℕ)). chain mode.Error qs top ≡ Ok x) (rest_of-is ps ns ms is) e in
-          (refine-has base N means) least s mode.Error ms y x h (at-rest mode.Error ps ms top y x i whole t.0) t
+          (refine-has base N means) test s ms y h (rest-ends test ps ms y i (subst (λ (qs : List (List ℕ)). Ends test qs top) (rest_of-is ps ns ms is) t))
 
-  all-along : (least : ℕ) (ns : List (List ℕ)) (x : Value) → IsThere least x → chain mode.Error ns top ≡ Ok x → (ks : Known) (env : Environment) → HasKnown ks env
-      → HasKnown (refine_all base least ns ks) env
-  all-along least ns x t e [] [] h = tt
-  all-along least ns x t e (k ∷ ks) (v ∷ env) h = (h.0, along-has least ns x t e k.2 k.1 v.1 h.1 h.3, all-along least ns x t e ks env h.2, h.3)
-  all-along least ns x t e _ _ h = absurd h
+  all-along : (test : Test) (ns : List (List ℕ)) → Ends test ns top → (ks : Known) (env : Environment) → HasKnown ks env → HasKnown (refine_all base test ns ks) env
+  all-along test ns t [] [] h = tt
+  all-along test ns t (k ∷ ks) (v ∷ env) h = (h.0, along-has test ns t k.2 k.1 v.1 h.1 h.3, all-along test ns t ks env h.2, h.3)
+  all-along test ns t _ _ h = absurd h
 
   -- ---- pipelines
 
@@ -584,28 +596,73 @@ module _ (base : Base) (N : Names) (means : Means base.defs N) (top : Value) whe
   IsPlaced d env None v = Unit {0}
   IsPlaced d env (Some p) v = IsAt p.path (root_value d env p.root) v
 
-  index-at : (n : List ℕ) (d v : Value) → (apply_function func.Index (d ∷ string n ∷ [])).result ≡ Ok v → IsAt (n ∷ []) d v
+  index-at : (n : List ℕ) (d v : Value) → element_at d (string n) ≡ Ok v → IsAt (n ∷ []) d v
   index-at n (mapping es) v e = at-chain mode.Zero (n ∷ []) (mapping es) v (by (entry_at n es) e)
     where
-      by : (o : Option Value) → ◌≡◌ {A = Result Value Cause} (Ok (unwrap_or o null)) (Ok v)
+      by : (o : Option Value) → ◌≡◌ {A = Result Value CallFault} (Ok (unwrap_or o null)) (Ok v)
           → and_then (field_value mode.Zero n (option_map_or found o missing)) (chain mode.Zero []) ≡ Ok v
-      by None e = e
-      by (Some w) e = e
+      by None e = let same : null ≡ v = cc in ap Ok same
+      by (Some w) e = let same : w ≡ v = cc in ap Ok same
   index-at n _ v e = cc
+
+  keys-at : (ns : List (List ℕ)) (d v : Value) → indexed_by d (map string ns) ≡ Ok v → IsAt ns d v
+  keys-at [] d v e = let same : d ≡ v = cc in subst (λ (x : Value). IsAt [] d x) same (at-root d)
+  keys-at (n ∷ ns) d v e = by (element_at d (string n)) refl e (λ w. keys-at ns w v)
+    where
+      by : (r : Result Value CallFault) → element_at d (string n) ≡ r → and_then r (λ w. indexed_by w (map string ns)) ≡ Ok v
+          → ((w : Value) → indexed_by w (map string ns) ≡ Ok v → IsAt ns w v) → IsAt (n ∷ ns) d v
+      by (Ok w) is e more = at-joined (n ∷ []) ns d w v (index-at n d w is) (more w e)
+      by (Err fault) is e more = cc
 
   -- what an `index` of these operands gives
   abbrev index_value : MissingKey → Value → Environment → Operands → Result Value Cause
   index_value m d env os = (given_then (operand_values (place m d env) os) (λ vs. apply_function func.Index (vs ++ []))).result
 
+  key-values : (m : MissingKey) (d : Value) (env : Environment) (os : Operands) → are_texts os ≡ true → (operand_values (place m d env) os).result ≡ Ok (map string (texts_in os))
+  key-values m d env no_operand e = refl
+  key-values m d env (operand (text_constant n) os) e = rw (key-values m d env os e) refl
+  key-values m d env (operand _ os) e = absurd (false≢true e)
+
+  -- a value and its keys
+  keys-ok : (x : Result Value Cause) (rs : Result (List Value) Cause) (a b c : Bool) (is : List Value) (v : Value) → rs ≡ Ok is
+      → (go_on (go_on x a (λ u. go_on rs b (λ vs. as_given (Ok (u ∷ vs))))).result c (λ vs. apply_function func.Index (vs ++ []))).result ≡ Ok v
+      → (u : Value) × (x ≡ Ok u) × (indexed_by u is ≡ Ok v)
+  keys-ok (Err cause) rs a b c is v same e = cc
+  keys-ok (Ok u) rs a b c is v same e = (
+    u,
+    refl,
+    by u (subst (λ (js : List Value). (apply_function func.Index (u ∷ js)).result ≡ Ok v) (append-nil is)
+        (subst (λ (q : Result (List Value) Cause). (go_on (go_on q b (λ vs. as_given (Ok (u ∷ vs)))).result c (λ vs. apply_function func.Index (vs ++ []))).result ≡ Ok v) same e)),
+  )
+    where
+      found-ok : (r : Result Value CallFault) → result_map_both (λ w. w) (call_failed func.Index) r ≡ Ok v → r ≡ Ok v
+      found-ok (Ok w) e = let it : w ≡ v = cc in ap Ok it
+      found-ok (Err fault) e = cc
+
+      by : (w : Value) → (apply_function func.Index (w ∷ is)).result ≡ Ok v → indexed_by w is ≡ Ok v
+      by nothing e = cc
+      by null e = cc
+      by w e = found-ok (indexed_by w is) e
+
+  chain-placed : (m : MissingKey) (o : Operand) (ns : List (List ℕ)) (d : Value) (env : Environment) (u v : Value) → (operand_value (place m d env) o).result ≡ Ok u
+      → IsAt ns u v → IsPlaced d env (chain_place o ns) v
+  chain-placed m dot ns d env u v e i = let same : u ≡ d = cc in subst (λ (x : Value). IsAt ns x v) same i
+  chain-placed m (fields names) ns d env u v e i = at-joined names ns d u v (at-chain m names d u e) i
+  chain-placed m (variable name names) ns d env u v e i = at-joined names ns (lookup name env) u v (at-chain m names (lookup name env) u e) i
+  chain-placed m _ ns d env u v e i = tt
+
   index-placed : (m : MissingKey) (os : Operands) (d : Value) (env : Environment) (v : Value) → index_value m d env os ≡ Ok v → IsPlaced d env (index_place os) v
-  index-placed m (operand dot (operand (text_constant n) no_operand)) d env v e = index-at n d v e
-  index-placed m (operand (variable name []) (operand (text_constant n) no_operand)) d env v e = index-at n (lookup name env) v e
-  index-placed m (operand (variable name (x ∷ xs)) (operand (text_constant n) no_operand)) d env v e = tt
-  index-placed m (operand _ (operand (text_constant n) no_operand)) d env v e = tt
-  index-placed m (operand _ (operand _ no_operand)) d env v e = tt
-  index-placed m (operand _ (operand _ (operand _ _))) d env v e = tt
-  index-placed m (operand _ no_operand) d env v e = tt
   index-placed m no_operand d env v e = tt
+  index-placed m (operand o os) d env v e = by (are_texts os) refl
+    where
+      by : (b : Bool) → are_texts os ≡ b → IsPlaced d env (if b then chain_place o (texts_in os) else None) v
+      by false is = tt
+      by true is =
+          let x = operand_value (place m d env) o in
+          let y = operand_values (place m d env) os in
+          let g = keys-ok x.result y.result x.made_text y.made_text (operand_values (place m d env) (operand o os)).made_text (map string (texts_in os)) v
+          (key-values m d env os is) e in
+          chain-placed m o (texts_in os) d env g.0 v g.1 (keys-at (texts_in os) g.0 v g.2)
 
   by_count-ok : (f : Func) (t : Bool) (g : Given Value) (v : Value) → (by_count f t g).result ≡ Ok v → g.result ≡ Ok v
   by_count-ok f true g v e = e
@@ -633,9 +690,6 @@ module _ (base : Base) (N : Names) (means : Means base.defs N) (top : Value) whe
   inner-ok (Err cause) b m v e = cc
 
   operand-placed : (m : MissingKey) (o : Operand) (d : Value) (env : Environment) (v : Value) → (operand_value (place m d env) o).result ≡ Ok v → IsPlaced d env (place_of o) v
-  operand-placed m dot d env v e = at-chain mode.Error [] d v e
-  operand-placed m (fields names) d env v e = at-chain m names d v e
-  operand-placed m (variable name names) d env v e = at-chain m names (lookup name env) v e
   operand-placed m (group (command (operand (function f) os) no_command) []) d env v e =
       let c = command_value (place m d env) (operand (function f) os) None in
       let p = commands_value (place m d env) (command (operand (function f) os) no_command) None in
@@ -646,7 +700,7 @@ module _ (base : Base) (N : Names) (means : Means base.defs N) (top : Value) whe
   operand-placed m (group (command no_operand no_command) []) d env v e = tt
   operand-placed m (group (command (operand _ os) no_command) []) d env v e = tt
   operand-placed m (group (command os (command us cs)) []) d env v e = tt
-  operand-placed m _ d env v e = tt
+  operand-placed m o d env v e = chain-placed m o [] d env v v e (at-root v)
 
   pipeline-placed : (m : MissingKey) (p : Pipeline) (d : Value) (env : Environment) (v : Value) → (commands_value (place m d env) p None).result ≡ Ok v
       → IsPlaced d env (pipeline_place p) v
@@ -684,34 +738,43 @@ module _ (base : Base) (N : Names) (means : Means base.defs N) (top : Value) whe
       by None g = tt
       by (Some q) g = place-has k d env q v h g
 
-  root-fits : (least : ℕ) (p : check.Place) (k : State) (d : Value) (env : Environment) (v : Value) → Fits k d env → chain mode.Error p.path (root_value d env p.root) ≡ Ok v
-      → IsThere least v → Fits (narrow_root base least p k) d env
-  root-fits least p k d env v h e t = by p.root e
-    where
-      by : (root : Option (List ℕ)) → chain mode.Error p.path (root_value d env root) ≡ Ok v
-          → Fits (option_map_or (λ name. record k { env = refine_variable base least name p.path k.env }) root (record k { dot = refine base least p.path k.dot })) d env
-      by None e = ((refine-has base N means) least k.dot mode.Error p.path d v h.0 e t, h.1, h.2)
-      by (Some name) e = (h.0, refine-known least mode.Error name p.path v t k.env env h.1 e, h.2)
+  either-known : (b : Bool) (ks ls : Known) (env : Environment) → HasKnown ks env → HasKnown ls env → HasKnown (if b then ks else ls) env
+  either-known true ks ls env h g = h
+  either-known false ks ls env h g = g
 
-  -- where the value of a place is there, what is known then holds
-  placed-fits : (least : ℕ) (o : Option check.Place) (k : State) (d : Value) (env : Environment) (v : Value) → Fits k d env → IsPlaced d env o v → IsThere least v
-      → Fits (narrow_to base least o k) d env
-  placed-fits least None k d env v h i t = h
-  placed-fits least (Some p) k d env v h i t = by (place_origin k p) (place-has k d env p v h i)
+  root-fits : (test : Test) (p : check.Place) (k : State) (d : Value) (env : Environment) → Fits k d env → Ends test p.path (root_value d env p.root)
+      → Fits (narrow_root base test p k) d env
+  root-fits test p k d env h e = by p.root e
     where
-      by : (o : Origin) → HasOrigin top o v → Fits (option_map_or (λ ns. narrow_from base least ns k) o (narrow_root base least p k)) d env
-      by None g = root-fits least p k d env v h (i.1 t.0 mode.Error) t
+      by : (root : Option (List ℕ)) → Ends test p.path (root_value d env root)
+          → Fits (option_map_or (λ name. record k { env = if shows_there test then refine_variable base test name p.path k.env else k.env }) root
+          (record k { dot = refine base test p.path k.dot })) d env
+      by None e = ((refine-has base N means) test k.dot p.path d h.0 e, h.1, h.2)
+      by (Some name) e =
+          (h.0, either-known (shows_there test) (refine_variable base test name p.path k.env) k.env env (refine-known test name p.path k.env env h.1 e) h.1, h.2)
+
+  -- where a test shows what it does of the value of a place, what is known then holds
+  placed-fits : (test : Test) (o : Option check.Place) (k : State) (d : Value) (env : Environment) (v : Value) → Fits k d env → IsPlaced d env o v → Shows test v
+      → Fits (narrow_to base test o k) d env
+  placed-fits test None k d env v h i t = h
+  placed-fits test (Some p) k d env v h i t = by (place_origin k p) (place-has k d env p v h i)
+    where
+      by : (o : Origin) → HasOrigin top o v → Fits (option_map_or (λ ns. narrow_from base test ns k) o (narrow_root base test p k)) d env
+      by None g = root-fits test p k d env h (at-ends test p.path (root_value d env p.root) v i t)
       by (Some ns) g =
-          let e = g.1 t.0 mode.Error in
-          (along-has least ns v t e k.from k.dot d h.0 h.2, all-along least ns v t e k.env env h.1, h.2)
+          let e = at-ends test ns top v g t in (
+            along-has test ns e k.from k.dot d h.0 h.2,
+            either-known (shows_there test) (refine_all base test ns k.env) k.env env (all-along test ns e k.env env h.1) h.1,
+            h.2,
+          )
 
-  index-fits : (least : ℕ) (m : MissingKey) (os : Operands) (k : State) (d : Value) (env : Environment) (v : Value) → Fits k d env
-      → index_value m d env os ≡ Ok v → IsThere least v → Fits (narrow_to base least (index_place os) k) d env
-  index-fits least m os k d env v h e t = placed-fits least (index_place os) k d env v h (index-placed m os d env v e) t
+  index-fits : (test : Test) (m : MissingKey) (os : Operands) (k : State) (d : Value) (env : Environment) (v : Value) → Fits k d env
+      → index_value m d env os ≡ Ok v → Shows test v → Fits (narrow_to base test (index_place os) k) d env
+  index-fits test m os k d env v h e t = placed-fits test (index_place os) k d env v h (index-placed m os d env v e) t
 
-  narrow_by-fits : (least : ℕ) (m : MissingKey) (o : Operand) (k : State) (d : Value) (env : Environment) (v : Value) → Fits k d env
-      → (operand_value (place m d env) o).result ≡ Ok v → IsThere least v → Fits (narrow_by base least o k) d env
-  narrow_by-fits least m o k d env v h e t = placed-fits least (place_of o) k d env v h (operand-placed m o d env v e) t
+  narrow_by-fits : (test : Test) (m : MissingKey) (o : Operand) (k : State) (d : Value) (env : Environment) (v : Value) → Fits k d env
+      → (operand_value (place m d env) o).result ≡ Ok v → Shows test v → Fits (narrow_by base test o k) d env
+  narrow_by-fits test m o k d env v h e t = placed-fits test (place_of o) k d env v h (operand-placed m o d env v e) t
 
   -- ---- narrowing by comparisons
 
@@ -757,6 +820,20 @@ module _ (base : Base) (N : Names) (means : Means base.defs N) (top : Value) whe
   two-ok f (Ok u) (Err cause) a b c e v h = cc
   two-ok f (Err cause) y a b c e v h = cc
 
+  -- a value and those it is compared with
+  called-ok : (f : Func) (x : Result Value Cause) (rs : Result (List Value) Cause) (a b c : Bool) (v : Value)
+      → (go_on (go_on x a (λ u. go_on rs b (λ vs. as_given (Ok (u ∷ vs))))).result c (λ vs. apply_function f (vs ++ []))).result ≡ Ok v
+      → (u : Value) × (ws : List Value) × (x ≡ Ok u) × (rs ≡ Ok ws) × ((apply_function f (u ∷ ws)).result ≡ Ok v)
+  called-ok f (Ok u) (Ok ws) a b c v e = (u, ws, refl, refl, subst (λ (js : List Value). (apply_function f (u ∷ js)).result ≡ Ok v) (append-nil ws) e)
+  called-ok f (Ok u) (Err cause) a b c v e = cc
+  called-ok f (Err cause) rs a b c v e = cc
+
+  values-ok : (x : Result Value Cause) (rs : Result (List Value) Cause) (a b : Bool) (ws : List Value)
+      → (go_on x a (λ v. go_on rs b (λ vs. as_given (Ok (v ∷ vs))))).result ≡ Ok ws → (w : Value) × (vs : List Value) × (x ≡ Ok w) × (rs ≡ Ok vs) × ((w ∷ vs) ≡ ws)
+  values-ok (Ok w) (Ok vs) a b ws e = let same : (w ∷ vs) ≡ ws = cc in (w, vs, refl, refl, same)
+  values-ok (Ok w) (Err cause) a b ws e = cc
+  values-ok (Err cause) rs a b ws e = cc
+
   length-ok : (x : Result Value Cause) (a b : Bool) (v : Value) → (go_on (go_on x a (λ w. as_given (Ok (w ∷ [])))).result b (λ vs. apply_function func.Len (vs ++ []))).result ≡ Ok v
       → (i : ℕ) × (u : Value) × (x ≡ Ok u) × (size_of u ≡ Some i) × (whole i ≡ v)
   length-ok (Err cause) a b v e = cc
@@ -780,12 +857,6 @@ module _ (base : Base) (N : Names) (means : Means base.defs N) (top : Value) whe
   tell-thing false m d env nil u w is e h =
       let same : w ≡ nothing = cc in unequal-thing u (subst (λ (x : Value). equality u x ≡ Some false) same h)
   tell-thing false m d env _ u w is e h = absurd (false≢true is)
-
-  tells-thing : (f : Func) (c : Bool) (m : MissingKey) (d : Value) (env : Environment) (p : Operand) (u w v : Value) → tells_by c f p ≡ true
-      → (operand_value (place m d env) p).result ≡ Ok w → compared f u w ≡ Ok v → truth v ≡ c → is_nothing u ≡ false
-  tells-thing func.Eq c m d env p u w v is e h t = tell-thing c m d env p u w is e (eq-told u w v c h t)
-  tells-thing func.Ne c m d env p u w v is e h t = tell-thing (not c) m d env p u w is e (ne-told u w v c h t)
-  tells-thing _ c m d env p u w v is e h t = absurd (false≢true is)
 
   not-ok : (x : Result Value Cause) (a b : Bool) (c : Bool) (v : Value)
       → (go_on (go_on x a (λ w. as_given (Ok (w ∷ [])))).result b (λ vs. apply_function func.Not (vs ++ []))).result ≡ Ok v → truth v ≡ c
@@ -843,40 +914,176 @@ module _ (base : Base) (N : Names) (means : Means base.defs N) (top : Value) whe
     operand-counts _ o v is e = cc
 
     -- where a fact holds of the value of its operand
-    abbrev Holds : Operand → ℕ → Type 0
-    Holds o l = (u : Value) × ((operand_value (place m d env) o).result ≡ Ok u) × IsThere l u
+    abbrev Holds : Operand → Test → Type 0
+    Holds o test = (u : Value) × ((operand_value (place m d env) o).result ≡ Ok u) × Shows test u
 
-    held-fits : (o : Operand) (l : ℕ) (k : State) → Fits k d env → Holds o l → Fits (narrow_by base l o k) d env
-    held-fits o l k h x = narrow_by-fits l m o k d env x.0 h x.1 x.2
+    held-fits : (o : Operand) (test : Test) (k : State) → Fits k d env → Holds o test → Fits (narrow_by base test o k) d env
+    held-fits o test k h x = narrow_by-fits test m o k d env x.0 h x.1 x.2
 
     length_fact-fits : (c : Bool) (f : Func) (counted : Option Operand) (counting : Option ℕ) (k : State) → Fits k d env
-        → ((o : Operand) (n l : ℕ) → counted ≡ Some o → counting ≡ Some n → least_by c f n ≡ Some l → Holds o l)
+        → ((o : Operand) (n l : ℕ) → counted ≡ Some o → counting ≡ Some n → least_by c f n ≡ Some l → Holds o (has_least l))
         → Fits (narrow_as base (length_fact c f counted counting) k) d env
     length_fact-fits c f None counting k h g = h
     length_fact-fits c f (Some o) None k h g = h
     length_fact-fits c f (Some o) (Some n) k h g = by (least_by c f n) refl
       where
-        by : (r : Option ℕ) → least_by c f n ≡ r → Fits (narrow_as base (option_map (λ l. record { least = l; about = o }) r) k) d env
+        by : (r : Option ℕ) → least_by c f n ≡ r → Fits (narrow_as base (option_map (λ l. record { test = has_least l; about = o }) r) k) d env
         by None is = h
-        by (Some l) is = held-fits o l k h (g o n l refl refl is)
+        by (Some l) is = held-fits o (has_least l) k h (g o n l refl refl is)
 
     first_fact-fits : (a b : Option Fact) (k : State) → Fits (narrow_as base a k) d env → Fits (narrow_as base b k) d env → Fits (narrow_as base (first_fact a b) k) d env
     first_fact-fits None b k h g = g
     first_fact-fits (Some a) b k h g = h
 
-    constant_fact-fits : (c : Bool) (f : Func) (o p : Operand) (k : State) → Fits k d env → (tells_by c f p ≡ true → Holds o 0) → Fits (narrow_as base (constant_fact c f o p) k) d env
-    constant_fact-fits c f o p k h g = by (tells_by c f p) refl
+    -- a value of which a string is tested
+    passes-text : (test : Test) (u : Value) → least_of test ≡ 0 → ((t : List ℕ) → u ≡ string t → lets_text test t ≡ true) → Passes test u
+    passes-text test (sequence vs) e f = omega (arith, e)
+    passes-text test (string t) e f = f t refl
+    passes-text test nothing e f = tt
+    passes-text test null e f = tt
+    passes-text test (boolean b) e f = tt
+    passes-text test (number n) e f = tt
+    passes-text test (mapping es) e f = tt
+
+    -- a string that equals a constant is that constant, and one that differs is not
+    constant-first : (t : List ℕ) (o : Operand) (os : Operands) (w : Value) → tells true o ≡ true → (operand_value (place m d env) o).result ≡ Ok w
+        → equality (string t) w ≡ Some true → is_constant t (operand o os) ≡ true
+    constant-first t (text_constant s) os w is e h =
+        let same : w ≡ string s = cc in
+        let it : bytes_eq t s ≡ true = some_same (bytes_eq t s) true (subst (λ (x : Value). equality (string t) x ≡ Some true) same h) in rw it refl
       where
-        by : (b : Bool) → tells_by c f p ≡ b → Fits (narrow_as base (if b then Some (record { least = 0; about = o }) else None) k) d env
-        by true is = held-fits o 0 k h (g is)
-        by false is = h
+        some_same : (a b : Bool) → Some a ≡ Some b → a ≡ b
+        some_same a b e = cc
+    constant-first t (bool_constant q) os w is e h =
+        let same : w ≡ boolean q = cc in absurd (by (subst (λ (x : Value). equality (string t) x ≡ Some true) same h))
+      where
+        by : equality (string t) (boolean q) ≡ Some true → ⊥
+        by e = cc
+    constant-first t (number_constant q) os w is e h =
+        let same : w ≡ number q = cc in absurd (by (subst (λ (x : Value). equality (string t) x ≡ Some true) same h))
+      where
+        by : equality (string t) (number q) ≡ Some true → ⊥
+        by e = cc
+    constant-first t _ os w is e h = absurd (false≢true is)
+
+    constant-more : (t : List ℕ) (o : Operand) (os : Operands) → is_constant t os ≡ true → is_constant t (operand o os) ≡ true
+    constant-more t (text_constant s) os e = rw e (or_true (bytes_eq t s))
+    constant-more t _ os e = e
+
+    constant-apart : (t : List ℕ) (o : Operand) (os : Operands) (w : Value) → (operand_value (place m d env) o).result ≡ Ok w → equality (string t) w ≡ Some false
+        → is_constant t os ≡ false → is_constant t (operand o os) ≡ false
+    constant-apart t (text_constant s) os w e h more =
+        let same : w ≡ string s = cc in
+        let it : bytes_eq t s ≡ false = some_same (bytes_eq t s) false (subst (λ (x : Value). equality (string t) x ≡ Some false) same h) in rw it more
+      where
+        some_same : (a b : Bool) → Some a ≡ Some b → a ≡ b
+        some_same a b e = cc
+    constant-apart t _ os w e h more = more
+
+    among-shown : (os : Operands) (ws : List Value) (u : Value) → are_constants os ≡ true → (operand_values (place m d env) os).result ≡ Ok ws
+        → equal_to_one u ws ≡ Some true → (is_nothing u ≡ false) × ((t : List ℕ) → u ≡ string t → is_constant t os ≡ true)
+    among-shown no_operand ws u a e h = let same : ws ≡ [] = cc in absurd (by (subst (λ (xs : List Value). equal_to_one u xs ≡ Some true) same h))
+      where
+        by : equal_to_one u [] ≡ Some true → ⊥
+        by e = cc
+    among-shown (operand o os) ws u a e h =
+        let p = and_parts (tells true o) (are_constants os) a in
+        let x = operand_value (place m d env) o in
+        let y = operand_values (place m d env) os in
+        let g = values-ok x.result y.result x.made_text y.made_text ws e in
+        by g.0 g.1 p.0 g.2 (equality u g.0) refl (subst (λ (xs : List Value). equal_to_one u xs ≡ Some true) (sym g.4) h)
+        (λ i. among-shown os g.1 u p.1 g.3 i)
+      where
+        by : (w : Value) (vs : List Value) → tells true o ≡ true → (operand_value (place m d env) o).result ≡ Ok w → (r : Option Bool) → equality u w ≡ r
+            → option_and_then (λ equal. if equal then Some true else equal_to_one u vs) r ≡ Some true
+            → (equal_to_one u vs ≡ Some true → (is_nothing u ≡ false) × ((t : List ℕ) → u ≡ string t → is_constant t os ≡ true))
+            → (is_nothing u ≡ false) × ((t : List ℕ) → u ≡ string t → is_constant t (operand o os) ≡ true)
+        by w vs is e None at i more = cc
+        by w vs is e (Some true) at i more = (
+          tell-thing true m d env o u w is e at,
+          λ t same. constant-first t o os w is e (subst (λ (x : Value). equality x w ≡ Some true) same at),
+        )
+        by w vs is e (Some false) at i more = let r = more i in (r.0, λ t same. constant-more t o os (r.1 t same))
+
+    apart-shown : (os : Operands) (ws : List Value) (t : List ℕ) → (operand_values (place m d env) os).result ≡ Ok ws → equal_to_one (string t) ws ≡ Some false
+        → is_constant t os ≡ false
+    apart-shown no_operand ws t e h = refl
+    apart-shown (operand o os) ws t e h =
+        let x = operand_value (place m d env) o in
+        let y = operand_values (place m d env) os in
+        let g = values-ok x.result y.result x.made_text y.made_text ws e in
+        by g.0 g.1 g.2 (equality (string t) g.0) refl (subst (λ (xs : List Value). equal_to_one (string t) xs ≡ Some false) (sym g.4) h)
+        (λ i. apart-shown os g.1 t g.3 i)
+      where
+        by : (w : Value) (vs : List Value) → (operand_value (place m d env) o).result ≡ Ok w → (r : Option Bool) → equality (string t) w ≡ r
+            → option_and_then (λ equal. if equal then Some true else equal_to_one (string t) vs) r ≡ Some false
+            → (equal_to_one (string t) vs ≡ Some false → is_constant t os ≡ false) → is_constant t (operand o os) ≡ false
+        by w vs e None at i more = cc
+        by w vs e (Some true) at i more = cc
+        by w vs e (Some false) at i more = constant-apart t o os w e at (more i)
+
+    nil-alone : (os : Operands) → is_nil_alone os ≡ true → os ≡ operand nil no_operand
+    nil-alone (operand nil no_operand) e = refl
+    nil-alone (operand _ no_operand) e = absurd (false≢true e)
+    nil-alone (operand _ (operand _ _)) e = absurd (false≢true e)
+    nil-alone no_operand e = absurd (false≢true e)
+
+    equal-one : (u w : Value) (vs : List Value) → equal_to_one u (w ∷ vs) ≡ Some false → equality u w ≡ Some false
+    equal-one u w vs e = by (equality u w) e
+      where
+        by : (r : Option Bool) → option_and_then (λ equal. if equal then Some true else equal_to_one u vs) r ≡ Some false → r ≡ Some false
+        by None e = cc
+        by (Some true) e = cc
+        by (Some false) e = refl
+
+    equal_test-shown : (c : Bool) (os : Operands) (ws : List Value) (u : Value) (test : Test) → (operand_values (place m d env) os).result ≡ Ok ws
+        → equal_to_one u ws ≡ Some c → equal_test c os ≡ Some test → Shows test u
+    equal_test-shown true os ws u test e h is = by (are_constants os) refl is
+      where
+        by : (b : Bool) → are_constants os ≡ b → (if b then Some (is_among os) else None) ≡ Some test → Shows test u
+        by false a is = cc
+        by true a is =
+            let same : is_among os ≡ test = cc in
+            let r = among-shown os ws u a e h in subst (λ (x : Test). Shows x u) same (λ y. r.0, passes-text (is_among os) u refl r.1)
+    equal_test-shown false os ws u test e h is = by (is_nil_alone os) refl is
+      where
+        by : (b : Bool) → is_nil_alone os ≡ b → (if b then Some (has_least 0) else Some (is_apart os)) ≡ Some test → Shows test u
+        by true a is =
+            let same : has_least 0 ≡ test = cc in
+            let it = nil-alone os a in
+            let given : ◌≡◌ {A = Result (List Value) Cause} (Ok (nothing ∷ [])) (Ok ws) = subst (λ (q : Operands). (operand_values (place m d env) q).result ≡ Ok ws) it e in
+            let values : (nothing ∷ []) ≡ ws = cc in
+            subst (λ (x : Test). Shows x u) same
+            (only-there u (unequal-thing u (equal-one u nothing [] (subst (λ (xs : List Value). equal_to_one u xs ≡ Some false) (sym values) h))))
+        by false a is =
+            let same : is_apart os ≡ test = cc in
+            subst (λ (x : Test). Shows x u) same (
+              λ y. absurd (false≢true y),
+              passes-text (is_apart os) u refl (λ t at. ap not (apart-shown os ws t e (subst (λ (x : Value). equal_to_one x ws ≡ Some false) at h))),
+            )
+
+    one-more : (o : Option Bool) (b : Bool) → o ≡ Some b → option_and_then (λ equal. if equal then Some true else Some false) o ≡ Some b
+    one-more None b e = cc
+    one-more (Some true) b e = e
+    one-more (Some false) b e = e
+
+    constant_test-shown : (c : Bool) (f : Func) (os : Operands) (u : Value) (ws : List Value) (v : Value) (test : Test) → (operand_values (place m d env) os).result ≡ Ok ws
+        → (apply_function f (u ∷ ws)).result ≡ Ok v → truth v ≡ c → constant_test c f os ≡ Some test → Shows test u
+    constant_test-shown c func.Eq os u [] v test e h t is = cc
+    constant_test-shown c func.Eq os u (w ∷ ws) v test e h t is =
+        equal_test-shown c os (w ∷ ws) u test e (told-truth func.Eq (equal_to_one u (w ∷ ws)) v c h t) is
+    constant_test-shown c func.Ne os u [] v test e h t is = cc
+    constant_test-shown c func.Ne os u (w ∷ []) v test e h t is =
+        equal_test-shown (not c) os (w ∷ []) u test e (one-more (equality u w) (not c) (ne-told u w v c h t)) is
+    constant_test-shown c func.Ne os u (w ∷ x ∷ ws) v test e h t is = cc
+    constant_test-shown c _ os u ws v test e h t is = cc
 
     -- what a call of these operands gives
     abbrev call_value : Func → Operands → Result Value Cause
     call_value f os = (given_then (operand_values (place m d env) os) (λ vs. apply_function f (vs ++ []))).result
 
     first-counts : (c : Bool) (f : Func) (o p q : Operand) (n l : ℕ) (u w v : Value) → (operand_value (place m d env) o).result ≡ Ok u → (operand_value (place m d env) p).result ≡ Ok w
-        → compared f u w ≡ Ok v → truth v ≡ c → operand_counts o ≡ Some q → count_of p ≡ Some n → least_by c f n ≡ Some l → Holds q l
+        → compared f u w ≡ Ok v → truth v ≡ c → operand_counts o ≡ Some q → count_of p ≡ Some n → least_by c f n ≡ Some l → Holds q (has_least l)
     first-counts c f o p q n l u w v x y e t counts counting is =
         let g = operand-counts o q u counts x in
         let same = count-ok m d env p n w counting y in
@@ -884,7 +1091,7 @@ module _ (base : Base) (N : Names) (means : Means base.defs N) (top : Value) whe
         (g.1, g.2, sized-there g.1 g.0 l g.3 (counted-least f c g.0 n l v told t is))
 
     second-counts : (c : Bool) (f : Func) (o p q : Operand) (n l : ℕ) (u w v : Value) → (operand_value (place m d env) o).result ≡ Ok u → (operand_value (place m d env) p).result ≡ Ok w
-        → compared f u w ≡ Ok v → truth v ≡ c → operand_counts p ≡ Some q → count_of o ≡ Some n → least_by c (mirrored f) n ≡ Some l → Holds q l
+        → compared f u w ≡ Ok v → truth v ≡ c → operand_counts p ≡ Some q → count_of o ≡ Some n → least_by c (mirrored f) n ≡ Some l → Holds q (has_least l)
     second-counts c f o p q n l u w v x y e t counts counting is =
         let g = operand-counts p q w counts y in
         let same = count-ok m d env o n u counting x in
@@ -898,18 +1105,35 @@ module _ (base : Base) (N : Names) (means : Means base.defs N) (top : Value) whe
         let y = operand_value (place m d env) p in
         let g = two-ok f x.result y.result x.made_text y.made_text (operand_values (place m d env) (operand p no_operand)).made_text
         (operand_values (place m d env) (operand o (operand p no_operand))).made_text v e in
-        first_fact-fits (length_fact c f (operand_counts o) (count_of p))
-        (first_fact (length_fact c (mirrored f) (operand_counts p) (count_of o)) (constant_fact c f o p)) k
+        first_fact-fits (length_fact c f (operand_counts o) (count_of p)) (length_fact c (mirrored f) (operand_counts p) (count_of o)) k
         (length_fact-fits c f (operand_counts o) (count_of p) k h (λ q n l counts counting is. first-counts c f o p q n l g.0 g.1 v g.2 g.3 g.4 t counts counting is))
-        (first_fact-fits (length_fact c (mirrored f) (operand_counts p) (count_of o)) (constant_fact c f o p) k
         (length_fact-fits c (mirrored f) (operand_counts p) (count_of o) k h (λ q n l counts counting is. second-counts c f o p q n l g.0 g.1 v g.2 g.3 g.4 t counts counting is))
-        (constant_fact-fits c f o p k h (λ is. (g.0, g.2, (tells-thing f c m d env p g.0 g.1 v is g.3 g.4 t, any-least g.0)))))
 
-    full_length-fits : (o : Operand) (k : State) (v : Value) → Fits k d env → call_value func.Len (operand o no_operand) ≡ Ok v → truth v ≡ true → Fits (narrow_by base 1 o k) d env
+    pairs-fit : (c : Bool) (f : Func) (o : Operand) (os : Operands) (k : State) (v : Value) → Fits k d env → call_value f (operand o os) ≡ Ok v → truth v ≡ c
+        → Fits (narrow_as base (option_and_then (pair_fact c f o) (one_of os)) k) d env
+    pairs-fit c f o (operand p no_operand) k v h e t = pair_fact-fits c f o p k v h e t
+    pairs-fit c f o (operand _ (operand _ _)) k v h e t = h
+    pairs-fit c f o no_operand k v h e t = h
+
+    compare_fact-fits : (c : Bool) (f : Func) (o : Operand) (os : Operands) (k : State) (v : Value) → Fits k d env → call_value f (operand o os) ≡ Ok v → truth v ≡ c
+        → Fits (narrow_as base (compare_fact c f o os) k) d env
+    compare_fact-fits c f o os k v h e t =
+        first_fact-fits (option_and_then (pair_fact c f o) (one_of os)) (option_map (λ test. record { test = test; about = o }) (constant_test c f os)) k
+        (pairs-fit c f o os k v h e t) (by (constant_test c f os) refl)
+      where
+        by : (r : Option Test) → constant_test c f os ≡ r → Fits (narrow_as base (option_map (λ test. record { test = test; about = o }) r) k) d env
+        by None is = h
+        by (Some test) is =
+            let x = operand_value (place m d env) o in
+            let y = operand_values (place m d env) os in
+            let g = called-ok f x.result y.result x.made_text y.made_text (operand_values (place m d env) (operand o os)).made_text v e in
+            held-fits o test k h (g.0, g.2, constant_test-shown c f os g.0 g.1 v test g.3 g.4 t is)
+
+    full_length-fits : (o : Operand) (k : State) (v : Value) → Fits k d env → call_value func.Len (operand o no_operand) ≡ Ok v → truth v ≡ true → Fits (narrow_by base (has_least 1) o k) d env
     full_length-fits o k v h e t =
         let x = operand_value (place m d env) o in
         let g = length-ok x.result x.made_text (operand_values (place m d env) (operand o no_operand)).made_text v e in
-        held-fits o 1 k h (g.1, g.2, sized-there g.1 g.0 1 g.3 (full-number g.0 (ap truth g.4 ∙ t)))
+        held-fits o (has_least 1) k h (g.1, g.2, sized-there g.1 g.0 1 g.3 (full-number g.0 (ap truth g.4 ∙ t)))
 
     call_fact-fits : (f : Func) (c : Bool) (os : Operands) (k : State) (v : Value) → Fits k d env → call_value f os ≡ Ok v → truth v ≡ c
         → Fits (narrow_as base (call_fact c f os) k) d env
@@ -917,9 +1141,7 @@ module _ (base : Base) (N : Names) (means : Means base.defs N) (top : Value) whe
     call_fact-fits func.Len true (operand _ (operand _ _)) k v h e t = h
     call_fact-fits func.Len true no_operand k v h e t = h
     call_fact-fits func.Len false os k v h e t = h
-    call_fact-fits f c (operand o (operand p no_operand)) k v h e t = pair_fact-fits c f o p k v h e t
-    call_fact-fits f c (operand _ (operand _ (operand _ _))) k v h e t = h
-    call_fact-fits f c (operand _ no_operand) k v h e t = h
+    call_fact-fits f c (operand o os) k v h e t = compare_fact-fits c f o os k v h e t
     call_fact-fits f c no_operand k v h e t = h
 
     -- a call to which the value of a command is piped
@@ -928,7 +1150,7 @@ module _ (base : Base) (N : Names) (means : Means base.defs N) (top : Value) whe
 
     piped-counts : (c : Bool) (os : Operands) (f : Func) (p o : Operand) (n l : ℕ) (u v : Value) → (command_value (place m d env) os None).result ≡ Ok u
         → (piped_value (operand (function f) (operand p no_operand)) u).result ≡ Ok v → truth v ≡ c
-        → counts_in (command_call os) ≡ Some o → count_of p ≡ Some n → least_by c (mirrored f) n ≡ Some l → Holds o l
+        → counts_in (command_call os) ≡ Some o → count_of p ≡ Some n → least_by c (mirrored f) n ≡ Some l → Holds o (has_least l)
     piped-counts c os f (number_constant (pos j)) o n l u v x e t counts counting is =
         let g = command-counts os o u counts x in
         let same : j ≡ n = cc in
@@ -974,7 +1196,7 @@ module _ (base : Base) (N : Names) (means : Means base.defs N) (top : Value) whe
       operand-narrows (group p []) c k v h e t =
           let r = commands_value (place m d env) p None in pipeline-narrows p c k v h (inner-ok r.result r.made_text m v e) t
       operand-narrows (group p (n ∷ ns)) c k v h e t = h
-      operand-narrows o true k v h e t = narrow_by-fits 1 m o k d env v h e (full-thing v t)
+      operand-narrows o true k v h e t = narrow_by-fits (has_least 1) m o k d env v h e (full-thing v t)
       operand-narrows o false k v h e t = h
 
       all-narrow : (os : Operands) (c : Bool) (k : State) (last v : Value) → Fits k d env → (junction (not c) (place m d env) last os None).result ≡ Ok v → truth v ≡ c
@@ -1002,7 +1224,7 @@ module _ (base : Base) (N : Names) (means : Means base.defs N) (top : Value) whe
       command-narrows (operand (function func.Not) no_operand) c k v h e t = h
       command-narrows (operand (function func.Not) (operand _ (operand _ _))) c k v h e t = h
       command-narrows (operand (function func.Index) os) true k v h e t =
-          index-fits 1 m os k d env v h (by_count-ok func.Index (takes func.Index (operand_count os + 0))
+          index-fits (has_least 1) m os k d env v h (by_count-ok func.Index (takes func.Index (operand_count os + 0))
           (given_then (operand_values (place m d env) os) (λ vs. apply_function func.Index (vs ++ []))) v e) (full-thing v t)
       command-narrows (operand (function func.Index) os) false k v h e t = h
       command-narrows (operand (function f) os) c k v h e t =

@@ -4,15 +4,14 @@
 ghost use Rattle.std.specs.Prelude.{◌≡◌, ◌^◌, ◌<◌, IfSome, false, true};
 ghost use Rattle.std.specs.Option.{option_and_then, option_map};
 ghost use Rattle.tmpl_grammar.specs.View.{commands_in, operand_of, operands_in};
-ghost use Rattle.tmpl_schema.specs.computed.Check.{bounds_of, call_fact, call_place, command_call, constant_fact, count_of, counts_in, first_fact, group_counts, group_place, head_of, index_place, key_of, key_place};
-ghost use Rattle.tmpl_schema.specs.computed.Check.{head_place, least_by, length_fact, mirrored, more_than, one_of, operand_counts, pair_fact, piped_fact, pipeline_call, pipeline_place, place_of, tells, tells_by, text_of, two_of};
+ghost use Rattle.tmpl_schema.specs.computed.Check.{are_constants, are_texts, bounds_of, call_fact, call_place, chain_place, command_call, compare_fact, constant_test, count_of, counts_in, equal_test, first_fact, group_counts, group_place, head_of, index_place, is_nil_alone, key_of};
+ghost use Rattle.tmpl_schema.specs.computed.Check.{head_place, least_by, length_fact, mirrored, more_than, one_of, operand_counts, pair_fact, piped_fact, pipeline_call, pipeline_place, place_of, tells, text_of, texts_in};
 ghost use Rattle.tmpl_schema.specs.computed.View.{call_seen, fact_seen, head_seen, place_seen};
-ghost use Rattle.tmpl_shape.specs.computed.View.{key_seen, shape_seen};
+ghost use Rattle.tmpl_shape.specs.computed.View.{key_seen, shape_seen, test_seen};
 
-use std::slice::from_ref;
 use tmpl_funcs::Func;
 use tmpl_grammar::{Command, Operand};
-use tmpl_shape::{Key, Shape};
+use tmpl_shape::{Key, Shape, Test};
 use tmpl_values::Bytes;
 
 /// What the first operand of a command is.
@@ -25,17 +24,18 @@ pub(crate) enum Head {
     Value,
 }
 
-/// A chain of fields, from dot or from the variable of a name.
+/// A chain of fields from dot or from the variable of a name, and of those that keys name after it.
 #[derive(Clone, Copy)]
 pub(crate) struct Place<'p> {
     pub(crate) root: Option<&'p [u8]>,
-    pub(crate) path: &'p [Bytes],
+    pub(crate) fields: &'p [Bytes],
+    pub(crate) keys: &'p [Operand],
 }
 
-/// That an operand is neither nothing nor null, and has at least as many items if it is a list.
+/// That an operand has a value of which a test shows what it does.
 #[derive(Clone, Copy)]
 pub(crate) struct Fact<'p> {
-    pub(crate) least: u64,
+    pub(crate) test: Test<'p>,
     pub(crate) about: &'p Operand,
 }
 
@@ -126,22 +126,6 @@ fn one_of(operands: &[Operand]) -> Option<&Operand>
     }
 }
 
-/// Both operands, where there are two.
-fn two_of(operands: &[Operand]) -> Option<(&Operand, &Operand)>
-    ensures { option_map (λ p. (operand_of p.0.now, operand_of p.1.now)) result ≡ two_of (operands_in operands.now) }
-{
-    match operands {
-        [] => None,
-        [first, rest @ ..] => match rest {
-            [] => None,
-            [second, more @ ..] => match more {
-                [] => Some((first, second)),
-                [_, _more @ ..] => None,
-            },
-        },
-    }
-}
-
 /// Whether an operand is a constant, or else whether it is `nil`.
 fn tells(constant: bool, operand: &Operand) -> bool
     ensures { result ≡ tells constant (operand_of operand.now) }
@@ -154,37 +138,54 @@ fn tells(constant: bool, operand: &Operand) -> bool
     }
 }
 
-/// The place of the entry of a key.
-fn key_place<'p>(key: &'p Bytes, operand: &'p Operand) -> Option<Place<'p>>
-    ensures { option_map place_seen result ≡ key_place key.now (operand_of operand.now) }
+/// Whether the operands are constants of texts.
+fn are_texts(operands: &[Operand]) -> bool
+    ensures { result ≡ are_texts (operands_in operands.now) }
+{
+    match operands {
+        [] => true,
+        [first, rest @ ..] => text_of(first).is_some() && are_texts(rest),
+    }
+}
+
+/// The place at the end of a chain of fields from dot or a variable, and of these keys after it.
+fn chain_place<'p>(operand: &'p Operand, keys: &'p [Operand]) -> Option<Place<'p>>
+    ensures { option_map place_seen result
+        ≡ chain_place (operand_of operand.now) (texts_in (operands_in keys.now)) }
 {
     match operand {
         Operand::Dot => Some(Place {
             root: None,
-            path: from_ref(key),
+            fields: &[],
+            keys,
         }),
-        Operand::Variable { name, fields } => match fields.as_slice() {
-            [] => Some(Place {
-                root: Some(name.as_slice()),
-                path: from_ref(key),
-            }),
-            [_, _more @ ..] => None,
-        },
-        Operand::Fields(_) | Operand::Bool(_) | Operand::Number(_) | Operand::Text(_) => None,
+        Operand::Fields(names) => Some(Place {
+            root: None,
+            fields: names.as_slice(),
+            keys,
+        }),
+        Operand::Variable { name, fields } => Some(Place {
+            root: Some(name.as_slice()),
+            fields: fields.as_slice(),
+            keys,
+        }),
+        Operand::Bool(_) | Operand::Number(_) | Operand::Text(_) => None,
         Operand::Nil | Operand::Function(_) | Operand::Group { .. } => None,
     }
 }
 
-/// The place of what `index` gives.
+/// The place of what `index` gives by keys that are written out.
 pub(crate) fn index_place(operands: &[Operand]) -> Option<Place<'_>>
     ensures { option_map place_seen result ≡ index_place (operands_in operands.now) }
 {
-    match two_of(operands) {
-        Some((first, second)) => match text_of(second) {
-            Some(key) => key_place(key, first),
-            None => None,
-        },
-        None => None,
+    match operands {
+        [] => None,
+        [first, keys @ ..] => {
+            if are_texts(keys) {
+                return chain_place(first, keys);
+            }
+            None
+        }
     }
 }
 
@@ -240,21 +241,8 @@ pub(crate) fn place_of(operand: &Operand) -> Option<Place<'_>>
     ensures { option_map place_seen result ≡ place_of (operand_of operand.now) }
 {
     match operand {
-        Operand::Dot => Some(Place {
-            root: None,
-            path: &[],
-        }),
-        Operand::Fields(names) => Some(Place {
-            root: None,
-            path: names.as_slice(),
-        }),
-        Operand::Variable { name, fields } => Some(Place {
-            root: Some(name.as_slice()),
-            path: fields.as_slice(),
-        }),
         Operand::Group { commands, fields } => group_place(commands.as_slice(), fields.as_slice()),
-        Operand::Bool(_) | Operand::Number(_) | Operand::Text(_) => None,
-        Operand::Nil | Operand::Function(_) => None,
+        _ => chain_place(operand, &[]),
     }
 }
 
@@ -362,37 +350,57 @@ fn length_fact<'p>(
 {
     let about = counted?;
     let least = least_by(truth, func, number?)?;
-    Some(Fact { least, about })
+    Some(Fact {
+        test: Test::There(least),
+        about,
+    })
 }
 
-/// Whether what equals this operand is not null, by a comparison that gives true, or else false.
-fn tells_by(truth: bool, func: Func, operand: &Operand) -> bool
-    ensures { result ≡ tells_by truth func (operand_of operand.now) }
+/// Whether each operand is a constant, and not `nil`.
+fn are_constants(operands: &[Operand]) -> bool
+    ensures { result ≡ are_constants (operands_in operands.now) }
 {
-    match func {
-        Func::Eq => tells(truth, operand),
-        Func::Ne => tells(!truth, operand),
-        _ => false,
+    match operands {
+        [] => true,
+        [first, rest @ ..] => tells(true, first) && are_constants(rest),
     }
 }
 
-/// By a comparison of an operand with a constant or `nil`.
-fn constant_fact<'p>(
-    truth: bool,
-    func: Func,
-    first: &'p Operand,
-    second: &Operand,
-) -> Option<Fact<'p>>
-    ensures { option_map fact_seen result
-        ≡ constant_fact truth func (operand_of first.now) (operand_of second.now) }
+/// Whether `nil` is the only operand.
+fn is_nil_alone(operands: &[Operand]) -> bool
+    ensures { result ≡ is_nil_alone (operands_in operands.now) }
 {
-    if !tells_by(truth, func, second) {
+    match one_of(operands) {
+        Some(only) => tells(false, only),
+        None => false,
+    }
+}
+
+/// The test of what equals one of these, or else none.
+fn equal_test(is_equal: bool, operands: &[Operand]) -> Option<Test<'_>>
+    ensures { option_map test_seen result ≡ equal_test is_equal (operands_in operands.now) }
+{
+    if is_equal {
+        if are_constants(operands) {
+            return Some(Test::Among(operands));
+        }
         return None;
     }
-    Some(Fact {
-        least: 0,
-        about: first,
-    })
+    if is_nil_alone(operands) {
+        return Some(Test::There(0));
+    }
+    Some(Test::Apart(operands))
+}
+
+/// The test by `eq` or `ne`.
+fn constant_test(truth: bool, func: Func, operands: &[Operand]) -> Option<Test<'_>>
+    ensures { option_map test_seen result ≡ constant_test truth func (operands_in operands.now) }
+{
+    match func {
+        Func::Eq => equal_test(truth, operands),
+        Func::Ne => equal_test(!truth, operands),
+        _ => None,
+    }
 }
 
 /// The first that there is.
@@ -406,7 +414,7 @@ fn first_fact<'p>(first: Option<Fact<'p>>, more: Option<Fact<'p>>) -> Option<Fac
     }
 }
 
-/// By a comparison of two operands.
+/// By a comparison of two operands of which one is a length.
 fn pair_fact<'p>(
     truth: bool,
     func: Func,
@@ -423,19 +431,28 @@ fn pair_fact<'p>(
         operand_counts(second),
         count_of(first),
     );
-    let by_constant = constant_fact(truth, func, first, second);
-    first_fact(by_first, first_fact(by_second, by_constant))
+    first_fact(by_first, by_second)
 }
 
-/// By a comparison of two operands that are all.
-fn operands_fact(truth: bool, func: Func, operands: &[Operand]) -> Option<Fact<'_>>
+/// By a comparison of an operand with these.
+fn compare_fact<'p>(
+    truth: bool,
+    func: Func,
+    about: &'p Operand,
+    others: &'p [Operand],
+) -> Option<Fact<'p>>
     ensures { option_map fact_seen result
-        ≡ option_and_then (λ p. pair_fact truth func p.0 p.1) (two_of (operands_in operands.now)) }
+        ≡ compare_fact truth func (operand_of about.now) (operands_in others.now) }
 {
-    match two_of(operands) {
-        Some((first, second)) => pair_fact(truth, func, first, second),
+    let by_length = match one_of(others) {
+        Some(other) => pair_fact(truth, func, about, other),
         None => None,
-    }
+    };
+    let by_constants = match constant_test(truth, func, others) {
+        Some(test) => Some(Fact { test, about }),
+        None => None,
+    };
+    first_fact(by_length, by_constants)
 }
 
 /// By a call that gives what is not empty, or else what is.
@@ -448,9 +465,15 @@ pub(crate) fn call_fact(full: bool, func: Func, operands: &[Operand]) -> Option<
                 return None;
             }
             let about = one_of(operands)?;
-            Some(Fact { least: 1, about })
+            Some(Fact {
+                test: Test::There(1),
+                about,
+            })
         }
-        _ => operands_fact(full, func, operands),
+        _ => match operands {
+            [] => None,
+            [first, rest @ ..] => compare_fact(full, func, first, rest),
+        },
     }
 }
 

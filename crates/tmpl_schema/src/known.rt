@@ -8,14 +8,16 @@ ghost use Rattle.tmpl_shape.specs.View.{shape_of};
 ghost use Rattle.tmpl_schema.specs.computed.Check.{after_both, all_within, assigned_shape, bound_shapes, holds_loop, join_all};
 ghost use Rattle.tmpl_schema.specs.computed.Check.{last_of, leave_with, refine_all, refine_from, refine_variable, variable_origin, variable_shape};
 ghost use Rattle.tmpl_shape.specs.computed.Shapes.{join};
-ghost use Rattle.tmpl_shape.specs.computed.View.{base_of, shape_seen};
+ghost use Rattle.tmpl_shape.specs.computed.View.{base_of, shape_seen, test_seen};
 ghost use Rattle.tmpl_schema.specs.computed.View.{is_longer, known_of, known_seen, origin_of};
 
 use crate::origin::{copy_origin, join_origins, origin_within, rest_of};
 use std::alloc::{AllocError, Global};
 use std::rc::Rc;
 use tmpl_grammar::Binding;
-use tmpl_shape::{Base, Cause, Shape, Trouble, copy_counted, copy_name, either, refine, within};
+use tmpl_shape::{
+    Base, Cause, Shape, Test, Trouble, copy_counted, copy_name, either, refine, within,
+};
 use tmpl_values::Bytes;
 
 /// How much work it is to make a variable anew.
@@ -231,16 +233,16 @@ pub(crate) fn holds_loop(head: Option<&Known>, known: &Known) -> bool
     }
 }
 
-/// Where a chain of fields from a variable is neither nothing nor null, and has at least as many items if it is a list.
+/// Where a test shows what it does of a chain of fields from a variable.
 pub(crate) fn refine_variable(
     base: &Base<'_>,
-    least: u64,
+    test: Test<'_>,
     name: &[u8],
     names: &[Bytes],
     known: &Known,
 ) -> Result<Known, AllocError>
     ensures { IfOk result (λ ks. known_of ks
-        ≡ refine_variable (base_of base.now) least name.now names.now (known_of known.now)) }
+        ≡ refine_variable (base_of base.now) (test_seen test.entry) name.now names.now (known_of known.now)) }
 {
     base.effort.spend(VARIABLE);
     match known {
@@ -248,12 +250,12 @@ pub(crate) fn refine_variable(
         Known::More(newest) => {
             let origin = copy_origin(base.alloc, &newest.origin)?;
             if newest.name.as_slice() == name {
-                let shape = Rc::new(base.alloc, refine(base, least, names, &newest.shape)?)?;
+                let shape = Rc::new(base.alloc, refine(base, test, names, &newest.shape)?)?;
                 let older = copy_known(&newest.older)?;
                 return put_variable(base.alloc, newest.name.as_slice(), shape, origin, older);
             }
             let shape = Rc::clone(&newest.shape)?;
-            let older = refine_variable(base, least, name, names, &newest.older)?;
+            let older = refine_variable(base, test, name, names, &newest.older)?;
             put_variable(base.alloc, newest.name.as_slice(), shape, origin, older)
         }
     }
@@ -262,17 +264,17 @@ pub(crate) fn refine_variable(
 /// The values of a provenance, where a chain from the data of the template is so.
 pub(crate) fn refine_from(
     base: &Base<'_>,
-    least: u64,
+    test: Test<'_>,
     names: &[Bytes],
     origin: &Option<Vec<Bytes>>,
     shape: &Rc<Shape>,
 ) -> Result<Rc<Shape>, AllocError>
     ensures { IfOk result (λ s. shape_of s.value
-        ≡ refine_from (base_of base.now) least names.now (origin_of origin.now) (shape_of shape.now.value)) }
+        ≡ refine_from (base_of base.now) (test_seen test.entry) names.now (origin_of origin.now) (shape_of shape.now.value)) }
 {
     match origin {
         Some(path) => match rest_of(path.as_slice(), names) {
-            Some(rest) => Ok(Rc::new(base.alloc, refine(base, least, rest, shape)?)?),
+            Some(rest) => Ok(Rc::new(base.alloc, refine(base, test, rest, shape)?)?),
             None => Ok(Rc::clone(shape)?),
         },
         None => Ok(Rc::clone(shape)?),
@@ -282,20 +284,20 @@ pub(crate) fn refine_from(
 /// The variables, where a chain from the data of the template is so.
 pub(crate) fn refine_all(
     base: &Base<'_>,
-    least: u64,
+    test: Test<'_>,
     names: &[Bytes],
     known: &Known,
 ) -> Result<Known, AllocError>
     ensures { IfOk result (λ ks. known_of ks
-        ≡ refine_all (base_of base.now) least names.now (known_of known.now)) }
+        ≡ refine_all (base_of base.now) (test_seen test.entry) names.now (known_of known.now)) }
 {
     base.effort.spend(VARIABLE);
     match known {
         Known::Empty => Ok(Known::Empty),
         Known::More(newest) => {
-            let shape = refine_from(base, least, names, &newest.origin, &newest.shape)?;
+            let shape = refine_from(base, test, names, &newest.origin, &newest.shape)?;
             let origin = copy_origin(base.alloc, &newest.origin)?;
-            let older = refine_all(base, least, names, &newest.older)?;
+            let older = refine_all(base, test, names, &newest.older)?;
             put_variable(base.alloc, newest.name.as_slice(), shape, origin, older)
         }
     }

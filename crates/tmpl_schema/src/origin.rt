@@ -3,20 +3,19 @@
 
 ghost use Rattle.std.specs.Prelude.{◌≡◌, ◌++◌, IfOk, OnOk};
 ghost use Rattle.std.specs.Option.{option_map};
-ghost use Rattle.tmpl_schema.specs.computed.Check.{is_path, join_origins, origin_within, rest_of};
-ghost use Rattle.tmpl_schema.specs.computed.View.{origin_of};
+ghost use Rattle.tmpl_grammar.specs.View.{operands_in};
+ghost use Rattle.tmpl_schema.specs.computed.Check.{is_path, join_origins, origin_within, rest_of, texts_in};
+ghost use Rattle.tmpl_schema.specs.computed.View.{origin_of, place_seen};
 
+use crate::facts::{Place, text_of};
 use std::alloc::{AllocError, Global};
+use tmpl_grammar::Operand;
 use tmpl_shape::copy_name;
 use tmpl_values::Bytes;
 
 /// Puts copies of names after others.
 #[tactic(auto, using(std::proofs::lemmas::Grind::common_steps))]
-pub(crate) fn put_path(
-    alloc: Global,
-    path: &[Bytes],
-    names: &mut Vec<Bytes>,
-) -> Result<(), AllocError>
+fn put_path(alloc: Global, path: &[Bytes], names: &mut Vec<Bytes>) -> Result<(), AllocError>
     ensures { OnOk result (names.new.items ≡ names.old.items ++ path.now) }
 {
     match path {
@@ -26,6 +25,33 @@ pub(crate) fn put_path(
             put_path(alloc, rest, names)
         }
     }
+}
+
+/// Puts copies of the texts of constants after names.
+#[tactic(auto, using(std::proofs::lemmas::Grind::common_steps))]
+fn put_texts(alloc: Global, operands: &[Operand], names: &mut Vec<Bytes>) -> Result<(), AllocError>
+    ensures { OnOk result (names.new.items ≡ names.old.items ++ texts_in (operands_in operands.now)) }
+{
+    match operands {
+        [] => Ok(()),
+        [first, rest @ ..] => match text_of(first) {
+            Some(text) => {
+                names.push(copy_name(alloc, text.as_slice())?)?;
+                put_texts(alloc, rest, names)
+            }
+            None => Ok(()),
+        },
+    }
+}
+
+/// The names that lead to a place from its root.
+pub(crate) fn place_path(alloc: Global, place: &Place<'_>) -> Result<Vec<Bytes>, AllocError>
+    ensures { IfOk result (λ path. path.items ≡ (place_seen place.now).path) }
+{
+    let mut names: Vec<Bytes> = Vec::new(alloc);
+    put_path(alloc, place.fields, &mut names)?;
+    put_texts(alloc, place.keys, &mut names)?;
+    Ok(names)
 }
 
 /// A copy of a chain, with one after it.

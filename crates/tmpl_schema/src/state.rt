@@ -5,7 +5,7 @@ ghost use Rattle.std.specs.Prelude.{◌≡◌, IfOk};
 ghost use Rattle.std.specs.Option.{option_map};
 ghost use Rattle.tmpl_grammar.specs.View.{commands_in, operand_of, operands_in};
 ghost use Rattle.tmpl_shape.specs.View.{shape_of};
-ghost use Rattle.tmpl_shape.specs.computed.View.{base_of};
+ghost use Rattle.tmpl_shape.specs.computed.View.{base_of, test_seen};
 ghost use Rattle.tmpl_schema.specs.computed.Check.{at_start, narrow, narrow_all, narrow_as, narrow_by, narrow_command, narrow_from, narrow_operand, narrow_root, narrow_to};
 ghost use Rattle.tmpl_schema.specs.computed.Check.{pipeline_origin, place_origin, root_origin};
 ghost use Rattle.tmpl_schema.specs.computed.View.{fact_seen, narrow_call, narrow_piped, origin_of, place_seen, state_of};
@@ -17,12 +17,12 @@ use crate::facts::{
 use crate::known::{
     Known, copy_known, put_variable, refine_all, refine_from, refine_variable, variable_origin,
 };
-use crate::origin::{copy_origin, join_paths};
+use crate::origin::{copy_origin, join_paths, place_path};
 use std::alloc::{AllocError, Global};
 use std::rc::Rc;
 use tmpl_funcs::Func;
 use tmpl_grammar::{Command, Operand};
-use tmpl_shape::{Base, Shape, copy_counted, refine};
+use tmpl_shape::{Base, Shape, Test, copy_counted, refine, shows_there};
 use tmpl_values::Bytes;
 
 /// What is known of dot and of the variables.
@@ -86,7 +86,10 @@ fn place_origin(
     ensures { IfOk result (λ o. origin_of o ≡ place_origin (state_of state.now) (place_seen place.now)) }
 {
     match root_origin(state, place.root) {
-        Some(path) => Ok(Some(join_paths(alloc, path, place.path)?)),
+        Some(path) => {
+            let names = place_path(alloc, place)?;
+            Ok(Some(join_paths(alloc, path, names.as_slice())?))
+        }
         None => Ok(None),
     }
 }
@@ -105,27 +108,33 @@ pub(crate) fn pipeline_origin(
     }
 }
 
-/// Where the value of a place of no known provenance is neither nothing nor null, and has at least as many items if it
-/// is a list.
+/// Where a test shows what it does of the value of a place of no known provenance. What shows that a value is not something is
+/// kept of dot alone: of variables both parts of an `if` would be kept.
 fn narrow_root(
     base: &Base<'_>,
-    least: u64,
+    test: Test<'_>,
     place: &Place<'_>,
     state: &State,
 ) -> Result<State, AllocError>
     ensures { IfOk result (λ k. state_of k
-        ≡ narrow_root (base_of base.now) least (place_seen place.now) (state_of state.now)) }
+        ≡ narrow_root (base_of base.now) (test_seen test.entry) (place_seen place.now) (state_of state.now)) }
 {
     let origin = copy_origin(base.alloc, &state.origin)?;
+    let path = place_path(base.alloc, place)?;
+    let names = path.as_slice();
     match place.root {
         None => {
-            let dot = Rc::new(base.alloc, refine(base, least, place.path, &state.dot)?)?;
+            let dot = Rc::new(base.alloc, refine(base, test, names, &state.dot)?)?;
             let known = copy_known(&state.known)?;
             Ok(State { dot, origin, known })
         }
         Some(name) => {
             let dot = Rc::clone(&state.dot)?;
-            let known = refine_variable(base, least, name, place.path, &state.known)?;
+            let known = if shows_there(test) {
+                refine_variable(base, test, name, names, &state.known)?
+            } else {
+                copy_known(&state.known)?
+            };
             Ok(State { dot, origin, known })
         }
     }
@@ -134,49 +143,53 @@ fn narrow_root(
 /// Where what has this provenance is so.
 fn narrow_from(
     base: &Base<'_>,
-    least: u64,
+    test: Test<'_>,
     names: &[Bytes],
     state: &State,
 ) -> Result<State, AllocError>
     ensures { IfOk result (λ k. state_of k
-        ≡ narrow_from (base_of base.now) least names.now (state_of state.now)) }
+        ≡ narrow_from (base_of base.now) (test_seen test.entry) names.now (state_of state.now)) }
 {
-    let dot = refine_from(base, least, names, &state.origin, &state.dot)?;
+    let dot = refine_from(base, test, names, &state.origin, &state.dot)?;
     let origin = copy_origin(base.alloc, &state.origin)?;
-    let known = refine_all(base, least, names, &state.known)?;
+    let known = if shows_there(test) {
+        refine_all(base, test, names, &state.known)?
+    } else {
+        copy_known(&state.known)?
+    };
     Ok(State { dot, origin, known })
 }
 
 /// Where the value of a place is so, and with it all that has its provenance.
 fn narrow_to(
     base: &Base<'_>,
-    least: u64,
+    test: Test<'_>,
     place: Option<Place<'_>>,
     state: &State,
 ) -> Result<State, AllocError>
     ensures { IfOk result (λ k. state_of k
-        ≡ narrow_to (base_of base.now) least (option_map place_seen place.entry) (state_of state.now)) }
+        ≡ narrow_to (base_of base.now) (test_seen test.entry) (option_map place_seen place.entry) (state_of state.now)) }
 {
     match place {
         None => copy_state(base.alloc, state),
         Some(place) => match place_origin(base.alloc, &place, state)? {
-            Some(names) => narrow_from(base, least, names.as_slice(), state),
-            None => narrow_root(base, least, &place, state),
+            Some(names) => narrow_from(base, test, names.as_slice(), state),
+            None => narrow_root(base, test, &place, state),
         },
     }
 }
 
-/// Where an operand is neither nothing nor null, and has at least as many items if it is a list.
+/// Where a test shows what it does of an operand.
 pub(crate) fn narrow_by(
     base: &Base<'_>,
-    least: u64,
+    test: Test<'_>,
     operand: &Operand,
     state: &State,
 ) -> Result<State, AllocError>
     ensures { IfOk result (λ k. state_of k
-        ≡ narrow_by (base_of base.now) least (operand_of operand.now) (state_of state.now)) }
+        ≡ narrow_by (base_of base.now) (test_seen test.entry) (operand_of operand.now) (state_of state.now)) }
 {
-    narrow_to(base, least, place_of(operand), state)
+    narrow_to(base, test, place_of(operand), state)
 }
 
 /// Where this holds, if anything does.
@@ -185,7 +198,7 @@ fn narrow_as(base: &Base<'_>, fact: Option<Fact<'_>>, state: &State) -> Result<S
         ≡ narrow_as (base_of base.now) (option_map fact_seen fact.entry) (state_of state.now)) }
 {
     match fact {
-        Some(fact) => narrow_by(base, fact.least, fact.about, state),
+        Some(fact) => narrow_by(base, fact.test, fact.about, state),
         None => copy_state(base.alloc, state),
     }
 }
@@ -223,7 +236,7 @@ pub(crate) fn narrow_operand(
         },
         _ => {
             if full {
-                return narrow_by(base, 1, operand, state);
+                return narrow_by(base, Test::There(1), operand, state);
             }
             copy_state(base.alloc, state)
         }
@@ -284,7 +297,7 @@ fn narrow_call(
         },
         Func::Index => {
             if full {
-                return narrow_to(base, 1, index_place(operands), state);
+                return narrow_to(base, Test::There(1), index_place(operands), state);
             }
             copy_state(base.alloc, state)
         }

@@ -1,5 +1,5 @@
 -- For the law `runs_safely`: fields and elements of values have the shapes that are computed, and a narrowed shape is the value's.
-use Rattle.std.proofs.Common.{arith, ◌≡◌, ◌∙◌, ◌+◌, ◌≤◌, length, ℕ, zero, suc, pos, Bool, true, false, List, [], ◌∷◌, map, Option, Some, None, IsSome, Result, Ok, Err, inl, inr, ap, refl, sym, subst, if◌then◌else◌}
+use Rattle.std.proofs.Common.{arith, ◌≡◌, ◌∙◌, ◌+◌, ◌≤◌, ◌||◌, length, ℕ, zero, suc, pos, Bool, true, false, List, [], ◌∷◌, map, Option, Some, None, IsSome, Result, Ok, Err, inl, inr, ap, refl, sym, subst, if◌then◌else◌}
 use Rattle.std.proofs.Math.Nat.{max-le}
 use Rattle.std.proofs.lemmas.Bool.{false≢true}
 use Rattle.std.proofs.lemmas.Slice.Eq.{bytes_eq-Decides}
@@ -18,41 +18,46 @@ use Rattle.tmpl_meaning.specs.Pipeline.{chain, field_value}
 use Rattle.tmpl_meaning.specs.Meaning.{elements_visited}
 use Rattle.tmpl_meaning.specs.declared.missing_key.MissingKey.{MissingKey}
 use Rattle.tmpl_meaning.specs.declared.missing_key.MissingKey.TheVariants as mode
-use Rattle.tmpl_shape.specs.Shape.{Shape, never, nothings, nulls, numbers, texts, list_of, record_of, either, named, Names, Fields, no_field, others, field}
+use Rattle.tmpl_shape.specs.Shape.{Shape, never, nothings, nulls, numbers, texts, exactly, list_of, record_of, either, named, Names, Fields, no_field, others, field}
 use Rattle.tmpl_shape.specs.Shape.{EachItem, EachEntry, AreDistinct, HasRequired, HasShape, IsField}
 use Rattle.tmpl_shape.specs.computed.Means.{Means}
-use Rattle.tmpl_shape.specs.computed.Shapes.{Base, shape_at, with_field, both, refine_by, refine, fill, absent_shape, of_field, entry_shape}
+use Rattle.tmpl_shape.specs.computed.Shapes.{Base, Test, has_least, is_among, is_apart, shows_there, least_of, lets_text, shape_at, is_never, is_required, with_field, with_refined, both, blurred, refine_record, refine_text, refine_by, refine, fill, absent_shape, of_field, entry_shape}
 use Rattle.tmpl_shape.specs.computed.Shapes.{field_shape_by, field_shape, chain_shape, any_field, Visit, both_visits, visit_by, visit_of}
-use Rattle.tmpl_shape.proofs.ShapeLemmas.{same_name, join-left, join-right}
+use Rattle.tmpl_shape.proofs.ShapeLemmas.{same_name, or_cases, required-has, blurred-has, join-left, join-right}
 
--- a list has at least as many items
-abbrev pub HasLeast : ℕ → Value → Type 0
-HasLeast n (sequence vs) = n ≤ length (values_of_items vs)
-HasLeast n v = Unit {0}
+-- a value is as a test shows, but for being there
+abbrev pub Passes : Test → Value → Type 0
+Passes test (sequence vs) = least_of test ≤ length (values_of_items vs)
+Passes test (string t) = lets_text test t ≡ true
+Passes test v = Unit {0}
 
--- it is neither nothing nor null, and has at least as many items if it is a list
-abbrev pub IsThere : ℕ → Value → Type 0
-IsThere n v = (is_nothing v ≡ false) × HasLeast n v
+abbrev pub Shows : Test → Value → Type 0
+Shows test v = (shows_there test ≡ true → is_nothing v ≡ false) × Passes test v
 
-pub any-least : (v : Value) → HasLeast 0 v
-any-least (sequence vs) = omega arith
-any-least nothing = tt
-any-least null = tt
-any-least (boolean b) = tt
-any-least (number n) = tt
-any-least (string s) = tt
-any-least (mapping es) = tt
+-- .. and so is what is at the end of a chain of fields
+abbrev pub Ends : Test → List (List ℕ) → Value → Type 0
+Ends test ns v = (shows_there test ≡ true → (x : Value) × (chain mode.Error ns v ≡ Ok x) × (is_nothing x ≡ false))
+    × ((x : Value) → chain mode.Error ns v ≡ Ok x → is_nothing x ≡ false → Passes test x)
+
+pub only-there : (v : Value) → is_nothing v ≡ false → Shows (has_least 0) v
+only-there (sequence vs) t = (λ e. t, omega arith)
+only-there (string s) t = (λ e. t, refl)
+only-there nothing t = (λ e. t, tt)
+only-there null t = (λ e. t, tt)
+only-there (boolean b) t = (λ e. t, tt)
+only-there (number n) t = (λ e. t, tt)
+only-there (mapping es) t = (λ e. t, tt)
 
 -- what is not empty is neither nothing nor null, and has an item if it is a list
-pub full-thing : (v : Value) → truth v ≡ true → IsThere 1 v
+pub full-thing : (v : Value) → truth v ≡ true → Shows (has_least 1) v
 full-thing nothing t = absurd (false≢true t)
 full-thing null t = absurd (false≢true t)
 full-thing (sequence no_item) t = absurd (false≢true t)
-full-thing (sequence (item v vs)) t = (refl, omega arith)
-full-thing (boolean b) t = (refl, tt)
-full-thing (number n) t = (refl, tt)
-full-thing (string s) t = (refl, tt)
-full-thing (mapping es) t = (refl, tt)
+full-thing (sequence (item v vs)) t = (λ e. refl, omega arith)
+full-thing (boolean b) t = (λ e. refl, tt)
+full-thing (number n) t = (λ e. refl, tt)
+full-thing (string s) t = (λ e. refl, refl)
+full-thing (mapping es) t = (λ e. refl, tt)
 
 module _ (base : Base) (N : Names) (means : Means base.defs N) where
   -- where a shape is computed there is a value, and it has the shape
@@ -96,26 +101,26 @@ module _ (base : Base) (N : Names) (means : Means base.defs N) where
 
   missing-gives : (m : MissingKey) (n : List ℕ) (es : Entries) → entry_at n es ≡ None → (fs : Fields) → HasRequired fs es → Gives (entry_shape base m n fs) (field_value m n missing)
   missing-gives m n es e no_field h = absent-gives m n
-  missing-gives m n es e (others s) h = both-right (Some s) (absent_shape m) (field_value m n missing) (absent-gives m n)
+  missing-gives m n es e (others s) h = both-right (Some (blurred base s)) (absent_shape m) (field_value m n missing) (absent-gives m n)
   missing-gives m n es e (field name required s fs) h = by (bytes_eq n name) refl required h.0 (missing-gives m n es e fs h.1)
     where
       by : (c : Bool) → bytes_eq n name ≡ c → (r : Bool) → (r ≡ true → IsSome (entry_at name es)) → Gives (entry_shape base m n fs) (field_value m n missing)
           → Gives (if c then of_field base m r s else entry_shape base m n fs) (field_value m n missing)
       by true is true there more =
           absurd (none-some (subst (λ (o : Option Value). IsSome o) (ap (λ (k : List ℕ). entry_at k es) (sym (same_name n name is)) ∙ e) (there refl)))
-      by true is false there more = both-right (Some s) (absent_shape m) (field_value m n missing) (absent-gives m n)
+      by true is false there more = both-right (Some (blurred base s)) (absent_shape m) (field_value m n missing) (absent-gives m n)
       by false is r there more = more
 
   found-gives : (m : MissingKey) (n : List ℕ) (w : Value) (fs : Fields) → IsField N fs n w → Gives (entry_shape base m n fs) (field_value m n (found w))
   found-gives m n w no_field h = absurd h
-  found-gives m n w (others s) h = both-left (Some s) (absent_shape m) (Ok w) h
+  found-gives m n w (others s) h = both-left (Some (blurred base s)) (absent_shape m) (Ok w) (blurred-has base N means s w h)
   found-gives m n w (field name required s fs) h = by (bytes_eq n name) refl h required (found-gives m n w fs)
     where
       by : (c : Bool) → bytes_eq n name ≡ c → IsField N (field name required s fs) n w → (r : Bool)
           → (IsField N fs n w → Gives (entry_shape base m n fs) (field_value m n (found w)))
           → Gives (if c then of_field base m r s else entry_shape base m n fs) (field_value m n (found w))
-      by true is (inl x) true more = x.1
-      by true is (inl x) false more = both-left (Some s) (absent_shape m) (Ok w) x.1
+      by true is (inl x) true more = blurred-has base N means s w x.1
+      by true is (inl x) false more = both-left (Some (blurred base s)) (absent_shape m) (Ok w) (blurred-has base N means s w x.1)
       by true is (inr x) r more = absurd (false≢true (sym x.0 ∙ is))
       by false is (inl x) r more = absurd (false≢true (sym is ∙ x.0))
       by false is (inr x) r more = more x.1
@@ -167,23 +172,28 @@ module _ (base : Base) (N : Names) (means : Means base.defs N) where
 
   -- ---- narrowing
 
-  -- fields of nothing and of null are nothing or null
-  of_nothing-empty : (m : MissingKey) (ns : List (List ℕ)) (x : Value) → chain m ns nothing ≡ Ok x → is_nothing x ≡ false → ⊥
-  of_nothing-empty m [] x e t = let same : nothing ≡ x = cc in false≢true (sym (ap is_nothing same ∙ t))
-  of_nothing-empty mode.Error (n ∷ ns) x e t = cc
-  of_nothing-empty mode.Zero (n ∷ ns) x e t = of_nothing-empty mode.Zero ns x e t
-  of_nothing-empty mode.Default (n ∷ ns) x e t = of_nothing-empty mode.Default ns x e t
-  of_nothing-empty mode.Invalid (n ∷ ns) x e t = of_nothing-empty mode.Invalid ns x e t
+  -- fields of nothing and of null are a fault
+  of_nothing-empty : (ns : List (List ℕ)) (x : Value) → chain mode.Error ns nothing ≡ Ok x → is_nothing x ≡ false → ⊥
+  of_nothing-empty [] x e t = let same : nothing ≡ x = cc in false≢true (sym (ap is_nothing same ∙ t))
+  of_nothing-empty (n ∷ ns) x e t = cc
 
-  of_null-empty : (m : MissingKey) (ns : List (List ℕ)) (x : Value) → chain m ns null ≡ Ok x → is_nothing x ≡ false → ⊥
-  of_null-empty m [] x e t = let same : null ≡ x = cc in false≢true (sym (ap is_nothing same ∙ t))
-  of_null-empty m (n ∷ ns) x e t = cc
+  of_null-empty : (ns : List (List ℕ)) (x : Value) → chain mode.Error ns null ≡ Ok x → is_nothing x ≡ false → ⊥
+  of_null-empty [] x e t = let same : null ≡ x = cc in false≢true (sym (ap is_nothing same ∙ t))
+  of_null-empty (n ∷ ns) x e t = cc
 
-  of_missing-empty : (m : MissingKey) (n : List ℕ) (ns : List (List ℕ)) (x : Value) → and_then (field_value m n missing) (chain m ns) ≡ Ok x → is_nothing x ≡ false → ⊥
-  of_missing-empty mode.Error n ns x e t = cc
-  of_missing-empty mode.Zero n ns x e t = of_null-empty mode.Zero ns x e t
-  of_missing-empty mode.Default n ns x e t = of_nothing-empty mode.Default ns x e t
-  of_missing-empty mode.Invalid n ns x e t = of_nothing-empty mode.Invalid ns x e t
+  of_missing-empty : (n : List ℕ) (ns : List (List ℕ)) (es : Entries) (x : Value) → entry_at n es ≡ None → chain mode.Error (n ∷ ns) (mapping es) ≡ Ok x → ⊥
+  of_missing-empty n ns es x is e = by (entry_at n es) is e
+    where
+      by : (o : Option Value) → o ≡ None → and_then (field_value mode.Error n (option_map_or found o missing)) (chain mode.Error ns) ≡ Ok x → ⊥
+      by None is e = cc
+      by (Some w) is e = cc
+
+  blank-left : (test : Test) (s : Shape) (v : Value) → HasShape N s v → (shows_there test ≡ true → ⊥) → HasShape N (if shows_there test then never else s) v
+  blank-left test s v h blank = by (shows_there test) refl
+    where
+      by : (b : Bool) → shows_there test ≡ b → HasShape N (if b then never else s) v
+      by true e = absurd (blank e)
+      by false e = h
 
   -- a field of another name is as it was
   other-same : (n : List ℕ) (t : Shape) (k : List ℕ) (v : Value) → bytes_eq k n ≡ false → (fs : Fields) → IsField N fs k v → IsField N (with_field n t fs) k v
@@ -262,64 +272,106 @@ module _ (base : Base) (N : Names) (means : Means base.defs N) where
       by false is (inl y) more = absurd (false≢true (sym is ∙ y.0))
       by false is (inr y) more = inr (y.0, more y.1)
 
-  record-refined : (m : MissingKey) (n : List ℕ) (ns : List (List ℕ)) (s t : Shape) (fs : Fields) (es : Entries) (x : Value)
-      → ((w : Value) → chain m ns w ≡ Ok x → HasShape N s w → HasShape N t w) → shape_at n fs ≡ Some s
-      → HasShape N (record_of fs) (mapping es) → and_then (field_value m n (option_map_or found (entry_at n es) missing)) (chain m ns) ≡ Ok x → is_nothing x ≡ false
-      → HasShape N (record_of (with_field n t fs)) (mapping es)
-  record-refined m n ns s t fs es x g at h e full = by (entry_at n es) refl e
+  field-refined : (n : List ℕ) (t : Shape) (fs : Fields) (es : Entries) (w : Value) → entry_at n es ≡ Some w → HasShape N t w
+      → HasShape N (record_of fs) (mapping es) → HasShape N (with_refined n t fs) (mapping es)
+  field-refined n t fs es w is g h = by (is_never t) refl
     where
-      by : (o : Option Value) → entry_at n es ≡ o → and_then (field_value m n (option_map_or found o missing)) (chain m ns) ≡ Ok x
-          → HasShape N (record_of (with_field n t fs)) (mapping es)
-      by None is e = absurd (of_missing-empty m n ns x e full)
-      by (Some w) is e = (
-        h.0,
-        each-refined n t fs w (λ i. with_field-has n t w (g w e (at-has n w s fs i at)) fs i) es is h.0 h.1,
-        required-refined n t es (rw is refl) fs h.2,
-      )
+      none : (s : Shape) → is_never s ≡ true → HasShape N s w → ⊥
+      none never e k = k
+      none _ e k = absurd (false≢true e)
+
+      by : (b : Bool) → is_never t ≡ b → HasShape N (if b then never else record_of (with_field n t fs)) (mapping es)
+      by true e = absurd (none t e g)
+      by false e = (h.0, each-refined n t fs w (λ i. with_field-has n t w g fs i) es is h.0 h.1, required-refined n t es (rw is refl) fs h.2)
+
+  -- the entry that is asked for is there, and what is at the end of the chain from it is as shown
+  entry-there : (test : Test) (n : List ℕ) (ns : List (List ℕ)) (fs : Fields) (es : Entries) → HasRequired fs es → Ends test (n ∷ ns) (mapping es)
+      → (shows_there test || is_required n fs) ≡ true → (w : Value) × (entry_at n es ≡ Some w)
+  entry-there test n ns fs es h t e = by (entry_at n es) refl
+    where
+      gone : entry_at n es ≡ None → ⊥
+      gone is = elim (or_cases (shows_there test) (is_required n fs) e) [
+        | inl x ↦ let y = t.0 x in of_missing-empty n ns es y.0 is y.1
+        | inr x ↦ none-some (subst (λ (o : Option Value). IsSome o) is (required-has n es fs x h))
+      ]
+
+      by : (o : Option Value) → entry_at n es ≡ o → (w : Value) × (entry_at n es ≡ Some w)
+      by None is = absurd (gone is)
+      by (Some w) is = (w, is)
+
+  entry-ends : (test : Test) (n : List ℕ) (ns : List (List ℕ)) (es : Entries) (w : Value) → entry_at n es ≡ Some w → Ends test (n ∷ ns) (mapping es) → Ends test ns w
+  entry-ends test n ns es w is t =
+      let same : chain mode.Error (n ∷ ns) (mapping es) ≡ chain mode.Error ns w =
+      ap (λ (o : Option Value). and_then (field_value mode.Error n (option_map_or found o missing)) (chain mode.Error ns)) is in
+      (λ e. let x = t.0 e in (x.0, sym same ∙ x.1, x.2), λ x e k. t.1 x (same ∙ e) k)
+
+  record-refined : (test : Test) (f : List (List ℕ) → Shape → Shape) (n : List ℕ) (ns : List (List ℕ)) (fs : Fields) (es : Entries)
+      → HasShape N (record_of fs) (mapping es) → Ends test (n ∷ ns) (mapping es) → ((s : Shape) (w : Value) → HasShape N s w → Ends test ns w → HasShape N (f ns s) w)
+      → HasShape N (refine_record base test f (n ∷ ns) fs) (mapping es)
+  record-refined test f n ns fs es h t g = by (shows_there test || is_required n fs) refl
+    where
+      at : (w : Value) → entry_at n es ≡ Some w → (o : Option Shape) → shape_at n fs ≡ o
+          → HasShape N (option_map_or (λ s. with_refined n (f ns s) fs) o (record_of fs)) (mapping es)
+      at w is None e = h
+      at w is (Some s) e =
+          field-refined n (f ns s) fs es w is (g s w (at-has n w s fs (at-entry (IsField N fs) n w es is h.1) e) (entry-ends test n ns es w is t)) h
+
+      by : (b : Bool) → (shows_there test || is_required n fs) ≡ b
+          → HasShape N (if b then option_map_or (λ s. with_refined n (f ns s) fs) (shape_at n fs) (record_of fs) else record_of fs) (mapping es)
+      by false e = h
+      by true e = let w = entry-there test n ns fs es h.2 t e in at w.0 w.1 (shape_at n fs) refl
 
   -- a list has no fields, and it is its own end of no fields
-  least-has : (least : ℕ) (ns : List (List ℕ)) (m : MissingKey) (vs : Items) (x : Value) → chain m ns (sequence vs) ≡ Ok x → HasLeast least x
-      → least ≤ length (values_of_items vs)
-  least-has least [] m vs x e l = let same : x ≡ sequence vs = cc in subst (HasLeast least) same l
-  least-has least (n ∷ ns) m vs x e l = cc
-
-  refine_by-has : (least i : ℕ) (ns : List (List ℕ)) (s : Shape) (m : MissingKey) (v x : Value) → HasShape N s v → chain m ns v ≡ Ok x → IsThere least x
-      → HasShape N (refine_by base least i ns s) v
-  refine_by-has least zero ns s m v x h e t = h
-  refine_by-has least (suc i) ns nothings m nothing x h e t = absurd (of_nothing-empty m ns x e t.0)
-  refine_by-has least (suc i) ns nothings m _ x h e t = absurd h
-  refine_by-has least (suc i) ns nulls m null x h e t = absurd (of_null-empty m ns x e t.0)
-  refine_by-has least (suc i) ns nulls m _ x h e t = absurd h
-  refine_by-has least (suc i) ns (list_of n s) m (sequence vs) x h e t = (max-le h.0 (least-has least ns m vs x e t.1), h.1)
-  refine_by-has least (suc i) ns (list_of n s) m _ x h e t = absurd h
-  refine_by-has least (suc i) ns (either s u) m v x h e t =
-      elim h [
-        | inl y ↦ join-left base N means (refine_by base least i ns s) (refine_by base least i ns u) v (refine_by-has least i ns s m v x y e t)
-        | inr y ↦ join-right base N means (refine_by base least i ns s) (refine_by base least i ns u) v (refine_by-has least i ns u m v x y e t)
-      ]
-  refine_by-has least (suc i) ns (named y) m v x h e t = by (base.defs y) refl (λ s k. refine_by-has least i ns s m v x k e t)
+  least-has : (test : Test) (ns : List (List ℕ)) (vs : Items) → Ends test ns (sequence vs) → least_of test ≤ length (values_of_items vs)
+  least-has test [] vs t = t.1 (sequence vs) refl refl
+  least-has (has_least l) (n ∷ ns) vs t = let x = t.0 refl in absurd (by x.0 x.1)
     where
-      by : (o : Option Shape) → base.defs y ≡ o → ((s : Shape) → HasShape N s v → HasShape N (refine_by base least i ns s) v)
-          → HasShape N (option_map_or (refine_by base least i ns) o (named y)) v
+      by : (x : Value) → chain mode.Error (n ∷ ns) (sequence vs) ≡ Ok x → ⊥
+      by x e = cc
+  least-has (is_among os) (n ∷ ns) vs t = omega arith
+  least-has (is_apart os) (n ∷ ns) vs t = omega arith
+
+  text-refined : (test : Test) (ns : List (List ℕ)) (u w : List ℕ) → w ≡ u → Ends test ns (string w) → HasShape N (refine_text test ns u) (string w)
+  text-refined test (n ∷ ns) u w same t = same
+  text-refined test [] u w same t = by (lets_text test u) refl
+    where
+      by : (b : Bool) → lets_text test u ≡ b → HasShape N (if b then exactly u else never) (string w)
+      by true e = same
+      by false e = absurd (false≢true (sym e ∙ subst (λ (x : List ℕ). lets_text test x ≡ true) same (t.1 (string w) refl refl)))
+
+  refine_by-has : (test : Test) (i : ℕ) (ns : List (List ℕ)) (s : Shape) (v : Value) → HasShape N s v → Ends test ns v → HasShape N (refine_by base test i ns s) v
+  refine_by-has test zero ns s v h t = h
+  refine_by-has test (suc i) ns nothings nothing h t = blank-left test nothings nothing h (λ e. let x = t.0 e in of_nothing-empty ns x.0 x.1 x.2)
+  refine_by-has test (suc i) ns nothings _ h t = absurd h
+  refine_by-has test (suc i) ns nulls null h t = blank-left test nulls null h (λ e. let x = t.0 e in of_null-empty ns x.0 x.1 x.2)
+  refine_by-has test (suc i) ns nulls _ h t = absurd h
+  refine_by-has test (suc i) ns (exactly u) (string w) h t = text-refined test ns u w h t
+  refine_by-has test (suc i) ns (exactly u) _ h t = absurd h
+  refine_by-has test (suc i) ns (list_of n s) (sequence vs) h t = (max-le h.0 (least-has test ns vs t), h.1)
+  refine_by-has test (suc i) ns (list_of n s) _ h t = absurd h
+  refine_by-has test (suc i) ns (either s u) v h t =
+      elim h [
+        | inl y ↦ join-left base N means (refine_by base test i ns s) (refine_by base test i ns u) v (refine_by-has test i ns s v y t)
+        | inr y ↦ join-right base N means (refine_by base test i ns s) (refine_by base test i ns u) v (refine_by-has test i ns u v y t)
+      ]
+  refine_by-has test (suc i) ns (named y) v h t = by (base.defs y) refl (λ s k. refine_by-has test i ns s v k t)
+    where
+      by : (o : Option Shape) → base.defs y ≡ o → ((s : Shape) → HasShape N s v → HasShape N (refine_by base test i ns s) v)
+          → HasShape N (option_map_or (refine_by base test i ns) o (named y)) v
       by None is f = h
       by (Some s) is f = f s (means.unfolds y s v is h)
-  refine_by-has least (suc i) (name ∷ ns) (record_of fs) m (mapping es) x h e t =
-      by (shape_at name fs) refl (λ s w k j. refine_by-has least i ns s m w x j k t)
-    where
-      by : (o : Option Shape) → shape_at name fs ≡ o
-          → ((s : Shape) (w : Value) → chain m ns w ≡ Ok x → HasShape N s w → HasShape N (refine_by base least i ns s) w)
-          → HasShape N (option_map_or (λ s. record_of (with_field name (refine_by base least i ns s) fs)) o (record_of fs)) (mapping es)
-      by None is f = h
-      by (Some s) is f = record-refined m name ns s (refine_by base least i ns s) fs es x (f s) is h e t.0
-  refine_by-has least (suc i) (name ∷ ns) (record_of fs) m _ x h e t = absurd h
-  refine_by-has least (suc i) ns s m v x h e t = h
+  refine_by-has test (suc i) (name ∷ ns) (record_of fs) (mapping es) h t =
+      record-refined test (refine_by base test i) name ns fs es h t (λ s w k j. refine_by-has test i ns s w k j)
+  refine_by-has test (suc i) (name ∷ ns) (record_of fs) _ h t = absurd h
+  refine_by-has test (suc i) ns s v h t = h
 
-  pub refine-has : (least : ℕ) (s : Shape) (m : MissingKey) (ns : List (List ℕ)) (v x : Value) → HasShape N s v → chain m ns v ≡ Ok x → IsThere least x
-      → HasShape N (refine base least ns s) v
-  refine-has least s m ns v x h e t = refine_by-has least base.limit ns s m v x h e t
+  pub refine-has : (test : Test) (s : Shape) (ns : List (List ℕ)) (v : Value) → HasShape N s v → Ends test ns v → HasShape N (refine base test ns s) v
+  refine-has test s ns v h t = refine_by-has test base.limit ns s v h t
 
   pub fill-has : (s : Shape) (v : Value) → HasShape N s v → truth v ≡ true → HasShape N (fill base s) v
-  fill-has s v h t = refine-has 1 s mode.Error [] v v h refl (full-thing v t)
+  fill-has s v h t =
+      let f = full-thing v t in
+      refine-has (has_least 1) s [] v h (λ e. (v, refl, f.0 e), λ x e k. let same : v ≡ x = cc in subst (Passes (has_least 1)) same f.1)
 
   -- ---- elements
 
@@ -367,7 +419,10 @@ module _ (base : Base) (N : Names) (means : Means base.defs N) where
   any-has no_field k v h = h
   any-has (others s) k v h = h
   any-has (field n required s fs) k v h =
-      elim h [ inl x ↦ (join-left base N means) s (any_field base fs) v x.1 | inr x ↦ (join-right base N means) s (any_field base fs) v (any-has fs k v x.1) ]
+      elim h [
+        | inl x ↦ (join-left base N means) (blurred base s) (any_field base fs) v (blurred-has base N means s v x.1)
+        | inr x ↦ (join-right base N means) (blurred base s) (any_field base fs) v (any-has fs k v x.1)
+      ]
 
   record-visits : (fs : Fields) (es : Entries) → EachEntry (IsField N fs) es → Each (IsVisit (record { key = texts; element = any_field base fs })) (elements_of_entries es)
   record-visits fs no_entry h = tt

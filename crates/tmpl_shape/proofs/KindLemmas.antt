@@ -2,7 +2,7 @@
 use Rattle.std.proofs.Common.{◌≡◌, ◌||◌, ℕ, zero, suc, Bool, true, false, Option, Some, None, inl, inr, refl}
 use Rattle.std.specs.Option.{option_map_or}
 use Rattle.tmpl_values.specs.Value.{Value, nothing, null, boolean, number, string, sequence, mapping}
-use Rattle.tmpl_shape.specs.Shape.{Shape, nothings, nulls, truths, numbers, texts, anything, list_of, record_of}
+use Rattle.tmpl_shape.specs.Shape.{Shape, nothings, nulls, truths, numbers, texts, exactly, anything, list_of, record_of}
 use Rattle.tmpl_shape.specs.Shape.{either, named, Names, HasShape}
 use Rattle.tmpl_shape.specs.declared.kind.Kind.{Kind}
 use Rattle.tmpl_shape.specs.declared.kind.Kind.TheVariants.{Blank, Truth, Number, Text, Many}
@@ -31,6 +31,7 @@ module _ (base : Base) (N : Names) (means : Means base.defs N) where
   may_be-has (suc n) truths (boolean b) h = refl
   may_be-has (suc n) numbers (number i) h = refl
   may_be-has (suc n) texts (string t) h = refl
+  may_be-has (suc n) (exactly s) (string t) h = refl
   may_be-has (suc n) (list_of m s) (sequence vs) h = refl
   may_be-has (suc n) (record_of fs) (mapping es) h = refl
   may_be-has (suc n) (either s t) v h = elim h [

@@ -1,7 +1,7 @@
 -- For the law `runs_safely`: what names stand for is what their shapes say.
 use Rattle.std.proofs.Common.{◌≡◌, ℕ, zero, suc, List, Option, Some, None, inl, inr, sym, subst}
 use Rattle.tmpl_values.specs.Value.{Value, nothing, null, boolean, number, string, sequence, mapping, Items, no_item, item, Entries, no_entry, entry}
-use Rattle.tmpl_shape.specs.Shape.{Shape, never, nothings, nulls, truths, numbers, texts, anything, list_of, record_of, either, named, Fields, no_field, others, field}
+use Rattle.tmpl_shape.specs.Shape.{Shape, never, nothings, nulls, truths, numbers, texts, exactly, anything, list_of, record_of, either, named, Fields, no_field, others, field}
 use Rattle.tmpl_shape.specs.Shape.{EachItem, EachEntry, HasShape, IsField, Names, Defs, IsOf, stands_in, stands_for}
 use Rattle.tmpl_shape.specs.computed.Means.{Means}
 
@@ -31,6 +31,8 @@ module _ (N M : Names) (below : Below N M) where
     shape-on numbers _ h = absurd h
     shape-on texts (string t) h = tt
     shape-on texts _ h = absurd h
+    shape-on (exactly t) (string s) h = h
+    shape-on (exactly t) _ h = absurd h
     shape-on (list_of n s) (sequence vs) h = (h.0, items-on (HasShape N s) (HasShape M s) (shape-on s) vs h.1)
     shape-on (list_of n s) _ h = absurd h
     shape-on (record_of fs) (mapping es) h = (h.0, entries-on (IsField N fs) (IsField M fs) (field-on fs) es h.1, h.2)
@@ -116,6 +118,8 @@ module _ (defs : Defs) where
     bounded numbers _ h = absurd h
     bounded texts (string t) h = (0, tt)
     bounded texts _ h = absurd h
+    bounded (exactly t) (string s) h = (0, h)
+    bounded (exactly t) _ h = absurd h
     bounded never v h = absurd h
 
     field-bounded : (fs : Fields) (k : List ℕ) (v : Value) → IsField (stands_for defs) fs k v → Bounded (λ N. IsField N fs k v)

@@ -5,17 +5,17 @@ use Rattle.std.proofs.lemmas.Bool.{false≢true, and_parts, leb-true}
 use Rattle.std.proofs.lemmas.Slice.Eq.{bytes_eq-Decides}
 use Rattle.std.specs.Option.{option_map_or}
 use Rattle.std.specs.Str.{bytes_eq}
-use Rattle.tmpl_values.specs.Value.{Value, null, sequence, mapping, Items, no_item, item}
+use Rattle.tmpl_values.specs.Value.{Value, null, string, sequence, mapping, Items, no_item, item}
 use Rattle.tmpl_values.specs.Value.{Entries, no_entry, entry}
 use Rattle.tmpl_values.specs.Field.{entry_at}
 use Rattle.tmpl_meaning.specs.Pipeline.{without_null}
-use Rattle.tmpl_shape.specs.Shape.{Shape, never, nothings, nulls, truths, numbers, texts, anything, list_of, record_of}
+use Rattle.tmpl_shape.specs.Shape.{Shape, never, nothings, nulls, truths, numbers, texts, exactly, anything, list_of, record_of}
 use Rattle.tmpl_shape.specs.Shape.{either, named, Names, Fields, no_field, others, field}
 use Rattle.tmpl_shape.specs.Shape.{EachItem, EachEntry, HasRequired, HasShape, IsField}
 use Rattle.tmpl_shape.specs.computed.Means.{Means}
 use Rattle.tmpl_shape.specs.computed.Shapes.{Base, shape_at, is_required, requires_all, is_listed, others_within}
 use Rattle.tmpl_shape.specs.computed.Shapes.{fields_along, fields_within, record_within, each_along, has_name, if_more, plain_within, some_along, some_part, within_by}
-use Rattle.tmpl_shape.specs.computed.Shapes.{within, join, has_kind, null_gone_by, null_gone}
+use Rattle.tmpl_shape.specs.computed.Shapes.{blurred, within, join, has_kind, null_gone_by, null_gone}
 use Rattle.tmpl_shape.specs.declared.kind.Kind.TheVariants.{Blank}
 use Rattle.tmpl_shape.proofs.KindLemmas.{has_kind-has}
 
@@ -40,7 +40,7 @@ entries-has P Q f (entry k v es) h = (f k v h.0, entries-has P Q f es h.1)
 
 -- ---- fields
 
-required-has : (n : List ℕ) (es : Entries) (fs : Fields) → is_required n fs ≡ true → HasRequired fs es → IsSome (entry_at n es)
+pub required-has : (n : List ℕ) (es : Entries) (fs : Fields) → is_required n fs ≡ true → HasRequired fs es → IsSome (entry_at n es)
 required-has n es no_field e h = absurd (false≢true e)
 required-has n es (others s) e h = absurd (false≢true e)
 required-has n es (field m required s fs) e h = by (or_cases (bytes_eq n m && required) (is_required n fs) e) (λ f. required-has n es fs f h.1)
@@ -166,6 +166,11 @@ module _ (N : Names) where
   plain_within-has w f numbers _ v e h = absurd (false≢true e)
   plain_within-has w f texts texts v e h = h
   plain_within-has w f texts _ v e h = absurd (false≢true e)
+  plain_within-has w f (exactly s) texts (string u) e h = tt
+  plain_within-has w f (exactly s) (exactly t) (string u) e h = h ∙ same_name s t e
+  plain_within-has w f (exactly s) texts _ e h = absurd h
+  plain_within-has w f (exactly s) (exactly t) _ e h = absurd h
+  plain_within-has w f (exactly s) _ v e h = absurd (false≢true e)
   plain_within-has w f (list_of n s) (list_of m t) (sequence vs) e h =
       let p = and_parts (nat_le m n) (w s t) e in
       let fewer = leb-true m n p.0 in (omega (arith, h.0), items-has (HasShape N s) (HasShape N t) (λ v. f s t v p.1) vs h.1)
@@ -255,6 +260,16 @@ module _ (base : Base) (N : Names) (means : Means base.defs N) where
       by true q e = h
       by false true e = within-has t s v e h
       by false false e = inr h
+
+  pub blurred-has : (s : Shape) (v : Value) → HasShape N s v → HasShape N (blurred base s) v
+  blurred-has (exactly t) (string s) h = tt
+  blurred-has (exactly t) _ h = absurd h
+  blurred-has (either s t) v h = by (within base (either s t) texts) refl
+    where
+      by : (b : Bool) → within base (either s t) texts ≡ b → HasShape N (if b then texts else either s t) v
+      by true e = within-has (either s t) texts v e h
+      by false e = h
+  blurred-has s v h = h
 
   -- ---- null
 

@@ -4,7 +4,7 @@ use Rattle.std.specs.Str.{bytes_eq}
 use Rattle.tmpl_shape.specs.Shape.{Shape, never, either, named, Fields, no_field, others, field}
 use Rattle.tmpl_shape.proofs.ViewLemmas.{count}
 use Rattle.tmpl_shape.specs.computed.Shapes.{Base, first_in, onto, with_field, with_first, is_listed, is_required, requires_all, each_along, fields_along, record_within, plain_within, some_along, some_part, within_by, kind_step, may_be, gone_step, null_gone_by}
-use Rattle.tmpl_shape.specs.computed.Shapes.{refine_step, refine_by, field_step, field_shape_by, Key, index_step, index_shape_by, part_step, part_shape_by}
+use Rattle.tmpl_shape.specs.computed.Shapes.{Test, refine_step, refine_by, field_step, field_shape_by, Key, index_step, index_shape_by, part_step, part_shape_by}
 use Rattle.tmpl_shape.specs.computed.Shapes.{visit_step, visit_by}
 use Rattle.tmpl_shape.specs.declared.kind.Kind.{Kind}
 use Rattle.tmpl_grammar.specs.Tree.{Binding}
@@ -22,10 +22,10 @@ kind-next base n k s e = by_step (λ i j. may_be base i k s ≡ kind_step base (
 pub gone-next : (base : Base) (n : ℕ) (s : Shape) → (n ≡ 0 → ⊥) → null_gone_by base n s ≡ gone_step base (null_gone_by base (n - 1)) s
 gone-next base n s e = by_step (λ i j. null_gone_by base i s ≡ gone_step base (null_gone_by base j) s) (λ i. refl) n e
 
-pub refine-next : (base : Base) (least n : ℕ) (ns : List (List ℕ)) (s : Shape) → (n ≡ 0 → ⊥)
-    → refine_by base least n ns s ≡ refine_step base least (refine_by base least (n - 1)) ns s
-refine-next base least n ns s e =
-    by_step (λ i j. refine_by base least i ns s ≡ refine_step base least (refine_by base least j) ns s) (λ i. refl) n e
+pub refine-next : (base : Base) (test : Test) (n : ℕ) (ns : List (List ℕ)) (s : Shape) → (n ≡ 0 → ⊥)
+    → refine_by base test n ns s ≡ refine_step base test (refine_by base test (n - 1)) ns s
+refine-next base test n ns s e =
+    by_step (λ i j. refine_by base test i ns s ≡ refine_step base test (refine_by base test j) ns s) (λ i. refl) n e
 
 pub field-next : (base : Base) (n : ℕ) (m : MissingKey) (x : List ℕ) (s : Shape) → (n ≡ 0 → ⊥)
     → field_shape_by base n m x s ≡ field_step base (field_shape_by base (n - 1) m x) m x s

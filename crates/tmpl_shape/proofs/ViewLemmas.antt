@@ -43,6 +43,9 @@ numbers_seen = search (rules, the_lemmas)
 pub texts_seen : shape_of held.Texts ≡ spec.texts
 texts_seen = search (rules, the_lemmas)
 
+pub exactly_seen : (t : List ℕ) → shape_of (held.Exactly t) ≡ spec.exactly t
+exactly_seen t = search (rules, the_lemmas)
+
 pub anything_seen : shape_of held.Anything ≡ spec.anything
 anything_seen = search (rules, the_lemmas)
 
@@ -53,7 +56,7 @@ pub closed_seen : fields_of held_fields.Closed ≡ spec.no_field
 closed_seen = search (rules, the_lemmas)
 
 pub ruleset parts =
-    (list_seen, record_seen, either_seen, others_seen, field_seen, never_seen, nothings_seen, nulls_seen, truths_seen, numbers_seen, texts_seen, anything_seen, named_seen, closed_seen)
+    (list_seen, record_seen, either_seen, others_seen, field_seen, never_seen, nothings_seen, nulls_seen, truths_seen, numbers_seen, texts_seen, exactly_seen, anything_seen, named_seen, closed_seen)
 
 -- how many fields there are
 abbrev pub count : spec.Fields → ℕ

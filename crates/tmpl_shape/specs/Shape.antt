@@ -16,6 +16,8 @@ mutual
     truths : Shape
     numbers : Shape
     texts : Shape
+    -- this string alone
+    exactly : List ℕ → Shape
     -- each value
     anything : Shape
     -- sequences of at least as many such values
@@ -64,6 +66,7 @@ abbrev mutual
   HasShape N truths (boolean b) = Unit {0}
   HasShape N numbers (number n) = Unit {0}
   HasShape N texts (string s) = Unit {0}
+  HasShape N (exactly t) (string s) = s ≡ t
   HasShape N (list_of n s) (sequence vs) = (n ≤ length (values_of_items vs)) × EachItem (HasShape N s) vs
   HasShape N (record_of fs) (mapping es) = AreDistinct es × EachEntry (IsField N fs) es × HasRequired fs es
   HasShape N (either a b) v = HasShape N a v ⊎ HasShape N b v

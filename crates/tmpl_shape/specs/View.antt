@@ -19,6 +19,7 @@ shape_step Shape-F.Nulls = spec.nulls
 shape_step Shape-F.Truths = spec.truths
 shape_step Shape-F.Numbers = spec.numbers
 shape_step Shape-F.Texts = spec.texts
+shape_step (Shape-F.Exactly t) = spec.exactly t
 shape_step Shape-F.Anything = spec.anything
 shape_step (Shape-F.List n s) = spec.list_of n s.value
 shape_step (Shape-F.Record fs) = spec.record_of fs

@@ -76,7 +76,7 @@ pub(crate) fn kind_word(shape: &Shape) -> &'static str {
         Shape::Nulls => "null",
         Shape::Truths => "a boolean",
         Shape::Numbers => "a number",
-        Shape::Texts => "a text",
+        Shape::Texts | Shape::Exactly(_) => "a text",
         Shape::Anything => "any value",
         Shape::List { .. } => "a list",
         Shape::Record(_) => "a map",

@@ -3,16 +3,17 @@
 
 ghost use Rattle.std.specs.Prelude.{◌≡◌, IfOk};
 ghost use Rattle.tmpl_shape.specs.View.{fields_of, shape_of};
-ghost use Rattle.tmpl_shape.specs.computed.Shapes.{fill, join, null_gone, null_gone_by, refine, refine_by};
-ghost use Rattle.tmpl_shape.specs.computed.Shapes.{refine_record, with_field, with_first};
-ghost use Rattle.tmpl_shape.specs.computed.View.{base_of};
+ghost use Rattle.tmpl_shape.specs.computed.Shapes.{fill, is_never, join, null_gone, null_gone_by, refine, refine_by};
+ghost use Rattle.tmpl_shape.specs.computed.Shapes.{refine_record, refine_text, with_field, with_first, with_refined};
+ghost use Rattle.tmpl_shape.specs.computed.View.{base_of, test_seen};
 
-use crate::inclusion::{find, shape_at, within};
+use crate::inclusion::{find, is_required, shape_at, within};
 use crate::kind::{Kind, has_kind};
 use crate::shape::{
-    Base, Fields, Shape, copy_counted, copy_fields, copy_shape, either, fields_of_all, list_of,
-    put_field, weight_of_fields,
+    Base, Fields, Shape, copy_counted, copy_fields, copy_name, copy_shape, either, fields_of_all,
+    list_of, put_field, weight_of_fields,
 };
+use crate::test::{Test, least_of, lets_text, shows_there};
 use std::alloc::{AllocError, Global};
 use tmpl_values::Bytes;
 
@@ -111,17 +112,44 @@ fn with_field(
     fields_of_all(alloc, back, last)
 }
 
-/// Of the values of which the field of the field of .. is neither nothing nor null, and has at least as many items if it
-/// is a list.
+/// Whether there is no value.
+pub fn is_never(shape: &Shape) -> bool
+    ensures { result ≡ is_never (shape_of shape.now) }
+{
+    matches!(shape, Shape::Never)
+}
+
+/// Of the strings that are this one.
+fn refine_text(
+    alloc: Global,
+    test: Test<'_>,
+    names: &[Bytes],
+    text: &[u8],
+) -> Result<Shape, AllocError>
+    ensures { IfOk result (λ s. shape_of s ≡ refine_text (test_seen test.entry) names.now text.now) }
+{
+    match names {
+        [] => {
+            if lets_text(test, text) {
+                return Ok(Shape::Exactly(copy_name(alloc, text)?));
+            }
+            Ok(Shape::Never)
+        }
+        [_, _rest @ ..] => Ok(Shape::Exactly(copy_name(alloc, text)?)),
+    }
+}
+
+/// Of the values of which the test shows what it does of the field of the field of ..
 #[cycle(refine)]
 fn refine_by(
     base: &Base<'_>,
-    least: u64,
+    test: Test<'_>,
     steps: usize,
     names: &[Bytes],
     shape: &Shape,
 ) -> Result<Shape, AllocError>
-    ensures { IfOk result (λ s. shape_of s ≡ refine_by (base_of base.now) least steps names.now (shape_of shape.now)) }
+    ensures { IfOk result (λ s. shape_of s
+        ≡ refine_by (base_of base.now) (test_seen test.entry) steps names.now (shape_of shape.now)) }
 {
     base.effort.spend(1);
     if steps == 0 {
@@ -129,26 +157,29 @@ fn refine_by(
     }
     let fewer = steps - 1;
     match shape {
-        Shape::Nothings | Shape::Nulls => Ok(Shape::Never),
-        Shape::List {
-            least: known,
-            items,
-        } => {
+        Shape::Nothings | Shape::Nulls => {
+            if shows_there(test) {
+                return Ok(Shape::Never);
+            }
+            copy_counted(base, shape)
+        }
+        Shape::Exactly(text) => refine_text(base.alloc, test, names, text.as_slice()),
+        Shape::List { least, items } => {
             let items = copy_counted(base, items)?;
-            list_of(base.alloc, (*known).max(least), items)
+            list_of(base.alloc, (*least).max(least_of(test)), items)
         }
         Shape::Either(one, other) => {
             join(
                 base,
-                refine_by(base, least, fewer, names, one)?,
-                refine_by(base, least, fewer, names, other)?,
+                refine_by(base, test, fewer, names, one)?,
+                refine_by(base, test, fewer, names, other)?,
             )
         }
         Shape::Named(name) => match find(base, name.as_slice()) {
-            Some(defined) => refine_by(base, least, fewer, names, defined),
+            Some(defined) => refine_by(base, test, fewer, names, defined),
             None => copy_counted(base, shape),
         },
-        Shape::Record(fields) => refine_record(base, least, fewer, names, fields),
+        Shape::Record(fields) => refine_record(base, test, fewer, names, fields),
         _ => copy_counted(base, shape),
     }
 }
@@ -157,44 +188,65 @@ fn refine_by(
 #[cycle(refine)]
 fn refine_record(
     base: &Base<'_>,
-    least: u64,
+    test: Test<'_>,
     steps: usize,
     names: &[Bytes],
     fields: &Fields,
 ) -> Result<Shape, AllocError>
-    ensures { IfOk result (λ s. shape_of s
-        ≡ refine_record (base_of base.now) (refine_by (base_of base.now) least steps) names.now (fields_of fields.now)) }
+    ensures { IfOk result (λ s. shape_of s ≡ refine_record (base_of base.now) (test_seen test.entry)
+        (refine_by (base_of base.now) (test_seen test.entry) steps) names.now (fields_of fields.now)) }
 {
     base.effort
         .spend(weight_of_fields(fields).saturating_mul(4));
     match names {
         [] => Ok(Shape::Record(copy_fields(base.alloc, fields)?)),
-        [first, rest @ ..] => match shape_at(first.as_slice(), fields) {
-            Some(shape) => {
-                let shape = refine_by(base, least, steps, rest, shape)?;
-                Ok(Shape::Record(with_field(base.alloc, first.as_slice(), shape, fields)?))
+        [first, rest @ ..] => {
+            let name = first.as_slice();
+            if !shows_there(test) && !is_required(name, fields) {
+                return Ok(Shape::Record(copy_fields(base.alloc, fields)?));
             }
-            None => Ok(Shape::Record(copy_fields(base.alloc, fields)?)),
-        },
+            match shape_at(name, fields) {
+                Some(shape) => {
+                    let shape = refine_by(base, test, steps, rest, shape)?;
+                    with_refined(base.alloc, name, shape, fields)
+                }
+                None => Ok(Shape::Record(copy_fields(base.alloc, fields)?)),
+            }
+        }
     }
 }
 
-/// Of the values of which the field of the field of .. is neither nothing nor null, and has at least as many items if it
-/// is a list, as far as is looked.
+/// Of the maps of which the field of this name, which is there, becomes such.
+fn with_refined(
+    alloc: Global,
+    name: &[u8],
+    shape: Shape,
+    fields: &Fields,
+) -> Result<Shape, AllocError>
+    ensures { IfOk result (λ s. shape_of s ≡ with_refined name.now (shape_of shape) (fields_of fields.now)) }
+{
+    if is_never(&shape) {
+        return Ok(Shape::Never);
+    }
+    Ok(Shape::Record(with_field(alloc, name, shape, fields)?))
+}
+
+/// Of the values of which the test shows what it does of the field of the field of .., as far as is looked.
 pub fn refine(
     base: &Base<'_>,
-    least: u64,
+    test: Test<'_>,
     names: &[Bytes],
     shape: &Shape,
 ) -> Result<Shape, AllocError>
-    ensures { IfOk result (λ s. shape_of s ≡ refine (base_of base.now) least names.now (shape_of shape.now)) }
+    ensures { IfOk result (λ s. shape_of s
+        ≡ refine (base_of base.now) (test_seen test.entry) names.now (shape_of shape.now)) }
 {
-    refine_by(base, least, base.limit, names, shape)
+    refine_by(base, test, base.limit, names, shape)
 }
 
 /// Of the values that are not empty.
 pub fn fill(base: &Base<'_>, shape: &Shape) -> Result<Shape, AllocError>
     ensures { IfOk result (λ s. shape_of s ≡ fill (base_of base.now) (shape_of shape.now)) }
 {
-    refine(base, 1, &[], shape)
+    refine(base, Test::There(1), &[], shape)
 }

@@ -3,12 +3,12 @@
 
 ghost use Rattle.std.specs.Prelude.{◌≡◌, IfOk, Some};
 ghost use Rattle.tmpl_shape.specs.View.{fields_of, shape_of};
-ghost use Rattle.tmpl_shape.specs.computed.Shapes.{absent_shape, any_field, chain_shape, entry_shape, field_shape_by, gathered, index_shape, index_shape_by, item_shape, join, keyed_shape, of_field};
+ghost use Rattle.tmpl_shape.specs.computed.Shapes.{absent_shape, any_field, blurred, chain_shape, entry_shape, field_shape_by, gathered, index_shape, index_shape_by, item_shape, join, keyed_shape, of_field};
 ghost use Rattle.tmpl_shape.specs.computed.View.{base_of, key_seen};
 
 use crate::cause::{Cause, Trouble, kind_word};
 use crate::change::join;
-use crate::inclusion::find;
+use crate::inclusion::{find, within};
 use crate::shape::{Base, Fields, Shape, copy_counted, copy_name, either};
 use std::alloc::{AllocError, Global};
 use tmpl_funcs::Func;
@@ -45,6 +45,23 @@ fn no_fields(alloc: Global, name: &[u8], shape: &Shape) -> Trouble {
     }
 }
 
+/// Values of which it is not followed which strings there are, where there are only strings.
+#[tactic(auto, using(crate::proofs::ViewLemmas::parts, crate::proofs::LeafLemmas::blurs))]
+fn blurred(base: &Base<'_>, shape: &Shape) -> Result<Shape, AllocError>
+    ensures { IfOk result (λ s. shape_of s ≡ blurred (base_of base.now) (shape_of shape.now)) }
+{
+    match shape {
+        Shape::Exactly(_) => Ok(Shape::Texts),
+        Shape::Either(..) => {
+            if within(base, shape, &Shape::Texts) {
+                return Ok(Shape::Texts);
+            }
+            copy_counted(base, shape)
+        }
+        _ => copy_counted(base, shape),
+    }
+}
+
 /// A field of this shape.
 fn of_field(
     base: &Base<'_>,
@@ -55,7 +72,7 @@ fn of_field(
 ) -> Result<Shape, Trouble>
     ensures { IfOk result (λ s. of_field (base_of base.now) mode required (shape_of shape.now) ≡ Some (shape_of s)) }
 {
-    let shape = copy_counted(base, shape)?;
+    let shape = blurred(base, shape)?;
     if required {
         return Ok(shape);
     }
@@ -146,7 +163,7 @@ pub(crate) fn any_field(base: &Base<'_>, fields: &Fields) -> Result<Shape, Alloc
     let mut back = Shape::Never;
     let mut rest = fields;
     while let Fields::Field(first) = rest {
-        back = either(base.alloc, copy_counted(base, &first.shape)?, back)?;
+        back = either(base.alloc, blurred(base, &first.shape)?, back)?;
         rest = &first.rest;
     }
     let last = match rest {

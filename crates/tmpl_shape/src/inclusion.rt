@@ -4,7 +4,7 @@
 ghost use Rattle.std.specs.Prelude.{◌≡◌};
 ghost use Rattle.tmpl_shape.specs.View.{defs_in, fields_of, shape_of};
 ghost use Rattle.tmpl_shape.specs.computed.Shapes.{fields_along, fields_within, has_name, is_listed, is_required, others_within};
-ghost use Rattle.tmpl_shape.specs.computed.Shapes.{plain_within, record_within, requires_all, shape_at, some_part, within, within_by};
+ghost use Rattle.tmpl_shape.specs.computed.Shapes.{plain_within, record_within, requires_all, shape_at, some_part, text_within, within, within_by};
 ghost use Rattle.tmpl_shape.specs.computed.View.{base_of, name_within, shape_seen};
 
 use crate::shape::{Base, Fields, Shape};
@@ -41,7 +41,7 @@ pub(crate) fn shape_at<'f>(name: &[u8], fields: &'f Fields) -> Option<&'f Shape>
 }
 
 /// Whether a field of this name is always there.
-fn is_required(name: &[u8], fields: &Fields) -> bool
+pub(crate) fn is_required(name: &[u8], fields: &Fields) -> bool
     ensures { result ≡ is_required name.now (fields_of fields.now) }
 {
     let mut rest = fields;
@@ -176,6 +176,18 @@ fn some_part(
     }
 }
 
+/// Whether this string has a shape of one kind.
+#[tactic(auto, using(crate::proofs::ViewLemmas::parts, crate::proofs::LeafLemmas::plain))]
+fn text_within(text: &[u8], other: &Shape) -> bool
+    ensures { result ≡ text_within text.now (shape_of other.now) }
+{
+    match other {
+        Shape::Texts => true,
+        Shape::Exactly(only) => text == only.as_slice(),
+        _ => false,
+    }
+}
+
 /// Whether each value of a shape of one kind has another of one kind.
 #[cycle(within)]
 #[tactic(auto, using(crate::proofs::ViewLemmas::parts, crate::proofs::LeafLemmas::plain))]
@@ -189,6 +201,7 @@ fn plain_within(base: &Base<'_>, names: usize, steps: usize, one: &Shape, other:
         (Shape::Truths, Shape::Truths) => true,
         (Shape::Numbers, Shape::Numbers) => true,
         (Shape::Texts, Shape::Texts) => true,
+        (Shape::Exactly(text), _) => text_within(text.as_slice(), other),
         (
             Shape::List { least, items },
             Shape::List {

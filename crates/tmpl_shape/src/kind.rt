@@ -42,7 +42,7 @@ fn is_of_kind(kind: Kind, shape: &Shape) -> bool
         Kind::Blank => matches!(shape, Shape::Nothings | Shape::Nulls),
         Kind::Truth => matches!(shape, Shape::Truths),
         Kind::Number => matches!(shape, Shape::Numbers),
-        Kind::Text => matches!(shape, Shape::Texts),
+        Kind::Text => matches!(shape, Shape::Texts | Shape::Exactly(_)),
         Kind::Many => matches!(shape, Shape::List { .. } | Shape::Record(_)),
     }
 }

@@ -11,6 +11,7 @@ mod inclusion;
 mod kind;
 mod part;
 mod shape;
+mod test;
 mod visit;
 
 pub use call::call_shape;
@@ -26,4 +27,5 @@ pub use shape::{
     Base, Definition, Field, Fields, Schema, Shape, copy_counted, copy_name, copy_shape, either,
     list_of, put_field,
 };
+pub use test::{Test, shows_there};
 pub use visit::{Visit, visit_of};

@@ -64,7 +64,7 @@ fn part_shape_by(
     let fewer = steps - 1;
     match shape {
         Shape::Never => Ok(Shape::Never),
-        Shape::Texts => text_part(base, from, to),
+        Shape::Texts | Shape::Exactly(_) => text_part(base, from, to),
         Shape::List { least, items } => list_part(base, from, to, *least, items),
         Shape::Either(one, other) => {
             let one = part_shape_by(base, fewer, from, to, one)?;

@@ -29,6 +29,8 @@ pub enum Shape {
     Numbers,
     /// Texts.
     Texts,
+    /// This string alone.
+    Exactly(Bytes),
     /// Each value.
     Anything,
     /// Lists of at least as many such items.
@@ -139,6 +141,7 @@ pub fn copy_shape(alloc: Global, shape: &Shape) -> Result<Shape, AllocError>
         Shape::Truths => Ok(Shape::Truths),
         Shape::Numbers => Ok(Shape::Numbers),
         Shape::Texts => Ok(Shape::Texts),
+        Shape::Exactly(text) => Ok(Shape::Exactly(copy_name(alloc, text.as_slice())?)),
         Shape::Anything => Ok(Shape::Anything),
         Shape::List { least, items } => copy_list(alloc, *least, items),
         Shape::Record(fields) => copy_record(alloc, fields),

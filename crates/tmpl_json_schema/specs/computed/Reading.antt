@@ -1,12 +1,12 @@
 -- The shape that is computed for what stands in a document.
-use Rattle.std.specs.Prelude.{ℕ, zero, suc, Bool, true, false, not, ◌&&◌, ◌||◌, List, [], ◌∷◌, Option, Some, None}
+use Rattle.std.specs.Prelude.{ℕ, zero, suc, nat_le, Bool, true, false, not, ◌&&◌, ◌||◌, List, [], ◌∷◌, Option, Some, None}
 use Rattle.std.specs.Prelude.{if◌then◌else◌, codes, is_some, unwrap_or}
 use Rattle.std.specs.Option.{option_map, option_map_or, option_and_then}
 use Rattle.std.specs.Str.{bytes_eq}
 use Rattle.serde_json.specs.Data as json
 use Rattle.serde_json.specs.Data.{Data, Items, no_items, Members, no_members, member}
 use Rattle.serde_json.specs.Find.{as_number, as_u64, get}
-use Rattle.tmpl_shape.specs.Shape.{Shape, never, nothings, nulls, truths, numbers, texts, anything, list_of, record_of}
+use Rattle.tmpl_shape.specs.Shape.{Shape, never, nothings, nulls, truths, numbers, texts, exactly, anything, list_of, record_of}
 use Rattle.tmpl_shape.specs.Shape.{either, named, Fields, no_field, others, field}
 use Rattle.tmpl_json_schema.specs.Document.{fragment_of, has_const, is_since_2019, items_in}
 use Rattle.tmpl_json_schema.specs.declared.draft.Draft.{Draft}
@@ -136,9 +136,32 @@ or_shape s t = if is_never s then t else if is_never t then s else either s t
 abbrev pub or_if : Bool → Shape → Shape → Shape
 or_if c s t = if c then or_shape s t else t
 
-abbrev pub by_kinds : Kinds → ℕ → Shape → Fields → Shape
-by_kinds ks n i fs =
-    or_if ks.null nulls (or_if ks.truth truths (or_if ks.number numbers (or_if ks.text texts
+-- the strings that constants are, and those that `const` and `enum` leave, of which not too many are followed
+abbrev pub text_with : Shape → Data → Option Shape
+text_with s (json.string t) = Some (or_shape (exactly t) s)
+text_with s d = Some s
+
+abbrev pub const_texts : Data → Shape
+const_texts (json.string t) = exactly t
+const_texts d = texts
+
+abbrev pub item_count : Items → ℕ
+item_count no_items = 0
+item_count (json.item d ds) = suc (item_count ds)
+
+abbrev pub is_short : Items → Bool
+is_short ds = nat_le (item_count ds) 32
+
+abbrev pub enum_texts : Data → Shape
+enum_texts (json.array ds) = if is_short ds then unwrap_or (fold text_with never ds) texts else texts
+enum_texts d = texts
+
+abbrev pub texts_in : Data → Shape
+texts_in d = option_map_or const_texts (get (codes "const") d) (option_map_or enum_texts (get (codes "enum") d) texts)
+
+abbrev pub by_kinds : Kinds → Shape → ℕ → Shape → Fields → Shape
+by_kinds ks ts n i fs =
+    or_if ks.null nulls (or_if ks.truth truths (or_if ks.number numbers (or_if ks.text ts
     (or_if ks.list (list_of n i) (or_if ks.map (record_of fs) never)))))
 
 abbrev pub if_kind : Bool → Shape → Shape
@@ -152,6 +175,7 @@ keep_kinds ks nulls = if_kind ks.null nulls
 keep_kinds ks truths = if_kind ks.truth truths
 keep_kinds ks numbers = if_kind ks.number numbers
 keep_kinds ks texts = if_kind ks.text texts
+keep_kinds ks (exactly t) = if_kind ks.text (exactly t)
 keep_kinds ks (list_of n s) = if_kind ks.list (list_of n s)
 keep_kinds ks (record_of fs) = if_kind ks.map (record_of fs)
 keep_kinds ks (either s t) = or_shape (keep_kinds ks s) (keep_kinds ks t)
@@ -276,7 +300,7 @@ module _ (read : Data → Option Shape) where
   abbrev pub content_shape : Data → Kinds → Option Shape
   content_shape d ks =
       if is_every_kind ks && not (has_content d) then Some anything
-      else option_and_then (λ i. option_map (by_kinds ks (least_in d) i) (fields_in d)) (items_shape d)
+      else option_and_then (λ i. option_map (by_kinds ks (texts_in d) (least_in d) i) (fields_in d)) (items_shape d)
 
   abbrev pub whole_shape : Data → Kinds → Option Shape
   whole_shape d ks = option_map_or (λ p. option_map (keep_kinds ks) (read p)) (part_in d) (content_shape d ks)

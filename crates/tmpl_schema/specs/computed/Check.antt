@@ -17,7 +17,7 @@ use Rattle.tmpl_funcs.specs.declared.func.Func.{Func}
 use Rattle.tmpl_funcs.specs.declared.func.Func.TheVariants.{And, Or, Not, Len, Index, Eq, Ne, Lt, Le, Gt, Ge}
 use Rattle.tmpl_meaning.specs.Pipeline.{operand_count}
 use Rattle.tmpl_shape.specs.declared.kind.Kind.TheVariants.{Blank}
-use Rattle.tmpl_shape.specs.computed.Shapes.{Base, has_kind, within, join, both, fill, null_gone, refine, chain_shape}
+use Rattle.tmpl_shape.specs.computed.Shapes.{Base, Test, has_least, is_among, is_apart, shows_there, has_kind, within, join, both, fill, null_gone, refine, chain_shape}
 use Rattle.tmpl_shape.specs.computed.Shapes.{Key, of_name, of_text, of_place, index_shape, part_shape, Visit, visit_of}
 use Rattle.tmpl_shape.specs.computed.Calls.{call_shape, shape_by_function}
 use Rattle.tmpl_shape.specs.computed.Formats.{printf_shape}
@@ -63,6 +63,16 @@ abbrev pub text_of : Operand → Option (List ℕ)
 text_of (text_constant bytes) = Some bytes
 text_of o = None
 
+-- the operands are constants of texts, and these are their texts
+abbrev pub are_texts : Operands → Bool
+are_texts no_operand = true
+are_texts (operand (text_constant bytes) os) = are_texts os
+are_texts (operand o os) = false
+
+abbrev pub texts_in : Operands → List (List ℕ)
+texts_in (operand (text_constant bytes) os) = bytes ∷ texts_in os
+texts_in os = []
+
 -- the number of a constant that counts from 0 on
 abbrev pub count_of : Operand → Option ℕ
 count_of (number_constant (pos n)) = Some n
@@ -78,11 +88,6 @@ key_of o = None
 abbrev pub one_of : Operands → Option Operand
 one_of (operand o no_operand) = Some o
 one_of os = None
-
--- both operands, where there are two
-abbrev pub two_of : Operands → Option (Operand × Operand)
-two_of (operand o (operand p no_operand)) = Some (o, p)
-two_of os = None
 
 -- the bounds of a part that are written out: where it begins, and where it ends if not where the whole does
 abbrev pub bounds_of : Option Shape → Operands → Option (ℕ × Option ℕ)
@@ -129,15 +134,17 @@ pub record Place : Type 0 where
   pub root : Option (List ℕ)
   pub path : List (List ℕ)
 
--- the place of an entry of a key
-abbrev pub key_place : List ℕ → Operand → Option Place
-key_place n dot = Some (record { root = None; path = n ∷ [] })
-key_place n (variable name []) = Some (record { root = Some name; path = n ∷ [] })
-key_place n o = None
+-- the place at the end of a chain of fields from dot or a variable, and of these after it
+abbrev pub chain_place : Operand → List (List ℕ) → Option Place
+chain_place dot ns = Some (record { root = None; path = ns })
+chain_place (fields names) ns = Some (record { root = None; path = names ++ ns })
+chain_place (variable name names) ns = Some (record { root = Some name; path = names ++ ns })
+chain_place o ns = None
 
--- .. of what `index` gives
+-- .. of what `index` gives by keys that are written out
 abbrev pub index_place : Operands → Option Place
-index_place os = option_and_then (λ p. option_and_then (λ n. key_place n p.0) (text_of p.1)) (two_of os)
+index_place (operand o os) = if are_texts os then chain_place o (texts_in os) else None
+index_place no_operand = None
 
 abbrev pub call_place : Func → Operands → Option Place
 call_place Index os = index_place os
@@ -149,11 +156,8 @@ group_place p names = None
 
 -- the place whose value is that of an operand, but for nothing and null
 abbrev pub place_of : Operand → Option Place
-place_of dot = Some (record { root = None; path = [] })
-place_of (fields names) = Some (record { root = None; path = names })
-place_of (variable name names) = Some (record { root = Some name; path = names })
 place_of (group p names) = group_place p names
-place_of o = None
+place_of o = chain_place o []
 
 -- the operand of which a call gives the length
 abbrev pub call_counts : Func → Operands → Option Operand
@@ -172,9 +176,9 @@ abbrev pub operand_counts : Operand → Option Operand
 operand_counts (group p names) = group_counts p names
 operand_counts o = None
 
--- that an operand is neither nothing nor null, and has at least as many items if it is a list
+-- that an operand has a value of which a test shows what it does
 pub record Fact : Type 0 where
-  pub least : ℕ
+  pub test : Test
   pub about : Operand
 
 -- one, where that is more than the number
@@ -204,31 +208,46 @@ mirrored f = f
 -- by a comparison of the length of an operand with a number
 abbrev pub length_fact : Bool → Func → Option Operand → Option ℕ → Option Fact
 length_fact c f counted number =
-    option_and_then (λ o. option_and_then (λ n. option_map (λ l. record { least = l; about = o }) (least_by c f n)) number) counted
+    option_and_then (λ o. option_and_then (λ n. option_map (λ l. record { test = has_least l; about = o }) (least_by c f n)) number) counted
 
--- by a comparison of an operand with a constant or `nil`
-abbrev pub tells_by : Bool → Func → Operand → Bool
-tells_by c Eq o = tells c o
-tells_by c Ne o = tells (not c) o
-tells_by c f o = false
+-- each operand is a constant, and not `nil`; and `nil` is the only one
+abbrev pub are_constants : Operands → Bool
+are_constants no_operand = true
+are_constants (operand o os) = tells true o && are_constants os
 
-abbrev pub constant_fact : Bool → Func → Operand → Operand → Option Fact
-constant_fact c f o p = if tells_by c f p then Some (record { least = 0; about = o }) else None
+abbrev pub is_nil_alone : Operands → Bool
+is_nil_alone os = option_map_or (tells false) (one_of os) false
+
+-- of what equals one of these, or else none
+abbrev pub equal_test : Bool → Operands → Option Test
+equal_test true os = if are_constants os then Some (is_among os) else None
+equal_test false os = if is_nil_alone os then Some (has_least 0) else Some (is_apart os)
+
+-- by `eq` or `ne`
+abbrev pub constant_test : Bool → Func → Operands → Option Test
+constant_test c Eq os = equal_test c os
+constant_test c Ne os = equal_test (not c) os
+constant_test c f os = None
 
 -- the first that there is
 abbrev pub first_fact : Option Fact → Option Fact → Option Fact
 first_fact (Some fact) more = Some fact
 first_fact None more = more
 
--- by a comparison of two operands
+-- by a comparison of two operands of which one is a length
 abbrev pub pair_fact : Bool → Func → Operand → Operand → Option Fact
-pair_fact c f o p = first_fact (length_fact c f (operand_counts o) (count_of p))
-    (first_fact (length_fact c (mirrored f) (operand_counts p) (count_of o)) (constant_fact c f o p))
+pair_fact c f o p = first_fact (length_fact c f (operand_counts o) (count_of p)) (length_fact c (mirrored f) (operand_counts p) (count_of o))
+
+-- by a comparison of an operand with these
+abbrev pub compare_fact : Bool → Func → Operand → Operands → Option Fact
+compare_fact c f o os = first_fact (option_and_then (pair_fact c f o) (one_of os))
+    (option_map (λ test. record { test = test; about = o }) (constant_test c f os))
 
 -- by a call that gives what is not empty, or else what is
 abbrev pub call_fact : Bool → Func → Operands → Option Fact
-call_fact c Len os = if c then option_map (λ o. record { least = 1; about = o }) (one_of os) else None
-call_fact c f os = option_and_then (λ p. pair_fact c f p.0 p.1) (two_of os)
+call_fact c Len os = if c then option_map (λ o. record { test = has_least 1; about = o }) (one_of os) else None
+call_fact c f no_operand = None
+call_fact c f (operand o os) = compare_fact c f o os
 
 -- by a call to which a length is piped
 abbrev pub piped_fact : Bool → Option Operand → Option (Func × Operands) → Option Fact
@@ -322,22 +341,22 @@ turn_known h v body ks = option_map (last_of (length ks)) (body (Some ks) (in_tu
 module _ (base : Base) where
   -- ---- variables
 
-  -- .. where a chain from a variable is neither nothing nor null, and has at least as many items if it is a list
-  abbrev pub refine_variable : ℕ → List ℕ → List (List ℕ) → Known → Known
-  refine_variable least name ns [] = []
-  refine_variable least name ns (k ∷ ks) =
-      if bytes_eq k.0 name then (k.0, refine base least ns k.1, k.2) ∷ ks else k ∷ refine_variable least name ns ks
+  -- .. where a test shows what it does of a chain from a variable
+  abbrev pub refine_variable : Test → List ℕ → List (List ℕ) → Known → Known
+  refine_variable test name ns [] = []
+  refine_variable test name ns (k ∷ ks) =
+      if bytes_eq k.0 name then (k.0, refine base test ns k.1, k.2) ∷ ks else k ∷ refine_variable test name ns ks
 
   -- the values of a provenance, where this chain from the data of the template is so
-  abbrev pub refine_along : ℕ → List (List ℕ) → Shape → Option (List (List ℕ)) → Shape
-  refine_along least ns s rest = option_map_or (λ ms. refine base least ms s) rest s
+  abbrev pub refine_along : Test → List (List ℕ) → Shape → Option (List (List ℕ)) → Shape
+  refine_along test ns s rest = option_map_or (λ ms. refine base test ms s) rest s
 
-  abbrev pub refine_from : ℕ → List (List ℕ) → Origin → Shape → Shape
-  refine_from least ns o s = refine_along least ns s (option_and_then (λ ps. rest_of ps ns) o)
+  abbrev pub refine_from : Test → List (List ℕ) → Origin → Shape → Shape
+  refine_from test ns o s = refine_along test ns s (option_and_then (λ ps. rest_of ps ns) o)
 
-  abbrev pub refine_all : ℕ → List (List ℕ) → Known → Known
-  refine_all least ns [] = []
-  refine_all least ns (k ∷ ks) = (k.0, refine_from least ns k.2 k.1, k.2) ∷ refine_all least ns ks
+  abbrev pub refine_all : Test → List (List ℕ) → Known → Known
+  refine_all test ns [] = []
+  refine_all test ns (k ∷ ks) = (k.0, refine_from test ns k.2 k.1, k.2) ∷ refine_all test ns ks
 
   -- the same variables, each within the other's shape
   abbrev pub all_within : Known → Known → Bool
@@ -354,27 +373,28 @@ module _ (base : Base) where
 
   -- ---- pipelines
 
-  -- what is known where the value of a place is neither nothing nor null, and has at least as many items if it is a list
-  -- .. of which no provenance is known, or else of what has this one
-  abbrev pub narrow_root : ℕ → Place → State → State
-  narrow_root least p k = option_map_or (λ name. record k { env = refine_variable least name p.path k.env })
-      p.root (record k { dot = refine base least p.path k.dot })
+  -- what is known where a test shows what it does of the value of a place of which no provenance is known, or else of what has
+  -- this one. What shows that a value is not something is kept of dot alone: of variables both parts of an `if` would be kept
+  abbrev pub narrow_root : Test → Place → State → State
+  narrow_root test p k = option_map_or (λ name. record k { env = if shows_there test then refine_variable test name p.path k.env else k.env })
+      p.root (record k { dot = refine base test p.path k.dot })
 
-  abbrev pub narrow_from : ℕ → List (List ℕ) → State → State
-  narrow_from least ns k = record k { dot = refine_from least ns k.from k.dot; env = refine_all least ns k.env }
+  abbrev pub narrow_from : Test → List (List ℕ) → State → State
+  narrow_from test ns k =
+      record k { dot = refine_from test ns k.from k.dot; env = if shows_there test then refine_all test ns k.env else k.env }
 
-  abbrev pub narrow_at : ℕ → Place → State → State
-  narrow_at least p k = option_map_or (λ ns. narrow_from least ns k) (place_origin k p) (narrow_root least p k)
+  abbrev pub narrow_at : Test → Place → State → State
+  narrow_at test p k = option_map_or (λ ns. narrow_from test ns k) (place_origin k p) (narrow_root test p k)
 
-  abbrev pub narrow_to : ℕ → Option Place → State → State
-  narrow_to least p k = option_map_or (λ p. narrow_at least p k) p k
+  abbrev pub narrow_to : Test → Option Place → State → State
+  narrow_to test p k = option_map_or (λ p. narrow_at test p k) p k
 
   -- .. where an operand is so
-  abbrev pub narrow_by : ℕ → Operand → State → State
-  narrow_by least o k = narrow_to least (place_of o) k
+  abbrev pub narrow_by : Test → Operand → State → State
+  narrow_by test o k = narrow_to test (place_of o) k
 
   abbrev pub narrow_as : Option Fact → State → State
-  narrow_as fact k = option_map_or (λ fact. narrow_by fact.least fact.about k) fact k
+  narrow_as fact k = option_map_or (λ fact. narrow_by fact.test fact.about k) fact k
 
   -- .. where a call of one operand tells that of the other kind, by what is known where the operand is so
   abbrev pub turned_state : Operands → State → State → State
@@ -387,7 +407,7 @@ module _ (base : Base) where
   call_state c And os k same turned = if c then same else k
   call_state c Or os k same turned = if c then k else same
   call_state c Not os k same turned = turned_state os k turned
-  call_state c Index os k same turned = if c then narrow_to 1 (index_place os) k else k
+  call_state c Index os k same turned = if c then narrow_to (has_least 1) (index_place os) k else k
   call_state c f os k same turned = narrow_as (call_fact c f os) k
 
   -- .. and a command that begins so, by what is known where its first operand is the whole
@@ -405,7 +425,7 @@ module _ (base : Base) where
     -- .. where an operand is not empty, or else where it is, and where each of these is so
     pub narrow_operand : Bool → Operand → State → State
     narrow_operand c (group p names) k = group_state names k (narrow c p k)
-    narrow_operand c o k = if c then narrow_by 1 o k else k
+    narrow_operand c o k = if c then narrow_by (has_least 1) o k else k
 
     pub narrow_all : Bool → Operands → State → State
     narrow_all c no_operand k = k

@@ -5,6 +5,7 @@ use Rattle.std.specs.Borrow.{Bor}
 use Rattle.std.specs.Global.{Global}
 use Rattle.tmpl_shape.specs.Shape as spec
 use Rattle.tmpl_shape.specs.View.{shape_of}
+use Rattle.tmpl_shape.specs.computed.View.{test_seen}
 use Rattle.tmpl_shape.specs.computed.Calls.{call_shape}
 use Rattle.tmpl_shape.specs.declared.kind.Kinds.{Kinds}
 use Rattle.tmpl_grammar.specs.View.{operand_of, operands_in}
@@ -13,7 +14,7 @@ use Rattle.tmpl_schema.specs.declared.facts.Fact as held_fact
 use Rattle.tmpl_schema.specs.declared.facts.Head as held_head
 use Rattle.tmpl_schema.specs.declared.facts.Head.TheVariants as head
 use Rattle.tmpl_schema.specs.declared.facts.Place as held_place
-use Rattle.tmpl_schema.specs.computed.Check.{Fact, Head, calls, is_nil, is_value, Place}
+use Rattle.tmpl_schema.specs.computed.Check.{Fact, Head, calls, is_nil, is_value, Place, texts_in}
 use Rattle.tmpl_schema.specs.computed.Check.{Known, Origin, State, Callee, Table, handed, absent, operand_shapes, after_choice, after_nodes}
 use Rattle.tmpl_schema.specs.computed.Check.{after_range, bound_shapes, call_state, command_call, counts_in, narrow_all, narrow_as, piped_fact, pipeline_origin, pipeline_shape, turn_known}
 use Rattle.tmpl_grammar.specs.Tree.{Header}
@@ -64,10 +65,10 @@ head_seen head.Nil = is_nil
 head_seen head.Value = is_value
 
 abbrev pub place_seen : held_place.Place → Place
-place_seen p = record { root = option_map (λ name. name.now) p.root; path = p.path.now }
+place_seen p = record { root = option_map (λ name. name.now) p.root; path = p.fields.now ++ texts_in (operands_in p.keys.now) }
 
 abbrev pub fact_seen : held_fact.Fact → Fact
-fact_seen f = record { least = f.least; about = operand_of f.about.now }
+fact_seen f = record { test = test_seen f.test; about = operand_of f.about.now }
 
 -- the function and the operands of a call
 abbrev pub call_seen : Func × Bor (List held_operand.Operand) → Func × Operands

@@ -4,13 +4,13 @@ use Rattle.std.specs.Prelude.{ℕ, zero, suc, ◌-◌, max, nat_le, nat_lt, Bool
 use Rattle.std.specs.Prelude.{if◌then◌else◌}
 use Rattle.std.specs.Option.{option_map, option_map_or, option_and_then}
 use Rattle.std.specs.Str.{bytes_eq}
-use Rattle.tmpl_grammar.specs.Tree.{Binding, declare_pair}
+use Rattle.tmpl_grammar.specs.Tree.{Binding, declare_pair, Operand, text_constant, Operands, no_operand, operand}
 use Rattle.tmpl_meaning.specs.declared.missing_key.MissingKey.{MissingKey}
 use Rattle.tmpl_meaning.specs.declared.missing_key.MissingKey.TheVariants.{Zero, Error}
 use Rattle.tmpl_shape.specs.declared.kind.Kind.{Kind}
 use Rattle.tmpl_shape.specs.declared.kind.Kinds.{Kinds}
 use Rattle.tmpl_shape.specs.declared.kind.Kind.TheVariants.{Blank, Truth, Number, Text, Many}
-use Rattle.tmpl_shape.specs.Shape.{Shape, never, nothings, nulls, truths, numbers, texts, anything, list_of, record_of}
+use Rattle.tmpl_shape.specs.Shape.{Shape, never, nothings, nulls, truths, numbers, texts, exactly, anything, list_of, record_of}
 use Rattle.tmpl_shape.specs.Shape.{either, named, Defs, Fields, no_field, others, field}
 
 -- the shapes of names; and before a question is given up, how many names are followed one into the other where shapes
@@ -24,6 +24,36 @@ pub record Base : Type 0 where
 pub record Visit : Type 0 where
   pub key : Shape
   pub element : Shape
+
+-- ---- tests
+
+-- what is shown of a value: that it is neither nothing nor null, and has at least as many items if it is a list; that it is
+-- one of these constants, none of which is `nil`; or that it is none of the constants among these
+pub data Test : Type 0 where
+  has_least : ℕ → Test
+  is_among : Operands → Test
+  is_apart : Operands → Test
+
+-- that it is neither nothing nor null
+abbrev pub shows_there : Test → Bool
+shows_there (is_apart os) = false
+shows_there test = true
+
+abbrev pub least_of : Test → ℕ
+least_of (has_least n) = n
+least_of test = 0
+
+-- a string is one of the constants
+abbrev pub is_constant : List ℕ → Operands → Bool
+is_constant t no_operand = false
+is_constant t (operand (text_constant s) os) = bytes_eq t s || is_constant t os
+is_constant t (operand o os) = is_constant t os
+
+-- that it may be this string
+abbrev pub lets_text : Test → List ℕ → Bool
+lets_text (has_least n) t = true
+lets_text (is_among os) t = is_constant t os
+lets_text (is_apart os) t = not (is_constant t os)
 
 -- ---- fields
 
@@ -109,6 +139,11 @@ has_name x (either a b) = has_name x a || has_name x b
 has_name x (named y) = bytes_eq x y
 has_name x s = false
 
+-- there is no value
+abbrev pub is_never : Shape → Bool
+is_never never = true
+is_never s = false
+
 -- where as many are left, with one less
 abbrev pub if_more : (ℕ → Bool) → ℕ → Bool
 if_more f zero = false
@@ -121,9 +156,16 @@ is_of_kind Blank nulls = true
 is_of_kind Truth truths = true
 is_of_kind Number numbers = true
 is_of_kind Text texts = true
+is_of_kind Text (exactly t) = true
 is_of_kind Many (list_of n s) = true
 is_of_kind Many (record_of fs) = true
 is_of_kind k s = false
+
+-- this string has a shape of one kind
+abbrev pub text_within : List ℕ → Shape → Bool
+text_within s texts = true
+text_within s (exactly t) = bytes_eq s t
+text_within s t = false
 
 -- each value of a shape of one kind has another of one kind
 abbrev pub plain_within : (Shape → Shape → Bool) → Shape → Shape → Bool
@@ -132,6 +174,7 @@ plain_within w nulls nulls = true
 plain_within w truths truths = true
 plain_within w numbers numbers = true
 plain_within w texts texts = true
+plain_within w (exactly s) t = text_within s t
 plain_within w (list_of n s) (list_of m t) = nat_le m n && w s t
 plain_within w (record_of fs) (record_of gs) = fields_along w fs gs
 plain_within w s t = false
@@ -176,6 +219,15 @@ visit k e = Some (record { key = k; element = e })
 abbrev pub number_visit : Binding → Option Visit
 number_visit (declare_pair key name) = None
 number_visit c = visit numbers numbers
+
+-- of the maps of which the field of this name, which is there, becomes such
+abbrev pub with_refined : List ℕ → Shape → Fields → Shape
+with_refined name t fs = if is_never t then never else record_of (with_field name t fs)
+
+-- of the strings that are this one
+abbrev pub refine_text : Test → List (List ℕ) → List ℕ → Shape
+refine_text test [] t = if lets_text test t then exactly t else never
+refine_text test (name ∷ ns) t = exactly t
 
 module _ (base : Base) where
   -- some alternative is such, or it has each value: by what is asked of those before the last, and of what names stand for
@@ -250,39 +302,45 @@ module _ (base : Base) where
   abbrev pub null_gone : Shape → Shape
   null_gone s = null_gone_by base.limit s
 
-  -- of the maps of which the field of this name becomes such
-  abbrev pub refine_record : (List (List ℕ) → Shape → Shape) → List (List ℕ) → Fields → Shape
-  refine_record f [] fs = record_of fs
-  refine_record f (name ∷ ns) fs =
-      option_map_or (λ s. record_of (with_field name (f ns s) fs)) (shape_at name fs) (record_of fs)
+  -- of the maps of which a test shows what it does of the field of the field of ..
+  abbrev pub refine_record : Test → (List (List ℕ) → Shape → Shape) → List (List ℕ) → Fields → Shape
+  refine_record test f [] fs = record_of fs
+  refine_record test f (name ∷ ns) fs = if shows_there test || is_required name fs then
+      option_map_or (λ s. with_refined name (f ns s) fs) (shape_at name fs) (record_of fs) else record_of fs
 
-  -- of the values of which the field of the field of .. is neither nothing nor null, and has at least as many items if it
-  -- is a list
-  abbrev pub refine_step : ℕ → (List (List ℕ) → Shape → Shape) → List (List ℕ) → Shape → Shape
-  refine_step least f ns nothings = never
-  refine_step least f ns nulls = never
-  refine_step least f ns (list_of n s) = list_of (max n least) s
-  refine_step least f ns (either s t) = join (f ns s) (f ns t)
-  refine_step least f ns (named x) = option_map_or (f ns) (base.defs x) (named x)
-  refine_step least f ns (record_of fs) = refine_record f ns fs
-  refine_step least f ns s = s
+  -- of the values of which the test shows what it does of the field of the field of ..
+  abbrev pub refine_step : Test → (List (List ℕ) → Shape → Shape) → List (List ℕ) → Shape → Shape
+  refine_step test f ns nothings = if shows_there test then never else nothings
+  refine_step test f ns nulls = if shows_there test then never else nulls
+  refine_step test f ns (exactly t) = refine_text test ns t
+  refine_step test f ns (list_of n s) = list_of (max n (least_of test)) s
+  refine_step test f ns (either s t) = join (f ns s) (f ns t)
+  refine_step test f ns (named x) = option_map_or (f ns) (base.defs x) (named x)
+  refine_step test f ns (record_of fs) = refine_record test f ns fs
+  refine_step test f ns s = s
 
-  abbrev pub refine_by : ℕ → ℕ → List (List ℕ) → Shape → Shape
-  refine_by least zero ns s = s
-  refine_by least (suc n) ns s = refine_step least (refine_by least n) ns s
+  abbrev pub refine_by : Test → ℕ → List (List ℕ) → Shape → Shape
+  refine_by test zero ns s = s
+  refine_by test (suc n) ns s = refine_step test (refine_by test n) ns s
 
-  abbrev pub refine : ℕ → List (List ℕ) → Shape → Shape
-  refine least ns s = refine_by least base.limit ns s
+  abbrev pub refine : Test → List (List ℕ) → Shape → Shape
+  refine test ns s = refine_by test base.limit ns s
 
   -- of the values that are not empty
   abbrev pub fill : Shape → Shape
-  fill s = refine 1 [] s
+  fill s = refine (has_least 1) [] s
 
   -- ---- fields
 
+  -- .. of which it is not followed which strings there are
+  abbrev pub blurred : Shape → Shape
+  blurred (exactly t) = texts
+  blurred (either s t) = if within (either s t) texts then texts else either s t
+  blurred s = s
+
   abbrev pub of_field : MissingKey → Bool → Shape → Option Shape
-  of_field m true s = Some s
-  of_field m false s = both (Some s) (absent_shape m)
+  of_field m true s = Some (blurred s)
+  of_field m false s = both (Some (blurred s)) (absent_shape m)
 
   abbrev pub entry_shape : MissingKey → List ℕ → Fields → Option Shape
   entry_shape m n no_field = absent_shape m
@@ -313,7 +371,7 @@ module _ (base : Base) where
   abbrev pub any_field : Fields → Shape
   any_field no_field = never
   any_field (others s) = s
-  any_field (field n required s fs) = join s (any_field fs)
+  any_field (field n required s fs) = join (blurred s) (any_field fs)
 
   -- an entry, or null
   abbrev pub keyed_shape : Key → Fields → Option Shape
@@ -341,6 +399,7 @@ module _ (base : Base) where
   abbrev pub part_step : (Shape → Option Shape) → ℕ → Option ℕ → Shape → Option Shape
   part_step f i to never = Some never
   part_step f i to texts = text_part i to
+  part_step f i to (exactly t) = text_part i to
   part_step f i to (list_of n s) = list_part i to n s
   part_step f i to (either s t) = both (f s) (f t)
   part_step f i to (named x) = option_and_then f (base.defs x)

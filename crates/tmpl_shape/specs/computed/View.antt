@@ -8,11 +8,14 @@ use Rattle.tmpl_shape.specs.declared.shape.Field as held_field
 use Rattle.tmpl_shape.specs.declared.shape.Field.{out-Field}
 use Rattle.std.specs.Global.{Global}
 use Rattle.tmpl_shape.specs.computed.Shapes as computed
-use Rattle.tmpl_shape.specs.computed.Shapes.{Key, of_name, of_text, of_place, has_name, if_more, within_by}
+use Rattle.tmpl_grammar.specs.View.{operands_in}
+use Rattle.tmpl_shape.specs.computed.Shapes.{Key, of_name, of_text, of_place, has_least, is_among, is_apart, has_name, if_more, within_by}
 use Rattle.tmpl_shape.specs.declared.field.Key as held_key
 use Rattle.tmpl_shape.specs.declared.field.Key.TheVariants as key
 use Rattle.tmpl_shape.specs.declared.shape.Base as held_base
 use Rattle.tmpl_shape.specs.declared.shape.Shape as held
+use Rattle.tmpl_shape.specs.declared.test.Test as held_test
+use Rattle.tmpl_shape.specs.declared.test.Test.TheVariants as test
 use Rattle.tmpl_shape.specs.declared.visit.Visit as held_visit
 
 abbrev pub base_of : held_base.Base → computed.Base
@@ -25,6 +28,11 @@ abbrev pub key_seen : held_key.Key → Key
 key_seen (key.Name name) = of_name name.now
 key_seen key.Text = of_text
 key_seen (key.Place i) = of_place i
+
+abbrev pub test_seen : held_test.Test → computed.Test
+test_seen (test.There n) = has_least n
+test_seen (test.Among os) = is_among (operands_in os.now)
+test_seen (test.Apart os) = is_apart (operands_in os.now)
 
 abbrev pub visit_seen : held_visit.Visit → computed.Visit
 visit_seen v = record { key = shape_of v.key; element = shape_of v.element }
