@@ -34,7 +34,7 @@ pub(crate) fn add_over_data<'t, 'a>(
 
 /// Adds where an output over the data ceases to be of the format.
 fn add_broken<'a>(
-    writer: &Writer<'_, 'a>,
+    writer: &Writer<'_, '_, 'a>,
     findings: &mut Findings<'a>,
     tree: &Data,
     broken: &Broken,

@@ -72,10 +72,10 @@ impl Sink for Counted {
 
 /// The template that is rendered, and the format that its output has to be of.
 #[derive(Clone, Copy)]
-pub(super) struct Writer<'w, 'a> {
-    pub(super) task: Task<'w, 'a>,
+pub(super) struct Writer<'w, 't, 'a> {
+    pub(super) task: Task<'t, 'a>,
     pub(super) renderer: &'w Renderer,
-    pub(super) format: &'w Format,
+    pub(super) format: &'t Format,
     name: &'a [u8],
     mode: MissingKey,
 }
@@ -87,13 +87,13 @@ pub(super) struct Broken {
     pub(super) mistake: Mistake,
 }
 
-impl<'w, 'a> Writer<'w, 'a> {
+impl<'w, 't, 'a> Writer<'w, 't, 'a> {
     /// That of a task, whose set is compiled.
     pub(super) fn new(
-        task: &Task<'w, 'a>,
+        task: &Task<'t, 'a>,
         renderer: &'w Renderer,
-        format: &'w Format,
-    ) -> Writer<'w, 'a> {
+        format: &'t Format,
+    ) -> Writer<'w, 't, 'a> {
         Writer {
             task: *task,
             renderer,
@@ -161,7 +161,7 @@ impl<'w, 'a> Writer<'w, 'a> {
         bytes: usize,
     ) -> Result<Option<RunFault<'r>>, AllocError>
     where
-        'w: 'r,
+        'a: 'r,
     {
         let mut out = Counted {
             left: bytes,

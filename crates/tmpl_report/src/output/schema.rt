@@ -60,16 +60,16 @@ impl Hunt<'_> {
 
 /// What is searched: the outputs of a template over data of a document.
 #[derive(Clone, Copy)]
-struct Search<'a, 's> {
-    writer: Writer<'s, 'a>,
-    root: &'s Value,
+struct Search<'w, 't, 'a> {
+    writer: Writer<'w, 't, 'a>,
+    root: &'w Value,
 }
 
 /// Adds where the output is not of the format for data of the schema that are found.
 pub(crate) fn add_over_schema<'t, 'a>(
     task: &Task<'t, 'a>,
     findings: &mut Findings<'a>,
-    document: &'t Value,
+    document: &Value,
     format: &'t Format,
 ) -> Result<(), AllocError>
     ensures { OnOk result (AddsBroken findings.old findings.new) }
@@ -106,7 +106,7 @@ fn add_found<'a>(
     Ok(())
 }
 
-impl<'a> Search<'a, '_> {
+impl<'a> Search<'_, '_, 'a> {
     /// Tries the usual value of the schema, and each that differs from it by one choice.
     fn look(&self, hunt: &mut Hunt<'a>, is_lean: bool) -> Result<(), AllocError> {
         let counts = self.try_drawn(hunt, is_lean, &[])?;
