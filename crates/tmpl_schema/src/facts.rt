@@ -2,7 +2,7 @@
 #![tactic(auto, using(tmpl_grammar::proofs::ViewLemmas::group_seen, crate::proofs::FactLemmas::rests))]
 
 ghost use Rattle.std.specs.Prelude.{◌≡◌, ◌^◌, ◌<◌, IfSome, false, true};
-ghost use Rattle.std.specs.Option.{option_and_then, option_map};
+ghost use Rattle.std.specs.Option.{option_map};
 ghost use Rattle.tmpl_grammar.specs.View.{commands_in, operand_of, operands_in};
 ghost use Rattle.tmpl_schema.specs.computed.Check.{are_constants, are_texts, bounds_of, call_fact, call_place, chain_place, command_call, compare_fact, constant_test, count_of, counts_in, equal_test, first_fact, group_counts, group_place, head_of, index_place, is_nil_alone, key_of};
 ghost use Rattle.tmpl_schema.specs.computed.Check.{head_place, least_by, length_fact, mirrored, more_than, one_of, operand_counts, pair_fact, piped_fact, pipeline_call, pipeline_place, place_of, tells, text_of, texts_in};

@@ -4,7 +4,7 @@ use Rattle.std.specs.Prelude.{ℕ, zero, suc, ◌-◌, max, nat_le, nat_lt, Bool
 use Rattle.std.specs.Prelude.{if◌then◌else◌}
 use Rattle.std.specs.Option.{option_map, option_map_or, option_and_then}
 use Rattle.std.specs.Str.{bytes_eq}
-use Rattle.tmpl_grammar.specs.Tree.{Binding, declare_pair, Operand, text_constant, Operands, no_operand, operand}
+use Rattle.tmpl_grammar.specs.Tree.{Binding, declare_pair, text_constant, Operands, no_operand, operand}
 use Rattle.tmpl_meaning.specs.declared.missing_key.MissingKey.{MissingKey}
 use Rattle.tmpl_meaning.specs.declared.missing_key.MissingKey.TheVariants.{Zero, Error}
 use Rattle.tmpl_shape.specs.declared.kind.Kind.{Kind}
