@@ -55,7 +55,7 @@ digit_value c =
     if nat_le 48 c && nat_le c 57 then c - 48
     else (if nat_le 65 c && nat_le c 70 then c - 55 else (if nat_le 97 c && nat_le c 102 then c - 87 else 16))
 
--- so many digits after those of the number `first`, and the number that they write together
+-- this many digits after those of the number `first`, and the number that they write together
 pub data HasDigits (base : ℕ) : (count first : ℕ) → List ℕ → ℕ → List ℕ → Type 0 where
   no_more : {n : ℕ} {rest : List ℕ} → HasDigits base 0 n rest n rest
   one_more : {count n m c : ℕ} {text rest : List ℕ} → digit_value c < base → HasDigits base count (n * base + digit_value c) text m rest

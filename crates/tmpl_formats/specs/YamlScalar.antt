@@ -123,7 +123,7 @@ digits_after b = if b == byte "x" then 2 else (if b == byte "u" then 4 else (if 
 abbrev pub is_character : ℕ → Bool
 is_character code = nat_lt code 0xD800 || nat_le 0xE000 code && nat_lt code 0x110000
 
--- so many digits more of a character
+-- this many digits more of a character
 pub data HasDigits : ℕ → ℕ → List ℕ → List ℕ → Type 0 where
   complete : {code : ℕ} {rest : List ℕ} → is_character code ≡ true → HasDigits 0 code rest rest
   digit : {count code b : ℕ} {text rest : List ℕ} → hex_value b < 16 → HasDigits count (code * 16 + hex_value b) text rest → HasDigits (suc count) code (b ∷ text) rest

@@ -77,7 +77,7 @@ pub(crate) fn whole(
     Ok(root)
 }
 
-/// So many turns.
+/// This many turns.
 fn copies(alloc: Global, turn: &Node, count: u32) -> Result<Node, AllocError>
     ensures { IfOk result (λ node. IsRepeated (tree_of turn.now) count (Some count) (tree_of node)) }
 {
@@ -101,7 +101,7 @@ fn maybe(alloc: Global, turn: &Node) -> Result<Node, AllocError>
     joint_of(alloc, true, one, Node::Empty)
 }
 
-/// So many turns at most.
+/// At most this many turns.
 fn maybes(alloc: Global, turn: &Node, count: u32) -> Result<Node, AllocError>
     ensures { IfOk result (λ node. IsRepeated (tree_of turn.now) 0 (Some count) (tree_of node)) }
 {
@@ -117,7 +117,7 @@ fn maybes(alloc: Global, turn: &Node, count: u32) -> Result<Node, AllocError>
     joint_of(alloc, false, first, second)
 }
 
-/// The turns behind those that must be.
+/// The turns after those that must be.
 fn further_of(alloc: Global, turn: &Node, times: Times) -> Result<Node, AllocError>
     ensures { IfOk result (λ node. IsRepeated (tree_of turn.now) 0 (further times.least times.most) (tree_of node)) }
 {

@@ -17,27 +17,27 @@ struct Step {
     is_first: bool,
 }
 
-/// Whether a place in the tree is reached before a character, and behind it.
+/// Whether a place in the tree is reached before a character, and after it.
 #[derive(Clone, Copy)]
 struct Flow {
     before: bool,
-    behind: bool,
+    after: bool,
 }
 
 /// A place that is not reached.
 const NOWHERE: Flow = Flow {
     before: false,
-    behind: false,
+    after: false,
 };
 
 /// Whether one of two places is reached.
 fn either_of(a: Flow, b: Flow) -> Flow
     ensures before { result.before ≡ (a.before || b.before) }
-    ensures behind { result.behind ≡ (a.behind || b.behind) }
+    ensures after { result.after ≡ (a.after || b.after) }
 {
     Flow {
         before: a.before || b.before,
-        behind: a.behind || b.behind,
+        after: a.after || b.after,
     }
 }
 
@@ -45,13 +45,13 @@ fn either_of(a: Flow, b: Flow) -> Flow
 fn shift_one(mark: &mut bool, step: Step, may: bool, enters: Flow) -> Flow
     ensures mark { mark.new ≡ (enters.before && may) }
     ensures before { result.before ≡ (mark.old && not step.is_first) }
-    ensures behind { result.behind ≡ mark.new }
+    ensures after { result.after ≡ mark.new }
 {
     let before = *mark && !step.is_first;
     *mark = enters.before && may;
     Flow {
         before,
-        behind: *mark,
+        after: *mark,
     }
 }
 
@@ -60,14 +60,14 @@ fn shift_one(mark: &mut bool, step: Step, may: bool, enters: Flow) -> Flow
 fn shift(node: &mut Node, step: Step, enters: Flow) -> Flow
     ensures marks { marks_of node.new ≡ shifted step.is_first step.code (marks_of node.old) enters.before }
     ensures before { result.before ≡ passes step.is_first (marks_of node.old) enters.before }
-    ensures behind { result.behind ≡ passes false (marks_of node.new) enters.behind }
+    ensures after { result.after ≡ passes false (marks_of node.new) enters.after }
 {
     match node {
         Node::Empty => enters,
         Node::One(class, mark) => shift_one(mark, step, holds(class, step.code), enters),
         Node::Begin => Flow {
             before: enters.before && step.is_first,
-            behind: false,
+            after: false,
         },
         Node::End => NOWHERE,
         Node::Both(first, second) => {
@@ -86,13 +86,13 @@ fn shift(node: &mut Node, step: Step, enters: Flow) -> Flow
                 step,
                 Flow {
                     before,
-                    behind: false,
+                    after: false,
                 },
             );
-            *ended = turns.behind;
+            *ended = turns.after;
             Flow {
                 before,
-                behind: enters.behind || turns.behind,
+                after: enters.after || turns.after,
             }
         }
     }
@@ -141,14 +141,6 @@ impl Search {
         }
     }
 
-    /// Begins again.
-    pub(crate) fn restart(&mut self)
-        ensures { search_of self.new ≡ begun (marks_of self.old.root) }
-    {
-        self.is_first = true;
-        self.found = false;
-    }
-
     /// Reads a character.
     pub(crate) fn read(&mut self, code: u32)
         ensures { search_of self.new ≡ computed.read (search_of self.old) code }
@@ -160,7 +152,7 @@ impl Search {
             };
             let enters = Flow {
                 before: true,
-                behind: false,
+                after: false,
             };
             self.found = shift(&mut self.root, step, enters).before;
         }

@@ -143,7 +143,7 @@ impl<'t> Reader<'t> {
         Some(number)
     }
 
-    /// Reads a number of so many hexadecimal digits.
+    /// Reads a number of this many hexadecimal digits.
     fn hexadecimal(&mut self, count: usize) -> Option<u32>
         ensures { IfSome result (λ n. HasDigits 16 count 0 self.old.rest.now n self.new.rest.now) }
     {

@@ -89,7 +89,7 @@ impl<'t> Reader<'t> {
         Ok(Some(repeat(alloc, &turn, times)?))
     }
 
-    /// Reads alternatives and the parenthesis behind them.
+    /// Reads alternatives and the parenthesis after them.
     #[cycle(pattern)]
     fn closed(&mut self, alloc: Global, depth: u32) -> Result<Option<Node>, AllocError>
         ensures { IfOk result (λ read. IfSome read (λ node. HasAlternatives self.old.rest.now (tree_of node) (byte ")" ∷ self.new.rest.now))) }

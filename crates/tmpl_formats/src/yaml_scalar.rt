@@ -100,14 +100,14 @@ pub(crate) fn may_follow(in_flow: bool, before: u8, byte: u8) -> bool
         && !(before == b' ' && byte == b'#')
 }
 
-/// Whether a plain scalar may end behind a byte.
+/// Whether a plain scalar may end after a byte.
 fn may_end(byte: u8) -> bool
     ensures { result ≡ spec.may_end byte }
 {
     byte != b':' && byte != b' '
 }
 
-/// Whether each byte may follow the one before it, and a scalar may end behind the last.
+/// Whether each byte may follow the one before it, and a scalar may end after the last.
 fn is_joined(in_flow: bool, text: &[u8]) -> bool
     ensures { result ≡ spec.is_joined in_flow 0 text.now }
 {
@@ -299,7 +299,7 @@ fn is_blank(text: &[u8]) -> bool
     text.iter().all(|byte| *byte == b' ')
 }
 
-/// Whether there is a plain scalar up to a place, and spaces behind it.
+/// Whether there is a plain scalar up to a place, and spaces after it.
 pub(crate) fn is_scalar(in_flow: bool, text: &[u8], end: usize) -> bool
     ensures { result ≡ computed.is_scalar in_flow text.now end }
 {
@@ -307,7 +307,7 @@ pub(crate) fn is_scalar(in_flow: bool, text: &[u8], end: usize) -> bool
     is_plain(in_flow, scalar) && is_blank(rest)
 }
 
-/// Whether there is a plain scalar up to a place, and a space behind it.
+/// Whether there is a plain scalar up to a place, and a space after it.
 pub(crate) fn is_spaced_scalar(in_flow: bool, text: &[u8], end: usize) -> bool
     ensures { result ≡ computed.is_spaced_scalar in_flow text.now end }
 {
@@ -315,7 +315,7 @@ pub(crate) fn is_spaced_scalar(in_flow: bool, text: &[u8], end: usize) -> bool
     is_plain(in_flow, scalar) && is_byte(byte_at(rest, 0), b' ') && is_blank(rest)
 }
 
-/// Whether there is a plain scalar up to a place, and a colon behind it.
+/// Whether there is a plain scalar up to a place, and a colon after it.
 pub(crate) fn is_name(in_flow: bool, text: &[u8], end: usize) -> bool
     ensures { result ≡ computed.is_name in_flow text.now end }
 {

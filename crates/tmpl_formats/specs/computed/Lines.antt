@@ -9,7 +9,7 @@ use Rattle.tmpl_formats.specs.PatternView.{Marks}
 abbrev pub line_fault : Marks → List ℕ → Option ℕ
 line_fault marks line = if is_utf8 line then (if finds (begun marks) (chars line) then None else Some 0) else Some (utf8_valid_len line)
 
--- .. or else a place behind it
+-- .. or else a place after it
 abbrev pub or_behind : Option ℕ → ℕ → Option ℕ → Option ℕ
 or_behind (Some n) length behind = Some n
 or_behind None length behind = option_map (λ n. length + 1 + n) behind

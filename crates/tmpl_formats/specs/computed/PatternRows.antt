@@ -24,7 +24,7 @@ pub data HasRow (is_either : Bool) : List ℕ → List Tree → List ℕ → Typ
   piece : (text : List ℕ) {tree : Tree} {trees : List Tree} {more rest : List ℕ} → HasPiece is_either text tree more → HasRow is_either more trees rest
       → HasRow is_either (separator is_either ++ text) (tree ∷ trees) rest
 
--- the turns behind those that must be
+-- the turns after those that must be
 abbrev pub further : ℕ → Option ℕ → Option ℕ
 further least None = None
 further least (Some most) = Some (most - least)

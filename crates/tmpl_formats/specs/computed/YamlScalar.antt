@@ -1,4 +1,4 @@
--- Plain scalars with the bytes behind them.
+-- Plain scalars with the bytes after them.
 use Rattle.std.specs.Prelude.{ℕ, Bool, true, ◌||◌, ◌&&◌, ◌==◌, List, codes, take, drop, Option, Some, None, if◌then◌else◌}
 use Rattle.std.specs.List.{list_all, slice_get}
 use Rattle.std.specs.Str.{byte, bytes_eq}
