@@ -10,7 +10,7 @@ LIBRARIES = $(if $(FOR_TESTS),out/tests/lib,bindings/out)
 STATIC_LIBRARY = $(LIBRARIES)/libtmpl.a
 SHARED_LIBRARY = $(LIBRARIES)/libtmpl.so
 # its number grows where a host that was compiled before would call it wrongly, as where a struct of the header grows
-SONAME = libtmpl.so.1
+SONAME = libtmpl.so.2
 # what proofs and programs are made of, with the folders, so that a file which is gone counts too
 SOURCES = crates.txt HANDLES $(shell find $(wildcard crates/*/src crates/*/specs crates/*/proofs))
 OBJCOPY ?= objcopy

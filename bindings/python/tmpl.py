@@ -170,7 +170,7 @@ class _Text(ctypes.Structure):
 
 def _library():
     beside = os.path.join(os.path.dirname(os.path.abspath(__file__)), "libtmpl.so")
-    it = ctypes.CDLL(os.environ.get("LIBTMPL") or (beside if os.path.exists(beside) else "libtmpl.so.1"))
+    it = ctypes.CDLL(os.environ.get("LIBTMPL") or (beside if os.path.exists(beside) else "libtmpl.so.2"))
     text = (ctypes.c_char_p, ctypes.c_size_t)
     buffers = (ctypes.POINTER(_Buffer), ctypes.POINTER(_Buffer))
     it.tmpl_render.restype = ctypes.c_uint8
