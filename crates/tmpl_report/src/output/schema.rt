@@ -60,9 +60,9 @@ impl Hunt<'_> {
 
 /// What is searched: the outputs of a template over data of a document.
 #[derive(Clone, Copy)]
-struct Search<'w, 't, 'a> {
+struct Search<'w, 't, 'd, 'a> {
     writer: Writer<'w, 't, 'a>,
-    root: &'w Value,
+    root: &'d Value,
 }
 
 /// Adds where the output is not of the format for data of the schema that are found.
@@ -75,8 +75,9 @@ pub(crate) fn add_over_schema<'t, 'a>(
     ensures { OnOk result (AddsBroken findings.old findings.new) }
 {
     let renderer = Renderer::new(task.alloc, task.set)?;
+    let writer = Writer::new(task, &renderer, format);
     let search = Search {
-        writer: Writer::new(task, &renderer, format),
+        writer,
         root: document,
     };
     let mut hunt = Hunt {
@@ -106,7 +107,7 @@ fn add_found<'a>(
     Ok(())
 }
 
-impl<'a> Search<'_, '_, 'a> {
+impl<'a> Search<'_, '_, '_, 'a> {
     /// Tries the usual value of the schema, and each that differs from it by one choice.
     fn look(&self, hunt: &mut Hunt<'a>, is_lean: bool) -> Result<(), AllocError> {
         let counts = self.try_drawn(hunt, is_lean, &[])?;
