@@ -20,6 +20,9 @@ const MOST_CONTROLS: usize = 200;
 /// How often templates are visited, until what is passed to them reaches a fixpoint.
 const MOST_ROUNDS: usize = 12;
 
+/// How many templates that are called are visited where reasons are found.
+const MOST_TEMPLATES: usize = 1_000;
+
 /// How many variables are in scope at once, and how many names are assigned, where reasons are found.
 const MOST_VARIABLES: usize = 1_000;
 
@@ -577,8 +580,10 @@ fn hand<'w>(
     handed: Source<'w>,
 ) -> Result<bool, AllocError> {
     let place = dots.iter().position(|dot| dot.name == handed.name);
+    let is_full = dots.len() >= MOST_TEMPLATES;
     match place.and_then(|place| dots.get_mut(place)) {
         Some(dot) => widen(document, &mut dot.origin, &handed.origin),
+        None if is_full => Ok(false),
         None => {
             dots.push(handed)?;
             Ok(true)
@@ -633,6 +638,9 @@ pub(crate) fn asked_of<'w>(
         if rounds + 1 == MOST_ROUNDS {
             return Ok(asked);
         }
+    }
+    if dots.len() >= MOST_TEMPLATES {
+        return Ok(asked);
     }
     for _ in doubts {
         asked.push(Asked {
