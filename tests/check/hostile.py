@@ -26,6 +26,7 @@ NOISE = 0.1  # seconds
 LEAST = 72  # cases
 COMPLEX = "error: may fail: it is too complex for this check"
 PARTS = (5000, 100000)
+CALLED = 11_000  # templates that call one another that a check follows; it has a limit of 12,000
 FEW = 64 << 20  # bytes of memory that a refused file may take
 SOME = 300 << 20
 DEEPEST = "100000"  # levels of calls
@@ -239,6 +240,12 @@ def inputs(folder):
     yield "no standard input", (3, b"", b"tmpl: /dev/stdin: read failed\n"), (done.returncode, done.stdout, done.stderr)
 
 
+def called(count):
+    """So many templates that call one another."""
+    chain = "".join('{{define "t%d"}}{{template "t%d" .}}{{end}}' % (number, number + 1) for number in range(count))
+    return f'{chain}{{{{define "t{count}"}}}}x{{{{end}}}}{{{{template "t0" .}}}}'
+
+
 def many(count):
     """Templates of so many parts of a kind, each with what is told where they are more than a check goes down to."""
     yield "operands of and", "{{and" + " 1" * count + "}}", COMPLEX
@@ -251,8 +258,8 @@ def many(count):
     yield "fields", "{{if ." + ".".join(["a"] * count) + "}}x{{end}}", COMPLEX
     yield "variables", "{{$x:=1}}" * count, COMPLEX
     yield "assignments", "{{$x:=1}}" + "{{$x =1}}" * count, ""
-    chain = "".join('{{define "t%d"}}{{template "t%d" .}}{{end}}' % (number, number + 1) for number in range(count // 5))
-    yield "templates", f'{chain}{{{{define "t{count // 5}"}}}}x{{{{end}}}}{{{{template "t0" .}}}}', ""
+    for number in (count // 5, min(count // 5, CALLED)):
+        yield f"templates, {number}", called(number), "" if number <= CALLED else COMPLEX
 
 
 def parts(folder):
