@@ -45,7 +45,7 @@ TRIED = {
         " another_fault_said limit_told_for_a_doubt"
     ),
     "tmpl_schema": "a_join_that_keeps_one_side",
-    "tmpl_shape": "each_field_required a_number_compared_with_a_text",
+    "tmpl_shape": "each_field_required a_number_compared_with_a_text a_string_taken_for_none_of_its_constants",
 }
 
 

@@ -49,20 +49,22 @@ pub(crate) fn add_values<'a>(
     let Some(data) = &sources.data else {
         return Ok(());
     };
-    if let Some(schema) = &sources.schema {
-        return add_held(alloc, findings, schema, data);
+    match &sources.schema {
+        Some(schema) => add_held(alloc, findings, schema, data),
+        None => match question.first {
+            Some(first) => {
+                let task = Task {
+                    alloc,
+                    set,
+                    question,
+                    sources,
+                    first,
+                };
+                add_rendered(&task, findings, data)
+            }
+            None => Ok(()),
+        },
     }
-    let Some(first) = question.first else {
-        return Ok(());
-    };
-    let task = Task {
-        alloc,
-        set,
-        question,
-        sources,
-        first,
-    };
-    add_rendered(&task, findings, data)
 }
 
 /// Adds the fault of the run over the data, if nothing else is wrong.
