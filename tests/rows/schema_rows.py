@@ -888,7 +888,7 @@ HOSTILE = [
 
 # schemas and templates of few bytes that lead to much work in a walk that is repeated, or that are more than a check goes down to: each is checked
 # within SOON of a processor, and what takes more work than there is for it is refused as too complex
-SOON = 5
+SOON = 8  # seconds; a program without proofs takes half of it on a quiet processor
 COMPLEX = "it is too complex for this check"
 FORMS = {count: {"anyOf": [of({name: TEXT}, []) for name in MANY[:count]]} for count in (65, 80, 600)}
 INSIDE = "".join("{{$x%d := 1}}{{range $.l}}" % number for number in range(20)) + "".join("{{$x%d = $.l}}{{end}}" % number for number in reversed(range(20)))
