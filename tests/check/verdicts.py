@@ -575,7 +575,8 @@ def drawn_results(seed, count):
                 came = rendered(template, one, value)
                 tried += 1
                 said = f"    {json.dumps(schema)}\n    {template!r} over {json.dumps(value)}: {came.stderr!r}"
-                yield f"drawn {number} by {one}", 1, [] if came.returncode == 0 else [said]
+                is_well = came.returncode == 0 or came.stderr.endswith(b': no template "%s"\n' % conforming.STOP.encode())
+                yield f"drawn {number} by {one}", 1, [] if is_well else [said]
     yield "renders of drawn templates", 1, [] if tried > count else [f"    {tried} alone"]
 
 

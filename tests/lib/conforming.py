@@ -6,6 +6,7 @@ TYPES = {"null": type(None), "boolean": bool, "integer": int, "number": int, "st
 NARROWING = ("minimum", "maximum", "exclusiveMinimum", "exclusiveMaximum", "minLength", "minItems")
 FIELDS = ("a", "b", "c")
 TAGS = ["x", "y", "z"]
+STOP = "stop: no more"  # the name of a template that is not there, whose call is meant to end the run
 FORMS = ("%v", "%v", "%v", "%s", "%s", "%d", "%d", "%q", "%x", "%X", "%o", "%b", "%c", "%t", "%5d", "%05d", "%+d", "% d", "%-6s", "%6s", "%.1s", "%7v", "%-v", "%+v", "%%")
 HEAD = "https://json-schema.org/draft/2020-12/schema"
 DRAFT_04 = "http://json-schema.org/draft-04/schema#"
@@ -380,11 +381,27 @@ def drawn_tagged(draw, scope):
     return body + draw.choice(["{{else}}", "{{else " + more[2:] + "{{else}}"]) + other + "{{end}}"
 
 
+def drawn_leaving(draw, scope):
+    """A test of which one part mostly leaves a range or ends the run, and what may be known past it."""
+    start = draw.choice(["", "", "$e"])
+    place = f"{start}.{draw.choice(FIELDS)}"
+    test = draw.choice(["not P", "not P", "not P", "eq P nil", 'eq P "x"', 'ne P "x"', "P", 'not (index S "a")', "lt (len P) 1", "or (not P) (not P.a)", "and P P.a"])
+    used = draw.choice(["{{len P}}", "{{len P}}", "{{P.a}}", "{{P.a}}", "{{index P 0}}", '{{printf "%s" P}}', "{{range P}}{{end}}", "{{lt P 3}}", "{{len S.a}}", '{{template "w" P}}'])
+    leave = draw.choice(["{{continue}}", "{{continue}}", "{{break}}", '{{template "%s"}}' % STOP, '{{template "w" .}}', "{{if P}}{{continue}}{{end}}", "{{continue}}{{len P}}", ""])
+    form = draw.choice(["{{if TEST}}LEAVE{{end}}USED", "{{if TEST}}LEAVE{{end}}USED", "{{if TEST}}no LEAVE{{else}}{{.b}}{{end}}USED", "{{if TEST}}USED{{else}}LEAVE{{end}}USED",
+                        "{{with P}}{{.a}}{{else}}LEAVE{{end}}USED", "{{if TEST}}LEAVE{{else}}LEAVE{{end}}USED", "{{range P}}LEAVE{{end}}USED",
+                        "{{$x := P}}{{if not $x}}LEAVE{{end}}{{len $x}}USED", "{{$x := P}}{{if TEST}}{{$x = 1}}LEAVE{{end}}{{len $x}}"])
+    line = form.replace("TEST", test).replace("LEAVE", leave).replace("USED", used).replace("P", place).replace("S", start or ".").replace("..", ".")
+    if start or "{{continue}}" in line or "{{break}}" in line or draw.random() < 0.6:
+        line = "{{range $e := %s}}%s{{end}}" % (drawn_path(draw, scope), line)
+    return line
+
+
 def drawn_line(draw, depth, scope):
     """A part of a template, over dot and the variables in scope."""
     path = drawn_path(draw, scope)
     if draw.random() < 0.4:
-        return draw.choice([drawn_printf, drawn_index, drawn_part, drawn_part, drawn_comparison, drawn_tagged, drawn_tagged])(draw, scope)
+        return draw.choice([drawn_printf, drawn_index, drawn_part, drawn_part, drawn_comparison, drawn_tagged, drawn_tagged, drawn_leaving, drawn_leaving])(draw, scope)
     kind = draw.randrange(10) if depth else 0
     inner = "".join(drawn_line(draw, depth - 1, scope) for _ in range(draw.randrange(1, 3))) if depth else ""
     if kind == 0:

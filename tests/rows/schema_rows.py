@@ -48,6 +48,7 @@ DRAFT_2019 = {"$schema": "https://json-schema.org/draft/2019-09/schema"}
 TCP, UDP, UNIX = of({"kind": {"const": "tcp"}, "port": WHOLE}), of({"kind": {"const": "udp"}, "port": WHOLE}), of({"kind": {"const": "unix"}, "path": TEXT})
 NET, PIPE = of({"kind": {"enum": ["tcp", "udp"]}, "port": WHOLE}), of({"kind": {"enum": ["pipe", "fifo"]}, "name": TEXT})
 UNION = {"oneOf": [TCP, UNIX]}
+MAYBES = of({"xs": {"type": "array", "items": of({"a": MAYBE})}, "m": MAYBE})
 
 # a title, a schema, a template, more words, and what is said of the template t: a line without its beginning
 ACCEPTED = [
@@ -100,6 +101,23 @@ ACCEPTED = [
     ("index of a chain of a variable tells it", of({"a": of({"b": of({"c": of({"d": TEXT})}, [])})}), '{{$x := .a}}{{if index $x.b "c"}}{{$x.b.c.d}}{{.a.b.c.d}}{{end}}', []),
     ("index of an item of a variable tells it", of({"l": {"type": "array", "items": of({"a": of({"b": TEXT}, [])})}}), '{{range $e := .l}}{{if index $e.a "b"}}{{len $e.a.b}}{{end}}{{end}}', []),
     ("the length of an entry of a field", of({"a": of({"l": ITEMS})}), '{{if gt (len (index .a "l")) 1}}{{index .a.l 1}}{{end}}', []),
+    ("what a tag of a variable is not", of({"us": {"type": "array", "items": UNION}}), '{{range $u := .us}}{{if eq $u.kind "tcp"}}{{$u.port}}{{else}}{{$u.path}}{{end}}{{if ne $u.kind "tcp"}}{{$u.path}}{{else}}{{$u.port}}{{end}}{{end}}', []),
+    ("tags of a variable one after the other", of({"us": {"type": "array", "items": {"oneOf": [TCP, UNIX, PIPE]}}}),
+     '{{range $u := .us}}{{if eq $u.kind "tcp"}}{{$u.port}}{{else if eq $u.kind "unix"}}{{$u.path}}{{else}}{{$u.name}}{{end}}{{end}}', []),
+    ("a tag of the data in a range", of({"u": UNION, "l": ITEMS}), '{{range .l}}{{if eq $.u.kind "tcp"}}{{$.u.port}}{{else}}{{$.u.path}}{{end}}{{end}}', []),
+    ("a tag of a variable past a continue", of({"us": {"type": "array", "items": UNION}}), '{{range $u := .us}}{{if eq $u.kind "tcp"}}{{continue}}{{end}}{{len $u.path}}{{end}}', []),
+    ("past a continue", MAYBES, "{{range .xs}}{{if not .a}}no {{continue}}{{end}}{{.a.b}}{{end}}", []),
+    ("past a break", MAYBES, "{{range .xs}}{{if eq .a nil}}{{break}}{{end}}{{.a.b}}{{end}}", []),
+    ("past a stop", of({"a": MAYBE}), '{{if not .a}}{{template "stop: no a"}}{{end}}{{.a.b}}{{$.a.b}}', []),
+    ("past a stop that is allowed", of({"a": MAYBE}), '{{if not .a}}{{template "none"}}{{end}}{{.a.b}}', ["--stop", "none"]),
+    ("past an other part that ends", of({"a": MAYBE}), '{{if .a}}{{.a.b}}{{else}}{{template "stop: no a"}}{{end}}{{.a.b}}', []),
+    ("past a with whose other part ends", MAYBES, "{{range .xs}}{{with .a}}{{.b}}{{else}}{{continue}}{{end}}{{.a.b}}{{end}}", []),
+    ("a variable past a continue", MAYBES, "{{range $x := .xs}}{{if not $x.a}}{{continue}}{{end}}{{$x.a.b}}{{end}}", []),
+    ("what only the part that leaves assigns", MAYBES, '{{range .xs}}{{$x := 1}}{{if not .a}}{{$x = "no"}}{{continue}}{{end}}{{lt $x 2}}{{end}}', []),
+    ("a tag past a continue", of({"us": {"type": "array", "items": UNION}}), '{{range .us}}{{if ne .kind "tcp"}}{{continue}}{{end}}{{lt .port 3}}{{end}}', []),
+    ("items past a stop", of({"a": ITEMS}), '{{if lt (len .a) 2}}{{template "stop: two"}}{{end}}{{index .a 1}}', []),
+    ("a call past a stop", of({"a": MAYBE}), '{{define "w"}}{{.b}}{{end}}{{if not .a}}{{template "stop: no a"}}{{end}}{{template "w" .a}}', []),
+    ("past a stop in a range in a template", of({"a": MAYBE, "l": ITEMS}), '{{define "w"}}{{if not .a}}{{template "stop: no a"}}{{end}}{{range .l}}{{$.a.b}}{{end}}{{end}}{{template "w" .}}', []),
     ("a union by its tag", of({"u": UNION}), '{{if eq .u.kind "tcp"}}{{lt .u.port 3}}{{else}}{{len .u.path}}{{end}}{{if eq .u.kind "unix"}}{{len .u.path}}{{end}}', []),
     ("a union by what its tag is not", of({"u": UNION}), '{{if ne .u.kind "tcp"}}{{len .u.path}}{{else}}{{lt .u.port 3}}{{end}}{{if not (eq .u.kind "tcp")}}{{len .u.path}}{{end}}', []),
     ("the tag of dot", of({"u": UNION}), '{{with .u}}{{if ne .kind "tcp"}}{{len .path}}{{else}}{{lt .port 3}}{{end}}{{end}}', []),
@@ -251,6 +269,13 @@ REFUSED = [
     ("what differs from a constant may be null", of({"a": {"type": ["string", "null"]}}), '{{if ne .a "x"}}{{len .a}}{{end}}', [], '1:17: error: may fail: "len" may get what it refuses'),
     ("what does not equal a constant may be null", of({"a": {"type": ["string", "null"]}}), '{{if eq .a "x"}}{{else}}{{len .a}}{{end}}', [], '1:25: error: may fail: "len" may get what it refuses'),
     ("index of another key", of({"a": TEXT, "b": TEXT}, []), '{{if index . "a"}}{{.b}}{{end}}', [], "1:19: error: may fail: .b may be absent: not in \"required\" of s:1"),
+    ("past a continue of which a run may come past", MAYBES, "{{range .xs}}{{if not .a}}{{if .c}}{{continue}}{{end}}{{end}}{{.a.b}}{{end}}", DEFAULT, NULL % 62),
+    ("past a template that is there", of({"a": MAYBE}), '{{define "w"}}{{end}}{{if not .a}}{{template "w"}}{{end}}{{.a.b}}', [], NULL % 58),
+    ("past a range that breaks", of({"a": ITEMS}), "{{range .a}}{{break}}{{end}}{{index .a 0}}", [], FIRST.replace("1:1", "1:29")),
+    ("past a range in which a turn is left", MAYBES, "{{range .xs}}{{if not .a}}{{continue}}{{end}}{{end}}{{range .xs}}{{.a.b}}{{end}}", [], NULL % 66),
+    ("past the part that goes on", MAYBES, "{{range .xs}}{{if .a}}{{continue}}{{end}}{{.a.b}}{{end}}", [], NULL % 42),
+    ("a variable that is assigned past a continue", MAYBES, "{{range .xs}}{{$x := .a}}{{if not $x}}{{continue}}{{end}}{{$x = $.m}}{{$x.b}}{{end}}", [],
+     "1:70: error: may fail: .b of nothing, which may come here and has no fields"),
     ("the other alternative of a union", of({"u": UNION}), '{{if eq .u.kind "tcp"}}{{.u.path}}{{end}}', [], "1:24: error: may fail: .path may be absent: not in \"properties\" of s:1"),
     ("a union where its tag is not this", of({"u": UNION}), '{{if eq .u.kind "tcp"}}{{else}}{{.u.port}}{{end}}', [], "1:32: error: may fail: .port may be absent: not in \"properties\" of s:1"),
     ("a union before its tag is asked", of({"u": UNION}), '{{.u.port}}{{if eq .u.kind "tcp"}}{{end}}', [], "1:1: error: may fail: .port may be absent: not in \"properties\" of s:1"),
@@ -263,7 +288,7 @@ REFUSED = [
     ("a tag that equals a constant or a field", of({"u": UNION, "t": TEXT}), '{{if eq .u.kind "tcp" .t}}{{.u.port}}{{end}}', [], "1:27: error: may fail: .port may be absent: not in \"properties\" of s:1"),
     ("a tag of what a variable was", of({"u": UNION, "v": UNION}), '{{$x := .u}}{{if eq $x.kind "tcp"}}{{$x = .v}}{{$x.port}}{{end}}', [], "1:47: error: may fail: .port may be absent: the schema does not require it"),
     ("a tag in an or", of({"u": UNION, "b": {"type": "boolean"}}), '{{if or .b (eq .u.kind "tcp")}}{{.u.port}}{{end}}', [], "1:32: error: may fail: .port may be absent: not in \"properties\" of s:1"),
-    ("what a tag of a variable is not", of({"us": {"type": "array", "items": UNION}}), '{{range $u := .us}}{{if eq $u.kind "tcp"}}{{else}}{{$u.path}}{{end}}{{end}}', [], "1:51: error: may fail: .path may be absent: not in \"properties\" of s:1"),
+    ("a tag of what a variable is in one part", of({"u": UNION, "v": UNION}), '{{$x := .u}}{{if eq $x.kind "tcp"}}{{$x = .v}}{{else}}{{$x.path}}{{end}}{{$x.path}}', [], "1:75: error: may fail: .path may be absent: the schema does not require it"),
     ("after the test of a tag", of({"u": UNION}), '{{if eq .u.kind "tcp"}}{{end}}{{$.u.port}}', [], "1:31: error: may fail: .port may be absent: not in \"properties\" of s:1"),
     ("index of another key of a field", of({"c": of({"a": TEXT, "b": TEXT}, [])}), '{{if index .c "a"}}{{.c.b}}{{end}}', [], "1:20: error: may fail: .b may be absent: not in \"required\" of s:1"),
     ("index of another field", of({"c": of({"a": TEXT}, []), "d": of({"a": TEXT}, [])}), '{{if index .c "a"}}{{.d.a}}{{end}}', [], "1:20: error: may fail: .a may be absent: not in \"required\" of s:1"),

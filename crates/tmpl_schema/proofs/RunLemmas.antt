@@ -26,6 +26,9 @@ use Rattle.tmpl_shape.specs.computed.Means.{Means}
 use Rattle.tmpl_shape.specs.computed.Shapes.{Base, within, fill, Visit, visit_of}
 use Rattle.tmpl_schema.specs.computed.Check.{Known, State, Callee, handed, absent, Table, Checked, last_of, all_within, join_all, if_within, after_both, settle_known, settle_soon, leave_with}
 use Rattle.tmpl_schema.specs.computed.Check.{holds_loop, dot_in, in_body, in_other, after_choice, in_turn, turn_known, after_range, after_call, after_control, after_node, after_nodes}
+use Rattle.tmpl_schema.specs.declared.way.Way.{Way}
+use Rattle.tmpl_schema.specs.declared.way.Way.TheVariants.{Both, Body, Other}
+use Rattle.tmpl_schema.specs.computed.Check.{after_parts, dot_after, dot_by, is_absent, is_leaving, some_leaving, way_past}
 use Rattle.tmpl_schema.specs.computed.Check.{Origin, pipeline_origin, pipeline_shape, narrow, bound_shapes, at_start, is_safe}
 use Rattle.tmpl_schema.specs.computed.Safe.{IsAccepted, IsCallee, IsChecked}
 use Rattle.tmpl_loops.specs.Form.{Loop, Turn, stopped, turn_of}
@@ -84,28 +87,28 @@ module _ (base : Base) (N : Names) (means : Means base.defs N) (stops : List (Li
       by true = tt
       by false = h (r.left - 1)
 
-  after-ends : (loop : Option Known) (middle ks : Known) (go : Next) → ((q : Run) → (HasKnown base N means top) middle q.env → Ends loop ks (go q)) → (q : Run) (end : End)
-      → EndsSo loop middle end q.env → Ends loop ks (on_end end q go)
-  after-ends loop middle ks go h q done e = h q e
-  after-ends loop middle ks go h q (faulted f) e = e
-  after-ends loop middle ks go h q broke e = e
-  after-ends loop middle ks go h q continued e = e
+  after-ends : (loop : Option Known) (middle ks : Known) (go : Next) (q : Run) (end : End)
+      → (end ≡ done → (HasKnown base N means top) middle q.env → Ends loop ks (go q)) → EndsSo loop middle end q.env → Ends loop ks (on_end end q go)
+  after-ends loop middle ks go q done h e = h refl e
+  after-ends loop middle ks go q (faulted f) h e = e
+  after-ends loop middle ks go q broke h e = e
+  after-ends loop middle ks go q continued h e = e
 
   loop-length : (head : Known) (ks : Known) → holds_loop (Some head) ks ≡ true → length head ≤ length ks
   loop-length head ks h = search rules
 
   -- after a part whose variables last to its end
   scope-ends : (loop : Option Known) (ks inner out : Known) (env0 : Environment) → (HasKnown base N means top) ks env0 → holds_loop loop ks ≡ true
-      → ((env : Environment) → (HasKnown base N means top) (last_of (length ks) inner) env → (HasKnown base N means top) out env) → (end : End) (env : Environment)
+      → (end : End) (env : Environment) → (end ≡ done → (e : Environment) → (HasKnown base N means top) (last_of (length ks) inner) e → (HasKnown base N means top) out e)
       → EndsSo loop inner end env → EndsSo loop out end (last_of (length env0) env)
-  scope-ends loop ks inner out env0 k holds f done env e =
-      f _ (subst (λ (n : ℕ). (HasKnown base N means top) (last_of (length ks) inner) (last_of n env)) ((known-length base N means top) ks env0 k) ((last-known base N means top) (length ks) inner env e))
-  scope-ends loop ks inner out env0 k holds f (faulted c) env e = e
-  scope-ends None ks inner out env0 k holds f broke env e = absurd e
-  scope-ends (Some head) ks inner out env0 k holds f broke env e =
+  scope-ends loop ks inner out env0 k holds done env f e =
+      f refl _ (subst (λ (n : ℕ). (HasKnown base N means top) (last_of (length ks) inner) (last_of n env)) ((known-length base N means top) ks env0 k) ((last-known base N means top) (length ks) inner env e))
+  scope-ends loop ks inner out env0 k holds (faulted c) env f e = e
+  scope-ends None ks inner out env0 k holds broke env f e = absurd e
+  scope-ends (Some head) ks inner out env0 k holds broke env f e =
       rw ((last-last base N means top) (length head) (length env0) env (subst (λ (n : ℕ). length head ≤ n) ((known-length base N means top) ks env0 k) (loop-length head ks holds))) e
-  scope-ends None ks inner out env0 k holds f continued env e = absurd e
-  scope-ends (Some head) ks inner out env0 k holds f continued env e =
+  scope-ends None ks inner out env0 k holds continued env f e = absurd e
+  scope-ends (Some head) ks inner out env0 k holds continued env f e =
       rw ((last-last base N means top) (length head) (length env0) env (subst (λ (n : ℕ). length head ≤ n) ((known-length base N means top) ks env0 k) (loop-length head ks holds))) e
 
   -- ---- pipelines
@@ -142,40 +145,59 @@ module _ (base : Base) (N : Names) (means : Means base.defs N) (stops : List (Li
   dot-from control.With o p v d h g = h
   dot-from _ o p v d h g = g
 
-  choice-ends : (c : Control) (h : Header) (k : State) (loop : Option Known) (f g : Checked) (body other : Value → Next) (sh : Shape) (out : Known)
-      → after_choice base c h k f g sh ≡ Some out → holds_loop loop k.env ≡ true → PartHas loop f body → PartHas loop g other
+  -- a part that a run never comes past, of those of which it may come past some
+  abbrev NeverPast : Way → (Value → Next) → (Value → Next) → Type 0
+  NeverPast Both body other = Unit {0}
+  NeverPast Body body other = (d : Value) (r : Run) → (other d r).1 ≡ done → ⊥
+  NeverPast Other body other = (d : Value) (r : Run) → (body d r).1 ≡ done → ⊥
+
+  -- .. so the variables after both are those after the one that was run
+  body-known : (w : Way) (rs a b out : Known) → after_parts base w rs a b ≡ Some out → (body other : Value → Next) → NeverPast w body other
+      → (d : Value) (r : Run) → (body d r).1 ≡ done → (env : Environment) → (HasKnown base N means top) (last_of (length rs) a) env → (HasKnown base N means top) out env
+  body-known Both rs a b out joint body other never d r is = ((both-known base N means top) rs a b out joint).0
+  body-known Body rs a b out joint body other never d r is =
+      λ env h. let same : last_of (length rs) a ≡ out = cc in subst (λ (x : Known). (HasKnown base N means top) x env) same h
+  body-known Other rs a b out joint body other never d r is = absurd (never d r is)
+
+  other-known : (w : Way) (rs a b out : Known) → after_parts base w rs a b ≡ Some out → (body other : Value → Next) → NeverPast w body other
+      → (d : Value) (r : Run) → (other d r).1 ≡ done → (env : Environment) → (HasKnown base N means top) (last_of (length rs) b) env → (HasKnown base N means top) out env
+  other-known Both rs a b out joint body other never d r is = ((both-known base N means top) rs a b out joint).1
+  other-known Body rs a b out joint body other never d r is = absurd (never d r is)
+  other-known Other rs a b out joint body other never d r is =
+      λ env h. let same : last_of (length rs) b ≡ out = cc in subst (λ (x : Known). (HasKnown base N means top) x env) same h
+
+  choice-ends : (w : Way) (c : Control) (h : Header) (k : State) (loop : Option Known) (f g : Checked) (body other : Value → Next) (sh : Shape) (out : Known)
+      → after_choice base w c h k f g sh ≡ Some out → holds_loop loop k.env ≡ true → PartHas loop f body → PartHas loop g other → NeverPast w body other
       → (m : MissingKey) (d : Value) (r : Run) → (Fits base N means top) k d r.env → (v : Value) (made : Bool) → (commands_value ((place base N means top) m d r.env) h.pipeline None).result ≡ Ok v
       → HasShape N sh v
       → Ends loop out (scoped (length r.env) (one_of (truth v) (body (dot_value c v d)) (other d) (with_bound h.binding (without_key v) (record r { made_text = made }))))
-  choice-ends c h k loop f g body other sh out is holds in_f in_g m d r fits v made value has =
+  choice-ends w c h k loop f g body other sh out is holds in_f in_g never m d r fits v made value has =
       option_and_then_some _ (f (in_body base c h k sh)) out is (λ a isa rest.
-      option_and_then_some (after_both base (length k.env) a) (g (in_other base h k sh)) out rest (λ b isb joint.
-      let joins = (both-known base N means top) (length k.env) a b out joint in by (truth v) refl a isa b isb joins.0 joins.1))
+      option_and_then_some (after_parts base w k.env a) (g (in_other base h k sh)) out rest (λ b isb joint. by (truth v) refl a isa b isb joint))
     where
       by : (t : Bool) → truth v ≡ t → (a : Known) → f (in_body base c h k sh) ≡ Some a → (b : Known) → g (in_other base h k sh) ≡ Some b
-          → ((env : Environment) → (HasKnown base N means top) (last_of (length k.env) a) env → (HasKnown base N means top) out env)
-          → ((env : Environment) → (HasKnown base N means top) (last_of (length k.env) b) env → (HasKnown base N means top) out env)
+          → after_parts base w k.env a b ≡ Some out
           → Ends loop out (scoped (length r.env) (one_of t (body (dot_value c v d)) (other d) (with_bound h.binding (without_key v) (record r { made_text = made }))))
-      by true t a isa b isb left right =
+      by true t a isa b isb joint =
           let q : Run = with_bound h.binding (without_key v) (record r { made_text = made }) in
           let n = (narrow-fits base N means top) true m h.pipeline k d r.env v fits value t in
           let full = (fill-has base N means) sh v has t in
           let o = pipeline_origin k h.pipeline in
           let from = (pipeline-has base N means top) m h.pipeline k d r.env v fits value in
           let x = body (dot_value c v d) q in
-          scope-ends loop k.env a out r.env fits.1 holds left x.1 x.0.env
+          scope-ends loop k.env a out r.env fits.1 holds x.1 x.0.env (body-known w k.env a b out joint body other never (dot_value c v d) q)
           (in_f (in_body base c h k sh) a isa (dot_value c v d) q (
             dot-has c (fill base sh) (narrow base true h.pipeline k).dot v d full n.0,
             (bound-known base N means top) h.binding nothings (fill base sh) o (without_key v) tt full from (narrow base true h.pipeline k).env r.env n.1,
             dot-from c o (narrow base true h.pipeline k).from v d from n.2,
           ))
-      by false t a isa b isb left right =
+      by false t a isa b isb joint =
           let q : Run = with_bound h.binding (without_key v) (record r { made_text = made }) in
           let n = (narrow-fits base N means top) false m h.pipeline k d r.env v fits value t in
           let o = pipeline_origin k h.pipeline in
           let from = (pipeline-has base N means top) m h.pipeline k d r.env v fits value in
           let x = other d q in
-          scope-ends loop k.env b out r.env fits.1 holds right x.1 x.0.env
+          scope-ends loop k.env b out r.env fits.1 holds x.1 x.0.env (other-known w k.env a b out joint body other never d q)
           (in_g (in_other base h k sh) b isb d q
           (n.0, (bound-known base N means top) h.binding nothings sh o (without_key v) tt has from (narrow base false h.pipeline k).env r.env n.1, n.2))
 
@@ -250,8 +272,8 @@ module _ (base : Base) (N : Names) (means : Means base.defs N) (stops : List (Li
       → Ends loop out (scoped (length r.env) (over s line h.binding body (other d) o (record r { made_text = made })))
   over-ends s line h k loop f g body other v out is holds in_f in_g d r fits made o visits =
       option_and_then_some _ (settle_soon base (turn_known h v f) k.env) out is (λ head ish rest.
-      option_and_then_some (after_both base (length k.env) head) (g k) out rest (λ b isb joint.
-      let joins = (both-known base N means top) (length k.env) head b out joint in
+      option_and_then_some (after_both base k.env head) (g k) out rest (λ b isb joint.
+      let joins = (both-known base N means top) k.env head b out joint in
       by o visits head b isb joins.0 joins.1 (soon-so (turn_known h v f) k.env head ish)))
     where
       r1 : Run
@@ -271,11 +293,11 @@ module _ (base : Base) (N : Names) (means : Means base.defs N) (stops : List (Li
           → Ends loop out (scoped (length r.env) (over s line h.binding body (other d) o r1))
       by None visits head b isb left right set = absurd visits
       by (Some []) visits head b isb left right set =
-          let x = other d r1 in scope-ends loop k.env b out r.env fits.1 holds right x.1 x.0.env (in_g k b isb d r1 fits)
+          let x = other d r1 in scope-ends loop k.env b out r.env fits.1 holds x.1 x.0.env (λ e. right) (in_g k b isb d r1 fits)
       by (Some (e ∷ es)) visits head b isb left right set =
           let x = turns s line h.binding body (e ∷ es) r1 in
           let inner = mapped (f (Some head) (in_turn h v head)) (last_of (length head)) set.1 set.2 in
-          scope-ends loop k.env head out r.env fits.1 holds left x.1 x.0.env
+          scope-ends loop k.env head out r.env fits.1 holds x.1 x.0.env (λ e. left)
           (turning head inner.0 inner.1 (subst (λ (i : Known). all_within base i head ≡ true) (sym inner.2) set.3) (e ∷ es) visits
           (set.0 r.env fits.1))
         where
@@ -284,16 +306,16 @@ module _ (base : Base) (N : Names) (means : Means base.defs N) (stops : List (Li
           mapped (Some x) t y e = (x, refl, cc)
 
   -- a control in its scope
-  control-ends : (s : Setting) (line : ℕ) (c : Control) (h : Header) (k : State) (loop : Option Known) (f : Option Known → Checked) (g : Checked) (body other : Value → Next)
-      (sh : Shape) (out : Known) → after_control base c loop h k f g sh ≡ Some out → holds_loop loop k.env ≡ true → ((l : Option Known) → PartHas l (f l) body)
-      → PartHas loop g other → (d : Value) (r : Run) → (Fits base N means top) k d r.env → (v : Value) (made : Bool)
+  control-ends : (w : Way) (s : Setting) (line : ℕ) (c : Control) (h : Header) (k : State) (loop : Option Known) (f : Option Known → Checked) (g : Checked) (body other : Value → Next)
+      (sh : Shape) (out : Known) → after_control base w c loop h k f g sh ≡ Some out → holds_loop loop k.env ≡ true → ((l : Option Known) → PartHas l (f l) body)
+      → PartHas loop g other → NeverPast w body other → (d : Value) (r : Run) → (Fits base N means top) k d r.env → (v : Value) (made : Bool)
       → (commands_value ((place base N means top) s.rules.missing_key d r.env) h.pipeline None).result ≡ Ok v → HasShape N sh v
       → Ends loop out (scoped (length r.env) (controlled s line c h.binding d body (other d) v (record r { made_text = made })))
-  control-ends s line control.If h k loop f g body other sh out is holds in_f in_g d r fits v made value has =
-      choice-ends control.If h k loop (f loop) g body other sh out is holds (in_f loop) in_g s.rules.missing_key d r fits v made value has
-  control-ends s line control.With h k loop f g body other sh out is holds in_f in_g d r fits v made value has =
-      choice-ends control.With h k loop (f loop) g body other sh out is holds (in_f loop) in_g s.rules.missing_key d r fits v made value has
-  control-ends s line control.Range h k loop f g body other sh out is holds in_f in_g d r fits v made value has =
+  control-ends w s line control.If h k loop f g body other sh out is holds in_f in_g never d r fits v made value has =
+      choice-ends w control.If h k loop (f loop) g body other sh out is holds (in_f loop) in_g never s.rules.missing_key d r fits v made value has
+  control-ends w s line control.With h k loop f g body other sh out is holds in_f in_g never d r fits v made value has =
+      choice-ends w control.With h k loop (f loop) g body other sh out is holds (in_f loop) in_g never s.rules.missing_key d r fits v made value has
+  control-ends w s line control.Range h k loop f g body other sh out is holds in_f in_g never d r fits v made value has =
       option_and_then_some (after_range base h k f g) (visit_of base h.binding sh) out is (λ visit isv rest.
       over-ends s line h k loop f g body other visit out rest holds in_f in_g d r fits made (elements_visited h.binding v)
       (subst (λ (o : Option Visit). (Visits base N means) o (elements_visited h.binding v)) isv ((visit-gives base N means) h.binding sh v has)))
@@ -377,6 +399,106 @@ module _ (base : Base) (N : Names) (means : Means base.defs N) (stops : List (Li
     template-ends line name given loop k out is d r fits =
         option_and_then_some _ (table name) out is (λ c isc rest. callee-ends line name given k loop out d r fits c (calls name c isc) rest)
 
+    -- ---- nodes that a run never comes past
+
+    fault-past : (x : Result (Value → Next) Cause) (c : Callee) → (CalleeHas base N means stops) c x → is_absent (Some c) ≡ true
+        → (line : ℕ) (go : (Value → Next) → Next) (r : Run) → (with_value s line x go r).1 ≡ done → ⊥
+    fault-past (Ok go) absent h e line next r is = h
+    fault-past (Err cause) absent h e line next r is = cc
+    fault-past x (handed t) h e line next r is = cc
+
+    absent-past : (name : List ℕ) → is_absent (table name) ≡ true → (line : ℕ) (go : (Value → Next) → Next) (r : Run) → (with_value s line (s.calls name) go r).1 ≡ done → ⊥
+    absent-past name e line go r is = by (table name) refl e
+      where
+        by : (o : Option Callee) → table name ≡ o → is_absent o ≡ true → ⊥
+        by None t e = cc
+        by (Some c) t e = fault-past (s.calls name) c (calls name c t) e line go r is
+
+    node-past : (n : NodeKind) → is_leaving table n ≡ true → (line : ℕ) (d : Value) (r : Run) → (stepped s line n d r).1 ≡ done → ⊥
+    node-past break_node e line d r is = cc
+    node-past continue_node e line d r is = cc
+    node-past (template_node name given) e line d r is = absent-past name e line (handing s line given d) r is
+    node-past (text bytes) e line d r is = cc
+    node-past (action h) e line d r is = cc
+    node-past (control_node c h body other) e line d r is = cc
+
+    -- what follows from the end of a node follows from that of its step
+    spend-past : (T : Type 0) (line : ℕ) (go : Next) (r : Run) → ((left : ℕ) → (go (record r { left = left })).1 ≡ done → T) → (spend s line go r).1 ≡ done → T
+    spend-past T line go r h = by (nat_eq r.left 0)
+      where
+        by : (b : Bool) → (spend_if b s line go r).1 ≡ done → T
+        by true e = cc
+        by false e = h (r.left - 1) e
+
+    end-past : (end : End) (q : Run) (go : Next) → (on_end end q go).1 ≡ done → (end ≡ done) × ((go q).1 ≡ done)
+    end-past done q go e = (refl, e)
+    end-past (faulted f) q go e = cc
+    end-past broke q go e = cc
+    end-past continued q go e = cc
+
+    some-past : (ns : Nodes) → some_leaving table ns ≡ true → (d : Value) (r : Run) → (meanings s ns d r).1 ≡ done → ⊥
+    some-past tree.none e d r is = cc
+    some-past (tree.then line n ns) e d r is =
+        let x = spend s line (stepped s line n d) r in
+        let p = end-past x.1 x.0 (meanings s ns d) is in
+        by (is_leaving table n) refl e p.0 (λ more. some-past ns more d x.0 p.1)
+      where
+        by : (b : Bool) → is_leaving table n ≡ b → (b || some_leaving table ns) ≡ true → (spend s line (stepped s line n d) r).1 ≡ done
+            → (some_leaving table ns ≡ true → ⊥) → ⊥
+        by true l e is rest = spend-past ⊥ line (stepped s line n d) r (λ left. node-past n l line d (record r { left = left })) is
+        by false l e is rest = rest e
+
+    never-past : (body other : Nodes) → NeverPast (way_past table body other) (meanings s body) (meanings s other)
+    never-past body other = by (some_leaving table body) refl (some_leaving table other) refl
+      where
+        by : (a : Bool) → some_leaving table body ≡ a → (b : Bool) → some_leaving table other ≡ b
+            → NeverPast (if a then Other else if b then Body else Both) (meanings s body) (meanings s other)
+        by true e b f = λ d r. some-past body e d r
+        by false e true f = λ d r. some-past other f d r
+        by false e false f = tt
+
+    -- where a choice is done, dot is what its pipeline shows by the part that was run
+    choice-dot : (w : Way) (c : Control) (h : Header) (k : State) (body other : Value → Next) → NeverPast w body other
+        → (d : Value) (r : Run) → (Fits base N means top) k d r.env → (v : Value) (made : Bool)
+        → (commands_value ((place base N means top) s.rules.missing_key d r.env) h.pipeline None).result ≡ Ok v
+        → (one_of (truth v) (body (dot_value c v d)) (other d) (with_bound h.binding (without_key v) (record r { made_text = made }))).1 ≡ done
+        → HasShape N (dot_by base w h.pipeline k) d
+    choice-dot w c h k body other never d r fits v made value = by w (truth v) refl never
+      where
+        q : Run
+        q = with_bound h.binding (without_key v) (record r { made_text = made })
+
+        by : (w : Way) (t : Bool) → truth v ≡ t → NeverPast w body other → (one_of t (body (dot_value c v d)) (other d) q).1 ≡ done → HasShape N (dot_by base w h.pipeline k) d
+        by Both t e never is = fits.0
+        by Body true e never is = ((narrow-fits base N means top) true s.rules.missing_key h.pipeline k d r.env v fits value e).0
+        by Body false e never is = absurd (never d q is)
+        by Other true e never is = absurd (never (dot_value c v d) q is)
+        by Other false e never is = ((narrow-fits base N means top) false s.rules.missing_key h.pipeline k d r.env v fits value e).0
+
+    -- .. and after each node
+    step-dot : (n : NodeKind) (line : ℕ) (loop : Option Known) (k : State) (out : Known) → after_node base s.rules.missing_key table loop k n ≡ Some out
+        → (d : Value) (r : Run) → (Fits base N means top) k d r.env → (stepped s line n d r).1 ≡ done → HasShape N (dot_after base table k n) d
+    step-dot (text bytes) line loop k out e d r fits is = fits.0
+    step-dot (action h) line loop k out e d r fits is = fits.0
+    step-dot break_node line loop k out e d r fits is = fits.0
+    step-dot continue_node line loop k out e d r fits is = fits.0
+    step-dot (template_node name given) line loop k out e d r fits is = fits.0
+    step-dot (control_node c h body other) line loop k out e d r fits is =
+        let p = was_open (holds_loop loop k.env) _ out e in
+        option_and_then_some _ (pipeline_shape base s.rules.missing_key k h.pipeline) out p.1 (λ sh issh rest.
+        pipeline-all (λ x. x.1 ≡ done → HasShape N (dot_after base table k (control_node c h body other)) d) s line h.pipeline d
+        (controlled s line c h.binding d (meanings s body) (meanings s other d)) k sh r fits issh
+        (λ v made value has. by c v made value) is)
+      where
+        by : (c : Control) (v : Value) (made : Bool) → (commands_value ((place base N means top) s.rules.missing_key d r.env) h.pipeline None).result ≡ Ok v
+            → (controlled s line c h.binding d (meanings s body) (meanings s other d) v (record r { made_text = made })).1 ≡ done
+            → HasShape N (dot_after base table k (control_node c h body other)) d
+        by control.Range v made value is = fits.0
+        by control.If v made value is =
+            choice-dot (way_past table body other) control.If h k (meanings s body) (meanings s other) (never-past body other) d r fits v made value is
+        by control.With v made value is =
+            choice-dot (way_past table body other) control.With h k (meanings s body) (meanings s other) (never-past body other) d r fits v made value is
+
     mutual
       stepped-ends : (n : NodeKind) (line : ℕ) (loop : Option Known) → PartHas loop (λ k. after_node base s.rules.missing_key table loop k n) (stepped s line n)
       stepped-ends (text bytes) line loop k out is d r fits = let same : k.env ≡ out = cc in subst (λ (x : Known). (HasKnown base N means top) x r.env) same fits.1
@@ -392,10 +514,12 @@ module _ (base : Base) (N : Names) (means : Means base.defs N) (stops : List (Li
           let f : Option Known → Checked = λ l u. after_nodes base m table l u body in
           let g : Checked = λ u. after_nodes base m table loop u other in
           let p = was_open (holds_loop loop k.env) _ out is in
-          option_and_then_some (after_control base c loop h k f g) (pipeline_shape base m k h.pipeline) out p.1 (λ sh issh rest.
+          let w = way_past table body other in
+          option_and_then_some (after_control base w c loop h k f g) (pipeline_shape base m k h.pipeline) out p.1 (λ sh issh rest.
           pipeline-all (λ x. Ends loop out (scoped (length r.env) x)) s line h.pipeline d
           (controlled s line c h.binding d (meanings s body) (meanings s other d)) k sh r fits issh
-          (control-ends s line c h k loop f g (meanings s body) (meanings s other) sh out rest p.0 (λ l. nodes-end body l) (nodes-end other loop) d r fits))
+          (control-ends w s line c h k loop f g (meanings s body) (meanings s other) sh out rest p.0 (λ l. nodes-end body l) (nodes-end other loop)
+          (never-past body other) d r fits))
       stepped-ends break_node line loop k out is d r fits = left-ends loop k.env out r.env is fits.1
       stepped-ends continue_node line loop k out is d r fits = left-ends loop k.env out r.env is fits.1
       stepped-ends (template_node name given) line loop k out is d r fits = template-ends line name given loop k out is d r fits
@@ -405,7 +529,10 @@ module _ (base : Base) (N : Names) (means : Means base.defs N) (stops : List (Li
       nodes-end (tree.then line n ns) loop k out is d r fits =
           option_and_then_some _ (after_node base s.rules.missing_key table loop k n) out is (λ middle ism rest.
           let x = spend s line (stepped s line n d) r in
-          after-ends loop middle out (meanings s ns d) (λ q known. nodes-end ns loop (record k { env = middle }) out rest d q (fits.0, known, fits.2)) x.0 x.1
+          let dot : x.1 ≡ done → HasShape N (dot_after base table k n) d =
+          spend-past (HasShape N (dot_after base table k n) d) line (stepped s line n d) r (λ left. step-dot n line loop k middle ism d (record r { left = left }) fits) in
+          after-ends loop middle out (meanings s ns d) x.0 x.1
+          (λ is known. nodes-end ns loop (record k { dot = dot_after base table k n; env = middle }) out rest d x.0 (dot is, known, fits.2))
           (spend-ends loop middle s line (stepped s line n d) r (λ left. stepped-ends n line loop k middle ism d (record r { left = left }) fits)))
 
   left-quiet : (ks : Known) (end : End) (env : Environment) → EndsSo None ks end env → (IsQuiet base N means stops) (left_by end)

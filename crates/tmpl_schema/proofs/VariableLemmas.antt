@@ -1,5 +1,5 @@
 -- For the law `runs_safely`: the variables of a run have the shapes that are computed, and so have pipelines.
-use Rattle.std.proofs.Common.{arith, ◌≡◌, ◌∙◌, ◌+◌, ◌-◌, ◌≤◌, ◌<◌, ◌&&◌, ◌||◌, pos, nat_lt, ◌==◌, ◌++◌, inl, inr, not, option_to_list, unwrap_or, ℕ, zero, suc, Bool, true, false, List, [], ◌∷◌, Option, Some, None, Result, Ok, Err, length, drop, map, ap, refl, sym, subst, ok_or, if◌then◌else◌}
+use Rattle.std.proofs.Common.{arith, ◌≡◌, ◌∙◌, ◌+◌, ◌-◌, ◌≤◌, ◌<◌, ◌&&◌, ◌||◌, pos, nat_lt, ◌==◌, ◌++◌, ◌⊎◌, inl, inr, not, option_to_list, unwrap_or, ℕ, zero, suc, Bool, true, false, List, [], ◌∷◌, Option, Some, None, Result, Ok, Err, length, drop, map, ap, refl, sym, subst, ok_or, if◌then◌else◌}
 use Rattle.std.proofs.lemmas.List.{append-nil, drop-drop, length-drop}
 use Rattle.std.proofs.lemmas.Bool.{false≢true, and_parts, eqb-true, ltb-true, ltb-false}
 use Rattle.std.proofs.lemmas.Bool.Decides.{Decides-int_eq}
@@ -31,7 +31,7 @@ use Rattle.tmpl_shape.specs.Shape.{Fields, Shape, never, nothings, nulls, texts,
 use Rattle.tmpl_shape.specs.declared.kind.Kind.TheVariants.{Blank}
 use Rattle.tmpl_shape.specs.computed.Formats.{printf_shape}
 use Rattle.tmpl_shape.specs.computed.Means.{Means}
-use Rattle.tmpl_shape.specs.computed.Shapes.{Base, Test, has_least, is_among, is_apart, shows_there, least_of, lets_text, is_constant, within, both, any_field, fill, has_kind, join, keyed_shape, null_gone, refine, chain_shape, entry_shape, index_shape, index_shape_by}
+use Rattle.tmpl_shape.specs.computed.Shapes.{Base, Test, has_least, is_among, is_apart, least_of, lets_text, is_constant, within, both, any_field, fill, has_kind, join, keyed_shape, null_gone, refine, chain_shape, entry_shape, index_shape, index_shape_by}
 use Rattle.tmpl_shape.specs.computed.Shapes.{Key, of_name, of_text, of_place, item_shape, part_shape}
 use Rattle.tmpl_shape.specs.computed.Calls.{call_shape, shape_by_function}
 use Rattle.tmpl_schema.specs.computed.Check.{Fact, call_counts, call_fact, command_call, count_of, counts_in, first_fact, least_by, length_fact, mirrored, more_than, one_of}
@@ -40,7 +40,7 @@ use Rattle.tmpl_schema.specs.computed.Check.{are_texts, bounds_of, sliced_shape,
 use Rattle.tmpl_schema.specs.computed.Check as check
 use Rattle.tmpl_schema.specs.computed.Check.{Origin, narrow_from, narrow_root, origin_within, pipeline_origin, pipeline_place, place_of, place_origin, refine_all, refine_along, refine_from, rest_of, root_origin, variable_origin}
 use Rattle.tmpl_schema.proofs.OriginLemmas.{HasOrigin, IsAt, at-chain, at-gone, at-joined, at-rest, at-root, origin_within-has, origins-left, origins-right, rest_of-is}
-use Rattle.tmpl_schema.specs.computed.Check.{Known, State, variable_shape, assigned_shape, bound_shapes, refine_variable, all_within, join_all, join_origins, last_of, if_within}
+use Rattle.tmpl_schema.specs.computed.Check.{Known, State, variable_shape, assigned_shape, bound_shapes, refine_variable, all_within, is_split, join_all, join_origins, join_parts, join_to, last_of, if_within}
 use Rattle.tmpl_schema.specs.computed.Check.{after_both, entry_along, entry_by, operand_shape, indexed_shape, printed_shape, command_shape, pipeline_shape, narrow}
 use Rattle.tmpl_shape.proofs.KindLemmas.{has_kind-has}
 use Rattle.tmpl_shape.proofs.ShapeLemmas.{same_name, within-has, join-left, join-right, null_gone-has}
@@ -265,23 +265,71 @@ module _ (base : Base) (N : Names) (means : Means base.defs N) (top : Value) whe
       )
   joined-left _ _ c env e h = cc
 
-  joined-right : (a b c : Known) (env : Environment) → join_all base a b ≡ Some c → HasKnown b env → HasKnown c env
-  joined-right [] [] c env e h = let same : [] ≡ c = cc in subst (λ (y : Known). HasKnown y env) same h
-  joined-right (k ∷ ks) (l ∷ ls) c [] e h = absurd h
-  joined-right (k ∷ ks) (l ∷ ls) c (v ∷ env) e h =
-      let p = was_joined k l c (bytes_eq k.0 l.0) (join_all base ks ls) refl e in
+  -- what the variables after two parts begin with
+  abbrev parted : List ℕ × Shape × Origin → List ℕ × Shape × Origin → List ℕ × Shape × Origin → List ℕ × Shape × Origin
+  parted r k l = (k.0, join_to base r.1 k.1 l.1, join_origins k.2 l.2)
+
+  was_parted : (r k l : List ℕ × Shape × Origin) (c : Known) (b : Bool) (o : Option Known) → bytes_eq k.0 l.0 ≡ b
+      → (if b then option_map (λ js. parted r k l ∷ js) o else None) ≡ Some c
+      → (js : Known) × (bytes_eq k.0 l.0 ≡ true) × (o ≡ Some js) × ((parted r k l ∷ js) ≡ c)
+  was_parted r k l c true (Some js) is e = let same : (parted r k l ∷ js) ≡ c = cc in (js, is, refl, same)
+  was_parted r k l c true None is e = cc
+  was_parted r k l c false o is e = cc
+
+  part-has : (r s t : Shape) (v : Value) → HasShape N s v ⊎ HasShape N t v → HasShape N (join_to base r s t) v
+  part-has r s t v h = by (is_split base r s t) refl
+    where
+      among : (within base s r && within base t r) ≡ true → HasShape N r v
+      among e =
+          let p = and_parts (within base s r) (within base t r) e in
+          elim h [
+            | inl x ↦ (within-has base N means) s r v p.0 x
+            | inr x ↦ (within-has base N means) t r v p.1 x
+          ]
+
+      joined-has : HasShape N (join base s t) v
+      joined-has = elim h [
+        | inl x ↦ (join-left base N means) s t v x
+        | inr x ↦ (join-right base N means) s t v x
+      ]
+
+      by : (b : Bool) → is_split base r s t ≡ b → HasShape N (if b then r else join base s t) v
+      by true e = among (and_parts (not (within base s t || within base t s)) (within base s r && within base t r) e).1
+      by false e = joined-has
+
+  parted-left : (rs a b c : Known) (env : Environment) → join_parts base rs a b ≡ Some c → HasKnown a env → HasKnown c env
+  parted-left [] [] [] c env e h = let same : [] ≡ c = cc in subst (λ (y : Known). HasKnown y env) same h
+  parted-left (r ∷ rs) (k ∷ ks) (l ∷ ls) c [] e h = absurd h
+  parted-left (r ∷ rs) (k ∷ ks) (l ∷ ls) c (v ∷ env) e h =
+      let p = was_parted r k l c (bytes_eq k.0 l.0) (join_parts base rs ks ls) refl e in
+      subst (λ (y : Known). HasKnown y (v ∷ env)) p.3 (
+        h.0,
+        part-has r.1 k.1 l.1 v.1 (inl h.1),
+        parted-left rs ks ls p.0 env p.2 h.2,
+        origins-left top k.2 l.2 v.1 h.3,
+      )
+  parted-left _ _ _ c env e h = cc
+
+  parted-right : (rs a b c : Known) (env : Environment) → join_parts base rs a b ≡ Some c → HasKnown b env → HasKnown c env
+  parted-right [] [] [] c env e h = let same : [] ≡ c = cc in subst (λ (y : Known). HasKnown y env) same h
+  parted-right (r ∷ rs) (k ∷ ks) (l ∷ ls) c [] e h = absurd h
+  parted-right (r ∷ rs) (k ∷ ks) (l ∷ ls) c (v ∷ env) e h =
+      let p = was_parted r k l c (bytes_eq k.0 l.0) (join_parts base rs ks ls) refl e in
       subst (λ (y : Known). HasKnown y (v ∷ env)) p.3 (
         h.0 ∙ sym (same_name k.0 l.0 p.1),
-        (join-right base N means) k.1 l.1 v.1 h.1,
-        joined-right ks ls p.0 env p.2 h.2,
+        part-has r.1 k.1 l.1 v.1 (inr h.1),
+        parted-right rs ks ls p.0 env p.2 h.2,
         origins-right top k.2 l.2 v.1 h.3,
       )
-  joined-right _ _ c env e h = cc
+  parted-right _ _ _ c env e h = cc
 
   -- after two parts the variables that were there before are known
-  pub both-known : (n : ℕ) (a b c : Known) → after_both base n a b ≡ Some c
-      → ((env : Environment) → HasKnown (last_of n a) env → HasKnown c env) × ((env : Environment) → HasKnown (last_of n b) env → HasKnown c env)
-  both-known n a b c e = (λ env h. joined-left (last_of n a) (last_of n b) c env e h, λ env h. joined-right (last_of n a) (last_of n b) c env e h)
+  pub both-known : (rs a b c : Known) → after_both base rs a b ≡ Some c
+      → ((env : Environment) → HasKnown (last_of (length rs) a) env → HasKnown c env) × ((env : Environment) → HasKnown (last_of (length rs) b) env → HasKnown c env)
+  both-known rs a b c e = (
+    λ env h. parted-left rs (last_of (length rs) a) (last_of (length rs) b) c env e h,
+    λ env h. parted-right rs (last_of (length rs) a) (last_of (length rs) b) c env e h,
+  )
 
   -- ---- variables
 
@@ -738,20 +786,15 @@ module _ (base : Base) (N : Names) (means : Means base.defs N) (top : Value) whe
       by None g = tt
       by (Some q) g = place-has k d env q v h g
 
-  either-known : (b : Bool) (ks ls : Known) (env : Environment) → HasKnown ks env → HasKnown ls env → HasKnown (if b then ks else ls) env
-  either-known true ks ls env h g = h
-  either-known false ks ls env h g = g
-
   root-fits : (test : Test) (p : check.Place) (k : State) (d : Value) (env : Environment) → Fits k d env → Ends test p.path (root_value d env p.root)
       → Fits (narrow_root base test p k) d env
   root-fits test p k d env h e = by p.root e
     where
       by : (root : Option (List ℕ)) → Ends test p.path (root_value d env root)
-          → Fits (option_map_or (λ name. record k { env = if shows_there test then refine_variable base test name p.path k.env else k.env }) root
+          → Fits (option_map_or (λ name. record k { env = refine_variable base test name p.path k.env }) root
           (record k { dot = refine base test p.path k.dot })) d env
       by None e = ((refine-has base N means) test k.dot p.path d h.0 e, h.1, h.2)
-      by (Some name) e =
-          (h.0, either-known (shows_there test) (refine_variable base test name p.path k.env) k.env env (refine-known test name p.path k.env env h.1 e) h.1, h.2)
+      by (Some name) e = (h.0, refine-known test name p.path k.env env h.1 e, h.2)
 
   -- where a test shows what it does of the value of a place, what is known then holds
   placed-fits : (test : Test) (o : Option check.Place) (k : State) (d : Value) (env : Environment) (v : Value) → Fits k d env → IsPlaced d env o v → Shows test v
@@ -764,7 +807,7 @@ module _ (base : Base) (N : Names) (means : Means base.defs N) (top : Value) whe
       by (Some ns) g =
           let e = at-ends test ns top v g t in (
             along-has test ns e k.from k.dot d h.0 h.2,
-            either-known (shows_there test) (refine_all base test ns k.env) k.env env (all-along test ns e k.env env h.1) h.1,
+            all-along test ns e k.env env h.1,
             h.2,
           )
 

@@ -5,13 +5,14 @@ ghost use Rattle.std.specs.Prelude.{◌≡◌, IfOk, OnOk, Some, length, ◌∷�
 ghost use Rattle.std.specs.Option.{option_map};
 ghost use Rattle.tmpl_grammar.specs.View.{binding_of};
 ghost use Rattle.tmpl_shape.specs.View.{shape_of};
-ghost use Rattle.tmpl_schema.specs.computed.Check.{after_both, all_within, assigned_shape, bound_shapes, holds_loop, join_all};
+ghost use Rattle.tmpl_schema.specs.computed.Check.{after_both, after_parts, all_within, assigned_shape, bound_shapes, holds_loop, is_split, join_all, join_parts, join_to};
 ghost use Rattle.tmpl_schema.specs.computed.Check.{last_of, leave_with, refine_all, refine_from, refine_variable, variable_origin, variable_shape};
 ghost use Rattle.tmpl_shape.specs.computed.Shapes.{join};
 ghost use Rattle.tmpl_shape.specs.computed.View.{base_of, shape_seen, test_seen};
 ghost use Rattle.tmpl_schema.specs.computed.View.{is_longer, known_of, known_seen, origin_of};
 
 use crate::origin::{copy_origin, join_origins, origin_within, rest_of};
+use crate::way::Way;
 use std::alloc::{AllocError, Global};
 use std::rc::Rc;
 use tmpl_grammar::Binding;
@@ -360,6 +361,59 @@ pub(crate) fn join_all(base: &Base<'_>, known: &Known, others: &Known) -> Result
     }
 }
 
+/// Whether neither are among the other, but both among the third.
+fn is_split(base: &Base<'_>, before: &Rc<Shape>, one: &Rc<Shape>, other: &Rc<Shape>) -> bool
+    ensures { result ≡ is_split (base_of base.now) (shape_of before.now.value) (shape_of one.now.value)
+        (shape_of other.now.value) }
+{
+    !(within(base, one, other) || within(base, other, one))
+        && (within(base, one, before) && within(base, other, before))
+}
+
+/// The values of both; where they are parts of what was known before, that is taken, so that a test that tells two parts
+/// apart adds nothing.
+fn join_to(
+    base: &Base<'_>,
+    before: &Rc<Shape>,
+    one: &Rc<Shape>,
+    other: &Rc<Shape>,
+) -> Result<Rc<Shape>, AllocError>
+    ensures { IfOk result (λ s. shape_of s.value ≡ join_to (base_of base.now) (shape_of before.now.value)
+        (shape_of one.now.value) (shape_of other.now.value)) }
+{
+    if is_split(base, before, one, other) {
+        return Rc::clone(before);
+    }
+    join_shared(base, one, other)
+}
+
+/// The same variables, each with the values of both, by what was known of them before.
+fn join_parts(
+    base: &Base<'_>,
+    before: &Known,
+    known: &Known,
+    others: &Known,
+) -> Result<Known, Trouble>
+    ensures { IfOk result (λ ks. join_parts (base_of base.now) (known_of before.now) (known_of known.now)
+        (known_of others.now) ≡ Some (known_of ks)) }
+{
+    base.effort.spend(VARIABLE);
+    match (before, known, others) {
+        (Known::Empty, Known::Empty, Known::Empty) => Ok(Known::Empty),
+        (Known::More(was), Known::More(newest), Known::More(other)) => {
+            if newest.name.as_slice() != other.name.as_slice() {
+                return Err(Trouble::may_fail(base.alloc, Cause::Variables));
+            }
+            let shape = join_to(base, &was.shape, &newest.shape, &other.shape)?;
+            let origin = join_origins(base.alloc, &newest.origin, &other.origin)?;
+            let older = join_parts(base, &was.older, &newest.older, &other.older)?;
+            let name = newest.name.as_slice();
+            Ok(put_variable(base.alloc, name, shape, origin, older)?)
+        }
+        _ => Err(Trouble::may_fail(base.alloc, Cause::Variables)),
+    }
+}
+
 /// The variables that were there before, after two parts.
 pub(crate) fn after_both(
     base: &Base<'_>,
@@ -367,10 +421,28 @@ pub(crate) fn after_both(
     one: &Known,
     other: &Known,
 ) -> Result<Known, Trouble>
-    ensures { IfOk result (λ ks. after_both (base_of base.now) (length (known_of before.now)) (known_of one.now)
+    ensures { IfOk result (λ ks. after_both (base_of base.now) (known_of before.now) (known_of one.now)
         (known_of other.now) ≡ Some (known_of ks)) }
 {
-    join_all(base, oldest(one, before), oldest(other, before))
+    join_parts(base, before, oldest(one, before), oldest(other, before))
+}
+
+/// The variables that were there before, after two parts of which a run may come past these.
+pub(crate) fn after_parts(
+    base: &Base<'_>,
+    way: Way,
+    before: &Known,
+    one: &Known,
+    other: &Known,
+) -> Result<Known, Trouble>
+    ensures { IfOk result (λ ks. after_parts (base_of base.now) way (known_of before.now) (known_of one.now)
+        (known_of other.now) ≡ Some (known_of ks)) }
+{
+    match way {
+        Way::Both => after_both(base, before, one, other),
+        Way::Body => Ok(copy_known(oldest(one, before))?),
+        Way::Other => Ok(copy_known(oldest(other, before))?),
+    }
 }
 
 /// Whether a break or a continue leaves the variables of the range around within those at its head.

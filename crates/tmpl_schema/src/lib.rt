@@ -14,6 +14,7 @@ mod room;
 mod state;
 mod survey;
 mod table;
+mod way;
 
 pub use check::{Refusal, check_schema};
 pub use failure::Doubt;

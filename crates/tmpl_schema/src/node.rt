@@ -15,11 +15,13 @@ ghost use Rattle.tmpl_syntax.specs.View.{control_of, node_of, nodes_in};
 
 use crate::failure::{Failure, at_node};
 use crate::known::{
-    Known, after_both, all_within, bind, copy_known, holds_loop, join_all, leave_with, oldest,
+    Known, after_both, after_parts, all_within, bind, copy_known, holds_loop, join_all, leave_with,
+    oldest,
 };
 use crate::pipeline::pipeline_shape;
 use crate::state::{State, copy_state, narrow, pipeline_origin};
 use crate::table::{Call, Callee, Entry, find_callee};
+use crate::way::{dot_after, way_past};
 use std::alloc::{AllocError, Global};
 use std::rc::Rc;
 use tmpl_grammar::{Control, Header, Pipeline};
@@ -256,7 +258,8 @@ fn after_choice(
     let one = after_nodes(checker, head, inside, parts.body)?;
     let outside = in_other(&checker.base, parts.header, state, shape)?;
     let other = after_nodes(checker, head, outside, parts.other)?;
-    Ok(after_both(&checker.base, &state.known, &one, &other)?)
+    let way = way_past(checker, parts.body, parts.other);
+    Ok(after_parts(&checker.base, way, &state.known, &one, &other)?)
 }
 
 /// After a turn of a range.
@@ -436,7 +439,10 @@ pub(crate) fn after_nodes(
     let mut state = State { dot, origin, known };
     for node in nodes {
         match after_node(checker, head, &state, node) {
-            Ok(known) => state.known = known,
+            Ok(known) => {
+                state.dot = dot_after(checker, &state, node)?;
+                state.known = known;
+            }
             Err(trouble) => return Err(at_node(trouble, node)),
         }
     }

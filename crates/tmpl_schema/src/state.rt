@@ -22,7 +22,7 @@ use std::alloc::{AllocError, Global};
 use std::rc::Rc;
 use tmpl_funcs::Func;
 use tmpl_grammar::{Command, Operand};
-use tmpl_shape::{Base, Shape, Test, copy_counted, refine, shows_there};
+use tmpl_shape::{Base, Shape, Test, copy_counted, refine};
 use tmpl_values::Bytes;
 
 /// What is known of dot and of the variables.
@@ -108,8 +108,7 @@ pub(crate) fn pipeline_origin(
     }
 }
 
-/// Where a test shows what it does of the value of a place of no known provenance. What shows that a value is not something is
-/// kept of dot alone: of variables both parts of an `if` would be kept.
+/// Where a test shows what it does of the value of a place of no known provenance.
 fn narrow_root(
     base: &Base<'_>,
     test: Test<'_>,
@@ -130,11 +129,7 @@ fn narrow_root(
         }
         Some(name) => {
             let dot = Rc::clone(&state.dot)?;
-            let known = if shows_there(test) {
-                refine_variable(base, test, name, names, &state.known)?
-            } else {
-                copy_known(&state.known)?
-            };
+            let known = refine_variable(base, test, name, names, &state.known)?;
             Ok(State { dot, origin, known })
         }
     }
@@ -152,11 +147,7 @@ fn narrow_from(
 {
     let dot = refine_from(base, test, names, &state.origin, &state.dot)?;
     let origin = copy_origin(base.alloc, &state.origin)?;
-    let known = if shows_there(test) {
-        refine_all(base, test, names, &state.known)?
-    } else {
-        copy_known(&state.known)?
-    };
+    let known = refine_all(base, test, names, &state.known)?;
     Ok(State { dot, origin, known })
 }
 

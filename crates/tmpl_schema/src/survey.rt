@@ -5,13 +5,14 @@
 
 use crate::check::{Refusal, is_stop, mode_for};
 use crate::failure::{Doubt, Failure, Position};
-use crate::known::{Known, after_both, bind, copy_known};
+use crate::known::{Known, after_parts, bind, copy_known};
 use crate::loops::check_loop;
 use crate::node::{Checker, after_node, in_body, in_other, in_turn, settle_soon};
 use crate::pipeline::pipeline_shape;
 use crate::room::first_crowded;
 use crate::state::{State, at_start, copy_state};
 use crate::table::{Call, Callee, Entry};
+use crate::way::{Way, dot_after, way_past};
 use std::alloc::{AllocError, Global};
 use std::mem;
 use tmpl_meaning::MissingKey;
@@ -157,17 +158,18 @@ fn survey_nodes(
     let State { dot, origin, known } = state;
     let mut state = State { dot, origin, known };
     for node in nodes {
-        match after_node(checker, head, &state, node) {
-            Ok(known) => state.known = known,
+        let known = match after_node(checker, head, &state, node) {
+            Ok(known) => known,
             Err(failure) => {
                 if checker.is_spent() {
                     found.give_up(walk, &failure, Position::of(node))?;
                     break;
                 }
-                let known = survey_node(walk, head, &state, node, failure, found)?;
-                state.known = known;
+                survey_node(walk, head, &state, node, failure, found)?
             }
-        }
+        };
+        state.dot = dot_after(checker, &state, node)?;
+        state.known = known;
     }
     Ok(state.known)
 }
@@ -247,19 +249,25 @@ fn survey_choice(
     let one = survey_nodes(walk, head, inside, control.body.as_slice(), found)?;
     let outside = in_other(base, &control.header, state, shape)?;
     let other = survey_nodes(walk, head, outside, control.other.as_slice(), found)?;
-    survey_end(walk, state, &one, &other, position, found)
+    let way = way_past(
+        walk.checker,
+        control.body.as_slice(),
+        control.other.as_slice(),
+    );
+    survey_end(walk, way, state, &one, &other, position, found)
 }
 
-/// What is known after two parts.
+/// What is known after two parts of which a run may come past these.
 fn survey_end(
     walk: &Walk<'_>,
+    way: Way,
     state: &State,
     one: &Known,
     other: &Known,
     position: Position,
     found: &mut Found,
 ) -> Result<Known, AllocError> {
-    match after_both(&walk.checker.base, &state.known, one, other) {
+    match after_parts(&walk.checker.base, way, &state.known, one, other) {
         Ok(known) => Ok(known),
         Err(failure) => {
             found.add(walk, failure.into(), position)?;
@@ -317,7 +325,7 @@ fn survey_range(
     };
     let outside = copy_state(checker.base.alloc, state)?;
     let other = survey_nodes(walk, head, outside, control.other.as_slice(), found)?;
-    survey_end(walk, state, &known, &other, position, found)
+    survey_end(walk, Way::Both, state, &known, &other, position, found)
 }
 
 /// Whether a template is a copy loop over texts; of one that calls what is neither there nor a stop, that is reported.
@@ -584,8 +592,25 @@ fn unknown_doubt(alloc: Global, name: &[u8]) -> Result<Vec<Doubt>, AllocError> {
     Ok(doubts)
 }
 
-/// The search for what is handed to templates that are called: the table of them, and calls of those that are yet to be
-/// visited.
+/// The stops that are not there, as entries of a table.
+fn absent_stops(base: &Base<'_>, question: &Question<'_>) -> Result<Vec<Entry>, AllocError> {
+    let mut table = Vec::new(base.alloc);
+    for name in question.stops {
+        if question.set.get(name.as_slice()).is_none() {
+            add_entry(
+                base,
+                question.set,
+                &mut table,
+                name.as_slice(),
+                &Shape::Never,
+            )?;
+        }
+    }
+    Ok(table)
+}
+
+/// The search for what is handed to templates that are called: the table of them, which begins with the stops, and calls of
+/// those that are yet to be visited.
 #[derive(Drop)]
 pub(crate) struct Search {
     pub(crate) table: Vec<Entry>,
@@ -602,7 +627,7 @@ impl Search {
         let mut waiting: Vec<Call> = Vec::new(base.alloc);
         waiting.push(Call { name, shape })?;
         Ok(Search {
-            table: Vec::new(base.alloc),
+            table: absent_stops(base, question)?,
             waiting,
             given_up: Vec::new(base.alloc),
         })
@@ -648,11 +673,12 @@ impl Search {
         base: &Base<'_>,
         question: &Question<'_>,
     ) -> Result<bool, AllocError> {
-        // by no table each call is one for which the table has less than it passes
+        // by a table of stops alone each other call is one for which the table has less than it passes
+        let stops = absent_stops(base, question)?;
         let checker = Checker {
             base: *base,
             mode: mode_for(question.asked),
-            table: &[],
+            table: stops.as_slice(),
         };
         for visits in 0..MOST_VISITS {
             let Some(call) = self.waiting.pop() else {

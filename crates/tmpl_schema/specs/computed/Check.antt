@@ -1,5 +1,5 @@
 -- The check of a template against a shape, as a function that visits the tree.
-use Rattle.std.specs.Prelude.{ℕ, zero, suc, pos, ◌+◌, ◌-◌, ◌==◌, nat_le, Bool, true, false, not, ◌&&◌, List, [], ◌∷◌, ◌++◌, length, drop}
+use Rattle.std.specs.Prelude.{ℕ, zero, suc, pos, ◌+◌, ◌-◌, ◌==◌, nat_le, Bool, true, false, not, ◌&&◌, ◌||◌, List, [], ◌∷◌, ◌++◌, length, drop}
 use Rattle.std.specs.Prelude.{Option, Some, None, option_to_list, unwrap_or, if◌then◌else◌}
 use Rattle.std.specs.Option.{option_map, option_map_or, option_and_then}
 use Rattle.std.specs.Str.{bytes_eq}
@@ -17,10 +17,12 @@ use Rattle.tmpl_funcs.specs.declared.func.Func.{Func}
 use Rattle.tmpl_funcs.specs.declared.func.Func.TheVariants.{And, Or, Not, Len, Index, Eq, Ne, Lt, Le, Gt, Ge}
 use Rattle.tmpl_meaning.specs.Pipeline.{operand_count}
 use Rattle.tmpl_shape.specs.declared.kind.Kind.TheVariants.{Blank}
-use Rattle.tmpl_shape.specs.computed.Shapes.{Base, Test, has_least, is_among, is_apart, shows_there, has_kind, within, join, both, fill, null_gone, refine, chain_shape}
+use Rattle.tmpl_shape.specs.computed.Shapes.{Base, Test, has_least, is_among, is_apart, has_kind, within, join, both, fill, null_gone, refine, chain_shape}
 use Rattle.tmpl_shape.specs.computed.Shapes.{Key, of_name, of_text, of_place, index_shape, part_shape, Visit, visit_of}
 use Rattle.tmpl_shape.specs.computed.Calls.{call_shape, shape_by_function}
 use Rattle.tmpl_shape.specs.computed.Formats.{printf_shape}
+use Rattle.tmpl_schema.specs.declared.way.Way.{Way}
+use Rattle.tmpl_schema.specs.declared.way.Way.TheVariants.{Both, Body, Other}
 
 -- the chain of fields from the data of the template at which a value is, but for nothing and null, where that is known
 abbrev pub Origin : Type 0
@@ -330,6 +332,26 @@ Checked = State → Option Known
 abbrev pub at_start : Shape → State
 at_start s = record { dot = s; from = Some []; env = ([], s, Some []) ∷ [] }
 
+-- a run never comes past the node
+abbrev pub is_absent : Option Callee → Bool
+is_absent (Some absent) = true
+is_absent c = false
+
+abbrev pub is_leaving : Table → NodeKind → Bool
+is_leaving table break_node = true
+is_leaving table continue_node = true
+is_leaving table (template_node name given) = is_absent (table name)
+is_leaving table n = false
+
+-- .. past all of them
+abbrev pub some_leaving : Table → Nodes → Bool
+some_leaving table tree.none = false
+some_leaving table (tree.then line n ns) = is_leaving table n || some_leaving table ns
+
+-- which of the two parts of an `if` or a `with` a run may come past
+abbrev pub way_past : Table → Nodes → Nodes → Way
+way_past table body other = if some_leaving table body then Other else if some_leaving table other then Body else Both
+
 -- where a turn of a range begins
 abbrev pub in_turn : Header → Visit → Known → State
 in_turn h v ks = record { dot = v.element; from = None; env = bound_shapes h.binding v.key v.element None ks }
@@ -374,14 +396,14 @@ module _ (base : Base) where
   -- ---- pipelines
 
   -- what is known where a test shows what it does of the value of a place of which no provenance is known, or else of what has
-  -- this one. What shows that a value is not something is kept of dot alone: of variables both parts of an `if` would be kept
+  -- this one
   abbrev pub narrow_root : Test → Place → State → State
-  narrow_root test p k = option_map_or (λ name. record k { env = if shows_there test then refine_variable test name p.path k.env else k.env })
+  narrow_root test p k = option_map_or (λ name. record k { env = refine_variable test name p.path k.env })
       p.root (record k { dot = refine base test p.path k.dot })
 
   abbrev pub narrow_from : Test → List (List ℕ) → State → State
   narrow_from test ns k =
-      record k { dot = refine_from test ns k.from k.dot; env = if shows_there test then refine_all test ns k.env else k.env }
+      record k { dot = refine_from test ns k.from k.dot; env = refine_all test ns k.env }
 
   abbrev pub narrow_at : Test → Place → State → State
   narrow_at test p k = option_map_or (λ ns. narrow_from test ns k) (place_origin k p) (narrow_root test p k)
@@ -538,9 +560,23 @@ module _ (base : Base) where
   abbrev pub if_within : Known → Known → Option Known
   if_within ks ls = if all_within ks ls then Some ls else None
 
+  -- the values of both; where neither are among the other, but both among the third, those of the third
+  abbrev pub is_split : Shape → Shape → Shape → Bool
+  is_split r s t = not (within base s t || within base t s) && (within base s r && within base t r)
+
+  abbrev pub join_to : Shape → Shape → Shape → Shape
+  join_to r s t = if is_split r s t then r else join base s t
+
+  -- the same variables, each with the values of both, by what was known of them before
+  abbrev pub join_parts : Known → Known → Known → Option Known
+  join_parts [] [] [] = Some []
+  join_parts (r ∷ rs) (k ∷ ks) (l ∷ ls) = if bytes_eq k.0 l.0 then
+      option_map (λ js. (k.0, join_to r.1 k.1 l.1, join_origins k.2 l.2) ∷ js) (join_parts rs ks ls) else None
+  join_parts rs ks ls = None
+
   -- the variables that were there before, after two parts
-  abbrev pub after_both : ℕ → Known → Known → Option Known
-  after_both n ks ls = join_all (last_of n ks) (last_of n ls)
+  abbrev pub after_both : Known → Known → Known → Option Known
+  after_both rs ks ls = join_parts rs (last_of (length rs) ks) (last_of (length rs) ls)
 
   -- the variables at the head of a range, if a turn keeps these; else those that are found from what a turn adds
   abbrev pub settle_step : (Known → Option Known) → (Known → Option Known) → Known → Option Known
@@ -571,19 +607,37 @@ module _ (base : Base) where
   in_other h k s =
       let u = narrow false h.pipeline k in record u { env = bound_shapes h.binding nothings s (pipeline_origin k h.pipeline) u.env }
 
-  abbrev pub after_choice : Control → Header → State → Checked → Checked → Shape → Option Known
-  after_choice c h k body other s =
-      option_and_then (λ a. option_and_then (after_both (length k.env) a) (other (in_other h k s))) (body (in_body c h k s))
+  -- .. of which a run may come past these
+  abbrev pub after_parts : Way → Known → Known → Known → Option Known
+  after_parts Both rs ks ls = after_both rs ks ls
+  after_parts Body rs ks ls = Some (last_of (length rs) ks)
+  after_parts Other rs ks ls = Some (last_of (length rs) ls)
+
+  abbrev pub after_choice : Way → Control → Header → State → Checked → Checked → Shape → Option Known
+  after_choice w c h k body other s =
+      option_and_then (λ a. option_and_then (after_parts w k.env a) (other (in_other h k s))) (body (in_body c h k s))
+
+  -- what is known of dot after them
+  abbrev pub dot_by : Way → Pipeline → State → Shape
+  dot_by Both p k = k.dot
+  dot_by Body p k = (narrow true p k).dot
+  dot_by Other p k = (narrow false p k).dot
+
+  -- .. after a node
+  abbrev pub dot_after : Table → State → NodeKind → Shape
+  dot_after table k (control_node control.Range h body other) = k.dot
+  dot_after table k (control_node c h body other) = dot_by (way_past table body other) h.pipeline k
+  dot_after table k n = k.dot
 
   abbrev pub after_range : Header → State → (Option Known → Checked) → Checked → Visit → Option Known
   after_range h k body other v =
-      option_and_then (λ head. option_and_then (after_both (length k.env) head) (other k)) (settle_soon (turn_known h v body) k.env)
+      option_and_then (λ head. option_and_then (after_both k.env head) (other k)) (settle_soon (turn_known h v body) k.env)
 
   abbrev pub after_control :
-      Control → Option Known → Header → State → (Option Known → Checked) → Checked → Shape → Option Known
-  after_control control.Range loop h k body other s =
+      Way → Control → Option Known → Header → State → (Option Known → Checked) → Checked → Shape → Option Known
+  after_control w control.Range loop h k body other s =
       option_and_then (after_range h k body other) (visit_of base h.binding s)
-  after_control c loop h k body other s = after_choice c h k (body loop) other s
+  after_control w c loop h k body other s = after_choice w c h k (body loop) other s
 
   -- where a template that is known is handed a value of the shape
   abbrev pub after_call : Callee → Known → Option Shape → Option Known
@@ -598,7 +652,7 @@ module _ (base : Base) where
         option_map (λ s. bound_shapes h.binding nothings s (pipeline_origin k h.pipeline) k.env) (pipeline_shape m k h.pipeline)
     after_node m table loop k (control_node c h body other) =
         if holds_loop loop k.env then option_and_then
-        (after_control c loop h k (λ l u. after_nodes m table l u body) (λ u. after_nodes m table loop u other))
+        (after_control (way_past table body other) c loop h k (λ l u. after_nodes m table l u body) (λ u. after_nodes m table loop u other))
         (pipeline_shape m k h.pipeline) else None
     after_node m table loop k break_node = leave_with k.env loop
     after_node m table loop k continue_node = leave_with k.env loop
@@ -608,7 +662,7 @@ module _ (base : Base) where
     pub after_nodes : MissingKey → Table → Option Known → State → Nodes → Option Known
     after_nodes m table loop k tree.none = Some k.env
     after_nodes m table loop k (tree.then line n ns) =
-        option_and_then (λ ks. after_nodes m table loop (record k { env = ks }) ns) (after_node m table loop k n)
+        option_and_then (λ ks. after_nodes m table loop (record k { dot = dot_after table k n; env = ks }) ns) (after_node m table loop k n)
 
   -- the nodes of a template are accepted for values of the shape
   abbrev pub is_safe : MissingKey → Table → Shape → Nodes → Bool

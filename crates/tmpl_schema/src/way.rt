@@ -1,0 +1,124 @@
+//! Which part of a control a run may come past.
+#![tactic(auto)]
+
+ghost use Rattle.std.specs.Prelude.{◌≡◌, IfOk};
+ghost use Rattle.tmpl_grammar.specs.View.{commands_in};
+ghost use Rattle.tmpl_shape.specs.View.{shape_of};
+ghost use Rattle.tmpl_shape.specs.computed.View.{base_of};
+ghost use Rattle.tmpl_schema.specs.computed.Check.{dot_after, dot_by, is_absent, is_leaving, some_leaving, way_past};
+ghost use Rattle.tmpl_schema.specs.computed.View.{state_of, table_of};
+ghost use Rattle.tmpl_syntax.specs.View.{node_of, nodes_in};
+
+use crate::node::Checker;
+use crate::state::{State, narrow};
+use crate::table::{Callee, find_callee};
+use std::alloc::AllocError;
+use std::rc::Rc;
+use tmpl_grammar::{Command, Control};
+use tmpl_shape::{Base, Shape};
+use tmpl_syntax::{Node, NodeKind};
+
+/// Which of the two parts of an `if` or a `with` a run may come past.
+#[derive(Clone, Copy)]
+pub(crate) enum Way {
+    Both,
+    Body,
+    Other,
+}
+
+/// Whether a template is known not to be there, so that its call ends the run.
+fn is_absent(checker: &Checker<'_>, name: &[u8]) -> bool
+    ensures { result ≡ is_absent (table_of checker.now.table.now name.now) }
+{
+    checker.base.effort.spend(checker.table.len() as u64 / 8);
+    match find_callee(checker.table, name) {
+        Some(Callee::Absent) => true,
+        Some(Callee::Handed(_)) => false,
+        None => false,
+    }
+}
+
+/// Whether a run never comes past the node: it leaves the range, or ends there.
+fn is_leaving(checker: &Checker<'_>, node: &Node) -> bool
+    ensures { result ≡ is_leaving (table_of checker.now.table.now) (node_of node.now).what }
+{
+    match &node.what {
+        NodeKind::Break => true,
+        NodeKind::Continue => true,
+        NodeKind::Template(name, _) => is_absent(checker, name.as_slice()),
+        NodeKind::Text(_) => false,
+        NodeKind::Action(_) => false,
+        NodeKind::Control(_) => false,
+    }
+}
+
+/// Whether a run never comes past all of the nodes.
+fn some_leaving(checker: &Checker<'_>, nodes: &[Node]) -> bool
+    ensures { result ≡ some_leaving (table_of checker.now.table.now) (nodes_in nodes.now) }
+{
+    for node in nodes {
+        if is_leaving(checker, node) {
+            return true;
+        }
+    }
+    false
+}
+
+/// Which of these parts a run may come past.
+pub(crate) fn way_past(checker: &Checker<'_>, body: &[Node], other: &[Node]) -> Way
+    ensures { result ≡ way_past (table_of checker.now.table.now) (nodes_in body.now) (nodes_in other.now) }
+{
+    if some_leaving(checker, body) {
+        return Way::Other;
+    }
+    if some_leaving(checker, other) {
+        return Way::Body;
+    }
+    Way::Both
+}
+
+/// What is known of dot after an `if` or a `with` of which a run may come past these parts.
+fn dot_by(
+    base: &Base<'_>,
+    way: Way,
+    commands: &[Command],
+    state: &State,
+) -> Result<Rc<Shape>, AllocError>
+    ensures { IfOk result (λ dot. shape_of dot.value
+        ≡ dot_by (base_of base.now) way (commands_in commands.now) (state_of state.now)) }
+{
+    match way {
+        Way::Both => Rc::clone(&state.dot),
+        Way::Body => {
+            let State { dot, .. } = narrow(base, true, commands, state)?;
+            Ok(dot)
+        }
+        Way::Other => {
+            let State { dot, .. } = narrow(base, false, commands, state)?;
+            Ok(dot)
+        }
+    }
+}
+
+/// What is known of dot after a node.
+pub(crate) fn dot_after(
+    checker: &Checker<'_>,
+    state: &State,
+    node: &Node,
+) -> Result<Rc<Shape>, AllocError>
+    ensures { IfOk result (λ dot. shape_of dot.value
+        ≡ dot_after (base_of checker.now.base) (table_of checker.now.table.now) (state_of state.now) (node_of node.now).what) }
+{
+    match &node.what {
+        NodeKind::Control(control) => match control.control {
+            Control::Range => Rc::clone(&state.dot),
+            Control::If | Control::With => {
+                let way = way_past(checker, control.body.as_slice(), control.other.as_slice());
+                let commands = control.header.pipeline.commands.as_slice();
+                dot_by(&checker.base, way, commands, state)
+            }
+        },
+        NodeKind::Text(_) | NodeKind::Action(_) | NodeKind::Break => Rc::clone(&state.dot),
+        NodeKind::Continue | NodeKind::Template(_, _) => Rc::clone(&state.dot),
+    }
+}
