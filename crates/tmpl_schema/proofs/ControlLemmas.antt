@@ -1,5 +1,5 @@
 -- For code on controls: what is known after one, by what is known after its parts.
-use Rattle.std.proofs.Common.{rules, ◌≡◌, true, Option, Some, length, refl}
+use Rattle.std.proofs.Common.{rules, ◌≡◌, true, Option, Some, refl}
 use Rattle.tmpl_grammar.specs.Tree.{Header}
 use Rattle.tmpl_grammar.specs.declared.tree.Control.{Control}
 use Rattle.tmpl_grammar.specs.View.{header_of}

@@ -27,7 +27,8 @@ pub no-call : (c : Bool) (f : Func) → (f ≡ func.Len → ⊥) → call_fact c
 no-call c func.Len h = absurd (h refl)
 no-call c _ h = refl
 
-pub other-call : (c : Bool) (f : Func) (o : Operand) (os : Operands) → (f ≡ func.Len → ⊥) → call_fact c f (operand o os) ≡ compare_fact c f o os
+pub other-call : (c : Bool) (f : Func) (o : Operand) (os : Operands) → (f ≡ func.Len → ⊥)
+    → call_fact c f (operand o os) ≡ compare_fact c f o os
 other-call c func.Len o os h = absurd (h refl)
 other-call c _ o os h = refl
 

@@ -5,6 +5,7 @@ use Rattle.std.proofs.lemmas.Bool.{false≢true, and_parts, eqb-true, ltb-true, 
 use Rattle.std.proofs.lemmas.Bool.Decides.{Decides-int_eq}
 use Rattle.std.specs.Ordering.{int_eq}
 use Rattle.std.proofs.lemmas.Option.{cond_some}
+use Rattle.std.proofs.lemmas.Slice.Eq.{bytes_eq-Decides}
 use Rattle.std.specs.Option.{option_map, option_map_or, option_and_then}
 use Rattle.std.specs.List.{find}
 use Rattle.std.specs.Str.{bytes_eq}
@@ -35,7 +36,7 @@ use Rattle.tmpl_shape.specs.computed.Shapes.{Base, Test, has_least, is_among, is
 use Rattle.tmpl_shape.specs.computed.Shapes.{Key, of_name, of_text, of_place, item_shape, part_shape}
 use Rattle.tmpl_shape.specs.computed.Calls.{call_shape, shape_by_function}
 use Rattle.tmpl_schema.specs.computed.Check.{Fact, call_counts, call_fact, command_call, count_of, counts_in, first_fact, least_by, length_fact, mirrored, more_than, one_of}
-use Rattle.tmpl_schema.specs.computed.Check.{operand_counts, are_constants, is_nil_alone, equal_test, constant_test, pair_fact, compare_fact, piped_fact, tells, narrow_all, narrow_as, narrow_by, narrow_command, narrow_operand, narrow_to}
+use Rattle.tmpl_schema.specs.computed.Check.{operand_counts, are_constants, is_nil_alone, equal_test, constant_test, pair_fact, compare_fact, turned_fact, piped_fact, tells, narrow_all, narrow_as, narrow_by, narrow_command, narrow_operand, narrow_to}
 use Rattle.tmpl_schema.specs.computed.Check.{are_texts, bounds_of, sliced_shape, call_place, chain_place, index_place, texts_in, deciding_shape, passing_shape, passed, operand_shapes, junction_shape, commands_shape}
 use Rattle.tmpl_schema.specs.computed.Check as check
 use Rattle.tmpl_schema.specs.computed.Check.{Origin, narrow_from, narrow_root, origin_within, pipeline_origin, pipeline_place, place_of, place_origin, refine_all, refine_along, refine_from, rest_of, root_origin, variable_origin}
@@ -76,6 +77,25 @@ full-number (suc i) t = omega arith
 
 abbrev compare_told : Func → Option Bool → Result Value Cause
 compare_told f o = result_map_both (λ v. v) (call_failed f) (comparison_answer o)
+
+-- a string equals what equals it
+bytes-turned : (s t : List ℕ) → bytes_eq s t ≡ bytes_eq t s
+bytes-turned s t = by (bytes_eq s t) refl (bytes_eq t s) refl
+  where
+    by : (a : Bool) → bytes_eq s t ≡ a → (b : Bool) → bytes_eq t s ≡ b → a ≡ b
+    by true p true q = refl
+    by true p false q = sym ((bytes_eq-Decides t s).1 (sym ((bytes_eq-Decides s t).0 p))) ∙ q
+    by false p true q = sym p ∙ (bytes_eq-Decides s t).1 (sym ((bytes_eq-Decides t s).0 q))
+    by false p false q = refl
+
+equality-turned : (s : List ℕ) (w : Value) → equality (string s) w ≡ equality w (string s)
+equality-turned s nothing = refl
+equality-turned s null = refl
+equality-turned s (boolean b) = refl
+equality-turned s (number n) = refl
+equality-turned s (string t) = ap Some (bytes-turned s t)
+equality-turned s (sequence vs) = refl
+equality-turned s (mapping es) = refl
 
 told-truth : (f : Func) (o : Option Bool) (v : Value) (b : Bool) → compare_told f o ≡ Ok v → truth v ≡ b → o ≡ Some b
 told-truth f None v b e t = cc
@@ -1158,11 +1178,41 @@ module _ (base : Base) (N : Names) (means : Means base.defs N) (top : Value) whe
     pairs-fit c f o (operand _ (operand _ _)) k v h e t = h
     pairs-fit c f o no_operand k v h e t = h
 
+    turned-told : (c : Bool) (f : Func) (s : List ℕ) (w v : Value) (test : Test) → compared f (string s) w ≡ Ok v
+        → constant_test c f (operand (text_constant s) no_operand) ≡ Some test → compared f w (string s) ≡ Ok v
+    turned-told c func.Eq s w v test e is = rw (← equality-turned s w) e
+    turned-told c func.Ne s w v test e is = rw (← equality-turned s w) e
+    turned-told c _ s w v test e is = cc
+
+    turned_fact-fits : (c : Bool) (f : Func) (o : Operand) (os : Operands) (k : State) (v : Value) → Fits k d env → call_value f (operand o os) ≡ Ok v → truth v ≡ c
+        → Fits (narrow_as base (turned_fact c f o os) k) d env
+    turned_fact-fits c f (text_constant s) (operand p no_operand) k v h e t = by (constant_test c f (operand (text_constant s) no_operand)) refl
+      where
+        by : (r : Option Test) → constant_test c f (operand (text_constant s) no_operand) ≡ r
+            → Fits (narrow_as base (option_map (λ test. record { test = test; about = p }) r) k) d env
+        by None is = h
+        by (Some test) is =
+            let x = operand_value (place m d env) (text_constant s) in
+            let y = operand_value (place m d env) p in
+            let g = two-ok f x.result y.result x.made_text y.made_text (operand_values (place m d env) (operand p no_operand)).made_text
+            (operand_values (place m d env) (operand (text_constant s) (operand p no_operand))).made_text v e in
+            let same : string s ≡ g.0 = cc in
+            let told : compared f (string s) g.1 ≡ Ok v = subst (λ (u : Value). compared f u g.1 ≡ Ok v) (sym same) g.4 in
+            held-fits p test k h
+            (g.1, g.3, constant_test-shown c f (operand (text_constant s) no_operand) g.1 (string s ∷ []) v test refl (turned-told c f s g.1 v test told is) t is)
+    turned_fact-fits c f (text_constant s) (operand p (operand q os)) k v h e t = h
+    turned_fact-fits c f (text_constant s) no_operand k v h e t = h
+    turned_fact-fits c f o (operand p no_operand) k v h e t = h
+    turned_fact-fits c f o (operand p (operand q os)) k v h e t = h
+    turned_fact-fits c f o no_operand k v h e t = h
+
     compare_fact-fits : (c : Bool) (f : Func) (o : Operand) (os : Operands) (k : State) (v : Value) → Fits k d env → call_value f (operand o os) ≡ Ok v → truth v ≡ c
         → Fits (narrow_as base (compare_fact c f o os) k) d env
     compare_fact-fits c f o os k v h e t =
-        first_fact-fits (option_and_then (pair_fact c f o) (one_of os)) (option_map (λ test. record { test = test; about = o }) (constant_test c f os)) k
-        (pairs-fit c f o os k v h e t) (by (constant_test c f os) refl)
+        let pairs = option_and_then (pair_fact c f o) (one_of os) in
+        let constants : Option Fact = option_map (λ test. record { test = test; about = o }) (constant_test c f os) in
+        first_fact-fits (turned_fact c f o os) (first_fact pairs constants) k (turned_fact-fits c f o os k v h e t)
+        (first_fact-fits pairs constants k (pairs-fit c f o os k v h e t) (by (constant_test c f os) refl))
       where
         by : (r : Option Test) → constant_test c f os ≡ r → Fits (narrow_as base (option_map (λ test. record { test = test; about = o }) r) k) d env
         by None is = h

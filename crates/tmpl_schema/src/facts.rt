@@ -5,10 +5,11 @@ ghost use Rattle.std.specs.Prelude.{◌≡◌, ◌^◌, ◌<◌, IfSome, false, 
 ghost use Rattle.std.specs.Option.{option_map};
 ghost use Rattle.tmpl_grammar.specs.View.{commands_in, operand_of, operands_in};
 ghost use Rattle.tmpl_schema.specs.computed.Check.{are_constants, are_texts, bounds_of, call_fact, call_place, chain_place, command_call, compare_fact, constant_test, count_of, counts_in, equal_test, first_fact, group_counts, group_place, head_of, index_place, is_nil_alone, key_of};
-ghost use Rattle.tmpl_schema.specs.computed.Check.{head_place, least_by, length_fact, mirrored, more_than, one_of, operand_counts, pair_fact, piped_fact, pipeline_call, pipeline_place, place_of, tells, text_of, texts_in};
+ghost use Rattle.tmpl_schema.specs.computed.Check.{head_place, least_by, length_fact, mirrored, more_than, one_of, operand_counts, pair_fact, piped_fact, pipeline_call, pipeline_place, place_of, tells, text_of, texts_in, turned_by, turned_fact};
 ghost use Rattle.tmpl_schema.specs.computed.View.{call_seen, fact_seen, head_seen, place_seen};
 ghost use Rattle.tmpl_shape.specs.computed.View.{key_seen, shape_seen, test_seen};
 
+use std::slice::from_ref;
 use tmpl_funcs::Func;
 use tmpl_grammar::{Command, Operand};
 use tmpl_shape::{Key, Shape, Test};
@@ -434,6 +435,40 @@ fn pair_fact<'p>(
     first_fact(by_first, by_second)
 }
 
+/// By a comparison of a string that is written out with an operand.
+fn turned_by<'p>(
+    truth: bool,
+    func: Func,
+    constant: &'p Operand,
+    about: &'p Operand,
+) -> Option<Fact<'p>>
+    ensures { option_map fact_seen result
+        ≡ turned_by truth func (operand_of constant.now) (operand_of about.now) }
+{
+    match constant {
+        Operand::Text(_) => match constant_test(truth, func, from_ref(constant)) {
+            Some(test) => Some(Fact { test, about }),
+            None => None,
+        },
+        Operand::Function(_) | Operand::Nil | Operand::Dot | Operand::Fields(_) => None,
+        Operand::Variable { .. } | Operand::Bool(_) | Operand::Number(_) => None,
+        Operand::Group { .. } => None,
+    }
+}
+
+/// The same of the operand with the string, where it is the only other one.
+fn turned_fact<'p>(
+    truth: bool,
+    func: Func,
+    constant: &'p Operand,
+    others: &'p [Operand],
+) -> Option<Fact<'p>>
+    ensures { option_map fact_seen result
+        ≡ turned_fact truth func (operand_of constant.now) (operands_in others.now) }
+{
+    turned_by(truth, func, constant, one_of(others)?)
+}
+
 /// By a comparison of an operand with these.
 fn compare_fact<'p>(
     truth: bool,
@@ -452,7 +487,8 @@ fn compare_fact<'p>(
         Some(test) => Some(Fact { test, about }),
         None => None,
     };
-    first_fact(by_length, by_constants)
+    let by_string = turned_fact(truth, func, about, others);
+    first_fact(by_string, first_fact(by_length, by_constants))
 }
 
 /// By a call that gives what is not empty, or else what is.

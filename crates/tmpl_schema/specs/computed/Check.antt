@@ -240,10 +240,18 @@ first_fact None more = more
 abbrev pub pair_fact : Bool → Func → Operand → Operand → Option Fact
 pair_fact c f o p = first_fact (length_fact c f (operand_counts o) (count_of p)) (length_fact c (mirrored f) (operand_counts p) (count_of o))
 
+-- by a comparison of a string that is written out with an operand, which is the same as that of the operand with it
+abbrev pub turned_by : Bool → Func → Operand → Operand → Option Fact
+turned_by c f (text_constant t) p = option_map (λ test. record { test = test; about = p }) (constant_test c f (operand (text_constant t) no_operand))
+turned_by c f o p = None
+
+abbrev pub turned_fact : Bool → Func → Operand → Operands → Option Fact
+turned_fact c f o os = option_and_then (turned_by c f o) (one_of os)
+
 -- by a comparison of an operand with these
 abbrev pub compare_fact : Bool → Func → Operand → Operands → Option Fact
-compare_fact c f o os = first_fact (option_and_then (pair_fact c f o) (one_of os))
-    (option_map (λ test. record { test = test; about = o }) (constant_test c f os))
+compare_fact c f o os = first_fact (turned_fact c f o os) (first_fact (option_and_then (pair_fact c f o) (one_of os))
+    (option_map (λ test. record { test = test; about = o }) (constant_test c f os)))
 
 -- by a call that gives what is not empty, or else what is
 abbrev pub call_fact : Bool → Func → Operands → Option Fact
