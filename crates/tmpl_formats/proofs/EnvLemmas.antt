@@ -150,24 +150,22 @@ Goes c text = Left IsLine (LeftAt c) text
 -- ---- one byte more
 
 line_ends : (c : Control) (b : ℕ) (text : List ℕ) → sign_of b ≡ sign.Newline → LeftAt c [] → Goes at.Start text → Goes c (b ∷ text)
-line_ends c b text e p rest =
-    let P : ℕ → Type 0 = λ n. Goes c (n ∷ text) in
-    subst P (sym (newlines b (ap newline_sign e))) (left-newline text p rest)
+line_ends c b text e p rest = rw (newlines b (ap newline_sign e)) (left-newline text p rest)
 
 name_more : (b : ℕ) (text : List ℕ) → is_name_byte b ≡ true → NameLeft text → NameLeft (b ∷ text)
 name_more b _ e (name_left name value n v) = name_left (b ∷ name) value (passes-cons is_name_byte b name e n) v
 
 name_ends : (b : ℕ) (text : List ℕ) → b ≡ 61 → IsValue text → NameLeft (b ∷ text)
-name_ends b text e v = let P : ℕ → Type 0 = λ n. NameLeft (n ∷ text) in subst P (sym e) (name_left [] text refl v)
+name_ends b text e v = rw e (name_left [] text refl v)
 
 name_starts_line : (b : ℕ) (text : List ℕ) → is_name_start b ≡ true → NameLeft text → IsLine (b ∷ text)
 name_starts_line b _ e (name_left name value n v) = assignment name value e n v
 
 comment_line : (b : ℕ) (text : List ℕ) → b ≡ 35 → list_all is_comment text ≡ true → IsLine (b ∷ text)
-comment_line b text e p = let P : ℕ → Type 0 = λ n. IsLine (n ∷ text) in subst P (sym e) (comment p)
+comment_line b text e p = rw e (comment p)
 
 single_value : (b : ℕ) (text : List ℕ) → b ≡ 39 → SingleLeft text → IsValue (b ∷ text)
-single_value b _ e (single_left bs p) = let P : ℕ → Type 0 = λ n. IsValue (n ∷ bs ++ codes "'") in subst P (sym e) (single bs p)
+single_value b _ e (single_left bs p) = rw e (single bs p)
 
 single_more : (b : ℕ) (text : List ℕ) → is_single b ≡ true → SingleLeft text → SingleLeft (b ∷ text)
 single_more b _ e (single_left bs p) = single_left (b ∷ bs) (passes-cons is_single b bs e p)
@@ -179,7 +177,7 @@ single_ends b text e p =
     subst P (sym e) (subst Q (sym p) (single_left [] refl))
 
 double_value : (b : ℕ) (text : List ℕ) → b ≡ 34 → DoubleLeft text → IsValue (b ∷ text)
-double_value b _ e (double_left bs p) = let P : ℕ → Type 0 = λ n. IsValue (n ∷ bs ++ codes "\"") in subst P (sym e) (double bs p)
+double_value b _ e (double_left bs p) = rw e (double bs p)
 
 double_more : (b : ℕ) (text : List ℕ) → is_double b ≡ true → DoubleLeft text → DoubleLeft (b ∷ text)
 double_more b _ e (double_left bs p) = double_left (b ∷ bs) (plain e p)
@@ -191,7 +189,7 @@ double_ends b text e p =
     subst P (sym e) (subst Q (sym p) (double_left [] nothing))
 
 double_escape : (b : ℕ) (text : List ℕ) → b ≡ 92 → EscapeLeft text → DoubleLeft (b ∷ text)
-double_escape b _ e (escape_left c bs s p) = let P : ℕ → Type 0 = λ n. DoubleLeft (n ∷ c ∷ bs ++ codes "\"") in subst P (sym e) (double_left (92 ∷ c ∷ bs) (escape s p))
+double_escape b _ e (escape_left c bs s p) = rw e (double_left (92 ∷ c ∷ bs) (escape s p))
 
 escape_more : (b : ℕ) (text : List ℕ) → is_special b ≡ true → DoubleLeft text → EscapeLeft (b ∷ text)
 escape_more b _ e (double_left bs p) = escape_left b bs e p
@@ -283,13 +281,10 @@ at_end : (c : Control) → mistake step ends c [] ≡ None → Goes c []
 unfolding mistake
 at_end at.Start h = at_last empty
 at_end at.Comment h = at_last refl
-at_end at.Name h = cc
 at_end at.Equals h = at_last (bare refl)
 at_end at.Bare h = at_last refl
-at_end at.Single h = cc
-at_end at.Double h = cc
-at_end at.Escape h = cc
 at_end at.Closed h = at_last refl
+at_end _ h = cc
 
 left_at : (text : List ℕ) (c : Control) → mistake step ends c text ≡ None → Goes c text
 unfolding mistake

@@ -1,5 +1,5 @@
 -- What the machine for JSON accepts is JSON.
-use Rattle.std.proofs.Common.{◌≡◌, ◌≢◌, ◌<◌, ◌≤◌, ◌⊎◌, inl, inr, ℕ, ◌+◌, ◌==◌, Bool, true, false, cond, ◌&&◌, List, [], ◌∷◌, Option, Some, None, arith, refl, sym, ◌∙◌, ap, subst}
+use Rattle.std.proofs.Common.{◌≡◌, ◌≢◌, ◌<◌, ◌≤◌, ◌⊎◌, inl, inr, ℕ, ◌+◌, ◌==◌, Bool, true, false, cond, ◌&&◌, List, [], ◌∷◌, Option, Some, None, arith, refl, sym, ◌∙◌, ap}
 use Rattle.std.proofs.lemmas.Grind.{common_steps}
 use Rattle.std.specs.Char.{is_ascii_digit}
 use Rattle.std.specs.Prelude.{nat_lt, option_map}
@@ -292,22 +292,14 @@ end_goes : (x : Sign) (s : List Open) (b : ℕ) (text : List ℕ) → sign_of b 
 end_goes sign.White s b text e h known = behind_space s b text (whites b (ap white_sign e)) (on at.End s text known h)
 end_goes sign.Space s b text e h known = behind_space s b text (whites b (ap white_sign e)) (on at.End s text known h)
 end_goes sign.Comma [] b text e h known = cc
-end_goes sign.Comma (open_.Array ∷ s) b text e h known =
-    let P : ℕ → Type 0 = λ n. Behind (open_.Array ∷ s) (n ∷ text) in
-    subst P (sym (byte_of sign.Comma b e refl)) (comma_array s text (items_of s text (on at.Value (open_.Array ∷ s) text known h)))
-end_goes sign.Comma (open_.Object ∷ s) b text e h known =
-    let P : ℕ → Type 0 = λ n. Behind (open_.Object ∷ s) (n ∷ text) in
-    subst P (sym (byte_of sign.Comma b e refl)) (comma_object s text (on at.Key (open_.Object ∷ s) text known h))
+end_goes sign.Comma (open_.Array ∷ s) b text e h known = rw (byte_of sign.Comma b e refl) (comma_array s text (items_of s text (on at.Value (open_.Array ∷ s) text known h)))
+end_goes sign.Comma (open_.Object ∷ s) b text e h known = rw (byte_of sign.Comma b e refl) (comma_object s text (on at.Key (open_.Object ∷ s) text known h))
 end_goes sign.CloseArray [] b text e h known = cc
-end_goes sign.CloseArray (open_.Array ∷ s) b text e h known =
-    let P : ℕ → Type 0 = λ n. Behind (open_.Array ∷ s) (n ∷ text) in
-    subst P (sym (byte_of sign.CloseArray b e refl)) (array_ends no_space (popped at.End open_.Array s text known h))
+end_goes sign.CloseArray (open_.Array ∷ s) b text e h known = rw (byte_of sign.CloseArray b e refl) (array_ends no_space (popped at.End open_.Array s text known h))
 end_goes sign.CloseArray (open_.Object ∷ s) b text e h known = cc
 end_goes sign.CloseObject [] b text e h known = cc
 end_goes sign.CloseObject (open_.Array ∷ s) b text e h known = cc
-end_goes sign.CloseObject (open_.Object ∷ s) b text e h known =
-    let P : ℕ → Type 0 = λ n. Behind (open_.Object ∷ s) (n ∷ text) in
-    subst P (sym (byte_of sign.CloseObject b e refl)) (object_ends no_space (popped at.End open_.Object s text known h))
+end_goes sign.CloseObject (open_.Object ∷ s) b text e h known = rw (byte_of sign.CloseObject b e refl) (object_ends no_space (popped at.End open_.Object s text known h))
 end_goes _ s b text e h known = cc
 
 -- where a value begins
@@ -344,24 +336,16 @@ null_value s _ (ull q) = value_then no_space a_null q
 value_goes : (x : Sign) (s : List Open) (b : ℕ) (text : List ℕ) → sign_of b ≡ x → Accepts s (at_value x) text → Known text → ValueThen s (b ∷ text)
 value_goes sign.White s b text e h known = value_space s b text (whites b (ap white_sign e)) (on at.Value s text known h)
 value_goes sign.Space s b text e h known = value_space s b text (whites b (ap white_sign e)) (on at.Value s text known h)
-value_goes sign.Quote s b text e h known =
-    let P : ℕ → Type 0 = λ n. ValueThen s (n ∷ text) in subst P (sym (byte_of sign.Quote b e refl)) (string_value s text (on (at.Text role.Value) s text known h))
-value_goes sign.OpenArray s b text e h known =
-    let P : ℕ → Type 0 = λ n. ValueThen s (n ∷ text) in subst P (sym (byte_of sign.OpenArray b e refl)) (array_value s text (pushed at.Item open_.Array s text known h))
-value_goes sign.OpenObject s b text e h known =
-    let P : ℕ → Type 0 = λ n. ValueThen s (n ∷ text) in subst P (sym (byte_of sign.OpenObject b e refl)) (object_value s text (pushed at.Member open_.Object s text known h))
-value_goes sign.Minus s b text e h known =
-    let P : ℕ → Type 0 = λ n. ValueThen s (n ∷ text) in subst P (sym (byte_of sign.Minus b e refl)) (minus_value s text (on (at.Number num.Minus) s text known h))
-value_goes sign.Zero s b text e h known =
-    let P : ℕ → Type 0 = λ n. ValueThen s (n ∷ text) in subst P (sym (byte_of sign.Zero b e refl)) (zero_value s text (on (at.Number num.Zero) s text known h))
+value_goes sign.Quote s b text e h known = rw (byte_of sign.Quote b e refl) (string_value s text (on (at.Text role.Value) s text known h))
+value_goes sign.OpenArray s b text e h known = rw (byte_of sign.OpenArray b e refl) (array_value s text (pushed at.Item open_.Array s text known h))
+value_goes sign.OpenObject s b text e h known = rw (byte_of sign.OpenObject b e refl) (object_value s text (pushed at.Member open_.Object s text known h))
+value_goes sign.Minus s b text e h known = rw (byte_of sign.Minus b e refl) (minus_value s text (on (at.Number num.Minus) s text known h))
+value_goes sign.Zero s b text e h known = rw (byte_of sign.Zero b e refl) (zero_value s text (on (at.Number num.Zero) s text known h))
 value_goes sign.Digit s b text e h known =
     whole_value s b text (digits b (ap digit_sign e)) (nonzeros b (ap nonzero_sign e)) (on (at.Number num.Whole) s text known h)
-value_goes sign.True s b text e h known =
-    let P : ℕ → Type 0 = λ n. ValueThen s (n ∷ text) in subst P (sym (byte_of sign.True b e refl)) (true_value s text (on (at.Literal literal.Rue) s text known h))
-value_goes sign.False s b text e h known =
-    let P : ℕ → Type 0 = λ n. ValueThen s (n ∷ text) in subst P (sym (byte_of sign.False b e refl)) (false_value s text (on (at.Literal literal.Alse) s text known h))
-value_goes sign.Null s b text e h known =
-    let P : ℕ → Type 0 = λ n. ValueThen s (n ∷ text) in subst P (sym (byte_of sign.Null b e refl)) (null_value s text (on (at.Literal literal.Ull) s text known h))
+value_goes sign.True s b text e h known = rw (byte_of sign.True b e refl) (true_value s text (on (at.Literal literal.Rue) s text known h))
+value_goes sign.False s b text e h known = rw (byte_of sign.False b e refl) (false_value s text (on (at.Literal literal.Alse) s text known h))
+value_goes sign.Null s b text e h known = rw (byte_of sign.Null b e refl) (null_value s text (on (at.Literal literal.Ull) s text known h))
 value_goes _ s b text e h known = cc
 
 -- in an array and in an object
@@ -369,36 +353,26 @@ value_goes _ s b text e h known = cc
 item_goes : (x : Sign) (s : List Open) (b : ℕ) (text : List ℕ) → sign_of b ≡ x → Accepts (open_.Array ∷ s) (at_item x) text → Known text → ItemThen s (b ∷ text)
 item_goes sign.White s b text e h known = item_space s b text (whites b (ap white_sign e)) (on at.Item (open_.Array ∷ s) text known h)
 item_goes sign.Space s b text e h known = item_space s b text (whites b (ap white_sign e)) (on at.Item (open_.Array ∷ s) text known h)
-item_goes sign.CloseArray s b text e h known =
-    let P : ℕ → Type 0 = λ n. ItemThen s (n ∷ text) in
-    subst P (sym (byte_of sign.CloseArray b e refl)) (no_items no_space (popped at.End open_.Array s text known h))
+item_goes sign.CloseArray s b text e h known = rw (byte_of sign.CloseArray b e refl) (no_items no_space (popped at.End open_.Array s text known h))
 item_goes x s b text e h known = some_items (items_of s (b ∷ text) (value_goes x (open_.Array ∷ s) b text e h known))
 
 key_goes : (x : Sign) (s : List Open) (b : ℕ) (text : List ℕ) → sign_of b ≡ x → Accepts (open_.Object ∷ s) (at_key x) text → Known text → MembersThen s (b ∷ text)
 key_goes sign.White s b text e h known = members_space s b text (whites b (ap white_sign e)) (on at.Key (open_.Object ∷ s) text known h)
 key_goes sign.Space s b text e h known = members_space s b text (whites b (ap white_sign e)) (on at.Key (open_.Object ∷ s) text known h)
-key_goes sign.Quote s b text e h known =
-    let P : ℕ → Type 0 = λ n. MembersThen s (n ∷ text) in
-    subst P (sym (byte_of sign.Quote b e refl)) (members_of s text (on (at.Text role.Key) (open_.Object ∷ s) text known h))
+key_goes sign.Quote s b text e h known = rw (byte_of sign.Quote b e refl) (members_of s text (on (at.Text role.Key) (open_.Object ∷ s) text known h))
 key_goes _ s b text e h known = cc
 
 member_goes : (x : Sign) (s : List Open) (b : ℕ) (text : List ℕ) → sign_of b ≡ x → Accepts (open_.Object ∷ s) (at_member x) text → Known text → MemberThen s (b ∷ text)
 member_goes sign.White s b text e h known = member_space s b text (whites b (ap white_sign e)) (on at.Member (open_.Object ∷ s) text known h)
 member_goes sign.Space s b text e h known = member_space s b text (whites b (ap white_sign e)) (on at.Member (open_.Object ∷ s) text known h)
-member_goes sign.Quote s b text e h known =
-    let P : ℕ → Type 0 = λ n. MemberThen s (n ∷ text) in
-    subst P (sym (byte_of sign.Quote b e refl)) (some_members (members_of s text (on (at.Text role.Key) (open_.Object ∷ s) text known h)))
-member_goes sign.CloseObject s b text e h known =
-    let P : ℕ → Type 0 = λ n. MemberThen s (n ∷ text) in
-    subst P (sym (byte_of sign.CloseObject b e refl)) (no_members no_space (popped at.End open_.Object s text known h))
+member_goes sign.Quote s b text e h known = rw (byte_of sign.Quote b e refl) (some_members (members_of s text (on (at.Text role.Key) (open_.Object ∷ s) text known h)))
+member_goes sign.CloseObject s b text e h known = rw (byte_of sign.CloseObject b e refl) (no_members no_space (popped at.End open_.Object s text known h))
 member_goes _ s b text e h known = cc
 
 colon_goes : (x : Sign) (s : List Open) (b : ℕ) (text : List ℕ) → sign_of b ≡ x → Accepts s (at_colon x) text → Known text → ColonThen s (b ∷ text)
 colon_goes sign.White s b text e h known = colon_space s b text (whites b (ap white_sign e)) (on at.Colon s text known h)
 colon_goes sign.Space s b text e h known = colon_space s b text (whites b (ap white_sign e)) (on at.Colon s text known h)
-colon_goes sign.Colon s b text e h known =
-    let P : ℕ → Type 0 = λ n. ColonThen s (n ∷ text) in
-    subst P (sym (byte_of sign.Colon b e refl)) (colon_then no_space (on at.Value s text known h))
+colon_goes sign.Colon s b text e h known = rw (byte_of sign.Colon b e refl) (colon_then no_space (on at.Value s text known h))
 colon_goes _ s b text e h known = cc
 
 -- ---- strings
@@ -413,12 +387,8 @@ closed_text role.Key s text a = both close a
 text_goes : (x : Sign) (r : Role) (s : List Open) (b : ℕ) (text : List ℕ) → sign_of b ≡ x → Accepts s (at_text r x) text → Known text → TextThen r s (b ∷ text)
 text_goes sign.Control r s b text e h known = cc
 text_goes sign.White r s b text e h known = cc
-text_goes sign.Quote r s b text e h known =
-    let P : ℕ → Type 0 = λ n. TextThen r s (n ∷ text) in
-    subst P (sym (byte_of sign.Quote b e refl)) (closed_text r s text (on (closed r) s text known h))
-text_goes sign.Backslash r s b text e h known =
-    let P : ℕ → Type 0 = λ n. TextThen r s (n ∷ text) in
-    subst P (sym (byte_of sign.Backslash b e refl)) (on (at.Escape r escape.Backslash) s text known h)
+text_goes sign.Quote r s b text e h known = rw (byte_of sign.Quote b e refl) (closed_text r s text (on (closed r) s text known h))
+text_goes sign.Backslash r s b text e h known = rw (byte_of sign.Backslash b e refl) (on (at.Escape r escape.Backslash) s text known h)
 text_goes _ r s b text e h known = plain_text r s b text (plains b (ap plain_sign e)) (on (at.Text r) s text known h)
 
 equal_of : (m n : ℕ) → (m == n) ≡ true → m ≡ n
@@ -479,9 +449,7 @@ surrogate_goes false r s b c text d e h known =
 
 backslash_goes : (t : Bool) (r : Role) (s : List Open) (b : ℕ) (text : List ℕ) → (b == 117) ≡ t
     → Accepts s (cond t (Some (action.To (at.Escape r escape.Unit))) (next (is_short_escape b) (at.Text r))) text → Known text → TextThen r s (92 ∷ b ∷ text)
-backslash_goes true r s b text e h known =
-    let P : ℕ → Type 0 = λ n. TextThen r s (92 ∷ n ∷ text) in
-    subst P (sym (equal_of b 117 e)) (on (at.Escape r escape.Unit) s text known h)
+backslash_goes true r s b text e h known = rw (equal_of b 117 e) (on (at.Escape r escape.Unit) s text known h)
 backslash_goes false r s b text e h known =
     let found = on_if (at.Text r) s (is_short_escape b) text known h in short_text r s b text found.0 found.1
 
@@ -503,10 +471,10 @@ escape_goes escape.High2 r s b text h known = let found = hex_goes (at.Escape r 
 escape_goes escape.High1 r s b text h known = let found = hex_goes (at.Escape r escape.Pair) s b text h known in hex_last (PairThen r s) b text found.0 found.1
 escape_goes escape.Pair r s b text h known =
     let found = given_goes (at.Escape r escape.PairUnit) s b 92 text h known in
-    let P : ℕ → Type 0 = λ n. PairThen r s (n ∷ text) in subst P found.0 found.1
+    rw (← found.0) found.1
 escape_goes escape.PairUnit r s b text h known =
     let found = given_goes (at.Escape r escape.Low) s b 117 text h known in
-    let P : ℕ → Type 0 = λ n. PairThen r s (92 ∷ n ∷ text) in subst P found.0 found.1
+    rw (← found.0) found.1
 escape_goes escape.Low r s b text h known =
     let found = on_if (at.Escape r escape.LowSecond) s (hex_value b == 13) text known h in found.1 b (equal_of (hex_value b) 13 found.0)
 escape_goes escape.LowSecond r s b text h known =
@@ -519,52 +487,52 @@ escape_goes escape.LowSecond r s b text h known =
 literal_goes : (x : Literal) (s : List Open) (b : ℕ) (text : List ℕ) → Accepts s (at_literal x b) text → Known text → LiteralThen s x (b ∷ text)
 literal_goes literal.Rue s b text h known =
     let found = given_goes (at.Literal literal.Ue) s b 114 text h known in
-    let P : ℕ → Type 0 = λ n. LiteralThen s literal.Rue (n ∷ text) in subst P found.0 (rue_of found.1)
+    rw (← found.0) (rue_of found.1)
   where
     rue_of : {s : List Open} {text : List ℕ} → LiteralThen s literal.Ue text → LiteralThen s literal.Rue (114 ∷ text)
     rue_of (ue q) = rue q
 literal_goes literal.Ue s b text h known =
     let found = given_goes (at.Literal literal.E) s b 117 text h known in
-    let P : ℕ → Type 0 = λ n. LiteralThen s literal.Ue (n ∷ text) in subst P found.0 (ue_of found.1)
+    rw (← found.0) (ue_of found.1)
   where
     ue_of : {s : List Open} {text : List ℕ} → LiteralThen s literal.E text → LiteralThen s literal.Ue (117 ∷ text)
     ue_of (the_e q) = ue q
 literal_goes literal.E s b text h known =
     let found = given_goes at.End s b 101 text h known in
-    let P : ℕ → Type 0 = λ n. LiteralThen s literal.E (n ∷ text) in subst P found.0 (the_e found.1)
+    rw (← found.0) (the_e found.1)
 literal_goes literal.Alse s b text h known =
     let found = given_goes (at.Literal literal.Lse) s b 97 text h known in
-    let P : ℕ → Type 0 = λ n. LiteralThen s literal.Alse (n ∷ text) in subst P found.0 (alse_of found.1)
+    rw (← found.0) (alse_of found.1)
   where
     alse_of : {s : List Open} {text : List ℕ} → LiteralThen s literal.Lse text → LiteralThen s literal.Alse (97 ∷ text)
     alse_of (lse q) = alse q
 literal_goes literal.Lse s b text h known =
     let found = given_goes (at.Literal literal.Se) s b 108 text h known in
-    let P : ℕ → Type 0 = λ n. LiteralThen s literal.Lse (n ∷ text) in subst P found.0 (lse_of found.1)
+    rw (← found.0) (lse_of found.1)
   where
     lse_of : {s : List Open} {text : List ℕ} → LiteralThen s literal.Se text → LiteralThen s literal.Lse (108 ∷ text)
     lse_of (se q) = lse q
 literal_goes literal.Se s b text h known =
     let found = given_goes (at.Literal literal.E) s b 115 text h known in
-    let P : ℕ → Type 0 = λ n. LiteralThen s literal.Se (n ∷ text) in subst P found.0 (se_of found.1)
+    rw (← found.0) (se_of found.1)
   where
     se_of : {s : List Open} {text : List ℕ} → LiteralThen s literal.E text → LiteralThen s literal.Se (115 ∷ text)
     se_of (the_e q) = se q
 literal_goes literal.Ull s b text h known =
     let found = given_goes (at.Literal literal.Ll) s b 117 text h known in
-    let P : ℕ → Type 0 = λ n. LiteralThen s literal.Ull (n ∷ text) in subst P found.0 (ull_of found.1)
+    rw (← found.0) (ull_of found.1)
   where
     ull_of : {s : List Open} {text : List ℕ} → LiteralThen s literal.Ll text → LiteralThen s literal.Ull (117 ∷ text)
     ull_of (ll q) = ull q
 literal_goes literal.Ll s b text h known =
     let found = given_goes (at.Literal literal.L) s b 108 text h known in
-    let P : ℕ → Type 0 = λ n. LiteralThen s literal.Ll (n ∷ text) in subst P found.0 (ll_of found.1)
+    rw (← found.0) (ll_of found.1)
   where
     ll_of : {s : List Open} {text : List ℕ} → LiteralThen s literal.L text → LiteralThen s literal.Ll (108 ∷ text)
     ll_of (the_l q) = ll q
 literal_goes literal.L s b text h known =
     let found = given_goes at.End s b 108 text h known in
-    let P : ℕ → Type 0 = λ n. LiteralThen s literal.L (n ∷ text) in subst P found.0 (the_l found.1)
+    rw (← found.0) (the_l found.1)
 
 -- ---- numbers
 
@@ -607,9 +575,7 @@ fraction_goes sign.Exponent s b text e h known = both no_more (on (at.Number num
 fraction_goes x s b text e h known = both no_more (both no_exponent (end_goes x s b text e h known))
 
 zero_goes : (x : Sign) (s : List Open) (b : ℕ) (text : List ℕ) → sign_of b ≡ x → Accepts s (after_zero (head_of s) x) text → Known text → NumberThen num.Zero s (b ∷ text)
-zero_goes sign.Dot s b text e h known =
-    let P : ℕ → Type 0 = λ n. NumberThen num.Zero s (n ∷ text) in
-    subst P (sym (byte_of sign.Dot b e refl)) (fraction_of s text (on (at.Number num.Point) s text known h))
+zero_goes sign.Dot s b text e h known = rw (byte_of sign.Dot b e refl) (fraction_of s text (on (at.Number num.Point) s text known h))
 zero_goes sign.Exponent s b text e h known = no_fraction_of s (b ∷ text) (on (at.Number num.Exponent) s text known h b (exponents b (ap exponent_sign e)))
 zero_goes x s b text e h known = both (no_fraction no_exponent) (end_goes x s b text e h known)
 
@@ -625,9 +591,7 @@ minus_whole : (s : List Open) (b : ℕ) (text : List ℕ) → is_ascii_digit b �
 minus_whole s b text d n (both m (both f q)) = both (whole d n m f) q
 
 minus_goes : (x : Sign) (s : List Open) (b : ℕ) (text : List ℕ) → sign_of b ≡ x → Accepts s (after_minus x) text → Known text → NumberThen num.Minus s (b ∷ text)
-minus_goes sign.Zero s b text e h known =
-    let P : ℕ → Type 0 = λ n. NumberThen num.Minus s (n ∷ text) in
-    subst P (sym (byte_of sign.Zero b e refl)) (minus_zero s text (on (at.Number num.Zero) s text known h))
+minus_goes sign.Zero s b text e h known = rw (byte_of sign.Zero b e refl) (minus_zero s text (on (at.Number num.Zero) s text known h))
 minus_goes sign.Digit s b text e h known =
     minus_whole s b text (digits b (ap digit_sign e)) (nonzeros b (ap nonzero_sign e)) (on (at.Number num.Whole) s text known h)
 minus_goes _ s b text e h known = cc
@@ -687,26 +651,16 @@ ended_so None q h = (refl, true_so (ends_value q) h)
 ended_so (Some o) q h = cc
 
 number_ends : (n : Number) → ends_value (at.Number n) ≡ true → NumberThen n [] []
-number_ends num.Minus h = cc
 number_ends num.Zero h = both (no_fraction no_exponent) (done no_space)
 number_ends num.Whole h = both no_more (both (no_fraction no_exponent) (done no_space))
-number_ends num.Point h = cc
 number_ends num.Fraction h = both no_more (both no_exponent (done no_space))
-number_ends num.Exponent h = cc
-number_ends num.Sign h = cc
 number_ends num.Power h = both no_more (done no_space)
+number_ends _ h = cc
 
 control_ends : (q : Control) → ends_value q ≡ true → Goes q [] []
-control_ends at.Value h = cc
-control_ends at.Item h = cc
-control_ends at.Member h = cc
-control_ends at.Key h = cc
-control_ends at.Colon h = cc
 control_ends at.End h = done no_space
-control_ends (at.Text r) h = cc
-control_ends (at.Escape r x) h = cc
-control_ends (at.Literal x) h = cc
 control_ends (at.Number n) h = number_ends n h
+control_ends _ h = cc
 
 end_of_text : (q : Control) (s : List Open) → mistake step ends (config_at q s) [] ≡ None → Goes q s []
 unfolding mistake

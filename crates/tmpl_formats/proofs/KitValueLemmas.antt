@@ -138,10 +138,7 @@ Tokens p text = punctuate p (lex lexer.between text)
 
 placed : (p : Place) (t : Token) (ls : List Lexeme) → punctuate p (lexer.token t ∷ ls) ≡ place_token p t (begins_colon ls) (λ next. punctuate next ls)
 unfolding punctuate
-placed lexer.fresh t ls = refl
-placed lexer.after_value t ls = refl
-placed lexer.after_comma t ls = refl
-placed lexer.after_key t ls = refl
+placed _ t ls = refl
 
 comma_placed : (ls : List Lexeme) → punctuate lexer.after_value (lexer.comma ∷ ls) ≡ punctuate lexer.after_comma ls
 unfolding punctuate

@@ -29,8 +29,7 @@ shift (Some n) count = let e : count + 1 + n ≡ count + (n + 1) = omega arith i
 before_byte : {C : Type 0} (step : C → ℕ → Option C) (ends : C → Bool) (text : List ℕ) (count : ℕ) (c : C) → count < length text
     → mistake step ends c (drop count text) ≡ after_step (λ d. mistake step ends d (drop (count + 1) text)) (step c (get_or text count 0))
 unfolding mistake
-before_byte step ends text count c lt =
-    rw (add-one, drop-cons text count 0) refl
+before_byte step ends text count c lt = rw (add-one, drop-cons text count 0) refl
 
 pub stepped : {C : Type 0} (step : C → ℕ → Option C) (ends : C → Bool) (start : C) (text : List ℕ) (count : ℕ) (c d : C) → count < length text
     → IsAt step ends start text count c → step c (get_or text count 0) ≡ Some d → IsAt step ends start text (count + 1) d
@@ -105,9 +104,8 @@ pub mistake-same : {C : Type 0} (step : C → ℕ → Option C) (ends : C → Bo
     → mistake step ends c (take (n + 1) text ++ more) ≡ Some n
 unfolding mistake
 mistake-same step ends [] more c n e lt = absurd (omega arith)
-mistake-same step ends (b ∷ text) more c n e lt =
-    rw add-one
+mistake-same step ends (b ∷ text) more c n e lt = rw add-one
     (after_same (λ d. mistake step ends d text) (λ d. mistake step ends d (take n text ++ more)) (step c b) n (length text)
     (λ d m same below is.
-    let P : ℕ → Type 0 = λ k. mistake step ends d (take k text ++ more) ≡ Some m in subst P is (mistake-same step ends text more d m same below))
+    rw (← is) (mistake-same step ends text more d m same below))
     e (omega arith))

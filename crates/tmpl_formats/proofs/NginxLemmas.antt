@@ -1,5 +1,5 @@
 -- What the machine for configuration files of nginx accepts is one.
-use Rattle.std.proofs.Common.{◌≡◌, ◌≢◌, inl, inr, ℕ, suc, ◌+◌, ◌-◌, ◌^◌, ◌==◌, Bool, true, false, cond, ◌&&◌, List, [], ◌∷◌, Option, Some, None, arith, refl, sym, ◌∙◌, ap, subst, add-one}
+use Rattle.std.proofs.Common.{◌≡◌, ◌≢◌, inl, inr, ℕ, suc, ◌+◌, ◌-◌, ◌^◌, ◌==◌, Bool, true, false, cond, ◌&&◌, List, [], ◌∷◌, Option, Some, None, arith, refl, ◌∙◌, ap, subst, add-one}
 use Rattle.std.proofs.lemmas.Grind.{common_steps}
 use Rattle.std.specs.List.{list_all}
 use Rattle.std.specs.Prelude.{nat_lt, not}
@@ -205,7 +205,7 @@ more_comment depth text (both c (both m q)) = both (comment c m) q
 
 body_hash : (depth : ℕ) (text : List ℕ) → CommentThen depth text → BodyThen depth (35 ∷ text)
 body_hash depth text (comment_then {more} c q) = body_map depth more (35 ∷ text) (λ rest p. body_comment c p) q
-body_hash depth text (comment_ends p e) = let P : ℕ → Type 0 = λ n. BodyThen n (35 ∷ text) in subst P (sym e) (whole (last_comment p))
+body_hash depth text (comment_ends p e) = rw e (whole (last_comment p))
 
 inner_more : (depth b : ℕ) (text : List ℕ) → is_inner b ≡ true → InnerThen depth text → InnerThen depth (b ∷ text)
 inner_more depth b text i (both n t) = both (inner i n) t
@@ -249,7 +249,7 @@ on : (q : Control) (depth : ℕ) (text : List ℕ) → Known text → Accepts (S
 on q depth text known h = known q depth (went (λ x. mistake step ends x text) (config_at q depth) h)
 
 on_open : (t : Bool) (depth : ℕ) (text : List ℕ) → Known text → Accepts (cond t (Some (config_at at.Start (depth + 1))) None) text → BodyThen (suc depth) text
-on_open true depth text known h = let P : ℕ → Type 0 = λ n. BodyThen n text in subst P (add-one depth) (on at.Start (depth + 1) text known h)
+on_open true depth text known h = rw (← add-one depth) (on at.Start (depth + 1) text known h)
 on_open false depth text known h = cc
 
 unequal_of : (m n : ℕ) → (m == n) ≡ false → m ≢ n
@@ -266,18 +266,10 @@ on_close false depth text e known h =
 
 -- where a word begins
 word_goes : (x : Sign) (depth b : ℕ) (text : List ℕ) → sign_of b ≡ x → Accepts (at_word depth x) text → Known text → HasWordThen depth (b ∷ text)
-word_goes sign.Double depth b text e h known =
-    let P : ℕ → Type 0 = λ n. HasWordThen depth (n ∷ text) in
-    subst P (sym (byte_of sign.Double b e refl)) (quoted_word depth 34 text (inl refl) (on at.Double depth text known h))
-word_goes sign.Single depth b text e h known =
-    let P : ℕ → Type 0 = λ n. HasWordThen depth (n ∷ text) in
-    subst P (sym (byte_of sign.Single b e refl)) (quoted_word depth 39 text (inr refl) (on at.Single depth text known h))
-word_goes sign.Backslash depth b text e h known =
-    let P : ℕ → Type 0 = λ n. HasWordThen depth (n ∷ text) in
-    subst P (sym (byte_of sign.Backslash b e refl)) (escaped_word depth text (on at.Escape depth text known h))
-word_goes sign.Dollar depth b text e h known =
-    let P : ℕ → Type 0 = λ n. HasWordThen depth (n ∷ text) in
-    subst P (sym (byte_of sign.Dollar b e refl)) (dollar_word depth text (on at.Dollar depth text known h))
+word_goes sign.Double depth b text e h known = rw (byte_of sign.Double b e refl) (quoted_word depth 34 text (inl refl) (on at.Double depth text known h))
+word_goes sign.Single depth b text e h known = rw (byte_of sign.Single b e refl) (quoted_word depth 39 text (inr refl) (on at.Single depth text known h))
+word_goes sign.Backslash depth b text e h known = rw (byte_of sign.Backslash b e refl) (escaped_word depth text (on at.Escape depth text known h))
+word_goes sign.Dollar depth b text e h known = rw (byte_of sign.Dollar b e refl) (dollar_word depth text (on at.Dollar depth text known h))
 word_goes sign.Parenthesis depth b text e h known = bare_word depth b text (firsts b (ap first_sign e)) (on at.Word depth text known h)
 word_goes sign.Other depth b text e h known = bare_word depth b text (firsts b (ap first_sign e)) (on at.Word depth text known h)
 word_goes _ depth b text e h known = cc
@@ -288,21 +280,16 @@ start_space x depth b text e i q = body_map depth text (b ∷ text) (λ rest p. 
 start_goes : (x : Sign) (depth b : ℕ) (text : List ℕ) → sign_of b ≡ x → Accepts (at_start depth x) text → Known text → BodyThen depth (b ∷ text)
 start_goes sign.Newline depth b text e h known = start_space sign.Newline depth b text e refl (on at.Start depth text known h)
 start_goes sign.Gap depth b text e h known = start_space sign.Gap depth b text e refl (on at.Start depth text known h)
-start_goes sign.Close depth b text e h known =
-    let P : ℕ → Type 0 = λ n. BodyThen depth (n ∷ text) in subst P (sym (byte_of sign.Close b e refl)) (on_close (depth == 0) depth text refl known h)
-start_goes sign.Hash depth b text e h known =
-    let P : ℕ → Type 0 = λ n. BodyThen depth (n ∷ text) in subst P (sym (byte_of sign.Hash b e refl)) (body_hash depth text (on at.StartComment depth text known h))
+start_goes sign.Close depth b text e h known = rw (byte_of sign.Close b e refl) (on_close (depth == 0) depth text refl known h)
+start_goes sign.Hash depth b text e h known = rw (byte_of sign.Hash b e refl) (body_hash depth text (on at.StartComment depth text known h))
 start_goes x depth b text e h known = to_body depth (b ∷ text) (word_goes x depth b text e h known)
 
 -- the end of a directive's words
 semicolon_stops : (depth b : ℕ) (text : List ℕ) → sign_of b ≡ sign.Semicolon → Accepts (to at.Start depth) text → Known text → Stop depth (b ∷ text)
-semicolon_stops depth b text e h known =
-    let P : ℕ → Type 0 = λ n. Stop depth (n ∷ text) in subst P (sym (byte_of sign.Semicolon b e refl)) (semicolon (on at.Start depth text known h))
+semicolon_stops depth b text e h known = rw (byte_of sign.Semicolon b e refl) (semicolon (on at.Start depth text known h))
 
 brace_stops : (depth b : ℕ) (text : List ℕ) → sign_of b ≡ sign.Open → Accepts (opened depth) text → Known text → Stop depth (b ∷ text)
-brace_stops depth b text e h known =
-    let P : ℕ → Type 0 = λ n. Stop depth (n ∷ text) in
-    subst P (sym (byte_of sign.Open b e refl)) (brace (on_open (nat_lt (depth + 1) (2 ^ 64)) depth text known h))
+brace_stops depth b text e h known = rw (byte_of sign.Open b e refl) (brace (on_open (nat_lt (depth + 1) (2 ^ 64)) depth text known h))
 
 tail_goes : (x : Sign) (depth b : ℕ) (text : List ℕ) → sign_of b ≡ x → Accepts (at_tail depth x) text → Known text → TailThen depth (b ∷ text)
 tail_goes sign.Newline depth b text e h known = tail_gap depth b text (gaps b (ap gap_sign e)) (on at.Gap depth text known h)
@@ -316,8 +303,7 @@ gap_goes sign.Newline depth b text e h known = more_space depth b text (gaps b (
 gap_goes sign.Gap depth b text e h known = more_space depth b text (gaps b (ap gap_sign e)) (on at.Gap depth text known h)
 gap_goes sign.Semicolon depth b text e h known = both no_word (semicolon_stops depth b text e h known)
 gap_goes sign.Open depth b text e h known = both no_word (brace_stops depth b text e h known)
-gap_goes sign.Hash depth b text e h known =
-    let P : ℕ → Type 0 = λ n. MoreThen depth (n ∷ text) in subst P (sym (byte_of sign.Hash b e refl)) (more_comment depth text (on at.GapComment depth text known h))
+gap_goes sign.Hash depth b text e h known = rw (byte_of sign.Hash b e refl) (more_comment depth text (on at.GapComment depth text known h))
 gap_goes x depth b text e h known = to_more depth (b ∷ text) (word_goes x depth b text e h known)
 
 inner_goes : (x : Sign) (depth b : ℕ) (text : List ℕ) → sign_of b ≡ x → Accepts (in_word depth x) text → Known text → InnerThen depth (b ∷ text)
@@ -326,16 +312,12 @@ inner_goes sign.Newline depth b text e h known = inner_ends depth (b ∷ text) (
 inner_goes sign.Gap depth b text e h known = inner_ends depth (b ∷ text) (tail_goes sign.Gap depth b text e h known)
 inner_goes sign.Semicolon depth b text e h known = inner_ends depth (b ∷ text) (tail_goes sign.Semicolon depth b text e h known)
 inner_goes sign.Open depth b text e h known = inner_ends depth (b ∷ text) (tail_goes sign.Open depth b text e h known)
-inner_goes sign.Backslash depth b text e h known =
-    let P : ℕ → Type 0 = λ n. InnerThen depth (n ∷ text) in subst P (sym (byte_of sign.Backslash b e refl)) (inner_escaped depth text (on at.Escape depth text known h))
-inner_goes sign.Dollar depth b text e h known =
-    let P : ℕ → Type 0 = λ n. InnerThen depth (n ∷ text) in subst P (sym (byte_of sign.Dollar b e refl)) (inner_dollar depth text (on at.Dollar depth text known h))
+inner_goes sign.Backslash depth b text e h known = rw (byte_of sign.Backslash b e refl) (inner_escaped depth text (on at.Escape depth text known h))
+inner_goes sign.Dollar depth b text e h known = rw (byte_of sign.Dollar b e refl) (inner_dollar depth text (on at.Dollar depth text known h))
 inner_goes _ depth b text e h known = inner_more depth b text (inners b (ap inner_sign e)) (on at.Word depth text known h)
 
 dollar_goes : (x : Sign) (depth b : ℕ) (text : List ℕ) → sign_of b ≡ x → Accepts (after_dollar depth x) text → Known text → Then HasBraces (InnerThen depth) (b ∷ text)
-dollar_goes sign.Open depth b text e h known =
-    let P : ℕ → Type 0 = λ n. Then HasBraces (InnerThen depth) (n ∷ text) in
-    subst P (sym (byte_of sign.Open b e refl)) (braces_more depth text (on at.Dollar depth text known h))
+dollar_goes sign.Open depth b text e h known = rw (byte_of sign.Open b e refl) (braces_more depth text (on at.Dollar depth text known h))
 dollar_goes x depth b text e h known = both no_brace (inner_goes x depth b text e h known)
 
 escape_goes : (x : Sign) (q : Control) (depth b : ℕ) (text : List ℕ) → sign_of b ≡ x → Accepts (unless_null q depth x) text → Known text
@@ -345,39 +327,30 @@ escape_goes _ q depth b text e h known = escaped_then (somes b (ap some_sign e))
 
 double_goes : (x : Sign) (depth b : ℕ) (text : List ℕ) → sign_of b ≡ x → Accepts (in_double depth x) text → Known text → QuotedThen 34 depth (b ∷ text)
 double_goes sign.Null depth b text e h known = cc
-double_goes sign.Double depth b text e h known =
-    let P : ℕ → Type 0 = λ n. QuotedThen 34 depth (n ∷ text) in subst P (sym (byte_of sign.Double b e refl)) (both close (on at.Closed depth text known h))
-double_goes sign.Backslash depth b text e h known =
-    let P : ℕ → Type 0 = λ n. QuotedThen 34 depth (n ∷ text) in
-    subst P (sym (byte_of sign.Backslash b e refl)) (quoted_escaped 34 depth text (on at.DoubleEscape depth text known h))
+double_goes sign.Double depth b text e h known = rw (byte_of sign.Double b e refl) (both close (on at.Closed depth text known h))
+double_goes sign.Backslash depth b text e h known = rw (byte_of sign.Backslash b e refl) (quoted_escaped 34 depth text (on at.DoubleEscape depth text known h))
 double_goes _ depth b text e h known = quoted_more 34 depth b text (doubles b (ap double_sign e)) (on at.Double depth text known h)
 
 single_goes : (x : Sign) (depth b : ℕ) (text : List ℕ) → sign_of b ≡ x → Accepts (in_single depth x) text → Known text → QuotedThen 39 depth (b ∷ text)
 single_goes sign.Null depth b text e h known = cc
-single_goes sign.Single depth b text e h known =
-    let P : ℕ → Type 0 = λ n. QuotedThen 39 depth (n ∷ text) in subst P (sym (byte_of sign.Single b e refl)) (both close (on at.Closed depth text known h))
-single_goes sign.Backslash depth b text e h known =
-    let P : ℕ → Type 0 = λ n. QuotedThen 39 depth (n ∷ text) in
-    subst P (sym (byte_of sign.Backslash b e refl)) (quoted_escaped 39 depth text (on at.SingleEscape depth text known h))
+single_goes sign.Single depth b text e h known = rw (byte_of sign.Single b e refl) (both close (on at.Closed depth text known h))
+single_goes sign.Backslash depth b text e h known = rw (byte_of sign.Backslash b e refl) (quoted_escaped 39 depth text (on at.SingleEscape depth text known h))
 single_goes _ depth b text e h known = quoted_more 39 depth b text (singles b (ap single_sign e)) (on at.Single depth text known h)
 
 quote_goes : (x : Sign) (depth b : ℕ) (text : List ℕ) → sign_of b ≡ x → Accepts (after_quote depth x) text → Known text → QuoteThen depth (b ∷ text)
-quote_goes sign.Parenthesis depth b text e h known =
-    let P : ℕ → Type 0 = λ n. QuoteThen depth (n ∷ text) in subst P (sym (byte_of sign.Parenthesis b e refl)) (parenthesis_then (on at.Word depth text known h))
+quote_goes sign.Parenthesis depth b text e h known = rw (byte_of sign.Parenthesis b e refl) (parenthesis_then (on at.Word depth text known h))
 quote_goes x depth b text e h known = tail_then (tail_goes x depth b text e h known)
 
 start_comment_goes : (x : Sign) (depth b : ℕ) (text : List ℕ) → sign_of b ≡ x → Accepts (in_comment at.StartComment at.Start depth x) text → Known text
     → CommentThen depth (b ∷ text)
 start_comment_goes sign.Null depth b text e h known = cc
-start_comment_goes sign.Newline depth b text e h known =
-    let P : ℕ → Type 0 = λ n. CommentThen depth (n ∷ text) in subst P (sym (byte_of sign.Newline b e refl)) (comment_then newline (on at.Start depth text known h))
+start_comment_goes sign.Newline depth b text e h known = rw (byte_of sign.Newline b e refl) (comment_then newline (on at.Start depth text known h))
 start_comment_goes _ depth b text e h known = start_comment_more depth b text (comments b (ap comment_sign e)) (on at.StartComment depth text known h)
 
 gap_comment_goes : (x : Sign) (depth b : ℕ) (text : List ℕ) → sign_of b ≡ x → Accepts (in_comment at.GapComment at.Gap depth x) text → Known text
     → Then HasComment (MoreThen depth) (b ∷ text)
 gap_comment_goes sign.Null depth b text e h known = cc
-gap_comment_goes sign.Newline depth b text e h known =
-    let P : ℕ → Type 0 = λ n. Then HasComment (MoreThen depth) (n ∷ text) in subst P (sym (byte_of sign.Newline b e refl)) (both newline (on at.Gap depth text known h))
+gap_comment_goes sign.Newline depth b text e h known = rw (byte_of sign.Newline b e refl) (both newline (on at.Gap depth text known h))
 gap_comment_goes _ depth b text e h known = comment_more (MoreThen depth) b text (comments b (ap comment_sign e)) (on at.GapComment depth text known h)
 
 byte_goes : (q : Control) (depth b : ℕ) (text : List ℕ) → Accepts (after_sign q depth (sign_of b)) text → Known text → Goes q depth (b ∷ text)
@@ -401,22 +374,12 @@ equal_of m n = grind (arith, common_steps)
 
 ended_so : (t u : Bool) → cond {A = Option ℕ} (t && u) None (Some 0) ≡ None → (t ≡ true) × (u ≡ true)
 ended_so true true h = (refl, refl)
-ended_so true false h = cc
-ended_so false u h = cc
+ended_so _ _ h = cc
 
 control_ends : (q : Control) (depth : ℕ) → depth ≡ 0 → ends_at q ≡ true → Goes q depth []
-control_ends at.Start depth d h = let P : ℕ → Type 0 = λ n. BodyThen n [] in subst P (sym d) (whole body_end)
+control_ends at.Start depth d h = rw d (whole body_end)
 control_ends at.StartComment depth d h = comment_ends refl d
-control_ends at.Gap depth d h = cc
-control_ends at.Word depth d h = cc
-control_ends at.Dollar depth d h = cc
-control_ends at.Escape depth d h = cc
-control_ends at.Double depth d h = cc
-control_ends at.DoubleEscape depth d h = cc
-control_ends at.Single depth d h = cc
-control_ends at.SingleEscape depth d h = cc
-control_ends at.Closed depth d h = cc
-control_ends at.GapComment depth d h = cc
+control_ends _ depth d h = cc
 
 all_goes : (text : List ℕ) (q : Control) (depth : ℕ) → mistake step ends (config_at q depth) text ≡ None → Goes q depth text
 unfolding mistake

@@ -26,7 +26,6 @@ items-end text left next spans known e =
 
 pub class_of : (is_negated : Bool) (text mid rest : List ℕ) (spans : List Span) → (is_negated ≡ true → text ≡ 94 ∷ mid) → (is_negated ≡ false → mid ≡ text) → is_negated ≡ begins_with 94 text
     → HasItems mid spans (93 ∷ rest) → HasAtom (91 ∷ text) (tree.One is_negated spans) rest
-class_of true text mid rest spans taken kept begins h =
-    let P : List ℕ → Type 0 = λ t. HasAtom (91 ∷ t) (tree.One true spans) rest in subst P (sym (taken refl)) (negated_class h)
+class_of true text mid rest spans taken kept begins h = rw (taken refl) (negated_class h)
 class_of false text mid rest spans taken kept begins h =
     let P : List ℕ → Type 0 = λ t. HasItems t spans (93 ∷ rest) in class (sym begins) (subst P (kept refl) h)

@@ -11,7 +11,7 @@ use Rattle.tmpl_formats.specs.declared.pattern.Node.{Node}
 -- ---- repetitions
 
 pub no_turn : (turn : Tree) (n : ℕ) → n ≡ 0 → IsRepeated turn n (Some n) tree.Empty
-no_turn turn n e = let P : ℕ → Type 0 = λ k. IsRepeated turn k (Some k) tree.Empty in subst P (sym e) none
+no_turn turn n e = rw e none
 
 pub one_turn : (turn copy : Tree) (n : ℕ) → n ≡ 1 → copy ≡ turn → IsRepeated turn n (Some n) copy
 one_turn turn copy n e same =
@@ -27,12 +27,10 @@ more_turns turn some others all m n count e same h k =
     subst Q (sym same) (subst P e (sum h k))
 
 pub no_maybe : (turn : Tree) (n : ℕ) → n ≡ 0 → IsRepeated turn 0 (Some n) tree.Empty
-no_maybe turn n e = let P : ℕ → Type 0 = λ k. IsRepeated turn 0 (Some k) tree.Empty in subst P (sym e) none
+no_maybe turn n e = rw e none
 
 pub one_maybe : (turn copy all : Tree) → all ≡ tree.Either copy tree.Empty → copy ≡ turn → IsRepeated turn 0 (Some 1) all
-one_maybe turn copy all e same =
-    let P : Tree → Type 0 = λ t. IsRepeated turn 0 (Some 1) t in
-    subst P (sym (e ∙ ap (λ t. tree.Either t tree.Empty) same)) maybe
+one_maybe turn copy all e same = rw (e ∙ ap (λ t. tree.Either t tree.Empty) same) maybe
 
 pub more_maybes : (turn some others all : Tree) (m n count : ℕ) → m + n ≡ count → all ≡ tree.Both some others → IsRepeated turn 0 (Some m) some → IsRepeated turn 0 (Some n) others
     → IsRepeated turn 0 (Some count) all
@@ -42,7 +40,7 @@ more_maybes turn some others all m n count e same h k =
     subst Q (sym same) (subst P e (sum h k))
 
 pub any_turns : (turn copy : Tree) → copy ≡ turn → IsRepeated turn 0 None (tree.Many copy)
-any_turns turn copy same = let P : Tree → Type 0 = λ t. IsRepeated turn 0 None (tree.Many t) in subst P (sym same) any
+any_turns turn copy same = rw same any
 
 pub all_turns : (turn some others all : Tree) (least : ℕ) (most : Option ℕ) → IfSome most (λ m. least ≤ m) → all ≡ tree.Both some others → IsRepeated turn least (Some least) some
     → IsRepeated turn 0 (further least most) others → IsRepeated turn least most all
@@ -125,7 +123,7 @@ whole-row e text rest new t empty h =
     subst Q (sym (same_behind e text h.0 (row_end e (separator e ++ text) (separator e ++ h.0) (subst P (no_items new empty) h.1)))) h.2
 
 push : (e : Bool) (text next end rest : List ℕ) (trees : List Tree) (t : Tree) → end ≡ separator e ++ next → HasRow e text trees end → HasPiece e next t rest → HasRow e text (trees ++ t ∷ []) rest
-push e _ next end rest _ t is no_piece p = let P : List ℕ → Type 0 = λ s. HasRow e s (t ∷ []) rest in subst P (sym is) (piece next p no_piece)
+push e _ next end rest _ t is no_piece p = rw is (piece next p no_piece)
 push e _ next end rest _ t is (piece text {trees = trees} {more = more} q row) p = piece text q (push e more next end rest trees t is row p)
 
 -- one piece more

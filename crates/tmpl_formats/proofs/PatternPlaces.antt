@@ -42,7 +42,7 @@ abbrev Twice : Part → Part → Part
 Twice Is_one Is_other before part after = (p q : List ℕ) × (part ≡ p ++ q) × Is_one before p (q ++ after) × Is_other (before ++ p) q after
 
 no_part : (next : Place) (b s : List ℕ) → next b s → next (b ++ []) s
-no_part next b s h = let P : List ℕ → Type 0 = λ d. next d s in subst P (sym (append_nil b)) h
+no_part next b s h = rw (append_nil b) h
 
 two_parts : (Is_one Is_other : Part) (next : Place) (b s p rest q after : List ℕ) → s ≡ p ++ rest → rest ≡ q ++ after → Is_one b p rest → Is_other (b ++ p) q after → next (b ++ p ++ q) after
     → Split (Twice Is_one Is_other) next b s

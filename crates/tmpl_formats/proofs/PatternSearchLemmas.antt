@@ -98,13 +98,13 @@ abbrev searching : List ℕ → Marks → Bool → Search
 searching b t found = record { marks = t; is_first = is_nil b; found = found }
 
 kept_on : (b : List ℕ) (c : ℕ) (t : Marks) (e : Bool) → Kept (is_nil (b ++ c ∷ [])) (shifted (is_nil b) c t e)
-kept_on b c t e = let P : Bool → Type 0 = λ f. Kept f (shifted (is_nil b) c t e) in subst P (sym (not_nil b c)) (kept-shifted (is_nil b) c t e)
+kept_on b c t e = rw (not_nil b c) (kept-shifted (is_nil b) c t e)
 
 later_shifted : (b : List ℕ) (c : ℕ) (s : List ℕ) (t : Marks) (e : Bool) → Later (plain t) (b ++ c ∷ []) s → Later (plain (shifted (is_nil b) c t e)) (b ++ c ∷ []) s
-later_shifted b c s t e h = let P : Tree → Type 0 = λ p. Later p (b ++ c ∷ []) s in subst P (sym (plain-shifted (is_nil b) c t e)) h
+later_shifted b c s t e h = rw (plain-shifted (is_nil b) c t e) h
 
 later_back : (b : List ℕ) (c : ℕ) (s : List ℕ) (t : Marks) (e : Bool) → Later (plain (shifted (is_nil b) c t e)) (b ++ c ∷ []) s → Later (plain t) (b ++ c ∷ []) s
-later_back b c s t e h = let P : Tree → Type 0 = λ p. Later p (b ++ c ∷ []) s in subst P (plain-shifted (is_nil b) c t e) h
+later_back b c s t e h = rw (← plain-shifted (is_nil b) c t e) h
 
 goes_will : (b s : List ℕ) (t : Marks) → Goes t true Any b s → Will t false b s
 goes_will b s t g = case_of g (λ h. inr (inr (now (plain t) b s h.1))) (λ r. inr (inl r))

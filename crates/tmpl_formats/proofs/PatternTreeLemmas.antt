@@ -37,12 +37,10 @@ group-of text inner now (Ok (Some node)) f h = f (tree_of node) h
 -- a row with one part more
 pub row-add : (e : Bool) (text left next : List ℕ) (old new : List Node) (node : Node) → new ≡ old ++ node ∷ [] → HasRow e text (trees_of old) (separator e ++ left)
     → HasPiece e left (tree_of node) next → HasRow e text (trees_of new) next
-row-add e text left next old new node is row p =
-    let P : List Tree → Type 0 = λ ts. HasRow e text ts next in
-    subst P (sym (ap trees_of is ∙ trees-push old node)) (row-push e text left next (trees_of old) (tree_of node) row p)
+row-add e text left next old new node is row p = rw (ap trees_of is ∙ trees-push old node) (row-push e text left next (trees_of old) (tree_of node) row p)
 
 pub row-start : (e : Bool) (text : List ℕ) (nodes : List Node) → nodes ≡ [] → HasRow e text (trees_of nodes) text
-row-start e text nodes is = let P : List Node → Type 0 = λ ns. HasRow e text (trees_of ns) text in subst P (sym is) no_piece
+row-start e text nodes is = rw is no_piece
 
 none_there : {A : Type 0} (xs : List A) → length xs ≡ 0 → xs ≡ []
 none_there [] e = refl

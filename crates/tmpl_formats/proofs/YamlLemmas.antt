@@ -1,5 +1,5 @@
 -- What the machine for YAML accepts is YAML.
-use Rattle.std.proofs.Common.{◌≡◌, ℕ, ◌==◌, Bool, true, false, cond, ◌&&◌, List, [], ◌∷◌, ◌++◌, Option, Some, None, refl, sym, ap, subst, arith}
+use Rattle.std.proofs.Common.{◌≡◌, ℕ, ◌==◌, Bool, true, false, cond, ◌&&◌, List, [], ◌∷◌, ◌++◌, Option, Some, None, refl, ap, arith}
 use Rattle.std.proofs.lemmas.Grind.{common_steps}
 use Rattle.std.specs.Prelude.{option_map, not}
 use Rattle.tmpl_formats.proofs.MachineLemmas.{went}
@@ -73,18 +73,13 @@ line_ends : (n : Nest) → head_of n.brackets ≡ None → Rest place.Line 0 (Le
 line_ends n e = rest_of tokens_end (left_end n e)
 
 margin_ends : (p : Place) (c : ℕ) (n : Nest) → is_margin p c ≡ true → head_of n.brackets ≡ None → Rest p c (Left n) []
-margin_ends place.Line c n e f = let P : ℕ → Type 0 = λ m. Rest place.Line m (Left n) [] in subst P (sym (same_of c 0 e)) (line_ends n f)
-margin_ends (place.Item d) c n e f = cc
-margin_ends (place.Value d) c n e f = cc
-margin_ends place.End c n e f = cc
-margin_ends place.Flow c n e f = cc
+margin_ends place.Line c n e f = rw (same_of c 0 e) (line_ends n f)
+margin_ends _ c n e f = cc
 
 control_ends : (q : Control) (s : List ℕ) (n : Nest) → begins_line q ≡ true → head_of n.brackets ≡ None → Goes q s (Left n) n.brackets []
 control_ends (at.At x) s n e f = margin_ends x.place x.column n e f
-control_ends (at.Block parent c) s n e f =
-    let P : ℕ → Type 0 = λ m. Goes (at.Block parent m) s (Left n) n.brackets [] in subst P (sym (same_of c 0 e)) (after empty (line_ends n f))
-control_ends (at.Indent parent own c) s n e f =
-    let P : ℕ → Type 0 = λ m. Goes (at.Indent parent own m) s (Left n) n.brackets [] in subst P (sym (same_of c 0 e)) (after no_line (line_ends n f))
+control_ends (at.Block parent c) s n e f = rw (same_of c 0 e) (after empty (line_ends n f))
+control_ends (at.Indent parent own c) s n e f = rw (same_of c 0 e) (after no_line (line_ends n f))
 control_ends _ s n e f = cc
 
 no_bracket_of : (bs : List Bracket) (n : Nest) → (n.brackets ≡ bs) → not (is_in_brackets (nest_at n.awaited n.levels bs)) ≡ true → head_of n.brackets ≡ None

@@ -270,28 +270,20 @@ line_newline false p c e s n text f h = lined (at_reach place.Line 0 s e n text 
 
 gap_goes : (x : Sign) (p : Place) (c : ℕ) (e : Event) (b : ℕ) (s : List ℕ) (n : Nest) (text : List ℕ) → sign_of b ≡ x → Went (at_gap p c x e) s n text
     → IsGap (b ∷ text) × Rest p c (Before e n) (b ∷ text)
-gap_goes sign.Space p c e b s n text i h =
-    let P : ℕ → Type 0 = λ m. IsGap (m ∷ text) × Rest p c (Before e n) (m ∷ text) in
-    subst P (sym (byte_of sign.Space b i refl)) (gap_space, spot_space (nat_lt (c + 1) (2 ^ 64)) p c e s n text h)
-gap_goes sign.Newline p c e b s n text i h =
-    let P : ℕ → Type 0 = λ m. IsGap (m ∷ text) × Rest p c (Before e n) (m ∷ text) in
-    subst P (sym (byte_of sign.Newline b i refl)) (gap_end, line_newline (is_flow p) p c e s n text refl h)
+gap_goes sign.Space p c e b s n text i h = rw (byte_of sign.Space b i refl) (gap_space, spot_space (nat_lt (c + 1) (2 ^ 64)) p c e s n text h)
+gap_goes sign.Newline p c e b s n text i h = rw (byte_of sign.Newline b i refl) (gap_end, line_newline (is_flow p) p c e s n text refl h)
 gap_goes _ p c e b s n text i h = absurd h
 
 next_gap_goes : (t : Bool) (x : Sign) (p : Place) (c : ℕ) (e : Event) (b : ℕ) (s : List ℕ) (n : Nest) (text : List ℕ) → sign_of b ≡ x
     → Went (gap_if p (cond t (Some (c + 1)) None) x e) s n text → IsGap (b ∷ text) × Rest p (suc c) (Before e n) (b ∷ text)
-next_gap_goes true x p c e b s n text i h =
-    let P : ℕ → Type 0 = λ m. IsGap (b ∷ text) × Rest p m (Before e n) (b ∷ text) in subst P (add-one c) (gap_goes x p (c + 1) e b s n text i h)
+next_gap_goes true x p c e b s n text i h = rw (← add-one c) (gap_goes x p (c + 1) e b s n text i h)
 next_gap_goes false x p c e b s n text i h = absurd h
 
 -- ---- where a key or a value begins
 
 begin_reach : (p : Place) (c : ℕ) (q : Control) (s : List ℕ) (n : Nest) (text : List ℕ) → Moved q s (happened (begin_in p c) n) text → Reaches q s (Left n) text
-begin_reach place.Line c q s n text h = reach q s (event.Begin c) n text h
-begin_reach (place.Item d) c q s n text h = reach q s (event.Begin c) n text h
-begin_reach (place.Value d) c q s n text h = reach q s (event.Begin c) n text h
-begin_reach place.End c q s n text h = reach q s (event.Begin c) n text h
 begin_reach place.Flow c q s n text h = reach q s event.Enter n text h
+begin_reach _ c q s n text h = reach q s (event.Begin c) n text h
 
 plain_reached : (p : Place) (c : ℕ) (s : List ℕ) (L : List Token → Type 0) (text : List ℕ) → Reaches (at.Plain (spot_at p c)) s L text → Rest p c L (s ++ text)
 plain_reached p c s L text (reaches bs h) = h
@@ -302,10 +294,8 @@ line_lead false c q s n text h = reach q s (event.Dash c) n text h
 
 lead_reach : (p : Place) (c : ℕ) (q : Control) (s : List ℕ) (n : Nest) (text : List ℕ) → Moved q s (happened (lead_in p c) n) text → Reaches q s (Left n) text
 lead_reach place.Line c q s n text h = line_lead (c == 0) c q s n text h
-lead_reach (place.Item d) c q s n text h = reach q s (event.Dash c) n text h
-lead_reach (place.Value d) c q s n text h = reach q s (event.Dash c) n text h
-lead_reach place.End c q s n text h = reach q s (event.Dash c) n text h
 lead_reach place.Flow c q s n text h = reach q s event.Enter n text h
+lead_reach _ c q s n text h = reach q s (event.Dash c) n text h
 
 dash_reached : (p : Place) (c : ℕ) (s : List ℕ) (L : List Token → Type 0) (text : List ℕ) → Reaches (at.Dash (spot_at p c)) s L text → Rest p c L (45 ∷ text)
 dash_reached p c s L text (reaches bs h) = h
@@ -331,23 +321,15 @@ opened_rest p c k n text v (rest_of h l) = rest_of (open_ k v h) l
 
 node_goes : (x : Sign) (p : Place) (c b : ℕ) (s : List ℕ) (n : Nest) (text : List ℕ) → sign_of b ≡ x → takes_values p ≡ true → Went (at_node (spot_at p c) x b) s n text
     → Rest p c (Left n) (b ∷ text)
-node_goes sign.Dash p c b s n text i v h =
-    let P : ℕ → Type 0 = λ m. Rest p c (Left n) (m ∷ text) in
-    subst P (sym (byte_of sign.Dash b i refl)) (dash_reached p c s (Left n) text (lead_reach p c (at.Dash (spot_at p c)) s n text h))
+node_goes sign.Dash p c b s n text i v h = rw (byte_of sign.Dash b i refl) (dash_reached p c s (Left n) text (lead_reach p c (at.Dash (spot_at p c)) s n text h))
 node_goes sign.Start p c b s n text i v h =
     plain_reached p c (b ∷ []) (Left n) text (begin_reach p c (at.Plain (spot_at p c)) (b ∷ []) n text h)
 node_goes sign.Lead p c b s n text i v h =
     plain_reached p c (b ∷ []) (Left n) text (begin_reach p c (at.Plain (spot_at p c)) (b ∷ []) n text h)
-node_goes sign.Double p c b s n text i v h =
-    let P : ℕ → Type 0 = λ m. Rest p c (Left n) (m ∷ text) in
-    subst P (sym (byte_of sign.Double b i refl)) (double_reached p c s (Left n) text (begin_reach p c (at.Double (spot_at p c)) s n text h))
-node_goes sign.Single p c b s n text i v h =
-    let P : ℕ → Type 0 = λ m. Rest p c (Left n) (m ∷ text) in
-    subst P (sym (byte_of sign.Single b i refl)) (single_reached p c s (Left n) text (begin_reach p c (at.Single (spot_at p c)) s n text h))
+node_goes sign.Double p c b s n text i v h = rw (byte_of sign.Double b i refl) (double_reached p c s (Left n) text (begin_reach p c (at.Double (spot_at p c)) s n text h))
+node_goes sign.Single p c b s n text i v h = rw (byte_of sign.Single b i refl) (single_reached p c s (Left n) text (begin_reach p c (at.Single (spot_at p c)) s n text h))
 node_goes sign.Mark p c b s n text i v h = mark_goes (parent_of p) p c b s n text refl (marks b (ap mark_sign i)) h
-node_goes (sign.Open k) p c b s n text i v h =
-    let P : ℕ → Type 0 = λ m. Rest p c (Left n) (m ∷ text) in
-    subst P (sym (byte_of (sign.Open k) b i refl)) (opened_rest p c k n text v (at_reach place.Flow 0 s (event.One (token.Open k c)) n text h))
+node_goes (sign.Open k) p c b s n text i v h = rw (byte_of (sign.Open k) b i refl) (opened_rest p c k n text v (at_reach place.Flow 0 s (event.One (token.Open k c)) n text h))
 node_goes _ p c b s n text i v h = absurd h
 
 -- ---- in brackets
@@ -367,12 +349,8 @@ close_reached c k s L M text f (reaches bs h) = closed_rest bs c k L M text f h
 
 flow_goes : (x : Sign) (c b : ℕ) (s : List ℕ) (n : Nest) (text : List ℕ) → sign_of b ≡ x → Went (at_flow c x b) s n text → Rest place.Flow c (Left n) (b ∷ text)
 flow_goes sign.Space c b s n text i h = (gap_goes sign.Space place.Flow c event.Nothing b s n text i h).1
-flow_goes sign.Comma c b s n text i h =
-    let P : ℕ → Type 0 = λ m. Rest place.Flow c (Left n) (m ∷ text) in
-    subst P (sym (byte_of sign.Comma b i refl)) (comma_rest c (event.One token.Comma) n text (Left n) (λ ts l. l) (at_reach place.Flow 0 s (event.One token.Comma) n text h))
-flow_goes (sign.Close k) c b s n text i h =
-    let P : ℕ → Type 0 = λ m. Rest place.Flow c (Left n) (m ∷ text) in
-    subst P (sym (byte_of (sign.Close k) b i refl))
+flow_goes sign.Comma c b s n text i h = rw (byte_of sign.Comma b i refl) (comma_rest c (event.One token.Comma) n text (Left n) (λ ts l. l) (at_reach place.Flow 0 s (event.One token.Comma) n text h))
+flow_goes (sign.Close k) c b s n text i h = rw (byte_of (sign.Close k) b i refl)
     (close_reached c k s (Before (event.One (token.Close k)) n) (Left n) text (λ ts l. l) (reach at.Closed s (event.One (token.Close k)) n text h))
 flow_goes x c b s n text i h = node_goes x place.Flow c b s n text i refl h
 
@@ -390,16 +368,12 @@ line_goes : (x : Sign) (p : Place) (c b : ℕ) (s : List ℕ) (n : Nest) (text :
     → Rest p c (Left n) (b ∷ text)
 line_goes sign.Space p c b s n text i f h = (gap_goes sign.Space p c event.Nothing b s n text i h).1
 line_goes sign.Newline p c b s n text i f h = (gap_goes sign.Newline p c event.Nothing b s n text i h).1
-line_goes sign.Hash p c b s n text i f h =
-    let P : ℕ → Type 0 = λ m. Rest p c (Left n) (m ∷ text) in subst P (sym (byte_of sign.Hash b i refl)) (comment_rest p c (Left n) text f h)
+line_goes sign.Hash p c b s n text i f h = rw (byte_of sign.Hash b i refl) (comment_rest p c (Left n) text f h)
 line_goes x p c b s n text i f h = value_goes (takes_values p) x p c b s n text i refl h
 
 place_goes : (p : Place) (x : Sign) (c b : ℕ) (s : List ℕ) (n : Nest) (text : List ℕ) → sign_of b ≡ x → Went (at_place (spot_at p c) x b) s n text → Rest p c (Left n) (b ∷ text)
 place_goes place.Flow x c b s n text i h = flow_goes x c b s n text i h
-place_goes place.Line x c b s n text i h = line_goes x place.Line c b s n text i refl h
-place_goes (place.Item d) x c b s n text i h = line_goes x (place.Item d) c b s n text i refl h
-place_goes (place.Value d) x c b s n text i h = line_goes x (place.Value d) c b s n text i refl h
-place_goes place.End x c b s n text i h = line_goes x place.End c b s n text i refl h
+place_goes p x c b s n text i h = line_goes x p c b s n text i refl h
 
 -- ---- the end of a value
 
@@ -428,12 +402,8 @@ close_ending_reached c k s n text (reaches bs h) = close_ending bs c k n text h
 
 flow_ending : (x : Sign) (c b : ℕ) (s : List ℕ) (n : Nest) (text : List ℕ) → sign_of b ≡ x → is_ending x ≡ true → Went (after_flow_scalar (token.Scalar c) x) s n text
     → AnyRest place.Flow (AfterScalar c n) (b ∷ text)
-flow_ending sign.Comma c b s n text i e h =
-    let P : ℕ → Type 0 = λ m. AnyRest place.Flow (AfterScalar c n) (m ∷ text) in
-    subst P (sym (byte_of sign.Comma b i refl)) (comma_ending c n text (at_reach place.Flow 0 s (event.Two (token.Scalar c) token.Comma) n text h))
-flow_ending (sign.Close k) c b s n text i e h =
-    let P : ℕ → Type 0 = λ m. AnyRest place.Flow (AfterScalar c n) (m ∷ text) in
-    subst P (sym (byte_of (sign.Close k) b i refl)) (close_ending_reached c k s n text (reach at.Closed s (event.Two (token.Scalar c) (token.Close k)) n text h))
+flow_ending sign.Comma c b s n text i e h = rw (byte_of sign.Comma b i refl) (comma_ending c n text (at_reach place.Flow 0 s (event.Two (token.Scalar c) token.Comma) n text h))
+flow_ending (sign.Close k) c b s n text i e h = rw (byte_of (sign.Close k) b i refl) (close_ending_reached c k s n text (reach at.Closed s (event.Two (token.Scalar c) (token.Close k)) n text h))
 flow_ending sign.Newline c b s n text i e h = absurd h
 flow_ending _ c b s n text i e h = cc
 
@@ -442,9 +412,7 @@ newline_ending c n text (rest_of h l) = any_of (λ j. newline refl h) l
 
 line_ending : (x : Sign) (c b : ℕ) (s : List ℕ) (n : Nest) (text : List ℕ) → sign_of b ≡ x → is_ending x ≡ true
     → Went (at_gap place.End 0 x (event.One (token.Scalar c))) s n text → AnyRest place.End (AfterScalar c n) (b ∷ text)
-line_ending sign.Newline c b s n text i e h =
-    let P : ℕ → Type 0 = λ m. AnyRest place.End (AfterScalar c n) (m ∷ text) in
-    subst P (sym (byte_of sign.Newline b i refl)) (newline_ending c n text (at_reach place.Line 0 s (event.One (token.Scalar c)) n text h))
+line_ending sign.Newline c b s n text i e h = rw (byte_of sign.Newline b i refl) (newline_ending c n text (at_reach place.Line 0 s (event.One (token.Scalar c)) n text h))
 line_ending sign.Comma c b s n text i e h = absurd h
 line_ending (sign.Close k) c b s n text i e h = absurd h
 line_ending _ c b s n text i e h = cc
@@ -452,10 +420,7 @@ line_ending _ c b s n text i e h = cc
 ending_goes : (p : Place) (x : Sign) (c b : ℕ) (s : List ℕ) (n : Nest) (text : List ℕ) → sign_of b ≡ x → is_ending x ≡ true → Went (after_scalar_in p c x) s n text
     → AnyRest (after_value p) (AfterScalar c n) (b ∷ text)
 ending_goes place.Flow x c b s n text i e h = flow_ending x c b s n text i e h
-ending_goes place.Line x c b s n text i e h = line_ending x c b s n text i e h
-ending_goes (place.Item d) x c b s n text i e h = line_ending x c b s n text i e h
-ending_goes (place.Value d) x c b s n text i e h = line_ending x c b s n text i e h
-ending_goes place.End x c b s n text i e h = line_ending x c b s n text i e h
+ending_goes _ x c b s n text i e h = line_ending x c b s n text i e h
 
 -- a value, and what is after it
 a_value : (p : Place) (c : ℕ) (n : Nest) (whole more : List ℕ) → takes_values p ≡ true → HasScalar (is_flow p) whole more → MayFollow p more
@@ -475,19 +440,13 @@ flow_scalar_goes _ c b s n text i h = absurd h
 scalar_goes : (p : Place) (x : Sign) (c b : ℕ) (s : List ℕ) (n : Nest) (text whole : List ℕ) → sign_of b ≡ x → takes_values p ≡ true
     → HasScalar (is_flow p) whole (b ∷ text) → Went (after_scalar_in p c x) s n text → Rest p c (Left n) whole
 scalar_goes place.Flow x c b s n text whole i v q h = a_value place.Flow c n whole (b ∷ text) v q tt (flow_scalar_goes x c b s n text i h)
-scalar_goes place.Line x c b s n text whole i v q h =
-    let g = gap_goes x place.End 0 (event.One (token.Scalar c)) b s n text i h in a_value place.Line c n whole (b ∷ text) v q g.0 g.1
-scalar_goes (place.Item d) x c b s n text whole i v q h =
-    let g = gap_goes x place.End 0 (event.One (token.Scalar c)) b s n text i h in a_value (place.Item d) c n whole (b ∷ text) v q g.0 g.1
-scalar_goes (place.Value d) x c b s n text whole i v q h =
-    let g = gap_goes x place.End 0 (event.One (token.Scalar c)) b s n text i h in a_value (place.Value d) c n whole (b ∷ text) v q g.0 g.1
 scalar_goes place.End x c b s n text whole i v q h = cc
+scalar_goes p x c b s n text whole i v q h = let g = gap_goes x place.End 0 (event.One (token.Scalar c)) b s n text i h in a_value p c n whole (b ∷ text) v q g.0 g.1
 
 value_if_goes : (t u : Bool) (p : Place) (x : Sign) (c b : ℕ) (s : List ℕ) (n : Nest) (text whole : List ℕ) → sign_of b ≡ x → takes_values p ≡ u
     → (t ≡ true → HasScalar (is_flow p) whole (b ∷ text)) → Went (cond (t && u) (after_scalar_in p c x) None) s n text → Rest p c (Left n) whole
 value_if_goes true true p x c b s n text whole i v q h = scalar_goes p x c b s n text whole i v (q refl) h
-value_if_goes true false p x c b s n text whole i v q h = absurd h
-value_if_goes false u p x c b s n text whole i v q h = absurd h
+value_if_goes _ _ p x c b s n text whole i v q h = absurd h
 
 -- ---- keys and items
 
@@ -500,8 +459,7 @@ key_if_goes : (t u : Bool) (p : Place) (x : Sign) (c b : ℕ) (s : List ℕ) (n 
     → Went (cond (t && u) (at_next_gap (after_key p c) c x (event.One (token.Key c))) None) s n text → Rest p c (Left n) whole
 key_if_goes true true p x c b s n text whole i v q h =
     key_rest p c n whole (b ∷ text) v (q refl) (next_gap_goes (nat_lt (c + 1) (2 ^ 64)) x (after_key p c) c (event.One (token.Key c)) b s n text i h)
-key_if_goes true false p x c b s n text whole i v q h = absurd h
-key_if_goes false u p x c b s n text whole i v q h = absurd h
+key_if_goes _ _ p x c b s n text whole i v q h = absurd h
 
 item_rest : (p : Place) (c : ℕ) (n : Nest) (text : List ℕ) → takes_keys p ≡ true → is_flow p ≡ false
     → IsGap text × Rest (place.Item c) (suc c) (Before (event.Item c) n) text → Rest p c (Left n) (45 ∷ text)
@@ -511,17 +469,13 @@ item_if_goes : (t u : Bool) (p : Place) (x : Sign) (c b : ℕ) (s : List ℕ) (n
     → Went (cond (t && not u) (at_next_gap (place.Item c) c x (event.Item c)) None) s n text → Rest p c (Left n) (45 ∷ b ∷ text)
 item_if_goes true false p x c b s n text i v f h =
     item_rest p c n (b ∷ text) v f (next_gap_goes (nat_lt (c + 1) (2 ^ 64)) x (place.Item c) c (event.Item c) b s n text i h)
-item_if_goes true true p x c b s n text i v f h = absurd h
-item_if_goes false u p x c b s n text i v f h = absurd h
+item_if_goes _ _ p x c b s n text i v f h = absurd h
 
 -- ---- dashes
 
 margin_of : (p : Place) (c : ℕ) (L : List Token → Type 0) (text : List ℕ) → is_margin_in p c ≡ true → Rest place.Line 0 L text → Rest p c L text
-margin_of place.Line c L text e h = let P : ℕ → Type 0 = λ m. Rest place.Line m L text in subst P (sym (same_of c 0 e)) h
-margin_of (place.Item d) c L text e h = cc
-margin_of (place.Value d) c L text e h = cc
-margin_of place.End c L text e h = cc
-margin_of place.Flow c L text e h = cc
+margin_of place.Line c L text e h = rw (same_of c 0 e) h
+margin_of _ c L text e h = cc
 
 dashed_goes : (p : Place) (c b : ℕ) (s : List ℕ) (n : Nest) (text : List ℕ) → Went (dashed (at.Plain (spot_at p c)) b (begin_in p c)) s n text
     → Rest p c (Left n) (45 ∷ b ∷ text)
@@ -529,8 +483,7 @@ dashed_goes p c b s n text h = plain_reached p c (45 ∷ b ∷ []) (Left n) text
 
 second_dash_goes : (t : Bool) (p : Place) (c b : ℕ) (s : List ℕ) (n : Nest) (text : List ℕ) → is_margin_in p c ≡ t → b ≡ 45
     → Went (cond t (to at.Dashes event.Nothing) (dashed (at.Plain (spot_at p c)) b (begin_in p c))) s n text → Rest p c (Left n) (45 ∷ b ∷ text)
-second_dash_goes true p c b s n text m e h =
-    let P : ℕ → Type 0 = λ k. Rest p c (Left n) (45 ∷ k ∷ text) in subst P (sym e) (margin_of p c (Left n) (45 ∷ 45 ∷ text) m h)
+second_dash_goes true p c b s n text m e h = rw e (margin_of p c (Left n) (45 ∷ 45 ∷ text) m h)
 second_dash_goes false p c b s n text m e h = dashed_goes p c b s n text h
 
 dash_goes : (x : Sign) (p : Place) (c b : ℕ) (s : List ℕ) (n : Nest) (text : List ℕ) → sign_of b ≡ x → Went (after_dash (spot_at p c) x b) s n text
@@ -553,9 +506,7 @@ marker_goes n [] s text e h =
 marker_goes n (k ∷ bs) s text e h = absurd h
 
 dashes_goes : (x : Sign) (b : ℕ) (s : List ℕ) (n : Nest) (text : List ℕ) → sign_of b ≡ x → Went (after_dashes x b) s n text → Rest place.Line 0 (Left n) (45 ∷ 45 ∷ b ∷ text)
-dashes_goes sign.Dash b s n text i h =
-    let P : ℕ → Type 0 = λ m. Rest place.Line 0 (Left n) (45 ∷ 45 ∷ m ∷ text) in
-    subst P (sym (byte_of sign.Dash b i refl)) (marker_goes n n.brackets s text refl h)
+dashes_goes sign.Dash b s n text i h = rw (byte_of sign.Dash b i refl) (marker_goes n n.brackets s text refl h)
 dashes_goes sign.Start b s n text i h =
     plain_reached place.Line 0 (45 ∷ 45 ∷ b ∷ []) (Left n) text (reach (at.Plain (spot_at place.Line 0)) (45 ∷ 45 ∷ b ∷ []) (event.Begin 0) n text h)
 dashes_goes _ b s n text i h = absurd h
@@ -571,8 +522,7 @@ comment_more : (b : ℕ) (Q : List ℕ → Type 0) (text : List ℕ) → not (b 
 comment_more b Q text e (after h q) = after (a_byte e h) q
 
 comment_goes : (x : Sign) (b : ℕ) (s : List ℕ) (n : Nest) (text : List ℕ) → sign_of b ≡ x → Went (in_comment x) s n text → After HasLine (LineRest (Left n)) (b ∷ text)
-comment_goes sign.Newline b s n text i h =
-    let P : ℕ → Type 0 = λ m. After HasLine (LineRest (Left n)) (m ∷ text) in subst P (sym (byte_of sign.Newline b i refl)) (after line_end h)
+comment_goes sign.Newline b s n text i h = rw (byte_of sign.Newline b i refl) (after line_end h)
 comment_goes x b s n text i h = comment_more b (LineRest (Left n)) text (no_newlines b (ap line_sign i)) h
 
 -- ---- plain scalars
@@ -587,12 +537,11 @@ and_right false u h = cc
 
 three_of : (t u v : Bool) → (t && u && v) ≡ true → (t ≡ true) × (u ≡ true) × (v ≡ true)
 three_of true true v h = (refl, refl, h)
-three_of true false v h = cc
-three_of false u v h = cc
+three_of _ _ v h = cc
 
 -- one byte more of a scalar
 plain_more : (p : Place) (c b : ℕ) (s : List ℕ) (L : List Token → Type 0) (text : List ℕ) → Rest p c L ((s ++ b ∷ []) ++ text) → Rest p c L (s ++ b ∷ text)
-plain_more p c b s L text h = let P : List ℕ → Type 0 = λ t. Rest p c L t in subst P (append_assoc s (b ∷ []) text) h
+plain_more p c b s L text h = rw (← append_assoc s (b ∷ []) text) h
 
 more_plain_goes : (t : Bool) (p : Place) (c b : ℕ) (s : List ℕ) (n : Nest) (text : List ℕ) → Went (cond t (add (at.Plain (spot_at p c)) b event.Nothing) None) s n text
     → Rest p c (Left n) (s ++ b ∷ text)
@@ -652,21 +601,16 @@ more_space p L text (any_of h l) = any_of (λ j. space (h (suc j))) l
 
 all_spaces : (p : Place) (L : List Token → Type 0) (xs text : List ℕ) → list_all (λ b. b == 32) xs ≡ true → AnyRest p L text → AnyRest p L (xs ++ text)
 all_spaces p L [] text e h = h
-all_spaces p L (y ∷ ys) text e h =
-    let P : ℕ → Type 0 = λ m. AnyRest p L (m ∷ ys ++ text) in
-    subst P (sym (same_of y 32 (and_left (y == 32) (list_all (λ b. b == 32) ys) e)))
+all_spaces p L (y ∷ ys) text e h = rw (same_of y 32 (and_left (y == 32) (list_all (λ b. b == 32) ys) e))
     (more_space p L (ys ++ text) (all_spaces p L ys text (and_right (y == 32) (list_all (λ b. b == 32) ys) e) h))
 
 gap_of : (xs text : List ℕ) → passes (λ b. b == 32) (slice_get xs 0) ≡ true → IsGap (xs ++ text)
 gap_of [] text e = cc
-gap_of (y ∷ ys) text e = let P : ℕ → Type 0 = λ m. IsGap (m ∷ ys ++ text) in subst P (sym (same_of y 32 e)) gap_space
+gap_of (y ∷ ys) text e = rw (same_of y 32 e) gap_space
 
 may_come : (p : Place) (text : List ℕ) → IsGap text → MayFollow p text
 may_come place.Flow text g = tt
-may_come place.Line text g = g
-may_come (place.Item d) text g = g
-may_come (place.Value d) text g = g
-may_come place.End text g = g
+may_come _ text g = g
 
 spaced_scalar : (p : Place) (c end : ℕ) (s more : List ℕ) (n : Nest) → takes_values p ≡ true → is_spaced_scalar (is_flow p) s end ≡ true
     → AnyRest (after_value p) (AfterScalar c n) more → Rest p c (Left n) (s ++ more)
@@ -682,8 +626,7 @@ spaced_scalar p c end s more n v e h =
 spaced_if : (t u : Bool) (x : Sign) (p : Place) (c end b : ℕ) (s : List ℕ) (n : Nest) (text : List ℕ) → sign_of b ≡ x → is_ending x ≡ true
     → is_spaced_scalar (is_flow p) s end ≡ t → takes_values p ≡ u → Went (cond (t && u) (after_scalar_in p c x) None) s n text → Rest p c (Left n) (s ++ b ∷ text)
 spaced_if true true x p c end b s n text i e d v h = spaced_scalar p c end s (b ∷ text) n v d (ending_goes p x c b s n text i e h)
-spaced_if true false x p c end b s n text i e d v h = absurd h
-spaced_if false u x p c end b s n text i e d v h = absurd h
+spaced_if _ _ x p c end b s n text i e d v h = absurd h
 
 spaced_goes : (x : Sign) (p : Place) (c end b : ℕ) (s : List ℕ) (n : Nest) (text : List ℕ) → sign_of b ≡ x → is_ending x ≡ true
     → Went (spaced_value (spot_at p c) s end x) s n text → Rest p c (Left n) (s ++ b ∷ text)
@@ -698,10 +641,7 @@ either_spaced false x p c end b s n text i e false h j = more_plain_goes (may_fo
 
 no_flow_after : (p : Place) → is_flow p ≡ false → is_flow (after_value p) ≡ false
 no_flow_after place.Flow e = cc
-no_flow_after place.Line e = refl
-no_flow_after (place.Item d) e = refl
-no_flow_after (place.Value d) e = refl
-no_flow_after place.End e = refl
+no_flow_after _ e = refl
 
 comment_any : (p : Place) (L : List Token → Type 0) (text : List ℕ) → is_flow p ≡ false → After HasLine (LineRest L) text → AnyRest p L (35 ∷ text)
 comment_any p L text f (after l (rest_of h left)) = any_of (λ j. comment f l h) left
@@ -711,15 +651,11 @@ comment_reached s L text (reaches bs h) = h
 
 spaced_comment : (t u v : Bool) (p : Place) (c end b : ℕ) (s : List ℕ) (n : Nest) (text : List ℕ) → b ≡ 35 → is_spaced_scalar (is_flow p) s end ≡ t → takes_values p ≡ u
     → is_flow p ≡ v → Went (cond (t && u && not v) (to at.Comment (event.One (token.Scalar c))) None) s n text → Rest p c (Left n) (s ++ b ∷ text)
-spaced_comment true true false p c end b s n text i d v f h =
-    let P : ℕ → Type 0 = λ m. Rest p c (Left n) (s ++ m ∷ text) in
-    subst P (sym i)
+spaced_comment true true false p c end b s n text i d v f h = rw i
     (spaced_scalar p c end s (35 ∷ text) n v d
     (comment_any (after_value p) (AfterScalar c n) text (no_flow_after p f)
     (comment_reached s (AfterScalar c n) text (reach at.Comment s (event.One (token.Scalar c)) n text h))))
-spaced_comment true true true p c end b s n text i d v f h = absurd h
-spaced_comment true false w p c end b s n text i d v f h = absurd h
-spaced_comment false u w p c end b s n text i d v f h = absurd h
+spaced_comment _ _ _ p c end b s n text i d v f h = absurd h
 
 space_goes : (x : Sign) (p : Place) (c end b : ℕ) (s : List ℕ) (n : Nest) (text : List ℕ) → sign_of b ≡ x → Went (after_space (spot_at p c) s end x b) s n text
     → Rest p c (Left n) (s ++ b ∷ text)
@@ -735,9 +671,8 @@ space_goes x p c end b s n text i h = either_spaced (ends_entry x) x p c end b s
 double_goes : (t u v : Bool) (x : Spot) (b : ℕ) (s : List ℕ) (n : Nest) (text : List ℕ) → (b == 34) ≡ t → (b == 92) ≡ u → (b == 10) ≡ v
     → Went (cond t (to (at.Quoted x) event.Nothing) (cond u (to (at.Escape x) event.Nothing) (cond v None (to (at.Double x) event.Nothing)))) s n text
     → DoubleRest x (Left n) (b ∷ text)
-double_goes true u v x b s n text e f g h =
-    let P : ℕ → Type 0 = λ m. DoubleRest x (Left n) (m ∷ text) in subst P (sym (same_of b 34 e)) (λ whole q. h whole (q text close_double))
-double_goes false true v x b s n text e f g h = let P : ℕ → Type 0 = λ m. DoubleRest x (Left n) (m ∷ text) in subst P (sym (same_of b 92 f)) h
+double_goes true u v x b s n text e f g h = rw (same_of b 34 e) (λ whole q. h whole (q text close_double))
+double_goes false true v x b s n text e f g h = rw (same_of b 92 f) h
 double_goes false false true x b s n text e f g h = absurd h
 double_goes false false false x b s n text e f g h =
     let i : (not (b == 34) && not (b == 92) && not (b == 10)) ≡ true = rw (e, f, g) refl in λ whole q. h whole (λ rest d. q rest (plain_double i d))
@@ -761,12 +696,8 @@ digit_goes : (t u : Bool) (x : Spot) (left code b : ℕ) (s : List ℕ) (n : Nes
     → ((left == 1) && is_character (code * 16 + hex_value b)) ≡ u
     → Went (cond t (to (at.Code x (left - 1) (code * 16 + hex_value b)) event.Nothing) (cond u (to (at.Double x) event.Nothing) None)) s n text
     → CodeRest x left code (Left n) (b ∷ text)
-digit_goes true u x left code b s n text lt e f h =
-    let P : ℕ → Type 0 = λ m. CodeRest x m code (Left n) (b ∷ text) in
-    subst P (one_less left e) (λ whole q. h whole (λ more rest hd d. q more rest (digit lt hd) d))
-digit_goes false true x left code b s n text lt e f h =
-    let P : ℕ → Type 0 = λ m. CodeRest x m code (Left n) (b ∷ text) in
-    subst P (sym (same_of left 1 (and_left (left == 1) (is_character (code * 16 + hex_value b)) f)))
+digit_goes true u x left code b s n text lt e f h = rw (← one_less left e) (λ whole q. h whole (λ more rest hd d. q more rest (digit lt hd) d))
+digit_goes false true x left code b s n text lt e f h = rw (same_of left 1 (and_left (left == 1) (is_character (code * 16 + hex_value b)) f))
     (λ whole q. h whole (λ rest d. q text rest (digit lt (complete (and_right (left == 1) (is_character (code * 16 + hex_value b)) f))) d))
 digit_goes false false x left code b s n text lt e f h = absurd h
 
@@ -774,11 +705,10 @@ code_goes : (t u : Bool) (x : Spot) (left code b : ℕ) (s : List ℕ) (n : Nest
     → Went (cond (t && u) (after_digit x left (code * 16 + hex_value b)) None) s n text → CodeRest x left code (Left n) (b ∷ text)
 code_goes true true x left code b s n text e h =
     digit_goes (nat_lt 1 left) ((left == 1) && is_character (code * 16 + hex_value b)) x left code b s n text (less_of (hex_value b) 16 e) refl refl h
-code_goes true false x left code b s n text e h = absurd h
-code_goes false u x left code b s n text e h = absurd h
+code_goes _ _ x left code b s n text e h = absurd h
 
 single_goes : (z : Sign) (x : Spot) (b : ℕ) (s : List ℕ) (n : Nest) (text : List ℕ) → sign_of b ≡ z → Went (in_single x z) s n text → SingleRest x (Left n) (b ∷ text)
-single_goes sign.Single x b s n text i h = let P : ℕ → Type 0 = λ m. SingleRest x (Left n) (m ∷ text) in subst P (sym (byte_of sign.Single b i refl)) h
+single_goes sign.Single x b s n text i h = rw (byte_of sign.Single b i refl) h
 single_goes sign.Newline x b s n text i h = absurd h
 single_goes z x b s n text i h = λ whole q. h whole (λ rest d. q rest (plain_single (singles b (ap single_sign i)) d))
 
@@ -799,20 +729,15 @@ colon_if false x s n text h = absurd h
 
 quoted_colon_goes : (p : Place) (c : ℕ) (s : List ℕ) (n : Nest) (text : List ℕ) → Went (at_quoted_colon (spot_at p c)) s n text → QuotedRest (spot_at p c) (Left n) (58 ∷ text)
 quoted_colon_goes place.Flow c s n text h = λ whole q. flow_key_goes (nat_lt (c + 1) (2 ^ 64)) c s n text whole q h
-quoted_colon_goes place.Line c s n text h = colon_if true (spot_at place.Line c) s n text h
-quoted_colon_goes (place.Item d) c s n text h = colon_if true (spot_at (place.Item d) c) s n text h
-quoted_colon_goes (place.Value d) c s n text h = colon_if false (spot_at (place.Value d) c) s n text h
-quoted_colon_goes place.End c s n text h = colon_if false (spot_at place.End c) s n text h
+quoted_colon_goes p c s n text h = colon_if (takes_keys p) (spot_at p c) s n text h
 
 quoted_goes : (z : Sign) (x : Spot) (b : ℕ) (s : List ℕ) (n : Nest) (text : List ℕ) → sign_of b ≡ z → Went (after_quoted x z) s n text → QuotedRest x (Left n) (b ∷ text)
-quoted_goes sign.Colon x b s n text i h =
-    let P : ℕ → Type 0 = λ m. QuotedRest x (Left n) (m ∷ text) in subst P (sym (byte_of sign.Colon b i refl)) (quoted_colon_goes x.place x.column s n text h)
+quoted_goes sign.Colon x b s n text i h = rw (byte_of sign.Colon b i refl) (quoted_colon_goes x.place x.column s n text h)
 quoted_goes z x b s n text i h =
     λ whole q. value_if_goes true (takes_values x.place) x.place z x.column b s n text whole i refl (λ e. quoted q) h
 
 quote_goes : (z : Sign) (x : Spot) (b : ℕ) (s : List ℕ) (n : Nest) (text : List ℕ) → sign_of b ≡ z → Went (after_quote x z) s n text → SingleRest x (Left n) (39 ∷ b ∷ text)
-quote_goes sign.Single x b s n text i h =
-    let P : ℕ → Type 0 = λ m. SingleRest x (Left n) (39 ∷ m ∷ text) in subst P (sym (byte_of sign.Single b i refl)) (λ whole q. h whole (λ rest d. q rest (doubled d)))
+quote_goes sign.Single x b s n text i h = rw (byte_of sign.Single b i refl) (λ whole q. h whole (λ rest d. q rest (doubled d)))
 quote_goes z x b s n text i h = λ whole q. quoted_goes z x b s n text i h whole (q (b ∷ text) close_single)
 
 quoted_key_goes : (z : Sign) (x : Spot) (b : ℕ) (s : List ℕ) (n : Nest) (text : List ℕ) → sign_of b ≡ z → Went (key_if true x z) s n text → QuotedRest x (Left n) (58 ∷ b ∷ text)
@@ -826,11 +751,8 @@ blank_more Q text (after h q) = after (a_space h) q
 
 header_end_goes : (x : Sign) (parent b : ℕ) (s : List ℕ) (n : Nest) (text : List ℕ) → sign_of b ≡ x → Went (at_header_end parent x) s n text
     → After HasBlank (BlockRest parent (Left n)) (b ∷ text)
-header_end_goes sign.Space parent b s n text i h =
-    let P : ℕ → Type 0 = λ m. After HasBlank (BlockRest parent (Left n)) (m ∷ text) in
-    subst P (sym (byte_of sign.Space b i refl)) (blank_more (BlockRest parent (Left n)) text h)
-header_end_goes sign.Newline parent b s n text i h =
-    let P : ℕ → Type 0 = λ m. After HasBlank (BlockRest parent (Left n)) (m ∷ text) in subst P (sym (byte_of sign.Newline b i refl)) (after blank_end h)
+header_end_goes sign.Space parent b s n text i h = rw (byte_of sign.Space b i refl) (blank_more (BlockRest parent (Left n)) text h)
+header_end_goes sign.Newline parent b s n text i h = rw (byte_of sign.Newline b i refl) (after blank_end h)
 header_end_goes _ parent b s n text i h = absurd h
 
 chomp : (Q : List ℕ → Type 0) (b : ℕ) (text : List ℕ) → is_sign b ≡ true → After HasBlank Q text → After HasHeader Q (b ∷ text)
@@ -850,8 +772,7 @@ more_spaces (suc c) text = ap (λ t. 32 ∷ t) (more_spaces c text)
 
 spaced_line : (c : ℕ) (L : List Token → Type 0) (text : List ℕ) → Rest place.Line c L text → Rest place.Line 0 L (spaces c ++ text)
 spaced_line zero L text h = h
-spaced_line (suc c) L text (rest_of h l) =
-    let P : List ℕ → Type 0 = λ t. Rest place.Line 0 L t in subst P (sym (more_spaces c text)) (spaced_line c L (32 ∷ text) (rest_of (space h) l))
+spaced_line (suc c) L text (rest_of h l) = rw (more_spaces c text) (spaced_line c L (32 ∷ text) (rest_of (space h) l))
 
 few_spaces : (c parent : ℕ) → ((c == 0) || nat_le (c - 1) parent) ≡ true → c ≤ suc parent
 few_spaces c parent = grind (arith, common_steps)
@@ -863,9 +784,7 @@ blank_first false parent c s n text e h = absurd h
 
 block_space : (t : Bool) (parent c : ℕ) (s : List ℕ) (n : Nest) (text : List ℕ) → Went (block_if parent (cond t (Some (c + 1)) None)) s n text
     → BlockRest parent (Left n) (spaces c ++ 32 ∷ text)
-block_space true parent c s n text h =
-    let P : List ℕ → Type 0 = λ t. BlockRest parent (Left n) t in
-    subst P (ap (λ m. spaces m ++ text) (add-one c) ∙ more_spaces c text) h
+block_space true parent c s n text h = rw (← (ap (λ m. spaces m ++ text) (add-one c) ∙ more_spaces c text)) h
 block_space false parent c s n text h = absurd h
 
 greater : (a b : ℕ) → nat_le a b ≡ false → b < a
@@ -885,12 +804,8 @@ first_text_goes false false x parent c b s n text i j e f h =
 
 block_goes : (x : Sign) (parent c b : ℕ) (s : List ℕ) (n : Nest) (text : List ℕ) → sign_of b ≡ x → Went (in_block parent c x b) s n text
     → BlockRest parent (Left n) (spaces c ++ b ∷ text)
-block_goes sign.Newline parent c b s n text i h =
-    let P : ℕ → Type 0 = λ m. BlockRest parent (Left n) (spaces c ++ m ∷ text) in
-    subst P (sym (byte_of sign.Newline b i refl)) (blank_first ((c == 0) || nat_le (c - 1) parent) parent c s n text refl h)
-block_goes sign.Space parent c b s n text i h =
-    let P : ℕ → Type 0 = λ m. BlockRest parent (Left n) (spaces c ++ m ∷ text) in
-    subst P (sym (byte_of sign.Space b i refl)) (block_space (nat_lt (c + 1) (2 ^ 64)) parent c s n text h)
+block_goes sign.Newline parent c b s n text i h = rw (byte_of sign.Newline b i refl) (blank_first ((c == 0) || nat_le (c - 1) parent) parent c s n text refl h)
+block_goes sign.Space parent c b s n text i h = rw (byte_of sign.Space b i refl) (block_space (nat_lt (c + 1) (2 ^ 64)) parent c s n text h)
 block_goes x parent c b s n text i h = first_text_goes (nat_le c parent) (b == 9) x parent c b s n text i refl refl refl h
 
 blank_rest : (own c : ℕ) (L : List Token → Type 0) (text : List ℕ) → LinesRest own L text → LinesRest own L (spaces c ++ 10 ∷ text)
@@ -901,8 +816,7 @@ line_rest own b L text e (after h (after hs q)) = after (line (a_byte e h) hs) q
 
 indent_space : (t : Bool) (parent own c : ℕ) (s : List ℕ) (n : Nest) (text : List ℕ) → Went (indent_if parent own (cond t (Some (c + 1)) None)) s n text
     → LinesRest own (Left n) (spaces c ++ 32 ∷ text)
-indent_space true parent own c s n text h =
-    let P : List ℕ → Type 0 = λ t. LinesRest own (Left n) t in subst P (ap (λ m. spaces m ++ text) (add-one c) ∙ more_spaces c text) h
+indent_space true parent own c s n text h = rw (← (ap (λ m. spaces m ++ text) (add-one c) ∙ more_spaces c text)) h
 indent_space false parent own c s n text h = absurd h
 
 after_block_goes : (t : Bool) (x : Sign) (own c b : ℕ) (s : List ℕ) (n : Nest) (text : List ℕ) → sign_of b ≡ x → Went (cond t (at_place (spot_at place.Line c) x b) None) s n text
@@ -912,29 +826,22 @@ after_block_goes false x own c b s n text i h = absurd h
 
 before_goes : (x : Sign) (parent own c b : ℕ) (s : List ℕ) (n : Nest) (text : List ℕ) → sign_of b ≡ x → Went (before_indent parent own c x b) s n text
     → LinesRest own (Left n) (spaces c ++ b ∷ text)
-before_goes sign.Space parent own c b s n text i h =
-    let P : ℕ → Type 0 = λ m. LinesRest own (Left n) (spaces c ++ m ∷ text) in
-    subst P (sym (byte_of sign.Space b i refl)) (indent_space (nat_lt (c + 1) (2 ^ 64)) parent own c s n text h)
+before_goes sign.Space parent own c b s n text i h = rw (byte_of sign.Space b i refl) (indent_space (nat_lt (c + 1) (2 ^ 64)) parent own c s n text h)
 before_goes x parent own c b s n text i h = after_block_goes (nat_le c parent) x own c b s n text i h
 
 text_or_goes : (t : Bool) (x : Sign) (parent own c b : ℕ) (s : List ℕ) (n : Nest) (text : List ℕ) → sign_of b ≡ x → line_sign x ≡ true → (c == own) ≡ t
     → Went (text_or t parent own c x b) s n text → LinesRest own (Left n) (spaces c ++ b ∷ text)
-text_or_goes true x parent own c b s n text i j e h =
-    let P : ℕ → Type 0 = λ m. LinesRest own (Left n) (spaces m ++ b ∷ text) in
-    subst P (sym (same_of c own e)) (line_rest own b (Left n) text (no_newlines b (ap line_sign i ∙ j)) h)
+text_or_goes true x parent own c b s n text i j e h = rw (same_of c own e) (line_rest own b (Left n) text (no_newlines b (ap line_sign i ∙ j)) h)
 text_or_goes false x parent own c b s n text i j e h = before_goes x parent own c b s n text i h
 
 indent_goes : (x : Sign) (parent own c b : ℕ) (s : List ℕ) (n : Nest) (text : List ℕ) → sign_of b ≡ x → Went (in_indent parent own c x b) s n text
     → LinesRest own (Left n) (spaces c ++ b ∷ text)
-indent_goes sign.Newline parent own c b s n text i h =
-    let P : ℕ → Type 0 = λ m. LinesRest own (Left n) (spaces c ++ m ∷ text) in
-    subst P (sym (byte_of sign.Newline b i refl)) (blank_rest own c (Left n) text h)
+indent_goes sign.Newline parent own c b s n text i h = rw (byte_of sign.Newline b i refl) (blank_rest own c (Left n) text h)
 indent_goes x parent own c b s n text i h = text_or_goes (c == own) x parent own c b s n text i refl refl h
 
 text_goes : (x : Sign) (parent own b : ℕ) (s : List ℕ) (n : Nest) (text : List ℕ) → sign_of b ≡ x → Went (in_text parent own x) s n text
     → After HasLine (LinesRest own (Left n)) (b ∷ text)
-text_goes sign.Newline parent own b s n text i h =
-    let P : ℕ → Type 0 = λ m. After HasLine (LinesRest own (Left n)) (m ∷ text) in subst P (sym (byte_of sign.Newline b i refl)) (after line_end h)
+text_goes sign.Newline parent own b s n text i h = rw (byte_of sign.Newline b i refl) (after line_end h)
 text_goes x parent own b s n text i h = comment_more b (LinesRest own (Left n)) text (no_newlines b (ap line_sign i)) h
 
 -- ---- each control

@@ -79,11 +79,10 @@ open_fits false k e ls bs ts p = absurd p
 
 -- nothing stands for a value that is wanted
 null_value : (e : Expects) (ls : List Level) (ts : List Token) → BehindLevels ls ts → LeftAt e ls [] ts
-null_value expects.Value [] ts b = both nothing b
 null_value expects.Value (lev.Map c ∷ ls) ts b = both (beyond nothing) b
-null_value expects.Value (lev.Sequence c ∷ ls) ts b = both nothing b
 null_value expects.Entry ls ts b = tt
 null_value expects.Nothing ls ts b = no_bracket b
+null_value expects.Value _ ts b = both nothing b
 
 -- the column is beyond that of the innermost level
 abbrev IsDeeper : ℕ → List Level → Type 0
@@ -162,9 +161,7 @@ item_fits c e (lev.Sequence d ∷ ls) ts p = in_sequence_at (d == c) refl p
     in_sequence_at : (t : Bool) → (d == c) ≡ t
         → Changed (cond t (Some (change.Expect expects.Value)) (push_if (is_value e && nat_lt d c) (lev.Sequence c))) (nest_at e (lev.Sequence d ∷ ls) []) ts
         → LeftAt e (lev.Sequence d ∷ ls) [] (token.Item c ∷ ts)
-    in_sequence_at true same p =
-        let P : ℕ → Type 0 = λ n. LeftAt e (lev.Sequence d ∷ ls) [] (token.Item n ∷ ts) in
-        subst P (same_of d c same) (null_value e (lev.Sequence d ∷ ls) (token.Item d ∷ ts) (next_item ls d ts p))
+    in_sequence_at true same p = rw (← same_of d c same) (null_value e (lev.Sequence d ∷ ls) (token.Item d ∷ ts) (next_item ls d ts p))
     in_sequence_at false same p = push_at e p
 
 -- ---- keys
@@ -187,9 +184,7 @@ key_fits c e (lev.Map d ∷ ls) ts p = in_map_at (d == c) refl p
     in_map_at : (t : Bool) → (d == c) ≡ t
         → Changed (cond t (Some (change.Expect expects.Value)) (push_if (is_value e && nat_lt d c) (lev.Map c))) (nest_at e (lev.Map d ∷ ls) []) ts
         → LeftAt e (lev.Map d ∷ ls) [] (token.Key c ∷ ts)
-    in_map_at true same p =
-        let P : ℕ → Type 0 = λ n. LeftAt e (lev.Map d ∷ ls) [] (token.Key n ∷ ts) in
-        subst P (same_of d c same) (null_value e (lev.Map d ∷ ls) (token.Key d ∷ ts) (next_key ls d ts p))
+    in_map_at true same p = rw (← same_of d c same) (null_value e (lev.Map d ∷ ls) (token.Key d ∷ ts) (next_key ls d ts p))
     in_map_at false same p = push_at e p
 
 -- an entry in brackets, and what follows it
@@ -271,12 +266,9 @@ close_if_fits k expects.Nothing ls bs ts p = closes p
 
 close_fits : (own : Bracket) (e : Expects) (ls : List Level) (bs : List Bracket) (ts : List Token) → Changed (close_change own e (head_of bs)) (nest_at e ls bs) ts
     → LeftAt e ls bs (token.Close own ∷ ts)
-close_fits bracket.List e ls [] ts p = absurd p
-close_fits bracket.Map e ls [] ts p = absurd p
 close_fits bracket.List e ls (bracket.List ∷ bs) ts p = close_if_fits bracket.List e ls bs ts p
 close_fits bracket.Map e ls (bracket.Map ∷ bs) ts p = close_if_fits bracket.Map e ls bs ts p
-close_fits bracket.List e ls (bracket.Map ∷ bs) ts p = absurd p
-close_fits bracket.Map e ls (bracket.List ∷ bs) ts p = absurd p
+close_fits _ e ls _ ts p = absurd p
 
 comma_fits : (e : Expects) (ls : List Level) (bs : List Bracket) (ts : List Token) → Changed (comma_change e (head_of bs)) (nest_at e ls bs) ts
     → LeftAt e ls bs (token.Comma ∷ ts)
