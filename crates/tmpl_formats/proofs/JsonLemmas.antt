@@ -6,7 +6,7 @@ use Rattle.std.specs.Prelude.{nat_lt, option_map}
 use Rattle.tmpl_formats.proofs.MachineLemmas.{went}
 use Rattle.tmpl_formats.proofs.JsonGrammar.{HasHex, no_digit, a_digit, other, below, high, HasLow, low, HasString, close, plain, short, unit, pair, HasDigits, no_more, digit, HasSome, some, HasExponent, no_exponent, unsigned, signed, HasFraction, no_fraction, fraction, HasUnsigned, zero, whole, positive, negative, HasSpace, no_space, space, HasValue, a_true, a_false, a_null, number, string, empty_array, array, empty_object, object, HasElement, element, HasItems, last_item, more_items, HasMember, member, HasMembers, last_member, more_members, IsElement}
 use Rattle.tmpl_formats.specs.computed.JsonBytes.{is_white, is_plain, is_short_escape, hex_value}
-use Rattle.tmpl_formats.specs.computed.Json.{sign_of, after, at_value, at_item, at_key, at_member, at_colon, at_end, closed, at_text, next, at_escape, is_low, at_literal, after_minus, after_power, after_fraction, after_zero, after_whole, after_point, after_sign, after_exponent, at_number, Config, head_of, tail_of, applied, step, ends, ends_value, is_empty, json_mistake}
+use Rattle.tmpl_formats.specs.computed.Json.{sign_of, after, at_value, at_item, at_key, at_member, at_colon, at_end, closed, at_text, next, at_escape, is_low, at_literal, after_minus, after_power, after_fraction, after_zero, after_whole, first_digit, after_exponent, at_number, Config, head_of, tail_of, applied, step, ends, ends_value, is_empty, json_mistake}
 use Rattle.tmpl_formats.specs.computed.Machine.{mistake, after_step}
 use Rattle.tmpl_formats.specs.declared.json_text.Action.{Action}
 use Rattle.tmpl_formats.specs.declared.json_text.Action.TheVariants as action
@@ -596,29 +596,25 @@ minus_goes sign.Digit s b text e h known =
     minus_whole s b text (digits b (ap digit_sign e)) (nonzeros b (ap nonzero_sign e)) (on (at.Number num.Whole) s text known h)
 minus_goes _ s b text e h known = cc
 
-point_goes : (x : Sign) (s : List Open) (b : ℕ) (text : List ℕ) → sign_of b ≡ x → Accepts s (after_point x) text → Known text → NumberThen num.Point s (b ∷ text)
-point_goes sign.Zero s b text e h known = some_digits sign.Zero (Then HasExponent (Behind s)) b text refl e (on (at.Number num.Fraction) s text known h)
-point_goes sign.Digit s b text e h known = some_digits sign.Digit (Then HasExponent (Behind s)) b text refl e (on (at.Number num.Fraction) s text known h)
-point_goes _ s b text e h known = cc
-
-sign_goes : (x : Sign) (s : List Open) (b : ℕ) (text : List ℕ) → sign_of b ≡ x → Accepts s (after_sign x) text → Known text → NumberThen num.Sign s (b ∷ text)
-sign_goes sign.Zero s b text e h known = some_digits sign.Zero (Behind s) b text refl e (on (at.Number num.Power) s text known h)
-sign_goes sign.Digit s b text e h known = some_digits sign.Digit (Behind s) b text refl e (on (at.Number num.Power) s text known h)
-sign_goes _ s b text e h known = cc
+first_goes : (n : Number) (Q : List ℕ → Type 0) (x : Sign) (s : List Open) (b : ℕ) (text : List ℕ) → sign_of b ≡ x → (NumberThen n s text → Then HasDigits Q text)
+    → Accepts s (first_digit n x) text → Known text → Then HasSome Q (b ∷ text)
+first_goes n Q sign.Zero s b text e f h known = some_digits sign.Zero Q b text refl e (f (on (at.Number n) s text known h))
+first_goes n Q sign.Digit s b text e f h known = some_digits sign.Digit Q b text refl e (f (on (at.Number n) s text known h))
+first_goes n Q _ s b text e f h known = cc
 
 exponent_goes : (x : Sign) (s : List Open) (b : ℕ) (text : List ℕ) → sign_of b ≡ x → Accepts s (after_exponent x) text → Known text → NumberThen num.Exponent s (b ∷ text)
 exponent_goes sign.Plus s b text e h known = λ a i. exponent_signed s a b text i (inl (byte_of sign.Plus b e refl)) (on (at.Number num.Sign) s text known h)
 exponent_goes sign.Minus s b text e h known = λ a i. exponent_signed s a b text i (inr (byte_of sign.Minus b e refl)) (on (at.Number num.Sign) s text known h)
-exponent_goes x s b text e h known = λ a i. exponent_of s a (b ∷ text) i (sign_goes x s b text e h known)
+exponent_goes x s b text e h known = λ a i. exponent_of s a (b ∷ text) i (first_goes num.Power (Behind s) x s b text e (λ q. q) h known)
 
 number_goes : (n : Number) (s : List Open) (b : ℕ) (text : List ℕ) → Accepts s (at_number n (head_of s) (sign_of b)) text → Known text → NumberThen n s (b ∷ text)
 number_goes num.Minus s b text h known = minus_goes (sign_of b) s b text refl h known
 number_goes num.Zero s b text h known = zero_goes (sign_of b) s b text refl h known
 number_goes num.Whole s b text h known = whole_goes (sign_of b) s b text refl h known
-number_goes num.Point s b text h known = point_goes (sign_of b) s b text refl h known
+number_goes num.Point s b text h known = first_goes num.Fraction (Then HasExponent (Behind s)) (sign_of b) s b text refl (λ q. q) h known
 number_goes num.Fraction s b text h known = fraction_goes (sign_of b) s b text refl h known
 number_goes num.Exponent s b text h known = exponent_goes (sign_of b) s b text refl h known
-number_goes num.Sign s b text h known = sign_goes (sign_of b) s b text refl h known
+number_goes num.Sign s b text h known = first_goes num.Power (Behind s) (sign_of b) s b text refl (λ q. q) h known
 number_goes num.Power s b text h known = power_goes (sign_of b) s b text refl h known
 
 -- ---- the whole text

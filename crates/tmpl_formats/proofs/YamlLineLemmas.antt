@@ -10,7 +10,7 @@ use Rattle.tmpl_formats.specs.YamlScalar.{is_start, passes, may_follow, is_sign,
 use Rattle.tmpl_formats.specs.Hex.{hex_value}
 use Rattle.tmpl_formats.specs.computed.YamlScalar.{starts_well, is_scalar, is_spaced_scalar, is_name}
 use Rattle.tmpl_formats.specs.computed.Yaml.{written}
-use Rattle.tmpl_formats.specs.computed.YamlLine.{sign_of, spot_at, to, add, dashed, spot_if, at_gap, gap_if, at_next_gap, begin_in, lead_in, mark_if, at_node, at_flow, on_line, at_place, after_flow_scalar, after_scalar_in, key_if, is_margin_in, after_dash, after_dashes, after_closed, in_comment, more_plain, ends_entry, whole_value, after_plain, named_key, after_colon, spaced_value, after_space, after_digit, in_single, at_quoted_colon, after_quoted, after_quote, at_header_end, block_if, in_block, indent_if, before_indent, text_or, in_indent, in_text, move_of}
+use Rattle.tmpl_formats.specs.computed.YamlLine.{sign_of, spot_at, to, move_to, spot_if, at_gap, gap_if, at_next_gap, begin_in, lead_in, mark_if, at_node, at_flow, on_line, at_place, after_flow_scalar, after_scalar_in, key_if, is_margin_in, after_dash, after_dashes, after_closed, in_comment, more_plain, ends_entry, whole_value, after_plain, named_key, after_colon, spaced_value, after_space, after_digit, in_single, at_quoted_colon, after_quoted, after_quote, at_header_end, block_if, in_block, indent_if, before_indent, text_or, in_indent, in_text, move_of}
 use Rattle.tmpl_formats.specs.computed.YamlNest.{Nest, nest_at, happened, is_in_brackets}
 use Rattle.tmpl_formats.specs.declared.yaml_nest.Bracket.{Bracket}
 use Rattle.tmpl_formats.specs.declared.yaml_nest.Bracket.TheVariants as bracket
@@ -27,6 +27,7 @@ use Rattle.tmpl_formats.specs.declared.yaml_line.Place.TheVariants as place
 use Rattle.tmpl_formats.specs.declared.yaml_line.Sign.{Sign}
 use Rattle.tmpl_formats.specs.declared.yaml_line.Sign.TheVariants as sign
 use Rattle.tmpl_formats.specs.declared.yaml_line.Spot.{Spot}
+use Rattle.tmpl_formats.specs.declared.yaml_line.Write.TheVariants as writes
 
 -- ---- bytes of a kind
 
@@ -477,12 +478,12 @@ margin_of : (p : Place) (c : ℕ) (L : List Token → Type 0) (text : List ℕ) 
 margin_of place.Line c L text e h = rw (same_of c 0 e) h
 margin_of _ c L text e h = cc
 
-dashed_goes : (p : Place) (c b : ℕ) (s : List ℕ) (n : Nest) (text : List ℕ) → Went (dashed (at.Plain (spot_at p c)) b (begin_in p c)) s n text
+dashed_goes : (p : Place) (c b : ℕ) (s : List ℕ) (n : Nest) (text : List ℕ) → Went (move_to (at.Plain (spot_at p c)) (writes.Dash b) (begin_in p c)) s n text
     → Rest p c (Left n) (45 ∷ b ∷ text)
 dashed_goes p c b s n text h = plain_reached p c (45 ∷ b ∷ []) (Left n) text (begin_reach p c (at.Plain (spot_at p c)) (45 ∷ b ∷ []) n text h)
 
 second_dash_goes : (t : Bool) (p : Place) (c b : ℕ) (s : List ℕ) (n : Nest) (text : List ℕ) → is_margin_in p c ≡ t → b ≡ 45
-    → Went (cond t (to at.Dashes event.Nothing) (dashed (at.Plain (spot_at p c)) b (begin_in p c))) s n text → Rest p c (Left n) (45 ∷ b ∷ text)
+    → Went (cond t (to at.Dashes event.Nothing) (move_to (at.Plain (spot_at p c)) (writes.Dash b) (begin_in p c))) s n text → Rest p c (Left n) (45 ∷ b ∷ text)
 second_dash_goes true p c b s n text m e h = rw e (margin_of p c (Left n) (45 ∷ 45 ∷ text) m h)
 second_dash_goes false p c b s n text m e h = dashed_goes p c b s n text h
 
@@ -543,7 +544,7 @@ three_of _ _ v h = cc
 plain_more : (p : Place) (c b : ℕ) (s : List ℕ) (L : List Token → Type 0) (text : List ℕ) → Rest p c L ((s ++ b ∷ []) ++ text) → Rest p c L (s ++ b ∷ text)
 plain_more p c b s L text h = rw (← append_assoc s (b ∷ []) text) h
 
-more_plain_goes : (t : Bool) (p : Place) (c b : ℕ) (s : List ℕ) (n : Nest) (text : List ℕ) → Went (cond t (add (at.Plain (spot_at p c)) b event.Nothing) None) s n text
+more_plain_goes : (t : Bool) (p : Place) (c b : ℕ) (s : List ℕ) (n : Nest) (text : List ℕ) → Went (cond t (move_to (at.Plain (spot_at p c)) (writes.Add b) event.Nothing) None) s n text
     → Rest p c (Left n) (s ++ b ∷ text)
 more_plain_goes true p c b s n text h = plain_more p c b s (Left n) text h
 more_plain_goes false p c b s n text h = absurd h

@@ -7,7 +7,7 @@ ghost use Rattle.tmpl_formats.specs.PatternView.{marks_of};
 use std::alloc::{AllocError, Global};
 
 /// The code points from the first to the last.
-#[derive(Clone, Copy, Debug, PartialEq, Eq)]
+#[derive(Clone, Copy)]
 pub struct Span {
     pub first: u32,
     pub last: u32,

@@ -6,14 +6,14 @@ ghost use Rattle.tmpl_formats.specs.computed.YamlNestView.{nest_of};
 use std::alloc::{AllocError, Global};
 
 /// Brackets of a kind.
-#[derive(Clone, Copy, Debug, PartialEq, Eq)]
+#[derive(Clone, Copy)]
 pub enum Bracket {
     List,
     Map,
 }
 
 /// What lines say, with columns.
-#[derive(Clone, Copy, Debug, PartialEq, Eq)]
+#[derive(Clone, Copy)]
 pub enum Token {
     /// The dash of an item.
     Item(u64),
@@ -27,14 +27,14 @@ pub enum Token {
 }
 
 /// A map or a sequence that is open, with the column of its entries.
-#[derive(Clone, Copy, Debug, PartialEq, Eq)]
+#[derive(Clone, Copy)]
 pub enum Level {
     Map(u64),
     Sequence(u64),
 }
 
 /// What may come next.
-#[derive(Clone, Copy, Debug, PartialEq, Eq)]
+#[derive(Clone, Copy)]
 pub enum Expects {
     /// A value, or nothing in its place.
     Value,
@@ -45,7 +45,7 @@ pub enum Expects {
 }
 
 /// What a token does.
-#[derive(Clone, Copy, Debug, PartialEq, Eq)]
+#[derive(Drop)]
 pub enum Change {
     Expect(Expects),
     Push(Level),
@@ -55,7 +55,7 @@ pub enum Change {
 }
 
 /// What a byte says of tokens.
-#[derive(Clone, Copy, Debug, PartialEq, Eq)]
+#[derive(Clone, Copy)]
 pub enum Event {
     Nothing,
     /// A key or a value begins at a column.
@@ -76,28 +76,6 @@ pub(crate) struct Nest {
     pub(crate) expects: Expects,
     pub(crate) levels: Vec<Level>,
     pub(crate) brackets: Vec<Bracket>,
-}
-
-/// A level opens where a test passes.
-fn push_if(passes: bool, level: Level) -> Option<Change>
-    ensures { result ≡ computed.push_if passes level }
-{
-    if passes {
-        Some(Change::Push(level))
-    } else {
-        None
-    }
-}
-
-/// What comes next where a test passes.
-fn expect_if(passes: bool, expects: Expects) -> Option<Change>
-    ensures { result ≡ computed.expect_if passes expects }
-{
-    if passes {
-        Some(Change::Expect(expects))
-    } else {
-        None
-    }
 }
 
 /// Whether a value is wanted.
@@ -127,18 +105,7 @@ fn holds(column: u64, expects: Expects, top: Option<Level>) -> bool
 {
     match top {
         None => is_value(expects),
-        Some(Level::Map(own)) => is_value(expects) && own < column,
-        Some(Level::Sequence(own)) => is_value(expects) && own < column,
-    }
-}
-
-/// Whether a value may come in brackets.
-fn holds_in(expects: Expects, bracket: Bracket) -> bool
-    ensures { result ≡ computed.holds_in expects bracket }
-{
-    match bracket {
-        Bracket::List => is_entry(expects),
-        Bracket::Map => is_value(expects),
+        Some(Level::Map(own) | Level::Sequence(own)) => is_value(expects) && own < column,
     }
 }
 
@@ -148,7 +115,8 @@ fn holds_at(column: u64, expects: Expects, top: Option<Level>, bracket: Option<B
 {
     match bracket {
         None => holds(column, expects, top),
-        Some(bracket) => holds_in(expects, bracket),
+        Some(Bracket::List) => is_entry(expects),
+        Some(Bracket::Map) => is_value(expects),
     }
 }
 
@@ -156,33 +124,12 @@ fn holds_at(column: u64, expects: Expects, top: Option<Level>, bracket: Option<B
 fn item(column: u64, expects: Expects, top: Option<Level>) -> Option<Change>
     ensures { result ≡ computed.item column expects top }
 {
-    match top {
-        None => push_if(is_value(expects), Level::Sequence(column)),
-        Some(Level::Map(own)) => push_if(
-            is_value(expects) && own <= column,
-            Level::Sequence(column),
-        ),
-        Some(Level::Sequence(own)) => if own == column {
-            Some(Change::Expect(Expects::Value))
-        } else {
-            push_if(is_value(expects) && own < column, Level::Sequence(column))
-        },
-    }
-}
-
-/// An item, which stands in no brackets.
-fn item_at(
-    column: u64,
-    expects: Expects,
-    top: Option<Level>,
-    bracket: Option<Bracket>,
-) -> Option<Change>
-    ensures { result ≡ computed.item_at column expects top bracket }
-{
-    match bracket {
-        None => item(column, expects, top),
-        Some(_) => None,
-    }
+    let opens = match top {
+        Some(Level::Sequence(own)) if own == column => return Some(Change::Expect(Expects::Value)),
+        Some(Level::Map(own)) => is_value(expects) && own <= column,
+        _ => holds(column, expects, top),
+    };
+    opens.then_some(Change::Push(Level::Sequence(column)))
 }
 
 /// A key of a map.
@@ -190,84 +137,8 @@ fn key(column: u64, expects: Expects, top: Option<Level>) -> Option<Change>
     ensures { result ≡ computed.key column expects top }
 {
     match top {
-        None => push_if(is_value(expects), Level::Map(column)),
-        Some(Level::Map(own)) => if own == column {
-            Some(Change::Expect(Expects::Value))
-        } else {
-            push_if(is_value(expects) && own < column, Level::Map(column))
-        },
-        Some(Level::Sequence(own)) => push_if(
-            is_value(expects) && own < column,
-            Level::Map(column),
-        ),
-    }
-}
-
-/// A key of a map, perhaps in brackets.
-fn key_at(
-    column: u64,
-    expects: Expects,
-    top: Option<Level>,
-    bracket: Option<Bracket>,
-) -> Option<Change>
-    ensures { result ≡ computed.key_at column expects top bracket }
-{
-    match bracket {
-        None => key(column, expects, top),
-        Some(Bracket::List) => None,
-        Some(Bracket::Map) => expect_if(is_entry(expects), Expects::Value),
-    }
-}
-
-/// Brackets open where a value may come.
-fn open_if(passes: bool, bracket: Bracket) -> Option<Change>
-    ensures { result ≡ computed.open_if passes bracket }
-{
-    if passes {
-        Some(Change::Open(bracket))
-    } else {
-        None
-    }
-}
-
-/// The end of brackets, after an entry or a comma.
-fn close(own: Bracket, expects: Expects, bracket: Option<Bracket>) -> Option<Change>
-    ensures { result ≡ computed.close own expects bracket }
-{
-    match (own, bracket) {
-        (Bracket::List, Some(Bracket::List)) => close_if(expects),
-        (Bracket::Map, Some(Bracket::Map)) => close_if(expects),
-        _ => None,
-    }
-}
-
-/// The end of brackets, unless a value is wanted.
-fn close_if(expects: Expects) -> Option<Change>
-    ensures { result ≡ computed.close_if expects }
-{
-    match expects {
-        Expects::Value => None,
-        _ => Some(Change::Close),
-    }
-}
-
-/// A comma, after an entry in brackets.
-fn comma(expects: Expects, bracket: Option<Bracket>) -> Option<Change>
-    ensures { result ≡ computed.comma expects bracket }
-{
-    match bracket {
-        None => None,
-        Some(_) => expect_if(is_nothing(expects), Expects::Entry),
-    }
-}
-
-/// Another document, which begins in no brackets.
-fn marker(bracket: Option<Bracket>) -> Option<Change>
-    ensures { result ≡ computed.marker bracket }
-{
-    match bracket {
-        None => Some(Change::Reset),
-        Some(_) => None,
+        Some(Level::Map(own)) if own == column => Some(Change::Expect(Expects::Value)),
+        _ => holds(column, expects, top).then_some(Change::Push(Level::Map(column))),
     }
 }
 
@@ -280,17 +151,25 @@ fn change_of(
 ) -> Option<Change>
     ensures { result ≡ computed.change_of token expects top bracket }
 {
-    match token {
-        Token::Item(column) => item_at(column, expects, top, bracket),
-        Token::Key(column) => key_at(column, expects, top, bracket),
-        Token::Scalar(column) => expect_if(
-            holds_at(column, expects, top, bracket),
-            Expects::Nothing,
-        ),
-        Token::Open(own, column) => open_if(holds_at(column, expects, top, bracket), own),
-        Token::Close(own) => close(own, expects, bracket),
-        Token::Comma => comma(expects, bracket),
-        Token::Marker => marker(bracket),
+    match (token, bracket) {
+        (Token::Item(column), None) => item(column, expects, top),
+        (Token::Key(column), None) => key(column, expects, top),
+        (Token::Key(_), Some(Bracket::Map)) => {
+            is_entry(expects).then_some(Change::Expect(Expects::Value))
+        }
+        (Token::Scalar(column), _) => {
+            holds_at(column, expects, top, bracket).then_some(Change::Expect(Expects::Nothing))
+        }
+        (Token::Open(own, column), _) => {
+            holds_at(column, expects, top, bracket).then_some(Change::Open(own))
+        }
+        (Token::Close(Bracket::List), Some(Bracket::List))
+        | (Token::Close(Bracket::Map), Some(Bracket::Map)) => {
+            (!is_value(expects)).then_some(Change::Close)
+        }
+        (Token::Comma, Some(_)) => is_nothing(expects).then_some(Change::Expect(Expects::Entry)),
+        (Token::Marker, None) => Some(Change::Reset),
+        _ => None,
     }
 }
 

@@ -202,29 +202,25 @@ after_whole top sign.Zero = to (at.Number number.Whole)
 after_whole top sign.Digit = to (at.Number number.Whole)
 after_whole top s = after_zero top s
 
-abbrev pub after_point : Sign → Option Action
-after_point sign.Zero = to (at.Number number.Fraction)
-after_point sign.Digit = to (at.Number number.Fraction)
-after_point _ = None
-
-abbrev pub after_sign : Sign → Option Action
-after_sign sign.Zero = to (at.Number number.Power)
-after_sign sign.Digit = to (at.Number number.Power)
-after_sign _ = None
+-- where the first digit of a fraction or of an exponent has to come
+abbrev pub first_digit : Number → Sign → Option Action
+first_digit n sign.Zero = to (at.Number n)
+first_digit n sign.Digit = to (at.Number n)
+first_digit n _ = None
 
 abbrev pub after_exponent : Sign → Option Action
 after_exponent sign.Plus = to (at.Number number.Sign)
 after_exponent sign.Minus = to (at.Number number.Sign)
-after_exponent s = after_sign s
+after_exponent s = first_digit number.Power s
 
 abbrev pub at_number : Number → Option Open → Sign → Option Action
 at_number number.Minus top s = after_minus s
 at_number number.Zero top s = after_zero top s
 at_number number.Whole top s = after_whole top s
-at_number number.Point top s = after_point s
+at_number number.Point top s = first_digit number.Fraction s
 at_number number.Fraction top s = after_fraction top s
 at_number number.Exponent top s = after_exponent s
-at_number number.Sign top s = after_sign s
+at_number number.Sign top s = first_digit number.Power s
 at_number number.Power top s = after_power top s
 
 abbrev pub after : Control → Option Open → ℕ → Option Action

@@ -18,7 +18,8 @@ use Rattle.tmpl_formats.specs.declared.yaml_line.Place.TheVariants as place
 use Rattle.tmpl_formats.specs.declared.yaml_line.Sign.{Sign}
 use Rattle.tmpl_formats.specs.declared.yaml_line.Sign.TheVariants as sign
 use Rattle.tmpl_formats.specs.declared.yaml_line.Spot.{Spot}
-use Rattle.tmpl_formats.specs.declared.yaml_line.Write.TheVariants as write
+use Rattle.tmpl_formats.specs.declared.yaml_line.Write.{Write}
+use Rattle.tmpl_formats.specs.declared.yaml_line.Write.TheVariants as writes
 
 -- the kind of a byte
 abbrev pub sign_of : ℕ → Sign
@@ -41,20 +42,11 @@ sign_of b =
 abbrev pub spot_at : Place → ℕ → Spot
 spot_at p c = record { place = p; column = c }
 
+abbrev pub move_to : Control → Write → Event → Option Move
+move_to q w e = Some (record { control = q; write = w; event = e })
+
 abbrev pub to : Control → Event → Option Move
-to q e = Some (record { control = q; write = write.Keep; event = e })
-
-abbrev pub add : Control → ℕ → Event → Option Move
-add q b e = Some (record { control = q; write = write.Add b; event = e })
-
-abbrev pub start : Control → ℕ → Event → Option Move
-start q b e = Some (record { control = q; write = write.Start b; event = e })
-
-abbrev pub dashed : Control → ℕ → Event → Option Move
-dashed q b e = Some (record { control = q; write = write.Dash b; event = e })
-
-abbrev pub twice_dashed : Control → ℕ → Event → Option Move
-twice_dashed q b e = Some (record { control = q; write = write.Dashes b; event = e })
+to q e = move_to q writes.Keep e
 
 abbrev pub next_column : ℕ → Option ℕ
 next_column c = if nat_lt (c + 1) (2 ^ 64) then Some (c + 1) else None
@@ -107,8 +99,8 @@ at_mark x = mark_if (parent_of x.place) x.column
 -- where a key or a value begins
 abbrev pub at_node : Spot → Sign → ℕ → Option Move
 at_node x sign.Dash b = to (at.Dash x) (lead x)
-at_node x sign.Start b = start (at.Plain x) b (begin x)
-at_node x sign.Lead b = start (at.Plain x) b (begin x)
+at_node x sign.Start b = move_to (at.Plain x) (writes.Start b) (begin x)
+at_node x sign.Lead b = move_to (at.Plain x) (writes.Start b) (begin x)
 at_node x sign.Double b = to (at.Double x) (begin x)
 at_node x sign.Single b = to (at.Single x) (begin x)
 at_node x sign.Mark b = at_mark x
@@ -168,18 +160,18 @@ abbrev pub is_margin : Spot → Bool
 is_margin x = is_margin_in x.place x.column
 
 abbrev pub at_second_dash : Spot → ℕ → Option Move
-at_second_dash x b = if is_margin x then to at.Dashes event.Nothing else dashed (at.Plain x) b (begin x)
+at_second_dash x b = if is_margin x then to at.Dashes event.Nothing else move_to (at.Plain x) (writes.Dash b) (begin x)
 
 abbrev pub after_dash : Spot → Sign → ℕ → Option Move
 after_dash x sign.Space b = item_if x sign.Space
 after_dash x sign.Newline b = item_if x sign.Newline
 after_dash x sign.Dash b = at_second_dash x b
-after_dash x sign.Start b = dashed (at.Plain x) b (begin x)
+after_dash x sign.Start b = move_to (at.Plain x) (writes.Dash b) (begin x)
 after_dash x _ b = None
 
 abbrev pub after_dashes : Sign → ℕ → Option Move
 after_dashes sign.Dash b = to at.Closed (event.One token.Marker)
-after_dashes sign.Start b = twice_dashed (at.Plain (spot_at place.Line 0)) b (event.Begin 0)
+after_dashes sign.Start b = move_to (at.Plain (spot_at place.Line 0)) (writes.Dashes b) (event.Begin 0)
 after_dashes _ b = None
 
 abbrev pub after_closed : Bool → Sign → ℕ → Option Move
@@ -191,7 +183,7 @@ in_comment _ = to at.Comment event.Nothing
 
 -- plain scalars
 abbrev pub more_plain : Spot → ℕ → Option Move
-more_plain x b = if may_follow (is_flow x.place) 0 b then add (at.Plain x) b event.Nothing else None
+more_plain x b = if may_follow (is_flow x.place) 0 b then move_to (at.Plain x) (writes.Add b) event.Nothing else None
 
 abbrev pub ends_entry : Sign → Bool
 ends_entry sign.Comma = true
@@ -203,8 +195,8 @@ whole_value x text s = value_if (is_scalar (is_flow x.place) text (length text))
 
 abbrev pub after_plain : Spot → List ℕ → Sign → ℕ → Option Move
 after_plain x text sign.Newline b = whole_value x text sign.Newline
-after_plain x text sign.Colon b = add (at.PlainColon x (length text)) b event.Nothing
-after_plain x text sign.Space b = add (at.PlainSpace x (length text)) b event.Nothing
+after_plain x text sign.Colon b = move_to (at.PlainColon x (length text)) (writes.Add b) event.Nothing
+after_plain x text sign.Space b = move_to (at.PlainSpace x (length text)) (writes.Add b) event.Nothing
 after_plain x text s b = if is_flow x.place && ends_entry s then whole_value x text s else more_plain x b
 
 abbrev pub in_plain : Spot → List ℕ → Sign → ℕ → Option Move
@@ -216,7 +208,7 @@ named_key x text end s = key_if (is_name (is_flow x.place) text end) x s
 abbrev pub after_colon : Spot → List ℕ → ℕ → Sign → ℕ → Option Move
 after_colon x text end sign.Space b = named_key x text end sign.Space
 after_colon x text end sign.Newline b = named_key x text end sign.Newline
-after_colon x text end sign.Colon b = add (at.PlainColon x (length text)) b event.Nothing
+after_colon x text end sign.Colon b = move_to (at.PlainColon x (length text)) (writes.Add b) event.Nothing
 after_colon x text end s b = more_plain x b
 
 abbrev pub comment_if : Bool → Spot → Option Move
@@ -226,7 +218,7 @@ abbrev pub spaced_value : Spot → List ℕ → ℕ → Sign → Option Move
 spaced_value x text end s = value_if (is_spaced_scalar (is_flow x.place) text end) x s
 
 abbrev pub after_space : Spot → List ℕ → ℕ → Sign → ℕ → Option Move
-after_space x text end sign.Space b = add (at.PlainSpace x end) b event.Nothing
+after_space x text end sign.Space b = move_to (at.PlainSpace x end) (writes.Add b) event.Nothing
 after_space x text end sign.Newline b = spaced_value x text end sign.Newline
 after_space x text end sign.Hash b = comment_if (is_spaced_scalar (is_flow x.place) text end) x
 after_space x text end sign.Colon b = None
